@@ -1,0 +1,5 @@
+use Rattle.cron.proofs.TimelineLaws.{never_decrease}
+use Rattle.cron.proofs.laws.ascending_seconds.Goals as goal
+
+pub returns : goal.returns
+returns c = never_decrease

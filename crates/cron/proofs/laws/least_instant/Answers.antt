@@ -1,0 +1,5 @@
+use Rattle.cron.proofs.FixedLemmas.{first_is_least}
+use Rattle.cron.proofs.laws.least_instant.Goals as goal
+
+pub returns : goal.returns
+returns c = first_is_least

@@ -1,0 +1,5 @@
+use Rattle.cron.proofs.TimelineLaws.{stand_once}
+use Rattle.cron.proofs.laws.single_items.Goals as goal
+
+pub returns : goal.returns
+returns c = stand_once

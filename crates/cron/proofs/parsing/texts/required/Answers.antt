@@ -1,0 +1,14 @@
+use Rattle.std.proofs.Common.{◌∷◌, List, ℕ, sym, subst}
+use Rattle.cron_units.specs.Units.{TimeUnit}
+use Rattle.cron.specs.Fault.{RefusesField}
+use Rattle.cron.specs.TextReading.{IsRefusalOf}
+use Rattle.cron.specs.Tokens.{tokens}
+use Rattle.cron.proofs.FieldSets.{tells_map}
+use Rattle.cron.proofs.Texts.{refused_first, refused_unread}
+use Rattle.cron.proofs.parsing.texts.required.Goals as goal
+
+pub returns-in-Err-clause-refused : goal.returns-in-Err-clause-refused
+returns-in-Err-clause-refused g c =
+    let u = g.T.TimeUnitField.unit in
+    let ts = tokens c.args.text.now in
+    tells_map (RefusesField u ts) (λ fault. (us : List TimeUnit) → IsRefusalOf (u ∷ us) ts fault) (λ text r us. refused_first u us ts text r) c.in-Err.error c.in-Err.ensures.refused

@@ -1,0 +1,13 @@
+-- What a search found, as a list.
+use Rattle.std.specs.Prelude.{List, [], ◌∷◌, Option, Some, None, option_to_list}
+use Rattle.cron.specs.Readings.{Reading}
+use Rattle.cron.specs.declared.queries.found.Found.{Found}
+
+-- the readings of the civil second that was found
+abbrev pub found_items : Found → List Reading
+found_items f = f.first ∷ option_to_list f.second
+
+-- the same, none where nothing was found
+abbrev pub items_if_any : Option Found → List Reading
+items_if_any None = []
+items_if_any (Some f) = found_items f

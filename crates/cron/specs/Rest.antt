@@ -1,0 +1,28 @@
+-- The items that are still to come in a direction.
+use Rattle.std.specs.Prelude.{ℕ, ◌+◌, List, [], Option, Some, None, drop, take, reverse}
+use Rattle.cron_units.specs.declared.way.Way.{Way}
+use Rattle.cron_units.specs.declared.way.Way.TheVariants.{Ahead, Back}
+use Rattle.jiff_tz.specs.declared.timezone.TimeZone.{TimeZone}
+use Rattle.cron.specs.Cursor.{Cursor, Walk}
+use Rattle.cron.specs.Readings.{Reading}
+use Rattle.cron.specs.Timeline.{timeline}
+use Rattle.cron.specs.Ways.{target}
+
+-- the items from a place on: ahead those from it to the end, back those from it to the beginning
+abbrev pub items_from : Way → List Reading → Option ℕ → List Reading
+items_from way items None = []
+items_from Ahead items (Some i) = drop i items
+items_from Back items (Some i) = reverse (take (i + 1) items)
+
+-- the items from the place on that a call would go to
+abbrev pub rest_on : Way → List Reading → TimeZone → Cursor → List Reading
+rest_on way items z c = items_from way items (target way items z c)
+
+abbrev pub rest : Way → Walk → List Reading
+rest way w = rest_on way (timeline w.sets w.zone) w.zone w.cursor
+
+abbrev pub rest_ahead : Walk → List Reading
+rest_ahead w = rest Ahead w
+
+abbrev pub rest_back : Walk → List Reading
+rest_back w = rest Back w

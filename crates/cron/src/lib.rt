@@ -1,0 +1,15 @@
+//! Cron expressions and the schedules that they mean.
+#![tactic(auto)]
+
+pub use cron_units::error;
+
+mod civil;
+mod fields;
+pub mod laws;
+mod parsing;
+pub mod queries;
+pub mod schedule;
+pub mod time_unit;
+
+pub use schedule::{OwnedScheduleIterator, Schedule, ScheduleIterator};
+pub use time_unit::TimeUnitSpec;

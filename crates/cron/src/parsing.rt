@@ -1,0 +1,68 @@
+//! From a text to a schedule: four readers, one grammar.
+
+ghost use Rattle.std.specs.Prelude.{◌≡◌, IfOk, IfErr};
+ghost use Rattle.std.specs.Cow.{cow_str_bytes};
+ghost use Rattle.std.specs.String.{string_bytes};
+ghost use Rattle.cron.specs.Meaning.{Means};
+ghost use Rattle.cron_units.specs.Texts.{Tells};
+ghost use Rattle.cron.specs.Fault.{IsRefusal};
+
+mod fields;
+mod items;
+mod symbols;
+mod texts;
+mod tokens;
+
+use crate::schedule::Schedule;
+use cron_units::error::Error;
+use std::alloc::Global;
+use std::borrow::CowStr;
+use texts::read_text;
+
+/// Each reader answers a schedule exactly where the text is in the grammar, want of memory aside. A
+/// refusal tells the first refused field's message or `Invalid cron expression.`; or, where a growth
+/// was refused, `out of memory`.
+impl Schedule {
+    /// Reads an expression, as `0 0,30 9 * * Mon-Fri`, and keeps a copy of it.
+    pub fn from_str(alloc: Global, text: &str) -> Result<Schedule, Error>
+        ensures means { IfOk result (λ s. Means text.now s.sets) }
+        ensures source { IfOk result (λ s. s.source ≡ text.now) }
+        ensures refused { IfErr result (Tells (IsRefusal text.now)) }
+    {
+        let fields = read_text(alloc, text)?;
+        let source = String::from_str(alloc, text)?;
+        Ok(Schedule::new(source, fields))
+    }
+
+    /// The same as [`Schedule::from_str`].
+    pub fn try_from_str(alloc: Global, text: &str) -> Result<Schedule, Error>
+        ensures means { IfOk result (λ s. Means text.now s.sets) }
+        ensures source { IfOk result (λ s. s.source ≡ text.now) }
+        ensures refused { IfErr result (Tells (IsRefusal text.now)) }
+    {
+        Schedule::from_str(alloc, text)
+    }
+
+    /// Reads an expression and keeps the text itself. A refusal gives the text up.
+    pub fn try_from_string(alloc: Global, text: String) -> Result<Schedule, Error>
+        ensures means { IfOk result (λ s. Means (string_bytes text) s.sets) }
+        ensures source { IfOk result (λ s. s.source ≡ string_bytes text) }
+        ensures refused { IfErr result (Tells (IsRefusal (string_bytes text))) }
+    {
+        let fields = read_text(alloc, text.as_str())?;
+        Ok(Schedule::new(text, fields))
+    }
+
+    /// Reads an expression that is borrowed, as [`Schedule::from_str`], or owned, as
+    /// [`Schedule::try_from_string`].
+    pub fn try_from_cow(alloc: Global, text: CowStr<'_>) -> Result<Schedule, Error>
+        ensures means { IfOk result (λ s. Means (cow_str_bytes text.entry) s.sets) }
+        ensures source { IfOk result (λ s. s.source ≡ cow_str_bytes text.entry) }
+        ensures refused { IfErr result (Tells (IsRefusal (cow_str_bytes text.entry))) }
+    {
+        match text {
+            CowStr::Borrowed(text) => Schedule::from_str(alloc, text),
+            CowStr::Owned(text) => Schedule::try_from_string(alloc, text),
+        }
+    }
+}

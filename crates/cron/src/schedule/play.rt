@@ -1,0 +1,33 @@
+//! A list of calls at once.
+ghost use Rattle.std.specs.Prelude.{◌≡◌, IfOk, OnErr};
+
+use crate::schedule::Moment;
+use crate::schedule::walk::ScheduleIterator;
+use std::alloc::{AllocError, Global};
+
+/// A call of a walk.
+#[derive(Clone, Copy, Debug, PartialEq, Eq)]
+pub enum Turn {
+    Next,
+    NextBack,
+}
+
+impl<'a> ScheduleIterator<'a> {
+    ghost use Rattle.cron.specs.Turns.{IsPlayed};
+
+    /// The answers of these calls in order. Where room is refused the walk stays as it was.
+    pub fn play(&mut self, alloc: Global, turns: &[Turn]) -> Result<Vec<Option<Moment>>, AllocError>
+        ensures ok { IfOk result (λ answers. IsPlayed self.old turns.now answers.items self.new) }
+        ensures err { OnErr result (self.new ≡ self.old) }
+    {
+        let mut answers = Vec::with_capacity(alloc, turns.len())?;
+        for turn in turns {
+            let answer = match turn {
+                Turn::Next => self.next(),
+                Turn::NextBack => self.next_back(),
+            };
+            answers.push(answer)?;
+        }
+        Ok(answers)
+    }
+}

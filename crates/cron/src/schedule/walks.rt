@@ -1,0 +1,69 @@
+//! The ways from a schedule to a walk.
+
+ghost use Rattle.std.specs.Prelude.{◌≡◌, IfOk};
+ghost use Rattle.jiff.specs.Words.{plain_zone};
+ghost use Rattle.cron.specs.Cursor.{Start};
+
+use super::{OwnedScheduleIterator, Schedule, ScheduleIterator};
+use jiff::Timestamp;
+use jiff::tz::TimeZone;
+use std::alloc::AllocError;
+
+impl Schedule {
+    /// A walk whose cursor is at the start: its first `next` answers the first moment whose civil
+    /// second is later than the start's, and its first `next_back` the last one that is earlier.
+    pub fn after<'a>(&'a self, start: Timestamp, zone: &'a TimeZone<'a>) -> ScheduleIterator<'a>
+        ensures sets { result.sets ≡ self.now.sets }
+        ensures zone { result.zone ≡ plain_zone zone.now }
+        ensures cursor { result.cursor ≡ Start start.nanosecond }
+    {
+        ScheduleIterator::new(self.fields(), start, zone)
+    }
+
+    /// The same as [`Schedule::after`], from the present instant. An item at that very second isn't
+    /// answered.
+    pub fn upcoming<'a>(&'a self, now: Timestamp, zone: &'a TimeZone<'a>) -> ScheduleIterator<'a>
+        ensures sets { result.sets ≡ self.now.sets }
+        ensures zone { result.zone ≡ plain_zone zone.now }
+        ensures cursor { result.cursor ≡ Start now.nanosecond }
+    {
+        self.after(now, zone)
+    }
+
+    /// The same walk, over a clone of the schedule and the zone itself, which a refusal gives up.
+    pub fn after_owned<'z>(
+        &self,
+        start: Timestamp,
+        zone: TimeZone<'z>,
+    ) -> Result<OwnedScheduleIterator<'z>, AllocError>
+        ensures sets { IfOk result (λ walk. walk.sets ≡ self.now.sets) }
+        ensures zone { IfOk result (λ walk. walk.zone ≡ plain_zone zone.entry) }
+        ensures cursor { IfOk result (λ walk. walk.cursor ≡ Start start.nanosecond) }
+    {
+        Ok(OwnedScheduleIterator::new(self.clone()?, start, zone))
+    }
+
+    /// The same as [`Schedule::after_owned`], from the present instant.
+    pub fn upcoming_owned<'z>(
+        &self,
+        now: Timestamp,
+        zone: TimeZone<'z>,
+    ) -> Result<OwnedScheduleIterator<'z>, AllocError>
+        ensures sets { IfOk result (λ walk. walk.sets ≡ self.now.sets) }
+        ensures zone { IfOk result (λ walk. walk.zone ≡ plain_zone zone.entry) }
+        ensures cursor { IfOk result (λ walk. walk.cursor ≡ Start now.nanosecond) }
+    {
+        self.after_owned(now, zone)
+    }
+}
+
+impl<'z> OwnedScheduleIterator<'z> {
+    /// The walk over a schedule of its own, with its cursor at the start.
+    pub fn new(schedule: Schedule, start: Timestamp, zone: TimeZone<'z>) -> OwnedScheduleIterator<'z>
+        ensures sets { result.sets ≡ schedule.sets }
+        ensures zone { result.zone ≡ plain_zone zone.entry }
+        ensures cursor { result.cursor ≡ Start start.nanosecond }
+    {
+        OwnedScheduleIterator::from_fields(schedule.into_fields(), start, zone)
+    }
+}

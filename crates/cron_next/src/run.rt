@@ -1,0 +1,122 @@
+//! The items of an expression, written to a watched writer.
+
+ghost use Rattle.std.specs.Prelude.{◌≡◌, ℕ, List, Option, false};
+ghost use Rattle.jiff.specs.Words.{plain_zone};
+ghost use Rattle.cron_units.specs.Texts.{error_text};
+ghost use Rattle.cron.specs.Cursor.{Steps};
+ghost use Rattle.cron_next.specs.Output.{direction, lines_of, complaint, Ends, Writes, is_write_failure};
+ghost use Rattle.cron_next.specs.Watching.{has_failed, writer_of, IsSent};
+
+use crate::line::line_of;
+use crate::watched::{Watched, send};
+use cron::error::{Error, ErrorKind};
+use cron::schedule::Moment;
+use cron::{Schedule, ScheduleIterator};
+use jiff::Timestamp;
+use jiff::tz::TimeZone;
+use std::alloc::Global;
+use std::io::Write;
+
+/// How a run ended.
+#[derive(Clone, Copy, Debug, PartialEq, Eq)]
+pub enum Outcome {
+    /// The items were written, fewer than were asked for where the walk ended.
+    Listed,
+    /// The expression was refused, and the one line that says why was written.
+    Refused,
+    /// A write or the flush failed, and nothing more was written.
+    WriteFailed,
+}
+
+fn step(walk: &mut ScheduleIterator<'_>, back: bool) -> Option<Moment>
+    ensures { Steps (direction back) walk.old result walk.new }
+{
+    if back { walk.next_back() } else { walk.next() }
+}
+
+// Writes the lines of the first `count` answers, until the walk ends or a write fails.
+fn send_items<W: Write>(
+    walk: &mut ScheduleIterator<'_>,
+    count: u32,
+    back: bool,
+    out: &mut Watched<W>,
+)
+    requires { has_failed out.old ≡ false }
+    ensures { IsSent (W.contents (writer_of out.old)) (W.contents (writer_of out.new)) (has_failed out.new) (lines_of back walk.old count) }
+{
+    for _ in 0..count {
+        let Some(moment) = step(walk, back) else {
+            return;
+        };
+        send(out, line_of(&moment).as_slice());
+        if out.failed() {
+            return;
+        }
+    }
+}
+
+// What an error prints.
+fn told(error: &Error) -> &str
+    ensures { result.now ≡ error_text error.now }
+{
+    match error.kind() {
+        ErrorKind::Expression(text) => text.as_str(),
+        ErrorKind::OutOfMemory => "out of memory",
+    }
+}
+
+// Writes the line that tells why an expression is refused.
+fn send_complaint<W: Write>(error: &Error, out: &mut Watched<W>)
+    requires { has_failed out.old ≡ false }
+    ensures { IsSent (W.contents (writer_of out.old)) (W.contents (writer_of out.new)) (has_failed out.new) (complaint (error_text error.now)) }
+{
+    send(out, b"error: ");
+    send(out, told(error).as_bytes());
+    send(out, b"\n");
+}
+
+// Flushes what was written whole, and tells how the run ended.
+fn finish<W: Write>(out: &mut Watched<W>, done: Outcome) -> Outcome
+    requires { is_write_failure done ≡ false }
+    ensures ends { (origin : Option (List ℕ)) (text : List ℕ)
+        → IsSent origin (W.contents (writer_of out.old)) (has_failed out.old) text
+        → Ends done text origin (W.contents (writer_of out.new)) result }
+    ensures mark { has_failed out.new ≡ is_write_failure result }
+{
+    if out.failed() {
+        return Outcome::WriteFailed;
+    }
+    let _flushed = out.flush();
+    if out.failed() {
+        return Outcome::WriteFailed;
+    }
+    done
+}
+
+/// Writes a line for each of the first `count` items of the expression after the start, or before
+/// it where `back` says so, and flushes. A refused expression is told by one line. It takes memory
+/// in the reading alone, so a list that was begun never ends for want of memory.
+pub fn run<W: Write>(
+    alloc: Global,
+    expression: &str,
+    start: Timestamp,
+    zone: &TimeZone<'_>,
+    count: u32,
+    back: bool,
+    out: &mut Watched<W>,
+) -> Outcome
+    requires { has_failed out.old ≡ false }
+    ensures writes { Writes expression.now (plain_zone zone.now) start.nanosecond count back (W.contents (writer_of out.old)) (W.contents (writer_of out.new)) result }
+    ensures mark { has_failed out.new ≡ is_write_failure result }
+{
+    match Schedule::from_str(alloc, expression) {
+        Ok(schedule) => {
+            send_items(&mut schedule.after(start, zone), count, back, out);
+            finish(out, Outcome::Listed)
+        }
+        Err(error) => {
+            send_complaint(&error, out);
+            finish(out, Outcome::Refused)
+        }
+    }
+}

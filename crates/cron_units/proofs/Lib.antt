@@ -1,0 +1,5 @@
+pub mod Sets
+pub mod Steps
+pub mod Neighbours
+pub mod Bounds
+pub mod Words

@@ -1,0 +1,199 @@
+-- Sets of ordinals, as ascending lists and as tests.
+use Rattle.std.proofs.Common.{Less, Equal, Greater, ◌≡◌, ℕ, ◌+◌, ◌-◌, ◌<◌, ◌≤◌, Bool, true, false, ◌&&◌, ◌||◌, cond, List, [], ◌∷◌, length, refl, sym, ap, subst, ◌∙◌, arith, zero, suc, inl, inr}
+use Rattle.std.specs.Prelude.{filter, nat_eq}
+use Rattle.std.specs.List.{range_with_len}
+use Rattle.std.specs.Ordering.{nat_cmp}
+use Rattle.std.specs.BTreeSet.{insert_key}
+use Rattle.std.proofs.lemmas.Bool.{false≢true, cases_lt, cases_eq, eq-eqb, ne_eqb, and_right}
+use Rattle.std.proofs.lemmas.Bool.Decides.{nat_tests}
+use Rattle.std.proofs.lemmas.List.FromFn.{length-range_with_len}
+use Rattle.cron_units.specs.Units.{TimeUnit, whole, contains, set_of, IsSet}
+
+-- ---- tests of numbers
+
+pub same_eq : (a : ℕ) → nat_eq a a ≡ true
+same_eq a = eq-eqb a a refl
+
+pub and_true : (b : Bool) → (b && true) ≡ b
+and_true true = refl
+and_true false = refl
+
+pub or_false : (b : Bool) → (b || false) ≡ b
+or_false true = refl
+or_false false = refl
+
+cmp_less : (a b : ℕ) → a < b → nat_cmp a b ≡ Less
+cmp_less a b l = grind (arith, nat_tests)
+
+cmp_same : (a : ℕ) → nat_cmp a a ≡ Equal
+cmp_same a = grind (arith, nat_tests)
+
+cmp_greater : (a b : ℕ) → b < a → nat_cmp a b ≡ Greater
+cmp_greater a b l = grind (arith, nat_tests)
+
+-- ---- tests that agree
+
+pub filter_same : (p r : ℕ → Bool) → ((x : ℕ) → p x ≡ r x) → (xs : List ℕ) → filter p xs ≡ filter r xs
+filter_same p r h [] = refl
+filter_same p r h (x ∷ xs) = rw (h x, filter_same p r h xs) refl
+
+filter_same_in : (p r : ℕ → Bool) (a n : ℕ) → ((x : ℕ) → a ≤ x → x < a + n → p x ≡ r x) → filter p (range_with_len a n) ≡ filter r (range_with_len a n)
+filter_same_in p r a zero h = refl
+filter_same_in p r a (suc n) h =
+    let here : p a ≡ r a = h a (omega arith) (omega arith) in
+    let rest : filter p (range_with_len (a + 1) n) ≡ filter r (range_with_len (a + 1) n) = filter_same_in p r (a + 1) n (λ x l g. h x (omega arith) (omega arith)) in
+    rw (here, rest) refl
+
+-- Tests that agree on the ordinals of a unit give one set.
+pub set_same : (u : TimeUnit) (p r : ℕ → Bool) → ((x : ℕ) → u.least ≤ x → x ≤ u.greatest → p x ≡ r x) → set_of u p ≡ set_of u r
+unfolding whole
+set_same u p r h = filter_same_in p r u.least (u.greatest + 1 - u.least) (λ x l g. h x l (omega arith))
+
+-- ---- members
+
+contains_cond : (b : Bool) (a x : ℕ) (xs : List ℕ) → contains (cond b (a ∷ xs) xs) x ≡ ((b && nat_eq x a) || contains xs x)
+contains_cond true a x xs = refl
+contains_cond false a x xs = refl
+
+contains_below : (p : ℕ → Bool) (a n x : ℕ) → x < a → contains (filter p (range_with_len a n)) x ≡ false
+contains_below p a zero x l = refl
+contains_below p a (suc n) x l =
+    contains_cond (p a) a x (filter p (range_with_len (a + 1) n)) ∙ rw (contains_below p (a + 1) n x (omega arith), ne_eqb x a (λ e. omega arith), and_right (p a) false refl) refl
+
+contains_in : (p : ℕ → Bool) (a n x : ℕ) → a ≤ x → x < a + n → contains (filter p (range_with_len a n)) x ≡ p x
+contains_in p a zero x l g = absurd (omega arith)
+contains_in p a (suc n) x l g =
+    contains_cond (p a) a x (filter p (range_with_len (a + 1) n)) ∙ elim (cases_eq x a) [
+      | inl e ↦ rw (e, same_eq a, contains_below p (a + 1) n a (omega arith), and_true (p a)) (or_false (p a))
+      | inr d ↦ rw (ne_eqb x a d, and_right (p a) false refl) (contains_in p (a + 1) n x (omega (arith, d)) (omega arith))
+    ]
+
+-- An ordinal of the unit is a member where it passes the test.
+pub contains_set : (u : TimeUnit) (p : ℕ → Bool) (x : ℕ) → u.least ≤ x → x ≤ u.greatest → contains (set_of u p) x ≡ p x
+unfolding whole
+contains_set u p x l g = contains_in p u.least (u.greatest + 1 - u.least) x l (omega arith)
+
+-- What a test gives is a set.
+pub set_is_set : (u : TimeUnit) (p : ℕ → Bool) → IsSet u (set_of u p)
+set_is_set u p = set_same u p (contains (set_of u p)) (λ x l g. sym (contains_set u p x l g))
+
+filter_none : (p : ℕ → Bool) (xs : List ℕ) → ((x : ℕ) → p x ≡ false) → filter p xs ≡ []
+filter_none p [] h = refl
+filter_none p (x ∷ xs) h = rw (h x) (filter_none p xs h)
+
+pub is_set_from : (u : TimeUnit) (p : ℕ → Bool) (xs : List ℕ) → xs ≡ set_of u p → IsSet u xs
+is_set_from u p xs h = subst (IsSet u) (sym h) (set_is_set u p)
+
+-- A set of what passes one test, with what passes another.
+pub set_or : (u : TimeUnit) (p r : ℕ → Bool) (xs : List ℕ) → xs ≡ set_of u p → set_of u (λ x. contains xs x || r x) ≡ set_of u (λ x. p x || r x)
+set_or u p r xs h =
+    set_same u (λ x. contains xs x || r x) (λ x. p x || r x) (λ x l g. ap (λ (b : Bool). b || r x) (ap (λ (ys : List ℕ). contains ys x) h ∙ contains_set u p x l g))
+
+pub empty_is_set : (u : TimeUnit) → IsSet u []
+empty_is_set u = sym (filter_none (contains []) (whole u) (λ x. refl))
+
+filter_all : (p : ℕ → Bool) (xs : List ℕ) → ((x : ℕ) → p x ≡ true) → filter p xs ≡ xs
+filter_all p [] h = refl
+filter_all p (x ∷ xs) h = rw (h x) (ap (λ (ys : List ℕ). x ∷ ys) (filter_all p xs h))
+
+pub whole_is_all : (u : TimeUnit) → set_of u (λ x. true) ≡ whole u
+whole_is_all u = filter_all (λ x. true) (whole u) (λ x. refl)
+
+contains_above : (p : ℕ → Bool) (a n x : ℕ) → a + n ≤ x → contains (filter p (range_with_len a n)) x ≡ false
+contains_above p a zero x l = refl
+contains_above p a (suc n) x l =
+    contains_cond (p a) a x (filter p (range_with_len (a + 1) n)) ∙ rw (contains_above p (a + 1) n x (omega arith), ne_eqb x a (λ e. omega arith), and_right (p a) false refl) refl
+
+-- A member of a set is an ordinal of the unit.
+pub member_within : (u : TimeUnit) (xs : List ℕ) (x : ℕ) → IsSet u xs → contains xs x ≡ true → (u.least ≤ x) × (x ≤ u.greatest)
+unfolding whole
+member_within u xs x h t =
+    let n = u.greatest + 1 - u.least in
+    let member : contains (filter (contains xs) (range_with_len u.least n)) x ≡ true = sym (ap (λ (ys : List ℕ). contains ys x) h) ∙ t in
+    elim (cases_lt x u.least) [
+      | inl l ↦ absurd (false≢true (sym (contains_below (contains xs) u.least n x l) ∙ member))
+      | inr l ↦ elim (cases_lt x (u.least + n)) [
+        | inl g ↦ (l, omega arith)
+        | inr g ↦ absurd (false≢true (sym (contains_above (contains xs) u.least n x g) ∙ member))
+      ]
+    ]
+
+-- ---- one more member
+
+insert_cond_less : (b : Bool) (a k : ℕ) (xs : List ℕ) → k < a → insert_key nat_cmp xs k ≡ k ∷ xs → insert_key nat_cmp (cond b (a ∷ xs) xs) k ≡ k ∷ cond b (a ∷ xs) xs
+insert_cond_less true a k xs l h = rw (cmp_less k a l) refl
+insert_cond_less false a k xs l h = h
+
+insert_cond_same : (b : Bool) (a : ℕ) (xs : List ℕ) → insert_key nat_cmp xs a ≡ a ∷ xs → insert_key nat_cmp (cond b (a ∷ xs) xs) a ≡ a ∷ xs
+insert_cond_same true a xs h = rw (cmp_same a) refl
+insert_cond_same false a xs h = h
+
+insert_cond_more : (b : Bool) (a k : ℕ) (xs ys : List ℕ) → a < k → insert_key nat_cmp xs k ≡ ys → insert_key nat_cmp (cond b (a ∷ xs) xs) k ≡ cond b (a ∷ ys) ys
+insert_cond_more true a k xs ys l h = rw (cmp_greater k a l) (ap (λ (zs : List ℕ). a ∷ zs) h)
+insert_cond_more false a k xs ys l h = h
+
+insert_before : (p : ℕ → Bool) (a n k : ℕ) → k < a → insert_key nat_cmp (filter p (range_with_len a n)) k ≡ k ∷ filter p (range_with_len a n)
+insert_before p a zero k l = refl
+insert_before p a (suc n) k l =
+    insert_cond_less (p a) a k (filter p (range_with_len (a + 1) n)) l (insert_before p (a + 1) n k (omega arith))
+
+or_at : (b : Bool) (a : ℕ) (xs ys : List ℕ) → cond (b || true) (a ∷ xs) ys ≡ a ∷ xs
+or_at true a xs ys = refl
+or_at false a xs ys = refl
+
+insert_first : (p : ℕ → Bool) (a n : ℕ) → insert_key nat_cmp (filter p (range_with_len a (suc n))) a ≡ filter (λ x. p x || nat_eq x a) (range_with_len a (suc n))
+insert_first p a n =
+    let xs : List ℕ = filter p (range_with_len (a + 1) n) in
+    let ys : List ℕ = filter (λ x. p x || nat_eq x a) (range_with_len (a + 1) n) in
+    let rest : xs ≡ ys = filter_same_in p (λ x. p x || nat_eq x a) (a + 1) n (λ x l g. sym (ap (λ (t : Bool). p x || t) (ne_eqb x a (λ e. omega arith)) ∙ or_false (p x))) in
+    insert_cond_same (p a) a xs (insert_before p (a + 1) n a (omega arith))
+    ∙ (ap (λ (zs : List ℕ). a ∷ zs) rest ∙ sym (ap (λ (t : Bool). cond (p a || t) (a ∷ ys) ys) (same_eq a) ∙ or_at (p a) a ys ys))
+
+insert_in : (p : ℕ → Bool) (a n k : ℕ) → a ≤ k → k < a + n → insert_key nat_cmp (filter p (range_with_len a n)) k ≡ filter (λ x. p x || nat_eq x k) (range_with_len a n)
+insert_in p a zero k l g = absurd (omega arith)
+insert_in p a (suc n) k l g =
+    elim (cases_eq k a) [
+      | inl e ↦ subst (λ (j : ℕ). insert_key nat_cmp (filter p (range_with_len a (suc n))) j ≡ filter (λ x. p x || nat_eq x j) (range_with_len a (suc n))) (sym e) (insert_first p a n)
+      | inr d ↦
+          let xs : List ℕ = filter p (range_with_len (a + 1) n) in
+          let ys : List ℕ = filter (λ x. p x || nat_eq x k) (range_with_len (a + 1) n) in
+          insert_cond_more (p a) a k xs ys (omega (arith, d)) (insert_in p (a + 1) n k (omega (arith, d)) (omega arith))
+          ∙ ap (λ (t : Bool). cond t (a ∷ ys) ys) (sym (ap (λ (t : Bool). p a || t) (ne_eqb a k (λ i. d (sym i))) ∙ or_false (p a)))
+    ]
+
+-- A set with one more ordinal of the unit.
+pub set_insert : (u : TimeUnit) (xs : List ℕ) (k : ℕ) → IsSet u xs → u.least ≤ k → k ≤ u.greatest → insert_key nat_cmp xs k ≡ set_of u (λ x. contains xs x || nat_eq x k)
+unfolding whole
+set_insert u xs k h l g =
+    ap (λ (ys : List ℕ). insert_key nat_cmp ys k) h ∙ insert_in (contains xs) u.least (u.greatest + 1 - u.least) k l (omega arith)
+
+-- ---- how many members
+
+pub length_whole : (u : TimeUnit) → length (whole u) ≡ u.greatest + 1 - u.least
+unfolding whole
+length_whole u = length-range_with_len u.least (u.greatest + 1 - u.least)
+
+length_cond : (b : Bool) (x : ℕ) (xs ys : List ℕ) → length ys ≤ length xs → length (cond b (x ∷ ys) ys) ≤ length xs + 1
+length_cond true x xs ys l = omega arith
+length_cond false x xs ys l = omega arith
+
+length_filter : (p : ℕ → Bool) (xs : List ℕ) → length (filter p xs) ≤ length xs
+length_filter p [] = omega arith
+length_filter p (x ∷ xs) = omega (arith, length_cond (p x) x xs (filter p xs) (length_filter p xs))
+
+full_cond : (b : Bool) (x : ℕ) (xs ys : List ℕ) → length ys ≤ length xs → length xs + 1 ≤ length (cond b (x ∷ ys) ys) → (length xs ≤ length ys → ys ≡ xs) → cond b (x ∷ ys) ys ≡ x ∷ xs
+full_cond true x xs ys l g h = ap (λ (zs : List ℕ). x ∷ zs) (h (omega arith))
+full_cond false x xs ys l g h = absurd (omega arith)
+
+full : (p : ℕ → Bool) (xs : List ℕ) → length xs ≤ length (filter p xs) → filter p xs ≡ xs
+full p [] g = refl
+full p (x ∷ xs) g = full_cond (p x) x xs (filter p xs) (length_filter p xs) (omega arith) (full p xs)
+
+pub length_set : (u : TimeUnit) (xs : List ℕ) → IsSet u xs → length xs ≤ u.greatest + 1 - u.least
+length_set u xs h =
+    omega (arith, ap (λ (ys : List ℕ). length ys) h, length_filter (contains xs) (whole u), length_whole u)
+
+-- A set with as many members as its unit has ordinals is whole.
+pub full_set : (u : TimeUnit) (xs : List ℕ) → IsSet u xs → length xs ≡ u.greatest + 1 - u.least → xs ≡ whole u
+full_set u xs h e =
+    h ∙ full (contains xs) (whole u) (omega (arith, ap (λ (ys : List ℕ). length ys) h, length_whole u))

@@ -1,0 +1,16 @@
+use Rattle.std.proofs.Common.{ap, arith, List, ℕ, length, ◌≡◌, ◌+◌, ◌-◌, ◌∙◌}
+use Rattle.std.proofs.lemmas.Bool.{eq-eqb, eqb-true}
+use Rattle.cron_units.proofs.Sets.{full_set, length_whole}
+use Rattle.cron_units.proofs.time_unit.views.AnyTimeUnitSpec.is_all.Goals as goal
+
+pub returns : goal.returns
+returns g c =
+    let u = g.T.TimeUnitField.unit in
+    let xs = g.T.TimeUnitField.members c.args.self.now in
+    let least = c.inclusive_min.result in
+    let greatest = c.inclusive_max.result in
+    let ordered = g.met.T.TimeUnitField.is_unit.ordered in
+    let counted : c.len.result ≡ length xs = c.len.ensures ∙ ap (λ (ys : List ℕ). length ys) c.ordinals.ensures.members in (
+      λ t. full_set u xs c.ordinals.ensures.set (omega (arith, eqb-true c.len.result (greatest - least + 1) t)),
+      λ e. eq-eqb c.len.result (greatest - least + 1) (omega (arith, ap (λ (ys : List ℕ). length ys) e, length_whole u)),
+    )

@@ -1,0 +1,9 @@
+pub mod Units
+pub mod Items
+pub mod Denotation
+pub mod Nearest
+pub mod Views
+pub mod Texts
+pub mod Tables
+pub mod Bounds
+pub mod Laws

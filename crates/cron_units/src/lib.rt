@@ -1,0 +1,9 @@
+//! The units of a schedule, their sets, and what the items of a field denote in them.
+#![tactic(auto)]
+
+pub mod error;
+pub mod specifier;
+#[cfg(test)]
+mod tests;
+pub mod time_unit;
+pub mod way;

@@ -1,0 +1,151 @@
+//! The items of a field, and what they denote.
+
+ghost use Rattle.std.specs.Prelude.{◌≡◌, ◌≤◌, ◌<◌, ◌||◌, IfOk, IfErr, MatchResult, OnOk, Ok, Err};
+ghost use Rattle.cron_units.specs.Denotation.{in_steps, ordinal, span, steps_of};
+ghost use Rattle.cron_units.specs.Denotation as spec;
+ghost use Rattle.cron_units.specs.Texts.{Fails};
+ghost use Rattle.cron_units.specs.Units.{IsSet, contains, set_of};
+ghost use Rattle.cron_units.specs.Views.{base_view, item_view, refusal_view, steps_view};
+
+mod messages;
+
+use crate::error::Error;
+use crate::time_unit::{Ordinal, OrdinalSet, TimeUnitField, add_every_nth};
+pub use messages::{message, refused};
+use std::alloc::Global;
+
+/// What an item ranges over before its step.
+#[derive(Clone, Copy)]
+pub enum Base<'a> {
+    /// A star: the whole range.
+    Every,
+    /// A question mark, which means what a star means.
+    QuestionMark,
+    Single(Ordinal),
+    NumberRange(Ordinal, Ordinal),
+    NameRange(&'a str, &'a str),
+}
+
+/// One item of a field.
+#[derive(Clone, Copy)]
+pub enum Item<'a> {
+    Plain(Base<'a>),
+    Stepped(Base<'a>, u32),
+    Name(&'a str),
+}
+
+/// Why an item denotes nothing.
+#[derive(Clone, Copy)]
+pub enum Refusal<'a> {
+    UnknownName(&'a str),
+    TooSmall(Ordinal),
+    TooLarge(Ordinal),
+    BadRange(Ordinal, Ordinal),
+    BadNameRange(&'a str, &'a str),
+    ZeroStep,
+    LargeStep(u32),
+}
+
+/// Every so many-th ordinal, from the first to the last.
+#[derive(Clone, Copy)]
+pub struct Steps {
+    pub first: Ordinal,
+    pub last: Ordinal,
+    pub every: u32,
+}
+
+/// Finds the ordinal of a name.
+fn ordinal<'a, T: TimeUnitField>(name: &'a str) -> Result<Ordinal, Refusal<'a>>
+    ensures within { IfOk result (λ n. (T.unit.least ≤ n) × (n ≤ T.unit.greatest)) }
+    ensures value { MatchResult result (λ n. ordinal T.unit name.now ≡ Ok n) (λ r. ordinal T.unit name.now ≡ Err (refusal_view r)) }
+{
+    match T::ordinal_from_name(name) {
+        Some(ordinal) => Ok(ordinal),
+        None => Err(Refusal::UnknownName(name)),
+    }
+}
+
+/// Finds the first and the last ordinal of a base.
+fn span<'a, T: TimeUnitField>(base: Base<'a>) -> Result<(Ordinal, Ordinal), Refusal<'a>>
+    ensures within { IfOk result (λ p. (T.unit.least ≤ p.0) × (p.1 ≤ T.unit.greatest)) }
+    ensures value { MatchResult result (λ p. span T.unit (base_view base.entry) ≡ Ok p) (λ r. span T.unit (base_view base.entry) ≡ Err (refusal_view r)) }
+{
+    let (least, greatest) = (T::inclusive_min(), T::inclusive_max());
+    match base {
+        Base::Every | Base::QuestionMark => Ok((least, greatest)),
+        Base::Single(n) if n < least => Err(Refusal::TooSmall(n)),
+        Base::Single(n) if n > greatest => Err(Refusal::TooLarge(n)),
+        Base::Single(n) => Ok((n, n)),
+        Base::NumberRange(first, last) if first < least || last > greatest || first > last => {
+            Err(Refusal::BadRange(first, last))
+        }
+        Base::NumberRange(first, last) => Ok((first, last)),
+        Base::NameRange(from, to) => {
+            let first = ordinal::<T>(from)?;
+            let last = ordinal::<T>(to)?;
+            if first > last {
+                return Err(Refusal::BadNameRange(from, to));
+            }
+            Ok((first, last))
+        }
+    }
+}
+
+/// Finds what an item denotes. A step is tested before its base.
+pub fn steps_of<'a, T: TimeUnitField>(item: Item<'a>) -> Result<Steps, Refusal<'a>>
+    ensures within { IfOk result (λ s. (T.unit.least ≤ s.first) × (s.last ≤ T.unit.greatest) × (0 < s.every)) }
+    ensures value { MatchResult result (λ s. steps_of T.unit (item_view item.entry) ≡ Ok (steps_view s)) (λ r. steps_of T.unit (item_view item.entry) ≡ Err (refusal_view r)) }
+{
+    match item {
+        Item::Plain(base) => {
+            let (first, last) = span::<T>(base)?;
+            Ok(Steps {
+                first,
+                last,
+                every: 1,
+            })
+        }
+        Item::Stepped(base, every) => {
+            if every == 0 {
+                return Err(Refusal::ZeroStep);
+            }
+            let greatest = T::inclusive_max();
+            if every > greatest {
+                return Err(Refusal::LargeStep(every));
+            }
+            let (first, last) = span::<T>(base)?;
+            match base {
+                Base::Single(_) => Ok(Steps {
+                    first,
+                    last: greatest,
+                    every,
+                }),
+                _ => Ok(Steps { first, last, every }),
+            }
+        }
+        Item::Name(name) => {
+            let only = ordinal::<T>(name)?;
+            Ok(Steps {
+                first: only,
+                last: only,
+                every: 1,
+            })
+        }
+    }
+}
+
+/// Adds what an item denotes to a set of the unit.
+pub fn add_item<T: TimeUnitField>(
+    alloc: Global,
+    set: &mut OrdinalSet,
+    item: Item<'_>,
+) -> Result<(), Error>
+    requires { IsSet T.unit set.old }
+    ensures ok { OnOk result ((s : spec.Steps) × (steps_of T.unit (item_view item.entry) ≡ Ok s) × (set.new ≡ set_of T.unit (λ x. contains set.old x || in_steps s x))) }
+    ensures err { IfErr result (Fails T.unit (steps_of T.unit (item_view item.entry))) }
+{
+    match steps_of::<T>(item) {
+        Ok(Steps { first, last, every }) => Ok(add_every_nth::<T>(set, first, last, every)?),
+        Err(refusal) => Err(refused::<T>(alloc, refusal)),
+    }
+}

@@ -1,0 +1,65 @@
+//! What users see of a unit's set.
+
+ghost use Rattle.std.specs.Prelude.{◌≡◌, ◌↔◌, List, ℕ, IsTrue, filter, length};
+ghost use Rattle.cron_units.specs.Bounds.{IsForward, is_within};
+ghost use Rattle.cron_units.specs.Units.{TimeUnit, contains, whole};
+
+use super::{Ordinal, OrdinalIter, OrdinalRangeIter, TimeUnitField};
+use std::ops::Bound;
+
+/// The set of one field of a schedule.
+pub trait TimeUnitSpec {
+    /// The unit of the ordinals.
+    ghost time_unit: { TimeUnit };
+
+    /// The members, in ascending order.
+    ghost ordinals: { Self → List ℕ };
+
+    /// Tells whether an ordinal is a member.
+    fn includes(&self, ordinal: Ordinal) -> bool
+        ensures { result ≡ contains (ordinals self.now) ordinal };
+
+    /// Goes over the members, in ascending order.
+    fn iter(&self) -> OrdinalIter<'_>
+        ensures { result ≡ ordinals self.now };
+
+    /// Goes over the members between two bounds, in ascending order.
+    fn range(&self, range: (Bound<Ordinal>, Bound<Ordinal>)) -> OrdinalRangeIter<'_>
+        requires { IsForward range.0 range.1 }
+        ensures { result ≡ filter (is_within range.0 range.1) (ordinals self.now) };
+
+    /// Counts the members.
+    fn count(&self) -> u32
+        ensures { result ≡ length (ordinals self.now) };
+
+    /// Tells whether the set is the unit's whole range, however it was written.
+    fn is_all(&self) -> bool
+        ensures { IsTrue result ↔ (ordinals self.now ≡ whole time_unit) };
+}
+
+impl<T: TimeUnitField> TimeUnitSpec for T {
+    ghost time_unit = { T.unit };
+
+    ghost ordinals = { T.members };
+
+    fn includes(&self, ordinal: Ordinal) -> bool {
+        self.ordinals().contains(ordinal)
+    }
+
+    fn iter(&self) -> OrdinalIter<'_> {
+        self.ordinals().iter()
+    }
+
+    fn range(&self, range: (Bound<Ordinal>, Bound<Ordinal>)) -> OrdinalRangeIter<'_> {
+        self.ordinals().range(range)
+    }
+
+    fn count(&self) -> u32 {
+        self.ordinals().len() as u32
+    }
+
+    fn is_all(&self) -> bool {
+        let whole = T::inclusive_max() - T::inclusive_min() + 1;
+        self.ordinals().len() == whole as usize
+    }
+}
