@@ -1,6 +1,6 @@
 -- A search through blocks of w numbers each: a test of the blocks, and one of the numbers in a block.
-use Rattle.std.proofs.Common.{◌≡◌, ℕ, ◌+◌, ◌-◌, ◌*◌, ◌/◌, ◌%◌, ◌<◌, ◌≤◌, ℤ, pos, Bool, true, false, ◌&&◌, Option, Some, None, ◌⊎◌, inl, inr, refl, sym, subst, ◌∙◌, arith}
-use Rattle.std.proofs.lemmas.Bool.{cases_lt, and_from, and_left, and_right}
+use Rattle.std.proofs.Common.{◌≡◌, ℕ, ◌+◌, ◌*◌, ◌/◌, ◌%◌, ◌<◌, ℤ, pos, Bool, true, false, ◌&&◌, Option, Some, None, ◌⊎◌, inl, inr, refl, sym, subst, ◌∙◌, arith}
+use Rattle.std.proofs.lemmas.Bool.{and_from, and_left, and_right}
 use Rattle.std.proofs.lemmas.Nat.{div-add-mod', mul-le}
 use Rattle.std.proofs.Math.Nat.{div-eq_of_lt-le}
 use Rattle.jiff_core.proofs.SignedLemmas.{signed_arith}
@@ -9,7 +9,7 @@ use Rattle.cron_units.specs.declared.way.Way.TheVariants.{Ahead, Back}
 use Rattle.cron_units.specs.Nearest.{LiesFrom, Precedes, IsNearest, IsNearestAt}
 use Rattle.cron.specs.Places.{beyond}
 use Rattle.cron.specs.Blocks.{IsSplit, Enters, AllFail, IsExtreme, Reaches, ReachesIfAny}
-use Rattle.cron.proofs.WayLemmas.{Side, side, before, same, after, lies_self, lies_not_before, lies_or_before, lies_along, lies_past, precedes_along, lies_div, lies_mod}
+use Rattle.cron.proofs.WayLemmas.{side, before, same, after, lies_not_before, lies_past, lies_div, lies_mod}
 
 pub div_of : (w m r : ℕ) → r < w → (m * w + r) / w ≡ m
 div_of w m r h = div-eq_of_lt-le w (omega arith) (omega arith)
@@ -85,7 +85,7 @@ block_found way w outer inner test start first m s r split reached enters h foun
   nearest = λ n lies lt. elim (precedes_split way w m r n h lt) [
     | inl b ↦ reached.failed n lies b
     | inr (e, b) ↦ let P : ℕ → Type 0 = λ k. inner k (n % w) ≡ false in
-      split.rest_fails n (subst P (sym e) (found.nearest (n % w) (enters.into n lies e) b))
+        split.rest_fails n (subst P (sym e) (found.nearest (n % w) (enters.into n lies e) b))
   ];
 }
 
@@ -97,7 +97,7 @@ first_out Back w m r k lies = omega (arith, signed_arith)
 pub enters_first : (way : Way) (w m r : ℕ) → r < w → Enters way w (pos (m * w + r)) m r
 enters_first way w m r h = record {
   into = λ n lies e. let P : ℕ → Type 0 = λ k. LiesFrom way (pos k) (n % w) in
-    subst P (mod_of w m r h) (lies_mod way w (m * w + r) n (rw (div_of w m r h) e) lies);
+      subst P (mod_of w m r h) (lies_mod way w (m * w + r) n (rw (div_of w m r h) e) lies);
   out = λ k lt lies. first_out way w m r k lies;
 }
 

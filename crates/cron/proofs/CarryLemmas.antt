@@ -1,8 +1,8 @@
 -- A search through two units, of which the outer one carries into the inner one.
-use Rattle.std.proofs.Common.{◌≡◌, ℕ, ◌+◌, ◌*◌, ◌/◌, ◌%◌, ◌<◌, ℤ, pos, Bool, false, subst, sym, arith}
+use Rattle.std.proofs.Common.{ℕ, ◌+◌, ◌*◌, ◌/◌, ◌%◌, ◌<◌, ℤ, pos, Bool, subst, arith}
 use Rattle.std.proofs.lemmas.Nat.{div-add-mod'}
 use Rattle.cron_units.specs.declared.way.Way.{Way}
-use Rattle.cron_units.specs.Nearest.{LiesFrom, Precedes, IsNearestAt}
+use Rattle.cron_units.specs.Nearest.{IsNearestAt}
 use Rattle.cron.specs.Blocks.{IsSplit, Enters, AllFail, IsExtreme, Reaches}
 use Rattle.cron.specs.Places.{beyond}
 use Rattle.cron.proofs.BlockLemmas.{Starts, BlockFails, starts_at, reach_first, reach_none, reach_next, reach_end, block_fails, block_found, enters_later}

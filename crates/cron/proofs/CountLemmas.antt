@@ -1,6 +1,6 @@
 -- The counts of a whole search.
-use Rattle.std.proofs.Common.{◌≡◌, ℕ, ◌+◌, ◌-◌, ◌*◌, ◌/◌, ◌%◌, ◌<◌, ◌≤◌, ◌⊎◌, ◌↔◌, Bool, true, false, ◌&&◌, not, nat_lt, cond, [], ℤ, pos, negsuc, Option, Some, None, option_map, add-zero, refl, sym, ap, subst, ◌∙◌, inl, inr, arith}
-use Rattle.std.proofs.lemmas.Bool.{cases_Bool, cases_lt, and_parts, and_from, and_cases, both_ways, lt-ltb, ltb-true, not-true, not_from_false}
+use Rattle.std.proofs.Common.{◌≡◌, ℕ, ◌+◌, ◌/◌, ◌<◌, ◌≤◌, Bool, true, false, not, nat_lt, ℤ, pos, negsuc, Option, Some, None, option_map, add-zero, refl, sym, ap, subst, ◌∙◌, inl, inr, arith}
+use Rattle.std.proofs.lemmas.Bool.{cases_Bool, cases_lt, and_parts, and_from, and_cases, both_ways, lt-ltb, ltb-true, not_from_false}
 use Rattle.jiff_core.proofs.SignedLemmas.{signed_arith}
 use Rattle.jiff_tz.specs.declared.timezone.TimeZone.{TimeZone}
 use Rattle.cron_units.specs.declared.way.Way.{Way}
@@ -10,7 +10,8 @@ use Rattle.cron.specs.Blocks.{AllFail}
 use Rattle.cron.specs.Civil.{civil}
 use Rattle.cron.specs.CivilDates.{date_numbered}
 use Rattle.cron.specs.Counts.{Stretch, count_within, candidates, is_gap_match, gap_matches, low_end, high_end, passed, span, conversions, days_of}
-use Rattle.cron.specs.DaySearch.{candidate_day, IsMatch, IsAsked, day_of, second_of}
+use Rattle.cron.specs.DaySearch.{candidate_day, IsAsked, day_of}
+use Rattle.cron.specs.Found.{second_of}
 use Rattle.cron.specs.Found.{found_items}
 use Rattle.cron.specs.declared.queries.found.Found.{Found}
 use Rattle.cron.proofs.DaySearchLemmas.{items_second}
@@ -33,9 +34,9 @@ days_within way s first answer stretch days w counted =
     let test : ℕ → Bool = λ day. is_candidate s (date_numbered day).0 in
     kind_unique 47_847 (IsPassedTo way (candidate_day s) first answer) days (count_within test stretch) counted
     (kind_same 47_847 _ _ _
-      (λ k lt p. let both = w.2 k p.0 p.1 in record { passes = and_from (nat_lt k 47_847) (test k) (lt-ltb k 47_847 lt) p.2; lies = both.0; until = both.1 })
-      (λ k lt p. let both = w.1 k lt p.lies p.until in (both.0, both.1, (and_parts (nat_lt k 47_847) (test k) p.passes).1))
-      (within_kind 47_847 test stretch w.0))
+    (λ k lt p. let both = w.2 k p.0 p.1 in record { passes = and_from (nat_lt k 47_847) (test k) (lt-ltb k 47_847 lt) p.2; lies = both.0; until = both.1 })
+    (λ k lt p. let both = w.1 k lt p.lies p.until in (both.0, both.1, (and_parts (nat_lt k 47_847) (test k) p.passes).1))
+    (within_kind 47_847 test stretch w.0))
 
 -- a civil second that matches and doesn't stand is a gap match
 gap_from : (s : Sets) (z : TimeZone) (k : ℕ) → k < 4_133_980_800 → matches s (civil k) ≡ true → stands s z k ≡ false → is_gap_match s z k ≡ true
@@ -55,9 +56,9 @@ unfolding Within
 none_within way s z first stretch count w none counted =
     kind_unique 4_133_980_800 (IsAsked way s first None) count (gap_matches s z stretch) counted
     (kind_same 4_133_980_800 _ _ _
-      (λ k lt p. record { found = record { is_match = gap_matched s z k p.2; lies = (w.2 k p.0 p.1).0 }; until = tt })
-      (λ k lt p. let both = w.1 k lt p.found.lies tt in (both.0, both.1, gap_from s z k lt p.found.is_match (none k p.found.lies)))
-      (within_kind 4_133_980_800 (is_gap_match s z) stretch w.0))
+    (λ k lt p. record { found = record { is_match = gap_matched s z k p.2; lies = (w.2 k p.0 p.1).0 }; until = tt })
+    (λ k lt p. let both = w.1 k lt p.found.lies tt in (both.0, both.1, gap_from s z k lt p.found.is_match (none k p.found.lies)))
+    (within_kind 4_133_980_800 (is_gap_match s z) stretch w.0))
 
 -- the numbers from a start up to an answer, which is left out, are those of the stretch
 Until : ℕ → Way → ℤ → ℕ → Stretch → Type 0
@@ -73,17 +74,17 @@ unfolding Until
 some_until way s z first c stretch count lt u match found counted =
     kind_unique 4_133_980_800 (IsAsked way s first (Some c)) count (gap_matches s z stretch + 1) counted
     (kind_joined 4_133_980_800 _ (λ k. k ≡ c) (IsAsked way s first (Some c)) (gap_matches s z stretch) 1
-      (within_kind 4_133_980_800 (is_gap_match s z) stretch u.0)
-      (kind_one 4_133_980_800 (λ k. k ≡ c) c lt refl (λ k below e. e))
-      (λ k below p e. apart way k c (u.2 k p.0 p.1).1 e)
-      (λ k below e. elim e [
-        | inl p ↦ let both = u.2 k p.0 p.1 in record { found = record { is_match = gap_matched s z k p.2; lies = both.0 }; until = inl both.1 }
-        | inr here ↦ let P : ℕ → Type 0 = IsAsked way s first (Some c) in subst P (sym here) (record { found = record { is_match = match; lies = found.lies }; until = inr refl })
-      ])
-      (λ k below p. elim p.until [
-        | inl less ↦ let both = u.1 k p.found.lies less in inl (both.0, both.1, gap_from s z k below p.found.is_match (found.nearest k p.found.lies less))
-        | inr here ↦ inr here
-      ]))
+    (within_kind 4_133_980_800 (is_gap_match s z) stretch u.0)
+    (kind_one 4_133_980_800 (λ k. k ≡ c) c lt refl (λ k below e. e))
+    (λ k below p e. apart way k c (u.2 k p.0 p.1).1 e)
+    (λ k below e. elim e [
+      | inl p ↦ let both = u.2 k p.0 p.1 in record { found = record { is_match = gap_matched s z k p.2; lies = both.0 }; until = inl both.1 }
+      | inr here ↦ let P : ℕ → Type 0 = IsAsked way s first (Some c) in subst P (sym here) (record { found = record { is_match = match; lies = found.lies }; until = inr refl })
+    ])
+    (λ k below p. elim p.until [
+      | inl less ↦ let both = u.1 k p.found.lies less in inl (both.0, both.1, gap_from s z k below p.found.is_match (found.nearest k p.found.lies less))
+      | inr here ↦ inr here
+    ]))
 
 -- the days of a search, one direction at a time
 days_to_ahead : (from : ℤ) (start c k : ℕ) → start ≡ low_end from → LiesFrom Ahead (pos (start / 86_400)) k → NotPast Ahead k (Some (c / 86_400)) → (low_end from / 86_400 ≤ k) × (k < c / 86_400 + 1)

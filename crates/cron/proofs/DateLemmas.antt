@@ -1,7 +1,7 @@
 -- Dates of the range: their day numbers, and their places in the order of dates.
-use Rattle.std.proofs.Common.{◌≡◌, ℕ, suc, ◌+◌, ◌-◌, ◌*◌, ◌/◌, ◌%◌, ◌<◌, ◌≤◌, ◌⊎◌, Bool, true, false, ◌&&◌, ℤ, pos, negsuc, neg_ℤ, ◌+ℤ◌, ◌<ℤ◌, ◌≤ℤ◌, refl, sym, ap, ◌∙◌, inl, inr, subst, arith, rules, unsigned_abs}
+use Rattle.std.proofs.Common.{◌≡◌, ℕ, ◌+◌, ◌-◌, ◌*◌, ◌/◌, ◌%◌, ◌<◌, ◌≤◌, Bool, true, false, ◌&&◌, ℤ, pos, negsuc, ◌<ℤ◌, ◌≤ℤ◌, refl, sym, ap, ◌∙◌, inl, inr, subst, arith, rules, unsigned_abs}
 use Rattle.std.proofs.lemmas.Int.{by_lt_z}
-use Rattle.std.proofs.lemmas.Bool.{and_parts, cases_lt, lt-ltb, ltb-true, le-leb, leb-true}
+use Rattle.std.proofs.lemmas.Bool.{le-leb}
 use Rattle.jiff_core.specs.declared.civil.date.Date.{Date}
 use Rattle.jiff_core.specs.declared.civil.datetime.DateTime.{DateTime}
 use Rattle.cron.specs.Civil.{civil}
@@ -12,11 +12,11 @@ use Rattle.jiff_core.proofs.CalendarLemmas.{days_from_civil-day_count, day_count
 use Rattle.jiff_core.proofs.MarchLemmas.{day_count-early}
 use Rattle.jiff_core.proofs.DateLemmas.{IsEarlier, days_from_civil-next_year, epoch_day-lt, epoch_day_same, cases_date}
 use Rattle.cron.specs.CivilDates.{date_numbered}
-use Rattle.cron.specs.Places.{place, month_number, place_date, length_of, year_of, month_of, day_number}
+use Rattle.cron.specs.Places.{place, place_date}
 use Rattle.cron.specs.Sets.{Sets, is_candidate}
 use Rattle.cron.specs.Places.{matches_place}
 use Rattle.cron_units.specs.Units.{contains}
-use Rattle.cron.proofs.CivilLemmas.{is_date_numbered, date-civil}
+use Rattle.cron.proofs.CivilLemmas.{date-civil}
 
 first_day : days_from_civil (pos 1970) 1 1 ≡ pos 0
 first_day = omega (arith, signed_arith, days_from_civil-day_count (pos 1970) 1 1, day_count-epoch)

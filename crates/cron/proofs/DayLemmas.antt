@@ -1,5 +1,5 @@
 -- Days by their places, a hundred for each month, and by their numbers.
-use Rattle.std.proofs.Common.{◌≡◌, ℕ, ◌+◌, ◌-◌, ◌*◌, ◌/◌, ◌%◌, ◌<◌, ◌≤◌, Bool, true, false, ◌&&◌, nat_lt, nat_le, min, ℤ, pos, negsuc, ◌≤ℤ◌, unsigned_abs, Option, Some, None, option_map, IfSome, refl, sym, ap, subst, ◌∙◌, inl, inr, arith, rules}
+use Rattle.std.proofs.Common.{◌≡◌, ℕ, ◌/◌, ◌%◌, ◌<◌, ◌≤◌, true, false, nat_lt, nat_le, min, ℤ, pos, negsuc, ◌≤ℤ◌, unsigned_abs, Option, Some, None, option_map, IfSome, refl, sym, ap, subst, ◌∙◌, inl, inr, arith}
 use Rattle.std.proofs.lemmas.Bool.{and_parts, and_from, and_left, and_right, cases_lt, lt-ltb, le-ltb, leb-true}
 use Rattle.jiff_core.specs.declared.civil.date.Date.{Date}
 use Rattle.jiff_core.specs.Calendar.{days_from_civil, days_in_month}
@@ -13,10 +13,10 @@ use Rattle.cron.specs.Blocks.{IsSplit}
 use Rattle.cron.specs.CivilDates.{date_numbered}
 use Rattle.cron.specs.DaySearch.{candidate_day}
 use Rattle.cron.specs.Days.{place_of, number_of, IsInRange}
-use Rattle.cron.specs.Places.{beyond, place, month_number, place_date, day_number, year_of, month_of, length_of, matches_day, matches_month, matches_place}
+use Rattle.cron.specs.Places.{beyond, place, place_date, day_number, year_of, month_of, length_of, matches_day, matches_month, matches_place}
 use Rattle.cron.specs.Sets.{Sets, is_candidate}
 use Rattle.cron.specs.declared.queries.days.Day.{Day}
-use Rattle.cron.proofs.BlockLemmas.{both_split, div_of, mod_of}
+use Rattle.cron.proofs.BlockLemmas.{both_split}
 use Rattle.cron.proofs.CivilLemmas.{is_date_numbered}
 use Rattle.cron.proofs.DateLemmas.{low_day, high_day, low_at, place_lt, place_candidate}
 use Rattle.cron.proofs.WayLemmas.{lies_self, lies_not_before, lies_or_before, lies_after, beyond_after, after_beyond}
@@ -158,6 +158,6 @@ by_number way s places numbers (Some d) to back range h =
       passes = and_from (nat_lt (number_of d) 47_847) (is_candidate s (date_numbered (number_of d)).0) (lt-ltb (number_of d) 47_847 n.in_range) (sym (candidate_place s (number_of d) n.in_range) ∙ ap (matches_place s) n.at ∙ h.passes);
       lies = back (number_of d) n.in_range (subst P (sym n.at) h.lies);
       nearest = λ k lies early. candidate_fails s k (λ lt.
-        let Q : ℕ → Type 0 = λ p. Precedes way (place_date (date_numbered k).0) p in
-        h.nearest _ (to k lt lies) (subst Q n.at (precedes_place way k (number_of d) lt n.in_range early)));
+          let Q : ℕ → Type 0 = λ p. Precedes way (place_date (date_numbered k).0) p in
+          h.nearest _ (to k lt lies) (subst Q n.at (precedes_place way k (number_of d) lt n.in_range early)));
     }

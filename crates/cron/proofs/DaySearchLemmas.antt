@@ -1,17 +1,17 @@
 -- The search of one day: what it finds, and what it asks.
-use Rattle.std.proofs.Common.{◌≡◌, ℕ, ◌+◌, ◌*◌, ◌/◌, ◌%◌, ◌<◌, ◌≤◌, ◌⊎◌, true, false, ◌&&◌, nat_lt, List, [], ℤ, pos, Option, Some, None, option_map, refl, sym, ap, subst, ◌∙◌, inl, inr, arith}
+use Rattle.std.proofs.Common.{◌≡◌, ℕ, ◌+◌, ◌*◌, ◌/◌, ◌%◌, ◌<◌, true, false, nat_lt, List, [], ℤ, pos, Option, Some, None, option_map, refl, sym, ap, subst, ◌∙◌, inl, inr, arith}
 use Rattle.std.proofs.lemmas.Bool.{and_parts, and_from, and_left, and_right, both_ways, cases_Bool, ltb-true}
-use Rattle.std.proofs.lemmas.Nat.{div-add-mod'}
 use Rattle.jiff_core.specs.declared.civil.date.Date.{Date}
 use Rattle.jiff_tz.specs.declared.timezone.TimeZone.{TimeZone}
 use Rattle.cron_units.specs.declared.way.Way.{Way}
 use Rattle.cron_units.specs.declared.way.Way.TheVariants.{Ahead, Back}
 use Rattle.cron_units.specs.Nearest.{LiesFrom, Precedes}
 use Rattle.cron_units.specs.Units.{contains}
-use Rattle.cron.specs.Blocks.{Enters, AllFail}
+use Rattle.cron.specs.Blocks.{Enters}
 use Rattle.cron.specs.Civil.{civil}
 use Rattle.cron.specs.CivilDates.{date_numbered}
-use Rattle.cron.specs.DaySearch.{candidate_day, FindsInDay, FindsTime, FindsFrom, Finds, IsMatch, IsAskedIn, second_of, time_of}
+use Rattle.cron.specs.DaySearch.{candidate_day, FindsInDay, FindsTime, Finds, IsAskedIn, time_of}
+use Rattle.cron.specs.Found.{second_of}
 use Rattle.cron.specs.Days.{number_of}
 use Rattle.cron.specs.Found.{found_items}
 use Rattle.cron.specs.Places.{matches_second, stands_at}
@@ -24,7 +24,7 @@ use Rattle.cron.specs.declared.queries.found.Found.{Found}
 use Rattle.cron.proofs.BlockLemmas.{block_fails}
 use Rattle.cron.proofs.DayLemmas.{IsMade}
 use Rattle.cron.proofs.FoundLemmas.{second_is}
-use Rattle.cron.proofs.StandLemmas.{matches_at, unmatched, split_stands, day_of_place, time_of_place}
+use Rattle.cron.proofs.StandLemmas.{matches_at, unmatched, split_stands}
 use Rattle.cron.proofs.TallyLemmas.{kind_block, kind_none, kind_same}
 
 -- whether the made date matches goes with its weekday
@@ -130,11 +130,14 @@ asked_from way s start day from k o at date enters p =
     }
 
 asked_to : (way : Way) (s : Sets) (start : ℤ) (day from k : ℕ) (o : Option Found) → AnswerIn day o → matches_date s (date_numbered day).0 ≡ true → Enters way 86_400 start day from → IsAskedIn way s start day (second_of o) k → (k / 86_400 ≡ day) × IsPassedTo way (matches_second s) (pos from) (time_of o) (k % 86_400)
-asked_to way s start day from k o at date enters p = (p.here, record {
-  passes = (and_parts (matches_date s (date_numbered (k / 86_400)).0) (matches_second s (k % 86_400)) (sym (matches_at s k) ∙ p.found.is_match)).1;
-  lies = enters.into k p.found.lies p.here;
-  until = until_time way day k o at p.here p.until;
-})
+asked_to way s start day from k o at date enters p = (
+  p.here,
+  record {
+    passes = (and_parts (matches_date s (date_numbered (k / 86_400)).0) (matches_second s (k % 86_400)) (sym (matches_at s k) ∙ p.found.is_match)).1;
+    lies = enters.into k p.found.lies p.here;
+    until = until_time way day k o at p.here p.until;
+  },
+)
 
 -- the times asked are the civil seconds asked in the day
 pub day_asked : (way : Way) (s : Sets) (z : TimeZone) (start : ℤ) (day from count : ℕ) (o : Option Found) → day < 47_847 → matches_date s (date_numbered day).0 ≡ true → Enters way 86_400 start day from → FindsInDay way s z day from (option_map found_items o) → IsCount 86_400 (IsPassedTo way (matches_second s) (pos from) (time_of o)) count → IsCount 4_133_980_800 (IsAskedIn way s start day (second_of o)) count

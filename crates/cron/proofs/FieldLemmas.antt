@@ -1,5 +1,5 @@
 -- The members of a set of a unit lie between its bounds.
-use Rattle.std.proofs.Common.{◌≡◌, ℕ, ◌+◌, ◌-◌, ◌<◌, ◌≤◌, ℤ, Bool, true, false, cond, List, [], ◌∷◌, ◌⊎◌, inl, inr, sym, ap, ◌∙◌, arith, zero, suc, Option, Some, None, IfSome}
+use Rattle.std.proofs.Common.{◌≡◌, ℕ, ◌+◌, ◌-◌, ◌<◌, ◌≤◌, ℤ, Bool, true, false, cond, List, ◌∷◌, ◌⊎◌, inl, inr, sym, ap, ◌∙◌, arith, zero, suc, Option, Some, None, IfSome}
 use Rattle.std.specs.Prelude.{filter, nat_eq}
 use Rattle.std.specs.List.{range_with_len}
 use Rattle.std.proofs.lemmas.Bool.{or_cases, eqb-true}

@@ -1,16 +1,16 @@
 -- The set of a field that is joined item by item, and its first refusal.
-use Rattle.std.proofs.Common.{◌≡◌, ℕ, Bool, true, false, ◌||◌, ◌&&◌, ◌≤◌, Option, Some, None, Result, Ok, Err, List, [], ◌∷◌, ◌++◌, refl, sym, ap, ◌∙◌, subst, append_assoc, append-nil}
-use Rattle.std.specs.Option.{option_map, option_map_or}
+use Rattle.std.proofs.Common.{◌≡◌, ℕ, Bool, true, false, ◌||◌, ◌&&◌, Option, Some, None, Result, Ok, Err, List, [], ◌∷◌, ◌++◌, refl, sym, ap, ◌∙◌, subst, append_assoc, append-nil}
+use Rattle.std.specs.Option.{option_map_or}
 use Rattle.cron_units.specs.Units.{TimeUnit, contains, set_of, IsSet}
 use Rattle.cron_units.specs.Items.{Item}
-use Rattle.cron_units.specs.Denotation.{Steps, Refusal, in_steps, steps_of, denoted_has, first_refusal, refusal_of, in_items, message, Denotes}
+use Rattle.cron_units.specs.Denotation.{Steps, Refusal, in_steps, steps_of, denoted_has, first_refusal, refusal_of, in_items, message}
 use Rattle.std.specs.String.{string_bytes}
 use Rattle.cron_units.specs.declared.error.Error.{Error}
 use Rattle.cron_units.specs.declared.error.ErrorKind.{ErrorKind}
 use Rattle.cron_units.specs.declared.error.ErrorKind.TheVariants.{Expression, OutOfMemory}
 use Rattle.cron_units.specs.Texts.{IsMemoryKind, IsMemory, TellsKind, Tells, Fails}
 use Rattle.cron_units.proofs.Sets.{set_same, contains_set, set_is_set, or_false}
-use Rattle.cron.specs.Fault.{IsLongestField, TakesField, RefusesField}
+use Rattle.cron.specs.Fault.{TakesField, RefusesField}
 use Rattle.cron.specs.FieldReading.{State, joined, next_state, lone_item, with_end, with_step, furthest, field_at, state_items}
 use Rattle.cron.specs.Fields.{spacing_fits}
 use Rattle.cron.specs.Tokens.{Token, Symbol, symbol_of, comma, dash, slash}
@@ -54,8 +54,8 @@ refused_at u is i more r h e =
 pub set_push : (u : TimeUnit) (is : List Item) (i : Item) (s : Steps) (xs ys : List ℕ) → xs ≡ set_of u (in_items u is) → steps_of u i ≡ Ok s → ys ≡ set_of u (λ x. contains xs x || in_steps s x) → ys ≡ set_of u (in_items u (is ++ i ∷ []))
 set_push u is i s xs ys h e k =
     k ∙ set_same u (λ x. contains xs x || in_steps s x) (in_items u (is ++ i ∷ [])) (λ x low high.
-        ap (λ (b : Bool). b || in_steps s x) (ap (λ (zs : List ℕ). contains zs x) h ∙ contains_set u (in_items u is) x low high)
-        ∙ (ap (λ (o : Result Steps Refusal). in_items u is x || denoted_has x o) (sym e) ∙ sym (in_items-push u is i x)))
+    ap (λ (b : Bool). b || in_steps s x) (ap (λ (zs : List ℕ). contains zs x) h ∙ contains_set u (in_items u is) x low high)
+    ∙ (ap (λ (o : Result Steps Refusal). in_items u is x || denoted_has x o) (sym e) ∙ sym (in_items-push u is i x)))
 
 pub joined_is_set : (u : TimeUnit) (is : List Item) (xs : List ℕ) → xs ≡ set_of u (in_items u is) → IsSet u xs
 joined_is_set u is xs h = subst (IsSet u) (sym h) (set_is_set u (in_items u is))

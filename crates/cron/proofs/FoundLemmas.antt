@@ -7,7 +7,7 @@ use Rattle.jiff_tz.specs.declared.timezone.TimeZone.{TimeZone}
 use Rattle.jiff_tz.specs.declared.ambiguous.AmbiguousOffset.{AmbiguousOffset}
 use Rattle.jiff_tz.specs.declared.ambiguous.AmbiguousOffset.TheVariants.{Unambiguous, Gap, Fold}
 use Rattle.cron.specs.Civil.{civil}
-use Rattle.cron.specs.Found.{found_items, items_if_any}
+use Rattle.cron.specs.Found.{found_items}
 use Rattle.cron.specs.Readings.{Reading, reading, readings, readings_by}
 use Rattle.cron.specs.declared.queries.found.Found.{Found}
 

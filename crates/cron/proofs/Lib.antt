@@ -18,7 +18,6 @@ pub mod RestLemmas
 pub mod RunLemmas
 pub mod MomentTextLemmas
 pub mod TimelineLaws
-pub mod ScanLemmas
 pub mod FixedLemmas
 pub mod WayLemmas
 pub mod BlockLemmas

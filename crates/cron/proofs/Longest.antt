@@ -1,12 +1,12 @@
 -- The field that is read from the left is the longest one.
-use Rattle.std.proofs.Common.{◌≡◌, Bool, true, ◌&&◌, Option, Some, None, List, [], ◌∷◌, ◌++◌, refl, sym, ap, ◌∙◌, subst, append_assoc}
-use Rattle.std.specs.Option.{option_map, option_and_then, option_map_or, IfSome, IfNone}
+use Rattle.std.proofs.Common.{◌≡◌, Option, Some, None, List, [], ◌∷◌, ◌++◌, refl, sym, ap, ◌∙◌, subst}
+use Rattle.std.specs.Option.{option_map, option_and_then, option_map_or}
 use Rattle.cron_units.specs.Units.{TimeUnit}
 use Rattle.cron.specs.Tokens.{Token}
 use Rattle.cron.specs.Fields.{Item, IsField}
-use Rattle.cron.specs.FieldReading.{State, lone_item, joined, next_state, walk, first_state, field_state, state_items, furthest, field_at}
+use Rattle.cron.specs.FieldReading.{State, next_state, walk, first_state, field_state, state_items, furthest, field_at}
 use Rattle.cron.specs.Fault.{IsLongestField, NoField}
-use Rattle.cron.proofs.Walks.{walk_field, field_walk, no_items, bound, mapped, chosen, some_same}
+use Rattle.cron.proofs.Walks.{walk_field, field_walk, no_items, bound, mapped, some_same}
 
 pub none_left : {A : Type 0} (xs ys : List A) → [] ≡ xs ++ ys → xs ≡ []
 none_left [] ys h = refl

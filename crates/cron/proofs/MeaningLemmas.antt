@@ -1,13 +1,13 @@
 -- A text means one thing, and has one fault.
-use Rattle.std.proofs.Common.{◌≡◌, ℕ, Bool, true, false, cond, ◌⊎◌, inl, inr, not, ◌&&◌, if◌then◌else◌, Option, Some, None, List, [], ◌∷◌, ◌++◌, codes, refl, sym, ap, ◌∙◌, subst}
+use Rattle.std.proofs.Common.{◌≡◌, ℕ, Bool, true, false, cond, ◌⊎◌, inl, inr, not, ◌&&◌, if◌then◌else◌, Option, Some, List, [], ◌∷◌, ◌++◌, codes, refl, sym, ap, ◌∙◌, subst}
 use Rattle.std.specs.Prelude.{slice_index}
 use Rattle.std.specs.Str.{bytes_eq}
 use Rattle.cron_units.specs.Units.{TimeUnit}
 use Rattle.cron_units.specs.Denotation.{Refusal, refusal_of, message}
-use Rattle.cron.specs.Fault.{RefusesField, TakesField, IsRefused, IsFaultOf, TakeSets}
+use Rattle.cron.specs.Fault.{IsRefused, IsFaultOf, TakeSets}
 use Rattle.cron.specs.Fields.{Item, IsField}
 use Rattle.cron.specs.FieldReading.{State, first_state, lone_item, walk}
-use Rattle.cron.specs.Meaning.{DenoteSets, six_units, set_lists, shorthand_of, trimmed_front, trimmed_end, before_rest, IsLonghand, IsShorthand, Means, yearly, monthly, weekly, daily, hourly}
+use Rattle.cron.specs.Meaning.{six_units, set_lists, shorthand_of, trimmed_front, trimmed_end, before_rest, IsLonghand, IsShorthand, Means, yearly, monthly, weekly, daily, hourly}
 use Rattle.cron.specs.Sets.{Sets}
 use Rattle.cron.specs.TextLaws.{MeansOnce, LongestFrontsAgree, HasOneFault}
 use Rattle.cron.specs.Tokens.{Token, Symbol, tokens, is_space, in_one_run, after_space, after_byte, after_gap, symbol_of, foreign}

@@ -1,31 +1,31 @@
 -- The search of the days.
-use Rattle.std.proofs.Common.{◌≡◌, ℕ, ◌+◌, ◌-◌, ◌*◌, ◌/◌, ◌%◌, ◌<◌, ◌≤◌, ◌⊎◌, Bool, true, false, ◌&&◌, nat_lt, ℤ, pos, Option, Some, None, is_some, option_map, IfSome, refl, sym, ap, subst, ◌∙◌, inl, inr, arith}
+use Rattle.std.proofs.Common.{◌≡◌, ℕ, ◌+◌, ◌*◌, ◌/◌, ◌%◌, ◌<◌, ◌⊎◌, true, nat_lt, ℤ, pos, Option, Some, None, is_some, option_map, IfSome, sym, subst, ◌∙◌, inl, inr, arith}
 use Rattle.std.proofs.lemmas.Bool.{and_parts, and_from, both_ways, lt-ltb, ltb-true}
 use Rattle.jiff_core.proofs.SignedLemmas.{signed_arith}
 use Rattle.jiff_tz.specs.declared.timezone.TimeZone.{TimeZone}
 use Rattle.cron_units.specs.declared.way.Way.{Way}
 use Rattle.cron_units.specs.declared.way.Way.TheVariants.{Ahead, Back}
-use Rattle.cron_units.specs.Nearest.{LiesFrom, Precedes, IsNearest, IsNearestAt}
+use Rattle.cron_units.specs.Nearest.{LiesFrom, Precedes, IsNearest}
 use Rattle.cron_units.specs.Units.{contains}
-use Rattle.cron.specs.Blocks.{AllFail, Reaches, ReachesIfAny, left_to_reach}
+use Rattle.cron.specs.Blocks.{Reaches, ReachesIfAny, left_to_reach}
 use Rattle.cron.specs.Civil.{civil}
 use Rattle.cron.specs.CivilDates.{date_numbered}
-use Rattle.cron.specs.DaySearch.{candidate_day, FindsTime, FindsFrom, Finds, IsMatch, IsAskedIn, IsAsked, IsAskedBefore, second_of, day_of}
+use Rattle.cron.specs.DaySearch.{candidate_day, Finds, IsAskedIn, IsAsked, IsAskedBefore, day_of}
+use Rattle.cron.specs.Found.{second_of}
 use Rattle.cron.specs.Days.{place_of, number_of, IsInRange}
 use Rattle.cron.specs.Found.{found_items}
 use Rattle.cron.specs.Places.{beyond, place_date, matches_place, matches_second, stands_at}
-use Rattle.cron.specs.Search.{stands, IsFound, IsFoundAt}
+use Rattle.cron.specs.Search.{stands, IsFound}
 use Rattle.cron.specs.Sets.{Sets, is_candidate, matches, matches_date, weekday_number}
-use Rattle.cron.specs.Tally.{IsCount, Before, NotPast, IsPassedBefore, IsPassedTo}
+use Rattle.cron.specs.Tally.{IsCount, NotPast, IsPassedBefore, IsPassedTo}
 use Rattle.cron.specs.declared.queries.days.Day.{Day}
 use Rattle.cron.specs.declared.queries.found.Found.{Found}
-use Rattle.cron.proofs.BlockLemmas.{Starts, reach_start, reach_on, block_found, starts_at}
-use Rattle.cron.proofs.CarryLemmas.{start_parts}
-use Rattle.cron.proofs.DayLemmas.{IsNumber, number_of_place, by_number, lies_place, place_lies, past_place, place_past}
+use Rattle.cron.proofs.BlockLemmas.{reach_start, reach_on, block_found}
+use Rattle.cron.proofs.DayLemmas.{number_of_place, by_number, lies_place, place_lies, past_place, place_past}
 use Rattle.cron.proofs.DaySearchLemmas.{found_day, time_fits}
 use Rattle.cron.proofs.StandLemmas.{matches_at, split_stands}
 use Rattle.cron.proofs.TallyLemmas.{kind_none, kind_same, kind_joined, passed_found}
-use Rattle.cron.proofs.WayLemmas.{Side, side, before, same, after, after_beyond, lies_div, precedes_along}
+use Rattle.cron.proofs.WayLemmas.{side, before, same, after, after_beyond, lies_div, precedes_along}
 
 -- the nearest day, by numbers
 pub first_number : (way : Way) (s : Sets) (day : ℕ) (start : Day) (found : Option Day) → day < 47_847 → place_of start ≡ place_date (date_numbered day).0 → IfSome found IsInRange → IsNearest way (matches_place s) (pos (place_of start)) (option_map place_of found) → IsNearest way (candidate_day s) (pos day) (option_map number_of found)

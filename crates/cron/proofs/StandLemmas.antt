@@ -1,20 +1,16 @@
 -- Which civil seconds match and stand, by their days and times.
-use Rattle.std.proofs.Common.{◌≡◌, ℕ, ◌+◌, ◌*◌, ◌/◌, ◌%◌, ◌<◌, ◌≤◌, Bool, true, false, ◌&&◌, nat_lt, List, [], cond, ℤ, pos, refl, sym, ap, subst, ◌∙◌, inl, inr, arith}
+use Rattle.std.proofs.Common.{◌≡◌, ℕ, ◌+◌, ◌*◌, ◌/◌, ◌%◌, ◌<◌, ◌≤◌, true, false, ◌&&◌, nat_lt, [], refl, subst, ◌∙◌, inl, inr, arith}
 use Rattle.std.proofs.lemmas.Bool.{both_ways, and_parts, and_cases, and_from, and_left, and_right, cases_lt, lt-ltb, le-ltb, ltb-false}
 use Rattle.std.proofs.lemmas.Nat.{div-add-mod'}
 use Rattle.jiff_tz.specs.declared.timezone.TimeZone.{TimeZone}
-use Rattle.cron_units.specs.declared.way.Way.{Way}
-use Rattle.cron_units.specs.Nearest.{LiesFrom, Precedes, IsNearestAt}
-use Rattle.cron_units.specs.Units.{contains}
-use Rattle.cron.specs.Blocks.{IsSplit, Reaches}
+use Rattle.cron.specs.Blocks.{IsSplit}
 use Rattle.cron.specs.Civil.{civil, time_numbered}
 use Rattle.cron.specs.CivilDates.{date_numbered}
 use Rattle.cron.specs.DaySearch.{candidate_day}
 use Rattle.cron.specs.Places.{matches_second, stands_at}
 use Rattle.cron.specs.Readings.{readings}
 use Rattle.cron.specs.Search.{items_of, has_item, stands}
-use Rattle.cron.specs.Sets.{Sets, is_candidate, matches, matches_date, matches_time}
-use Rattle.cron.proofs.CivilLemmas.{date-civil}
+use Rattle.cron.specs.Sets.{Sets, is_candidate, matches, matches_date}
 
 -- the day and the time of a civil second of a day
 pub matches_at : (s : Sets) (k : ℕ) → matches s (civil k) ≡ (matches_date s (date_numbered (k / 86_400)).0 && matches_second s (k % 86_400))
@@ -69,7 +65,7 @@ day_fails : (s : Sets) (z : TimeZone) (n : ℕ) → candidate_day s (n / 86_400)
 day_fails s z n h =
     elim (and_cases (nat_lt (n / 86_400) 47_847) (is_candidate s (date_numbered (n / 86_400)).0) h) [
       | inl far ↦ let ge : 47_847 ≤ n / 86_400 = ltb-false (n / 86_400) 47_847 far in
-        and_left (nat_lt n 4_133_980_800) (has_item (items_of s z n)) (le-ltb n 4_133_980_800 (omega arith))
+          and_left (nat_lt n 4_133_980_800) (has_item (items_of s z n)) (le-ltb n 4_133_980_800 (omega arith))
       | inr out ↦ unmatched s z n (matches_at s n ∙ and_left (matches_date s (date_numbered (n / 86_400)).0) (matches_second s (n % 86_400)) (and_left (is_candidate s (date_numbered (n / 86_400)).0) _ out))
     ]
 

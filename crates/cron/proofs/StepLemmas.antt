@@ -16,7 +16,8 @@ use Rattle.cron.specs.Search.{items_of, stands, IsFoundAt}
 use Rattle.cron.specs.Sets.{Sets}
 use Rattle.cron.specs.Stop.{IsReached, IsStop}
 use Rattle.cron.specs.Timeline.{timeline}
-use Rattle.cron.specs.Ways.{opposite, bound, beside, place_from, place_beside}
+use Rattle.cron.specs.Places.{beyond}
+use Rattle.cron.specs.Ways.{opposite, bound, place_from, place_beside}
 use Rattle.cron.specs.declared.queries.found.Found.{Found}
 use Rattle.cron.specs.declared.schedule.state.State.{State}
 use Rattle.cron.specs.declared.schedule.state.State.TheVariants as Kept
@@ -78,7 +79,7 @@ go_to-reading items i x e = rw e refl
 go_to-past : (items : List Reading) (i : ℕ) → length items ≤ i → go_to items (Some i) ≡ no_item
 go_to-past items i h = rw (slice_get_past items i h) refl
 
--- the number beside a civil second, in the words of the items' numbers
+-- the number beyond a civil second, in the words of the items' numbers
 ahead_of : (c d : ℕ) → c < d → (pos c +ℤ pos 1) ≤ℤ pos d
 ahead_of c d h = omega (arith, signed_arith)
 
@@ -91,8 +92,8 @@ back_of c d h = omega (arith, signed_arith)
 not_back_of : (c d : ℕ) → c ≤ d → ¬ (pos d ≤ℤ (pos c -ℤ pos 1))
 not_back_of c d h k = omega (arith, signed_arith)
 
--- the items from the number beside c on begin behind, or end before, the items of c
-after_items : (s : Sets) (z : TimeZone) (c : ℕ) → go_to (timeline s z) (Some (before s z (c + 1))) ≡ go_to (timeline s z) (place_from Ahead (timeline s z) (Some (beside Ahead c)))
+-- the items from the number beyond c on begin behind, or end before, the items of c
+after_items : (s : Sets) (z : TimeZone) (c : ℕ) → go_to (timeline s z) (Some (before s z (c + 1))) ≡ go_to (timeline s z) (place_from Ahead (timeline s z) (Some (beyond Ahead c)))
 after_items s z c =
     let items = timeline s z in
     let n = before s z (c + 1) in
@@ -100,30 +101,30 @@ after_items s z c =
       | inl there ↦
           let x = there.0 in
           let lies = late s z n x (c + 1) there.2 (omega arith) in
-          ap (go_to items) (sym (place_from-at Ahead (beside Ahead c) items n x there.2 (ahead_of c x.second (omega arith))
+          ap (go_to items) (sym (place_from-at Ahead (beyond Ahead c) items n x there.2 (ahead_of c x.second (omega arith))
           (λ k y lt at. not_ahead_of c y.second (let below = early s z k y (c + 1) at lt in omega arith))))
       | inr past ↦
           rw (
             go_to-past items n past.0,
-            place_from-none Ahead (beside Ahead c) items
+            place_from-none Ahead (beyond Ahead c) items
                 (λ k y at. not_ahead_of c y.second (let in_list = slice_get_within items k y at in let below = early s z k y (c + 1) at (omega arith) in omega arith)),
           ) refl
     ]
 
-before_items : (s : Sets) (z : TimeZone) (c n : ℕ) → c ≤ 4_133_980_800 → n ≡ before s z c → go_to (timeline s z) (place_beside Back n) ≡ go_to (timeline s z) (place_from Back (timeline s z) (Some (beside Back c)))
+before_items : (s : Sets) (z : TimeZone) (c n : ℕ) → c ≤ 4_133_980_800 → n ≡ before s z c → go_to (timeline s z) (place_beside Back n) ≡ go_to (timeline s z) (place_from Back (timeline s z) (Some (beyond Back c)))
 before_items s z c zero high is =
-    ap (go_to (timeline s z)) (sym (place_from-none Back (beside Back c) (timeline s z)
+    ap (go_to (timeline s z)) (sym (place_from-none Back (beyond Back c) (timeline s z)
     (λ k y at. not_back_of c y.second (late s z k y c at (omega arith)))))
 before_items s z c (suc m) high is =
     let items = timeline s z in
     let all = before-all s z c high in
     let there = item_there items m (omega arith) in
     let lies = early s z m there.0 c there.1 (omega arith) in
-    ap (go_to items) (sym (place_from-at Back (beside Back c) items m there.0 there.1 (back_of c there.0.second lies)
+    ap (go_to items) (sym (place_from-at Back (beyond Back c) items m there.0 there.1 (back_of c there.0.second lies)
     (λ k y gt at. not_back_of c y.second (late s z k y c at (omega arith)))))
 
--- from the last reading in its direction a call goes to the first item from the number beside on
-pub from_last : (way : Way) (s : Sets) (z : TimeZone) (f : Found) (later : Bool) → IsKept s z f later → later ≡ last_is_later way f → step_on (timeline s z) z way (Place (place_of s z f.first.second later)) ≡ go_to (timeline s z) (place_from way (timeline s z) (Some (beside way f.first.second)))
+-- from the last reading in its direction a call goes to the first item from the number beyond on
+pub from_last : (way : Way) (s : Sets) (z : TimeZone) (f : Found) (later : Bool) → IsKept s z f later → later ≡ last_is_later way f → step_on (timeline s z) z way (Place (place_of s z f.first.second later)) ≡ go_to (timeline s z) (place_from way (timeline s z) (Some (beyond way f.first.second)))
 from_last Ahead s z f later k last =
     let size = length_found f in
     let next = before-next s z f.first.second in
@@ -203,7 +204,7 @@ pub start_stop-none : (way : Way) (s : Sets) (z : TimeZone) (t : ℤ) → bound 
 start_stop-none Ahead s z t is = record { placed = tt; leads = rw is refl }
 start_stop-none Back s z t is = record { placed = tt; leads = rw is refl }
 
-pub last_stop : (way : Way) (s : Sets) (z : TimeZone) (f : Found) (later : Bool) (state : State) → IsKept s z f later → later ≡ last_is_later way f → IsReached way s z (beside way f.first.second) state → IsStop way s z (Place (place_of s z f.first.second later)) state
+pub last_stop : (way : Way) (s : Sets) (z : TimeZone) (f : Found) (later : Bool) (state : State) → IsKept s z f later → later ≡ last_is_later way f → IsReached way s z (beyond way f.first.second) state → IsStop way s z (Place (place_of s z f.first.second later)) state
 last_stop way s z f later state k last h = record { placed = h.placed; leads = from_last way s z f later k last ∙ h.leads }
 
 -- the other reading of the same civil second

@@ -1,7 +1,7 @@
 -- Counting the numbers of a kind below a limit.
-use Rattle.std.proofs.Common.{◌≡◌, ℕ, zero, suc, ◌+◌, ◌-◌, ◌*◌, ◌/◌, ◌%◌, ◌<◌, ◌≤◌, ◌⊎◌, ◌↔◌, Bool, true, false, ◌&&◌, ◌||◌, cond, nat_eq, nat_lt, nat_le, List, [], ◌∷◌, ◌++◌, length, ℤ, Option, Some, None, subst, add-zero, refl, sym, ap, ◌∙◌, inl, inr, arith}
+use Rattle.std.proofs.Common.{◌≡◌, ℕ, zero, suc, ◌+◌, ◌-◌, ◌*◌, ◌/◌, ◌%◌, ◌<◌, ◌≤◌, ◌⊎◌, ◌↔◌, Bool, true, false, ◌&&◌, ◌||◌, cond, nat_eq, nat_lt, nat_le, ℤ, Option, Some, None, subst, add-zero, refl, sym, ◌∙◌, inl, inr, arith}
 use Rattle.std.specs.Prelude.{count_by}
-use Rattle.std.proofs.lemmas.Bool.{lt-ltb, le-ltb, ltb-true, le-leb, leb-true, and_parts, and_from, and_left, both_ways, cases_Bool, eqb-true, eqb-false, ne_eqb, or_cases, or_left, or_right, eq-eqb, cases_eq, true_from_ne_false, false_from_ne_true}
+use Rattle.std.proofs.lemmas.Bool.{lt-ltb, le-ltb, ltb-true, le-leb, leb-true, and_parts, and_from, and_left, both_ways, eqb-true, ne_eqb, or_cases, or_left, or_right, eq-eqb, cases_eq}
 use Rattle.std.proofs.lemmas.List.Sums.{sum_by_push}
 use Rattle.cron_units.specs.declared.way.Way.{Way}
 use Rattle.cron_units.specs.declared.way.Way.TheVariants.{Ahead, Back}
@@ -10,7 +10,7 @@ use Rattle.cron.specs.Places.{beyond}
 use Rattle.cron.specs.Tally.{IsCount, IsPassedBefore, IsPassedTo}
 use Rattle.std.proofs.lemmas.Nat.{div-add-mod'}
 use Rattle.cron.proofs.BlockLemmas.{div_of, mod_of}
-use Rattle.cron.proofs.WayLemmas.{Side, side, before, same, after, after_beyond, precedes_along}
+use Rattle.cron.proofs.WayLemmas.{side, before, same, after, after_beyond, precedes_along}
 use Rattle.cron.specs.Counts.{Stretch, count_within}
 use Rattle.cron.specs.Timeline.{numbers_below}
 
@@ -195,9 +195,9 @@ kind_block limit w day P count fits positive h = record {
     λ p. and_from (nat_eq (k / w) day) (h.test (k % w)) (eq-eqb (k / w) day p.0) ((h.tells (k % w) (omega arith)).1 p.1),
   );
   total =
-    let e : day * w + (w + (limit - (day * w + w))) ≡ limit = omega arith in
-    let Q : ℕ → Type 0 = λ n. count ≡ count_by (λ k. nat_eq (k / w) day && h.test (k % w)) (numbers_below n) in
-    subst Q e (h.total ∙ sym (count_block w day (limit - (day * w + w)) h.test positive));
+      let e : day * w + (w + (limit - (day * w + w))) ≡ limit = omega arith in
+      let Q : ℕ → Type 0 = λ n. count ≡ count_by (λ k. nat_eq (k / w) day && h.test (k % w)) (numbers_below n) in
+      subst Q e (h.total ∙ sym (count_block w day (limit - (day * w + w)) h.test positive));
 }
 
 -- there is one count of a kind
@@ -218,12 +218,12 @@ within_kind limit test s fits = record {
   test = λ k. nat_lt k s.to && (nat_le s.from k && test k);
   tells = λ k lt. (
     λ e. let both = and_parts (nat_lt k s.to) (nat_le s.from k && test k) e in
-      let more = and_parts (nat_le s.from k) (test k) both.1 in (leb-true s.from k more.0, ltb-true k s.to both.0, more.1),
+        let more = and_parts (nat_le s.from k) (test k) both.1 in (leb-true s.from k more.0, ltb-true k s.to both.0, more.1),
     λ p. and_from (nat_lt k s.to) (nat_le s.from k && test k) (lt-ltb k s.to p.1) (and_from (nat_le s.from k) (test k) (le-leb s.from k p.0) p.2),
   );
   total =
-    let inner : ℕ → Bool = λ n. nat_le s.from n && test n in
-    let e : s.to + (limit - s.to) ≡ limit = omega arith in
-    let Q : ℕ → Type 0 = λ n. count_by inner (numbers_below s.to) ≡ count_by (λ k. nat_lt k s.to && inner k) (numbers_below n) in
-    subst Q e (sym (count_cut inner s.to (limit - s.to)));
+      let inner : ℕ → Bool = λ n. nat_le s.from n && test n in
+      let e : s.to + (limit - s.to) ≡ limit = omega arith in
+      let Q : ℕ → Type 0 = λ n. count_by inner (numbers_below s.to) ≡ count_by (λ k. nat_lt k s.to && inner k) (numbers_below n) in
+      subst Q e (sym (count_cut inner s.to (limit - s.to)));
 }

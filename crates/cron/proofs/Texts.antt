@@ -1,12 +1,11 @@
 -- Fields one after another: a cut anywhere and the longest fronts are the same cut, and what a reader tells of them.
-use Rattle.std.proofs.Common.{◌≡◌, ℕ, true, ◌&&◌, ◌⊎◌, inl, inr, Option, Some, None, List, [], ◌∷◌, ◌++◌, refl, sym, ap, ◌∙◌, subst, append-nil}
-use Rattle.std.specs.Option.{option_map}
+use Rattle.std.proofs.Common.{◌≡◌, ℕ, true, ◌&&◌, inl, inr, Option, Some, None, List, [], ◌∷◌, ◌++◌, refl, sym, ap, ◌∙◌, subst, append-nil}
 use Rattle.cron_units.specs.Units.{TimeUnit, whole}
 use Rattle.cron_units.specs.Units as units
-use Rattle.cron_units.specs.Denotation.{Refusal, refusal_of, message, Denotes}
+use Rattle.cron_units.specs.Denotation.{refusal_of, Denotes}
 use Rattle.cron.specs.Fault.{IsLongestField, NoField, TakesField, RefusesField, IsRefused, IsFaultOf, TakeSets, syntax_text}
 use Rattle.cron.specs.Fields.{Item, is_connector, spacing_fits, IsField}
-use Rattle.cron.specs.FieldReading.{State, lone_item, joined, next_state, walk, first_state, field_at, state_items}
+use Rattle.cron.specs.FieldReading.{State, lone_item, joined, next_state, walk, first_state, state_items}
 use Rattle.cron.specs.Meaning.{DenoteYears, DenoteSets}
 use Rattle.cron.specs.TextReading.{IsRefusalOf}
 use Rattle.cron.specs.Tokens.{Token, Symbol, symbol_of, comma, dash, slash}
@@ -153,12 +152,13 @@ refused_unread u us ts denied =
       nothing = λ xss h. no_sets xss h;
       told = inr (λ other h. no_refusal other h, refl);
     } where
-  no_sets : (xss : List (List ℕ)) → DenoteSets (u ∷ us) ts xss → ⊥
-  no_sets [] h = h
-  no_sets (xs ∷ xss) h = denied h.0 h.1 h.2 h.3 h.4
-  no_refusal : (other : List ℕ) → IsRefused (u ∷ us) ts other → ⊥
-  no_refusal other (inl r) = denied r.front r.rest r.items r.longest.cut r.longest.field
-  no_refusal other (inr r) = denied r.2.front r.1 r.2.items r.2.longest.cut r.2.longest.field
+      no_sets : (xss : List (List ℕ)) → DenoteSets (u ∷ us) ts xss → ⊥
+      no_sets [] h = h
+      no_sets (xs ∷ xss) h = denied h.0 h.1 h.2 h.3 h.4
+
+      no_refusal : (other : List ℕ) → IsRefused (u ∷ us) ts other → ⊥
+      no_refusal other (inl r) = denied r.front r.rest r.items r.longest.cut r.longest.field
+      no_refusal other (inr r) = denied r.2.front r.1 r.2.items r.2.longest.cut r.2.longest.field
 
 none_is_some : {A : Type 0} (o : Option A) (x : A) → o ≡ None → o ≡ Some x → ⊥
 none_is_some o x h k = cc
@@ -173,34 +173,36 @@ not_both u ts xs rest text r t =
 pub refused_first : (u : TimeUnit) (us : List TimeUnit) (ts : List Token) (text : List ℕ) → RefusesField u ts text → IsRefusalOf (u ∷ us) ts text
 refused_first u us ts text r =
     record { nothing = no_sets; told = inl (inl r) } where
-  no_sets : (xss : List (List ℕ)) → DenoteSets (u ∷ us) ts xss → ⊥
-  no_sets [] h = h
-  no_sets (xs ∷ xss) h = let f = first_taken u us ts xs xss h in not_both u ts xs f.0 text r f.1
+      no_sets : (xss : List (List ℕ)) → DenoteSets (u ∷ us) ts xss → ⊥
+      no_sets [] h = h
+      no_sets (xs ∷ xss) h = let f = first_taken u us ts xs xss h in not_both u ts xs f.0 text r f.1
 
 -- where the first field is taken and the others are refused
 pub refused_after : (u : TimeUnit) (us : List TimeUnit) (ts : List Token) (xs : List ℕ) (rest : List Token) (text : List ℕ) → TakesField u ts xs rest → IsRefusalOf us rest text → IsRefusalOf (u ∷ us) ts text
 refused_after u us ts xs rest text t r =
     record { nothing = no_sets; told = fault r.told } where
-  no_sets : (xss : List (List ℕ)) → DenoteSets (u ∷ us) ts xss → ⊥
-  no_sets [] h = h
-  no_sets (ys ∷ xss) h =
-      let f = first_taken u us ts ys xss h in
-      r.nothing xss (subst (λ (z : List Token). DenoteSets us z xss) (takes_once u ts ys xs f.0 rest f.1 t).0 f.2)
-  none_else : ((other : List ℕ) → IsRefused us rest other → ⊥) → (other : List ℕ) → IsRefused (u ∷ us) ts other → ⊥
-  none_else denied other (inl q) = not_both u ts xs rest other q t
-  none_else denied other (inr q) = denied other (subst (λ (z : List Token). IsRefused us z other) (takes_once u ts q.0 xs q.1 rest q.2 t).0 q.3)
-  fault : IsFaultOf us rest text → IsFaultOf (u ∷ us) ts text
-  fault (inl q) = inl (inr (xs, rest, t, q))
-  fault (inr q) = inr (none_else q.0, q.1)
+      no_sets : (xss : List (List ℕ)) → DenoteSets (u ∷ us) ts xss → ⊥
+      no_sets [] h = h
+      no_sets (ys ∷ xss) h =
+          let f = first_taken u us ts ys xss h in
+          r.nothing xss (subst (λ (z : List Token). DenoteSets us z xss) (takes_once u ts ys xs f.0 rest f.1 t).0 f.2)
+
+      none_else : ((other : List ℕ) → IsRefused us rest other → ⊥) → (other : List ℕ) → IsRefused (u ∷ us) ts other → ⊥
+      none_else denied other (inl q) = not_both u ts xs rest other q t
+      none_else denied other (inr q) = denied other (subst (λ (z : List Token). IsRefused us z other) (takes_once u ts q.0 xs q.1 rest q.2 t).0 q.3)
+
+      fault : IsFaultOf us rest text → IsFaultOf (u ∷ us) ts text
+      fault (inl q) = inl (inr (xs, rest, t, q))
+      fault (inr q) = inr (none_else q.0, q.1)
 
 -- where what stands after the six fields denotes no years
 pub refused_years : (ts : List Token) → ((xs : List ℕ) → DenoteYears ts xs → ⊥) → IsRefusalOf [] ts syntax_text
 refused_years ts denied =
     record { nothing = no_sets; told = inr (λ other h. h, refl) } where
-  no_sets : (xss : List (List ℕ)) → DenoteSets [] ts xss → ⊥
-  no_sets [] h = h
-  no_sets (xs ∷ []) h = denied xs h
-  no_sets (xs ∷ ys ∷ xss) h = h
+      no_sets : (xss : List (List ℕ)) → DenoteSets [] ts xss → ⊥
+      no_sets [] h = h
+      no_sets (xs ∷ []) h = denied xs h
+      no_sets (xs ∷ ys ∷ xss) h = h
 
 -- a field of years that isn't read, is refused, or has something left over
 pub no_years : (ts : List Token) → (ts ≡ [] → ⊥) → ((items : List Item) (xs : List ℕ) → IsField units.years ts items → Denotes units.years items xs → ⊥) → (xs : List ℕ) → DenoteYears ts xs → ⊥

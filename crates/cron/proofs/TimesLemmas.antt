@@ -1,20 +1,19 @@
 -- The search of the times of one day.
-use Rattle.std.proofs.Common.{◌≡◌, ℕ, ◌+◌, ◌*◌, ◌%◌, ◌<◌, true, false, pos, [], Option, Some, None, is_some, option_map, refl, sym, ap, subst, ◌∙◌, arith}
+use Rattle.std.proofs.Common.{◌≡◌, ℕ, ◌+◌, ◌*◌, ◌%◌, ◌<◌, true, false, pos, Option, Some, None, is_some, option_map, refl, sym, subst, ◌∙◌}
 use Rattle.jiff_tz.specs.declared.timezone.TimeZone.{TimeZone}
 use Rattle.cron_units.specs.declared.way.Way.{Way}
-use Rattle.cron_units.specs.Nearest.{LiesFrom, IsNearest}
+use Rattle.cron_units.specs.Nearest.{IsNearest}
 use Rattle.cron.specs.Blocks.{Reaches, ReachesIfAny}
 use Rattle.cron.specs.CivilDates.{date_numbered}
 use Rattle.cron.specs.DaySearch.{FindsInDay, time_of}
 use Rattle.cron.specs.Found.{found_items, items_if_any}
 use Rattle.cron.specs.Places.{beyond, matches_second, stands_at}
 use Rattle.cron.specs.Readings.{readings}
-use Rattle.cron.specs.Search.{items_of, has_item}
 use Rattle.cron.specs.Sets.{Sets, matches_date}
 use Rattle.cron.specs.Tally.{IsCount, IsPassedBefore, IsPassedTo}
 use Rattle.cron.specs.declared.queries.found.Found.{Found}
 use Rattle.cron.proofs.BlockLemmas.{fails_each, starts_each, block_each, found_each, reach_on, reach_start}
-use Rattle.cron.proofs.FoundLemmas.{second_is, some_found, none_found}
+use Rattle.cron.proofs.FoundLemmas.{second_is}
 use Rattle.cron.proofs.StandLemmas.{items_at, heard, silent, second_fails, time_of_place}
 use Rattle.cron.proofs.TallyLemmas.{passed_found}
 

@@ -1,5 +1,5 @@
 -- A text without the white space at its ends.
-use Rattle.std.proofs.Common.{◌≡◌, ℕ, Bool, true, false, cond, List, [], ◌∷◌, ◌++◌, refl, sym, ap, ◌∙◌, length, arith}
+use Rattle.std.proofs.Common.{◌≡◌, ℕ, true, false, List, [], ◌∷◌, ◌++◌, refl, ap, ◌∙◌, length, arith}
 use Rattle.cron.specs.Meaning.{trimmed_front, trimmed_end, before_rest}
 use Rattle.cron.specs.Tokens.{is_space}
 

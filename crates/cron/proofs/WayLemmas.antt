@@ -1,5 +1,5 @@
 -- Numbers and their quotients in the two directions.
-use Rattle.std.proofs.Common.{◌≡◌, ℕ, ◌+◌, ◌-◌, ◌*◌, ◌/◌, ◌%◌, ◌<◌, ◌≤◌, ℤ, pos, ◌≤ℤ◌, ◌⊎◌, inl, inr, refl, arith}
+use Rattle.std.proofs.Common.{◌≡◌, ℕ, ◌+◌, ◌*◌, ◌/◌, ◌%◌, ◌<◌, ◌≤◌, ℤ, pos, ◌⊎◌, inl, inr, refl, arith}
 use Rattle.std.proofs.lemmas.Bool.{cases_lt}
 use Rattle.std.proofs.lemmas.Nat.{div-add-mod', mul-le}
 use Rattle.jiff_core.proofs.SignedLemmas.{signed_arith}
@@ -73,7 +73,7 @@ pub div_mono : (w a b : ℕ) → 0 < w → a ≤ b → a / w ≤ b / w
 div_mono w a b h le =
     elim (cases_lt (b / w) (a / w)) [
       | inl lt ↦ let more = mul-le (b / w + 1) w (a / w) w (omega arith) (omega arith) in
-        absurd (omega (arith, div-add-mod' a w, div-add-mod' b w, more))
+          absurd (omega (arith, div-add-mod' a w, div-add-mod' b w, more))
       | inr ge ↦ ge
     ]
 

@@ -1,5 +1,5 @@
 -- What the search of one day finds, and what it asks.
-use Rattle.std.specs.Prelude.{◌≡◌, ℕ, ◌+◌, ◌*◌, ◌/◌, ◌%◌, ◌<◌, ℤ, pos, Bool, true, false, ◌&&◌, nat_lt, List, Option, MatchOption, option_map}
+use Rattle.std.specs.Prelude.{◌≡◌, ℕ, ◌+◌, ◌*◌, ◌/◌, ◌%◌, ℤ, pos, Bool, true, false, ◌&&◌, nat_lt, List, Option, MatchOption, option_map}
 use Rattle.jiff_tz.specs.declared.timezone.TimeZone.{TimeZone}
 use Rattle.cron_units.specs.declared.way.Way.{Way}
 use Rattle.cron_units.specs.Nearest.{LiesFrom, IsNearestAt}
@@ -10,14 +10,10 @@ use Rattle.cron.specs.Places.{stands_at}
 use Rattle.cron.specs.Readings.{Reading}
 use Rattle.cron.specs.Search.{items_of, stands}
 use Rattle.cron.specs.Sets.{Sets, is_candidate, matches}
-use Rattle.cron.specs.Tally.{IsCount, Before, NotPast}
+use Rattle.cron.specs.Tally.{Before, NotPast}
 use Rattle.cron.specs.declared.queries.found.Found.{Found}
 
--- the number of the civil second that was found
-abbrev pub second_of : Option Found → Option ℕ
-second_of found = option_map (λ f. f.first.second) found
-
--- and its second of the day
+-- the second of the day that was found
 abbrev pub time_of : Option Found → Option ℕ
 time_of found = option_map (λ f. f.first.second % 86_400) found
 

@@ -1,7 +1,6 @@
 -- The fault that is told of a text that means nothing.
 use Rattle.std.specs.Prelude.{◌≡◌, ℕ, List, [], ◌∷◌, ◌++◌, ◌⊎◌, Some, codes}
 use Rattle.cron_units.specs.Units.{TimeUnit}
-use Rattle.cron_units.specs.Units as units
 use Rattle.cron_units.specs.Denotation.{Refusal, refusal_of, message, Denotes}
 use Rattle.cron.specs.Fields.{Item, IsField}
 use Rattle.cron.specs.Meaning.{six_units, DenoteYears, MeansNothing}

@@ -1,5 +1,5 @@
 -- What a search found, as a list.
-use Rattle.std.specs.Prelude.{List, [], ◌∷◌, Option, Some, None, option_to_list}
+use Rattle.std.specs.Prelude.{ℕ, option_map, List, [], ◌∷◌, Option, Some, None, option_to_list}
 use Rattle.cron.specs.Readings.{Reading}
 use Rattle.cron.specs.declared.queries.found.Found.{Found}
 
@@ -11,3 +11,7 @@ found_items f = f.first ∷ option_to_list f.second
 abbrev pub items_if_any : Option Found → List Reading
 items_if_any None = []
 items_if_any (Some f) = found_items f
+
+-- the number of the civil second that was found
+abbrev pub second_of : Option Found → Option ℕ
+second_of found = option_map (λ f. f.first.second) found

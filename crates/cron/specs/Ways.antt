@@ -1,5 +1,5 @@
 -- Both directions of a walk, said once.
-use Rattle.std.specs.Prelude.{ℕ, ◌+◌, ℤ, pos, ◌+ℤ◌, ◌-ℤ◌, List, Option, Some, None}
+use Rattle.std.specs.Prelude.{ℕ, ◌+◌, ℤ, List, Option, Some, None}
 use Rattle.cron_units.specs.declared.way.Way.{Way}
 use Rattle.cron_units.specs.declared.way.Way.TheVariants.{Ahead, Back}
 use Rattle.jiff_tz.specs.declared.timezone.TimeZone.{TimeZone}
@@ -15,11 +15,6 @@ opposite Back = Ahead
 abbrev pub bound : Way → TimeZone → ℤ → Option ℤ
 bound Ahead z t = bound_ahead z t
 bound Back z t = bound_back z t
-
--- the number beside a civil second
-abbrev pub beside : Way → ℕ → ℤ
-beside Ahead c = pos c +ℤ pos 1
-beside Back c = pos c -ℤ pos 1
 
 -- the place of the first item from a bound on
 abbrev pub place_from : Way → List Reading → Option ℤ → Option ℕ

@@ -30,8 +30,8 @@ sent_on origin old new failed before text a s =
 pub sent_off : (origin now : Option (List ℕ)) (failed : Bool) (before text : List ℕ) → failed ≡ true → IsSent origin now failed before → IsSent origin now failed (before ++ text)
 sent_off origin now failed before text f s =
     record { front = front_more origin now before text s.front; whole = λ fresh. absurd (both f fresh) } where
-  both : failed ≡ true → failed ≡ false → ⊥
-  both p q = cc
+      both : failed ≡ true → failed ≡ false → ⊥
+      both p q = cc
 
 -- a text that is a beginning of the whole, where a call has failed
 pub sent_part : (origin now : Option (List ℕ)) (failed : Bool) (whole sent rest : List ℕ) → whole ≡ sent ++ rest → failed ≡ true → IsSent origin now failed sent → IsSent origin now failed whole

@@ -5,7 +5,7 @@ use Rattle.std.specs.List.{flat_map}
 use Rattle.jiff_tz.specs.declared.timezone.TimeZone.{TimeZone}
 use Rattle.cron_units.specs.declared.way.Way.{Way}
 use Rattle.cron_units.specs.declared.way.Way.TheVariants.{Ahead, Back}
-use Rattle.cron.specs.Cursor.{Cursor, Start, Walk, run_on}
+use Rattle.cron.specs.Cursor.{Start, Walk, run_on}
 use Rattle.cron.specs.Meaning.{Means}
 use Rattle.cron.specs.MomentText.{moment_text}
 use Rattle.cron.specs.Readings.{Reading}

@@ -16,8 +16,11 @@ use watched::{Watched, send};
 use words::request_of;
 
 const LISTED: u8 = 0;
+
 const REFUSED: u8 = 1;
+
 const BAD_ARGUMENTS: u8 = 2;
+
 const WRITE_FAILED: u8 = 3;
 
 // Writes one line and answers the status, or that the write failed.

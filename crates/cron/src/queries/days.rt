@@ -19,7 +19,7 @@ pub(crate) struct Day {
     pub(crate) day: u32,
 }
 
-/// The day of a civil second.
+/// The day of a civil second. It is read, and neither made from the sets nor tested.
 pub(crate) fn day_with(second: u32) -> Day
     requires { second < 4_133_980_800 }
     ensures place { place_of result ≡ place_date (date_numbered (second / 86_400)).0 }

@@ -5,7 +5,8 @@ ghost use Rattle.jiff_core.specs.Date.{epoch_day};
 ghost use Rattle.cron_units.specs.Nearest.{LiesFrom};
 ghost use Rattle.cron.specs.CivilDates.{date_numbered};
 ghost use Rattle.cron.specs.Counts.{conversions, days_of};
-ghost use Rattle.cron.specs.DaySearch.{candidate_day, FindsInDay, Finds, IsAskedIn, IsAsked, day_of, second_of, time_of};
+ghost use Rattle.cron.specs.DaySearch.{candidate_day, FindsInDay, Finds, IsAskedIn, IsAsked, day_of, time_of};
+ghost use Rattle.cron.specs.Found.{second_of};
 ghost use Rattle.cron.specs.Days.{number_of, place_of, IsInRange};
 ghost use Rattle.cron.specs.Found.{found_items};
 ghost use Rattle.cron.specs.Places.{matches_place, matches_second};
@@ -28,7 +29,8 @@ const SECONDS_PER_DAY: u32 = 86_400;
 // The civil seconds of the range.
 const SECONDS: i64 = 4_133_980_800;
 
-// A day whose date matches: its times of day are gone through from one on, until one has a reading.
+// A day whose date matches: its times of day are gone through from one on, until one has a
+// reading. No other function asks the zone.
 fn search_times(
     fields: &ScheduleFields,
     zone: &TimeZone<'_>,
@@ -86,7 +88,8 @@ fn day_number(date: Date) -> u32
     date.to_unix_epoch_day() as u32
 }
 
-// A candidate: its date is made, and if its weekday lies in its set its times of day are gone through.
+// A candidate: its date is made, and if its weekday lies in its set, its times of day are gone
+// through from the start on. No other function makes a date of the sets or tests it.
 fn search_day(
     fields: &ScheduleFields,
     zone: &TimeZone<'_>,
@@ -149,9 +152,9 @@ fn search_days(fields: &ScheduleFields, zone: &TimeZone<'_>, way: Way, start: u3
     ensures days { IsCount
         47_847
         (IsPassedTo way
-          (candidate_day fields.now)
-          (pos (start / 86_400))
-          (day_of result.found))
+        (candidate_day fields.now)
+        (pos (start / 86_400))
+        (day_of result.found))
         result.days }
     ensures conversions { IsCount
         4_133_980_800
@@ -203,12 +206,7 @@ fn start_of(way: Way, from: i64) -> Option<u32>
 
 /// The nearest civil second from a number on that stands on the timeline, with its readings; and
 /// the numbers of dates and of questions to the zone that it took.
-pub(crate) fn search(
-    fields: &ScheduleFields,
-    zone: &TimeZone<'_>,
-    way: Way,
-    from: i64,
-) -> Search
+pub(crate) fn search(fields: &ScheduleFields, zone: &TimeZone<'_>, way: Way, from: i64) -> Search
     ensures found { IsFound way
         fields.now
         (plain_zone zone.now)

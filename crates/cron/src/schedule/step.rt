@@ -3,6 +3,7 @@ ghost use Rattle.std.specs.Prelude.{◌≡◌};
 ghost use Rattle.jiff.specs.Words.{plain_zone};
 ghost use Rattle.cron.specs.Cursor.{Start};
 ghost use Rattle.cron.specs.Placed as placed;
+ghost use Rattle.cron.specs.Places as places;
 ghost use Rattle.cron.specs.Stop.{IsReached, IsStop};
 ghost use Rattle.cron.specs.Ways as ways;
 
@@ -35,9 +36,9 @@ fn last_is_later(way: Way, found: &Found) -> bool
     }
 }
 
-// The number beside a civil second.
-fn beside(way: Way, second: u32) -> i64
-    ensures { result ≡ ways.beside way second }
+// The number past a civil second.
+fn beyond(way: Way, second: u32) -> i64
+    ensures { result ≡ places.beyond way second }
 {
     match way {
         Way::Ahead => second as i64 + 1,
@@ -78,7 +79,7 @@ pub(crate) fn step(fields: &ScheduleFields, zone: &TimeZone<'_>, way: Way, state
         State::Start(start) => from_start(fields, zone, way, Timestamp::from_plain(start)),
         State::At { found, later } => {
             if later == last_is_later(way, &found) {
-                reach(fields, zone, way, beside(way, found.first.second()))
+                reach(fields, zone, way, beyond(way, found.first.second()))
             } else {
                 State::At {
                     found,

@@ -59,7 +59,11 @@ impl Schedule {
 
 impl<'z> OwnedScheduleIterator<'z> {
     /// The walk over a schedule of its own, with its cursor at the start.
-    pub fn new(schedule: Schedule, start: Timestamp, zone: TimeZone<'z>) -> OwnedScheduleIterator<'z>
+    pub fn new(
+        schedule: Schedule,
+        start: Timestamp,
+        zone: TimeZone<'z>,
+    ) -> OwnedScheduleIterator<'z>
         ensures sets { result.sets ≡ schedule.sets }
         ensures zone { result.zone ≡ plain_zone zone.entry }
         ensures cursor { result.cursor ≡ Start start.nanosecond }

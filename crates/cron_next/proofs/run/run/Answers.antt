@@ -1,4 +1,4 @@
-use Rattle.std.proofs.Common.{◌≡◌, List, ℕ, ◌⊎◌, inl, inr, refl, ap}
+use Rattle.std.proofs.Common.{List, ℕ, inl, inr, refl, ap}
 use Rattle.cron_units.specs.Texts.{TellsKind, kind_text, error_text}
 use Rattle.cron_units.specs.declared.error.ErrorKind.{ErrorKind}
 use Rattle.cron_units.specs.declared.error.ErrorKind.TheVariants.{Expression, OutOfMemory}

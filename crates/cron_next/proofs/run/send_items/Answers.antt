@@ -1,10 +1,10 @@
-use Rattle.std.proofs.Common.{◌≡◌, ℕ, ◌+◌, ◌-◌, ◌<◌, ◌≤◌, Option, Some, None, List, [], ◌++◌, refl, sym, ap, ◌∙◌, subst, append_assoc, append-nil, arith}
+use Rattle.std.proofs.Common.{◌≡◌, ℕ, ◌+◌, ◌-◌, ◌<◌, Option, Some, List, [], ◌++◌, sym, ap, ◌∙◌, subst, append_assoc, append-nil, arith}
 use Rattle.cron.specs.Cursor.{Walk, Steps}
 use Rattle.cron.specs.Readings.{Reading}
 use Rattle.cron_next.specs.Output.{direction, answer_line, lines_of}
 use Rattle.cron_next.specs.Watching.{IsSent}
 use Rattle.cron_next.proofs.Lines.{lines_none, lines_step, lines_stop}
-use Rattle.cron_next.proofs.Sending.{nothing_sent, sent_part}
+use Rattle.cron_next.proofs.Sending.{sent_part}
 use Rattle.cron_next.proofs.run.send_items.Goals as goal
 
 one_less : (count i : ℕ) → i < count → count - i ≡ count - (i + 1) + 1

@@ -1,4 +1,4 @@
-use Rattle.std.proofs.Common.{◌≡◌, ◌-◌, false, List, ℕ, ◌++◌}
+use Rattle.std.proofs.Common.{◌≡◌, ◌-◌, List, ℕ, ◌++◌}
 use Rattle.cron_next.specs.Output.{lines_of}
 use Rattle.cron_next.specs.Watching.{has_failed, writer_of, IsSent}
 use Rattle.cron_next.proofs.run.send_items.Given as goal

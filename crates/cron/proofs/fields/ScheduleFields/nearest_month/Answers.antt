@@ -1,4 +1,4 @@
-use Rattle.std.proofs.Common.{◌<◌, ◌≤◌, arith}
+use Rattle.std.proofs.Common.{arith}
 use Rattle.cron_units.specs.Units as units
 use Rattle.cron.proofs.FieldLemmas.{nearest_bound}
 use Rattle.cron.proofs.fields.ScheduleFields.nearest_month.Goals as goal

@@ -1,12 +1,10 @@
-use Rattle.std.proofs.Common.{◌≡◌, [], ◌∷◌, List, ℕ}
+use Rattle.std.proofs.Common.{[], ◌∷◌, List}
 use Rattle.std.proofs.lemmas.Result.{err_from_is_err_and}
 use Rattle.cron_units.specs.Units.{TimeUnit}
 use Rattle.cron_units.specs.Units as units
-use Rattle.cron_units.specs.Texts.{Tells}
 use Rattle.cron.specs.TextReading.{IsRefusalOf}
-use Rattle.cron.specs.Tokens.{tokens}
 use Rattle.cron.proofs.FieldSets.{tells_map}
-use Rattle.cron.proofs.Prefixes.{Taken, start, next, told_by, denoted_by}
+use Rattle.cron.proofs.Prefixes.{start, next, told_by, denoted_by}
 use Rattle.cron.proofs.parsing.texts.longhand.Goals as goal
 
 pub returns-in_err-seconds-clause-refused : goal.returns-in_err-seconds-clause-refused

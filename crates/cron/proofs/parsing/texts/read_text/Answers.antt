@@ -1,6 +1,5 @@
-use Rattle.std.proofs.Common.{◌≡◌, ◌⊎◌, inl, inr, Option, Some, None, List, ℕ, sym, ap, ◌∙◌, subst}
+use Rattle.std.proofs.Common.{◌≡◌, inl, inr, Option, Some, None, List, ℕ, sym, ap, ◌∙◌}
 use Rattle.std.specs.Option.{option_map}
-use Rattle.std.specs.Result.{IfErr}
 use Rattle.std.proofs.lemmas.Result.{MatchResult-weaker}
 use Rattle.cron.specs.Meaning.{Means, six_units, set_lists, shorthand_of, trimmed_front, trimmed_end}
 use Rattle.cron.specs.Sets.{Sets}
@@ -18,9 +17,9 @@ none_is_some o s h k = cc
 refused_text : (text : List ℕ) → shorthand_of (trimmed_end (trimmed_front text)) ≡ None → (fault : List ℕ) → IsRefusalOf six_units (tokens text) fault → IsRefusal text fault
 refused_text text short fault r =
     record { nothing = no_sets; told = r.told } where
-  no_sets : (s : Sets) → Means text s → ⊥
-  no_sets s (inl h) = r.nothing (set_lists s) h
-  no_sets s (inr h) = none_is_some (shorthand_of (trimmed_end (trimmed_front text))) s short h
+      no_sets : (s : Sets) → Means text s → ⊥
+      no_sets s (inl h) = r.nothing (set_lists s) h
+      no_sets s (inr h) = none_is_some (shorthand_of (trimmed_end (trimmed_front text))) s short h
 
 pub returns-in-None-clause-refused : goal.returns-in-None-clause-refused
 returns-in-None-clause-refused c =

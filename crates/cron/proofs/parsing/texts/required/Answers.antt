@@ -1,10 +1,10 @@
-use Rattle.std.proofs.Common.{◌∷◌, List, ℕ, sym, subst}
+use Rattle.std.proofs.Common.{◌∷◌, List}
 use Rattle.cron_units.specs.Units.{TimeUnit}
 use Rattle.cron.specs.Fault.{RefusesField}
 use Rattle.cron.specs.TextReading.{IsRefusalOf}
 use Rattle.cron.specs.Tokens.{tokens}
 use Rattle.cron.proofs.FieldSets.{tells_map}
-use Rattle.cron.proofs.Texts.{refused_first, refused_unread}
+use Rattle.cron.proofs.Texts.{refused_first}
 use Rattle.cron.proofs.parsing.texts.required.Goals as goal
 
 pub returns-in-Err-clause-refused : goal.returns-in-Err-clause-refused

@@ -18,7 +18,7 @@ pub returns-clause-trims : goal.returns-clause-trims
 returns-clause-trims c =
     elim c.match-split_first.branch [
       | in-Some+then-not-is_space w ↦
-        let same = w.in-Some.ensures.cases.0 in
-        sym (c.loop-first.invariant.2 ∙ (ap trimmed_front same ∙ (front_stays w.in-Some.first.now w.in-Some.others.now (sym w.is_space.ensures ∙ w.if-not-is_space.true) ∙ sym same)))
+          let same = w.in-Some.ensures.cases.0 in
+          sym (c.loop-first.invariant.2 ∙ (ap trimmed_front same ∙ (front_stays w.in-Some.first.now w.in-Some.others.now (sym w.is_space.ensures ∙ w.if-not-is_space.true) ∙ sym same)))
       | in_default w ↦ sym (c.loop-first.invariant.2 ∙ front_empty c.loop-first.rest.now w.in_default.ensures.cases)
     ]

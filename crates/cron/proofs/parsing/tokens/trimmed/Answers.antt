@@ -1,6 +1,5 @@
-use Rattle.std.proofs.Common.{◌≡◌, false, true, sym, ap, ◌∙◌}
+use Rattle.std.proofs.Common.{sym, ap, ◌∙◌}
 use Rattle.cron.specs.Meaning.{trimmed_end}
-use Rattle.cron.specs.Tokens.{is_space}
 use Rattle.cron.proofs.Trims.{end_more, end_stays, end_empty}
 use Rattle.cron.proofs.parsing.tokens.trimmed.Goals as goal
 

@@ -1,6 +1,5 @@
-use Rattle.std.proofs.Common.{◌≡◌, ℕ, ℤ, pos, ◌≤ℤ◌, FitsSigned, w8, w16, rules, arith, to_z-of_z}
+use Rattle.std.proofs.Common.{FitsSigned, w8, w16, rules, arith, to_z-of_z}
 use Rattle.std.proofs.lemmas.Int.{ints}
-use Rattle.jiff_core.proofs.SignedLemmas.{signed_arith}
 use Rattle.cron.proofs.DateLemmas.{date_with, place_with, year_with}
 use Rattle.cron.proofs.queries.days.day_with.Goals as goal
 

@@ -1,4 +1,4 @@
-use Rattle.std.proofs.Common.{◌<◌, arith}
+use Rattle.std.proofs.Common.{arith}
 use Rattle.cron.proofs.BlockLemmas.{block_fails, block_found, reach_on, reach_start, starts_at}
 use Rattle.cron.proofs.DayLemmas.{split_place}
 use Rattle.cron.proofs.queries.days.nearest_day.Goals as goal

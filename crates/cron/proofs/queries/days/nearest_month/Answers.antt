@@ -1,10 +1,10 @@
-use Rattle.std.proofs.Common.{ℕ, ◌+◌, ◌*◌, ◌<◌, Bool, refl, arith}
+use Rattle.std.proofs.Common.{ℕ, ◌+◌, Bool, refl, arith}
 use Rattle.cron_units.specs.Units.{contains}
 use Rattle.cron.specs.Blocks.{IsSplit}
 use Rattle.cron.specs.Places.{matches_month}
 use Rattle.cron.specs.Sets.{Sets}
 use Rattle.cron.proofs.BlockLemmas.{both_split}
-use Rattle.cron.proofs.CarryLemmas.{Carried, carry_none, carry_first, carry_end, carry_empty, carry_next}
+use Rattle.cron.proofs.CarryLemmas.{carry_none, carry_first, carry_end, carry_empty, carry_next}
 use Rattle.cron.proofs.queries.days.nearest_month.Goals as goal
 
 inner : Sets → ℕ → Bool

@@ -1,18 +1,16 @@
-use Rattle.std.proofs.Common.{◌<◌, ◌≤◌, ◌≡◌, ◌/◌, ◌+◌, ◌*◌, ◌%◌, ℕ, ℤ, pos, ◌≤ℤ◌, false, true, Option, option_map, sym, ap, subst, ◌∙◌, arith}
+use Rattle.std.proofs.Common.{◌≡◌, ◌/◌, ◌+◌, ◌*◌, ◌%◌, ℕ, pos, false, true, option_map, sym, subst, arith}
 use Rattle.std.proofs.lemmas.Int.{ints}
 use Rattle.jiff.specs.Words.{plain_zone}
 use Rattle.jiff_core.proofs.SignedLemmas.{signed_arith}
 use Rattle.cron_units.specs.Nearest.{LiesFrom}
 use Rattle.cron.specs.CivilDates.{date_numbered}
 use Rattle.cron.specs.Blocks.{Enters}
-use Rattle.cron.specs.DaySearch.{FindsInDay, time_of}
+use Rattle.cron.specs.DaySearch.{FindsInDay}
 use Rattle.cron.specs.Days.{number_of}
 use Rattle.cron.specs.Found.{found_items}
-use Rattle.cron.specs.Places.{matches_second}
 use Rattle.cron.specs.Sets.{matches_date}
-use Rattle.cron.specs.Tally.{IsCount, IsPassedTo}
 use Rattle.cron.proofs.CarryLemmas.{start_parts}
-use Rattle.cron.proofs.DayLemmas.{IsMade, is_made}
+use Rattle.cron.proofs.DayLemmas.{is_made}
 use Rattle.cron.proofs.DaySearchLemmas.{same_number, date_fails, date_passes, day_silent, day_unasked, day_finds, day_asked}
 use Rattle.cron.proofs.queries.search.search_day.Goals as goal
 

@@ -1,10 +1,9 @@
-use Rattle.std.proofs.Common.{◌<◌, ◌≤◌, ◌≡◌, ◌/◌, ◌+◌, ℕ, pos, true, Some, option_map, sym, subst, arith}
+use Rattle.std.proofs.Common.{◌/◌, pos, sym, arith}
 use Rattle.jiff.specs.Words.{plain_zone}
 use Rattle.cron.specs.Blocks.{Reaches}
-use Rattle.cron.specs.DaySearch.{candidate_day, day_of, Finds}
+use Rattle.cron.specs.DaySearch.{candidate_day}
 use Rattle.cron.specs.Days.{number_of}
 use Rattle.cron.specs.Search.{stands}
-use Rattle.cron.specs.Tally.{IsCount, IsPassedTo}
 use Rattle.cron.proofs.FoundLemmas.{none_found}
 use Rattle.cron.proofs.TallyLemmas.{kind_bound, passed_start, passed_next}
 use Rattle.cron.proofs.SearchLemmas.{first_number, next_number, found_passes, days_start, days_next, day_found, days_found, asked_start, asked_next, asked_found, candidate_in, fewer_days}

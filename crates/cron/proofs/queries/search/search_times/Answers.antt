@@ -1,6 +1,6 @@
-use Rattle.std.proofs.Common.{◌<◌, ◌≤◌, sym, arith}
+use Rattle.std.proofs.Common.{sym, arith}
 use Rattle.jiff.specs.Words.{plain_zone}
-use Rattle.cron.proofs.TallyLemmas.{kind_bound, passed_start, passed_next, passed_end}
+use Rattle.cron.proofs.TallyLemmas.{kind_bound, passed_start, passed_next}
 use Rattle.cron.proofs.TimesLemmas.{AtTime, time_found, time_counted, time_silent, times_start, times_next}
 use Rattle.cron.proofs.queries.search.search_times.Goals as goal
 
