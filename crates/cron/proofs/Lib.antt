@@ -32,3 +32,4 @@ pub mod CountLemmas
 pub mod SearchLemmas
 pub mod DateLemmas
 pub mod DayLemmas
+pub mod Examples

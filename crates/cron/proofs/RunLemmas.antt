@@ -57,3 +57,8 @@ stays_ended items z (Back ∷ ws) = stays_ended items z ws
 pub ended_runs : EndIsForEver
 ended_runs items z ways =
     same_run (run_on items z ways Ended) _ _ (none_answers items z ways) (stays_ended items z ways)
+
+-- walks of equal parts are equal
+pub walk_is : (v w : Walk) → v.sets ≡ w.sets → v.zone ≡ w.zone → v.cursor ≡ w.cursor → v ≡ w
+walk_is v w p q r =
+    let e : record { sets = v.sets; zone = v.zone; cursor = v.cursor } ≡ record { sets = w.sets; zone = w.zone; cursor = w.cursor } = rw (p, q, r) refl in e

@@ -34,3 +34,5 @@ pub mod Days
 pub mod Tally
 pub mod DaySearch
 pub mod Starts
+pub mod Examples
+pub mod Headline

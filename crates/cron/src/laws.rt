@@ -1,8 +1,80 @@
-//! Laws over the definitions. No program calls these functions.
+//! The headline, and laws over the definitions. No program calls these functions.
 
+ghost use Rattle.std.specs.Prelude.{◌≡◌, IfOk, IfErr};
+ghost use Rattle.jiff.specs.Words.{plain_zone};
+ghost use Rattle.cron_units.specs.Texts.{Tells, IsMemory};
+ghost use Rattle.cron.specs.Examples.{TextsAreCut, ItemsDenote, ItemsAreRefused, CursorsStep, DaysAreNumbered};
+ghost use Rattle.cron.specs.Fault.{IsRefusal};
+ghost use Rattle.cron.specs.Headline.{IsWalked};
 ghost use Rattle.cron.specs.TextLaws.{MeansOnce, LongestFrontsAgree, HasOneFault};
 ghost use Rattle.cron.specs.FixedLaws as fixed;
 ghost use Rattle.cron.specs.WalkLaws as law;
+
+use crate::schedule::{Moment, Schedule, Turn};
+use cron_units::error::Error;
+use jiff::Timestamp;
+use jiff::tz::TimeZone;
+use std::alloc::Global;
+
+/// The headline: for every text, zone, start and list of calls, a text outside the grammar is
+/// refused, and one inside it gives exactly the seven sets that it denotes, whose timeline the calls
+/// walk over, each to the neighbouring item.
+pub fn headline(
+    alloc: Global,
+    text: &str,
+    start: Timestamp,
+    zone: &TimeZone<'_>,
+    turns: &[Turn],
+) -> Result<Vec<Option<Moment>>, Error>
+    ensures walked { IfOk result (λ answers. IsWalked text.now (plain_zone zone.now) start.nanosecond turns.now answers.items) }
+    ensures refused { IfErr result (Tells (IsRefusal text.now)) }
+{
+    let schedule = Schedule::from_str(alloc, text)?;
+    let mut walk = schedule.after(start, zone);
+    Ok(walk.play(alloc, turns)?)
+}
+
+/// Reading a source again gives the same schedule, and is refused for want of memory alone.
+pub fn reread(alloc: Global, schedule: &Schedule) -> Result<Schedule, Error>
+    ensures same { IfOk result (λ again. again ≡ schedule.now) }
+    ensures refused { IfErr result IsMemory }
+{
+    Schedule::from_str(alloc, schedule.source())
+}
+
+/// Equal schedules have equal sets.
+pub fn equal_sets(one: &Schedule, other: &Schedule)
+    requires { one.now.source ≡ other.now.source }
+    ensures { one.now.sets ≡ other.now.sets }
+{
+    let _one = one.source();
+    let _other = other.source();
+}
+
+/// The tokens of written texts, and the fields that they are.
+pub fn texts_are_cut()
+    ensures { TextsAreCut }
+{}
+
+/// The sets of written items.
+pub fn items_denote()
+    ensures { ItemsDenote }
+{}
+
+/// One written refusal of each kind.
+pub fn items_are_refused()
+    ensures { ItemsAreRefused }
+{}
+
+/// The steps of a cursor on four items.
+pub fn cursors_step()
+    ensures { CursorsStep }
+{}
+
+/// The numbers of the first and the last day and of a leap day.
+pub fn days_are_numbered()
+    ensures { DaysAreNumbered }
+{}
 
 /// A text means at most seven sets.
 pub fn means_once()

@@ -63,9 +63,10 @@ impl Schedule {
         })
     }
 
-    /// The text that was read, white space included.
+    /// The text that was read, white space included. The sets are those that it means.
     pub fn source(&self) -> &str
-        ensures { result.now ≡ self.now.source }
+        ensures text { result.now ≡ self.now.source }
+        ensures means { Means self.now.source self.now.sets }
     {
         self.source.as_str()
     }
