@@ -1,0 +1,2 @@
+pub mod Fires
+pub mod Missed

@@ -1,0 +1,13 @@
+use Rattle.std.proofs.Common.{◌≡◌, ◌++◌, length}
+use Rattle.std.specs.List.{take_while}
+use Rattle.jiff.specs.Words.{plain_zone}
+use Rattle.cron.specs.Rest.{rest_ahead}
+use Rattle.cron_vectors.specs.Fires.{fires_after, is_through}
+use Rattle.cron_vectors.proofs.callers.fires.fires_of_day.Given as goal
+
+abbrev pub invariant-loop-fire : goal.invariant-loop-fire
+invariant-loop-fire l =
+    take_while (is_through l.fn.date) (fires_after l.fn.schedule.sets (plain_zone l.fn.zone) l.fn.eve.nanosecond) ≡ l.fires.items ++ take_while (is_through l.fn.date) (rest_ahead l.walk)
+
+abbrev pub decreases-loop-fire : goal.decreases-loop-fire
+decreases-loop-fire l = length (rest_ahead l.walk)

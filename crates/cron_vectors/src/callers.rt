@@ -1,0 +1,13 @@
+//! What callers of `cron` promise, proved from its public contracts alone, and each run once.
+
+mod check;
+mod fires;
+#[cfg(test)]
+mod tests;
+mod units;
+
+pub use check::fault_of;
+pub use fires::{count_fires, fires_of_day, first_fires, last_fires, missed_runs, next_fire};
+pub use units::{
+    descending_hours, greatest_month, minutes_between, some_warm_month, summer_months, year_count,
+};

@@ -1,0 +1,132 @@
+//! Each caller once.
+
+use super::{
+    count_fires, descending_hours, fault_of, fires_of_day, first_fires, greatest_month, last_fires,
+    minutes_between, missed_runs, next_fire, some_warm_month, summer_months, year_count,
+};
+use cron::Schedule;
+use jiff::Timestamp;
+use jiff::civil::Date;
+use jiff::tz::TimeZone;
+use std::test::Fail;
+
+const NEW_YORK: &str = "EST5EDT,M3.2.0,M11.1.0";
+
+#[test]
+fn monday_comes_after_friday(rt: HostRuntime) -> Result<(), Fail> {
+    let zone = TimeZone::posix(NEW_YORK)?;
+    let schedule = Schedule::from_str(rt.alloc(), "0 0 9 * * Mon-Fri")?;
+    let now: Timestamp = "2024-03-08T14:00:00Z".parse()?;
+    let fire = next_fire(&schedule, now, &zone).ok_or("no fire")?;
+    let text = format!(in rt.alloc(); "{fire}")?;
+    assert_eq!(rt; text.as_str(), "2024-03-11 09:00:00 -04:00");
+    Ok(())
+}
+
+#[test]
+fn fires_follow_a_start(rt: HostRuntime) -> Result<(), Fail> {
+    let zone = TimeZone::posix(NEW_YORK)?;
+    let schedule = Schedule::from_str(rt.alloc(), "0 30 1 * * *")?;
+    let start: Timestamp = "2022-11-05T12:00:00Z".parse()?;
+    let fires = first_fires(rt.alloc(), &schedule, start, &zone, 3)?;
+    assert_eq!(rt; fires.len(), 3);
+    let text = format!(in rt.alloc(); "{} {} {}", fires[0], fires[1], fires[2])?;
+    assert_eq!(rt;
+        text.as_str(),
+        "2022-11-06 01:30:00 -04:00 2022-11-06 01:30:00 -05:00 2022-11-07 01:30:00 -05:00"
+    );
+    Ok(())
+}
+
+#[test]
+fn fires_lead_to_a_start(rt: HostRuntime) -> Result<(), Fail> {
+    let schedule = Schedule::from_str(rt.alloc(), "@daily")?;
+    let start: Timestamp = "2024-03-01T00:00:00Z".parse()?;
+    let fires = last_fires(rt.alloc(), &schedule, start, &TimeZone::UTC, 2)?;
+    assert_eq!(rt; fires.len(), 2);
+    let text = format!(in rt.alloc(); "{} {}", fires[0], fires[1])?;
+    assert_eq!(rt;
+        text.as_str(),
+        "2024-02-29 00:00:00 +00:00 2024-02-28 00:00:00 +00:00"
+    );
+    Ok(())
+}
+
+#[test]
+fn two_fires_are_left(rt: HostRuntime) -> Result<(), Fail> {
+    let schedule = Schedule::from_str(rt.alloc(), "0 0 0 1 1 * 2023-2025")?;
+    let start: Timestamp = "2023-06-01T00:00:00Z".parse()?;
+    assert_eq!(rt; count_fires(&schedule, start, &TimeZone::UTC, 10), 2);
+    Ok(())
+}
+
+#[test]
+fn a_day_with_a_fold_has_an_hour_more(rt: HostRuntime) -> Result<(), Fail> {
+    let zone = TimeZone::posix(NEW_YORK)?;
+    let schedule = Schedule::from_str(rt.alloc(), "@hourly")?;
+    let eve: Timestamp = "2022-11-06T03:59:59Z".parse()?;
+    let date = Date::new(2022, 11, 6)?;
+    let fires = fires_of_day(rt.alloc(), &schedule, eve, date, &zone)?;
+    assert_eq!(rt; fires.len(), 25);
+    Ok(())
+}
+
+#[test]
+fn runs_of_a_fold_are_missed_by_their_instants(rt: HostRuntime) -> Result<(), Fail> {
+    let zone = TimeZone::posix(NEW_YORK)?;
+    let schedule = Schedule::from_str(rt.alloc(), "0 0,30 1 * * *")?;
+    let last: Timestamp = "2022-11-06T04:30:00Z".parse()?;
+    let now: Timestamp = "2022-11-06T05:45:00Z".parse()?;
+    let missed = missed_runs(rt.alloc(), &schedule, last, now, &zone)?;
+    assert_eq!(rt; missed.len(), 2);
+    let text = format!(in rt.alloc(); "{} {}", missed[0], missed[1])?;
+    assert_eq!(rt;
+        text.as_str(),
+        "2022-11-06 01:00:00 -04:00 2022-11-06 01:30:00 -04:00"
+    );
+    Ok(())
+}
+
+#[test]
+fn a_line_has_one_fault(rt: HostRuntime) -> Result<(), Fail> {
+    assert!(rt; fault_of(rt.alloc(), "@weekly")?.is_none());
+    let fault = fault_of(rt.alloc(), "0 0 0 0 * *")?.ok_or("no fault")?;
+    assert_eq!(rt;
+        fault.as_str(),
+        "Days of Month must be greater than or equal to 1. ('0' specified.)"
+    );
+    Ok(())
+}
+
+#[test]
+fn nine_years_are_counted(rt: HostRuntime) -> Result<(), Fail> {
+    let schedule = Schedule::from_str(rt.alloc(), "0 0 0 1 1 * 2020/10")?;
+    assert_eq!(rt; year_count(&schedule), 9);
+    Ok(())
+}
+
+#[test]
+fn hours_descend(rt: HostRuntime) -> Result<(), Fail> {
+    let schedule = Schedule::from_str(rt.alloc(), "0 0 9-17/4 * * *")?;
+    let hours = descending_hours(rt.alloc(), &schedule)?;
+    assert_eq!(rt; hours.as_slice(), [17, 13, 9].as_slice());
+    Ok(())
+}
+
+#[test]
+fn minutes_lie_between(rt: HostRuntime) -> Result<(), Fail> {
+    let schedule = Schedule::from_str(rt.alloc(), "0 */15 * * * *")?;
+    let minutes = minutes_between(rt.alloc(), &schedule, 10, 45)?;
+    assert_eq!(rt; minutes.as_slice(), [15, 30, 45].as_slice());
+    Ok(())
+}
+
+#[test]
+fn july_is_an_odd_month(rt: HostRuntime) -> Result<(), Fail> {
+    let schedule = Schedule::from_str(rt.alloc(), "0 0 0 1 */2 *")?;
+    let months = summer_months(rt.alloc(), &schedule)?;
+    assert_eq!(rt; months.as_slice(), [7].as_slice());
+    assert_eq!(rt; some_warm_month(&schedule), Some(7));
+    assert_eq!(rt; greatest_month(&schedule, 8, 12), Some(11));
+    Ok(())
+}

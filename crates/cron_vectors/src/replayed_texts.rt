@@ -1,0 +1,77 @@
+//! Texts with the answers of the original.
+//!
+//! The answers were made by version 0.17.0 of the Rust crate `cron`, one row for each text. A row has
+//! the text, a bar, and the seven sets from the seconds to the years, a star for the whole range; or
+//! the message of the refusal. The crate has no message of its own for a text outside its grammar,
+//! so `Invalid cron expression.` was written for it. The character `␊` stands for a line feed.
+//!
+//! The texts were chosen by hand for each rule and each unit: the least and the greatest value and
+//! one beyond, leading zeros, the greatest numbers that a word of 32 bits holds, ranges, steps,
+//! lists, names in each spelling, white space at each place, and texts with several faults. The last
+//! group was made at random, half of it by changing a few characters of a text that is read.
+
+mod faults;
+mod names;
+mod random;
+mod shorthands;
+mod spaces;
+mod units;
+
+use crate::answers::reading;
+use std::alloc::Global;
+use std::process::Abort;
+use std::test::Fail;
+
+/// The character that one of a row stands for.
+fn line_feed(character: char) -> char {
+    match character {
+        '␊' => '\n',
+        other => other,
+    }
+}
+
+fn replay(rt: &impl Abort, alloc: Global, rows: &str) -> Result<(), Fail> {
+    for row in rows.lines() {
+        let (text, answer) = row.split_once(" | ").ok_or("a row has a bar")?;
+        let text: String = text.chars().map(line_feed).collect(alloc)?;
+        let read = reading(alloc, text.as_str())?;
+        assert_eq!(rt; read.as_str(), answer, "at {text:?}");
+    }
+    Ok(())
+}
+
+#[test]
+fn shorthands_are_read_alike(rt: HostRuntime) -> Result<(), Fail> {
+    replay(&rt, rt.alloc(), shorthands::ROWS)
+}
+
+#[test]
+fn units_are_read_alike(rt: HostRuntime) -> Result<(), Fail> {
+    replay(&rt, rt.alloc(), units::SECONDS)?;
+    replay(&rt, rt.alloc(), units::MINUTES)?;
+    replay(&rt, rt.alloc(), units::HOURS)?;
+    replay(&rt, rt.alloc(), units::DAYS_OF_MONTH)?;
+    replay(&rt, rt.alloc(), units::MONTHS)?;
+    replay(&rt, rt.alloc(), units::DAYS_OF_WEEK)?;
+    replay(&rt, rt.alloc(), units::YEARS)
+}
+
+#[test]
+fn names_are_read_alike(rt: HostRuntime) -> Result<(), Fail> {
+    replay(&rt, rt.alloc(), names::ROWS)
+}
+
+#[test]
+fn faults_are_told_alike(rt: HostRuntime) -> Result<(), Fail> {
+    replay(&rt, rt.alloc(), faults::ROWS)
+}
+
+#[test]
+fn white_space_is_taken_alike(rt: HostRuntime) -> Result<(), Fail> {
+    replay(&rt, rt.alloc(), spaces::ROWS)
+}
+
+#[test]
+fn random_texts_are_read_alike(rt: HostRuntime) -> Result<(), Fail> {
+    replay(&rt, rt.alloc(), random::ROWS)
+}

@@ -1,0 +1,179 @@
+//! A slow twin of the walks: it asks the schedule about one civil second after another, and the zone for
+//! the readings of each that is included.
+
+use crate::support::zone_named;
+use crate::ways::Walk;
+use cron::Schedule;
+use cron::schedule::{Moment, Turn};
+use jiff::Error;
+use jiff::civil::{Date, DateTime, Time};
+use jiff::tz::{AmbiguousOffset, Offset, TimeZone};
+use std::alloc::{AllocError, Global};
+use std::process::Abort;
+use std::test::Fail;
+
+// What a clock shows, and its offset.
+#[derive(Clone, Copy)]
+struct Shown {
+    datetime: DateTime,
+    offset: Offset,
+}
+
+// The readings of one civil second.
+fn push_readings(
+    readings: &mut Vec<Shown>,
+    zone: &TimeZone<'_>,
+    datetime: DateTime,
+) -> Result<(), AllocError> {
+    match zone.to_ambiguous_timestamp(datetime).offset() {
+        AmbiguousOffset::Gap { .. } => {}
+        AmbiguousOffset::Unambiguous { offset } => readings.push(Shown { datetime, offset })?,
+        AmbiguousOffset::Fold { before, after } => {
+            readings.push(Shown {
+                datetime,
+                offset: before,
+            })?;
+            if before != after {
+                readings.push(Shown {
+                    datetime,
+                    offset: after,
+                })?;
+            }
+        }
+    }
+    Ok(())
+}
+
+// The readings of an hour's included civil seconds.
+fn push_hour(
+    readings: &mut Vec<Shown>,
+    schedule: &Schedule,
+    zone: &TimeZone<'_>,
+    date: Date,
+    hour: i8,
+) -> Result<(), Fail> {
+    for minute in 0..60 {
+        for second in 0..60 {
+            let time = Time::new(hour, minute, second, 0)?;
+            let datetime = date.to_datetime(time);
+            if schedule.includes(datetime) {
+                push_readings(readings, zone, datetime)?;
+            }
+        }
+    }
+    Ok(())
+}
+
+// The readings of a day's included civil seconds.
+fn day(
+    alloc: Global,
+    schedule: &Schedule,
+    zone: &TimeZone<'_>,
+    date: Date,
+) -> Result<Vec<Shown>, Fail> {
+    let mut readings = Vec::new(alloc);
+    for hour in 0..24 {
+        push_hour(&mut readings, schedule, zone, date, hour)?;
+    }
+    Ok(readings)
+}
+
+// Whether a moment has the parts of a reading.
+fn is_shown(moment: Moment, wanted: Shown) -> Result<bool, Error> {
+    let instant = wanted.offset.to_timestamp(wanted.datetime)?;
+    Ok(
+        moment.datetime() == wanted.datetime
+            && moment.offset() == wanted.offset
+            && moment.timestamp() == instant,
+    )
+}
+
+fn check_answer(rt: &impl Abort, answer: Option<Moment>, wanted: Shown) -> Result<(), Fail> {
+    let moment = answer.ok_or("the walk ends early")?;
+    let is_shown = is_shown(moment, wanted)?;
+    assert!(rt; is_shown, "{moment}");
+    Ok(())
+}
+
+fn check_beyond(rt: &impl Abort, beyond: Option<Moment>, date: Date) {
+    if let Some(moment) = beyond {
+        let is_beyond = moment.datetime().date() != date;
+        assert!(rt; is_beyond, "{moment}");
+    }
+}
+
+// Makes one call for each reading, which it has to answer, and one more, which it may not answer on the
+// same day.
+fn check_answers<W: Walk>(
+    rt: &impl Abort,
+    walk: &mut W,
+    turn: Turn,
+    date: Date,
+    readings: &[Shown],
+) -> Result<(), Fail> {
+    for wanted in readings {
+        check_answer(rt, walk.call(turn), *wanted)?;
+    }
+    check_beyond(rt, walk.call(turn), date);
+    Ok(())
+}
+
+fn check_ahead(
+    rt: &impl Abort,
+    schedule: &Schedule,
+    zone: &TimeZone<'_>,
+    date: Date,
+    readings: &[Shown],
+) -> Result<(), Fail> {
+    let before = date.yesterday()?.to_datetime(Time::new(23, 59, 59, 0)?);
+    let mut walk = schedule.after(zone.to_timestamp(before)?, zone);
+    check_answers(rt, &mut walk, Turn::Next, date, readings)
+}
+
+fn check_back(
+    rt: &impl Abort,
+    schedule: &Schedule,
+    zone: &TimeZone<'_>,
+    date: Date,
+    readings: &[Shown],
+) -> Result<(), Fail> {
+    let after = date.tomorrow()?.to_datetime(Time::new(0, 0, 0, 0)?);
+    let mut walk = schedule.after(zone.to_timestamp(after)?, zone);
+    check_answers(rt, &mut walk, Turn::NextBack, date, readings)
+}
+
+/// Compares a day's part of the walks in both directions.
+pub(crate) fn check_day(
+    rt: &(impl Abort + AllocGlobal),
+    text: &str,
+    zone: &TimeZone<'_>,
+    date: &str,
+) -> Result<(), Fail> {
+    let date = date.parse::<Date>()?;
+    let schedule = Schedule::from_str(rt.alloc(), text)?;
+    let mut readings = day(rt.alloc(), &schedule, zone, date)?;
+    check_ahead(rt, &schedule, zone, date, readings.as_slice())?;
+    readings.as_mut_slice().reverse();
+    check_back(rt, &schedule, zone, date, readings.as_slice())
+}
+
+#[test]
+fn a_day_with_a_fold(rt: HostRuntime) -> Result<(), Fail> {
+    let zone = zone_named("Chicago")?;
+    check_day(&rt, "*/7 */3 0-3 6 11 *", &zone, "2022-11-06")?;
+    check_day(&rt, "30 30 * * * *", &zone, "2022-11-06")
+}
+
+#[test]
+fn a_day_with_a_gap(rt: HostRuntime) -> Result<(), Fail> {
+    let zone = zone_named("Chicago")?;
+    check_day(&rt, "*/7 */3 0-3 13 3 *", &zone, "2022-03-13")?;
+    check_day(&rt, "30 30 * * * *", &zone, "2022-03-13")
+}
+
+#[test]
+fn days_of_a_fixed_offset(rt: HostRuntime) -> Result<(), Fail> {
+    let zone = zone_named("fixed -20700")?;
+    check_day(&rt, "59 59 23 31 12 *", &zone, "2099-12-31")?;
+    check_day(&rt, "0 0 0,12 * * Thu", &zone, "1970-01-01")
+}

@@ -1,0 +1,115 @@
+//! Zones that are read from the bytes of a zone file.
+
+use crate::slow_twin::check_day;
+use crate::support::{check_same, listed};
+use cron::Schedule;
+use cron::schedule::Moment;
+use jiff::Timestamp;
+use jiff::civil::DateTime;
+use jiff::tz::{TimeZone, Tzif};
+use std::alloc::{AllocError, Global};
+use std::process::Abort;
+use std::test::Fail;
+
+// A file of version 2 up to its transitions: a block with one type alone, and the header of a block with
+// two transitions, two types and eight bytes of names.
+const FRONT: &[u8] = b"TZif2\0\0\0\0\0\0\0\0\0\0\0\0\0\0\0\
+\0\0\0\0\0\0\0\0\0\0\0\0\0\0\0\0\0\0\0\x01\0\0\0\x04\
+\0\0\0\0\0\0AAA\0\
+TZif2\0\0\0\0\0\0\0\0\0\0\0\0\0\0\0\
+\0\0\0\0\0\0\0\0\0\0\0\0\0\0\0\x02\0\0\0\x02\0\0\0\x08";
+
+// The indexes of the types after the transitions, and the type `AAA` at UTC.
+const MIDDLE: &[u8] = b"\x01\0\0\0\0\0\0\0";
+
+// The rest of the type `BBB` after its offset, the names and the footer.
+const END: &[u8] = b"\x01\x04AAA\0BBB\0\nAAA0\n";
+
+// The bytes for an offset of so many seconds from the first instant to the second.
+fn zone_file(
+    alloc: Global,
+    offset: i32,
+    first: Timestamp,
+    second: Timestamp,
+) -> Result<Vec<u8>, AllocError> {
+    let mut bytes = Vec::new(alloc);
+    bytes.extend_from_slice(FRONT)?;
+    bytes.extend_from_slice(&first.as_second().to_be_bytes())?;
+    bytes.extend_from_slice(&second.as_second().to_be_bytes())?;
+    bytes.extend_from_slice(MIDDLE)?;
+    bytes.extend_from_slice(&offset.to_be_bytes())?;
+    bytes.extend_from_slice(END)?;
+    Ok(bytes)
+}
+
+// The zone of such a file.
+fn read_file(alloc: Global, offset: i32, first: &str, second: &str) -> Result<Tzif, Fail> {
+    let first = first.parse::<Timestamp>()?;
+    let second = second.parse::<Timestamp>()?;
+    let bytes = zone_file(alloc, offset, first, second)?;
+    Ok(Tzif::parse(alloc, None, bytes.as_slice())?)
+}
+
+// The first five answers of a walk ahead.
+fn five_answers(alloc: Global, schedule: &Schedule, zone: &TimeZone<'_>) -> Result<String, Fail> {
+    let start = "2020-01-01T00:00:00Z".parse::<Timestamp>()?;
+    let mut walk = schedule.after(start, zone);
+    let answers: [Option<Moment>; 5] = [
+        walk.next(),
+        walk.next(),
+        walk.next(),
+        walk.next(),
+        walk.next(),
+    ];
+    Ok(listed(alloc, &answers)?)
+}
+
+fn check_search(
+    rt: &(impl Abort + AllocGlobal),
+    schedule: &Schedule,
+    zone: &TimeZone<'_>,
+) -> Result<(), Fail> {
+    let from = "2020-01-01 00:00:00".parse::<DateTime>()?;
+    let search = schedule.first_at_or_after(from, zone);
+    assert_eq!(rt; search.conversions, 3);
+    let found = search.found.ok_or("the search finds nothing")?;
+    let told = listed(rt.alloc(), &[Some(found.first), found.second])?;
+    let wanted = "2020-06-01 12:00:00 +01:00, 2020-06-01 12:00:00 +00:00";
+    check_same(rt, told.as_str(), wanted, "a zone file");
+    Ok(())
+}
+
+fn check_months_apart(rt: &(impl Abort + AllocGlobal), zone: &TimeZone<'_>) -> Result<(), Fail> {
+    let schedule = Schedule::from_str(rt.alloc(), "0 0,30 12 1 3,6 ? 2020")?;
+    let told = five_answers(rt.alloc(), &schedule, zone)?;
+    let wanted =
+        "2020-06-01 12:00:00 +01:00, 2020-06-01 12:00:00 +00:00, 2020-06-01 12:30:00 +01:00, 2020-06-01 12:30:00 +00:00, None";
+    check_same(rt, told.as_str(), wanted, "a zone file");
+    check_search(rt, &schedule, zone)
+}
+
+#[test]
+fn a_gap_and_a_fold_months_apart(rt: HostRuntime) -> Result<(), Fail> {
+    let (first, second) = ("2020-03-01T12:00:00Z", "2020-06-01T12:00:00Z");
+    let file = read_file(rt.alloc(), 3600, first, second)?;
+    check_months_apart(&rt, &TimeZone::tzif(&file))
+}
+
+// Two transitions half an hour apart, so that a gap and a fold touch.
+fn check_half_an_hour(rt: &(impl Abort + AllocGlobal), offset: i32) -> Result<(), Fail> {
+    let (first, second) = ("2020-03-01T12:00:00Z", "2020-03-01T12:30:00Z");
+    let file = read_file(rt.alloc(), offset, first, second)?;
+    let zone = TimeZone::tzif(&file);
+    check_day(rt, "0 */5 11-14 * * *", &zone, "2020-03-01")?;
+    check_day(rt, "59 */7 * 1 3 ?", &zone, "2020-03-01")
+}
+
+#[test]
+fn a_gap_that_touches_a_fold(rt: HostRuntime) -> Result<(), Fail> {
+    check_half_an_hour(&rt, 1800)
+}
+
+#[test]
+fn a_fold_that_touches_a_gap(rt: HostRuntime) -> Result<(), Fail> {
+    check_half_an_hour(&rt, -1800)
+}
