@@ -8,7 +8,8 @@
 //! second, at the turns of the zones, and before the first year and after the last one.
 //!
 //! Three groups are answered wrongly by the published crate, and their answers were made by a copy
-//! in which that one fault is mended; of the others the copy and the published crate answer alike.
+//! in which these three faults are mended. To all others the copy and the published crate answer
+//! alike.
 
 mod mended;
 mod published;

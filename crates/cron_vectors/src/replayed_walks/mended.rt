@@ -1,4 +1,4 @@
-//! Walks that the published crate answers wrongly, with the answers of a copy where a fault is mended.
+//! Walks that the published crate answers wrongly, with the answers of a copy that is mended.
 
 /// The published crate keeps the month, the day and the time of the start when it goes back to an
 /// earlier year, so it misses the items late in that year.
