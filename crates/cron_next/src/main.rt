@@ -4,6 +4,8 @@
 
 mod line;
 pub mod run;
+#[cfg(test)]
+mod tests;
 pub mod watched;
 mod words;
 

@@ -1,5 +1,10 @@
 //! The words of a command line.
 
+ghost use Rattle.std.specs.Prelude.{◌↔◌, IfSome, IsSome, SomeIff, map, string_bytes};
+ghost use Rattle.std.specs.Str.Parse.{digits_value};
+ghost use Rattle.jiff.specs.Words.{plain_zone};
+ghost use Rattle.cron_next.specs.Words.{IsCount, IsZoneWord, IsZoneOf, AreReadable, IsRead, IsReadable, Asks};
+
 use jiff::Timestamp;
 use jiff::tz::TimeZone;
 
@@ -14,36 +19,67 @@ pub struct Request<'a> {
 }
 
 // `UTC`, or a rule text as POSIX has it.
-fn zone_of(word: &str) -> Option<TimeZone<'_>> {
+fn zone_of(word: &str) -> Option<TimeZone<'_>>
+    ensures succeeds { IsSome result ↔ IsZoneWord word.now }
+    ensures value { IfSome result (λ zone. IsZoneOf word.now (plain_zone zone)) }
+{
     if word == "UTC" {
         return Some(TimeZone::UTC);
     }
     TimeZone::posix(word).ok()
 }
 
-// Digits alone, which a sign isn't.
-fn count_of(word: &str) -> Option<u32> {
-    if !word.bytes().all(|byte| byte.is_ascii_digit()) {
+// Digits alone; `parse` lets a plus stand before them.
+fn count_of(word: &str) -> Option<u32>
+    ensures { SomeIff result (IsCount word.now) (digits_value 10 word.now) }
+{
+    if word.starts_with('+') {
         return None;
     }
     word.parse().ok()
 }
 
-/// Reads four words or five, those other than the expression from left to right; `None` where one
-/// of them can't be read.
-pub fn request_of(words: &[String]) -> Option<Request<'_>> {
-    let (expression, start, zone, count, back) = match words {
-        [expression, start, zone, count] => (expression, start, zone, count, false),
-        [expression, start, zone, count, last] if last.as_str() == "back" => {
-            (expression, start, zone, count, true)
-        }
-        _ => return None,
-    };
+// Reads the words other than the expression from left to right.
+fn read<'a>(
+    expression: &'a str,
+    start: &str,
+    zone: &'a str,
+    count: &str,
+    back: bool,
+) -> Option<Request<'a>>
+    ensures succeeds { IsSome result ↔ AreReadable start.now zone.now count.now }
+    ensures value { IfSome result (IsRead expression.now start.now zone.now count.now back) }
+{
     Some(Request {
-        expression: expression.as_str(),
-        start: start.as_str().parse().ok()?,
-        zone: zone_of(zone.as_str())?,
-        count: count_of(count.as_str())?,
+        expression,
+        start: start.parse().ok()?,
+        zone: zone_of(zone)?,
+        count: count_of(count)?,
         back,
     })
+}
+
+/// Reads four words, or five that end in `back`; `None` where one of them can't be read. The
+/// expression is left as it is.
+pub fn request_of(words: &[String]) -> Option<Request<'_>>
+    ensures succeeds { IsSome result ↔ IsReadable (map string_bytes words.now) }
+    ensures value { IfSome result (Asks (map string_bytes words.now)) }
+{
+    match words {
+        [expression, start, zone, count] => read(
+            expression.as_str(),
+            start.as_str(),
+            zone.as_str(),
+            count.as_str(),
+            false,
+        ),
+        [expression, start, zone, count, last] if last.as_str() == "back" => read(
+            expression.as_str(),
+            start.as_str(),
+            zone.as_str(),
+            count.as_str(),
+            true,
+        ),
+        _ => None,
+    }
 }

@@ -1,6 +1,5 @@
-use Rattle.std.proofs.Common.{◌≡◌, ◌≤ℤ◌, ◌<ℤ◌, ◌∙◌, ap, arith, rules, sym, length}
+use Rattle.std.proofs.Common.{◌≤ℤ◌, ◌<ℤ◌, ◌∙◌, ap, arith, rules, sym, length}
 use Rattle.jiff_core.specs.Date.{epoch_day}
-use Rattle.cron.specs.Civil.{civil}
 use Rattle.std.specs.List.{take_while}
 use Rattle.cron_vectors.specs.Fires.{is_through}
 use Rattle.cron_vectors.proofs.Fires.{fires_after-walk, is_through-from, is_through-past, taken-more, taken-all, taken-end}

@@ -1,4 +1,4 @@
-use Rattle.std.proofs.Common.{◌≡◌, true, false, List, ◌∙◌, ap, subst, arith, refl, sym, length, filter}
+use Rattle.std.proofs.Common.{List, ap, subst, arith, refl, sym, length, filter}
 use Rattle.cron.specs.Readings.{Reading}
 use Rattle.cron_vectors.specs.Fires.{is_due}
 use Rattle.cron_vectors.proofs.Fires.{fires_after-walk}

@@ -1,0 +1,166 @@
+//! What a run writes where the writer takes every byte.
+
+use super::words_in;
+use crate::answer;
+use crate::run::{Outcome, run};
+use crate::watched::Watched;
+use crate::words::request_of;
+use jiff::tz::TimeZone;
+use std::test::Fail;
+
+// Each block is the words after a `>`, and then the lines that are listed.
+const LISTED: &str = "\
+>0 0,30 9 * * 2|2024-01-01T00:00:00Z|UTC|3
+2024-01-01 09:00:00 +00:00
+2024-01-01 09:30:00 +00:00
+2024-01-08 09:00:00 +00:00
+>59 59 23 31 12 *|2099-12-31T23:59:59Z|UTC|3
+2100-12-31 23:59:59 +00:00
+>0 0 0 29 2 *|2095-12-31T00:00:00Z|UTC|3
+2096-02-29 00:00:00 +00:00
+>0 0 0 30 2 *|2020-01-01T00:00:00Z|UTC|3
+>0 0 0 1 6 ? 2020|2021-03-15T00:00:00Z|UTC|2|back
+2020-06-01 00:00:00 +00:00
+>@daily|2020-01-01T00:00:00Z|UTC|0
+>@daily|2020-01-01T00:00:00Z|UTC|0|back
+>@daily|2020-01-01T00:00:00Z|UTC|2
+2020-01-02 00:00:00 +00:00
+2020-01-03 00:00:00 +00:00
+>@daily|2020-01-01T00:00:00Z|UTC|2|back
+2019-12-31 00:00:00 +00:00
+2019-12-30 00:00:00 +00:00
+>@daily|2020-01-01T00:00:00Z|LMT5:50:36|1
+2020-01-01 00:00:00 -05:50:36
+>0 0 * * * * *|2022-11-06T04:30:00Z|CST6CDT,M3.2.0,M11.1.0|5
+2022-11-06 00:00:00 -05:00
+2022-11-06 01:00:00 -05:00
+2022-11-06 01:00:00 -06:00
+2022-11-06 02:00:00 -06:00
+2022-11-06 03:00:00 -06:00
+>0 0 * * * * *|2022-11-06T09:30:00Z|CST6CDT,M3.2.0,M11.1.0|5|back
+2022-11-06 03:00:00 -06:00
+2022-11-06 02:00:00 -06:00
+2022-11-06 01:00:00 -06:00
+2022-11-06 01:00:00 -05:00
+2022-11-06 00:00:00 -05:00
+>0 0,30 1 6 11 ? 2022|2022-11-06T04:30:00Z|CST6CDT,M3.2.0,M11.1.0|4294967295
+2022-11-06 01:00:00 -05:00
+2022-11-06 01:00:00 -06:00
+2022-11-06 01:30:00 -05:00
+2022-11-06 01:30:00 -06:00
+>0 0 0 1 1-4/2 ?|2020-01-01T00:00:00Z|GMT0BST,M3.5.0/1,M10.5.0|4
+2020-03-01 00:00:00 +00:00
+2021-01-01 00:00:00 +00:00
+2021-03-01 00:00:00 +00:00
+2022-01-01 00:00:00 +00:00
+>@daily|2020-09-17T00:00:00Z|GMT0BST,M3.5.0/1,M10.5.0|1
+2020-09-18 00:00:00 +01:00
+";
+
+// A refused expression, and then what its line tells.
+const REFUSED: &str = "\
+60 * * * * *|Seconds must be less than 59. ('60' specified.)
+0 0,30 9 * *|Invalid cron expression.
+|Invalid cron expression.
+0 0 0 32 13 *|Days of Month must be less than 31. ('32' specified.)
+5-1,70 * * * * *|Invalid range for Seconds: 5-1
+9-3/0 * * * * *|range step cannot be zero
+9-3/60 * * * * *|Seconds must be between 1 and 59. ('60' specified.)
+* * * * * Mon-Foo|'Foo' is not a valid day of the week.
+* * * * * Fri-Mon|Invalid named range for Days of Week: Fri-Mon
+* * Jan-Feb * * *|The 'Hours' field does not support using names. 'Jan' specified.
+4294967295 * * * * *|Seconds must be less than 59. ('4294967295' specified.)
+1,4294967296 * * * * *|Invalid cron expression.
+0 0 0 0 1 ? 1969|Days of Month must be greater than or equal to 1. ('0' specified.)
+";
+
+#[test]
+fn lists_what_the_words_ask_for(rt: HostRuntime) -> Result<(), Fail> {
+    let mut blocks = 0u32;
+    for block in LISTED.split('>') {
+        let Some((line, want)) = block.split_once('\n') else {
+            continue;
+        };
+        let words = words_in(rt.alloc(), line)?;
+        let Some(asked) = request_of(words.as_slice()) else {
+            return Err("the words can't be read".into());
+        };
+        let mut out = Watched::new(Vec::new(rt.alloc()));
+        let outcome = run(
+            rt.alloc(),
+            asked.expression,
+            asked.start,
+            &asked.zone,
+            asked.count,
+            asked.back,
+            &mut out,
+        );
+        assert_eq!(rt; outcome, Outcome::Listed, "at {line}");
+        assert!(rt; !out.failed(), "at {line}");
+        assert_eq!(rt; out.into_inner().as_slice(), want.as_bytes(), "at {line}");
+        blocks = blocks.saturating_add(1);
+    }
+    assert_eq!(rt; blocks, 15);
+    Ok(())
+}
+
+#[test]
+fn tells_why_an_expression_is_refused(rt: HostRuntime) -> Result<(), Fail> {
+    let mut rows = 0u32;
+    for row in REFUSED.lines() {
+        let (expression, told) = row.split_once('|').ok_or("no message")?;
+        let want = format!(in rt.alloc(); "error: {told}\n")?;
+        let mut out = Watched::new(Vec::new(rt.alloc()));
+        let outcome = run(
+            rt.alloc(),
+            expression,
+            "2020-01-01T00:00:00Z".parse()?,
+            &TimeZone::UTC,
+            3,
+            false,
+            &mut out,
+        );
+        assert_eq!(rt; outcome, Outcome::Refused, "at {expression}");
+        assert!(rt; !out.failed(), "at {expression}");
+        assert_eq!(rt;
+            out.into_inner().as_slice(),
+            want.as_bytes(),
+            "at {expression}"
+        );
+        rows = rows.saturating_add(1);
+    }
+    assert_eq!(rt; rows, 13);
+    Ok(())
+}
+
+#[test]
+fn the_status_tells_how_a_run_ended(rt: HostRuntime) -> Result<(), Fail> {
+    for (line, status, want) in [
+        (
+            "@daily|2020-01-01T00:00:00Z|UTC|1",
+            0,
+            "2020-01-02 00:00:00 +00:00\n",
+        ),
+        ("@daily|2020-01-01T00:00:00Z|UTC|0", 0, ""),
+        (
+            "@dally|2020-01-01T00:00:00Z|UTC|1",
+            1,
+            "error: Invalid cron expression.\n",
+        ),
+        (
+            "@dally|2020-01-01T00:00:00Z|utc|1",
+            2,
+            "usage: cron_next EXPRESSION START ZONE COUNT [back]\n",
+        ),
+    ] {
+        let words = words_in(rt.alloc(), line)?;
+        let mut out = Watched::new(Vec::new(rt.alloc()));
+        assert_eq!(rt;
+            answer(rt.alloc(), words.as_slice(), &mut out),
+            status,
+            "at {line}"
+        );
+        assert_eq!(rt; out.into_inner().as_slice(), want.as_bytes(), "at {line}");
+    }
+    Ok(())
+}

@@ -1,0 +1,110 @@
+//! Runs where no memory is left. They take all of it, so they aren't for `rt try`, whose
+//! sanitizer then takes the machine's.
+
+ghost use Rattle.std.specs.Prelude.{Some};
+
+use crate::run::{Outcome, run};
+use crate::watched::Watched;
+use jiff::tz::TimeZone;
+use std::alloc::Global;
+use std::io::{self, Write};
+use std::test::Fail;
+
+const MOST_BLOCKS: usize = 20_000;
+
+// Takes blocks of each size down to a single byte until each is refused, so that nothing is left.
+fn take_all_memory(blocks: &mut Vec<Vec<u8>>, alloc: Global) {
+    let mut size = 1usize << 40;
+    for _ in 0..41 {
+        for _ in 0..MOST_BLOCKS {
+            if blocks.len() == blocks.capacity() {
+                break;
+            }
+            match Vec::with_capacity(alloc, size) {
+                Ok(block) => {
+                    let _ = blocks.push(block);
+                }
+                Err(_) => break,
+            }
+        }
+        size /= 2;
+    }
+}
+
+#[test]
+fn a_run_without_memory_says_so(rt: HostRuntime) -> Result<(), Fail> {
+    let alloc = rt.alloc();
+    let start = "2020-01-01T00:00:00Z".parse()?;
+    for expression in ["@daily", "60 * * * * *", "no expression"] {
+        let mut out = Watched::new(Vec::with_capacity(alloc, 100)?);
+        let mut blocks = Vec::with_capacity(alloc, MOST_BLOCKS)?;
+        take_all_memory(&mut blocks, alloc);
+        let outcome = run(alloc, expression, start, &TimeZone::UTC, 2, false, &mut out);
+        let taken = blocks.len();
+        blocks.truncate(0);
+        assert!(rt; taken < MOST_BLOCKS, "{taken} blocks");
+        assert_eq!(rt; outcome, Outcome::Refused, "at {expression}");
+        assert_eq!(rt;
+            out.into_inner().as_slice(),
+            b"error: out of memory\n".as_slice(),
+            "at {expression}"
+        );
+    }
+    Ok(())
+}
+
+// Takes all memory in its first write, and looks in each whether a byte is left.
+#[derive(Drop)]
+struct Greedy {
+    held: Vec<u8>,
+    blocks: Vec<Vec<u8>>,
+    alloc: Global,
+    byte_left: bool,
+}
+
+impl Write for Greedy {
+    ghost contents = { λ w. Some w.held.items };
+
+    fn write(&mut self, buf: &[u8]) -> io::Result<usize> {
+        if self.blocks.len() == 0 {
+            take_all_memory(&mut self.blocks, self.alloc);
+        }
+        if Vec::<u8>::with_capacity(self.alloc, 1).is_ok() {
+            self.byte_left = true;
+        }
+        self.held.extend_from_slice(buf)?;
+        Ok(buf.len())
+    }
+
+    fn flush(&mut self) -> io::Result<()> {
+        Ok(())
+    }
+}
+
+#[test]
+fn a_list_that_was_begun_takes_no_memory(rt: HostRuntime) -> Result<(), Fail> {
+    let alloc = rt.alloc();
+    let start = "2020-01-01T00:00:00Z".parse()?;
+    let mut out = Watched::new(Greedy {
+        held: Vec::with_capacity(alloc, 100)?,
+        blocks: Vec::with_capacity(alloc, MOST_BLOCKS)?,
+        alloc,
+        byte_left: false,
+    });
+    let outcome = run(alloc, "@daily", start, &TimeZone::UTC, 2, false, &mut out);
+    let Greedy {
+        held,
+        mut blocks,
+        byte_left,
+        ..
+    } = out.into_inner();
+    let taken = blocks.len();
+    blocks.truncate(0);
+    assert!(rt; !byte_left && taken < MOST_BLOCKS, "{taken} blocks");
+    assert_eq!(rt; outcome, Outcome::Listed);
+    assert_eq!(rt;
+        held.as_slice(),
+        b"2020-01-02 00:00:00 +00:00\n2020-01-03 00:00:00 +00:00\n".as_slice()
+    );
+    Ok(())
+}

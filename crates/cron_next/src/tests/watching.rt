@@ -1,0 +1,106 @@
+//! The mark of a watched writer.
+
+use crate::watched::Watched;
+use std::io::{self, ErrorKind, Write};
+use std::test::Fail;
+
+// Answers as it is told to: a write by `takes`, a flush by `flushes`.
+#[derive(Drop)]
+struct Told {
+    takes: Option<usize>,
+    flushes: bool,
+}
+
+impl Told {
+    fn new(takes: Option<usize>, flushes: bool) -> Told {
+        Told { takes, flushes }
+    }
+}
+
+impl Write for Told {
+    fn write(&mut self, buf: &[u8]) -> io::Result<usize> {
+        match self.takes {
+            Some(takes) => Ok(takes.min(buf.len())),
+            None => Err(io::Error::from(ErrorKind::BrokenPipe)),
+        }
+    }
+
+    fn flush(&mut self) -> io::Result<()> {
+        if !self.flushes {
+            return Err(io::Error::from(ErrorKind::BrokenPipe));
+        }
+        Ok(())
+    }
+}
+
+#[test]
+fn the_mark_is_set_by_a_failure_alone(rt: HostRuntime) {
+    for (takes, piece, failed) in [
+        (Some(4), "text", false),
+        (Some(1), "text", false),
+        (Some(4), "", false),
+        (Some(0), "", false),
+        (Some(0), "text", true),
+        (None, "text", true),
+        (None, "", true),
+    ] {
+        let mut out = Watched::new(Told::new(takes, true));
+        assert!(rt; !out.failed());
+        let written = out.write(piece.as_bytes());
+        assert_eq!(rt; written.ok(), takes.map(|count| count.min(piece.len())));
+        assert_eq!(rt; out.failed(), failed, "{takes:?} of {piece}");
+        assert!(rt; out.flush().is_ok());
+        assert_eq!(rt; out.failed(), failed, "{takes:?} of {piece}, flushed");
+    }
+}
+
+#[test]
+fn a_failed_flush_sets_the_mark(rt: HostRuntime) {
+    let mut out = Watched::new(Told::new(Some(4), false));
+    let kind = out.flush().map_err(|error| error.kind()).err();
+    assert_eq!(rt; kind, Some(ErrorKind::BrokenPipe));
+    assert!(rt; out.failed());
+    assert_eq!(rt; out.write(b"text").ok(), Some(4));
+    assert!(rt; out.failed());
+}
+
+// Fails in its first write alone.
+#[derive(Drop)]
+struct FailsOnce {
+    failed: bool,
+}
+
+impl Write for FailsOnce {
+    fn write(&mut self, buf: &[u8]) -> io::Result<usize> {
+        if !self.failed {
+            self.failed = true;
+            return Err(io::Error::from(ErrorKind::Interrupted));
+        }
+        Ok(buf.len())
+    }
+
+    fn flush(&mut self) -> io::Result<()> {
+        Ok(())
+    }
+}
+
+#[test]
+fn the_mark_stays_set(rt: HostRuntime) {
+    let mut out = Watched::new(FailsOnce { failed: false });
+    let kind = out.write(b"text").map_err(|error| error.kind()).err();
+    assert_eq!(rt; kind, Some(ErrorKind::Interrupted));
+    assert!(rt; out.failed());
+    assert_eq!(rt; out.write(b"text").ok(), Some(4));
+    assert!(rt; out.failed());
+    assert!(rt; out.flush().is_ok());
+    assert!(rt; out.failed());
+}
+
+#[test]
+fn the_writer_is_given_back(rt: HostRuntime) -> Result<(), Fail> {
+    let mut out = Watched::new(Vec::new(rt.alloc()));
+    out.write(b"text")?;
+    out.flush()?;
+    assert_eq!(rt; out.into_inner().as_slice(), b"text".as_slice());
+    Ok(())
+}
