@@ -23,21 +23,21 @@ pub record TextsAreCut : Type 0 where
   pub steps_tokens : tokens (codes "*/ 2") ≡ token (codes "*") ∷ token (codes "/") ∷ spaced_token (codes "2") ∷ []
   pub steps_field : IsField units.seconds (tokens (codes "*/ 2")) (stepped every 2 ∷ [])
   pub list_tokens :
-    tokens (codes "1,2,3/5")
-    ≡ token (codes "1") ∷ token (codes ",") ∷ token (codes "2") ∷ token (codes ",") ∷ token (codes "3") ∷ token (codes "/") ∷ token (codes "5") ∷ []
+      tokens (codes "1,2,3/5")
+      ≡ token (codes "1") ∷ token (codes ",") ∷ token (codes "2") ∷ token (codes ",") ∷ token (codes "3") ∷ token (codes "/") ∷ token (codes "5") ∷ []
   pub list_field : IsField units.seconds (tokens (codes "1,2,3/5")) (plain (single 1) ∷ plain (single 2) ∷ stepped (single 3) 5 ∷ [])
   pub names_tokens :
-    tokens (codes " mon-FRI/2, SAT ")
-    ≡ spaced_token (codes "mon") ∷ token (codes "-") ∷ token (codes "FRI") ∷ token (codes "/") ∷ token (codes "2") ∷ token (codes ",") ∷ spaced_token (codes "SAT") ∷ []
+      tokens (codes " mon-FRI/2, SAT ")
+      ≡ spaced_token (codes "mon") ∷ token (codes "-") ∷ token (codes "FRI") ∷ token (codes "/") ∷ token (codes "2") ∷ token (codes ",") ∷ spaced_token (codes "SAT") ∷ []
   pub names_field :
-    IsField units.days_of_week (tokens (codes " mon-FRI/2, SAT ")) (stepped (name_range (codes "mon") (codes "FRI")) 2 ∷ name (codes "SAT") ∷ [])
+      IsField units.days_of_week (tokens (codes " mon-FRI/2, SAT ")) (stepped (name_range (codes "mon") (codes "FRI")) 2 ∷ name (codes "SAT") ∷ [])
   pub apart : spacing_fits_all (tokens (codes "* / 2")) ≡ false
 
 -- the sets that items denote
 pub record ItemsDenote : Type 0 where
   pub steps :
-    Denotes units.seconds (plain (single 1) ∷ plain (single 2) ∷ stepped (single 3) 5 ∷ [])
-    (1 ∷ 2 ∷ 3 ∷ 8 ∷ 13 ∷ 18 ∷ 23 ∷ 28 ∷ 33 ∷ 38 ∷ 43 ∷ 48 ∷ 53 ∷ 58 ∷ [])
+      Denotes units.seconds (plain (single 1) ∷ plain (single 2) ∷ stepped (single 3) 5 ∷ [])
+      (1 ∷ 2 ∷ 3 ∷ 8 ∷ 13 ∷ 18 ∷ 23 ∷ 28 ∷ 33 ∷ 38 ∷ 43 ∷ 48 ∷ 53 ∷ 58 ∷ [])
   pub names : Denotes units.days_of_week (stepped (name_range (codes "Mon") (codes "Thurs")) 2 ∷ []) (2 ∷ 4 ∷ [])
 
 -- an item is refused with this message

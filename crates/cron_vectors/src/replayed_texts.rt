@@ -47,18 +47,21 @@ fn shorthands_are_read_alike(rt: HostRuntime) -> Result<(), Fail> {
 
 #[test]
 fn units_are_read_alike(rt: HostRuntime) -> Result<(), Fail> {
-    replay(&rt, rt.alloc(), units::SECONDS)?;
-    replay(&rt, rt.alloc(), units::MINUTES)?;
-    replay(&rt, rt.alloc(), units::HOURS)?;
-    replay(&rt, rt.alloc(), units::DAYS_OF_MONTH)?;
-    replay(&rt, rt.alloc(), units::MONTHS)?;
-    replay(&rt, rt.alloc(), units::DAYS_OF_WEEK)?;
-    replay(&rt, rt.alloc(), units::YEARS)
+    replay(&rt, rt.alloc(), units::seconds::ROWS)?;
+    replay(&rt, rt.alloc(), units::minutes::ROWS)?;
+    replay(&rt, rt.alloc(), units::hours::ROWS)?;
+    replay(&rt, rt.alloc(), units::days_of_month::ROWS)?;
+    replay(&rt, rt.alloc(), units::months::ROWS)?;
+    replay(&rt, rt.alloc(), units::days_of_week::ROWS)?;
+    replay(&rt, rt.alloc(), units::years::ROWS)
 }
 
 #[test]
 fn names_are_read_alike(rt: HostRuntime) -> Result<(), Fail> {
-    replay(&rt, rt.alloc(), names::ROWS)
+    replay(&rt, rt.alloc(), names::first_half_year::ROWS)?;
+    replay(&rt, rt.alloc(), names::second_half_year::ROWS)?;
+    replay(&rt, rt.alloc(), names::days_of_week::ROWS)?;
+    replay(&rt, rt.alloc(), names::other_units::ROWS)
 }
 
 #[test]
@@ -73,5 +76,7 @@ fn white_space_is_taken_alike(rt: HostRuntime) -> Result<(), Fail> {
 
 #[test]
 fn random_texts_are_read_alike(rt: HostRuntime) -> Result<(), Fail> {
-    replay(&rt, rt.alloc(), random::ROWS)
+    replay(&rt, rt.alloc(), random::read::ROWS)?;
+    replay(&rt, rt.alloc(), random::outside_the_grammar::ROWS)?;
+    replay(&rt, rt.alloc(), random::refused_values::ROWS)
 }

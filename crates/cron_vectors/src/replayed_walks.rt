@@ -55,9 +55,9 @@ fn replay(rt: &impl Abort, alloc: Global, rows: &str) -> Result<(), Fail> {
 
 #[test]
 fn walks_are_alike(rt: HostRuntime) -> Result<(), Fail> {
-    replay(&rt, rt.alloc(), published::UTC)?;
-    replay(&rt, rt.alloc(), published::FIXED)?;
-    replay(&rt, rt.alloc(), published::RULES)
+    replay(&rt, rt.alloc(), published::utc::ROWS)?;
+    replay(&rt, rt.alloc(), published::fixed::ROWS)?;
+    replay(&rt, rt.alloc(), published::rules::ROWS)
 }
 
 #[test]
