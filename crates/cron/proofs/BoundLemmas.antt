@@ -1,5 +1,5 @@
 -- The bounds of a start, from what jiff says of a datetime and of an instant.
-use Rattle.std.proofs.Common.{◌≡◌, ◌≢◌, ℤ, pos, true, false, Some, None, arith, refl}
+use Rattle.std.proofs.Common.{◌≡◌, ◌≢◌, ℤ, pos, true, false, Some, arith, refl}
 use Rattle.std.proofs.lemmas.Int.{ints}
 use Rattle.std.specs.Int.{int_rem_euclid}
 use Rattle.jiff_core.specs.declared.civil.datetime.DateTime.{DateTime}
@@ -27,7 +27,3 @@ is_whole-false dt z t e h = rw (← e, fraction dt) (grind (arith, ints))
 pub shown_if_any-some : (z : TimeZone) (t : ℤ) → IsTimestampNanos t → shown_if_any z t ≡ Some (shown_at z t)
 shown_if_any-some z t h =
     let yes : is_instant t ≡ true = grind (arith, ints) in rw yes refl
-
-pub shown_if_any-none : (z : TimeZone) (t : ℤ) → ¬ (IsTimestampNanos t) → shown_if_any z t ≡ None
-shown_if_any-none z t h =
-    let no : is_instant t ≡ false = grind (arith, ints) in rw no refl

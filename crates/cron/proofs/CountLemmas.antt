@@ -20,7 +20,7 @@ use Rattle.cron.specs.Readings.{readings}
 use Rattle.cron.specs.Search.{items_of, has_item, stands, IsFound, IsFoundAt}
 use Rattle.cron.specs.Sets.{Sets, is_candidate, matches}
 use Rattle.cron.specs.Starts.{Starts, LiesOutside}
-use Rattle.cron.specs.Tally.{IsCount, NotPast, IsPassedTo}
+use Rattle.cron.specs.Tally.{IsTally, NotPast, IsPassedTo}
 use Rattle.cron.proofs.TallyLemmas.{kind_same, kind_one, kind_joined, kind_unique, within_kind, kind_none}
 
 -- the numbers from a start to an answer are those of the stretch
@@ -28,7 +28,7 @@ Within : ℕ → Way → ℤ → Option ℕ → Stretch → Type 0
 Within limit way first answer s =
     (s.to ≤ limit) × ((k : ℕ) → k < limit → LiesFrom way first k → NotPast way k answer → (s.from ≤ k) × (k < s.to)) × ((k : ℕ) → s.from ≤ k → k < s.to → LiesFrom way first k × NotPast way k answer)
 
-days_within : (way : Way) (s : Sets) (first : ℤ) (answer : Option ℕ) (stretch : Stretch) (days : ℕ) → Within 47_847 way first answer stretch → IsCount 47_847 (IsPassedTo way (candidate_day s) first answer) days → days ≡ candidates s stretch
+days_within : (way : Way) (s : Sets) (first : ℤ) (answer : Option ℕ) (stretch : Stretch) (days : ℕ) → Within 47_847 way first answer stretch → IsTally 47_847 (IsPassedTo way (candidate_day s) first answer) days → days ≡ candidates s stretch
 unfolding Within
 days_within way s first answer stretch days w counted =
     let test : ℕ → Bool = λ day. is_candidate s (date_numbered day).0 in
@@ -51,7 +51,7 @@ gap_from s z k lt h silent =
 gap_matched : (s : Sets) (z : TimeZone) (k : ℕ) → is_gap_match s z k ≡ true → matches s (civil k) ≡ true
 gap_matched s z k h = (and_parts (matches s (civil k)) (not (has_item (readings z k))) h).0
 
-none_within : (way : Way) (s : Sets) (z : TimeZone) (first : ℤ) (stretch : Stretch) (count : ℕ) → Within 4_133_980_800 way first None stretch → AllFail way (stands s z) first → IsCount 4_133_980_800 (IsAsked way s first None) count → count ≡ gap_matches s z stretch
+none_within : (way : Way) (s : Sets) (z : TimeZone) (first : ℤ) (stretch : Stretch) (count : ℕ) → Within 4_133_980_800 way first None stretch → AllFail way (stands s z) first → IsTally 4_133_980_800 (IsAsked way s first None) count → count ≡ gap_matches s z stretch
 unfolding Within
 none_within way s z first stretch count w none counted =
     kind_unique 4_133_980_800 (IsAsked way s first None) count (gap_matches s z stretch) counted
@@ -69,7 +69,7 @@ apart : (way : Way) (k c : ℕ) → Precedes way k c → k ≡ c → ⊥
 apart Ahead k c h e = omega arith
 apart Back k c h e = omega arith
 
-some_until : (way : Way) (s : Sets) (z : TimeZone) (first : ℤ) (c : ℕ) (stretch : Stretch) (count : ℕ) → c < 4_133_980_800 → Until 4_133_980_800 way first c stretch → matches s (civil c) ≡ true → IsNearestAt way (stands s z) first c → IsCount 4_133_980_800 (IsAsked way s first (Some c)) count → count ≡ gap_matches s z stretch + 1
+some_until : (way : Way) (s : Sets) (z : TimeZone) (first : ℤ) (c : ℕ) (stretch : Stretch) (count : ℕ) → c < 4_133_980_800 → Until 4_133_980_800 way first c stretch → matches s (civil c) ≡ true → IsNearestAt way (stands s z) first c → IsTally 4_133_980_800 (IsAsked way s first (Some c)) count → count ≡ gap_matches s z stretch + 1
 unfolding Until
 some_until way s z first c stretch count lt u match found counted =
     kind_unique 4_133_980_800 (IsAsked way s first (Some c)) count (gap_matches s z stretch + 1) counted
@@ -155,14 +155,14 @@ answer_second : (way : Way) (s : Sets) (z : TimeZone) (start : ℤ) (f : Found) 
 answer_second way s z start f h =
     let P : ℕ → Type 0 = IsNearestAt way (stands s z) start in subst P (sym (items_second s z h.second f h.items)) h.nearest
 
-pub days_counted : (way : Way) (s : Sets) (z : TimeZone) (from : ℤ) (start days : ℕ) (found : Option Found) → Starts way from start → IsFound way s z (pos start) (option_map found_items found) → IsCount 47_847 (IsPassedTo way (candidate_day s) (pos (start / 86_400)) (day_of found)) days → days ≡ days_of way s from (second_of found)
+pub days_counted : (way : Way) (s : Sets) (z : TimeZone) (from : ℤ) (start days : ℕ) (found : Option Found) → Starts way from start → IsFound way s z (pos start) (option_map found_items found) → IsTally 47_847 (IsPassedTo way (candidate_day s) (pos (start / 86_400)) (day_of found)) days → days ≡ days_of way s from (second_of found)
 days_counted way s z from start days None st h counted =
     days_within way s (pos (start / 86_400)) None (span way from None) days (whole_days way from start st) counted
 days_counted way s z from start days (Some f) st h counted =
     let fits = (stands_matches s z f.first.second (answer_second way s z (pos start) f h).passes).0 in
     days_within way s (pos (start / 86_400)) (Some (f.first.second / 86_400)) (span way from (Some f.first.second)) days (ends_days way from start f.first.second st fits) counted
 
-pub conversions_counted : (way : Way) (s : Sets) (z : TimeZone) (from : ℤ) (start count : ℕ) (found : Option Found) → Starts way from start → IsFound way s z (pos start) (option_map found_items found) → IsCount 4_133_980_800 (IsAsked way s (pos start) (second_of found)) count → count ≡ conversions way s z from (second_of found)
+pub conversions_counted : (way : Way) (s : Sets) (z : TimeZone) (from : ℤ) (start count : ℕ) (found : Option Found) → Starts way from start → IsFound way s z (pos start) (option_map found_items found) → IsTally 4_133_980_800 (IsAsked way s (pos start) (second_of found)) count → count ≡ conversions way s z from (second_of found)
 conversions_counted way s z from start count None st h counted =
     none_within way s z (pos start) (passed way from None) count (whole_seconds way from start st) h counted ∙ sym (add-zero _)
 conversions_counted way s z from start count (Some f) st h counted =

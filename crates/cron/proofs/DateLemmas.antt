@@ -95,9 +95,6 @@ earlier_place a b low (inr (e, inl lt)) =
 earlier_place a b low (inr (e, inr (f, lt))) =
     let y : unsigned_abs a.year ≡ unsigned_abs b.year = rw e refl in omega (arith, y, f, lt)
 
-pub date_at : ℕ → Date
-date_at n = (date_numbered n).0
-
 pub epoch_at : (n : ℕ) → n < 47_847 → epoch_day (date_numbered n).0 ≡ pos n
 epoch_at n h = (date_numbered n).1 (omega arith)
 

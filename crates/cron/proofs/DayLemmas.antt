@@ -12,7 +12,7 @@ use Rattle.cron_units.specs.Units.{contains}
 use Rattle.cron.specs.Blocks.{IsSplit}
 use Rattle.cron.specs.CivilDates.{date_numbered}
 use Rattle.cron.specs.DaySearch.{candidate_day}
-use Rattle.cron.specs.Days.{place_of, number_of, IsInRange}
+use Rattle.cron.specs.Days.{day_place, number_of, IsInRange}
 use Rattle.cron.specs.Places.{beyond, place, place_date, day_number, year_of, month_of, length_of, matches_day, matches_month, matches_place}
 use Rattle.cron.specs.Sets.{Sets, is_candidate}
 use Rattle.cron.specs.declared.queries.days.Day.{Day}
@@ -122,18 +122,18 @@ pub record IsMade (s : Sets) (d : Day) (date : Date) : Type 0 where
 same_parts : (date : Date) (y : ℤ) (m k : ℕ) → date.year ≡ y → date.month ≡ m → date.day ≡ k → epoch_day date ≡ days_from_civil y m k
 same_parts date y m k ey em ek = rw (ey, em, ek) refl
 
-day_fits : (s : Sets) (d : Day) → IsInRange d → matches_place s (place_of d) ≡ true → d.day ≤ length_of d.month
+day_fits : (s : Sets) (d : Day) → IsInRange d → matches_place s (day_place d) ≡ true → d.day ≤ length_of d.month
 day_fits s d range h =
-    let parts = and_parts (matches_month s (place_of d / 100)) (matches_day s (place_of d / 100) (place_of d % 100)) h in
-    let e : place_of d / 100 ≡ d.month = omega (arith, range) in
-    let f : place_of d % 100 ≡ d.day = omega (arith, range) in
+    let parts = and_parts (matches_month s (day_place d / 100)) (matches_day s (day_place d / 100) (day_place d % 100)) h in
+    let e : day_place d / 100 ≡ d.month = omega (arith, range) in
+    let f : day_place d % 100 ≡ d.day = omega (arith, range) in
     leb-true d.day (length_of d.month) (and_parts (contains s.days_of_month d.day) (nat_le d.day (length_of d.month)) (same_day s _ _ _ _ e f parts.1)).1
 
 -- the number of a day whose place passes
-pub number_of_place : (s : Sets) (d : Day) → IsInRange d → matches_place s (place_of d) ≡ true → IsNumber d.month d.day (number_of d)
+pub number_of_place : (s : Sets) (d : Day) → IsInRange d → matches_place s (day_place d) ≡ true → IsNumber d.month d.day (number_of d)
 number_of_place s d range h = number_is d.month d.day range.0 range.1 range.2 (day_fits s d range h)
 
-pub is_made : (s : Sets) (d : Day) (y : ℤ) (date : Date) → IsInRange d → matches_place s (place_of d) ≡ true → y ≡ pos (year_of d.month) → date.year ≡ y → date.month ≡ month_of d.month → date.day ≡ min d.day (days_in_month y (month_of d.month)) → IsMade s d date
+pub is_made : (s : Sets) (d : Day) (y : ℤ) (date : Date) → IsInRange d → matches_place s (day_place d) ≡ true → y ≡ pos (year_of d.month) → date.year ≡ y → date.month ≡ month_of d.month → date.day ≡ min d.day (days_in_month y (month_of d.month)) → IsMade s d date
 is_made s d y date range h ey year month day =
     let n = number_of_place s d range h in
     let fits = day_fits s d range h in
@@ -149,7 +149,7 @@ is_made s d y date range h ey year month day =
     }
 
 -- the nearest day by places is the nearest by numbers
-pub by_number : (way : Way) (s : Sets) (places numbers : ℤ) (found : Option Day) → ((j : ℕ) → j < 47_847 → LiesFrom way numbers j → LiesFrom way places (place_date (date_numbered j).0)) → ((j : ℕ) → j < 47_847 → LiesFrom way places (place_date (date_numbered j).0) → LiesFrom way numbers j) → IfSome found IsInRange → IsNearest way (matches_place s) places (option_map place_of found) → IsNearest way (candidate_day s) numbers (option_map number_of found)
+pub by_number : (way : Way) (s : Sets) (places numbers : ℤ) (found : Option Day) → ((j : ℕ) → j < 47_847 → LiesFrom way numbers j → LiesFrom way places (place_date (date_numbered j).0)) → ((j : ℕ) → j < 47_847 → LiesFrom way places (place_date (date_numbered j).0) → LiesFrom way numbers j) → IfSome found IsInRange → IsNearest way (matches_place s) places (option_map day_place found) → IsNearest way (candidate_day s) numbers (option_map number_of found)
 by_number way s places numbers None to back range h = λ k lies. candidate_fails s k (λ lt. h _ (to k lt lies))
 by_number way s places numbers (Some d) to back range h =
     let n = number_of_place s d range h.passes in

@@ -18,7 +18,7 @@ use Rattle.cron.specs.Places.{matches_second, stands_at}
 use Rattle.cron.specs.Readings.{Reading}
 use Rattle.cron.specs.Search.{items_of, stands}
 use Rattle.cron.specs.Sets.{Sets, is_candidate, matches, matches_date, weekday_number}
-use Rattle.cron.specs.Tally.{IsCount, IsPassedTo, NotPast}
+use Rattle.cron.specs.Tally.{IsTally, IsPassedTo, NotPast}
 use Rattle.cron.specs.declared.queries.days.Day.{Day}
 use Rattle.cron.specs.declared.queries.found.Found.{Found}
 use Rattle.cron.proofs.BlockLemmas.{block_fails}
@@ -53,7 +53,7 @@ day_unmatched s day k h e =
 pub day_silent : (way : Way) (s : Sets) (z : TimeZone) (start : ℤ) (day : ℕ) → matches_date s (date_numbered day).0 ≡ false → Finds way s z start day None
 day_silent way s z start day h = λ k lies e. unmatched s z k (day_unmatched s day k h e)
 
-pub day_unasked : (way : Way) (s : Sets) (start : ℤ) (day : ℕ) (answer : Option ℕ) → matches_date s (date_numbered day).0 ≡ false → IsCount 4_133_980_800 (IsAskedIn way s start day answer) 0
+pub day_unasked : (way : Way) (s : Sets) (start : ℤ) (day : ℕ) (answer : Option ℕ) → matches_date s (date_numbered day).0 ≡ false → IsTally 4_133_980_800 (IsAskedIn way s start day answer) 0
 day_unasked way s start day answer h =
     kind_none 4_133_980_800 _ (λ k lt p. both_ways (matches s (civil k)) (day_unmatched s day k h p.here) p.found.is_match)
 
@@ -140,7 +140,7 @@ asked_to way s start day from k o at date enters p = (
 )
 
 -- the times asked are the civil seconds asked in the day
-pub day_asked : (way : Way) (s : Sets) (z : TimeZone) (start : ℤ) (day from count : ℕ) (o : Option Found) → day < 47_847 → matches_date s (date_numbered day).0 ≡ true → Enters way 86_400 start day from → FindsInDay way s z day from (option_map found_items o) → IsCount 86_400 (IsPassedTo way (matches_second s) (pos from) (time_of o)) count → IsCount 4_133_980_800 (IsAskedIn way s start day (second_of o)) count
+pub day_asked : (way : Way) (s : Sets) (z : TimeZone) (start : ℤ) (day from count : ℕ) (o : Option Found) → day < 47_847 → matches_date s (date_numbered day).0 ≡ true → Enters way 86_400 start day from → FindsInDay way s z day from (option_map found_items o) → IsTally 86_400 (IsPassedTo way (matches_second s) (pos from) (time_of o)) count → IsTally 4_133_980_800 (IsAskedIn way s start day (second_of o)) count
 day_asked way s z start day from count o small date enters finds counted =
     let at = answer_in way s z day from o finds in
     kind_same 4_133_980_800 _ _ count

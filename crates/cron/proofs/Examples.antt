@@ -1,7 +1,6 @@
 -- The definitions on written examples, by computation.
-use Rattle.std.proofs.Common.{◌≡◌, refl, arith}
+use Rattle.std.proofs.Common.{refl, arith}
 use Rattle.jiff_core.specs.Calendar.{days_from_civil, day_count, days_of_years, days_of_months}
-use Rattle.jiff_core.proofs.SignedLemmas.{signed_arith}
 use Rattle.std.specs.Fmt.{digits}
 use Rattle.cron_units.specs.Units.{whole}
 use Rattle.cron.specs.Examples.{TextsAreCut, ItemsDenote, ItemsAreRefused, CursorsStep, DaysAreNumbered}

@@ -31,10 +31,6 @@ pub second_is : (z : TimeZone) (c : ℕ) (f : Found) → found_items f ≡ readi
 unfolding first_second readings
 second_is z c f e = ap (λ rs. first_second rs c) e ∙ by_second c (ambiguous_at z (civil c))
 
-pub some_found : (o : Option Found) → is_some o ≡ true → (f : Found) × (o ≡ Some f)
-some_found None h = cc
-some_found (Some f) h = (f, refl)
-
 pub none_found : (o : Option Found) → is_some o ≡ false → o ≡ None
 none_found None h = refl
 none_found (Some f) h = cc

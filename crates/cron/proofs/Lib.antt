@@ -7,6 +7,8 @@ pub mod Texts
 pub mod FieldSets
 pub mod Prefixes
 pub mod MeaningLemmas
+pub mod FilledLemmas
+pub mod TimeOfDayLemmas
 pub mod CivilLemmas
 pub mod ReadingLemmas
 pub mod PlaceLemmas
@@ -21,7 +23,6 @@ pub mod TimelineLaws
 pub mod FixedLemmas
 pub mod WayLemmas
 pub mod BlockLemmas
-pub mod FieldLemmas
 pub mod CarryLemmas
 pub mod TallyLemmas
 pub mod StandLemmas

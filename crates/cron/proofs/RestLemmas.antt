@@ -1,16 +1,18 @@
 -- A call takes the first of the items that are still to come in its direction.
-use Rattle.std.proofs.Common.{◌≡◌, ℕ, zero, suc, ◌+◌, ◌<◌, ℤ, pos, int_le, Bool, List, [], ◌∷◌, ◌++◌, drop, take, reverse, length, Option, Some, None, refl, sym, ap, ◌∙◌, arith, rules}
-use Rattle.std.specs.Prelude.{MatchOption, slice_get, ⊤}
-use Rattle.std.specs.Iterator.{YieldsFirst, MakesProgress, item_count}
+use Rattle.std.proofs.Common.{◌≡◌, ℕ, zero, suc, ◌+◌, ◌<◌, ℤ, pos, int_le, Bool, List, [], ◌∷◌, ◌++◌, drop, take, reverse, length, Option, Some, None, refl, sym, ap, subst, ◌∙◌, arith}
+use Rattle.std.specs.Prelude.{MatchOption, slice_get}
+use Rattle.std.specs.Iterator.{YieldsFirst}
+use Rattle.std.proofs.lemmas.Iterator.{YieldsList}
+use Rattle.std.proofs.lemmas.Iterator.Consumers.{YieldsList-from_shown}
 use Rattle.std.proofs.lemmas.List.{take_more, reverse-append}
 use Rattle.std.proofs.lemmas.Option.{get_or_from_slice_get}
 use Rattle.jiff_tz.specs.declared.timezone.TimeZone.{TimeZone}
 use Rattle.cron_units.specs.declared.way.Way.{Way}
 use Rattle.cron_units.specs.declared.way.Way.TheVariants.{Ahead, Back}
-use Rattle.cron.specs.Cursor.{Cursor, Start, Place, Ended, Walk, Step, go_to, item_at, step_on, last_place, place_before}
+use Rattle.cron.specs.Cursor.{Cursor, Start, Place, Ended, Walk, Step, Steps, go_to, item_at, step_on, last_place, place_before}
 use Rattle.cron.specs.Placed.{answer_of, cursor_of, place_of, IsPlaced}
 use Rattle.cron.specs.Readings.{Reading}
-use Rattle.cron.specs.Rest.{items_from, rest_on, rest}
+use Rattle.cron.specs.Rest.{Gives, items_from, rest_on, rest}
 use Rattle.cron.specs.Sets.{Sets}
 use Rattle.cron.specs.Stop.{IsStop}
 use Rattle.cron.specs.Timeline.{timeline}
@@ -92,7 +94,7 @@ target-in Back s z (Kept.At f later) h = before_in (place_of s z f.first.second 
 target-in Back s z Kept.Ended h = tt
 
 -- a call of a walk takes the first of the items to come
-pub yields : (way : Way) (s : Sets) (z : TimeZone) (from to : State) (old : Walk) (r : Option Reading) → IsPlaced s z from → record { sets = s; zone = z; cursor = cursor_of s z from } ≡ old → IsStop way s z (cursor_of s z from) to → r ≡ answer_of to → YieldsFirst (rest way) old r (record { sets = s; zone = z; cursor = cursor_of s z to })
+yields : (way : Way) (s : Sets) (z : TimeZone) (from to : State) (old : Walk) (r : Option Reading) → IsPlaced s z from → record { sets = s; zone = z; cursor = cursor_of s z from } ≡ old → IsStop way s z (cursor_of s z from) to → r ≡ answer_of to → YieldsFirst (rest way) old r (record { sets = s; zone = z; cursor = cursor_of s z to })
 yields way s z from to old r placed is stop answer =
     let items = timeline s z in
     let c = cursor_of s z from in
@@ -100,7 +102,16 @@ yields way s z from to old r placed is stop answer =
     let stepped : go_to items (target way items z c) ≡ record { answer = answer_of to; cursor = cursor_of s z to } = sym (step-target way items z c) ∙ stop.leads in
     rw (answer, ← is) (rw stepped at took)
 
--- the items to come get fewer
-pub progress : (way : Way) (old : Walk) (r : Option Reading) (new : Walk) → YieldsFirst (rest way) old r new → MakesProgress (λ _. ⊤) (item_count (rest way)) old r new
-progress way old None new h = search rules
-progress way old (Some x) new h = search rules
+-- a call of a walk makes a step of its cursor
+steps : (way : Way) (s : Sets) (z : TimeZone) (from to : State) (old : Walk) (r : Option Reading) → record { sets = s; zone = z; cursor = cursor_of s z from } ≡ old → IsStop way s z (cursor_of s z from) to → r ≡ answer_of to → Steps way old r (record { sets = s; zone = z; cursor = cursor_of s z to })
+steps way s z from to old r is stop answer =
+    rw (← is) (record { answer = answer ∙ ap (λ (q : Step). q.answer) (sym stop.leads); cursor = ap (λ (q : Step). q.cursor) (sym stop.leads); sets = refl; zone = refl })
+
+pub gives : (way : Way) (s : Sets) (z : TimeZone) (from to : State) (old : Walk) (r : Option Reading) → IsPlaced s z from → record { sets = s; zone = z; cursor = cursor_of s z from } ≡ old → IsStop way s z (cursor_of s z from) to → r ≡ answer_of to → Gives way old r (record { sets = s; zone = z; cursor = cursor_of s z to })
+gives way s z from to old r placed is stop answer =
+    record { cursor = steps way s z from to old r is stop answer; items = yields way s z from to old r placed is stop answer }
+
+-- a walk as an iterator, for a caller's chain of adapters: its items are those that are still to come
+pub YieldsList-from_walk : (way : Way) {w : Walk} (items : List Reading) → rest way w ≡ items → YieldsList (Gives way) (λ x. x) w items
+YieldsList-from_walk way {w} items is =
+    subst (YieldsList (Gives way) (λ x. x) w) is (YieldsList-from_shown (Gives way) (λ x. x) (rest way) (λ s t g. ap length g.items.0) (λ s x t g. g.items) w)

@@ -1,14 +1,14 @@
 -- The run of a joined list of calls is the joined runs.
-use Rattle.std.proofs.Common.{◌≡◌, List, [], ◌∷◌, ◌++◌, map, Option, None, refl, ap, ◌∙◌}
+use Rattle.std.proofs.Common.{◌≡◌, List, [], ◌∷◌, ◌++◌, map, ◌+◌, Option, Some, None, refl, ap, add-one, ◌∙◌}
 use Rattle.std.proofs.lemmas.List.{map-append}
 use Rattle.jiff_tz.specs.declared.timezone.TimeZone.{TimeZone}
 use Rattle.cron_units.specs.declared.way.Way.{Way}
 use Rattle.cron_units.specs.declared.way.Way.TheVariants.{Ahead, Back}
-use Rattle.cron.specs.Cursor.{Cursor, Ended, Run, Walk, Step, Steps, step_on, run_on}
+use Rattle.cron.specs.Cursor.{Cursor, Ended, Run, Walk, Step, Steps, go_to, item_at, place_before, step_on, run_on}
 use Rattle.cron.specs.Readings.{Reading}
 use Rattle.cron.specs.Timeline.{timeline}
 use Rattle.cron.specs.Turns.{IsPlayed, way_of}
-use Rattle.cron.specs.WalkLaws.{RunsAreJoined, EndIsForEver}
+use Rattle.cron.specs.WalkLaws.{RunsAreJoined, EndIsForEver, NeighboursAreAnswered}
 use Rattle.cron.specs.declared.schedule.play.Turn.{Turn}
 
 pub answers-append : (items : List Reading) (z : TimeZone) (us vs : List Way) (c : Cursor) → (run_on items z (us ++ vs) c).answers ≡ (run_on items z us c).answers ++ (run_on items z vs (run_on items z us c).cursor).answers
@@ -18,9 +18,6 @@ answers-append items z (u ∷ us) vs c = ap (λ xs. (step_on items z u c).answer
 pub cursor-append : (items : List Reading) (z : TimeZone) (us vs : List Way) (c : Cursor) → (run_on items z (us ++ vs) c).cursor ≡ (run_on items z vs (run_on items z us c).cursor).cursor
 cursor-append items z [] vs c = refl
 cursor-append items z (u ∷ us) vs c = cursor-append items z us vs (step_on items z u c).cursor
-
-pub played_none : (w : Walk) → IsPlayed w [] [] w
-played_none w = record { answers_are = refl; cursor = refl; sets = refl; zone = refl }
 
 -- one call more
 pub played_more : (old mid new : Walk) (turns : List Turn) (t : Turn) (answers : List (Option Reading)) (r : Option Reading) → IsPlayed old turns answers mid → Steps (way_of t) mid r new → IsPlayed old (turns ++ t ∷ []) (answers ++ r ∷ []) new
@@ -57,6 +54,11 @@ stays_ended items z (Back ∷ ws) = stays_ended items z ws
 pub ended_runs : EndIsForEver
 ended_runs items z ways =
     same_run (run_on items z ways Ended) _ _ (none_answers items z ways) (stays_ended items z ways)
+
+pub neighbours : NeighboursAreAnswered
+neighbours items z i x y first second =
+    let back : place_before (i + 1) ≡ Some i = ap place_before (add-one i) in
+    (ap (go_to items) back ∙ ap (item_at i) first, ap (item_at (i + 1)) second)
 
 -- walks of equal parts are equal
 pub walk_is : (v w : Walk) → v.sets ≡ w.sets → v.zone ≡ w.zone → v.cursor ≡ w.cursor → v ≡ w

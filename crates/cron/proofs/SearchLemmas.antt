@@ -12,35 +12,35 @@ use Rattle.cron.specs.Civil.{civil}
 use Rattle.cron.specs.CivilDates.{date_numbered}
 use Rattle.cron.specs.DaySearch.{candidate_day, Finds, IsAskedIn, IsAsked, IsAskedBefore, day_of}
 use Rattle.cron.specs.Found.{second_of}
-use Rattle.cron.specs.Days.{place_of, number_of, IsInRange}
+use Rattle.cron.specs.Days.{day_place, number_of, IsInRange}
 use Rattle.cron.specs.Found.{found_items}
 use Rattle.cron.specs.Places.{beyond, place_date, matches_place, matches_second, stands_at}
 use Rattle.cron.specs.Search.{stands, IsFound}
 use Rattle.cron.specs.Sets.{Sets, is_candidate, matches, matches_date, weekday_number}
-use Rattle.cron.specs.Tally.{IsCount, NotPast, IsPassedBefore, IsPassedTo}
+use Rattle.cron.specs.Tally.{IsTally, NotPast, IsPassedBefore, IsPassedTo}
 use Rattle.cron.specs.declared.queries.days.Day.{Day}
 use Rattle.cron.specs.declared.queries.found.Found.{Found}
 use Rattle.cron.proofs.BlockLemmas.{reach_start, reach_on, block_found}
 use Rattle.cron.proofs.DayLemmas.{number_of_place, by_number, lies_place, place_lies, past_place, place_past}
 use Rattle.cron.proofs.DaySearchLemmas.{found_day, time_fits}
 use Rattle.cron.proofs.StandLemmas.{matches_at, split_stands}
-use Rattle.cron.proofs.TallyLemmas.{kind_none, kind_same, kind_joined, passed_found}
+use Rattle.cron.proofs.TallyLemmas.{kind_none, kind_joined, passed_found}
 use Rattle.cron.proofs.WayLemmas.{side, before, same, after, after_beyond, lies_div, precedes_along}
 
 -- the nearest day, by numbers
-pub first_number : (way : Way) (s : Sets) (day : ℕ) (start : Day) (found : Option Day) → day < 47_847 → place_of start ≡ place_date (date_numbered day).0 → IfSome found IsInRange → IsNearest way (matches_place s) (pos (place_of start)) (option_map place_of found) → IsNearest way (candidate_day s) (pos day) (option_map number_of found)
+pub first_number : (way : Way) (s : Sets) (day : ℕ) (start : Day) (found : Option Day) → day < 47_847 → day_place start ≡ place_date (date_numbered day).0 → IfSome found IsInRange → IsNearest way (matches_place s) (pos (day_place start)) (option_map day_place found) → IsNearest way (candidate_day s) (pos day) (option_map number_of found)
 first_number way s day start found small e range h =
-    let P : ℕ → Type 0 = λ p. IsNearest way (matches_place s) (pos p) (option_map place_of found) in
+    let P : ℕ → Type 0 = λ p. IsNearest way (matches_place s) (pos p) (option_map day_place found) in
     by_number way s _ _ found (λ j lt lies. lies_place way day j small lt lies) (λ j lt lies. place_lies way day j small lt lies) range (subst P e h)
 
-pub next_number : (way : Way) (s : Sets) (d : Day) (found : Option Day) → IsInRange d → matches_place s (place_of d) ≡ true → IfSome found IsInRange → IsNearest way (matches_place s) (beyond way (place_of d)) (option_map place_of found) → IsNearest way (candidate_day s) (beyond way (number_of d)) (option_map number_of found)
+pub next_number : (way : Way) (s : Sets) (d : Day) (found : Option Day) → IsInRange d → matches_place s (day_place d) ≡ true → IfSome found IsInRange → IsNearest way (matches_place s) (beyond way (day_place d)) (option_map day_place found) → IsNearest way (candidate_day s) (beyond way (number_of d)) (option_map number_of found)
 next_number way s d found fits passes range h =
     let n = number_of_place s d fits passes in
-    let P : ℕ → Type 0 = λ p. IsNearest way (matches_place s) (beyond way p) (option_map place_of found) in
+    let P : ℕ → Type 0 = λ p. IsNearest way (matches_place s) (beyond way p) (option_map day_place found) in
     by_number way s _ _ found (λ j lt lies. past_place way (number_of d) j n.in_range lt lies) (λ j lt lies. place_past way (number_of d) j n.in_range lt lies) range (subst P (sym n.at) h)
 
 -- a day that was found is in range, and its place passes
-pub found_passes : (way : Way) (s : Sets) (start : ℤ) (found : Option Day) → IfSome found IsInRange → IsNearest way (matches_place s) start (option_map place_of found) → IfSome found (λ d. IsInRange d × (matches_place s (place_of d) ≡ true))
+pub found_passes : (way : Way) (s : Sets) (start : ℤ) (found : Option Day) → IfSome found IsInRange → IsNearest way (matches_place s) start (option_map day_place found) → IfSome found (λ d. IsInRange d × (matches_place s (day_place d) ≡ true))
 found_passes way s start None range h = tt
 found_passes way s start (Some d) range h = (range, h.passes)
 
@@ -61,11 +61,11 @@ day_found way s z start day (Some f) reached e h = record {
   items = h.finds.items;
 }
 
-pub days_found : (way : Way) (s : Sets) (z : TimeZone) (start day count : ℕ) (found : Option Found) → Reaches way 86_400 (candidate_day s) (stands s z) (pos start) (pos (start / 86_400)) day → is_some found ≡ true → Finds way s z (pos start) day (option_map found_items found) → IsCount 47_847 (IsPassedBefore way (candidate_day s) (pos (start / 86_400)) (Some day)) count → IsCount 47_847 (IsPassedTo way (candidate_day s) (pos (start / 86_400)) (day_of found)) (count + 1)
+pub days_found : (way : Way) (s : Sets) (z : TimeZone) (start day count : ℕ) (found : Option Found) → Reaches way 86_400 (candidate_day s) (stands s z) (pos start) (pos (start / 86_400)) day → is_some found ≡ true → Finds way s z (pos start) day (option_map found_items found) → IsTally 47_847 (IsPassedBefore way (candidate_day s) (pos (start / 86_400)) (Some day)) count → IsTally 47_847 (IsPassedTo way (candidate_day s) (pos (start / 86_400)) (day_of found)) (count + 1)
 days_found way s z start day count None reached e h counted = cc
 days_found way s z start day count (Some f) reached e h counted =
     let same_day : f.first.second / 86_400 ≡ day = found_day way s z day h.from f h.finds in
-    let P : ℕ → Type 0 = λ d. IsCount 47_847 (IsPassedTo way (candidate_day s) (pos (start / 86_400)) (Some d)) (count + 1) in
+    let P : ℕ → Type 0 = λ d. IsTally 47_847 (IsPassedTo way (candidate_day s) (pos (start / 86_400)) (Some d)) (count + 1) in
     let small : day < 47_847 = ltb-true day 47_847 (and_parts (nat_lt day 47_847) (is_candidate s (date_numbered day).0) reached.block).0 in
     subst P (sym same_day) (passed_found way 47_847 (candidate_day s) (pos (start / 86_400)) day count small reached.block reached.lies counted)
 
@@ -82,7 +82,7 @@ none_before way s start k None h lt p =
 none_before way s start k (Some n) h lt p =
     both_ways (candidate_day s (k / 86_400)) (h.nearest (k / 86_400) (lies_div way 86_400 start k (omega arith) p.found.lies) p.until) (match_candidate s k lt p.found.is_match)
 
-pub asked_start : (way : Way) (s : Sets) (start : ℕ) (next : Option ℕ) → IsNearest way (candidate_day s) (pos (start / 86_400)) next → IsCount 4_133_980_800 (IsAskedBefore way s (pos start) next) 0
+pub asked_start : (way : Way) (s : Sets) (start : ℕ) (next : Option ℕ) → IsNearest way (candidate_day s) (pos (start / 86_400)) next → IsTally 4_133_980_800 (IsAskedBefore way s (pos start) next) 0
 asked_start way s start next h = kind_none 4_133_980_800 _ (λ k lt p. none_before way s start k next h lt p)
 
 not_before_itself : (way : Way) (n k : ℕ) → k ≡ n → Precedes way k n → ⊥
@@ -101,7 +101,7 @@ asked_later : (way : Way) (s : Sets) (start day k : ℕ) (next : Option ℕ) →
 asked_later way s start day k None h lt lies p = both_ways (candidate_day s (k / 86_400)) (h (k / 86_400) lies) (match_candidate s k lt p.found.is_match)
 asked_later way s start day k (Some n) h lt lies p = both_ways (candidate_day s (k / 86_400)) (h.nearest (k / 86_400) lies p.until) (match_candidate s k lt p.found.is_match)
 
-pub asked_next : (way : Way) (s : Sets) (start day a b : ℕ) (next : Option ℕ) → IsNearest way (candidate_day s) (beyond way day) next → IsCount 4_133_980_800 (IsAskedBefore way s (pos start) (Some day)) a → IsCount 4_133_980_800 (IsAskedIn way s (pos start) day None) b → IsCount 4_133_980_800 (IsAskedBefore way s (pos start) next) (a + b)
+pub asked_next : (way : Way) (s : Sets) (start day a b : ℕ) (next : Option ℕ) → IsNearest way (candidate_day s) (beyond way day) next → IsTally 4_133_980_800 (IsAskedBefore way s (pos start) (Some day)) a → IsTally 4_133_980_800 (IsAskedIn way s (pos start) day None) b → IsTally 4_133_980_800 (IsAskedBefore way s (pos start) next) (a + b)
 asked_next way s start day a b next h early here =
     kind_joined 4_133_980_800 (IsAskedBefore way s (pos start) (Some day)) (IsAskedIn way s (pos start) day None) (IsAskedBefore way s (pos start) next) a b early here
     (λ k lt p q. not_before_itself way day (k / 86_400) q.here p.until)
@@ -123,7 +123,7 @@ no_later_day Ahead k c h (inr e) = omega arith
 no_later_day Back k c h (inl lt) = omega arith
 no_later_day Back k c h (inr e) = omega arith
 
-asked_whole : (way : Way) (s : Sets) (start day c a b : ℕ) → c / 86_400 ≡ day → IsCount 4_133_980_800 (IsAskedBefore way s (pos start) (Some day)) a → IsCount 4_133_980_800 (IsAskedIn way s (pos start) day (Some c)) b → IsCount 4_133_980_800 (IsAsked way s (pos start) (Some c)) (a + b)
+asked_whole : (way : Way) (s : Sets) (start day c a b : ℕ) → c / 86_400 ≡ day → IsTally 4_133_980_800 (IsAskedBefore way s (pos start) (Some day)) a → IsTally 4_133_980_800 (IsAskedIn way s (pos start) day (Some c)) b → IsTally 4_133_980_800 (IsAsked way s (pos start) (Some c)) (a + b)
 asked_whole way s start day c a b e early here =
     kind_joined 4_133_980_800 (IsAskedBefore way s (pos start) (Some day)) (IsAskedIn way s (pos start) day (Some c)) (IsAsked way s (pos start) (Some c)) a b early here
     (λ k lt p q. not_before_itself way day (k / 86_400) q.here p.until)
@@ -137,14 +137,10 @@ asked_whole way s start day c a b e early here =
       | after past gt ↦ let P : ℕ → Type 0 = λ d. Precedes way d (k / 86_400) in absurd (no_later_day way k c (subst P (sym e) gt) p.until)
     ])
 
-pub asked_found : (way : Way) (s : Sets) (z : TimeZone) (start day a b : ℕ) (found : Option Found) → is_some found ≡ true → Finds way s z (pos start) day (option_map found_items found) → IsCount 4_133_980_800 (IsAskedBefore way s (pos start) (Some day)) a → IsCount 4_133_980_800 (IsAskedIn way s (pos start) day (second_of found)) b → IsCount 4_133_980_800 (IsAsked way s (pos start) (second_of found)) (a + b)
+pub asked_found : (way : Way) (s : Sets) (z : TimeZone) (start day a b : ℕ) (found : Option Found) → is_some found ≡ true → Finds way s z (pos start) day (option_map found_items found) → IsTally 4_133_980_800 (IsAskedBefore way s (pos start) (Some day)) a → IsTally 4_133_980_800 (IsAskedIn way s (pos start) day (second_of found)) b → IsTally 4_133_980_800 (IsAsked way s (pos start) (second_of found)) (a + b)
 asked_found way s z start day a b None e h early here = cc
 asked_found way s z start day a b (Some f) e h early here =
     asked_whole way s start day f.first.second a b (found_day way s z day h.from f h.finds) early here
-
-pub asked_end : (way : Way) (s : Sets) (start count : ℕ) → IsCount 4_133_980_800 (IsAskedBefore way s (pos start) None) count → IsCount 4_133_980_800 (IsAsked way s (pos start) None) count
-asked_end way s start count h =
-    kind_same 4_133_980_800 _ _ count (λ k lt p. record { found = p.found; until = tt }) (λ k lt p. record { found = p.found; until = tt }) h
 
 -- the search of the days comes to an end
 pub fewer_days : (way : Way) (s : Sets) (day : ℕ) (next : Option ℕ) → candidate_day s day ≡ true → IsNearest way (candidate_day s) (beyond way day) next → left_to_reach way 47_847 next < left_to_reach way 47_847 (Some day)

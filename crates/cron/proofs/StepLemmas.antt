@@ -8,7 +8,7 @@ use Rattle.jiff_tz.specs.declared.timezone.TimeZone.{TimeZone}
 use Rattle.cron_units.specs.declared.way.Way.{Way}
 use Rattle.cron_units.specs.declared.way.Way.TheVariants.{Ahead, Back}
 use Rattle.cron_units.specs.Nearest.{LiesFrom, Precedes}
-use Rattle.cron.specs.Cursor.{Start, Place, go_to, no_item, step_on}
+use Rattle.cron.specs.Cursor.{Place, go_to, no_item, step_on}
 use Rattle.cron.specs.Found.{found_items}
 use Rattle.cron.specs.Placed.{index, place_of, reading_of, last_is_later, IsKept}
 use Rattle.cron.specs.Readings.{Reading}
@@ -17,7 +17,7 @@ use Rattle.cron.specs.Sets.{Sets}
 use Rattle.cron.specs.Stop.{IsReached, IsStop}
 use Rattle.cron.specs.Timeline.{timeline}
 use Rattle.cron.specs.Places.{beyond}
-use Rattle.cron.specs.Ways.{opposite, bound, place_from, place_beside}
+use Rattle.cron.specs.Ways.{opposite, place_from, place_beside}
 use Rattle.cron.specs.declared.queries.found.Found.{Found}
 use Rattle.cron.specs.declared.schedule.state.State.{State}
 use Rattle.cron.specs.declared.schedule.state.State.TheVariants as Kept
@@ -41,10 +41,6 @@ length_found f = by_second f.first f.second
     by_second : (x : Reading) (o : Option Reading) → length (x ∷ option_to_list o) ≡ index (is_some o) + 1
     by_second x None = omega arith
     by_second x (Some y) = omega arith
-
-index-small : (b : Bool) → index b ≤ 1
-index-small true = omega arith
-index-small false = omega arith
 
 last-inside : (way : Way) (f : Found) → index (last_is_later way f) < length (found_items f)
 last-inside Ahead f = let e = length_found f in omega arith
@@ -195,14 +191,6 @@ reached_none way s z b none = record {
 }
 
 -- ---- the calls
-
-pub start_stop : (way : Way) (s : Sets) (z : TimeZone) (t b : ℤ) (state : State) → bound way z t ≡ Some b → IsReached way s z b state → IsStop way s z (Start t) state
-start_stop Ahead s z t b state is h = record { placed = h.placed; leads = rw is h.leads }
-start_stop Back s z t b state is h = record { placed = h.placed; leads = rw is h.leads }
-
-pub start_stop-none : (way : Way) (s : Sets) (z : TimeZone) (t : ℤ) → bound way z t ≡ None → IsStop way s z (Start t) Kept.Ended
-start_stop-none Ahead s z t is = record { placed = tt; leads = rw is refl }
-start_stop-none Back s z t is = record { placed = tt; leads = rw is refl }
 
 pub last_stop : (way : Way) (s : Sets) (z : TimeZone) (f : Found) (later : Bool) (state : State) → IsKept s z f later → later ≡ last_is_later way f → IsReached way s z (beyond way f.first.second) state → IsStop way s z (Place (place_of s z f.first.second later)) state
 last_stop way s z f later state k last h = record { placed = h.placed; leads = from_last way s z f later k last ∙ h.leads }

@@ -7,15 +7,12 @@ use Rattle.cron_units.specs.declared.way.Way.{Way}
 use Rattle.cron_units.specs.declared.way.Way.TheVariants.{Ahead, Back}
 use Rattle.cron_units.specs.Nearest.{LiesFrom, Precedes, IsNearest}
 use Rattle.cron.specs.Places.{beyond}
-use Rattle.cron.specs.Tally.{IsCount, IsPassedBefore, IsPassedTo}
+use Rattle.cron.specs.Tally.{IsTally, IsPassedBefore, IsPassedTo}
 use Rattle.std.proofs.lemmas.Nat.{div-add-mod'}
 use Rattle.cron.proofs.BlockLemmas.{div_of, mod_of}
 use Rattle.cron.proofs.WayLemmas.{side, before, same, after, after_beyond, precedes_along}
 use Rattle.cron.specs.Counts.{Stretch, count_within}
 use Rattle.cron.specs.Timeline.{numbers_below}
-
-bit : Bool → ℕ
-bit b = cond b 1 0
 
 count_step : (p : ℕ → Bool) (n : ℕ) → count_by p (numbers_below (suc n)) ≡ count_by p (numbers_below n) + cond (p n) 1 0
 unfolding numbers_below
@@ -64,21 +61,21 @@ same_tests true q h = sym (h.0 refl)
 same_tests false true h = h.1 refl
 same_tests false false h = refl
 
-pub kind_same : (limit : ℕ) (P Q : ℕ → Type 0) (count : ℕ) → ((k : ℕ) → k < limit → P k → Q k) → ((k : ℕ) → k < limit → Q k → P k) → IsCount limit P count → IsCount limit Q count
+pub kind_same : (limit : ℕ) (P Q : ℕ → Type 0) (count : ℕ) → ((k : ℕ) → k < limit → P k → Q k) → ((k : ℕ) → k < limit → Q k → P k) → IsTally limit P count → IsTally limit Q count
 kind_same limit P Q count to back h = record {
   test = h.test;
   tells = λ k lt. (λ e. to k lt ((h.tells k lt).0 e), λ q. (h.tells k lt).1 (back k lt q));
   total = h.total;
 }
 
-pub kind_none : (limit : ℕ) (P : ℕ → Type 0) → ((k : ℕ) → k < limit → P k → ⊥) → IsCount limit P 0
+pub kind_none : (limit : ℕ) (P : ℕ → Type 0) → ((k : ℕ) → k < limit → P k → ⊥) → IsTally limit P 0
 kind_none limit P none = record {
   test = λ k. false;
   tells = λ k lt. (λ e. cc, λ p. absurd (none k lt p));
   total = sym (count_none limit);
 }
 
-pub kind_one : (limit : ℕ) (P : ℕ → Type 0) (a : ℕ) → a < limit → P a → ((k : ℕ) → k < limit → P k → k ≡ a) → IsCount limit P 1
+pub kind_one : (limit : ℕ) (P : ℕ → Type 0) (a : ℕ) → a < limit → P a → ((k : ℕ) → k < limit → P k → k ≡ a) → IsTally limit P 1
 kind_one limit P a lt here only = record {
   test = λ k. nat_eq k a;
   tells = λ k below. (λ e. rw (eqb-true k a e) here, λ p. eq-eqb k a (only k below p));
@@ -91,7 +88,7 @@ either true false h = refl
 either false true h = refl
 either false false h = refl
 
-pub kind_joined : (limit : ℕ) (P Q R : ℕ → Type 0) (a b : ℕ) → IsCount limit P a → IsCount limit Q b → ((k : ℕ) → k < limit → P k → Q k → ⊥) → ((k : ℕ) → k < limit → P k ⊎ Q k → R k) → ((k : ℕ) → k < limit → R k → P k ⊎ Q k) → IsCount limit R (a + b)
+pub kind_joined : (limit : ℕ) (P Q R : ℕ → Type 0) (a b : ℕ) → IsTally limit P a → IsTally limit Q b → ((k : ℕ) → k < limit → P k → Q k → ⊥) → ((k : ℕ) → k < limit → P k ⊎ Q k → R k) → ((k : ℕ) → k < limit → R k → P k ⊎ Q k) → IsTally limit R (a + b)
 kind_joined limit P Q R a b p q apart to back = record {
   test = λ k. p.test k || q.test k;
   tells = λ k lt. (
@@ -101,19 +98,19 @@ kind_joined limit P Q R a b p q apart to back = record {
   total = rw (p.total, q.total) (count_sum p.test q.test (λ k. p.test k || q.test k) limit (λ k lt. either (p.test k) (q.test k) (λ x y. apart k lt ((p.tells k lt).0 x) ((q.tells k lt).0 y))));
 }
 
-pub kind_bound : (limit : ℕ) (P : ℕ → Type 0) (a : ℕ) → IsCount limit P a → a ≤ limit
+pub kind_bound : (limit : ℕ) (P : ℕ → Type 0) (a : ℕ) → IsTally limit P a → a ≤ limit
 kind_bound limit P a h = rw h.total (count_bound h.test limit)
 
-pub kind_total : (limit : ℕ) (P : ℕ → Type 0) (a : ℕ) (test : ℕ → Bool) → IsCount limit P a → ((k : ℕ) → k < limit → (test k ≡ true) ↔ P k) → a ≡ count_by test (numbers_below limit)
+pub kind_total : (limit : ℕ) (P : ℕ → Type 0) (a : ℕ) (test : ℕ → Bool) → IsTally limit P a → ((k : ℕ) → k < limit → (test k ≡ true) ↔ P k) → a ≡ count_by test (numbers_below limit)
 kind_total limit P a test h tells =
     h.total ∙ count_same h.test test limit (λ k lt. same_tests (h.test k) (test k) (λ e. (tells k lt).1 ((h.tells k lt).0 e), λ e. (h.tells k lt).1 ((tells k lt).0 e)))
 
 -- what a search has passed before the first number, the next one, the answer and the end
-pub passed_start : (way : Way) (limit : ℕ) (test : ℕ → Bool) (start : ℤ) (next : Option ℕ) → IsNearest way test start next → IsCount limit (IsPassedBefore way test start next) 0
+pub passed_start : (way : Way) (limit : ℕ) (test : ℕ → Bool) (start : ℤ) (next : Option ℕ) → IsNearest way test start next → IsTally limit (IsPassedBefore way test start next) 0
 passed_start way limit test start None h = kind_none limit _ (λ k lt p. both_ways (test k) (h k p.lies) p.passes)
 passed_start way limit test start (Some n) h = kind_none limit _ (λ k lt p. both_ways (test k) (h.nearest k p.lies p.until) p.passes)
 
-passed_one : (limit n : ℕ) → n < limit → IsCount limit (λ k. k ≡ n) 1
+passed_one : (limit n : ℕ) → n < limit → IsTally limit (λ k. k ≡ n) 1
 passed_one limit n lt = kind_one limit (λ k. k ≡ n) n lt refl (λ k below e. e)
 
 not_itself : (way : Way) (n : ℕ) → Precedes way n n → ⊥
@@ -137,7 +134,7 @@ no_other : (way : Way) (test : ℕ → Bool) (start : ℤ) (n k : ℕ) (next : O
 no_other way test start n k None h p lies = both_ways (test k) (h k lies) p.passes
 no_other way test start n k (Some m) h p lies = both_ways (test k) (h.nearest k lies p.until) p.passes
 
-pub passed_next : (way : Way) (limit : ℕ) (test : ℕ → Bool) (start : ℤ) (n count : ℕ) (next : Option ℕ) → n < limit → test n ≡ true → LiesFrom way start n → IsNearest way test (beyond way n) next → IsCount limit (IsPassedBefore way test start (Some n)) count → IsCount limit (IsPassedBefore way test start next) (count + 1)
+pub passed_next : (way : Way) (limit : ℕ) (test : ℕ → Bool) (start : ℤ) (n count : ℕ) (next : Option ℕ) → n < limit → test n ≡ true → LiesFrom way start n → IsNearest way test (beyond way n) next → IsTally limit (IsPassedBefore way test start (Some n)) count → IsTally limit (IsPassedBefore way test start next) (count + 1)
 passed_next way limit test start n count next lt passes lies h counted =
     kind_joined limit (IsPassedBefore way test start (Some n)) (λ k. k ≡ n) (IsPassedBefore way test start next) count 1 counted (passed_one limit n lt)
     (λ k below p e. apart_from way test start n k p e)
@@ -151,7 +148,7 @@ passed_next way limit test start n count next lt passes lies h counted =
       | after past gt ↦ absurd (no_other way test start n k next h p past)
     ])
 
-pub passed_found : (way : Way) (limit : ℕ) (test : ℕ → Bool) (start : ℤ) (n count : ℕ) → n < limit → test n ≡ true → LiesFrom way start n → IsCount limit (IsPassedBefore way test start (Some n)) count → IsCount limit (IsPassedTo way test start (Some n)) (count + 1)
+pub passed_found : (way : Way) (limit : ℕ) (test : ℕ → Bool) (start : ℤ) (n count : ℕ) → n < limit → test n ≡ true → LiesFrom way start n → IsTally limit (IsPassedBefore way test start (Some n)) count → IsTally limit (IsPassedTo way test start (Some n)) (count + 1)
 passed_found way limit test start n count lt passes lies counted =
     kind_joined limit (IsPassedBefore way test start (Some n)) (λ k. k ≡ n) (IsPassedTo way test start (Some n)) count 1 counted (passed_one limit n lt)
     (λ k below p e. apart_from way test start n k p e)
@@ -163,10 +160,6 @@ passed_found way limit test start n count lt passes lies counted =
       | inl early ↦ inl (record { passes = p.passes; lies = p.lies; until = early })
       | inr e ↦ inr e
     ])
-
-pub passed_end : (way : Way) (limit : ℕ) (test : ℕ → Bool) (start : ℤ) (count : ℕ) → IsCount limit (IsPassedBefore way test start None) count → IsCount limit (IsPassedTo way test start None) count
-passed_end way limit test start count counted =
-    kind_same limit _ _ count (λ k lt p. record { passes = p.passes; lies = p.lies; until = tt }) (λ k lt p. record { passes = p.passes; lies = p.lies; until = tt }) counted
 
 -- the numbers of one block, counted by their rests
 count_add : (p : ℕ → Bool) (a n : ℕ) → count_by p (numbers_below (a + n)) ≡ count_by p (numbers_below a) + count_by (λ r. p (a + r)) (numbers_below n)
@@ -187,7 +180,7 @@ count_block w day rest p positive =
     let past : count_by (λ r. t (day * w + (w + r))) (numbers_below rest) ≡ 0 = count_same (λ r. t (day * w + (w + r))) (λ k. false) rest (λ r lt. and_left (nat_eq ((day * w + (w + r)) / w) day) (p ((day * w + (w + r)) % w)) (ne_eqb ((day * w + (w + r)) / w) day (λ e. let q : (day * w + (w + r)) / w * w ≡ day * w = rw e refl in past_block w day r positive q))) ∙ count_none rest in
     omega (arith, count_add t (day * w) (w + rest), count_add (λ r. t (day * w + r)) w rest, below, here, past)
 
-pub kind_block : (limit w day : ℕ) (P : ℕ → Type 0) (count : ℕ) → day * w + w ≤ limit → 0 < w → IsCount w P count → IsCount limit (λ k. (k / w ≡ day) × P (k % w)) count
+pub kind_block : (limit w day : ℕ) (P : ℕ → Type 0) (count : ℕ) → day * w + w ≤ limit → 0 < w → IsTally w P count → IsTally limit (λ k. (k / w ≡ day) × P (k % w)) count
 kind_block limit w day P count fits positive h = record {
   test = λ k. nat_eq (k / w) day && h.test (k % w);
   tells = λ k lt. (
@@ -201,7 +194,7 @@ kind_block limit w day P count fits positive h = record {
 }
 
 -- there is one count of a kind
-pub kind_unique : (limit : ℕ) (P : ℕ → Type 0) (a b : ℕ) → IsCount limit P a → IsCount limit P b → a ≡ b
+pub kind_unique : (limit : ℕ) (P : ℕ → Type 0) (a b : ℕ) → IsTally limit P a → IsTally limit P b → a ≡ b
 kind_unique limit P a b h g = kind_total limit P a g.test h g.tells ∙ sym g.total
 
 -- the count of a stretch counts the numbers of the stretch that pass
@@ -212,7 +205,7 @@ count_cut test to rest =
     let outside : count_by (λ r. t (to + r)) (numbers_below rest) ≡ 0 = count_same (λ r. t (to + r)) (λ k. false) rest (λ r lt. and_left (nat_lt (to + r) to) (test (to + r)) (le-ltb (to + r) to (omega arith))) ∙ count_none rest in
     omega (arith, count_add t to rest, inside, outside)
 
-pub within_kind : (limit : ℕ) (test : ℕ → Bool) (s : Stretch) → s.to ≤ limit → IsCount limit (λ k. (s.from ≤ k) × (k < s.to) × (test k ≡ true)) (count_within test s)
+pub within_kind : (limit : ℕ) (test : ℕ → Bool) (s : Stretch) → s.to ≤ limit → IsTally limit (λ k. (s.from ≤ k) × (k < s.to) × (test k ≡ true)) (count_within test s)
 unfolding count_within
 within_kind limit test s fits = record {
   test = λ k. nat_lt k s.to && (nat_le s.from k && test k);

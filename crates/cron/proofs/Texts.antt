@@ -145,21 +145,6 @@ sets_once us ts xss yss h k = taken_once us ts xss yss (sets_taken us ts xss h) 
 
 -- ---- what is told
 
--- where no front is a field
-pub refused_unread : (u : TimeUnit) (us : List TimeUnit) (ts : List Token) → NoField u ts → IsRefusalOf (u ∷ us) ts syntax_text
-refused_unread u us ts denied =
-    record {
-      nothing = λ xss h. no_sets xss h;
-      told = inr (λ other h. no_refusal other h, refl);
-    } where
-      no_sets : (xss : List (List ℕ)) → DenoteSets (u ∷ us) ts xss → ⊥
-      no_sets [] h = h
-      no_sets (xs ∷ xss) h = denied h.0 h.1 h.2 h.3 h.4
-
-      no_refusal : (other : List ℕ) → IsRefused (u ∷ us) ts other → ⊥
-      no_refusal other (inl r) = denied r.front r.rest r.items r.longest.cut r.longest.field
-      no_refusal other (inr r) = denied r.2.front r.1 r.2.items r.2.longest.cut r.2.longest.field
-
 none_is_some : {A : Type 0} (o : Option A) (x : A) → o ≡ None → o ≡ Some x → ⊥
 none_is_some o x h k = cc
 
@@ -224,12 +209,6 @@ years_refused ts text some r =
 pub years_left_over : (ts : List Token) (xs : List ℕ) (rest : List Token) → (ts ≡ [] → ⊥) → TakesField units.years ts xs rest → (rest ≡ [] → ⊥) → IsRefusalOf [] ts syntax_text
 years_left_over ts xs rest some t left =
     refused_years ts (no_years ts some (λ items ys f d. left (takes_once units.years ts xs ys rest [] t (years_whole ts items ys f d)).0))
-
--- a field of years that takes all tokens
-pub years_taken : (ts : List Token) (xs : List ℕ) (rest : List Token) → TakesField units.years ts xs rest → rest ≡ [] → DenoteYears ts xs
-years_taken ts xs rest t e =
-    let all : ts ≡ t.front = t.longest.cut ∙ (ap (λ (z : List Token). t.front ++ z) e ∙ append-nil t.front) in
-    inr (t.items, subst (λ (z : List Token). IsField units.years z t.items) (sym all) t.longest.field, t.denotes)
 
 -- a field taken and the sets of the others
 pub sets_after : (u : TimeUnit) (us : List TimeUnit) (ts : List Token) (xs : List ℕ) (rest : List Token) (xss : List (List ℕ)) → TakesField u ts xs rest → DenoteSets us rest xss → DenoteSets (u ∷ us) ts (xs ∷ xss)

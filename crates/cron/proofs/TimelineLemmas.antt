@@ -14,7 +14,7 @@ use Rattle.cron.specs.Search.{items_of, has_item, stands}
 use Rattle.cron.specs.Sets.{Sets, matches}
 use Rattle.cron.specs.Timeline.{numbers_below, items_below, timeline}
 use Rattle.cron.proofs.PlaceLemmas.{nothing_in_nil}
-use Rattle.cron.proofs.JoinedLemmas.{joined, joined-zero, length-suc, length-up, Owner, owner, get-joined, flat_map-filter}
+use Rattle.cron.proofs.JoinedLemmas.{joined, length-suc, length-up, Owner, owner, get-joined, flat_map-filter}
 
 -- ---- the items of one civil second
 
@@ -127,7 +127,3 @@ late s z k r m e ge =
       | inl lt ↦ let i = is_in s z k r e in let up = before-up s z (r.second + 1) m (omega arith) in let high = i.high in absurd (omega arith)
       | inr h ↦ h
     ]
-
--- nothing comes before the first civil second
-pub before-zero : (s : Sets) (z : TimeZone) → before s z 0 ≡ 0
-before-zero s z = rw (before-joined s z 0, joined-zero (items_of s z)) refl

@@ -10,7 +10,7 @@ use Rattle.cron.specs.Found.{found_items, items_if_any}
 use Rattle.cron.specs.Places.{beyond, matches_second, stands_at}
 use Rattle.cron.specs.Readings.{readings}
 use Rattle.cron.specs.Sets.{Sets, matches_date}
-use Rattle.cron.specs.Tally.{IsCount, IsPassedBefore, IsPassedTo}
+use Rattle.cron.specs.Tally.{IsTally, IsPassedBefore, IsPassedTo}
 use Rattle.cron.specs.declared.queries.found.Found.{Found}
 use Rattle.cron.proofs.BlockLemmas.{fails_each, starts_each, block_each, found_each, reach_on, reach_start}
 use Rattle.cron.proofs.FoundLemmas.{second_is}
@@ -37,12 +37,12 @@ pub time_found : (way : Way) (s : Sets) (z : TimeZone) (day from time : ℕ) (o 
 time_found way s z day from time None at e h = cc
 time_found way s z day from time (Some f) at e h = found_time way s z day from time f at e
 
-pub time_counted : (way : Way) (s : Sets) (z : TimeZone) (day from time count : ℕ) (o : Option Found) → AtTime way s z day from time → items_if_any o ≡ readings z (day * 86_400 + time) → is_some o ≡ true → IsCount 86_400 (IsPassedBefore way (matches_second s) (pos from) (Some time)) count → IsCount 86_400 (IsPassedTo way (matches_second s) (pos from) (time_of o)) (count + 1)
+pub time_counted : (way : Way) (s : Sets) (z : TimeZone) (day from time count : ℕ) (o : Option Found) → AtTime way s z day from time → items_if_any o ≡ readings z (day * 86_400 + time) → is_some o ≡ true → IsTally 86_400 (IsPassedBefore way (matches_second s) (pos from) (Some time)) count → IsTally 86_400 (IsPassedTo way (matches_second s) (pos from) (time_of o)) (count + 1)
 time_counted way s z day from time count None at e h counted = cc
 time_counted way s z day from time count (Some f) at e h counted =
     let second : f.first.second ≡ day * 86_400 + time = second_is z (day * 86_400 + time) f e in
     let same_time : f.first.second % 86_400 ≡ time = rw second (time_of_place day time at.time_in) in
-    let P : ℕ → Type 0 = λ t. IsCount 86_400 (IsPassedTo way (matches_second s) (pos from) (Some t)) (count + 1) in
+    let P : ℕ → Type 0 = λ t. IsTally 86_400 (IsPassedTo way (matches_second s) (pos from) (Some t)) (count + 1) in
     subst P (sym same_time) (passed_found way 86_400 (matches_second s) (pos from) time count at.time_in at.reached.block at.reached.lies counted)
 
 pub time_silent : (way : Way) (s : Sets) (z : TimeZone) (day from time : ℕ) (o : Option Found) → AtTime way s z day from time → items_if_any o ≡ readings z (day * 86_400 + time) → is_some o ≡ false → stands_at s z day time ≡ false

@@ -328,11 +328,3 @@ walk_field q [] z h = absurd (cc)
 walk_field q (t ∷ ts) z h =
     let b = bound (λ (s : State). walk q s ts) (first_state q t) z h in
     good_field q (t ∷ ts) z (walk_good q (t ∷ []) b.0 z ts (first_good q t b.0 b.1) b.2)
-
--- A list of tokens is a field of at most one list of items.
-pub field_one_meaning : (q : TimeUnit) (ts : List Token) (is js : List Item) → IsField q ts is → IsField q ts js → is ≡ js
-field_one_meaning q ts is js f g =
-    let a = field_walk q ts is f in
-    let b = field_walk q ts js g in
-    let same : a.0 ≡ b.0 = some_same a.0 b.0 (sym a.1 ∙ b.1) in
-    sym a.2 ∙ (ap state_items same ∙ b.2)

@@ -39,11 +39,6 @@ pub lies_or_before : (way : Way) (n k : ℕ) → LiesFrom way (pos n) k ⊎ Prec
 lies_or_before Ahead n k = elim (cases_lt k n) [ inl lt ↦ inr lt | inr ge ↦ inl (omega (arith, signed_arith)) ]
 lies_or_before Back n k = elim (cases_lt n k) [ inl lt ↦ inr lt | inr ge ↦ inl (omega (arith, signed_arith)) ]
 
--- from a start to a number at or past it, and from there on
-pub lies_along : (way : Way) (start : ℤ) (n k : ℕ) → LiesFrom way start n → LiesFrom way (pos n) k → LiesFrom way start k
-lies_along Ahead start n k h g = omega (arith, signed_arith)
-lies_along Back start n k h g = omega (arith, signed_arith)
-
 pub lies_past : (way : Way) (start : ℤ) (n k : ℕ) → LiesFrom way start n → LiesFrom way (beyond way n) k → LiesFrom way start k
 lies_past Ahead start n k h g = omega (arith, signed_arith)
 lies_past Back start n k h g = omega (arith, signed_arith)

@@ -3,7 +3,7 @@ use Rattle.std.specs.Prelude.{ℕ, ◌+◌, ◌/◌, ℤ, pos, negsuc, Bool, ◌
 use Rattle.jiff_tz.specs.declared.timezone.TimeZone.{TimeZone}
 use Rattle.cron_units.specs.declared.way.Way.{Way}
 use Rattle.cron_units.specs.declared.way.Way.TheVariants.{Ahead, Back}
-use Rattle.cron.specs.Civil.{civil}
+use Rattle.cron.specs.Civil.{civil, days_in_range, seconds_in_range}
 use Rattle.cron.specs.CivilDates.{date_numbered}
 use Rattle.cron.specs.Readings.{readings}
 use Rattle.cron.specs.Search.{has_item}
@@ -36,13 +36,13 @@ low_end (pos b) = b
 low_end (negsuc b) = 0
 
 abbrev pub high_end : ℤ → ℕ
-high_end (pos b) = min (b + 1) 4_133_980_800
+high_end (pos b) = min (b + 1) seconds_in_range
 high_end (negsuc b) = 0
 
 -- the civil seconds that a search from a number passes before its answer, or to the end of the range where there is none
 abbrev pub passed : Way → ℤ → Option ℕ → Stretch
 passed Ahead start (Some c) = record { from = low_end start; to = c }
-passed Ahead start None = record { from = low_end start; to = 4_133_980_800 }
+passed Ahead start None = record { from = low_end start; to = seconds_in_range }
 passed Back start (Some c) = record { from = c + 1; to = high_end start }
 passed Back start None = record { from = 0; to = high_end start }
 
@@ -53,7 +53,7 @@ day_end to = (to + 86_399) / 86_400
 -- the span of a search: the days from that of its start to that of its answer, both included, or to the end of the range
 abbrev pub span : Way → ℤ → Option ℕ → Stretch
 span Ahead start (Some c) = record { from = low_end start / 86_400; to = c / 86_400 + 1 }
-span Ahead start None = record { from = low_end start / 86_400; to = 47_847 }
+span Ahead start None = record { from = low_end start / 86_400; to = days_in_range }
 span Back start (Some c) = record { from = c / 86_400; to = day_end (high_end start) }
 span Back start None = record { from = 0; to = day_end (high_end start) }
 

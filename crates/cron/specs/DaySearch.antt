@@ -4,7 +4,7 @@ use Rattle.jiff_tz.specs.declared.timezone.TimeZone.{TimeZone}
 use Rattle.cron_units.specs.declared.way.Way.{Way}
 use Rattle.cron_units.specs.Nearest.{LiesFrom, IsNearestAt}
 use Rattle.cron.specs.Blocks.{AllFail, Enters}
-use Rattle.cron.specs.Civil.{civil}
+use Rattle.cron.specs.Civil.{civil, days_in_range}
 use Rattle.cron.specs.CivilDates.{date_numbered}
 use Rattle.cron.specs.Places.{stands_at}
 use Rattle.cron.specs.Readings.{Reading}
@@ -23,7 +23,7 @@ day_of found = option_map (λ f. f.first.second / 86_400) found
 
 -- a day in range whose date is a candidate
 abbrev pub candidate_day : Sets → ℕ → Bool
-candidate_day s day = nat_lt day 47_847 && is_candidate s (date_numbered day).0
+candidate_day s day = nat_lt day days_in_range && is_candidate s (date_numbered day).0
 
 -- a time of the day is found: the nearest one from a time on
 pub record FindsTime (way : Way) (s : Sets) (z : TimeZone) (day from : ℕ) (found : List Reading) : Type 0 where

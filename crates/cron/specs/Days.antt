@@ -5,8 +5,8 @@ use Rattle.cron_units.specs.declared.way.Way.TheVariants.{Ahead, Back}
 use Rattle.cron.specs.Places.{place, day_number}
 use Rattle.cron.specs.declared.queries.days.Day.{Day}
 
-abbrev pub place_of : Day → ℕ
-place_of d = place d.month d.day
+abbrev pub day_place : Day → ℕ
+day_place d = place d.month d.day
 
 abbrev pub number_of : Day → ℕ
 number_of d = day_number d.month d.day

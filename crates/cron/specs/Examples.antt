@@ -1,12 +1,12 @@
 -- The definitions on written examples.
-use Rattle.std.specs.Prelude.{◌≡◌, ℕ, ◌+◌, ◌*◌, ◌-◌, ◌<◌, ℤ, pos, true, false, List, [], ◌∷◌, Some, None, codes}
+use Rattle.std.specs.Prelude.{◌≡◌, ℕ, ◌+◌, ◌*◌, ◌-◌, ◌<◌, pos, true, false, List, [], ◌∷◌, Some, None, codes}
 use Rattle.jiff_core.specs.Calendar.{days_from_civil}
 use Rattle.jiff_core.specs.DateTime.{civil_seconds}
 use Rattle.jiff_tz.specs.declared.timezone.TimeZone.{TimeZone}
 use Rattle.cron_units.specs.declared.way.Way.TheVariants.{Ahead, Back}
 use Rattle.cron_units.specs.Units as units
-use Rattle.cron_units.specs.Denotation.{Refusal, too_small, too_large, unknown_name, bad_range, bad_name_range, zero_step, large_step, Denotes, refusal_of, message}
-use Rattle.cron.specs.Civil.{civil}
+use Rattle.cron_units.specs.Denotation.{Refusal, Denotes, refusal_of, message}
+use Rattle.cron.specs.Civil.{civil, seconds_in_range}
 use Rattle.cron.specs.Cursor.{Place, Ended, step_on}
 use Rattle.cron.specs.Fields.{every, single, number_range, name_range, Item, plain, stepped, name, IsField, spacing_fits_all}
 use Rattle.cron.specs.Readings.{Reading}
@@ -67,8 +67,8 @@ pub record CursorsStep : Type 0 where
 
 -- the number of a civil second, the ends of the range, and a leap day
 pub record DaysAreNumbered : Type 0 where
-  pub numbered : (c : ℕ) → c < 4133980800 → civil_seconds (civil c) ≡ pos c
+  pub numbered : (c : ℕ) → c < seconds_in_range → civil_seconds (civil c) ≡ pos c
   pub first_day : days_from_civil (pos 1970) 1 1 ≡ pos 0
   pub last_day : days_from_civil (pos 2100) 12 31 ≡ pos 47846
-  pub last_second : 47846 * 86400 + 86399 ≡ 4133980800 - 1
+  pub last_second : 47846 * 86400 + 86399 ≡ seconds_in_range - 1
   pub leap_day : days_from_civil (pos 2096) 2 29 ≡ pos 46080

@@ -4,7 +4,7 @@ use Rattle.jiff_core.specs.Timestamp.{IsTimestampNanos}
 use Rattle.jiff_tz.specs.declared.timezone.TimeZone.{TimeZone}
 use Rattle.jiff_tz.specs.Zone.{IsFixed, offset_at}
 use Rattle.cron_units.specs.declared.way.Way.TheVariants.{Ahead}
-use Rattle.cron.specs.Civil.{civil}
+use Rattle.cron.specs.Civil.{civil, seconds_in_range}
 use Rattle.cron.specs.Cursor.{Start, Place, step_on}
 use Rattle.cron.specs.Readings.{Reading, instant}
 use Rattle.cron.specs.Sets.{Sets, matches}
@@ -18,7 +18,7 @@ offset_of z = offset_at z (pos 0)
 pub record Shows (s : Sets) (offset n : ℤ) : Type 0 where
   pub second : ℕ
   pub is : n +ℤ offset ≡ pos second
-  pub in_range : second < 4_133_980_800
+  pub in_range : second < seconds_in_range
   pub matching : matches s (civil second) ≡ true
 
 -- that instant comes after the instant t, which is in nanoseconds

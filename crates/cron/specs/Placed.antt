@@ -3,6 +3,7 @@ use Rattle.std.specs.Prelude.{◌≡◌, ℕ, ◌+◌, ◌<◌, Bool, true, fals
 use Rattle.cron_units.specs.declared.way.Way.{Way}
 use Rattle.cron_units.specs.declared.way.Way.TheVariants.{Ahead, Back}
 use Rattle.jiff_tz.specs.declared.timezone.TimeZone.{TimeZone}
+use Rattle.cron.specs.Civil.{seconds_in_range}
 use Rattle.cron.specs.Cursor.{Cursor, Start, Place, Ended}
 use Rattle.cron.specs.Found.{found_items}
 use Rattle.cron.specs.Readings.{Reading}
@@ -28,7 +29,7 @@ cursor_of s z Kept.Ended = Ended
 
 -- what is kept of a civil second are its items, and the walk stands at one of them
 pub record IsKept (s : Sets) (z : TimeZone) (f : Found) (later : Bool) : Type 0 where
-  pub high : f.first.second < 4_133_980_800
+  pub high : f.first.second < seconds_in_range
   pub items : items_of s z f.first.second ≡ found_items f
   pub inside : index later < length (found_items f)
 

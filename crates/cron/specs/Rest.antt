@@ -1,9 +1,10 @@
 -- The items that are still to come in a direction.
 use Rattle.std.specs.Prelude.{ℕ, ◌+◌, List, [], Option, Some, None, drop, take, reverse}
+use Rattle.std.specs.Iterator.{YieldsFirst}
 use Rattle.cron_units.specs.declared.way.Way.{Way}
 use Rattle.cron_units.specs.declared.way.Way.TheVariants.{Ahead, Back}
 use Rattle.jiff_tz.specs.declared.timezone.TimeZone.{TimeZone}
-use Rattle.cron.specs.Cursor.{Cursor, Walk}
+use Rattle.cron.specs.Cursor.{Cursor, Walk, Steps}
 use Rattle.cron.specs.Readings.{Reading}
 use Rattle.cron.specs.Timeline.{timeline}
 use Rattle.cron.specs.Ways.{target}
@@ -26,3 +27,8 @@ rest_ahead w = rest Ahead w
 
 abbrev pub rest_back : Walk → List Reading
 rest_back w = rest Back w
+
+-- a call of a walk: its cursor made this step, and the answer is the first of the items that were still to come
+pub record Gives (way : Way) (old : Walk) (r : Option Reading) (new : Walk) : Type 0 where
+  pub cursor : Steps way old r new
+  pub items : YieldsFirst (rest way) old r new

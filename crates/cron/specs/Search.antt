@@ -3,7 +3,7 @@ use Rattle.std.specs.Prelude.{◌≡◌, ℕ, ℤ, Bool, true, false, ◌&&◌, 
 use Rattle.jiff_tz.specs.declared.timezone.TimeZone.{TimeZone}
 use Rattle.cron_units.specs.declared.way.Way.{Way}
 use Rattle.cron_units.specs.Nearest.{LiesFrom, IsNearestAt}
-use Rattle.cron.specs.Civil.{civil}
+use Rattle.cron.specs.Civil.{civil, seconds_in_range}
 use Rattle.cron.specs.Readings.{Reading, readings}
 use Rattle.cron.specs.Sets.{Sets, matches}
 
@@ -17,7 +17,7 @@ has_item (r ∷ rs) = true
 
 -- the civil second stands on the timeline: it is in range, matches and has a reading
 abbrev pub stands : Sets → TimeZone → ℕ → Bool
-stands s z c = nat_lt c 4_133_980_800 && has_item (items_of s z c)
+stands s z c = nat_lt c seconds_in_range && has_item (items_of s z c)
 
 -- what a search found is the nearest civil second that stands, from a number on: these are all its items
 pub record IsFoundAt (way : Way) (s : Sets) (z : TimeZone) (start : ℤ) (found : List Reading) : Type 0 where

@@ -1,6 +1,6 @@
 -- The seven sets of a schedule, and the civil datetimes that lie in them.
-use Rattle.std.specs.Prelude.{ℕ, ◌+◌, ◌%◌, ℤ, pos, negsuc, Bool, false, ◌&&◌, List}
-use Rattle.cron_units.specs.Units.{contains, IsSet}
+use Rattle.std.specs.Prelude.{◌≡◌, ℕ, ◌+◌, ◌%◌, ℤ, pos, negsuc, Bool, false, ◌&&◌, List, []}
+use Rattle.cron_units.specs.Units.{TimeUnit, contains, IsSet}
 use Rattle.cron_units.specs.Units as units
 use Rattle.jiff_core.specs.declared.civil.date.Date.{Date}
 use Rattle.jiff_core.specs.declared.civil.time.Time.{Time}
@@ -17,15 +17,20 @@ pub record Sets : Type 0 where
   pub days_of_week : List ℕ
   pub years : List ℕ
 
--- each list is a set of its unit
+-- the list is a set of the unit, and not the empty one
+pub record IsFilled (u : TimeUnit) (xs : List ℕ) : Type 0 where
+  pub is_set : IsSet u xs
+  pub nonempty : xs ≡ [] → ⊥
+
+-- each list is a set of its unit, and not the empty one
 pub record AreSets (s : Sets) : Type 0 where
-  pub seconds : IsSet units.seconds s.seconds
-  pub minutes : IsSet units.minutes s.minutes
-  pub hours : IsSet units.hours s.hours
-  pub days_of_month : IsSet units.days_of_month s.days_of_month
-  pub months : IsSet units.months s.months
-  pub days_of_week : IsSet units.days_of_week s.days_of_week
-  pub years : IsSet units.years s.years
+  pub seconds : IsFilled units.seconds s.seconds
+  pub minutes : IsFilled units.minutes s.minutes
+  pub hours : IsFilled units.hours s.hours
+  pub days_of_month : IsFilled units.days_of_month s.days_of_month
+  pub months : IsFilled units.months s.months
+  pub days_of_week : IsFilled units.days_of_week s.days_of_week
+  pub years : IsFilled units.years s.years
 
 -- no year before 0 is a member
 abbrev pub contains_year : List ℕ → ℤ → Bool

@@ -2,11 +2,12 @@
 use Rattle.std.specs.Prelude.{◌≡◌, ℕ, ◌<◌, ◌+◌, ℤ, pos, ◌≤ℤ◌, ◌<ℤ◌}
 use Rattle.cron_units.specs.declared.way.Way.{Way}
 use Rattle.cron_units.specs.declared.way.Way.TheVariants.{Ahead, Back}
+use Rattle.cron.specs.Civil.{seconds_in_range}
 use Rattle.cron.specs.Counts.{low_end, high_end}
 
 -- all civil seconds lie before the start
 abbrev pub LiesOutside : Way → ℤ → Type 0
-LiesOutside Ahead from = pos 4_133_980_800 ≤ℤ from
+LiesOutside Ahead from = pos seconds_in_range ≤ℤ from
 LiesOutside Back from = from <ℤ pos 0
 
 -- the first civil second from the start on, in this direction
@@ -15,5 +16,5 @@ IsFirst Ahead from start = start ≡ low_end from
 IsFirst Back from start = start + 1 ≡ high_end from
 
 pub record Starts (way : Way) (from : ℤ) (start : ℕ) : Type 0 where
-  pub in_range : start < 4_133_980_800
+  pub in_range : start < seconds_in_range
   pub is_first : IsFirst way from start

@@ -5,7 +5,7 @@ use Rattle.cron_units.specs.Nearest.{LiesFrom, Precedes}
 use Rattle.cron.specs.Timeline.{numbers_below}
 
 -- so many numbers below the limit are of this kind
-pub record IsCount (limit : ℕ) (Kind : ℕ → Type 0) (count : ℕ) : Type 0 where
+pub record IsTally (limit : ℕ) (Kind : ℕ → Type 0) (count : ℕ) : Type 0 where
   pub test : ℕ → Bool
   pub tells : (k : ℕ) → k < limit → (test k ≡ true) ↔ Kind k
   pub total : count ≡ count_by test (numbers_below limit)

@@ -2,7 +2,7 @@
 use Rattle.std.specs.Prelude.{◌≡◌, ◌↔◌, ℕ, List}
 use Rattle.cron.specs.Fault.{TakeSets, IsFault}
 use Rattle.cron.specs.Meaning.{six_units, set_lists, IsShorthand, Means}
-use Rattle.cron.specs.Sets.{Sets}
+use Rattle.cron.specs.Sets.{Sets, AreSets}
 use Rattle.cron.specs.Tokens.{tokens}
 
 -- a text is in the grammar if it means some sets
@@ -12,6 +12,10 @@ IsInGrammar text = (s : Sets) × Means text s
 -- a text means at most seven sets
 abbrev pub MeansOnce : Type 0
 MeansOnce = (text : List ℕ) (a b : Sets) → Means text a → Means text b → a ≡ b
+
+-- what a text means are sets of the units, none of them empty
+abbrev pub MeansSets : Type 0
+MeansSets = (text : List ℕ) (s : Sets) → Means text s → AreSets s
 
 -- A text that is no shorthand is in the grammar exactly if its longest fronts are six or seven fields that denote sets, with nothing left over.
 abbrev pub LongestFrontsAgree : Type 0

@@ -2,7 +2,7 @@
 use Rattle.std.specs.Prelude.{ℕ, zero, suc, List, [], ◌∷◌, ◌++◌, filter}
 use Rattle.std.specs.List.{flat_map}
 use Rattle.jiff_tz.specs.declared.timezone.TimeZone.{TimeZone}
-use Rattle.cron.specs.Civil.{civil}
+use Rattle.cron.specs.Civil.{civil, seconds_in_range}
 use Rattle.cron.specs.Readings.{Reading, readings}
 use Rattle.cron.specs.Sets.{Sets, matches}
 
@@ -17,4 +17,4 @@ items_below s z n = flat_map (readings z) (filter (λ c. matches s (civil c)) (n
 
 -- the same of all civil seconds, 1970-01-01 00:00:00 to 2100-12-31 23:59:59
 unfoldable pub timeline : Sets → TimeZone → List Reading
-timeline s z = items_below s z 4_133_980_800
+timeline s z = items_below s z seconds_in_range

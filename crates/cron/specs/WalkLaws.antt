@@ -1,9 +1,10 @@
 -- Laws of timelines and of walks, over the definitions alone.
-use Rattle.std.specs.Prelude.{◌≡◌, ℕ, ◌≤◌, true, List, ◌++◌, map, Some, None, count_by, nat_eq, slice_get}
+use Rattle.std.specs.Prelude.{◌≡◌, ℕ, ◌+◌, ◌≤◌, true, List, ◌++◌, map, Some, None, count_by, nat_eq, slice_get}
 use Rattle.cron_units.specs.declared.way.Way.{Way}
+use Rattle.cron_units.specs.declared.way.Way.TheVariants.{Ahead, Back}
 use Rattle.jiff_tz.specs.declared.timezone.TimeZone.{TimeZone}
 use Rattle.cron.specs.Civil.{civil}
-use Rattle.cron.specs.Cursor.{Cursor, Ended, run_on}
+use Rattle.cron.specs.Cursor.{Cursor, Place, Ended, step_on, run_on}
 use Rattle.cron.specs.Readings.{Reading}
 use Rattle.cron.specs.Sets.{Sets, matches}
 use Rattle.cron.specs.Timeline.{timeline}
@@ -23,6 +24,15 @@ abbrev pub EndIsForEver : Type 0
 EndIsForEver =
     (items : List Reading) (z : TimeZone) (ways : List Way)
     → run_on items z ways Ended ≡ record { answers = map (λ way. None) ways; cursor = Ended }
+
+-- of two items side by side a call back from the second answers the first, and a call ahead from the first the second
+abbrev pub NeighboursAreAnswered : Type 0
+NeighboursAreAnswered =
+    (items : List Reading) (z : TimeZone) (i : ℕ) (x y : Reading)
+    → slice_get items i ≡ Some x
+    → slice_get items (i + 1) ≡ Some y
+    → (step_on items z Back (Place (i + 1)) ≡ record { answer = Some x; cursor = Place i })
+    × (step_on items z Ahead (Place i) ≡ record { answer = Some y; cursor = Place (i + 1) })
 
 -- the civil seconds of a timeline never decrease
 abbrev pub SecondsNeverDecrease : Type 0

@@ -84,9 +84,7 @@ impl ScheduleFields {
         ensures { result ≡ matches_date self.now date }
     {
         self.is_candidate(date)
-            && self
-                .days_of_week
-                .includes(date.weekday().to_sunday_one_offset() as u32)
+            && self.includes_weekday(date.weekday().to_sunday_one_offset() as u32)
     }
 
     /// Whether the time of day lies in the three sets of times.
@@ -111,7 +109,7 @@ impl ScheduleFields {
         ensures nearest { IsNearest way (contains self.now.seconds) (pos from) result }
         ensures bound { IfSome result (λ n. n < 60) }
     {
-        self.seconds.ordinals().nearest(way, from)
+        self.seconds.nearest(way, from)
     }
 
     /// The nearest minute of an hour.
@@ -119,7 +117,7 @@ impl ScheduleFields {
         ensures nearest { IsNearest way (contains self.now.minutes) (pos from) result }
         ensures bound { IfSome result (λ n. n < 60) }
     {
-        self.minutes.ordinals().nearest(way, from)
+        self.minutes.nearest(way, from)
     }
 
     /// The nearest hour of a day.
@@ -127,7 +125,7 @@ impl ScheduleFields {
         ensures nearest { IsNearest way (contains self.now.hours) (pos from) result }
         ensures bound { IfSome result (λ n. n < 24) }
     {
-        self.hours.ordinals().nearest(way, from)
+        self.hours.nearest(way, from)
     }
 
     /// The nearest day of a month.
@@ -135,7 +133,7 @@ impl ScheduleFields {
         ensures nearest { IsNearest way (contains self.now.days_of_month) (pos from) result }
         ensures bound { IfSome result (λ n. (1 ≤ n) × (n ≤ 31)) }
     {
-        self.days_of_month.ordinals().nearest(way, from)
+        self.days_of_month.nearest(way, from)
     }
 
     /// The nearest month of a year.
@@ -143,7 +141,7 @@ impl ScheduleFields {
         ensures nearest { IsNearest way (contains self.now.months) (pos from) result }
         ensures bound { IfSome result (λ n. (1 ≤ n) × (n ≤ 12)) }
     {
-        self.months.ordinals().nearest(way, from)
+        self.months.nearest(way, from)
     }
 
     /// The nearest year.
@@ -151,13 +149,13 @@ impl ScheduleFields {
         ensures nearest { IsNearest way (contains self.now.years) (pos from) result }
         ensures bound { IfSome result (λ n. (1970 ≤ n) × (n ≤ 2100)) }
     {
-        self.years.ordinals().nearest(way, from)
+        self.years.nearest(way, from)
     }
 
     /// Tells whether a day of the week, from 1 for Sunday, lies in its set.
     pub(crate) fn includes_weekday(&self, weekday: Ordinal) -> bool
         ensures { result ≡ contains self.now.days_of_week weekday }
     {
-        self.days_of_week.ordinals().contains(weekday)
+        self.days_of_week.includes(weekday)
     }
 }

@@ -6,7 +6,8 @@ ghost use Rattle.cron_units.specs.Texts.{Tells, IsMemory};
 ghost use Rattle.cron.specs.Examples.{TextsAreCut, ItemsDenote, ItemsAreRefused, CursorsStep, DaysAreNumbered};
 ghost use Rattle.cron.specs.Fault.{IsRefusal};
 ghost use Rattle.cron.specs.Headline.{IsWalked};
-ghost use Rattle.cron.specs.TextLaws.{MeansOnce, LongestFrontsAgree, HasOneFault};
+ghost use Rattle.cron.specs.TextLaws.{MeansOnce, MeansSets, LongestFrontsAgree, HasOneFault};
+ghost use Rattle.cron.specs.Times.{TimesOfDayMatch};
 ghost use Rattle.cron.specs.FixedLaws as fixed;
 ghost use Rattle.cron.specs.WalkLaws as law;
 
@@ -81,6 +82,11 @@ pub fn means_once()
     ensures { MeansOnce }
 {}
 
+/// What a text means are sets of the units, and none of them is empty.
+pub fn means_sets()
+    ensures { MeansSets }
+{}
+
 /// A text that is no shorthand is in the grammar exactly if its longest fronts are six or seven
 /// fields that denote sets, with nothing left over.
 pub fn longest_fronts_agree()
@@ -92,6 +98,12 @@ pub fn has_one_fault()
     ensures { HasOneFault }
 {}
 
+/// The hour, the minute and the second of a civil time are among the times of day of the sets
+/// exactly if each lies in its set.
+pub fn times_of_day()
+    ensures { TimesOfDayMatch }
+{}
+
 /// The run of a joined list of calls is the joined runs.
 pub fn joined_runs()
     ensures { law.RunsAreJoined }
@@ -100,6 +112,12 @@ pub fn joined_runs()
 /// After a `None` every call answers `None`.
 pub fn end_for_ever()
     ensures { law.EndIsForEver }
+{}
+
+/// After `next` answered an item, `next_back` answers the one before it, and a further `next` answers
+/// the item again.
+pub fn neighbours()
+    ensures { law.NeighboursAreAnswered }
 {}
 
 /// The civil seconds of a timeline never decrease.

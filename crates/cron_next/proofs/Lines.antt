@@ -34,9 +34,6 @@ pub lines_step : (back : Bool) (old new : Walk) (r : Option Reading) (n : ℕ) �
 lines_step back old new r n s =
     ap (lines_of back old) (add-one n) ∙ (lines_more back old n ∙ (ap (λ (a : Option Reading). answer_line a ++ lines_of back (after back old) n) (sym s.answer) ∙ ap (λ (w : Walk). answer_line r ++ lines_of back w n) (after_is back old new r s)))
 
-ended_none : (items : List Reading) (z : TimeZone) (way : Way) → step_on items z way Ended ≡ record { answer = None; cursor = Ended }
-ended_none items z way = refl
-
 after_ended : (back : Bool) (w : Walk) → (step (direction back) w).cursor ≡ Ended → (after back w).cursor ≡ Ended
 unfolding after
 after_ended back w h = h

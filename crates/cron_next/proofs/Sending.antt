@@ -1,7 +1,7 @@
 -- A text that is handed on piece by piece.
-use Rattle.std.proofs.Common.{◌≡◌, ℕ, Bool, true, false, Option, List, [], ◌++◌, refl, sym, ap, ◌∙◌, append_assoc, append-nil}
-use Rattle.std.specs.Io.KnownBytes.{Appends, Keeps}
-use Rattle.std.proofs.KnownBytes.{Appends-nil, Appends-trans, Appends-kept}
+use Rattle.std.proofs.Common.{◌≡◌, ℕ, Bool, true, false, Option, List, [], ◌++◌, refl, sym, ap, ◌∙◌, append_assoc}
+use Rattle.std.specs.Io.KnownBytes.{Appends}
+use Rattle.std.proofs.KnownBytes.{Appends-nil, Appends-trans}
 use Rattle.cron_next.specs.Watching.{IsFrontSent, IsSent}
 
 -- a beginning of a text is one of a longer text
@@ -36,7 +36,3 @@ sent_off origin now failed before text f s =
 -- a text that is a beginning of the whole, where a call has failed
 pub sent_part : (origin now : Option (List ℕ)) (failed : Bool) (whole sent rest : List ℕ) → whole ≡ sent ++ rest → failed ≡ true → IsSent origin now failed sent → IsSent origin now failed whole
 sent_part origin now failed whole sent rest e f s = rw e (sent_off origin now failed sent rest f s)
-
--- a flush keeps what was sent
-pub kept_front : (old new now : Option (List ℕ)) (text : List ℕ) → Appends old new text → Keeps new now → IsFrontSent old now text
-kept_front old new now text a k = record { sent = text; kept_back = []; cut = sym (append-nil text); appended = Appends-kept old new now text a k }

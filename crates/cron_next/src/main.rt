@@ -2,6 +2,9 @@
 //! those before.
 #![tactic(auto)]
 
+ghost use Rattle.std.specs.Prelude.{◌≡◌, false};
+ghost use Rattle.cron_next.specs.Watching.{has_failed};
+
 mod line;
 pub mod run;
 #[cfg(test)]
@@ -27,9 +30,6 @@ const WRITE_FAILED: u8 = 3;
 
 // Writes one line and answers the status, or that the write failed.
 fn tell<W: Write>(out: &mut Watched<W>, line: &str, status: u8) -> u8 {
-    if out.failed() {
-        return WRITE_FAILED;
-    }
     send(out, line.as_bytes());
     if out.failed() || out.flush().is_err() {
         return WRITE_FAILED;
@@ -46,13 +46,12 @@ fn usage<W: Write>(out: &mut Watched<W>) -> u8 {
 }
 
 // Answers the words after the program's name.
-fn answer<W: Write>(alloc: Global, words: &[String], out: &mut Watched<W>) -> u8 {
+fn answer<W: Write>(alloc: Global, words: &[String], out: &mut Watched<W>) -> u8
+    requires { has_failed out.old ≡ false }
+{
     let Some(request) = request_of(words) else {
         return usage(out);
     };
-    if out.failed() {
-        return WRITE_FAILED;
-    }
     let outcome = run(
         alloc,
         request.expression,

@@ -3,3 +3,4 @@ pub mod Steps
 pub mod Neighbours
 pub mod Bounds
 pub mod Words
+pub mod Members

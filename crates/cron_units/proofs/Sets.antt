@@ -4,7 +4,7 @@ use Rattle.std.specs.Prelude.{filter, nat_eq}
 use Rattle.std.specs.List.{range_with_len}
 use Rattle.std.specs.Ordering.{nat_cmp}
 use Rattle.std.specs.BTreeSet.{insert_key}
-use Rattle.std.proofs.lemmas.Bool.{false≢true, cases_lt, cases_eq, eq-eqb, ne_eqb, and_right}
+use Rattle.std.proofs.lemmas.Bool.{cases_eq, eq-eqb, ne_eqb, and_right}
 use Rattle.std.proofs.lemmas.Bool.Decides.{nat_tests}
 use Rattle.std.proofs.lemmas.List.FromFn.{length-range_with_len}
 use Rattle.cron_units.specs.Units.{TimeUnit, whole, contains, set_of, IsSet}
@@ -99,25 +99,6 @@ filter_all p (x ∷ xs) h = rw (h x) (ap (λ (ys : List ℕ). x ∷ ys) (filter_
 pub whole_is_all : (u : TimeUnit) → set_of u (λ x. true) ≡ whole u
 whole_is_all u = filter_all (λ x. true) (whole u) (λ x. refl)
 
-contains_above : (p : ℕ → Bool) (a n x : ℕ) → a + n ≤ x → contains (filter p (range_with_len a n)) x ≡ false
-contains_above p a zero x l = refl
-contains_above p a (suc n) x l =
-    contains_cond (p a) a x (filter p (range_with_len (a + 1) n)) ∙ rw (contains_above p (a + 1) n x (omega arith), ne_eqb x a (λ e. omega arith), and_right (p a) false refl) refl
-
--- A member of a set is an ordinal of the unit.
-pub member_within : (u : TimeUnit) (xs : List ℕ) (x : ℕ) → IsSet u xs → contains xs x ≡ true → (u.least ≤ x) × (x ≤ u.greatest)
-unfolding whole
-member_within u xs x h t =
-    let n = u.greatest + 1 - u.least in
-    let member : contains (filter (contains xs) (range_with_len u.least n)) x ≡ true = sym (ap (λ (ys : List ℕ). contains ys x) h) ∙ t in
-    elim (cases_lt x u.least) [
-      | inl l ↦ absurd (false≢true (sym (contains_below (contains xs) u.least n x l) ∙ member))
-      | inr l ↦ elim (cases_lt x (u.least + n)) [
-        | inl g ↦ (l, omega arith)
-        | inr g ↦ absurd (false≢true (sym (contains_above (contains xs) u.least n x g) ∙ member))
-      ]
-    ]
-
 -- ---- one more member
 
 insert_cond_less : (b : Bool) (a k : ℕ) (xs : List ℕ) → k < a → insert_key nat_cmp xs k ≡ k ∷ xs → insert_key nat_cmp (cond b (a ∷ xs) xs) k ≡ k ∷ cond b (a ∷ xs) xs
@@ -177,7 +158,7 @@ length_cond : (b : Bool) (x : ℕ) (xs ys : List ℕ) → length ys ≤ length x
 length_cond true x xs ys l = omega arith
 length_cond false x xs ys l = omega arith
 
-length_filter : (p : ℕ → Bool) (xs : List ℕ) → length (filter p xs) ≤ length xs
+pub length_filter : (p : ℕ → Bool) (xs : List ℕ) → length (filter p xs) ≤ length xs
 length_filter p [] = omega arith
 length_filter p (x ∷ xs) = omega (arith, length_cond (p x) x xs (filter p xs) (length_filter p xs))
 

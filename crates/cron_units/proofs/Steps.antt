@@ -3,9 +3,9 @@ use Rattle.std.proofs.Common.{◌≡◌, ℕ, ◌+◌, ◌-◌, ◌%◌, ◌<◌
 use Rattle.std.specs.Prelude.{nat_eq, nat_lt, nat_le}
 use Rattle.std.specs.Ordering.{nat_cmp}
 use Rattle.std.specs.BTreeSet.{insert_key}
-use Rattle.std.proofs.lemmas.Bool.{cases_order, cases_lt, lt-ltb, le-ltb, le-leb, lt-leb, ne_eqb, and_left, and_right}
+use Rattle.std.proofs.lemmas.Bool.{cases_order, cases_lt, lt-ltb, le-ltb, le-leb, lt-leb, ne_eqb, and_right}
 use Rattle.cron_units.specs.Denotation.{Steps, in_steps}
-use Rattle.cron_units.specs.Units.{TimeUnit, whole, contains, set_of, IsSet}
+use Rattle.cron_units.specs.Units.{TimeUnit, whole, contains, set_of}
 use Rattle.cron_units.proofs.Sets.{same_eq, and_true, or_false, set_same, set_or, is_set_from, set_insert, whole_is_all}
 
 -- the members before, and the steps below a number
@@ -18,24 +18,12 @@ before_first s x l = rw (lt-leb s.first x l) refl
 past_last : (s : Steps) (x : ℕ) → s.last < x → in_steps s x ≡ false
 past_last s x l = rw (lt-leb x s.last l, and_right (nat_le s.first x) false refl) refl
 
-none_below : (s : Steps) (x : ℕ) → (in_steps s x && nat_lt x s.first) ≡ false
-none_below s x =
-    elim (cases_lt x s.first) [
-      | inl l ↦ and_left (in_steps s x) (nat_lt x s.first) (before_first s x l)
-      | inr g ↦ and_right (in_steps s x) (nat_lt x s.first) (le-ltb x s.first g)
-    ]
-
 all_below : (s : Steps) (at x : ℕ) → s.last < at → (in_steps s x && nat_lt x at) ≡ in_steps s x
 all_below s at x l =
     elim (cases_lt s.last x) [
       | inl h ↦ rw (past_last s x h) refl
       | inr h ↦ rw (lt-ltb x at (omega arith)) (and_true (in_steps s x))
     ]
-
--- At the start nothing is added.
-pub add_none : (u : TimeUnit) (xs : List ℕ) (s : Steps) → IsSet u xs → xs ≡ set_of u (added_below (contains xs) s s.first)
-add_none u xs s h =
-    h ∙ set_same u (contains xs) (added_below (contains xs) s s.first) (λ x l g. sym (ap (λ (t : Bool). contains xs x || t) (none_below s x) ∙ or_false (contains xs x)))
 
 at_place : (b t : Bool) → (b || (t && true)) ≡ ((b || (t && false)) || (t && true))
 at_place true t = refl

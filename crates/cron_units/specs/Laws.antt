@@ -1,5 +1,5 @@
 -- The seven units keep to the rules of units.
-use Rattle.std.specs.Prelude.{◌≡◌, ◌≤◌, ◌<◌, ◌+◌, ◌^◌, ℕ, Bool, true, ◌&&◌, List, [], ◌∷◌, nat_le}
+use Rattle.std.specs.Prelude.{◌≡◌, ◌≤◌, ℕ, Bool, true, ◌&&◌, List, [], ◌∷◌, nat_le}
 use Rattle.std.specs.List.{AllByRecursion}
 use Rattle.std.proofs.Common.{arith, refl}
 use Rattle.std.proofs.lemmas.Bool.{and_parts, leb-true}
@@ -18,43 +18,22 @@ fitting least greatest (e ∷ es) h =
     ((leb-true least e.1 bounds.0, leb-true e.1 greatest bounds.1), fitting least greatest es both.1)
 
 pub is_unit-seconds : IsUnit seconds
-is_unit-seconds = record { ordered = omega arith; fits = omega arith; names = tt }
-
-pub is_countable-seconds : seconds.greatest + 1 < 2 ^ 32
-is_countable-seconds = omega arith
+is_unit-seconds = record { ordered = omega arith; countable = omega arith; names = tt }
 
 pub is_unit-minutes : IsUnit minutes
-is_unit-minutes = record { ordered = omega arith; fits = omega arith; names = tt }
-
-pub is_countable-minutes : minutes.greatest + 1 < 2 ^ 32
-is_countable-minutes = omega arith
+is_unit-minutes = record { ordered = omega arith; countable = omega arith; names = tt }
 
 pub is_unit-hours : IsUnit hours
-is_unit-hours = record { ordered = omega arith; fits = omega arith; names = tt }
-
-pub is_countable-hours : hours.greatest + 1 < 2 ^ 32
-is_countable-hours = omega arith
+is_unit-hours = record { ordered = omega arith; countable = omega arith; names = tt }
 
 pub is_unit-days_of_month : IsUnit days_of_month
-is_unit-days_of_month = record { ordered = omega arith; fits = omega arith; names = tt }
-
-pub is_countable-days_of_month : days_of_month.greatest + 1 < 2 ^ 32
-is_countable-days_of_month = omega arith
+is_unit-days_of_month = record { ordered = omega arith; countable = omega arith; names = tt }
 
 pub is_unit-months : IsUnit months
-is_unit-months = record { ordered = omega arith; fits = omega arith; names = fitting 1 12 month_names.ordinals refl }
-
-pub is_countable-months : months.greatest + 1 < 2 ^ 32
-is_countable-months = omega arith
+is_unit-months = record { ordered = omega arith; countable = omega arith; names = fitting 1 12 month_names.ordinals refl }
 
 pub is_unit-days_of_week : IsUnit days_of_week
-is_unit-days_of_week = record { ordered = omega arith; fits = omega arith; names = fitting 1 7 day_names.ordinals refl }
-
-pub is_countable-days_of_week : days_of_week.greatest + 1 < 2 ^ 32
-is_countable-days_of_week = omega arith
+is_unit-days_of_week = record { ordered = omega arith; countable = omega arith; names = fitting 1 7 day_names.ordinals refl }
 
 pub is_unit-years : IsUnit years
-is_unit-years = record { ordered = omega arith; fits = omega arith; names = tt }
-
-pub is_countable-years : years.greatest + 1 < 2 ^ 32
-is_countable-years = omega arith
+is_unit-years = record { ordered = omega arith; countable = omega arith; names = tt }

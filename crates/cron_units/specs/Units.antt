@@ -49,10 +49,10 @@ abbrev pub named_ordinals : Option Names → List (List ℕ × ℕ)
 named_ordinals None = []
 named_ordinals (Some names) = names.ordinals
 
--- what each unit keeps to: the least bound isn't above the greatest, and every name's ordinal is within them
+-- what each unit keeps to: the least bound isn't above the greatest, every name's ordinal is within them, and 32 bits count the ordinals
 pub record IsUnit (u : TimeUnit) : Type 0 where
   pub ordered : u.least ≤ u.greatest
-  pub fits : u.greatest < 2 ^ 32
+  pub countable : u.greatest + 1 < 2 ^ 32
   pub names : AllByRecursion (λ e. (u.least ≤ e.1) × (e.1 ≤ u.greatest)) (named_ordinals u.names)
 
 abbrev pub seconds : TimeUnit

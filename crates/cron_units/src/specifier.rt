@@ -3,6 +3,7 @@
 ghost use Rattle.std.specs.Prelude.{◌≡◌, ◌≤◌, ◌<◌, ◌||◌, IfOk, IfErr, MatchResult, OnOk, Ok, Err};
 ghost use Rattle.cron_units.specs.Denotation.{in_steps, ordinal, span, steps_of};
 ghost use Rattle.cron_units.specs.Denotation as spec;
+ghost use Rattle.cron_units.specs.Items as items;
 ghost use Rattle.cron_units.specs.Texts.{Fails};
 ghost use Rattle.cron_units.specs.Units.{IsSet, contains, set_of};
 ghost use Rattle.cron_units.specs.Views.{base_view, item_view, refusal_view, steps_view};
@@ -11,7 +12,7 @@ mod messages;
 
 use crate::error::Error;
 use crate::time_unit::{Ordinal, OrdinalSet, TimeUnitField, add_every_nth};
-pub use messages::{message, refused};
+pub use messages::{message, refused, told};
 use std::alloc::Global;
 
 /// What an item ranges over before its step.
@@ -91,7 +92,30 @@ fn span<'a, T: TimeUnitField>(base: Base<'a>) -> Result<(Ordinal, Ordinal), Refu
     }
 }
 
-/// Finds what an item denotes. A step is tested before its base.
+// Finds what a base with a step denotes. The step is tested before the base.
+fn stepped<'a, T: TimeUnitField>(base: Base<'a>, every: u32) -> Result<Steps, Refusal<'a>>
+    ensures within { IfOk result (λ s. (T.unit.least ≤ s.first) × (s.last ≤ T.unit.greatest) × (0 < s.every)) }
+    ensures value { MatchResult result (λ s. steps_of T.unit (items.stepped (base_view base.entry) every) ≡ Ok (steps_view s)) (λ r. steps_of T.unit (items.stepped (base_view base.entry) every) ≡ Err (refusal_view r)) }
+{
+    if every == 0 {
+        return Err(Refusal::ZeroStep);
+    }
+    let greatest = T::inclusive_max();
+    if every > greatest {
+        return Err(Refusal::LargeStep(every));
+    }
+    let (first, last) = span::<T>(base)?;
+    match base {
+        Base::Single(_) => Ok(Steps {
+            first,
+            last: greatest,
+            every,
+        }),
+        _ => Ok(Steps { first, last, every }),
+    }
+}
+
+/// Finds what an item denotes.
 pub fn steps_of<'a, T: TimeUnitField>(item: Item<'a>) -> Result<Steps, Refusal<'a>>
     ensures within { IfOk result (λ s. (T.unit.least ≤ s.first) × (s.last ≤ T.unit.greatest) × (0 < s.every)) }
     ensures value { MatchResult result (λ s. steps_of T.unit (item_view item.entry) ≡ Ok (steps_view s)) (λ r. steps_of T.unit (item_view item.entry) ≡ Err (refusal_view r)) }
@@ -105,24 +129,7 @@ pub fn steps_of<'a, T: TimeUnitField>(item: Item<'a>) -> Result<Steps, Refusal<'
                 every: 1,
             })
         }
-        Item::Stepped(base, every) => {
-            if every == 0 {
-                return Err(Refusal::ZeroStep);
-            }
-            let greatest = T::inclusive_max();
-            if every > greatest {
-                return Err(Refusal::LargeStep(every));
-            }
-            let (first, last) = span::<T>(base)?;
-            match base {
-                Base::Single(_) => Ok(Steps {
-                    first,
-                    last: greatest,
-                    every,
-                }),
-                _ => Ok(Steps { first, last, every }),
-            }
-        }
+        Item::Stepped(base, every) => stepped::<T>(base, every),
         Item::Name(name) => {
             let only = ordinal::<T>(name)?;
             Ok(Steps {

@@ -1,6 +1,7 @@
 //! Every beginning of every text, by all readers.
 
-use crate::readers::{check_readers, outcome};
+use crate::answers::outcome;
+use crate::readers::check_readers;
 use crate::support::cut;
 use crate::{accepted_texts, backward, forward, refused_texts};
 use cron::Schedule;

@@ -9,5 +9,6 @@ mod units;
 pub use check::fault_of;
 pub use fires::{count_fires, fires_of_day, first_fires, last_fires, missed_runs, next_fire};
 pub use units::{
-    descending_hours, greatest_month, minutes_between, some_warm_month, summer_months, year_count,
+    count_hours, descending_hours, greatest_month, minutes_between, some_warm_month, summer_months,
+    year_count,
 };

@@ -10,58 +10,44 @@
 
 mod accepted;
 
+use crate::readers::{READERS, Reader, read_by};
 use accepted::ACCEPTED;
-use cron::Schedule;
-use cron::error::Error;
 use std::alloc::{AllocError, Global};
-use std::borrow::CowStr;
 use std::process::Abort;
 use std::test::Fail;
 
 const ALPHABET: &str = "01235679*?,-/@ \t\r\n\x0b\0JFMASONDTWLjmsaz_.#+\u{e9}";
 
+/// One character alone, and with each other after it.
+fn push_texts_from(texts: &mut Vec<String>, alloc: Global, first: char) -> Result<(), AllocError> {
+    texts.push(first.to_string(alloc)?)?;
+    for second in ALPHABET.chars() {
+        texts.push(format!(in alloc; "{first}{second}")?)?;
+    }
+    Ok(())
+}
+
 /// Every text of one or two characters of the alphabet, in its order.
 fn short_texts(alloc: Global) -> Result<Vec<String>, AllocError> {
     let mut texts = Vec::new(alloc);
     for first in ALPHABET.chars() {
-        texts.push(first.to_string(alloc)?)?;
-        for second in ALPHABET.chars() {
-            texts.push(format!(in alloc; "{first}{second}")?)?;
-        }
+        push_texts_from(&mut texts, alloc, first)?;
     }
     Ok(texts)
 }
 
-fn accepts(answer: Result<Schedule, Error>) -> bool {
-    answer.is_ok()
-}
-
-fn accepts_owned(alloc: Global, text: &str) -> Result<bool, AllocError> {
-    let text = String::from_str(alloc, text)?;
-    Ok(accepts(Schedule::try_from_string(alloc, text)))
-}
-
-fn accepts_owned_cow(alloc: Global, text: &str) -> Result<bool, AllocError> {
-    let text = CowStr::Owned(String::from_str(alloc, text)?);
-    Ok(accepts(Schedule::try_from_cow(alloc, text)))
-}
-
-fn accepts_borrowed_cow(alloc: Global, text: &str) -> bool {
-    accepts(Schedule::try_from_cow(alloc, CowStr::Borrowed(text)))
+fn accepts(alloc: Global, reader: Reader, text: &str) -> bool {
+    read_by(alloc, reader, text).is_ok()
 }
 
 /// Whether the text is read, which all the readers have to tell alike.
-fn is_read(rt: &impl Abort, alloc: Global, text: &str) -> Result<bool, AllocError> {
-    let read = accepts(Schedule::from_str(alloc, text));
-    assert_eq!(rt;
-        accepts(Schedule::try_from_str(alloc, text)),
-        read,
-        "at {text}"
-    );
-    assert_eq!(rt; accepts_owned(alloc, text)?, read, "at {text}");
-    assert_eq!(rt; accepts_owned_cow(alloc, text)?, read, "at {text}");
-    assert_eq!(rt; accepts_borrowed_cow(alloc, text), read, "at {text}");
-    Ok(read)
+fn is_read(rt: &impl Abort, alloc: Global, text: &str) -> bool {
+    let read = accepts(alloc, Reader::FromStr, text);
+    // `FromStr` is the first of the readers.
+    for reader in READERS.iter().skip(1) {
+        assert_eq!(rt; accepts(alloc, *reader, text), read, "at {text}");
+    }
+    read
 }
 
 /// How the table writes a character. No letter is part of an accepted text.
@@ -79,13 +65,14 @@ fn shown(character: char) -> char {
 fn read_between(
     rt: &impl Abort,
     alloc: Global,
+    shorts: &[String],
     front: &str,
     back: &str,
 ) -> Result<String, AllocError> {
     let mut list = String::new(alloc);
-    for short in short_texts(alloc)? {
+    for short in shorts {
         let text = format!(in alloc; "{front}{short}{back}")?;
-        if is_read(rt, alloc, text.as_str())? {
+        if is_read(rt, alloc, text.as_str()) {
             list.push(' ')?;
             list.extend(short.chars().map(shown))?;
         }
@@ -93,13 +80,21 @@ fn read_between(
     Ok(list)
 }
 
+fn check_row(rt: &(impl Abort + AllocGlobal), shorts: &[String], row: &str) -> Result<(), Fail> {
+    let (form, accepted) = row.split_once(" |").ok_or("a row has a bar")?;
+    let (front, back) = form.split_once("{}").ok_or("a form has braces")?;
+    let read = read_between(rt, rt.alloc(), shorts, front, back)?;
+    assert_eq!(rt; read.as_str(), accepted, "in {form}");
+    Ok(())
+}
+
 #[test]
 fn short_texts_are_read_where_the_crate_reads_them(rt: HostRuntime) -> Result<(), Fail> {
+    let shorts = short_texts(rt.alloc())?;
+    assert_eq!(rt; shorts.len(), 1722);
+    assert_eq!(rt; ACCEPTED.lines().count(), 9);
     for row in ACCEPTED.lines() {
-        let (form, accepted) = row.split_once(" |").ok_or("a row has a bar")?;
-        let (front, back) = form.split_once("{}").ok_or("a form has braces")?;
-        let read = read_between(&rt, rt.alloc(), front, back)?;
-        assert_eq!(rt; read.as_str(), accepted, "in {form}");
+        check_row(&rt, shorts.as_slice(), row)?;
     }
     Ok(())
 }

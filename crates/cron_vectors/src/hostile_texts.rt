@@ -1,6 +1,6 @@
 //! Very long texts.
 
-use crate::readers::{outcome, sets};
+use crate::answers::{outcome, sets_text};
 use crate::support::check_same;
 use cron::Schedule;
 use cron::error::Error;
@@ -27,14 +27,14 @@ fn sets_if_kept(alloc: Global, text: &str) -> Result<String, Error> {
     if schedule.source() != text {
         return Ok(String::from_str(alloc, "another source")?);
     }
-    Ok(sets(alloc, &schedule)?)
+    Ok(sets_text(alloc, &schedule)?)
 }
 
 #[test]
 fn a_list_of_a_million_items(rt: HostRuntime) -> Result<(), Fail> {
     let text = long(rt.alloc(), "0,", 999_999, "0 * * * * *")?;
     let told = sets_if_kept(rt.alloc(), text.as_str())?;
-    check_same(&rt, told.as_str(), "seconds 0", "a million items");
+    check_same(&rt, told.as_str(), "0 * * * * * *", "a million items");
     Ok(())
 }
 
@@ -42,7 +42,7 @@ fn a_list_of_a_million_items(rt: HostRuntime) -> Result<(), Fail> {
 fn a_hundred_thousand_leading_zeros(rt: HostRuntime) -> Result<(), Fail> {
     let text = long(rt.alloc(), "0", 100_000, "5 * * * * *")?;
     let told = told(rt.alloc(), text.as_str())?;
-    check_same(&rt, told.as_str(), "seconds 5", "leading zeros");
+    check_same(&rt, told.as_str(), "5 * * * * * *", "leading zeros");
     Ok(())
 }
 

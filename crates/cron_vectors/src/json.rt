@@ -1,6 +1,6 @@
 //! Schedules as JSON strings.
 
-use crate::readers::outcome;
+use crate::answers::outcome;
 use crate::support::{check_same, cut};
 use cron::Schedule;
 use cron::error::Error;

@@ -44,6 +44,23 @@ fn push_readings(
     Ok(())
 }
 
+// The readings of the included civil seconds of the minute that starts here.
+fn push_minute(
+    readings: &mut Vec<Shown>,
+    schedule: &Schedule,
+    zone: &TimeZone<'_>,
+    start: DateTime,
+) -> Result<(), Fail> {
+    for second in 0..60 {
+        let time = Time::new(start.hour(), start.minute(), second, 0)?;
+        let datetime = start.date().to_datetime(time);
+        if schedule.includes(datetime) {
+            push_readings(readings, zone, datetime)?;
+        }
+    }
+    Ok(())
+}
+
 // The readings of an hour's included civil seconds.
 fn push_hour(
     readings: &mut Vec<Shown>,
@@ -53,13 +70,8 @@ fn push_hour(
     hour: i8,
 ) -> Result<(), Fail> {
     for minute in 0..60 {
-        for second in 0..60 {
-            let time = Time::new(hour, minute, second, 0)?;
-            let datetime = date.to_datetime(time);
-            if schedule.includes(datetime) {
-                push_readings(readings, zone, datetime)?;
-            }
-        }
+        let start = date.to_datetime(Time::new(hour, minute, 0, 0)?);
+        push_minute(readings, schedule, zone, start)?;
     }
     Ok(())
 }

@@ -1,6 +1,6 @@
 //! What users see of a unit's set.
 
-use crate::readers::members;
+use crate::answers::set_text;
 use crate::support::check_same;
 use cron::error::Error;
 use cron::time_unit::{DaysOfMonth, Months, OrdinalRangeIter, Years};
@@ -87,6 +87,20 @@ fn the_ends_of_a_set_meet(rt: HostRuntime) -> Result<(), Fail> {
     check_ends(&rt, schedule.months())
 }
 
+// Ranges of months, by single calls to their ends.
+fn check_months_one_by_one(rt: &impl Abort, months: &Months) {
+    let mut all = months.range((Unbounded, Unbounded));
+    assert_eq!(rt; all.next(), Some(5));
+    assert_eq!(rt; all.next(), Some(6));
+    assert_eq!(rt; all.next(), Some(7));
+    assert_eq!(rt; all.next(), Some(8));
+    assert_eq!(rt; all.next(), None);
+    let mut between_neighbours = months.range((Excluded(5), Excluded(6)));
+    assert_eq!(rt; between_neighbours.next(), None);
+    let mut past_the_greatest = months.range((Excluded(8), Unbounded));
+    assert_eq!(rt; past_the_greatest.next(), None);
+}
+
 fn check_ranges_of_months(rt: &(impl Abort + AllocGlobal), months: &Months) -> Result<(), Fail> {
     check_ahead(rt, months.range((Included(1), Included(6))), "5 6 ")?;
     check_ahead(rt, months.range((Unbounded, Unbounded)), "5 6 7 8 ")?;
@@ -97,6 +111,7 @@ fn check_ranges_of_months(rt: &(impl Abort + AllocGlobal), months: &Months) -> R
         months.range((Included(0), Included(4_294_967_295))),
         "5 6 7 8 ",
     )?;
+    check_months_one_by_one(rt, months);
     Ok(())
 }
 
@@ -111,7 +126,7 @@ fn check_two_days(rt: &(impl Abort + AllocGlobal), days: &DaysOfMonth) -> Result
     assert!(rt; !days.includes(7));
     assert_eq!(rt; days.count(), 2);
     assert!(rt; !days.is_all());
-    let listed = members(rt.alloc(), days.iter())?;
+    let listed = set_text(rt.alloc(), days)?;
     assert_eq!(rt; listed.as_str(), "1,15");
     check_ahead(rt, days.range((Included(5), Included(25))), "15 ")?;
     check_ahead(rt, days.range((Included(10), Included(20))), "15 ")?;
@@ -122,6 +137,29 @@ fn check_two_days(rt: &(impl Abort + AllocGlobal), days: &DaysOfMonth) -> Result
 fn two_days_of_a_month(rt: HostRuntime) -> Result<(), Fail> {
     let schedule = Schedule::from_str(rt.alloc(), "* * * 1,15 * * *")?;
     check_two_days(&rt, schedule.days_of_month())
+}
+
+// Ranges of years, by single calls to their ends.
+fn check_years_one_by_one(rt: &impl Abort, years: &Years) {
+    let mut ahead = years.range((Included(2017), Excluded(2022)));
+    assert_eq!(rt; ahead.next(), Some(2017));
+    assert_eq!(rt; ahead.next(), Some(2018));
+    assert_eq!(rt; ahead.next(), Some(2019));
+    assert_eq!(rt; ahead.next(), Some(2020));
+    assert_eq!(rt; ahead.next(), Some(2021));
+    assert_eq!(rt; ahead.next(), None);
+    let mut none = years.range((Excluded(2017), Included(2017)));
+    assert_eq!(rt; none.next(), None);
+}
+
+fn check_years_one_by_one_from_the_back(rt: &impl Abort, years: &Years) {
+    let mut back = years.range((Included(2017), Excluded(2022)));
+    assert_eq!(rt; back.next_back(), Some(2021));
+    assert_eq!(rt; back.next_back(), Some(2020));
+    assert_eq!(rt; back.next_back(), Some(2019));
+    assert_eq!(rt; back.next_back(), Some(2018));
+    assert_eq!(rt; back.next_back(), Some(2017));
+    assert_eq!(rt; back.next_back(), None);
 }
 
 fn check_ranges_of_years(rt: &(impl Abort + AllocGlobal), years: &Years) -> Result<(), Fail> {
@@ -139,6 +177,8 @@ fn check_ranges_of_years(rt: &(impl Abort + AllocGlobal), years: &Years) -> Resu
         "2021 2020 2019 2018 2017 ",
     )?;
     check_ahead(rt, years.range((Excluded(2017), Included(2017))), "")?;
+    check_years_one_by_one(rt, years);
+    check_years_one_by_one_from_the_back(rt, years);
     Ok(())
 }
 

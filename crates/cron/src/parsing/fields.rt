@@ -69,18 +69,9 @@ fn growth_by<'a, T: TimeUnitField>(
     }
     let symbol = symbol_of(token);
     match symbol_of(connector) {
-        Symbol::Comma => match lone_item::<T>(symbol) {
-            Some(next) => Some(Growth::Next(next)),
-            None => None,
-        },
-        Symbol::Dash => match with_end(item, symbol) {
-            Some(grown) => Some(Growth::Grown(grown)),
-            None => None,
-        },
-        Symbol::Slash => match with_step(item, symbol) {
-            Some(grown) => Some(Growth::Grown(grown)),
-            None => None,
-        },
+        Symbol::Comma => Some(Growth::Next(lone_item::<T>(symbol)?)),
+        Symbol::Dash => Some(Growth::Grown(with_end(item, symbol)?)),
+        Symbol::Slash => Some(Growth::Grown(with_step(item, symbol)?)),
         _ => None,
     }
 }

@@ -15,6 +15,7 @@ use super::fields::read_field;
 use super::tokens::{token_at, trimmed};
 use crate::fields::ScheduleFields;
 use cron_units::error::{Error, ErrorKind};
+use cron_units::specifier::told;
 use cron_units::time_unit::{TimeUnitField, Years, only, whole};
 use std::alloc::{AllocError, Global};
 
@@ -80,10 +81,7 @@ fn shorthand_fields(alloc: Global, shorthand: Shorthand) -> Result<ScheduleField
 fn syntax(alloc: Global) -> Error
     ensures { Tells (λ text. text ≡ syntax_text) result }
 {
-    match String::from_str(alloc, "Invalid cron expression.") {
-        Ok(text) => Error::from(ErrorKind::Expression(text)),
-        Err(_) => Error::from(ErrorKind::OutOfMemory),
-    }
+    told(alloc, "Invalid cron expression.")
 }
 
 /// Reads a field that must be there.

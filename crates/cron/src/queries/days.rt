@@ -2,8 +2,9 @@
 ghost use Rattle.std.specs.Prelude.{◌≡◌, ℕ, ◌+◌, ◌*◌, ◌/◌, ◌%◌, ◌<◌, ◌≤◌, pos, IfSome, option_map};
 ghost use Rattle.cron_units.specs.Units.{contains};
 ghost use Rattle.cron_units.specs.Nearest.{IsNearest};
+ghost use Rattle.cron.specs.Civil.{seconds_in_range};
 ghost use Rattle.cron.specs.CivilDates.{date_numbered};
-ghost use Rattle.cron.specs.Days.{place_of, IsInRange, capped};
+ghost use Rattle.cron.specs.Days.{day_place, IsInRange, capped};
 ghost use Rattle.cron.specs.Places.{beyond, length_of, matches_day, matches_month, matches_place, place_date};
 
 use crate::civil::civil_of;
@@ -21,8 +22,8 @@ pub(crate) struct Day {
 
 /// The day of a civil second. It is read, and neither made from the sets nor tested.
 pub(crate) fn day_with(second: u32) -> Day
-    requires { second < 4_133_980_800 }
-    ensures place { place_of result ≡ place_date (date_numbered (second / 86_400)).0 }
+    requires { second < seconds_in_range }
+    ensures place { day_place result ≡ place_date (date_numbered (second / 86_400)).0 }
     ensures bound { result.day < 100 }
 {
     let date = civil_of(second).date();
@@ -95,8 +96,8 @@ pub(crate) fn nearest_day(fields: &ScheduleFields, way: Way, from: Day) -> Optio
     requires { from.day < 100 }
     ensures nearest { IsNearest way
         (matches_place fields.now)
-        (pos (place_of from))
-        (option_map place_of result) }
+        (pos (day_place from))
+        (option_map day_place result) }
     ensures range { IfSome result IsInRange }
 {
     let mut next = nearest_month(fields, way, from.month);
@@ -113,7 +114,7 @@ pub(crate) fn nearest_day(fields: &ScheduleFields, way: Way, from: Day) -> Optio
 // The place past a day.
 fn place_past(way: Way, day: Day) -> Day
     requires { IsInRange day }
-    ensures place { pos (place_of result) ≡ beyond way (place_of day) }
+    ensures place { pos (day_place result) ≡ beyond way (day_place day) }
     ensures bound { result.day < 100 }
 {
     let Day { month, day } = day;
@@ -134,8 +135,8 @@ pub(crate) fn day_past(fields: &ScheduleFields, way: Way, day: Day) -> Option<Da
     requires { IsInRange day }
     ensures nearest { IsNearest way
         (matches_place fields.now)
-        (beyond way (place_of day))
-        (option_map place_of result) }
+        (beyond way (day_place day))
+        (option_map day_place result) }
     ensures range { IfSome result IsInRange }
 {
     nearest_day(fields, way, place_past(way, day))

@@ -3,17 +3,18 @@ ghost use Rattle.std.specs.Prelude.{◌≡◌, ℕ, ◌/◌, ◌<◌, ◌≤ℤ�
 ghost use Rattle.jiff.specs.Words.{plain_zone};
 ghost use Rattle.jiff_core.specs.Date.{epoch_day};
 ghost use Rattle.cron_units.specs.Nearest.{LiesFrom};
+ghost use Rattle.cron.specs.Civil.{days_in_range, seconds_in_range};
 ghost use Rattle.cron.specs.CivilDates.{date_numbered};
 ghost use Rattle.cron.specs.Counts.{conversions, days_of};
 ghost use Rattle.cron.specs.DaySearch.{candidate_day, FindsInDay, Finds, IsAskedIn, IsAsked, day_of, time_of};
 ghost use Rattle.cron.specs.Found.{second_of};
-ghost use Rattle.cron.specs.Days.{number_of, place_of, IsInRange};
+ghost use Rattle.cron.specs.Days.{number_of, day_place, IsInRange};
 ghost use Rattle.cron.specs.Found.{found_items};
 ghost use Rattle.cron.specs.Places.{matches_place, matches_second};
 ghost use Rattle.cron.specs.Search.{IsFound};
 ghost use Rattle.cron.specs.Sets.{matches_date, weekday_number};
 ghost use Rattle.cron.specs.Starts.{LiesOutside, Starts};
-ghost use Rattle.cron.specs.Tally.{IsCount, IsPassedTo};
+ghost use Rattle.cron.specs.Tally.{IsTally, IsPassedTo};
 
 use crate::fields::ScheduleFields;
 use crate::queries::days::{Day, day_past, day_with, nearest_day};
@@ -29,6 +30,17 @@ const SECONDS_PER_DAY: u32 = 86_400;
 // The civil seconds of the range.
 const SECONDS: i64 = 4_133_980_800;
 
+// Nothing is found.
+fn nothing(days: u32, conversions: u64) -> Search
+    ensures { result ≡ record { found = None; days = days; conversions = conversions } }
+{
+    Search {
+        found: None,
+        days,
+        conversions,
+    }
+}
+
 // A day whose date matches: its times of day are gone through from one on, until one has a
 // reading. No other function asks the zone.
 fn search_times(
@@ -38,7 +50,7 @@ fn search_times(
     day: u32,
     from: u32,
 ) -> Search
-    requires in_range { day < 47_847 }
+    requires in_range { day < days_in_range }
     requires matching { matches_date fields.now (date_numbered day).0 ≡ true }
     ensures found { FindsInDay way
         fields.now
@@ -47,7 +59,7 @@ fn search_times(
         from
         (option_map found_items result.found) }
     ensures days { result.days ≡ 0 }
-    ensures conversions { IsCount
+    ensures conversions { IsTally
         86_400
         (IsPassedTo way (matches_second fields.now) (pos from) (time_of result.found))
         result.conversions }
@@ -66,11 +78,7 @@ fn search_times(
         }
         next = time_past(fields, way, time);
     }
-    Search {
-        found: None,
-        days: 0,
-        conversions,
-    }
+    nothing(0, conversions)
 }
 
 // The day of the week, from 1 for Sunday.
@@ -98,7 +106,7 @@ fn search_day(
     day: Day,
 ) -> Search
     requires range { IsInRange day }
-    requires candidate { matches_place fields.now (place_of day) ≡ true }
+    requires candidate { matches_place fields.now (day_place day) ≡ true }
     requires lies { LiesFrom way (pos (start / 86_400)) (number_of day) }
     ensures found { Finds way
         fields.now
@@ -107,19 +115,15 @@ fn search_day(
         (number_of day)
         (option_map found_items result.found) }
     ensures days { result.days ≡ 1 }
-    ensures conversions { IsCount
-        4_133_980_800
+    ensures conversions { IsTally
+        seconds_in_range
         (IsAskedIn way fields.now (pos start) (number_of day) (second_of result.found))
         result.conversions }
 {
     let Day { month, day } = day;
     let date = Date::constrain((month / 12) as i16, (month % 12 + 1) as u8, day as u8);
     if !fields.includes_weekday(sunday_one(date)) {
-        return Search {
-            found: None,
-            days: 1,
-            conversions: 0,
-        };
+        return nothing(1, 0);
     }
     let number = day_number(date);
     let from = entry(
@@ -129,35 +133,27 @@ fn search_day(
         start % SECONDS_PER_DAY,
         number,
     );
-    let Search {
-        found,
-        conversions,
-        ..
-    } = search_times(fields, zone, way, number, from);
-    Search {
-        found,
-        days: 1,
-        conversions,
-    }
+    let tried = search_times(fields, zone, way, number, from);
+    Search { days: 1, ..tried }
 }
 
 // The candidates from the start's day on, until the times of one of them find an answer.
 fn search_days(fields: &ScheduleFields, zone: &TimeZone<'_>, way: Way, start: u32) -> Search
-    requires { start < 4_133_980_800 }
+    requires { start < seconds_in_range }
     ensures found { IsFound way
         fields.now
         (plain_zone zone.now)
         (pos start)
         (option_map found_items result.found) }
-    ensures days { IsCount
-        47_847
+    ensures days { IsTally
+        days_in_range
         (IsPassedTo way
         (candidate_day fields.now)
         (pos (start / 86_400))
         (day_of result.found))
         result.days }
-    ensures conversions { IsCount
-        4_133_980_800
+    ensures conversions { IsTally
+        seconds_in_range
         (IsAsked way fields.now (pos start) (second_of result.found))
         result.conversions }
 {
@@ -177,11 +173,7 @@ fn search_days(fields: &ScheduleFields, zone: &TimeZone<'_>, way: Way, start: u3
         }
         next = day_past(fields, way, day);
     }
-    Search {
-        found: None,
-        days,
-        conversions,
-    }
+    nothing(days, conversions)
 }
 
 // The civil second of the range that a search from a number starts at.
@@ -218,10 +210,6 @@ pub(crate) fn search(fields: &ScheduleFields, zone: &TimeZone<'_>, way: Way, fro
 {
     match start_of(way, from) {
         Some(start) => search_days(fields, zone, way, start),
-        None => Search {
-            found: None,
-            days: 0,
-            conversions: 0,
-        },
+        None => nothing(0, 0),
     }
 }

@@ -9,7 +9,8 @@ ghost use Rattle.serde_json.specs.Data.{string};
 ghost use Rattle.serde_json.specs.View.{view};
 
 use super::Schedule;
-use cron_units::error::{Error, ErrorKind};
+use cron_units::error::Error;
+use cron_units::specifier::told;
 use serde_json::Value;
 use std::alloc::Global;
 
@@ -17,10 +18,7 @@ use std::alloc::Global;
 fn invalid_type(alloc: Global) -> Error
     ensures { Tells (λ text. text ≡ codes "invalid type, expected a valid cron expression") result }
 {
-    match String::from_str(alloc, "invalid type, expected a valid cron expression") {
-        Ok(text) => Error::from(ErrorKind::Expression(text)),
-        Err(_) => Error::from(ErrorKind::OutOfMemory),
-    }
+    told(alloc, "invalid type, expected a valid cron expression")
 }
 
 impl Schedule {

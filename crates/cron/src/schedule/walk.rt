@@ -35,11 +35,10 @@ impl<'a> Model for ScheduleIterator<'a> {
 
 impl<'a> ScheduleIterator<'a> {
     ghost use Rattle.std.specs.Prelude.{◌≡◌};
-    ghost use Rattle.std.specs.Iterator.{YieldsFirst};
     ghost use Rattle.jiff.specs.Words.{plain_zone};
     ghost use Rattle.cron_units.specs.declared.way.Way.TheVariants.{Back};
-    ghost use Rattle.cron.specs.Cursor.{Start, Steps};
-    ghost use Rattle.cron.specs.Rest.{rest};
+    ghost use Rattle.cron.specs.Cursor.{Start};
+    ghost use Rattle.cron.specs.Rest.{Gives};
 
     pub(crate) fn new(
         fields: &'a ScheduleFields,
@@ -58,8 +57,7 @@ impl<'a> ScheduleIterator<'a> {
     }
 
     fn step(&mut self, way: Way) -> Option<Moment>
-        ensures steps { Steps way self.old result self.new }
-        ensures yields { YieldsFirst (rest way) self.old result self.new }
+        ensures { Gives way self.old result self.new }
     {
         self.state = step(self.fields, self.zone, way, self.state);
         self.state.answer()
@@ -67,7 +65,7 @@ impl<'a> ScheduleIterator<'a> {
 
     /// The item before the cursor, to which the cursor moves.
     pub fn next_back(&mut self) -> Option<Moment>
-        ensures { Steps Back self.old result self.new }
+        ensures { Gives Back self.old result self.new }
     {
         self.step(Way::Back)
     }
@@ -81,23 +79,18 @@ impl<'a> ScheduleIterator<'a> {
 }
 
 impl<'a> Iterator for ScheduleIterator<'a> {
-    ghost use Rattle.std.specs.Prelude.{⊤};
-    ghost use Rattle.std.specs.Iterator.{item_count, YieldsFirst, MakesProgress};
+    ghost use Rattle.std.specs.Iterator.{item_count};
     ghost use Rattle.cron_units.specs.declared.way.Way.TheVariants.{Ahead};
-    ghost use Rattle.cron.specs.Cursor.{Steps};
-    ghost use Rattle.cron.specs.Rest.{rest_ahead};
+    ghost use Rattle.cron.specs.Rest.{Gives, rest_ahead};
 
     type Item = Moment;
 
-    ghost next_gives = { YieldsFirst rest_ahead };
+    ghost next_gives = { Gives Ahead };
 
     ghost remaining = { item_count rest_ahead };
 
-    fn next(&mut self) -> Option<Moment>
-        ensures cursor { Steps Ahead self.old result self.new }
-        ensures steps { YieldsFirst rest_ahead self.old result self.new }
-        ensures goes { MakesProgress (λ _. ⊤) (item_count rest_ahead) self.old result self.new }
-    {
+    /// The item after the cursor, to which the cursor moves.
+    fn next(&mut self) -> Option<Moment> {
         self.step(Way::Ahead)
     }
 }
@@ -118,34 +111,29 @@ impl<'a> Model for RevScheduleIterator<'a> {
 
 impl<'a> RevScheduleIterator<'a> {
     ghost use Rattle.cron_units.specs.declared.way.Way.TheVariants.{Ahead};
-    ghost use Rattle.cron.specs.Cursor.{Steps};
+    ghost use Rattle.cron.specs.Rest.{Gives};
 
     /// The item after the cursor, to which the cursor moves.
     pub fn next_back(&mut self) -> Option<Moment>
-        ensures { Steps Ahead self.old result self.new }
+        ensures { Gives Ahead self.old result self.new }
     {
         self.walk.next()
     }
 }
 
 impl<'a> Iterator for RevScheduleIterator<'a> {
-    ghost use Rattle.std.specs.Prelude.{⊤};
-    ghost use Rattle.std.specs.Iterator.{item_count, YieldsFirst, MakesProgress};
+    ghost use Rattle.std.specs.Iterator.{item_count};
     ghost use Rattle.cron_units.specs.declared.way.Way.TheVariants.{Back};
-    ghost use Rattle.cron.specs.Cursor.{Steps};
-    ghost use Rattle.cron.specs.Rest.{rest_back};
+    ghost use Rattle.cron.specs.Rest.{Gives, rest_back};
 
     type Item = Moment;
 
-    ghost next_gives = { YieldsFirst rest_back };
+    ghost next_gives = { Gives Back };
 
     ghost remaining = { item_count rest_back };
 
-    fn next(&mut self) -> Option<Moment>
-        ensures cursor { Steps Back self.old result self.new }
-        ensures steps { YieldsFirst rest_back self.old result self.new }
-        ensures goes { MakesProgress (λ _. ⊤) (item_count rest_back) self.old result self.new }
-    {
-        self.walk.step(Way::Back)
+    /// The item before the cursor, to which the cursor moves.
+    fn next(&mut self) -> Option<Moment> {
+        self.walk.next_back()
     }
 }

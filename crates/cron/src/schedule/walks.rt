@@ -10,8 +10,10 @@ use jiff::tz::TimeZone;
 use std::alloc::AllocError;
 
 impl Schedule {
-    /// A walk whose cursor is at the start: its first `next` answers the first moment whose civil
-    /// second is later than the start's, and its first `next_back` the last one that is earlier.
+    /// A walk whose cursor is at the start. Its first `next` answers the first moment from the civil
+    /// second on that a clock in the zone shows one second after the start. Its first `next_back`
+    /// answers the last one up to the civil second that a clock shows at the start where it shows a
+    /// part of a second, and one second before the start where it shows none.
     pub fn after<'a>(&'a self, start: Timestamp, zone: &'a TimeZone<'a>) -> ScheduleIterator<'a>
         ensures sets { result.sets ≡ self.now.sets }
         ensures zone { result.zone ≡ plain_zone zone.now }

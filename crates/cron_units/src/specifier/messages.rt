@@ -57,3 +57,13 @@ pub fn refused<T: TimeUnitField>(alloc: Global, refusal: Refusal<'_>) -> Error
         Err(refused) => Error::from(refused),
     }
 }
+
+/// Makes the error that tells a text.
+pub fn told(alloc: Global, text: &str) -> Error
+    ensures { Tells (λ told. told ≡ text.now) result }
+{
+    match String::from_str(alloc, text) {
+        Ok(text) => Error::from(ErrorKind::Expression(text)),
+        Err(refused) => Error::from(refused),
+    }
+}

@@ -1,6 +1,6 @@
 //! What every unit has, written once for all of them.
 
-ghost use Rattle.std.specs.Prelude.{◌≡◌, ◌≤◌, ◌<◌, ◌+◌, ◌^◌, List, ℕ, pos, IfSome};
+ghost use Rattle.std.specs.Prelude.{◌≡◌, ◌≤◌, List, ℕ, pos, IfSome};
 ghost use Rattle.std.specs.Option.{option_map};
 ghost use Rattle.cron_units.specs.Nearest.{IsNearest};
 ghost use Rattle.cron_units.specs.Tables.{definition_view};
@@ -32,11 +32,8 @@ pub trait TimeUnitField: Drop {
         ensures members { result.now ≡ members self.now }
         ensures set { IsSet unit (members self.now) };
 
-    /// The bounds are in order, and the names' ordinals are within them.
+    /// The bounds are in order, the names' ordinals are within them, and the ordinals can be counted.
     ghost is_unit: { IsUnit unit };
-
-    /// The number of ordinals fits an ordinal.
-    ghost is_countable: { unit.greatest + 1 < 2 ^ 32 };
 
     /// What messages call the unit.
     final fn name() -> &'static str
@@ -85,7 +82,8 @@ pub trait TimeUnitField: Drop {
 
     /// Finds the member nearest to an ordinal, which may be that ordinal itself.
     final fn nearest(&self, way: Way, from: Ordinal) -> Option<Ordinal>
-        ensures { IsNearest way (contains (members self.now)) (pos from) result }
+        ensures nearest { IsNearest way (contains (members self.now)) (pos from) result }
+        ensures within { IfSome result (λ n. (unit.least ≤ n) × (n ≤ unit.greatest)) }
     {
         self.ordinals().nearest(way, from)
     }

@@ -25,15 +25,13 @@ impl Model for Seconds {
 
 impl TimeUnitField for Seconds {
     ghost use Rattle.cron_units.specs.Units.{seconds};
-    ghost use Rattle.cron_units.specs.Laws.{is_unit-seconds, is_countable-seconds};
+    ghost use Rattle.cron_units.specs.Laws.{is_unit-seconds};
 
     ghost unit = { seconds };
 
     ghost members = { λ ordinals. ordinals };
 
     ghost is_unit = { is_unit-seconds };
-
-    ghost is_countable = { is_countable-seconds };
 
     fn definition() -> Definition {
         Definition {
@@ -75,15 +73,13 @@ impl Model for Minutes {
 
 impl TimeUnitField for Minutes {
     ghost use Rattle.cron_units.specs.Units.{minutes};
-    ghost use Rattle.cron_units.specs.Laws.{is_unit-minutes, is_countable-minutes};
+    ghost use Rattle.cron_units.specs.Laws.{is_unit-minutes};
 
     ghost unit = { minutes };
 
     ghost members = { λ ordinals. ordinals };
 
     ghost is_unit = { is_unit-minutes };
-
-    ghost is_countable = { is_countable-minutes };
 
     fn definition() -> Definition {
         Definition {
@@ -125,15 +121,13 @@ impl Model for Hours {
 
 impl TimeUnitField for Hours {
     ghost use Rattle.cron_units.specs.Units.{hours};
-    ghost use Rattle.cron_units.specs.Laws.{is_unit-hours, is_countable-hours};
+    ghost use Rattle.cron_units.specs.Laws.{is_unit-hours};
 
     ghost unit = { hours };
 
     ghost members = { λ ordinals. ordinals };
 
     ghost is_unit = { is_unit-hours };
-
-    ghost is_countable = { is_countable-hours };
 
     fn definition() -> Definition {
         Definition {
@@ -175,15 +169,13 @@ impl Model for DaysOfMonth {
 
 impl TimeUnitField for DaysOfMonth {
     ghost use Rattle.cron_units.specs.Units.{days_of_month};
-    ghost use Rattle.cron_units.specs.Laws.{is_unit-days_of_month, is_countable-days_of_month};
+    ghost use Rattle.cron_units.specs.Laws.{is_unit-days_of_month};
 
     ghost unit = { days_of_month };
 
     ghost members = { λ ordinals. ordinals };
 
     ghost is_unit = { is_unit-days_of_month };
-
-    ghost is_countable = { is_countable-days_of_month };
 
     fn definition() -> Definition {
         Definition {
@@ -225,15 +217,13 @@ impl Model for Months {
 
 impl TimeUnitField for Months {
     ghost use Rattle.cron_units.specs.Units.{months};
-    ghost use Rattle.cron_units.specs.Laws.{is_unit-months, is_countable-months};
+    ghost use Rattle.cron_units.specs.Laws.{is_unit-months};
 
     ghost unit = { months };
 
     ghost members = { λ ordinals. ordinals };
 
     ghost is_unit = { is_unit-months };
-
-    ghost is_countable = { is_countable-months };
 
     fn definition() -> Definition {
         Definition {
@@ -278,15 +268,13 @@ impl Model for DaysOfWeek {
 
 impl TimeUnitField for DaysOfWeek {
     ghost use Rattle.cron_units.specs.Units.{days_of_week};
-    ghost use Rattle.cron_units.specs.Laws.{is_unit-days_of_week, is_countable-days_of_week};
+    ghost use Rattle.cron_units.specs.Laws.{is_unit-days_of_week};
 
     ghost unit = { days_of_week };
 
     ghost members = { λ ordinals. ordinals };
 
     ghost is_unit = { is_unit-days_of_week };
-
-    ghost is_countable = { is_countable-days_of_week };
 
     fn definition() -> Definition {
         Definition {
@@ -331,15 +319,13 @@ impl Model for Years {
 
 impl TimeUnitField for Years {
     ghost use Rattle.cron_units.specs.Units.{years};
-    ghost use Rattle.cron_units.specs.Laws.{is_unit-years, is_countable-years};
+    ghost use Rattle.cron_units.specs.Laws.{is_unit-years};
 
     ghost unit = { years };
 
     ghost members = { λ ordinals. ordinals };
 
     ghost is_unit = { is_unit-years };
-
-    ghost is_countable = { is_countable-years };
 
     fn definition() -> Definition {
         Definition {

@@ -1,6 +1,6 @@
 //! What users see of a unit's set.
 
-ghost use Rattle.std.specs.Prelude.{◌≡◌, ◌↔◌, List, ℕ, IsTrue, filter, length};
+ghost use Rattle.std.specs.Prelude.{◌≡◌, ◌<◌, ◌^◌, ◌↔◌, List, ℕ, IsTrue, filter, length};
 ghost use Rattle.cron_units.specs.Bounds.{IsForward, is_within};
 ghost use Rattle.cron_units.specs.Units.{TimeUnit, contains, whole};
 
@@ -21,12 +21,14 @@ pub trait TimeUnitSpec {
 
     /// Goes over the members, in ascending order.
     fn iter(&self) -> OrdinalIter<'_>
-        ensures { result ≡ ordinals self.now };
+        ensures members { result ≡ ordinals self.now }
+        ensures countable { length result < 2 ^ 32 };
 
     /// Goes over the members between two bounds, in ascending order.
     fn range(&self, range: (Bound<Ordinal>, Bound<Ordinal>)) -> OrdinalRangeIter<'_>
         requires { IsForward range.0 range.1 }
-        ensures { result ≡ filter (is_within range.0 range.1) (ordinals self.now) };
+        ensures members { result ≡ filter (is_within range.0 range.1) (ordinals self.now) }
+        ensures countable { length result < 2 ^ 32 };
 
     /// Counts the members.
     fn count(&self) -> u32

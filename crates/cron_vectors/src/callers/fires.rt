@@ -1,18 +1,16 @@
 //! Fire times of a schedule.
 
 ghost use Rattle.std.specs.Prelude.{◌≡◌, IfOk, IsTrue, filter, length, take};
-ghost use Rattle.std.specs.Iterator.{YieldsFirst};
 ghost use Rattle.std.specs.List.{take_while};
 ghost use Rattle.jiff.specs.Words.{plain_zone};
 ghost use Rattle.cron_units.specs.declared.way.Way.TheVariants.{Ahead};
 ghost use Rattle.cron.specs.Cursor.{Start, step_on};
-ghost use Rattle.cron.specs.Rest.{rest_ahead};
 ghost use Rattle.cron.specs.Timeline.{timeline};
 ghost use Rattle.cron_vectors.specs.Fires.{IsTooLate, fires_after, fires_before, is_through};
 ghost use Rattle.cron_vectors.specs.Fires as spec;
 
 use cron::schedule::Moment;
-use cron::{Schedule, ScheduleIterator, laws};
+use cron::{Schedule, laws};
 use jiff::Timestamp;
 use jiff::civil::Date;
 use jiff::tz::TimeZone;
@@ -60,13 +58,6 @@ pub fn count_fires(schedule: &Schedule, start: Timestamp, zone: &TimeZone<'_>, m
     schedule.after(start, zone).take(most).count()
 }
 
-// One more item of a walk, said by what is left of it.
-fn advance(walk: &mut ScheduleIterator<'_>) -> Option<Moment>
-    ensures { YieldsFirst rest_ahead walk.old result walk.new }
-{
-    walk.next()
-}
-
 /// The fire times of a date, whose midnight comes one second after its eve: those after the eve, as
 /// long as they aren't past the date.
 pub fn fires_of_day(
@@ -81,8 +72,7 @@ pub fn fires_of_day(
 {
     let mut fires = Vec::new(alloc);
     let last = date.to_plain().to_unix_epoch_day();
-    let mut walk = schedule.after(eve, zone);
-    while let Some(fire) = advance(&mut walk) {
+    for fire in schedule.after(eve, zone) {
         if fire.datetime().date().to_plain().to_unix_epoch_day() > last {
             break;
         }
@@ -122,8 +112,7 @@ pub fn missed_runs(
 {
     laws::ascending_seconds();
     let mut missed = Vec::new(alloc);
-    let mut walk = schedule.after(last, zone);
-    while let Some(fire) = advance(&mut walk) {
+    for fire in schedule.after(last, zone) {
         if is_too_late(&fire, now) {
             break;
         }

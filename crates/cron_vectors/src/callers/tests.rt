@@ -1,8 +1,9 @@
 //! Each caller once.
 
 use super::{
-    count_fires, descending_hours, fault_of, fires_of_day, first_fires, greatest_month, last_fires,
-    minutes_between, missed_runs, next_fire, some_warm_month, summer_months, year_count,
+    count_fires, count_hours, descending_hours, fault_of, fires_of_day, first_fires,
+    greatest_month, last_fires, minutes_between, missed_runs, next_fire, some_warm_month,
+    summer_months, year_count,
 };
 use cron::Schedule;
 use jiff::Timestamp;
@@ -110,6 +111,7 @@ fn hours_descend(rt: HostRuntime) -> Result<(), Fail> {
     let schedule = Schedule::from_str(rt.alloc(), "0 0 9-17/4 * * *")?;
     let hours = descending_hours(rt.alloc(), &schedule)?;
     assert_eq!(rt; hours.as_slice(), [17, 13, 9].as_slice());
+    assert_eq!(rt; count_hours(&schedule, 9, 16), 2);
     Ok(())
 }
 

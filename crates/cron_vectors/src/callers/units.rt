@@ -19,6 +19,17 @@ pub fn year_count(schedule: &Schedule) -> usize
     counted
 }
 
+/// How many hours there are between two, both included.
+pub fn count_hours(schedule: &Schedule, first: Ordinal, last: Ordinal) -> usize
+    requires { first ≤ last }
+    ensures { result ≡ length (filter (is_within (Included first) (Included last)) schedule.now.sets.hours) }
+{
+    schedule
+        .hours()
+        .range((Bound::Included(first), Bound::Included(last)))
+        .count()
+}
+
 /// The hours, the greatest first.
 pub fn descending_hours(alloc: Global, schedule: &Schedule) -> Result<Vec<Ordinal>, AllocError>
     ensures { IfOk result (λ hours. hours.items ≡ reverse schedule.now.sets.hours) }

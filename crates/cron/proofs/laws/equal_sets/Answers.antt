@@ -1,4 +1,4 @@
-use Rattle.std.proofs.Common.{◌≡◌, List, ℕ, sym, subst}
+use Rattle.std.proofs.Common.{List, ℕ, sym, subst}
 use Rattle.cron.specs.Meaning.{Means}
 use Rattle.cron.proofs.MeaningLemmas.{means_once}
 use Rattle.cron.proofs.laws.equal_sets.Goals as goal

@@ -1,4 +1,4 @@
-use Rattle.std.proofs.Common.{◌≡◌, ap, ◌∙◌}
+use Rattle.std.proofs.Common.{ap, ◌∙◌}
 use Rattle.std.specs.Prelude.{map}
 use Rattle.cron.specs.Cursor.{Walk}
 use Rattle.cron.specs.Turns.{way_of, run_from}

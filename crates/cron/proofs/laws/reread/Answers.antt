@@ -1,4 +1,4 @@
-use Rattle.std.proofs.Common.{◌≡◌, ℕ, List, Result, Ok, Err, refl, sym, ◌∙◌, subst}
+use Rattle.std.proofs.Common.{◌≡◌, ℕ, List, Result, Ok, Err, refl}
 use Rattle.std.specs.Result.{IfOk, IfErr}
 use Rattle.cron_units.specs.Texts.{TellsKind, Tells, IsMemoryKind, IsMemory}
 use Rattle.cron_units.specs.declared.error.Error.{Error}

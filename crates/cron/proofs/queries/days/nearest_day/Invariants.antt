@@ -1,12 +1,12 @@
 use Rattle.std.proofs.Common.{◌<◌, ◌≤◌, pos, IfSome}
 use Rattle.cron.specs.Blocks.{ReachesIfAny, left_to_reach}
-use Rattle.cron.specs.Days.{place_of}
+use Rattle.cron.specs.Days.{day_place}
 use Rattle.cron.specs.Places.{matches_month, matches_place}
 use Rattle.cron.proofs.queries.days.nearest_day.Given as goal
 
 abbrev pub invariant-loop-next : goal.invariant-loop-next
 invariant-loop-next l = record {
-  reached : ReachesIfAny l.way 100 (matches_month l.fields) (matches_place l.fields) (pos (place_of l.from)) (pos l.from.month) l.next;
+  reached : ReachesIfAny l.way 100 (matches_month l.fields) (matches_place l.fields) (pos (day_place l.from)) (pos l.from.month) l.next;
   bound : IfSome l.next (λ n. (23_640 ≤ n) × (n < 25_212));
 }
 

@@ -22,10 +22,10 @@ pub returns-in-None-clause-days : goal.returns-in-None-clause-days
 returns-in-None-clause-days c =
     let fits : FitsSigned w64 c.args.from = search rules in
     let P : ℤ → Type 0 = LiesOutside c.args.way in
-    outside_days _ c.args.fields.now _ (subst P (to_z-of_z fits) c.in-None.ensures)
+    rw c.nothing.ensures (outside_days _ c.args.fields.now _ (subst P (to_z-of_z fits) c.in-None.ensures))
 
 pub returns-in-None-clause-conversions : goal.returns-in-None-clause-conversions
 returns-in-None-clause-conversions c =
     let fits : FitsSigned w64 c.args.from = search rules in
     let P : ℤ → Type 0 = LiesOutside c.args.way in
-    outside_conversions _ _ _ _ (subst P (to_z-of_z fits) c.in-None.ensures)
+    rw c.nothing.ensures (outside_conversions _ _ _ _ (subst P (to_z-of_z fits) c.in-None.ensures))

@@ -2,14 +2,14 @@ use Rattle.std.proofs.Common.{◌<◌, pos, IfSome}
 use Rattle.jiff.specs.Words.{plain_zone}
 use Rattle.cron.specs.Blocks.{ReachesIfAny, left_to_reach}
 use Rattle.cron.specs.Places.{matches_second, stands_at}
-use Rattle.cron.specs.Tally.{IsCount, IsPassedBefore}
+use Rattle.cron.specs.Tally.{IsTally, IsPassedBefore}
 use Rattle.cron.proofs.queries.search.search_times.Given as goal
 
 abbrev pub invariant-loop-next : goal.invariant-loop-next
 invariant-loop-next l = record {
   reached : ReachesIfAny l.way 1 (matches_second l.fields) (stands_at l.fields (plain_zone l.zone) l.day) (pos l.from) (pos l.from) l.next;
   bound : IfSome l.next (λ n. n < 86_400);
-  conversions : IsCount 86_400 (IsPassedBefore l.way (matches_second l.fields) (pos l.from) l.next) l.conversions;
+  conversions : IsTally 86_400 (IsPassedBefore l.way (matches_second l.fields) (pos l.from) l.next) l.conversions;
 }
 
 abbrev pub decreases-loop-next : goal.decreases-loop-next

@@ -1,7 +1,9 @@
 use Rattle.std.proofs.Common.{◌∙◌, ap}
 use Rattle.std.proofs.lemmas.Iterator.{YieldsList-from_take}
-use Rattle.std.proofs.lemmas.Iterator.Consumers.{YieldsList-from_first, count_from_yields_List}
+use Rattle.std.proofs.lemmas.Iterator.Consumers.{count_from_yields_List}
+use Rattle.cron_units.specs.declared.way.Way.TheVariants.{Ahead}
 use Rattle.cron.specs.Rest.{rest_ahead}
+use Rattle.cron.proofs.RestLemmas.{YieldsList-from_walk}
 use Rattle.cron_vectors.proofs.Fires.{fires_after-walk}
 use Rattle.cron_vectors.proofs.callers.fires.count_fires.Goals as goal
 
@@ -9,4 +11,4 @@ pub returns : goal.returns
 returns c =
     let start = fires_after-walk c.after.result _ _ _ c.after.ensures.sets c.after.ensures.zone c.after.ensures.cursor in
     count_from_yields_List c.take.result c.count.result c.count.ensures.ran
-    (YieldsList-from_take c.args.most (YieldsList-from_first (λ x. x) rest_ahead _ (ap rest_ahead c.take.ensures.source ∙ start)) c.take.ensures.count)
+    (YieldsList-from_take c.args.most (YieldsList-from_walk Ahead _ (ap rest_ahead c.take.ensures.source ∙ start)) c.take.ensures.count)

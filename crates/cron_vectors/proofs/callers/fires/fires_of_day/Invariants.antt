@@ -1,4 +1,4 @@
-use Rattle.std.proofs.Common.{◌≡◌, ◌++◌, length}
+use Rattle.std.proofs.Common.{◌≡◌, ◌++◌}
 use Rattle.std.specs.List.{take_while}
 use Rattle.jiff.specs.Words.{plain_zone}
 use Rattle.cron.specs.Rest.{rest_ahead}
@@ -7,7 +7,4 @@ use Rattle.cron_vectors.proofs.callers.fires.fires_of_day.Given as goal
 
 abbrev pub invariant-loop-fire : goal.invariant-loop-fire
 invariant-loop-fire l =
-    take_while (is_through l.fn.date) (fires_after l.fn.schedule.sets (plain_zone l.fn.zone) l.fn.eve.nanosecond) ≡ l.fires.items ++ take_while (is_through l.fn.date) (rest_ahead l.walk)
-
-abbrev pub decreases-loop-fire : goal.decreases-loop-fire
-decreases-loop-fire l = length (rest_ahead l.walk)
+    take_while (is_through l.fn.date) (fires_after l.fn.schedule.sets (plain_zone l.fn.zone) l.fn.eve.nanosecond) ≡ l.fires.items ++ take_while (is_through l.fn.date) (rest_ahead l.fire-iterator)

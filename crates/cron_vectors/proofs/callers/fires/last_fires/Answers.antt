@@ -1,7 +1,8 @@
 use Rattle.std.proofs.Common.{◌∙◌, ap}
 use Rattle.std.proofs.lemmas.Iterator.{YieldsList-from_take, items_from_collect}
-use Rattle.std.proofs.lemmas.Iterator.Consumers.{YieldsList-from_first}
+use Rattle.cron_units.specs.declared.way.Way.TheVariants.{Back}
 use Rattle.cron.specs.Rest.{rest_back}
+use Rattle.cron.proofs.RestLemmas.{YieldsList-from_walk}
 use Rattle.cron_vectors.proofs.Fires.{fires_before-walk}
 use Rattle.cron_vectors.proofs.callers.fires.last_fires.Goals as goal
 
@@ -9,4 +10,4 @@ pub returns : goal.returns
 returns c =
     let start = fires_before-walk c.after.result _ _ _ c.after.ensures.sets c.after.ensures.zone c.after.ensures.cursor in
     items_from_collect c.collect.result c.collect.ensures.ran
-    (YieldsList-from_take c.args.count (YieldsList-from_first (λ x. x) rest_back _ (ap rest_back (c.take.ensures.source ∙ c.rev.ensures) ∙ start)) c.take.ensures.count)
+    (YieldsList-from_take c.args.count (YieldsList-from_walk Back _ (ap rest_back (c.take.ensures.source ∙ c.rev.ensures) ∙ start)) c.take.ensures.count)

@@ -1,4 +1,4 @@
-use Rattle.std.proofs.Common.{◌≡◌, ◌++◌, filter, length}
+use Rattle.std.proofs.Common.{◌≡◌, ◌++◌, filter}
 use Rattle.jiff.specs.Words.{plain_zone}
 use Rattle.cron.specs.Rest.{rest_ahead}
 use Rattle.cron_vectors.specs.Fires.{fires_after, is_due}
@@ -7,9 +7,6 @@ use Rattle.cron_vectors.proofs.callers.fires.missed_runs.Given as goal
 
 abbrev pub invariant-loop-fire : goal.invariant-loop-fire
 invariant-loop-fire l = record {
-  found : filter (is_due l.fn.now.nanosecond) (fires_after l.fn.schedule.sets (plain_zone l.fn.zone) l.fn.last.nanosecond) ≡ l.missed.items ++ filter (is_due l.fn.now.nanosecond) (rest_ahead l.walk);
-  ascending : IsAscending (rest_ahead l.walk);
+  found : filter (is_due l.fn.now.nanosecond) (fires_after l.fn.schedule.sets (plain_zone l.fn.zone) l.fn.last.nanosecond) ≡ l.missed.items ++ filter (is_due l.fn.now.nanosecond) (rest_ahead l.fire-iterator);
+  ascending : IsAscending (rest_ahead l.fire-iterator);
 }
-
-abbrev pub decreases-loop-fire : goal.decreases-loop-fire
-decreases-loop-fire l = length (rest_ahead l.walk)

@@ -1,7 +1,7 @@
 use Rattle.jiff.specs.Words.{plain_zone}
-use Rattle.cron.proofs.RestLemmas.{yields}
+use Rattle.cron.proofs.RestLemmas.{gives}
 use Rattle.cron.proofs.schedule.owned.OwnedScheduleIterator.step.Goals as goal
 
-pub returns-clause-yields : goal.returns-clause-yields
-returns-clause-yields c =
-    yields c.args.way c.self.inside.fields (plain_zone c.self.inside.zone) c.self.inside.state c.step-self-inside.result c.args.self.now c.answer.result c.self.invariant c.self.view_is c.step-self-inside.ensures c.answer.ensures
+pub returns : goal.returns
+returns c =
+    gives c.args.way c.self.inside.fields (plain_zone c.self.inside.zone) c.self.inside.state c.step-self-inside.result c.args.self.now c.answer.result c.self.invariant c.self.view_is c.step-self-inside.ensures c.answer.ensures

@@ -6,4 +6,4 @@ pub overflow_cast-result : goal.overflow_cast-result
 overflow_cast-result g c =
     let u = g.T.TimeUnitField.unit in
     let xs = g.T.TimeUnitField.members c.args.self.now in
-    omega (arith, length_set u xs c.ordinals.ensures.set, ap (λ (ys : List ℕ). length ys) c.ordinals.ensures.members, g.met.T.TimeUnitField.is_countable)
+    omega (arith, length_set u xs c.ordinals.ensures.set, ap (λ (ys : List ℕ). length ys) c.ordinals.ensures.members, g.met.T.TimeUnitField.is_unit.countable)

@@ -1,11 +1,11 @@
--- The members of a set of a unit lie between its bounds.
+-- The members of a set of a unit are ordinals of the unit, and so is the nearest of them.
 use Rattle.std.proofs.Common.{◌≡◌, ℕ, ◌+◌, ◌-◌, ◌<◌, ◌≤◌, ℤ, Bool, true, false, cond, List, ◌∷◌, ◌⊎◌, inl, inr, sym, ap, ◌∙◌, arith, zero, suc, Option, Some, None, IfSome}
 use Rattle.std.specs.Prelude.{filter, nat_eq}
 use Rattle.std.specs.List.{range_with_len}
 use Rattle.std.proofs.lemmas.Bool.{or_cases, eqb-true}
 use Rattle.cron_units.specs.declared.way.Way.{Way}
 use Rattle.cron_units.specs.Nearest.{IsNearest}
-use Rattle.cron_units.specs.Units.{TimeUnit, whole, contains, set_of, IsSet}
+use Rattle.cron_units.specs.Units.{TimeUnit, IsUnit, whole, contains, set_of, IsSet}
 
 member_cons : (b : Bool) (a x : ℕ) (xs : List ℕ) → contains (cond b (a ∷ xs) xs) x ≡ true → (x ≡ a) ⊎ (contains xs x ≡ true)
 member_cons true a x xs h =
@@ -20,14 +20,13 @@ member_in_range p a (suc n) x h =
       | inr e ↦ let more = member_in_range p (a + 1) n x e in (omega (arith, more.0), omega (arith, more.1))
     ]
 
-pub member_bounds : (u : TimeUnit) (xs : List ℕ) (x : ℕ) → u.least ≤ u.greatest → IsSet u xs → contains xs x ≡ true → (u.least ≤ x) × (x ≤ u.greatest)
+member_bounds : (u : TimeUnit) (xs : List ℕ) (x : ℕ) → u.least ≤ u.greatest → IsSet u xs → contains xs x ≡ true → (u.least ≤ x) × (x ≤ u.greatest)
 unfolding whole
 member_bounds u xs x ordered set h =
     let e : contains xs x ≡ contains (set_of u (contains xs)) x = ap (λ ys. contains ys x) set in
     let both = member_in_range (contains xs) u.least (u.greatest + 1 - u.least) x (sym e ∙ h) in
     (both.0, omega (arith, both.1))
 
-pub nearest_bound : (u : TimeUnit) (P : ℕ → Type 0) (xs : List ℕ) (way : Way) (from : ℤ) (found : Option ℕ) → u.least ≤ u.greatest → IsSet u xs → ((n : ℕ) → u.least ≤ n → n ≤ u.greatest → P n) → IsNearest way (contains xs) from found → IfSome found P
-nearest_bound u P xs way from None ordered set fits h = tt
-nearest_bound u P xs way from (Some n) ordered set fits h =
-    let both = member_bounds u xs n ordered set h.passes in fits n both.0 both.1
+pub nearest_within : (u : TimeUnit) (xs : List ℕ) (way : Way) (from : ℤ) (found : Option ℕ) → IsUnit u → IsSet u xs → IsNearest way (contains xs) from found → IfSome found (λ n. (u.least ≤ n) × (n ≤ u.greatest))
+nearest_within u xs way from None unit set h = tt
+nearest_within u xs way from (Some n) unit set h = member_bounds u xs n unit.ordered set h.passes

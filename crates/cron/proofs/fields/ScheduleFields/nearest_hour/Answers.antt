@@ -1,8 +1,0 @@
-use Rattle.std.proofs.Common.{arith}
-use Rattle.cron_units.specs.Units as units
-use Rattle.cron.proofs.FieldLemmas.{nearest_bound}
-use Rattle.cron.proofs.fields.ScheduleFields.nearest_hour.Goals as goal
-
-pub returns-clause-bound : goal.returns-clause-bound
-returns-clause-bound c =
-    nearest_bound units.hours _ _ _ _ _ (omega arith) c.ordinals.ensures.set (λ n low high. omega arith) (rw c.ordinals.ensures.members at c.nearest.ensures)
