@@ -4,8 +4,8 @@ use Rattle.jiff_core.specs.Calendar.{days_from_civil, day_count, days_of_years, 
 use Rattle.std.specs.Fmt.{digits}
 use Rattle.cron_units.specs.Units.{whole}
 use Rattle.cron.specs.Examples.{TextsAreCut, ItemsDenote, ItemsAreRefused, CursorsStep, DaysAreNumbered}
-use Rattle.cron.specs.Tokens.{tokens, symbol_of}
-use Rattle.cron.proofs.CivilLemmas.{civil_seconds-civil}
+use Rattle.cron_text.specs.Tokens.{tokens, symbol_of}
+use Rattle.cron_time.proofs.CivilLemmas.{civil_seconds-civil}
 
 pub texts_are_cut : TextsAreCut
 unfolding tokens symbol_of

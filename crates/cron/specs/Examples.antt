@@ -6,11 +6,11 @@ use Rattle.jiff_tz.specs.declared.timezone.TimeZone.{TimeZone}
 use Rattle.cron_units.specs.declared.way.Way.TheVariants.{Ahead, Back}
 use Rattle.cron_units.specs.Units as units
 use Rattle.cron_units.specs.Denotation.{Refusal, Denotes, refusal_of, message}
-use Rattle.cron.specs.Civil.{civil, seconds_in_range}
-use Rattle.cron.specs.Cursor.{Place, Ended, step_on}
-use Rattle.cron.specs.Fields.{every, single, number_range, name_range, Item, plain, stepped, name, IsField, spacing_fits_all}
-use Rattle.cron.specs.Readings.{Reading}
-use Rattle.cron.specs.Tokens.{Token, tokens}
+use Rattle.cron_time.specs.Civil.{civil, seconds_in_range}
+use Rattle.cron_time.specs.Cursor.{Place, Ended, step_on}
+use Rattle.cron_text.specs.Fields.{every, single, number_range, name_range, Item, plain, stepped, name, IsField, spacing_fits_all}
+use Rattle.cron_time.specs.Readings.{Reading}
+use Rattle.cron_text.specs.Tokens.{Token, tokens}
 
 abbrev pub token : List ℕ → Token
 token text = record { spaced = false; text = text }

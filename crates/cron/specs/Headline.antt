@@ -1,11 +1,11 @@
 -- The whole promise in one place.
 use Rattle.std.specs.Prelude.{◌≡◌, ℕ, ℤ, List, Option, map}
 use Rattle.jiff_tz.specs.declared.timezone.TimeZone.{TimeZone}
-use Rattle.cron.specs.Cursor.{Start, run_on}
-use Rattle.cron.specs.Meaning.{Means}
-use Rattle.cron.specs.Readings.{Reading}
-use Rattle.cron.specs.Sets.{Sets}
-use Rattle.cron.specs.Timeline.{timeline}
+use Rattle.cron_time.specs.Cursor.{Start, run_on}
+use Rattle.cron_text.specs.Meaning.{Means}
+use Rattle.cron_time.specs.Readings.{Reading}
+use Rattle.cron_units.specs.Sets.{Sets}
+use Rattle.cron_time.specs.Timeline.{timeline}
 use Rattle.cron.specs.Turns.{way_of}
 use Rattle.cron.specs.declared.schedule.play.Turn.{Turn}
 

@@ -1,6 +1,6 @@
 -- Schedules as JSON values.
 use Rattle.std.specs.Prelude.{◌≡◌, ℕ, List, codes}
-use Rattle.cron.specs.Fault.{IsRefusal}
+use Rattle.cron_text.specs.Fault.{IsRefusal}
 use Rattle.serde_json.specs.Data.{Data, string}
 
 -- what is told of a value that isn't read: the fault of a string's text, or that it is no string

@@ -1,15 +1,16 @@
 //! The headline, and laws over the definitions. No program calls these functions.
 
 ghost use Rattle.std.specs.Prelude.{◌≡◌, IfOk, IfErr};
-ghost use Rattle.jiff.specs.Words.{plain_zone};
+ghost use Rattle.jiff.specs.Words.{plain_zone, IsFixed};
 ghost use Rattle.cron_units.specs.Texts.{Tells, IsMemory};
 ghost use Rattle.cron.specs.Examples.{TextsAreCut, ItemsDenote, ItemsAreRefused, CursorsStep, DaysAreNumbered};
-ghost use Rattle.cron.specs.Fault.{IsRefusal};
+ghost use Rattle.cron_text.specs.Fault.{IsRefusal};
 ghost use Rattle.cron.specs.Headline.{IsWalked};
-ghost use Rattle.cron.specs.TextLaws.{MeansOnce, MeansSets, LongestFrontsAgree, HasOneFault};
-ghost use Rattle.cron.specs.Times.{TimesOfDayMatch};
-ghost use Rattle.cron.specs.FixedLaws as fixed;
-ghost use Rattle.cron.specs.WalkLaws as law;
+ghost use Rattle.cron.specs.Instants.{IsLeastIfAny, IsLaterIfAny};
+ghost use Rattle.cron_text.specs.TextLaws.{MeansOnce, MeansSets, LongestFrontsAgree, HasOneFault};
+ghost use Rattle.cron_time.specs.Times.{TimesOfDayMatch};
+ghost use Rattle.cron_time.specs.FixedLaws as fixed;
+ghost use Rattle.cron_time.specs.WalkLaws as law;
 
 use crate::schedule::{Moment, Schedule, Turn};
 use cron_units::error::Error;
@@ -50,6 +51,23 @@ pub fn equal_sets(one: &Schedule, other: &Schedule)
 {
     let _one = one.source();
     let _other = other.source();
+}
+
+/// In a zone with one offset a walk from a start answers the least instant after the start that shows
+/// a match, and then a later one; `None` exactly where there is none.
+pub fn first_instants(
+    schedule: &Schedule,
+    start: Timestamp,
+    zone: &TimeZone<'_>,
+) -> (Option<Moment>, Option<Moment>)
+    requires { IsFixed (plain_zone zone.now) }
+    ensures first { IsLeastIfAny schedule.now.sets (fixed.offset_of (plain_zone zone.now)) start.nanosecond result.0 }
+    ensures later { IsLaterIfAny result.0 result.1 }
+{
+    let mut fires = schedule.after(start, zone);
+    let first = fires.next();
+    let second = fires.next();
+    (first, second)
 }
 
 /// The tokens of written texts, and the fields that they are.

@@ -3,8 +3,6 @@
 
 pub use cron_units::error;
 
-mod civil;
-mod fields;
 pub mod laws;
 mod parsing;
 pub mod queries;

@@ -3,21 +3,15 @@
 ghost use Rattle.std.specs.Prelude.{◌≡◌, IfOk, IfErr};
 ghost use Rattle.std.specs.Cow.{cow_str_bytes};
 ghost use Rattle.std.specs.String.{string_bytes};
-ghost use Rattle.cron.specs.Meaning.{Means};
+ghost use Rattle.cron_text.specs.Meaning.{Means};
 ghost use Rattle.cron_units.specs.Texts.{Tells};
-ghost use Rattle.cron.specs.Fault.{IsRefusal};
-
-mod fields;
-mod items;
-mod symbols;
-mod texts;
-mod tokens;
+ghost use Rattle.cron_text.specs.Fault.{IsRefusal};
 
 use crate::schedule::Schedule;
+use cron_text::read_text;
 use cron_units::error::Error;
 use std::alloc::Global;
 use std::borrow::CowStr;
-use texts::read_text;
 
 /// Each reader answers a schedule exactly where the text is in the grammar, want of memory aside. A
 /// refusal tells the first refused field's message or `Invalid cron expression.`; or, where a growth

@@ -3,10 +3,10 @@ use Rattle.std.proofs.Common.{◌≡◌, ℕ, zero, suc, ◌+◌, Bool, Option, 
 use Rattle.jiff_tz.specs.declared.timezone.TimeZone.{TimeZone}
 use Rattle.cron_units.specs.declared.way.Way.{Way}
 use Rattle.cron_units.specs.declared.way.Way.TheVariants.{Ahead, Back}
-use Rattle.cron.specs.Bounds.{bound_ahead, bound_back}
-use Rattle.cron.specs.Cursor.{Cursor, Start, Place, Ended, Step, Walk, Steps, step, step_on, go_to, item_at, first_from, last_to, place_before}
-use Rattle.cron.specs.Readings.{Reading}
-use Rattle.cron.specs.Timeline.{timeline}
+use Rattle.cron_time.specs.Bounds.{bound_ahead, bound_back}
+use Rattle.cron_time.specs.Cursor.{Cursor, Start, Place, Ended, Step, Walk, Steps, step, step_on, go_to, item_at, first_from, last_to, place_before}
+use Rattle.cron_time.specs.Readings.{Reading}
+use Rattle.cron_time.specs.Timeline.{timeline}
 use Rattle.cron_next.specs.Output.{direction, answer_line, lines_of}
 
 pub lines_none : (back : Bool) (w : Walk) → lines_of back w 0 ≡ []

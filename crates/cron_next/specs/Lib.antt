@@ -1,3 +1,4 @@
 pub mod Watching
 pub mod Output
 pub mod Words
+pub mod Answers

@@ -5,13 +5,13 @@ use Rattle.std.specs.List.{flat_map}
 use Rattle.jiff_tz.specs.declared.timezone.TimeZone.{TimeZone}
 use Rattle.cron_units.specs.declared.way.Way.{Way}
 use Rattle.cron_units.specs.declared.way.Way.TheVariants.{Ahead, Back}
-use Rattle.cron.specs.Cursor.{Start, Walk, run_on}
-use Rattle.cron.specs.Meaning.{Means}
-use Rattle.cron.specs.MomentText.{moment_text}
-use Rattle.cron.specs.Readings.{Reading}
-use Rattle.cron.specs.Sets.{Sets}
-use Rattle.cron.specs.Fault.{IsRefusal}
-use Rattle.cron.specs.Timeline.{timeline}
+use Rattle.cron_time.specs.Cursor.{Start, Walk, run_on}
+use Rattle.cron_text.specs.Meaning.{Means}
+use Rattle.cron_time.specs.MomentText.{moment_text}
+use Rattle.cron_time.specs.Readings.{Reading}
+use Rattle.cron_units.specs.Sets.{Sets}
+use Rattle.cron_text.specs.Fault.{IsRefusal}
+use Rattle.cron_time.specs.Timeline.{timeline}
 use Rattle.cron_next.specs.Watching.{IsFrontSent}
 use Rattle.cron_next.specs.declared.run.Outcome.{Outcome}
 use Rattle.cron_next.specs.declared.run.Outcome.TheVariants.{Listed, Refused, WriteFailed}

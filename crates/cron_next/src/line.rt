@@ -2,7 +2,7 @@
 
 ghost use Rattle.std.specs.Prelude.{◌≡◌, ◌≤◌, ◌+◌, ◌++◌, ◌∷◌, []};
 ghost use Rattle.arrayvec.specs.ArrayVec.{array_vec_len};
-ghost use Rattle.cron.specs.MomentText.{two_digits, four_digits, size_of, date_text, time_text, offset_text};
+ghost use Rattle.cron_time.specs.MomentText.{two_digits, four_digits, size_of, date_text, time_text, offset_text};
 ghost use Rattle.cron_next.specs.Output.{item_line};
 
 use arrayvec::ArrayVec;

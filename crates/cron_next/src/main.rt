@@ -2,9 +2,7 @@
 //! those before.
 #![tactic(auto)]
 
-ghost use Rattle.std.specs.Prelude.{◌≡◌, false};
-ghost use Rattle.cron_next.specs.Watching.{has_failed};
-
+mod answer;
 mod line;
 pub mod run;
 #[cfg(test)]
@@ -12,61 +10,12 @@ mod tests;
 pub mod watched;
 mod words;
 
-use run::{Outcome, run};
-use std::alloc::{AllocError, Global};
+use answer::{Status, answer, usage};
+use run::refuse;
 use std::env;
-use std::io::{self, ErrorKind, Write};
+use std::io::{self, ErrorKind};
 use std::process::ExitCode;
-use watched::{Watched, send};
-use words::request_of;
-
-const LISTED: u8 = 0;
-
-const REFUSED: u8 = 1;
-
-const BAD_ARGUMENTS: u8 = 2;
-
-const WRITE_FAILED: u8 = 3;
-
-// Writes one line and answers the status, or that the write failed.
-fn tell<W: Write>(out: &mut Watched<W>, line: &str, status: u8) -> u8 {
-    send(out, line.as_bytes());
-    if out.failed() || out.flush().is_err() {
-        return WRITE_FAILED;
-    }
-    status
-}
-
-fn usage<W: Write>(out: &mut Watched<W>) -> u8 {
-    tell(
-        out,
-        "usage: cron_next EXPRESSION START ZONE COUNT [back]\n",
-        BAD_ARGUMENTS,
-    )
-}
-
-// Answers the words after the program's name.
-fn answer<W: Write>(alloc: Global, words: &[String], out: &mut Watched<W>) -> u8
-    requires { has_failed out.old ≡ false }
-{
-    let Some(request) = request_of(words) else {
-        return usage(out);
-    };
-    let outcome = run(
-        alloc,
-        request.expression,
-        request.start,
-        &request.zone,
-        request.count,
-        request.back,
-        out,
-    );
-    match outcome {
-        Outcome::Listed => LISTED,
-        Outcome::Refused => REFUSED,
-        Outcome::WriteFailed => WRITE_FAILED,
-    }
-}
+use watched::Watched;
 
 // The words, with the program's name before them.
 fn words_of(rt: &HostRuntime) -> io::Result<Vec<String>> {
@@ -81,9 +30,9 @@ fn main(rt: HostRuntime) -> ExitCode {
             None => usage(&mut out),
         },
         Err(error) if error.kind() == ErrorKind::OutOfMemory => {
-            tell(&mut out, "error: out of memory\n", REFUSED)
+            Status::from(refuse(&mut out, "error: out of memory\n"))
         }
         Err(_) => usage(&mut out),
     };
-    ExitCode::from(status)
+    ExitCode::from(status.code())
 }

@@ -3,9 +3,10 @@
 ghost use Rattle.std.specs.Prelude.{◌≡◌, ℕ, List, Option, false};
 ghost use Rattle.jiff.specs.Words.{plain_zone};
 ghost use Rattle.cron_units.specs.Texts.{error_text};
-ghost use Rattle.cron.specs.Cursor.{Steps};
+ghost use Rattle.cron_time.specs.Cursor.{Steps};
 ghost use Rattle.cron_next.specs.Output.{direction, lines_of, complaint, Ends, Writes, is_write_failure};
 ghost use Rattle.cron_next.specs.Watching.{has_failed, writer_of, IsSent};
+ghost use Rattle.cron_next.specs.declared.run.Outcome.TheVariants.{Refused};
 
 use crate::line::line_of;
 use crate::watched::{Watched, send};
@@ -91,6 +92,16 @@ fn finish<W: Write>(out: &mut Watched<W>, done: Outcome) -> Outcome
         return Outcome::WriteFailed;
     }
     done
+}
+
+/// Writes the one line that says why nothing is listed, and flushes.
+pub(crate) fn refuse<W: Write>(out: &mut Watched<W>, line: &str) -> Outcome
+    requires { has_failed out.old ≡ false }
+    ensures ends { Ends Refused line.now (W.contents (writer_of out.old)) (W.contents (writer_of out.new)) result }
+    ensures mark { has_failed out.new ≡ is_write_failure result }
+{
+    send(out, line.as_bytes());
+    finish(out, Outcome::Refused)
 }
 
 /// Writes a line for each of the first `count` items of the expression after the start, or before

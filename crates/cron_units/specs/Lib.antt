@@ -1,4 +1,5 @@
 pub mod Units
+pub mod Sets
 pub mod Items
 pub mod Denotation
 pub mod Nearest

@@ -2,6 +2,7 @@
 #![tactic(auto)]
 
 pub mod error;
+pub mod fields;
 pub mod specifier;
 #[cfg(test)]
 mod tests;

@@ -1,11 +1,10 @@
 //! Schedules as JSON strings.
 
-use crate::answers::outcome;
 use crate::support::{check_same, cut};
 use cron::Schedule;
 use cron::error::Error;
 use serde_json::Value;
-use std::alloc::Global;
+use std::alloc::{AllocError, Global};
 use std::process::Abort;
 use std::test::Fail;
 
@@ -17,43 +16,47 @@ null | invalid type, expected a valid cron expression
 true | invalid type, expected a valid cron expression
 [\"@hourly\"] | invalid type, expected a valid cron expression";
 
-// The text of a schedule's JSON value.
-fn json_of(alloc: Global, text: &str) -> Result<String, Error> {
-    let schedule = Schedule::from_str(alloc, text)?;
-    let value = schedule.to_value(alloc)?;
-    Ok(value.to_string(alloc)?)
-}
+// A text, and its JSON.
+const KEPT: &str = "\
+@hourly | \"@hourly\"
+ @hourly  | \" @hourly \"";
 
-// Whether the value is read as an equal schedule.
-fn is_read_back(alloc: Global, text: &str) -> Result<bool, Error> {
-    let schedule = Schedule::from_str(alloc, text)?;
+// Whether a schedule becomes this JSON, which is read as an equal schedule.
+fn is_kept(alloc: Global, schedule: &Schedule, json: &str) -> Result<bool, Error> {
     let value = schedule.to_value(alloc)?;
     let read = Schedule::from_value(alloc, &value)?;
-    Ok(read == schedule && read.timeunitspec_eq(&schedule))
+    let is_equal = read == *schedule && read.timeunitspec_eq(schedule);
+    Ok(is_equal && value.to_string(alloc)?.as_str() == json)
 }
 
-fn check_kept(rt: &(impl Abort + AllocGlobal), text: &str, wanted: &str) -> Result<(), Fail> {
-    let json = json_of(rt.alloc(), text)?;
-    check_same(rt, json.as_str(), wanted, text);
-    assert!(rt; is_read_back(rt.alloc(), text)?, "{text}");
+fn check_kept(rt: &(impl Abort + AllocGlobal), row: &str) -> Result<(), Fail> {
+    let (text, json) = cut(row)?;
+    let schedule = Schedule::from_str(rt.alloc(), text)?;
+    assert!(rt; is_kept(rt.alloc(), &schedule, json)?, "row {row}");
     Ok(())
 }
 
 #[test]
 fn a_schedule_is_its_source(rt: HostRuntime) -> Result<(), Fail> {
-    check_kept(&rt, "@hourly", "\"@hourly\"")?;
-    check_kept(&rt, " @hourly ", "\" @hourly \"")
+    assert_eq!(rt; KEPT.lines().count(), 2);
+    for row in KEPT.lines() {
+        check_kept(&rt, row)?;
+    }
+    Ok(())
 }
 
-// What is made of a JSON value.
-fn told(alloc: Global, json: &str) -> Result<String, Fail> {
-    let value = Value::from_str(alloc, json)?;
-    Ok(outcome(alloc, Schedule::from_value(alloc, &value))?)
+// The message of a refusal, or the source that is read.
+fn told(alloc: Global, read: &Result<Schedule, Error>) -> Result<String, AllocError> {
+    match read {
+        Ok(schedule) => schedule.to_string(alloc),
+        Err(error) => error.to_string(alloc),
+    }
 }
 
 fn check_refused(rt: &(impl Abort + AllocGlobal), row: &str) -> Result<(), Fail> {
     let (json, wanted) = cut(row)?;
-    let told = told(rt.alloc(), json)?;
+    let value = Value::from_str(rt.alloc(), json)?;
+    let told = told(rt.alloc(), &Schedule::from_value(rt.alloc(), &value))?;
     check_same(rt, told.as_str(), wanted, row);
     Ok(())
 }

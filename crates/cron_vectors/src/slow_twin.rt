@@ -1,10 +1,9 @@
 //! A slow twin of the walks: it asks the schedule about one civil second after another, and the zone for
 //! the readings of each that is included.
 
-use crate::support::zone_named;
-use crate::ways::Walk;
+use crate::support::chicago;
 use cron::Schedule;
-use cron::schedule::{Moment, Turn};
+use cron::schedule::Moment;
 use jiff::Error;
 use jiff::civil::{Date, DateTime, Time};
 use jiff::tz::{AmbiguousOffset, Offset, TimeZone};
@@ -114,22 +113,8 @@ fn check_beyond(rt: &impl Abort, beyond: Option<Moment>, date: Date) {
     }
 }
 
-// Makes one call for each reading, which it has to answer, and one more, which it may not answer on the
-// same day.
-fn check_answers<W: Walk>(
-    rt: &impl Abort,
-    walk: &mut W,
-    turn: Turn,
-    date: Date,
-    readings: &[Shown],
-) -> Result<(), Fail> {
-    for wanted in readings {
-        check_answer(rt, walk.call(turn), *wanted)?;
-    }
-    check_beyond(rt, walk.call(turn), date);
-    Ok(())
-}
-
+// Makes one call ahead for each reading, which it has to answer, and one more, which it may not answer
+// on the same day.
 fn check_ahead(
     rt: &impl Abort,
     schedule: &Schedule,
@@ -139,9 +124,14 @@ fn check_ahead(
 ) -> Result<(), Fail> {
     let before = date.yesterday()?.to_datetime(Time::new(23, 59, 59, 0)?);
     let mut walk = schedule.after(zone.to_timestamp(before)?, zone);
-    check_answers(rt, &mut walk, Turn::Next, date, readings)
+    for wanted in readings {
+        check_answer(rt, walk.next(), *wanted)?;
+    }
+    check_beyond(rt, walk.next(), date);
+    Ok(())
 }
 
+// The same back, from the last reading to the first.
 fn check_back(
     rt: &impl Abort,
     schedule: &Schedule,
@@ -151,7 +141,11 @@ fn check_back(
 ) -> Result<(), Fail> {
     let after = date.tomorrow()?.to_datetime(Time::new(0, 0, 0, 0)?);
     let mut walk = schedule.after(zone.to_timestamp(after)?, zone);
-    check_answers(rt, &mut walk, Turn::NextBack, date, readings)
+    for wanted in readings.iter().rev() {
+        check_answer(rt, walk.next_back(), *wanted)?;
+    }
+    check_beyond(rt, walk.next_back(), date);
+    Ok(())
 }
 
 /// Compares a day's part of the walks in both directions.
@@ -163,29 +157,28 @@ pub(crate) fn check_day(
 ) -> Result<(), Fail> {
     let date = date.parse::<Date>()?;
     let schedule = Schedule::from_str(rt.alloc(), text)?;
-    let mut readings = day(rt.alloc(), &schedule, zone, date)?;
+    let readings = day(rt.alloc(), &schedule, zone, date)?;
     check_ahead(rt, &schedule, zone, date, readings.as_slice())?;
-    readings.as_mut_slice().reverse();
     check_back(rt, &schedule, zone, date, readings.as_slice())
 }
 
 #[test]
 fn a_day_with_a_fold(rt: HostRuntime) -> Result<(), Fail> {
-    let zone = zone_named("Chicago")?;
+    let zone = chicago()?;
     check_day(&rt, "*/7 */3 0-3 6 11 *", &zone, "2022-11-06")?;
     check_day(&rt, "30 30 * * * *", &zone, "2022-11-06")
 }
 
 #[test]
 fn a_day_with_a_gap(rt: HostRuntime) -> Result<(), Fail> {
-    let zone = zone_named("Chicago")?;
+    let zone = chicago()?;
     check_day(&rt, "*/7 */3 0-3 13 3 *", &zone, "2022-03-13")?;
     check_day(&rt, "30 30 * * * *", &zone, "2022-03-13")
 }
 
 #[test]
 fn days_of_a_fixed_offset(rt: HostRuntime) -> Result<(), Fail> {
-    let zone = zone_named("fixed -20700")?;
+    let zone = TimeZone::fixed(Offset::from_seconds(-20_700)?);
     check_day(&rt, "59 59 23 31 12 *", &zone, "2099-12-31")?;
     check_day(&rt, "0 0 0,12 * * Thu", &zone, "1970-01-01")
 }

@@ -2,10 +2,11 @@
 
 ghost use Rattle.std.specs.Prelude.{◌≡◌, ◌==◌, ◌↔◌, IfOk, IsTrue, Some};
 ghost use Rattle.std.specs.String.{string_bytes};
-ghost use Rattle.cron.specs.Meaning.{Means};
-ghost use Rattle.cron.specs.Sets.{matches};
+ghost use Rattle.cron_text.specs.Meaning.{Means};
+ghost use Rattle.cron_time.specs.Matches.{matches};
 
-use crate::fields::ScheduleFields;
+use cron_time::matching;
+use cron_units::fields::ScheduleFields;
 use cron_units::time_unit::{DaysOfMonth, DaysOfWeek, Hours, Minutes, Months, Seconds, Years};
 use jiff::civil::DateTime;
 use std::alloc::AllocError;
@@ -21,7 +22,7 @@ pub struct Schedule {
 
 impl Model for Schedule {
     ghost use Rattle.std.specs.String.{string_bytes};
-    ghost use Rattle.cron.specs.Meaning.{Means};
+    ghost use Rattle.cron_text.specs.Meaning.{Means};
     ghost use Rattle.cron.specs.Plan.{Plan};
 
     ghost Value = { Plan };
@@ -76,7 +77,7 @@ impl Schedule {
     pub fn includes(&self, date_time: DateTime) -> bool
         ensures { result ≡ matches self.now.sets date_time }
     {
-        self.fields.includes(date_time)
+        matching::includes(&self.fields, date_time)
     }
 
     /// The set of years.

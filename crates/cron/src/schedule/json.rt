@@ -3,7 +3,7 @@
 ghost use Rattle.std.specs.Prelude.{◌≡◌, IfOk, IfErr, codes};
 ghost use Rattle.cron_units.specs.Texts.{IsMemory};
 ghost use Rattle.cron.specs.Json.{IsValueRefusal};
-ghost use Rattle.cron.specs.Meaning.{Means};
+ghost use Rattle.cron_text.specs.Meaning.{Means};
 ghost use Rattle.cron_units.specs.Texts.{Tells};
 ghost use Rattle.serde_json.specs.Data.{string};
 ghost use Rattle.serde_json.specs.View.{view};

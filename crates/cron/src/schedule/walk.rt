@@ -1,8 +1,8 @@
 //! A walk over the timeline of a schedule in a zone, and the same walk reversed.
-use crate::fields::ScheduleFields;
-use crate::schedule::Moment;
-use crate::schedule::state::State;
-use crate::schedule::step::step;
+use cron_time::moment::Moment;
+use cron_time::state::State;
+use cron_time::step::step;
+use cron_units::fields::ScheduleFields;
 use cron_units::way::Way;
 use jiff::Timestamp;
 use jiff::tz::TimeZone;
@@ -18,11 +18,11 @@ pub struct ScheduleIterator<'a> {
 
 impl<'a> Model for ScheduleIterator<'a> {
     ghost use Rattle.jiff.specs.Words.{plain_zone};
-    ghost use Rattle.cron.specs.Cursor.{Walk};
+    ghost use Rattle.cron_time.specs.Cursor.{Walk};
 
     ghost Value = { Walk };
 
-    ghost use Rattle.cron.specs.Placed.{cursor_of, IsPlaced};
+    ghost use Rattle.cron_time.specs.Inner.Placed.{cursor_of, IsPlaced};
 
     ghost view = { λ w. record {
       sets = w.fields.now;
@@ -37,8 +37,8 @@ impl<'a> ScheduleIterator<'a> {
     ghost use Rattle.std.specs.Prelude.{◌≡◌};
     ghost use Rattle.jiff.specs.Words.{plain_zone};
     ghost use Rattle.cron_units.specs.declared.way.Way.TheVariants.{Back};
-    ghost use Rattle.cron.specs.Cursor.{Start};
-    ghost use Rattle.cron.specs.Rest.{Gives};
+    ghost use Rattle.cron_time.specs.Cursor.{Start};
+    ghost use Rattle.cron_time.specs.Rest.{Gives};
 
     pub(crate) fn new(
         fields: &'a ScheduleFields,
@@ -81,7 +81,7 @@ impl<'a> ScheduleIterator<'a> {
 impl<'a> Iterator for ScheduleIterator<'a> {
     ghost use Rattle.std.specs.Iterator.{item_count};
     ghost use Rattle.cron_units.specs.declared.way.Way.TheVariants.{Ahead};
-    ghost use Rattle.cron.specs.Rest.{Gives, rest_ahead};
+    ghost use Rattle.cron_time.specs.Rest.{Gives, rest_ahead};
 
     type Item = Moment;
 
@@ -102,7 +102,7 @@ pub struct RevScheduleIterator<'a> {
 }
 
 impl<'a> Model for RevScheduleIterator<'a> {
-    ghost use Rattle.cron.specs.Cursor.{Walk};
+    ghost use Rattle.cron_time.specs.Cursor.{Walk};
 
     ghost Value = { Walk };
 
@@ -111,7 +111,7 @@ impl<'a> Model for RevScheduleIterator<'a> {
 
 impl<'a> RevScheduleIterator<'a> {
     ghost use Rattle.cron_units.specs.declared.way.Way.TheVariants.{Ahead};
-    ghost use Rattle.cron.specs.Rest.{Gives};
+    ghost use Rattle.cron_time.specs.Rest.{Gives};
 
     /// The item after the cursor, to which the cursor moves.
     pub fn next_back(&mut self) -> Option<Moment>
@@ -124,7 +124,7 @@ impl<'a> RevScheduleIterator<'a> {
 impl<'a> Iterator for RevScheduleIterator<'a> {
     ghost use Rattle.std.specs.Iterator.{item_count};
     ghost use Rattle.cron_units.specs.declared.way.Way.TheVariants.{Back};
-    ghost use Rattle.cron.specs.Rest.{Gives, rest_back};
+    ghost use Rattle.cron_time.specs.Rest.{Gives, rest_back};
 
     type Item = Moment;
 

@@ -2,7 +2,7 @@
 
 ghost use Rattle.std.specs.Prelude.{◌≡◌, IfOk};
 ghost use Rattle.jiff.specs.Words.{plain_zone};
-ghost use Rattle.cron.specs.Cursor.{Start};
+ghost use Rattle.cron_time.specs.Cursor.{Start};
 
 use super::{OwnedScheduleIterator, Schedule, ScheduleIterator};
 use jiff::Timestamp;

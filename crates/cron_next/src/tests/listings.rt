@@ -1,7 +1,7 @@
 //! What a run writes where the writer takes every byte.
 
 use super::words_in;
-use crate::answer;
+use crate::answer::answer;
 use crate::run::{Outcome, run};
 use crate::watched::Watched;
 use crate::words::request_of;
@@ -156,7 +156,7 @@ fn the_status_tells_how_a_run_ended(rt: HostRuntime) -> Result<(), Fail> {
         let words = words_in(rt.alloc(), line)?;
         let mut out = Watched::new(Vec::new(rt.alloc()));
         assert_eq!(rt;
-            answer(rt.alloc(), words.as_slice(), &mut out),
+            answer(rt.alloc(), words.as_slice(), &mut out).code(),
             status,
             "at {line}"
         );

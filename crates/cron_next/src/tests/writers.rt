@@ -3,7 +3,7 @@
 ghost use Rattle.std.specs.Prelude.{Some};
 
 use super::words_in;
-use crate::answer;
+use crate::answer::answer;
 use crate::run::{Outcome, run};
 use crate::watched::Watched;
 use jiff::tz::TimeZone;
@@ -179,7 +179,7 @@ fn the_status_tells_of_a_failed_write(rt: HostRuntime) -> Result<(), Fail> {
         ] {
             let mut out = Watched::new(writer);
             assert_eq!(rt;
-                answer(rt.alloc(), words.as_slice(), &mut out),
+                answer(rt.alloc(), words.as_slice(), &mut out).code(),
                 3,
                 "at {line}"
             );
@@ -193,7 +193,7 @@ fn the_status_tells_of_a_failed_write(rt: HostRuntime) -> Result<(), Fail> {
         }
         let mut out = Watched::new(Limited::unflushed(rt.alloc()));
         assert_eq!(rt;
-            answer(rt.alloc(), words.as_slice(), &mut out),
+            answer(rt.alloc(), words.as_slice(), &mut out).code(),
             3,
             "at {line}"
         );

@@ -1,4 +1,4 @@
-use Rattle.cron.proofs.TimelineLaws.{never_decrease}
+use Rattle.cron_time.proofs.TimelineLaws.{never_decrease}
 use Rattle.cron.proofs.laws.ascending_seconds.Goals as goal
 
 pub returns : goal.returns

@@ -1,6 +1,6 @@
 use Rattle.std.proofs.Common.{List, ℕ, sym, subst}
-use Rattle.cron.specs.Meaning.{Means}
-use Rattle.cron.proofs.MeaningLemmas.{means_once}
+use Rattle.cron_text.specs.Meaning.{Means}
+use Rattle.cron_text.proofs.MeaningLemmas.{means_once}
 use Rattle.cron.proofs.laws.equal_sets.Goals as goal
 
 pub returns : goal.returns

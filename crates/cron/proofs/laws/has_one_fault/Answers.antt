@@ -1,4 +1,4 @@
-use Rattle.cron.proofs.MeaningLemmas.{one_fault}
+use Rattle.cron_text.proofs.MeaningLemmas.{one_fault}
 use Rattle.cron.proofs.laws.has_one_fault.Goals as goal
 
 pub returns : goal.returns

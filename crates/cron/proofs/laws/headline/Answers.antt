@@ -1,8 +1,8 @@
 use Rattle.std.proofs.Common.{ap, ◌∙◌}
 use Rattle.std.specs.Prelude.{map}
-use Rattle.cron.specs.Cursor.{Walk}
+use Rattle.cron_time.specs.Cursor.{Walk}
 use Rattle.cron.specs.Turns.{way_of, run_from}
-use Rattle.cron.proofs.MeaningLemmas.{means_once}
+use Rattle.cron_text.proofs.MeaningLemmas.{means_once}
 use Rattle.cron.proofs.RunLemmas.{walk_is}
 use Rattle.cron.proofs.laws.headline.Goals as goal
 

@@ -1,4 +1,4 @@
-use Rattle.cron.proofs.MeaningLemmas.{fronts_agree}
+use Rattle.cron_text.proofs.MeaningLemmas.{fronts_agree}
 use Rattle.cron.proofs.laws.longest_fronts_agree.Goals as goal
 
 pub returns : goal.returns

@@ -1,4 +1,4 @@
-use Rattle.cron.proofs.MeaningLemmas.{means_once}
+use Rattle.cron_text.proofs.MeaningLemmas.{means_once}
 use Rattle.cron.proofs.laws.means_once.Goals as goal
 
 pub returns : goal.returns

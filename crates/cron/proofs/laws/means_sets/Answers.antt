@@ -1,4 +1,4 @@
-use Rattle.cron.proofs.FilledLemmas.{means_sets}
+use Rattle.cron_text.proofs.FilledLemmas.{means_sets}
 use Rattle.cron.proofs.laws.means_sets.Goals as goal
 
 pub returns : goal.returns

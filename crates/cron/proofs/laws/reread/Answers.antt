@@ -4,11 +4,11 @@ use Rattle.cron_units.specs.Texts.{TellsKind, Tells, IsMemoryKind, IsMemory}
 use Rattle.cron_units.specs.declared.error.Error.{Error}
 use Rattle.cron_units.specs.declared.error.ErrorKind.{ErrorKind}
 use Rattle.cron_units.specs.declared.error.ErrorKind.TheVariants.{Expression, OutOfMemory}
-use Rattle.cron.specs.Fault.{IsRefusal}
-use Rattle.cron.specs.Meaning.{Means}
+use Rattle.cron_text.specs.Fault.{IsRefusal}
+use Rattle.cron_text.specs.Meaning.{Means}
 use Rattle.cron.specs.Plan.{Plan}
-use Rattle.cron.specs.Sets.{Sets}
-use Rattle.cron.proofs.MeaningLemmas.{means_once}
+use Rattle.cron_units.specs.Sets.{Sets}
+use Rattle.cron_text.proofs.MeaningLemmas.{means_once}
 use Rattle.cron.proofs.laws.reread.Goals as goal
 
 same_plan : (s p : Plan) → s.source ≡ p.source → s.sets ≡ p.sets → s ≡ p

@@ -3,9 +3,9 @@ use Rattle.jiff_core.specs.declared.civil.date.Date.{Date}
 use Rattle.jiff_core.specs.declared.civil.time.Time.{Time}
 use Rattle.jiff_core.specs.declared.civil.datetime.DateTime.{DateTime}
 use Rattle.jiff_core.specs.declared.Offset.{Offset}
-use Rattle.cron.specs.Civil.{civil}
-use Rattle.cron.specs.MomentText.{moment_text, date_text, time_text, offset_text}
-use Rattle.cron.specs.Readings.{Reading}
+use Rattle.cron_time.specs.Civil.{civil}
+use Rattle.cron_time.specs.MomentText.{moment_text, date_text, time_text, offset_text}
+use Rattle.cron_time.specs.Readings.{Reading}
 use Rattle.cron_next.specs.Output.{item_line}
 use Rattle.cron_next.proofs.line.line_of.Goals as goal
 

@@ -2,8 +2,8 @@ use Rattle.std.proofs.Common.{List, ℕ, inl, inr, refl, ap}
 use Rattle.cron_units.specs.Texts.{TellsKind, kind_text, error_text}
 use Rattle.cron_units.specs.declared.error.ErrorKind.{ErrorKind}
 use Rattle.cron_units.specs.declared.error.ErrorKind.TheVariants.{Expression, OutOfMemory}
-use Rattle.cron.specs.Cursor.{Walk}
-use Rattle.cron.specs.Fault.{IsRefusal}
+use Rattle.cron_time.specs.Cursor.{Walk}
+use Rattle.cron_text.specs.Fault.{IsRefusal}
 use Rattle.cron_next.specs.Output.{IsTold, complaint, lines_of}
 use Rattle.cron_next.proofs.Lines.{walk_is}
 use Rattle.cron_next.proofs.run.run.Goals as goal

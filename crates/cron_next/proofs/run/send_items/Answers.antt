@@ -1,6 +1,6 @@
 use Rattle.std.proofs.Common.{◌≡◌, ℕ, ◌+◌, ◌-◌, ◌<◌, Option, Some, List, [], ◌++◌, sym, ap, ◌∙◌, subst, append_assoc, append-nil, arith}
-use Rattle.cron.specs.Cursor.{Walk, Steps}
-use Rattle.cron.specs.Readings.{Reading}
+use Rattle.cron_time.specs.Cursor.{Walk, Steps}
+use Rattle.cron_time.specs.Readings.{Reading}
 use Rattle.cron_next.specs.Output.{direction, answer_line, lines_of}
 use Rattle.cron_next.specs.Watching.{IsSent}
 use Rattle.cron_next.proofs.Lines.{lines_none, lines_step, lines_stop}

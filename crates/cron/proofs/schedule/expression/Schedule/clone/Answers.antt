@@ -1,6 +1,6 @@
 use Rattle.std.proofs.Common.{List, ℕ, sym, subst}
 use Rattle.std.specs.String.{string_bytes}
-use Rattle.cron.specs.Meaning.{Means}
+use Rattle.cron_text.specs.Meaning.{Means}
 use Rattle.cron.proofs.schedule.expression.Schedule.clone.Goals as goal
 
 pub invariant_of-result : goal.invariant_of-result

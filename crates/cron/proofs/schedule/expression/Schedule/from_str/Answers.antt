@@ -1,5 +1,5 @@
 use Rattle.std.proofs.Common.{sym, subst}
-use Rattle.cron.specs.Meaning.{Means}
+use Rattle.cron_text.specs.Meaning.{Means}
 use Rattle.cron.proofs.schedule.expression.Schedule.from_str.Goals as goal
 
 pub returns-clause-means : goal.returns-clause-means

@@ -1,5 +1,5 @@
 use Rattle.std.proofs.Common.{subst}
-use Rattle.cron.specs.Meaning.{Means}
+use Rattle.cron_text.specs.Meaning.{Means}
 use Rattle.cron.specs.Plan.{Plan}
 use Rattle.cron.proofs.schedule.expression.Schedule.source.Goals as goal
 

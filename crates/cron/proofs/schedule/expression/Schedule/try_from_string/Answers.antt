@@ -1,6 +1,6 @@
 use Rattle.std.proofs.Common.{List, ℕ, sym, subst}
 use Rattle.std.specs.String.{string_bytes}
-use Rattle.cron.specs.Meaning.{Means}
+use Rattle.cron_text.specs.Meaning.{Means}
 use Rattle.cron.proofs.schedule.expression.Schedule.try_from_string.Goals as goal
 
 pub returns-clause-means : goal.returns-clause-means

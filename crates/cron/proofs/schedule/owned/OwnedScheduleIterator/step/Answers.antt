@@ -1,5 +1,5 @@
 use Rattle.jiff.specs.Words.{plain_zone}
-use Rattle.cron.proofs.RestLemmas.{gives}
+use Rattle.cron_time.proofs.RestLemmas.{gives}
 use Rattle.cron.proofs.schedule.owned.OwnedScheduleIterator.step.Goals as goal
 
 pub returns : goal.returns

@@ -1,5 +1,0 @@
-use Rattle.std.proofs.Common.{refl}
-use Rattle.cron.proofs.parsing.fields.more_at.Goals as goal
-
-pub returns-clause-more : goal.returns-clause-more
-returns-clause-more g c done = rw (c.in_ok-connector.ensures.first, c.in_ok-token.ensures.first, c.in_ok-growth.ensures done) refl

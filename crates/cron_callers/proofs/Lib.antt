@@ -1,0 +1,3 @@
+pub mod FireTimes
+pub mod Missed
+pub mod AlarmLemmas

@@ -1,0 +1,33 @@
+use Rattle.std.proofs.Common.{◌≤ℤ◌, ◌<ℤ◌, ◌∙◌, ap, rules, sym}
+use Rattle.jiff_core.specs.Date.{epoch_day}
+use Rattle.std.specs.List.{take_while}
+use Rattle.cron.specs.Words.{rest_ahead}
+use Rattle.cron_callers.specs.Fires.{is_through}
+use Rattle.cron_callers.proofs.FireTimes.{fires_after-walk, is_through-from, is_through-past, taken-more, taken-all, taken-end}
+use Rattle.cron_callers.proofs.fires.fires_of_day.Goals as goal
+use Rattle.cron_callers.proofs.fires.fires_of_day.Goals.{in-None, in-Some+then-to_unix_epoch_day-last}
+
+pub loop-fire-init : goal.loop-fire-init
+loop-fire-init c =
+    let start = ap rest_ahead c.into_iter-fire-iterator.ensures.into_iter_gives ∙ fires_after-walk c.after-fire-items.result _ _ _ c.after-fire-items.ensures.sets c.after-fire-items.ensures.zone c.after-fire-items.ensures.cursor in
+    rw c.new-fires.ensures.items (ap (take_while (is_through c.args.date)) (sym start))
+
+pub loop-fire-preserved : goal.loop-fire-preserved
+loop-fire-preserved c =
+    let day = c.to_unix_epoch_day.ensures.value ∙ ap epoch_day (c.to_plain-in-loop-fire.ensures ∙ (c.date.ensures ∙ ap (λ d. d.date) c.datetime.ensures)) in
+    let last = c.to_unix_epoch_day-last.ensures.value ∙ ap epoch_day c.to_plain.ensures in
+    let within : c.to_unix_epoch_day.result ≤ℤ c.to_unix_epoch_day-last.result = search rules in
+    taken-more (is_through c.args.date) c.in-Some.fire _ c.loop-fire.fires.items c.push.new.self.items _ _ c.loop-fire.invariant c.in-Some.ensures.steps.items
+    (is_through-from c.args.date c.in-Some.fire _ _ day last within) c.in_ok-push.ensures.items
+
+pub returns : goal.returns
+returns c =
+    elim c.match-next.branch [
+      | in-None w ↦ taken-end (is_through c.args.date) _ c.loop-fire.fires.items _ c.loop-fire.invariant w.in-None.ensures.steps.items.0
+      | in-Some+then-to_unix_epoch_day-last w ↦
+          let day = w.to_unix_epoch_day.ensures.value ∙ ap epoch_day (w.to_plain-in-loop-fire.ensures ∙ (w.date.ensures ∙ ap (λ d. d.date) w.datetime.ensures)) in
+          let last = c.to_unix_epoch_day-last.ensures.value ∙ ap epoch_day c.to_plain.ensures in
+          let past : c.to_unix_epoch_day-last.result <ℤ w.to_unix_epoch_day.result = search rules in
+          taken-all (is_through c.args.date) w.in-Some.fire _ c.loop-fire.fires.items _ _ c.loop-fire.invariant w.in-Some.ensures.steps.items
+          (is_through-past c.args.date w.in-Some.fire _ _ day last past)
+    ]

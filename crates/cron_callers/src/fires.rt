@@ -1,0 +1,122 @@
+//! Fire times of a schedule.
+
+ghost use Rattle.std.specs.Prelude.{◌≡◌, IfOk, IsTrue, filter, length, take};
+ghost use Rattle.std.specs.List.{take_while};
+ghost use Rattle.jiff.specs.Words.{plain_zone};
+ghost use Rattle.cron.specs.Words.{Ahead, Start, step_on, timeline};
+ghost use Rattle.cron_callers.specs.Fires.{IsTooLate, fires_after, fires_before, is_through};
+ghost use Rattle.cron_callers.specs.Fires as spec;
+
+use cron::schedule::Moment;
+use cron::{Schedule, laws};
+use jiff::Timestamp;
+use jiff::civil::Date;
+use jiff::tz::TimeZone;
+use std::alloc::{AllocError, Global};
+
+/// When the schedule fires next after now.
+pub fn next_fire(schedule: &Schedule, now: Timestamp, zone: &TimeZone<'_>) -> Option<Moment>
+    ensures { result ≡ (step_on (timeline schedule.now.sets (plain_zone zone.now)) (plain_zone zone.now) Ahead (Start now.nanosecond)).answer }
+{
+    schedule.after(now, zone).next()
+}
+
+/// The first so many fire times after an instant, fewer where the timeline ends.
+pub fn first_fires(
+    alloc: Global,
+    schedule: &Schedule,
+    start: Timestamp,
+    zone: &TimeZone<'_>,
+    count: usize,
+) -> Result<Vec<Moment>, AllocError>
+    ensures { IfOk result (λ fires. fires.items
+        ≡ take count (fires_after schedule.now.sets (plain_zone zone.now) start.nanosecond)) }
+{
+    schedule.after(start, zone).take(count).collect(alloc)
+}
+
+/// The last so many fire times before an instant, the latest first.
+pub fn last_fires(
+    alloc: Global,
+    schedule: &Schedule,
+    start: Timestamp,
+    zone: &TimeZone<'_>,
+    count: usize,
+) -> Result<Vec<Moment>, AllocError>
+    ensures { IfOk result (λ fires. fires.items
+        ≡ take count (fires_before schedule.now.sets (plain_zone zone.now) start.nanosecond)) }
+{
+    schedule.after(start, zone).rev().take(count).collect(alloc)
+}
+
+/// How many of the first so many fire times there are: all of them, or those that are left.
+pub fn count_fires(schedule: &Schedule, start: Timestamp, zone: &TimeZone<'_>, most: usize) -> usize
+    ensures { result ≡ length (take most (fires_after schedule.now.sets (plain_zone zone.now) start.nanosecond)) }
+{
+    schedule.after(start, zone).take(most).count()
+}
+
+/// The fire times of a date, whose midnight comes one second after its eve: those after the eve, as
+/// long as they aren't past the date.
+pub fn fires_of_day(
+    alloc: Global,
+    schedule: &Schedule,
+    eve: Timestamp,
+    date: Date,
+    zone: &TimeZone<'_>,
+) -> Result<Vec<Moment>, AllocError>
+    ensures { IfOk result (λ fires. fires.items
+        ≡ take_while (is_through date) (fires_after schedule.now.sets (plain_zone zone.now) eve.nanosecond)) }
+{
+    let mut fires = Vec::new(alloc);
+    let last = date.to_plain().to_unix_epoch_day();
+    for fire in schedule.after(eve, zone) {
+        if fire.datetime().date().to_plain().to_unix_epoch_day() > last {
+            break;
+        }
+        fires.push(fire)?;
+    }
+    Ok(fires)
+}
+
+// The reach of the offsets, there and back: two times 25:59:59, in nanoseconds.
+const REACH: i128 = 187_198_000_000_000;
+
+// Whether a fire time isn't past now.
+fn is_due(fire: &Moment, now: Timestamp) -> bool
+    ensures { result ≡ spec.is_due now.nanosecond fire.now }
+{
+    fire.timestamp().as_nanosecond() <= now.as_nanosecond()
+}
+
+// Whether nothing from a fire time on is due.
+fn is_too_late(fire: &Moment, now: Timestamp) -> bool
+    ensures { IsTrue result → IsTooLate now.nanosecond fire.now }
+{
+    fire.timestamp().as_nanosecond() > now.as_nanosecond() + REACH
+}
+
+/// The fire times after the last run whose instants aren't past now, in the order of the timeline.
+/// The walk ends where no later item can be due.
+pub fn missed_runs(
+    alloc: Global,
+    schedule: &Schedule,
+    last: Timestamp,
+    now: Timestamp,
+    zone: &TimeZone<'_>,
+) -> Result<Vec<Moment>, AllocError>
+    ensures { IfOk result (λ missed. missed.items
+        ≡ filter (spec.is_due now.nanosecond) (fires_after schedule.now.sets (plain_zone zone.now) last.nanosecond)) }
+{
+    laws::ascending_seconds();
+    let mut missed = Vec::new(alloc);
+    for fire in schedule.after(last, zone) {
+        if is_too_late(&fire, now) {
+            break;
+        }
+        if is_due(&fire, now) {
+            missed.push(fire)?;
+        }
+    }
+    Ok(missed)
+}

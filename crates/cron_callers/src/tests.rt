@@ -1,0 +1,167 @@
+//! Each caller once.
+
+use super::{
+    count_fires, count_hours, descending_hours, fault_of, fires_of_day, first_alarms, first_fires,
+    greatest_month, last_fires, minutes_between, missed_runs, next_fire, some_warm_month,
+    summer_months, year_count,
+};
+use cron::Schedule;
+use cron::schedule::Moment;
+use jiff::Timestamp;
+use jiff::civil::Date;
+use jiff::tz::{Offset, TimeZone};
+use std::alloc::{AllocError, Global};
+use std::fmt::Write;
+use std::process::Abort;
+use std::test::Fail;
+
+fn new_york() -> Result<TimeZone<'static>, Fail> {
+    Ok(TimeZone::posix("EST5EDT,M3.2.0,M11.1.0")?)
+}
+
+fn instant(text: &str) -> Result<Timestamp, Fail> {
+    Ok(text.parse::<Timestamp>()?)
+}
+
+// The texts of fires, with a comma after each.
+fn listed(alloc: Global, fires: &[Moment]) -> Result<String, AllocError> {
+    let mut text = String::new(alloc);
+    for fire in fires {
+        write!(text, "{fire}, ")?;
+    }
+    Ok(text)
+}
+
+fn check_fires(
+    rt: &(impl Abort + AllocGlobal),
+    fires: &[Moment],
+    wanted: &str,
+) -> Result<(), Fail> {
+    let listed = listed(rt.alloc(), fires)?;
+    assert_eq!(rt; listed.as_str(), wanted);
+    Ok(())
+}
+
+#[test]
+fn monday_comes_after_friday(rt: HostRuntime) -> Result<(), Fail> {
+    let (zone, now) = (new_york()?, instant("2024-03-08T14:00:00Z")?);
+    let schedule = Schedule::from_str(rt.alloc(), "0 0 9 * * Mon-Fri")?;
+    let fire = next_fire(&schedule, now, &zone).ok_or("no fire")?;
+    check_fires(&rt, &[fire], "2024-03-11 09:00:00 -04:00, ")
+}
+
+#[test]
+fn fires_follow_a_start(rt: HostRuntime) -> Result<(), Fail> {
+    let (zone, start) = (new_york()?, instant("2022-11-05T12:00:00Z")?);
+    let schedule = Schedule::from_str(rt.alloc(), "0 30 1 * * *")?;
+    let fires = first_fires(rt.alloc(), &schedule, start, &zone, 3)?;
+    check_fires(
+        &rt,
+        fires.as_slice(),
+        "2022-11-06 01:30:00 -04:00, 2022-11-06 01:30:00 -05:00, 2022-11-07 01:30:00 -05:00, ",
+    )
+}
+
+#[test]
+fn fires_lead_to_a_start(rt: HostRuntime) -> Result<(), Fail> {
+    let start = instant("2024-03-01T00:00:00Z")?;
+    let schedule = Schedule::from_str(rt.alloc(), "@daily")?;
+    let fires = last_fires(rt.alloc(), &schedule, start, &TimeZone::UTC, 2)?;
+    check_fires(
+        &rt,
+        fires.as_slice(),
+        "2024-02-29 00:00:00 +00:00, 2024-02-28 00:00:00 +00:00, ",
+    )
+}
+
+#[test]
+fn two_fires_are_left(rt: HostRuntime) -> Result<(), Fail> {
+    let start = instant("2023-06-01T00:00:00Z")?;
+    let schedule = Schedule::from_str(rt.alloc(), "0 0 0 1 1 * 2023-2025")?;
+    assert_eq!(rt; count_fires(&schedule, start, &TimeZone::UTC, 10), 2);
+    Ok(())
+}
+
+#[test]
+fn a_day_with_a_fold_has_an_hour_more(rt: HostRuntime) -> Result<(), Fail> {
+    let (zone, eve) = (new_york()?, instant("2022-11-06T03:59:59Z")?);
+    let date = Date::new(2022, 11, 6)?;
+    let schedule = Schedule::from_str(rt.alloc(), "@hourly")?;
+    let fires = fires_of_day(rt.alloc(), &schedule, eve, date, &zone)?;
+    assert_eq!(rt; fires.len(), 25);
+    Ok(())
+}
+
+#[test]
+fn runs_of_a_fold_are_missed_by_their_instants(rt: HostRuntime) -> Result<(), Fail> {
+    let (zone, last) = (new_york()?, instant("2022-11-06T04:30:00Z")?);
+    let now = instant("2022-11-06T05:45:00Z")?;
+    let schedule = Schedule::from_str(rt.alloc(), "0 0,30 1 * * *")?;
+    let missed = missed_runs(rt.alloc(), &schedule, last, now, &zone)?;
+    check_fires(
+        &rt,
+        missed.as_slice(),
+        "2022-11-06 01:00:00 -04:00, 2022-11-06 01:30:00 -04:00, ",
+    )
+}
+
+#[test]
+fn a_line_has_no_fault(rt: HostRuntime) -> Result<(), Fail> {
+    let fault = fault_of(rt.alloc(), "@weekly")?;
+    assert!(rt; fault.is_none());
+    Ok(())
+}
+
+#[test]
+fn a_line_has_one_fault(rt: HostRuntime) -> Result<(), Fail> {
+    let fault = fault_of(rt.alloc(), "0 0 0 0 * *")?.ok_or("no fault")?;
+    assert_eq!(rt;
+        fault.as_str(),
+        "Days of Month must be greater than or equal to 1. ('0' specified.)"
+    );
+    Ok(())
+}
+
+#[test]
+fn nine_years_are_counted(rt: HostRuntime) -> Result<(), Fail> {
+    let schedule = Schedule::from_str(rt.alloc(), "0 0 0 1 1 * 2020/10")?;
+    assert_eq!(rt; year_count(&schedule), 9);
+    Ok(())
+}
+
+#[test]
+fn hours_descend(rt: HostRuntime) -> Result<(), Fail> {
+    let schedule = Schedule::from_str(rt.alloc(), "0 0 9-17/4 * * *")?;
+    let hours = descending_hours(rt.alloc(), &schedule)?;
+    assert_eq!(rt; hours.as_slice(), [17, 13, 9].as_slice());
+    assert_eq!(rt; count_hours(&schedule, 9, 16), 2);
+    Ok(())
+}
+
+#[test]
+fn minutes_lie_between(rt: HostRuntime) -> Result<(), Fail> {
+    let schedule = Schedule::from_str(rt.alloc(), "0 */15 * * * *")?;
+    let minutes = minutes_between(rt.alloc(), &schedule, 10, 45)?;
+    assert_eq!(rt; minutes.as_slice(), [15, 30, 45].as_slice());
+    Ok(())
+}
+
+#[test]
+fn july_is_an_odd_month(rt: HostRuntime) -> Result<(), Fail> {
+    let schedule = Schedule::from_str(rt.alloc(), "0 0 0 1 */2 *")?;
+    let months = summer_months(rt.alloc(), &schedule)?;
+    assert_eq!(rt; months.as_slice(), [7].as_slice());
+    assert_eq!(rt; some_warm_month(&schedule), Some(7));
+    assert_eq!(rt; greatest_month(&schedule, 8, 12), Some(11));
+    Ok(())
+}
+
+#[test]
+fn alarms_ascend_at_one_offset(rt: HostRuntime) -> Result<(), Fail> {
+    let schedule = Schedule::from_str(rt.alloc(), "* * * * * *")?;
+    let offset = Offset::from_seconds(19_800)?;
+    let alarms = first_alarms(&schedule, instant("1969-12-31T18:29:59.25Z")?, offset);
+    assert_eq!(rt; alarms.first, Some(instant("1969-12-31T18:30:00Z")?));
+    assert_eq!(rt; alarms.second, Some(instant("1969-12-31T18:30:01Z")?));
+    Ok(())
+}

@@ -1,0 +1,82 @@
+//! What readers answer, as text that stands in a row.
+
+use cron::error::{Error, ErrorKind};
+use cron::{Schedule, TimeUnitSpec};
+use std::alloc::{AllocError, Global};
+
+/// Joins the numbers that follow one another into runs.
+fn runs<T: TimeUnitSpec>(alloc: Global, unit: &T) -> Result<Vec<(u32, u32)>, AllocError> {
+    let mut runs: Vec<(u32, u32)> = Vec::new(alloc);
+    for ordinal in unit.iter() {
+        match runs.last_mut() {
+            Some(run) if run.1.checked_add(1) == Some(ordinal) => run.1 = ordinal,
+            _ => runs.push((ordinal, ordinal))?,
+        }
+    }
+    Ok(runs)
+}
+
+/// Writes a set as `0-4,7`.
+fn set_text<T: TimeUnitSpec>(alloc: Global, unit: &T) -> Result<String, AllocError> {
+    let mut text = String::new(alloc);
+    for (first, last) in runs(alloc, unit)? {
+        if !text.is_empty() {
+            text.push(',')?;
+        }
+        write!(text, "{first}")?;
+        if first != last {
+            write!(text, "-{last}")?;
+        }
+    }
+    Ok(text)
+}
+
+/// Adds a set to the end, or a star in place of the whole range.
+fn add_set<T: TimeUnitSpec>(
+    alloc: Global,
+    text: &mut String,
+    unit: &T,
+    whole: &str,
+) -> Result<(), AllocError> {
+    if !text.is_empty() {
+        text.push(' ')?;
+    }
+    let set = set_text(alloc, unit)?;
+    text.push_str(if set.as_str() == whole {
+        "*"
+    } else {
+        set.as_str()
+    })
+}
+
+/// Writes the seven sets, from the seconds to the years.
+fn sets_text(alloc: Global, schedule: &Schedule) -> Result<String, AllocError> {
+    let mut text = String::new(alloc);
+    add_set(alloc, &mut text, schedule.seconds(), "0-59")?;
+    add_set(alloc, &mut text, schedule.minutes(), "0-59")?;
+    add_set(alloc, &mut text, schedule.hours(), "0-23")?;
+    add_set(alloc, &mut text, schedule.days_of_month(), "1-31")?;
+    add_set(alloc, &mut text, schedule.months(), "1-12")?;
+    add_set(alloc, &mut text, schedule.days_of_week(), "1-7")?;
+    add_set(alloc, &mut text, schedule.years(), "1970-2100")?;
+    Ok(text)
+}
+
+/// The seven sets, or the message of a refusal.
+pub(crate) fn outcome(alloc: Global, read: &Result<Schedule, Error>) -> Result<String, AllocError> {
+    match read {
+        Ok(schedule) => sets_text(alloc, schedule),
+        Err(error) => error.to_string(alloc),
+    }
+}
+
+/// The text that a schedule or a refusal keeps.
+pub(crate) fn kept(read: &Result<Schedule, Error>) -> &str {
+    match read {
+        Ok(schedule) => schedule.source(),
+        Err(error) => match error.kind() {
+            ErrorKind::Expression(message) => message.as_str(),
+            ErrorKind::OutOfMemory => "out of memory",
+        },
+    }
+}

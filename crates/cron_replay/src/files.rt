@@ -1,0 +1,56 @@
+//! The files of rows.
+
+/// What the rows of a file hold.
+#[derive(Clone, Copy)]
+pub(crate) enum Kind {
+    /// A text and its answer.
+    Texts,
+    /// A form, and the short texts that are read in it.
+    ShortTexts,
+    /// A walk: expression, zone, start, calls and answers.
+    Walks,
+    /// A search: expression, zone, datetime and answer.
+    SearchesAhead,
+    /// The same in the other direction.
+    SearchesBack,
+}
+
+/// The files, each with its kind.
+pub(crate) const FILES: [(Kind, &str); 36] = [
+    (Kind::Texts, "texts_accepted.txt"),
+    (Kind::Texts, "texts_refused.txt"),
+    (Kind::Texts, "texts_beginnings.txt"),
+    (Kind::Texts, "texts_shorthands.txt"),
+    (Kind::Texts, "texts_units_seconds.txt"),
+    (Kind::Texts, "texts_units_minutes.txt"),
+    (Kind::Texts, "texts_units_hours.txt"),
+    (Kind::Texts, "texts_units_days_of_month.txt"),
+    (Kind::Texts, "texts_units_months.txt"),
+    (Kind::Texts, "texts_units_days_of_week.txt"),
+    (Kind::Texts, "texts_units_years.txt"),
+    (Kind::Texts, "texts_names_first_half_year.txt"),
+    (Kind::Texts, "texts_names_second_half_year.txt"),
+    (Kind::Texts, "texts_names_days_of_week.txt"),
+    (Kind::Texts, "texts_names_other_units.txt"),
+    (Kind::Texts, "texts_faults.txt"),
+    (Kind::Texts, "texts_spaces.txt"),
+    (Kind::Texts, "texts_random_read.txt"),
+    (Kind::Texts, "texts_random_outside_the_grammar.txt"),
+    (Kind::Texts, "texts_random_refused_values.txt"),
+    (Kind::ShortTexts, "short_texts.txt"),
+    (Kind::Walks, "walks_ahead.txt"),
+    (Kind::Walks, "walks_back.txt"),
+    (Kind::Walks, "walks_that_turn.txt"),
+    (Kind::Walks, "walks_in_folds_and_gaps.txt"),
+    (Kind::Walks, "walks_at_the_ends_of_time.txt"),
+    (Kind::Walks, "walks_at_fixed_offsets.txt"),
+    (Kind::Walks, "walks_of_eight_calls.txt"),
+    (Kind::Walks, "walks_utc.txt"),
+    (Kind::Walks, "walks_fixed.txt"),
+    (Kind::Walks, "walks_rules.txt"),
+    (Kind::Walks, "walks_mended_late_starts.txt"),
+    (Kind::Walks, "walks_mended_early_starts.txt"),
+    (Kind::Walks, "walks_mended_turns.txt"),
+    (Kind::SearchesAhead, "searches_ahead.txt"),
+    (Kind::SearchesBack, "searches_back.txt"),
+];

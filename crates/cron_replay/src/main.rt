@@ -1,0 +1,60 @@
+//! Replays the rows of `data/`: texts and what they mean, walks and what they answer. It prints each
+//! answer that isn't the one of its row, and for each file how many rows it has. Where an answer
+//! differs, a file is missing or a row can't be taken apart, it ends with a status other than 0.
+#![tactic(auto)]
+
+mod answers;
+mod characters;
+mod files;
+mod readers;
+mod report;
+mod searches;
+mod settings;
+mod short_texts;
+mod texts;
+mod walks;
+mod ways;
+
+use anyhow::{Context, Result, ensure};
+use files::{FILES, Kind};
+use report::{Report, Row};
+use std::fs;
+
+/// Replays one row.
+fn replay_row(report: &mut Report<'_>, kind: Kind, row: Row<'_>) -> Result<()> {
+    match kind {
+        Kind::Texts => texts::replay(report, row),
+        Kind::ShortTexts => short_texts::replay(report, row),
+        Kind::Walks => walks::replay(report, row),
+        Kind::SearchesAhead => searches::replay_ahead(report, row),
+        Kind::SearchesBack => searches::replay_back(report, row),
+    }
+}
+
+/// Replays the rows of a file, and prints how many they are.
+fn replay_file(report: &mut Report<'_>, kind: Kind, file: &str) -> Result<()> {
+    let rt = report.runtime();
+    let rows = fs::read_to_string(rt, file).context(file)?;
+    let mut count = 0_usize;
+    for text in rows.as_str().lines() {
+        count = count.saturating_add(1);
+        let row = Row {
+            file,
+            line: count,
+            text,
+        };
+        replay_row(report, kind, row).context(row)?;
+    }
+    println!(rt; "{file}: {count}")?;
+    Ok(())
+}
+
+fn main(rt: HostRuntime) -> Result<()> {
+    let mut report = Report::new(&rt);
+    for (kind, file) in FILES {
+        replay_file(&mut report, kind, file)?;
+    }
+    let differences = report.differences();
+    ensure!(differences == 0, "{differences} answers differ");
+    Ok(())
+}

@@ -1,0 +1,56 @@
+//! Walks and their answers. A row has five parts: the expression; the zone, as `UTC`, a city, `fixed`
+//! and the seconds ahead of UTC, or a rule for the turns of a year; the start; the calls, `>` for the
+//! next item and `<` for the one before; and the answers to these calls.
+//!
+//! The answers of `walks_utc.txt`, `walks_fixed.txt` and `walks_rules.txt` were made by version 0.17.0
+//! of the Rust crate `cron`. Their starts were chosen on items, between them and far from them, with and
+//! without a part of a second, at the turns of the zones, and before the first year and after the last
+//! one. The walks of the three files `walks_mended_*.txt` are answered wrongly by that crate, and their
+//! answers were made by a copy in which three faults are mended; to all others the copy answers alike.
+//!
+//! - Late starts: the crate keeps the month, the day and the time of the start when it goes back to an
+//!   earlier year, so it misses the items late in that year.
+//! - Early starts: it takes a year below 0 for one far ahead.
+//! - Turns: it keeps the other reading of an hour that a clock shows twice when a walk turns round.
+//!
+//! `walks_of_eight_calls.txt` has every list of eight calls from four starts about a fold of four items,
+//! with what an index answers that is moved along these items.
+
+use crate::report::{Report, Row, cut};
+use crate::settings::{case_of, listed, setting_of};
+use crate::texts::compare_beginnings;
+use crate::ways::WAYS;
+use anyhow::{Result, bail};
+use cron::schedule::Turn;
+use std::alloc::Global;
+
+/// The call that a character stands for.
+fn turn_of(call: char) -> Result<Turn> {
+    match call {
+        '>' => Ok(Turn::Next),
+        '<' => Ok(Turn::NextBack),
+        other => bail!("{other:?} is no call"),
+    }
+}
+
+/// The calls that a text lists.
+fn turns_of(alloc: Global, calls: &str) -> Result<Vec<Turn>> {
+    let mut turns = Vec::new(alloc);
+    for call in calls.chars() {
+        turns.push(turn_of(call)?)?;
+    }
+    Ok(turns)
+}
+
+pub(crate) fn replay(report: &mut Report<'_>, row: Row<'_>) -> Result<()> {
+    let case = case_of(row.text)?;
+    let (calls, answers) = cut(case.rest)?;
+    let turns = turns_of(report.alloc(), calls)?;
+    let setting = setting_of(report.alloc(), case)?;
+    for way in WAYS {
+        let told = way.answers(report.alloc(), &setting, turns.as_slice())?;
+        let told = listed(report.alloc(), told.as_slice())?;
+        report.compare(row, way.name(), answers, told.as_str())?;
+    }
+    compare_beginnings(report, row, case.expression)
+}

@@ -1,0 +1,162 @@
+-- The set of a field that is joined item by item, and its first refusal.
+use Rattle.std.proofs.Common.{◌≡◌, ℕ, Bool, true, false, ◌||◌, ◌&&◌, Option, Some, None, Result, Ok, Err, List, [], ◌∷◌, ◌++◌, refl, sym, ap, ◌∙◌, subst, append_assoc, append-nil}
+use Rattle.std.specs.Option.{option_map_or}
+use Rattle.cron_units.specs.Units.{TimeUnit, contains, set_of, IsSet}
+use Rattle.cron_units.specs.Items.{Item}
+use Rattle.cron_units.specs.Denotation.{Steps, Refusal, in_steps, steps_of, denoted_has, first_refusal, refusal_of, in_items, message}
+use Rattle.std.specs.String.{string_bytes}
+use Rattle.cron_units.specs.declared.error.Error.{Error}
+use Rattle.cron_units.specs.declared.error.ErrorKind.{ErrorKind}
+use Rattle.cron_units.specs.declared.error.ErrorKind.TheVariants.{Expression, OutOfMemory}
+use Rattle.cron_units.specs.Texts.{IsMemoryKind, IsMemory, TellsKind, Tells, Fails}
+use Rattle.cron_units.proofs.Sets.{set_same, contains_set, set_is_set, or_false}
+use Rattle.cron_text.specs.Fault.{TakesField, RefusesField}
+use Rattle.cron_text.specs.Inner.FieldReading.{State, joined, next_state, lone_item, with_end, with_step, furthest, field_at, state_items}
+use Rattle.cron_text.specs.Fields.{spacing_fits}
+use Rattle.cron_text.specs.Tokens.{Token, Symbol, symbol_of, comma, dash, slash}
+use Rattle.cron_text.proofs.Longest.{read_longest}
+use Rattle.cron_text.proofs.Walks.{mapped, chosen}
+
+or_assoc : (a b c : Bool) → ((a || b) || c) ≡ (a || (b || c))
+or_assoc true b c = refl
+or_assoc false b c = refl
+
+in_items-push : (u : TimeUnit) (is : List Item) (i : Item) (x : ℕ) → in_items u (is ++ i ∷ []) x ≡ (in_items u is x || denoted_has x (steps_of u i))
+in_items-push u [] i x = or_false (denoted_has x (steps_of u i))
+in_items-push u (j ∷ is) i x =
+    ap (λ (b : Bool). denoted_has x (steps_of u j) || b) (in_items-push u is i x) ∙ sym (or_assoc (denoted_has x (steps_of u j)) (in_items u is x) (denoted_has x (steps_of u i)))
+
+no_err : (r : Refusal) (more : Option Refusal) → first_refusal (Err r) more ≡ None → ⊥
+no_err r more h = cc
+
+refused_later : (o : Result Steps Refusal) (a b : Option Refusal) → first_refusal o a ≡ None → (a ≡ None → b ≡ b) → first_refusal o b ≡ b
+refused_later (Ok s) a b h k = refl
+refused_later (Err r) a b h k = absurd (no_err r a h)
+
+tail_unrefused : (o : Result Steps Refusal) (a : Option Refusal) → first_refusal o a ≡ None → a ≡ None
+tail_unrefused (Ok s) a h = h
+tail_unrefused (Err r) a h = absurd (no_err r a h)
+
+-- after unrefused items the next one decides
+refusal_of-append : (u : TimeUnit) (is js : List Item) → refusal_of u is ≡ None → refusal_of u (is ++ js) ≡ refusal_of u js
+refusal_of-append u [] js h = refl
+refusal_of-append u (i ∷ is) js h =
+    refused_later (steps_of u i) (refusal_of u is) (refusal_of u (is ++ js)) h (λ _. refl) ∙ refusal_of-append u is js (tail_unrefused (steps_of u i) (refusal_of u is) h)
+
+pub unrefused_push : (u : TimeUnit) (is : List Item) (i : Item) (s : Steps) → refusal_of u is ≡ None → steps_of u i ≡ Ok s → refusal_of u (is ++ i ∷ []) ≡ None
+unrefused_push u is i s h e = refusal_of-append u is (i ∷ []) h ∙ ap (λ (o : Result Steps Refusal). first_refusal o None) e
+
+refused_at : (u : TimeUnit) (is : List Item) (i : Item) (more : List Item) (r : Refusal) → refusal_of u is ≡ None → steps_of u i ≡ Err r → refusal_of u ((is ++ i ∷ []) ++ more) ≡ Some r
+refused_at u is i more r h e =
+    ap (refusal_of u) (append_assoc is (i ∷ []) more) ∙ (refusal_of-append u is (i ∷ more) h ∙ ap (λ (o : Result Steps Refusal). first_refusal o (refusal_of u more)) e)
+
+-- one item's steps joined to the set of the items before it
+pub set_push : (u : TimeUnit) (is : List Item) (i : Item) (s : Steps) (xs ys : List ℕ) → xs ≡ set_of u (in_items u is) → steps_of u i ≡ Ok s → ys ≡ set_of u (λ x. contains xs x || in_steps s x) → ys ≡ set_of u (in_items u (is ++ i ∷ []))
+set_push u is i s xs ys h e k =
+    k ∙ set_same u (λ x. contains xs x || in_steps s x) (in_items u (is ++ i ∷ [])) (λ x low high.
+    ap (λ (b : Bool). b || in_steps s x) (ap (λ (zs : List ℕ). contains zs x) h ∙ contains_set u (in_items u is) x low high)
+    ∙ (ap (λ (o : Result Steps Refusal). in_items u is x || denoted_has x o) (sym e) ∙ sym (in_items-push u is i x)))
+
+pub joined_is_set : (u : TimeUnit) (is : List Item) (xs : List ℕ) → xs ≡ set_of u (in_items u is) → IsSet u xs
+joined_is_set u is xs h = subst (IsSet u) (sym h) (set_is_set u (in_items u is))
+
+-- ---- finished items stay
+
+-- the finished items of a later state begin with those of an earlier one
+record Extends (s t : State) : Type 0 where
+  more : List Item
+  is : t.done ≡ s.done ++ more
+
+next_extends : (u : TimeUnit) (s : State) (a : Symbol) (x : Token) (t : State) → joined u s a x ≡ Some t → Extends s t
+next_extends u s comma x t h =
+    let m = mapped (λ (i : Item). record { done = s.done ++ s.item ∷ []; item = i; last = x }) (lone_item u (symbol_of x)) t h in
+    record { more = s.item ∷ []; is = sym (ap (λ (z : State). z.done) m.2) }
+next_extends u s dash x t h =
+    let m = mapped (λ (i : Item). record { done = s.done; item = i; last = x }) (with_end s.item (symbol_of x)) t h in
+    record { more = []; is = sym (ap (λ (z : State). z.done) m.2) ∙ sym (append-nil s.done) }
+next_extends u s slash x t h =
+    let m = mapped (λ (i : Item). record { done = s.done; item = i; last = x }) (with_step s.item (symbol_of x)) t h in
+    record { more = []; is = sym (ap (λ (z : State). z.done) m.2) ∙ sym (append-nil s.done) }
+next_extends u s a x t h = absurd (cc)
+
+extends_self : (s : State) → Extends s s
+extends_self s = record { more = []; is = sym (append-nil s.done) }
+
+extends_trans : (r s t : State) → Extends r s → Extends s t → Extends r t
+extends_trans r s t e f =
+    record { more = e.more ++ f.more; is = f.is ∙ (ap (λ (zs : List Item). zs ++ f.more) e.is ∙ append_assoc r.done e.more f.more) }
+
+extends_from : (u : TimeUnit) (s : State) (c x : Token) (ts : List Token) (r : Option State) → next_state u s c x ≡ r → ((t : State) → Extends t (furthest u t ts).0)
+    → Extends s (option_map_or (λ (t : State). furthest u t ts) r (s, c ∷ x ∷ ts)).0
+extends_from u s c x ts None h again = extends_self s
+extends_from u s c x ts (Some t) h again =
+    let j = chosen (spacing_fits s.last c && spacing_fits c x) (joined u s (symbol_of c) x) t h in
+    extends_trans s t (furthest u t ts).0 (next_extends u s (symbol_of c) x t j.1) (again t)
+
+furthest_extends : (u : TimeUnit) (s : State) (ts : List Token) → Extends s (furthest u s ts).0
+furthest_extends u s [] = extends_self s
+furthest_extends u s (c ∷ []) = extends_self s
+furthest_extends u s (c ∷ x ∷ ts) = extends_from u s c x ts (next_state u s c x) refl (λ t. furthest_extends u t ts)
+
+-- ---- what the reader of a field answers
+
+-- the field is read to its end, and all of its items denote
+pub field_taken : (u : TimeUnit) (ts rest : List Token) (s : State) (xs : List ℕ) → field_at u ts ≡ Some (s, rest) → refusal_of u (state_items s) ≡ None → xs ≡ set_of u (in_items u (state_items s)) → TakesField u ts xs rest
+field_taken u ts rest s xs h none is =
+    let l = read_longest u ts s rest h in
+    record { front = l.0; items = state_items s; longest = l.1; denotes = record { unrefused = none; union = is } }
+
+refuses : (u : TimeUnit) (ts : List Token) (f : State × List Token) (r : Refusal) → field_at u ts ≡ Some f → refusal_of u (state_items f.0) ≡ Some r → RefusesField u ts (message u r)
+refuses u ts f r h first =
+    let l = read_longest u ts f.0 f.1 h in
+    record { front = l.0; rest = f.1; items = state_items f.0; refusal = r; longest = l.1; first = first; told = refl }
+
+-- an item is refused, and the field may go on after it
+pub refused_inside : (u : TimeUnit) (ts rest : List Token) (done : List Item) (i : Item) (s : State) (r : Refusal) → field_at u ts ≡ Some (furthest u s rest) → s.done ≡ done ++ i ∷ [] → refusal_of u done ≡ None → steps_of u i ≡ Err r → RefusesField u ts (message u r)
+refused_inside u ts rest done i s r h e none bad =
+    let f = furthest u s rest in
+    let x = furthest_extends u s rest in
+    let items : state_items f.0 ≡ (done ++ i ∷ []) ++ (x.more ++ f.0.item ∷ []) =
+    ap (λ (zs : List Item). zs ++ f.0.item ∷ []) (x.is ∙ ap (λ (zs : List Item). zs ++ x.more) e) ∙ append_assoc (done ++ i ∷ []) x.more (f.0.item ∷ []) in
+    refuses u ts f r h (ap (refusal_of u) items ∙ refused_at u done i (x.more ++ f.0.item ∷ []) r none bad)
+
+-- the last item is refused
+pub refused_last : (u : TimeUnit) (ts rest : List Token) (s : State) (r : Refusal) → field_at u ts ≡ Some (s, rest) → refusal_of u s.done ≡ None → steps_of u s.item ≡ Err r → RefusesField u ts (message u r)
+refused_last u ts rest s r h none bad =
+    refuses u ts (s, rest) r h (refusal_of-append u s.done (s.item ∷ []) none ∙ ap (λ (o : Result Steps Refusal). first_refusal o None) bad)
+
+-- the first token of a field
+pub unread_first : (u : TimeUnit) (t : Token) (ts : List Token) → lone_item u (symbol_of t) ≡ None → field_at u (t ∷ ts) ≡ None
+unread_first u t ts h = rw h refl
+
+pub read_first : (u : TimeUnit) (t : Token) (ts : List Token) (i : Item) → lone_item u (symbol_of t) ≡ Some i → field_at u (t ∷ ts) ≡ Some (furthest u (record { done = []; item = i; last = t }) ts)
+read_first u t ts i h = rw h refl
+
+-- ---- the error of a refused item
+
+kind_memory : (P : List ℕ → Type 0) (k : ErrorKind) → IsMemoryKind k → TellsKind P k
+kind_memory P (Expression t) h = absurd h
+kind_memory P OutOfMemory h = tt
+
+pub memory_tells : (P : List ℕ → Type 0) (e : Error) → IsMemory e → Tells P e
+memory_tells P e h = kind_memory P e.kind h
+
+-- what holds of each text that is told
+kind_map : (P Q : List ℕ → Type 0) → ((text : List ℕ) → P text → Q text) → (k : ErrorKind) → TellsKind P k → TellsKind Q k
+kind_map P Q f (Expression t) h = f (string_bytes t) h
+kind_map P Q f OutOfMemory h = tt
+
+pub tells_map : (P Q : List ℕ → Type 0) → ((text : List ℕ) → P text → Q text) → (e : Error) → Tells P e → Tells Q e
+tells_map P Q f e h = kind_map P Q f e.kind h
+
+fails_tells : (u : TimeUnit) (P : List ℕ → Type 0) (o : Result Steps Refusal) (e : Error) → ((r : Refusal) → o ≡ Err r → P (message u r)) → Fails u o e → Tells P e
+fails_tells u P (Ok s) e f h = memory_tells P e h
+fails_tells u P (Err r) e f h = tells_map (λ text. text ≡ message u r) P (λ text same. subst P (sym same) (f r refl)) e h
+
+pub failed_inside : (u : TimeUnit) (ts rest : List Token) (done : List Item) (i : Item) (s : State) (e : Error) → field_at u ts ≡ Some (furthest u s rest) → s.done ≡ done ++ i ∷ [] → refusal_of u done ≡ None → Fails u (steps_of u i) e → Tells (RefusesField u ts) e
+failed_inside u ts rest done i s e h d none f =
+    fails_tells u (RefusesField u ts) (steps_of u i) e (λ r bad. refused_inside u ts rest done i s r h d none bad) f
+
+pub failed_last : (u : TimeUnit) (ts rest : List Token) (s : State) (e : Error) → field_at u ts ≡ Some (s, rest) → refusal_of u s.done ≡ None → Fails u (steps_of u s.item) e → Tells (RefusesField u ts) e
+failed_last u ts rest s e h none f =
+    fails_tells u (RefusesField u ts) (steps_of u s.item) e (λ r bad. refused_last u ts rest s r h none bad) f

@@ -1,0 +1,10 @@
+pub mod Digits
+pub mod TokenRuns
+pub mod Walks
+pub mod Longest
+pub mod Trims
+pub mod TextLemmas
+pub mod FieldSets
+pub mod Prefixes
+pub mod MeaningLemmas
+pub mod FilledLemmas

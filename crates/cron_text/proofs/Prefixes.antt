@@ -1,0 +1,31 @@
+-- Fields that were taken one after another, before one that is refused.
+use Rattle.std.proofs.Common.{ℕ, List, [], ◌∷◌, ◌++◌}
+use Rattle.cron_units.specs.Units.{TimeUnit}
+use Rattle.cron_units.specs.declared.error.Error.{Error}
+use Rattle.cron_text.specs.Fault.{TakesField}
+use Rattle.cron_text.specs.Meaning.{DenoteSets}
+use Rattle.cron_units.specs.Texts.{Tells}
+use Rattle.cron_text.specs.Inner.TextReading.{IsRefusalOf}
+use Rattle.cron_text.specs.Tokens.{Token}
+use Rattle.cron_text.proofs.FieldSets.{tells_map}
+use Rattle.cron_text.proofs.TextLemmas.{refused_after, sets_after}
+
+-- fields of these units are taken from the tokens, they denote these sets, and this is the rest
+pub data Taken : List TimeUnit → List (List ℕ) → List Token → List Token → Type 0 where
+  start : (ts : List Token) → Taken [] [] ts ts
+  next : (u : TimeUnit) (us : List TimeUnit) (xs : List ℕ) (xss : List (List ℕ)) (ts mid rest : List Token) → TakesField u ts xs mid → Taken us xss mid rest → Taken (u ∷ us) (xs ∷ xss) ts rest
+
+-- a refusal after them is one of all tokens
+pub refused_by : (us vs : List TimeUnit) (xss : List (List ℕ)) (ts rest : List Token) (text : List ℕ) → Taken us xss ts rest → IsRefusalOf vs rest text → IsRefusalOf (us ++ vs) ts text
+refused_by us vs xss ts rest text (start ts') r = r
+refused_by us vs xss ts rest text (next u us' xs xss' ts' mid rest' t more) r =
+    refused_after u (us' ++ vs) ts xs mid text t (refused_by us' vs xss' mid rest text more r)
+
+pub told_by : (us vs : List TimeUnit) (xss : List (List ℕ)) (ts rest : List Token) (e : Error) → Taken us xss ts rest → Tells (IsRefusalOf vs rest) e → Tells (IsRefusalOf (us ++ vs) ts) e
+told_by us vs xss ts rest e t h = tells_map (IsRefusalOf vs rest) (IsRefusalOf (us ++ vs) ts) (λ text. refused_by us vs xss ts rest text t) e h
+
+-- the sets of the fields after them are the others of all tokens
+pub denoted_by : (us vs : List TimeUnit) (xss yss : List (List ℕ)) (ts rest : List Token) → Taken us xss ts rest → DenoteSets vs rest yss → DenoteSets (us ++ vs) ts (xss ++ yss)
+denoted_by us vs xss yss ts rest (start ts') h = h
+denoted_by us vs xss yss ts rest (next u us' xs xss' ts' mid rest' t more) h =
+    sets_after u (us' ++ vs) ts xs mid (xss' ++ yss) t (denoted_by us' vs xss' yss mid rest more h)

@@ -1,0 +1,64 @@
+-- The fault that is told of a text that means nothing.
+use Rattle.std.specs.Prelude.{◌≡◌, ℕ, List, [], ◌∷◌, ◌++◌, ◌⊎◌, Some, codes}
+use Rattle.cron_units.specs.Units.{TimeUnit}
+use Rattle.cron_units.specs.Denotation.{Refusal, refusal_of, message, Denotes}
+use Rattle.cron_text.specs.Fields.{Item, IsField}
+use Rattle.cron_text.specs.Meaning.{six_units, DenoteYears, MeansNothing}
+use Rattle.cron_text.specs.Tokens.{Token, tokens}
+
+-- the front is the longest one of the tokens that is a field of the unit
+pub record IsLongestField (u : TimeUnit) (ts front rest : List Token) (items : List Item) : Type 0 where
+  pub cut : ts ≡ front ++ rest
+  pub field : IsField u front items
+  pub longest : (more after : List Token) (js : List Item) → rest ≡ more ++ after → IsField u (front ++ more) js → more ≡ []
+
+-- no front of the tokens is a field of the unit
+abbrev pub NoField : TimeUnit → List Token → Type 0
+NoField u ts = (front rest : List Token) (items : List Item) → ts ≡ front ++ rest → IsField u front items → ⊥
+
+-- the longest field at the front denotes this set, and this is the rest after it
+pub record TakesField (u : TimeUnit) (ts : List Token) (xs : List ℕ) (rest : List Token) : Type 0 where
+  pub front : List Token
+  pub items : List Item
+  pub longest : IsLongestField u ts front rest items
+  pub denotes : Denotes u items xs
+
+-- the longest field at the front is refused with this message, that of its first refused item
+pub record RefusesField (u : TimeUnit) (ts : List Token) (text : List ℕ) : Type 0 where
+  pub front : List Token
+  pub rest : List Token
+  pub items : List Item
+  pub refusal : Refusal
+  pub longest : IsLongestField u ts front rest items
+  pub first : refusal_of u items ≡ Some refusal
+  pub told : text ≡ message u refusal
+
+-- Fields are taken from the left, each the longest front of what is left; the first refused one is refused with this message.
+abbrev pub IsRefused : List TimeUnit → List Token → List ℕ → Type 0
+IsRefused [] ts text = ⊥
+IsRefused (u ∷ us) ts text =
+    RefusesField u ts text ⊎ ((xs : List ℕ) × (rest : List Token) × TakesField u ts xs rest × IsRefused us rest text)
+
+-- what a text is told that can't be read, or whose seventh field is refused
+abbrev pub syntax_text : List ℕ
+syntax_text = codes "Invalid cron expression."
+
+-- the message of the first refused field; in every other case the syntax text
+abbrev pub IsFaultOf : List TimeUnit → List Token → List ℕ → Type 0
+IsFaultOf us ts text =
+    IsRefused us ts text ⊎ (((other : List ℕ) → IsRefused us ts other → ⊥) × (text ≡ syntax_text))
+
+-- the fault of a text that means nothing: the seventh field has no message of its own
+abbrev pub IsFault : List ℕ → List ℕ → Type 0
+IsFault text fault = IsFaultOf six_units (tokens text) fault
+
+-- the text means nothing, and this is its fault
+pub record IsRefusal (text fault : List ℕ) : Type 0 where
+  pub nothing : MeansNothing text
+  pub told : IsFault text fault
+
+-- Longest fronts take all tokens: six fields that denote these sets, and then years or nothing.
+abbrev pub TakeSets : List TimeUnit → List Token → List (List ℕ) → Type 0
+TakeSets [] ts (xs ∷ []) = DenoteYears ts xs
+TakeSets (u ∷ us) ts (xs ∷ xss) = (rest : List Token) × TakesField u ts xs rest × TakeSets us rest xss
+TakeSets _ ts _ = ⊥

@@ -1,0 +1,4 @@
+pub mod FieldReading
+pub mod TextReading
+pub mod Views
+pub mod Shorthands

@@ -1,0 +1,36 @@
+-- What contracts see of the values of the code.
+use Rattle.std.specs.Prelude.{List, [], ◌∷◌, ◌++◌}
+use Rattle.cron_text.specs.Tokens as spec
+use Rattle.cron_text.specs.Tokens.{number, word, star, question, comma, dash, slash, foreign}
+use Rattle.cron_text.specs.Fields as field
+use Rattle.cron_units.specs.Views.{item_view}
+use Rattle.cron_units.specs.declared.specifier.Item.{Item}
+use Rattle.cron_text.specs.declared.tokens.Token.{Token}
+use Rattle.cron_text.specs.declared.symbols.Symbol.{Symbol}
+use Rattle.cron_text.specs.declared.symbols.Symbol.TheVariants.{Number, Word, Star, Question, Comma, Dash, Slash, Foreign}
+use Rattle.cron_text.specs.declared.fields.Growth.{Growth}
+use Rattle.cron_text.specs.declared.fields.Growth.TheVariants.{Grown, Next}
+use Rattle.cron_text.specs.Inner.FieldReading.{State}
+
+-- a token without where it lies in memory
+abbrev pub piece : Token → spec.Token
+piece t = record { spaced = t.spaced; text = t.text.now }
+
+abbrev pub symbol_view : Symbol → spec.Symbol
+symbol_view (Number n) = number n
+symbol_view (Word w) = word w.now
+symbol_view Star = star
+symbol_view Question = question
+symbol_view Comma = comma
+symbol_view Dash = dash
+symbol_view Slash = slash
+symbol_view Foreign = foreign
+
+-- the state of a reading
+abbrev pub state_view : List field.Item → Item → Token → State
+state_view done item last = record { done = done; item = item_view item; last = piece last }
+
+-- the state after a step, at the token
+abbrev pub after_growth : List field.Item → Item → Token → Growth → State
+after_growth done item token (Grown i) = state_view done i token
+after_growth done item token (Next i) = state_view (done ++ item_view item ∷ []) i token

@@ -1,0 +1,6 @@
+pub mod Tokens
+pub mod Fields
+pub mod Meaning
+pub mod Fault
+pub mod TextLaws
+pub mod Inner

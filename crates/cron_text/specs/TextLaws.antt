@@ -1,0 +1,27 @@
+-- Laws over the meaning of texts.
+use Rattle.std.specs.Prelude.{◌≡◌, ◌↔◌, ℕ, List}
+use Rattle.cron_text.specs.Fault.{TakeSets, IsFault}
+use Rattle.cron_text.specs.Meaning.{six_units, set_lists, IsShorthand, Means}
+use Rattle.cron_units.specs.Sets.{Sets, AreSets}
+use Rattle.cron_text.specs.Tokens.{tokens}
+
+-- a text is in the grammar if it means some sets
+abbrev pub IsInGrammar : List ℕ → Type 0
+IsInGrammar text = (s : Sets) × Means text s
+
+-- a text means at most seven sets
+abbrev pub MeansOnce : Type 0
+MeansOnce = (text : List ℕ) (a b : Sets) → Means text a → Means text b → a ≡ b
+
+-- what a text means are sets of the units, none of them empty
+abbrev pub MeansSets : Type 0
+MeansSets = (text : List ℕ) (s : Sets) → Means text s → AreSets s
+
+-- A text that is no shorthand is in the grammar exactly if its longest fronts are six or seven fields that denote sets, with nothing left over.
+abbrev pub LongestFrontsAgree : Type 0
+LongestFrontsAgree =
+    (text : List ℕ) → ((s : Sets) → IsShorthand text s → ⊥) → IsInGrammar text ↔ ((s : Sets) × TakeSets six_units (tokens text) (set_lists s))
+
+-- a text has at most one fault
+abbrev pub HasOneFault : Type 0
+HasOneFault = (text a b : List ℕ) → IsFault text a → IsFault text b → a ≡ b

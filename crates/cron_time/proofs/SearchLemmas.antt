@@ -1,0 +1,154 @@
+-- The search of the days.
+use Rattle.std.proofs.Common.{◌≡◌, ℕ, ◌+◌, ◌*◌, ◌/◌, ◌%◌, ◌<◌, ◌⊎◌, true, nat_lt, ℤ, pos, Option, Some, None, is_some, option_map, IfSome, sym, subst, ◌∙◌, inl, inr, arith}
+use Rattle.std.proofs.lemmas.Bool.{and_parts, and_from, both_ways, lt-ltb, ltb-true}
+use Rattle.jiff_core.proofs.SignedLemmas.{signed_arith}
+use Rattle.jiff_tz.specs.declared.timezone.TimeZone.{TimeZone}
+use Rattle.cron_units.specs.declared.way.Way.{Way}
+use Rattle.cron_units.specs.declared.way.Way.TheVariants.{Ahead, Back}
+use Rattle.cron_units.specs.Nearest.{LiesFrom, Precedes, IsNearest}
+use Rattle.cron_units.specs.Units.{contains}
+use Rattle.cron_time.specs.Inner.Blocks.{Reaches, ReachesIfAny, left_to_reach}
+use Rattle.cron_time.specs.Civil.{civil}
+use Rattle.cron_time.specs.CivilDates.{date_numbered}
+use Rattle.cron_time.specs.Inner.DaySearch.{candidate_day, Finds, IsAskedIn, IsAsked, IsAskedBefore, day_of}
+use Rattle.cron_time.specs.Found.{second_of}
+use Rattle.cron_time.specs.Inner.Days.{day_place, number_of, IsInRange}
+use Rattle.cron_time.specs.Found.{found_items}
+use Rattle.cron_time.specs.Inner.Places.{beyond, place_date, matches_place, matches_second, stands_at}
+use Rattle.cron_time.specs.Search.{stands, IsFound}
+use Rattle.cron_units.specs.Sets.{Sets}
+use Rattle.cron_time.specs.Matches.{is_candidate, matches, matches_date, weekday_number}
+use Rattle.cron_time.specs.Inner.Tally.{IsTally, NotPast, IsPassedBefore, IsPassedTo}
+use Rattle.cron_time.specs.declared.days.Day.{Day}
+use Rattle.cron_time.specs.declared.found.Found.{Found}
+use Rattle.cron_time.proofs.BlockLemmas.{reach_start, reach_on, block_found}
+use Rattle.cron_time.proofs.DayLemmas.{number_of_place, by_number, lies_place, place_lies, past_place, place_past}
+use Rattle.cron_time.proofs.DaySearchLemmas.{found_day, time_fits}
+use Rattle.cron_time.proofs.StandLemmas.{matches_at, split_stands}
+use Rattle.cron_time.proofs.TallyLemmas.{kind_none, kind_joined, passed_found}
+use Rattle.cron_time.proofs.WayLemmas.{side, before, same, after, after_beyond, lies_div, precedes_along}
+
+-- the nearest day, by numbers
+pub first_number : (way : Way) (s : Sets) (day : ℕ) (start : Day) (found : Option Day) → day < 47_847 → day_place start ≡ place_date (date_numbered day).0 → IfSome found IsInRange → IsNearest way (matches_place s) (pos (day_place start)) (option_map day_place found) → IsNearest way (candidate_day s) (pos day) (option_map number_of found)
+first_number way s day start found small e range h =
+    let P : ℕ → Type 0 = λ p. IsNearest way (matches_place s) (pos p) (option_map day_place found) in
+    by_number way s _ _ found (λ j lt lies. lies_place way day j small lt lies) (λ j lt lies. place_lies way day j small lt lies) range (subst P e h)
+
+pub next_number : (way : Way) (s : Sets) (d : Day) (found : Option Day) → IsInRange d → matches_place s (day_place d) ≡ true → IfSome found IsInRange → IsNearest way (matches_place s) (beyond way (day_place d)) (option_map day_place found) → IsNearest way (candidate_day s) (beyond way (number_of d)) (option_map number_of found)
+next_number way s d found fits passes range h =
+    let n = number_of_place s d fits passes in
+    let P : ℕ → Type 0 = λ p. IsNearest way (matches_place s) (beyond way p) (option_map day_place found) in
+    by_number way s _ _ found (λ j lt lies. past_place way (number_of d) j n.in_range lt lies) (λ j lt lies. place_past way (number_of d) j n.in_range lt lies) range (subst P (sym n.at) h)
+
+-- a day that was found is in range, and its place passes
+pub found_passes : (way : Way) (s : Sets) (start : ℤ) (found : Option Day) → IfSome found IsInRange → IsNearest way (matches_place s) start (option_map day_place found) → IfSome found (λ d. IsInRange d × (matches_place s (day_place d) ≡ true))
+found_passes way s start None range h = tt
+found_passes way s start (Some d) range h = (range, h.passes)
+
+pub days_start : (way : Way) (s : Sets) (z : TimeZone) (start : ℕ) (next : Option ℕ) → IsNearest way (candidate_day s) (pos (start / 86_400)) next → ReachesIfAny way 86_400 (candidate_day s) (stands s z) (pos start) (pos (start / 86_400)) next
+days_start way s z start next h =
+    reach_start way 86_400 (candidate_day s) (stands s z) (pos start) (pos (start / 86_400)) next (split_stands s z).block_fails (λ n lies. lies_div way 86_400 start n (omega arith) lies) h
+
+pub days_next : (way : Way) (s : Sets) (z : TimeZone) (start day : ℕ) (next : Option ℕ) → Reaches way 86_400 (candidate_day s) (stands s z) (pos start) (pos (start / 86_400)) day → Finds way s z (pos start) day None → IsNearest way (candidate_day s) (beyond way day) next → ReachesIfAny way 86_400 (candidate_day s) (stands s z) (pos start) (pos (start / 86_400)) next
+days_next way s z start day next reached none h =
+    reach_on way 86_400 (candidate_day s) (stands s z) (pos start) (pos (start / 86_400)) day next (split_stands s z).block_fails reached none h
+
+-- what is found in a day is found of all
+pub day_found : (way : Way) (s : Sets) (z : TimeZone) (start day : ℕ) (found : Option Found) → Reaches way 86_400 (candidate_day s) (stands s z) (pos start) (pos (start / 86_400)) day → is_some found ≡ true → Finds way s z (pos start) day (option_map found_items found) → IsFound way s z (pos start) (option_map found_items found)
+day_found way s z start day None reached e h = cc
+day_found way s z start day (Some f) reached e h = record {
+  second = day * 86_400 + h.finds.time;
+  nearest = block_found way 86_400 (candidate_day s) (stands_at s z) (stands s z) (pos start) (pos (start / 86_400)) day h.from h.finds.time (split_stands s z) reached h.enters (time_fits s z day h.finds.time h.finds.nearest.passes) h.finds.nearest;
+  items = h.finds.items;
+}
+
+pub days_found : (way : Way) (s : Sets) (z : TimeZone) (start day count : ℕ) (found : Option Found) → Reaches way 86_400 (candidate_day s) (stands s z) (pos start) (pos (start / 86_400)) day → is_some found ≡ true → Finds way s z (pos start) day (option_map found_items found) → IsTally 47_847 (IsPassedBefore way (candidate_day s) (pos (start / 86_400)) (Some day)) count → IsTally 47_847 (IsPassedTo way (candidate_day s) (pos (start / 86_400)) (day_of found)) (count + 1)
+days_found way s z start day count None reached e h counted = cc
+days_found way s z start day count (Some f) reached e h counted =
+    let same_day : f.first.second / 86_400 ≡ day = found_day way s z day h.from f h.finds in
+    let P : ℕ → Type 0 = λ d. IsTally 47_847 (IsPassedTo way (candidate_day s) (pos (start / 86_400)) (Some d)) (count + 1) in
+    let small : day < 47_847 = ltb-true day 47_847 (and_parts (nat_lt day 47_847) (is_candidate s (date_numbered day).0) reached.block).0 in
+    subst P (sym same_day) (passed_found way 47_847 (candidate_day s) (pos (start / 86_400)) day count small reached.block reached.lies counted)
+
+-- the day of a civil second that matches is a candidate
+match_candidate : (s : Sets) (k : ℕ) → k < 4_133_980_800 → matches s (civil k) ≡ true → candidate_day s (k / 86_400) ≡ true
+match_candidate s k lt h =
+    let date = (and_parts (matches_date s (date_numbered (k / 86_400)).0) (matches_second s (k % 86_400)) (sym (matches_at s k) ∙ h)).0 in
+    and_from (nat_lt (k / 86_400) 47_847) (is_candidate s (date_numbered (k / 86_400)).0) (lt-ltb (k / 86_400) 47_847 (omega arith)) (and_parts (is_candidate s (date_numbered (k / 86_400)).0) (contains s.days_of_week (weekday_number (date_numbered (k / 86_400)).0)) date).0
+
+-- before the first candidate nothing is asked
+none_before : (way : Way) (s : Sets) (start k : ℕ) (next : Option ℕ) → IsNearest way (candidate_day s) (pos (start / 86_400)) next → k < 4_133_980_800 → IsAskedBefore way s (pos start) next k → ⊥
+none_before way s start k None h lt p =
+    both_ways (candidate_day s (k / 86_400)) (h (k / 86_400) (lies_div way 86_400 start k (omega arith) p.found.lies)) (match_candidate s k lt p.found.is_match)
+none_before way s start k (Some n) h lt p =
+    both_ways (candidate_day s (k / 86_400)) (h.nearest (k / 86_400) (lies_div way 86_400 start k (omega arith) p.found.lies) p.until) (match_candidate s k lt p.found.is_match)
+
+pub asked_start : (way : Way) (s : Sets) (start : ℕ) (next : Option ℕ) → IsNearest way (candidate_day s) (pos (start / 86_400)) next → IsTally 4_133_980_800 (IsAskedBefore way s (pos start) next) 0
+asked_start way s start next h = kind_none 4_133_980_800 _ (λ k lt p. none_before way s start k next h lt p)
+
+not_before_itself : (way : Way) (n k : ℕ) → k ≡ n → Precedes way k n → ⊥
+not_before_itself Ahead n k e h = omega arith
+not_before_itself Back n k e h = omega arith
+
+asked_earlier : (way : Way) (s : Sets) (start day k : ℕ) (next : Option ℕ) → IsNearest way (candidate_day s) (beyond way day) next → IsAskedBefore way s (pos start) (Some day) k ⊎ IsAskedIn way s (pos start) day None k → IsAskedBefore way s (pos start) next k
+asked_earlier way s start day k None h (inl p) = record { found = p.found; until = tt }
+asked_earlier way s start day k None h (inr p) = record { found = p.found; until = tt }
+asked_earlier way s start day k (Some n) h (inl p) = record { found = p.found; until = precedes_along way (k / 86_400) day n p.until (after_beyond way day n h.lies) }
+asked_earlier way s start day k (Some n) h (inr p) =
+    let P : ℕ → Type 0 = λ d. Precedes way d n in
+    record { found = p.found; until = subst P (sym p.here) (after_beyond way day n h.lies) }
+
+asked_later : (way : Way) (s : Sets) (start day k : ℕ) (next : Option ℕ) → IsNearest way (candidate_day s) (beyond way day) next → k < 4_133_980_800 → LiesFrom way (beyond way day) (k / 86_400) → IsAskedBefore way s (pos start) next k → ⊥
+asked_later way s start day k None h lt lies p = both_ways (candidate_day s (k / 86_400)) (h (k / 86_400) lies) (match_candidate s k lt p.found.is_match)
+asked_later way s start day k (Some n) h lt lies p = both_ways (candidate_day s (k / 86_400)) (h.nearest (k / 86_400) lies p.until) (match_candidate s k lt p.found.is_match)
+
+pub asked_next : (way : Way) (s : Sets) (start day a b : ℕ) (next : Option ℕ) → IsNearest way (candidate_day s) (beyond way day) next → IsTally 4_133_980_800 (IsAskedBefore way s (pos start) (Some day)) a → IsTally 4_133_980_800 (IsAskedIn way s (pos start) day None) b → IsTally 4_133_980_800 (IsAskedBefore way s (pos start) next) (a + b)
+asked_next way s start day a b next h early here =
+    kind_joined 4_133_980_800 (IsAskedBefore way s (pos start) (Some day)) (IsAskedIn way s (pos start) day None) (IsAskedBefore way s (pos start) next) a b early here
+    (λ k lt p q. not_before_itself way day (k / 86_400) q.here p.until)
+    (λ k lt e. asked_earlier way s start day k next h e)
+    (λ k lt p. elim (side way day (k / 86_400)) [
+      | before less ↦ inl (record { found = p.found; until = less })
+      | same e ↦ inr (record { found = p.found; here = e; until = tt })
+      | after past gt ↦ absurd (asked_later way s start day k next h lt past p)
+    ])
+
+-- an earlier day's civil seconds come before the answer's, and the answer's before a later day's
+earlier_day : (way : Way) (k c : ℕ) → Precedes way (k / 86_400) (c / 86_400) → Precedes way k c
+earlier_day Ahead k c h = omega arith
+earlier_day Back k c h = omega arith
+
+no_later_day : (way : Way) (k c : ℕ) → Precedes way (c / 86_400) (k / 86_400) → NotPast way k (Some c) → ⊥
+no_later_day Ahead k c h (inl lt) = omega arith
+no_later_day Ahead k c h (inr e) = omega arith
+no_later_day Back k c h (inl lt) = omega arith
+no_later_day Back k c h (inr e) = omega arith
+
+asked_whole : (way : Way) (s : Sets) (start day c a b : ℕ) → c / 86_400 ≡ day → IsTally 4_133_980_800 (IsAskedBefore way s (pos start) (Some day)) a → IsTally 4_133_980_800 (IsAskedIn way s (pos start) day (Some c)) b → IsTally 4_133_980_800 (IsAsked way s (pos start) (Some c)) (a + b)
+asked_whole way s start day c a b e early here =
+    kind_joined 4_133_980_800 (IsAskedBefore way s (pos start) (Some day)) (IsAskedIn way s (pos start) day (Some c)) (IsAsked way s (pos start) (Some c)) a b early here
+    (λ k lt p q. not_before_itself way day (k / 86_400) q.here p.until)
+    (λ k lt u. elim u [
+      | inl p ↦ let P : ℕ → Type 0 = Precedes way (k / 86_400) in record { found = p.found; until = inl (earlier_day way k c (subst P (sym e) p.until)) }
+      | inr q ↦ record { found = q.found; until = q.until }
+    ])
+    (λ k lt p. elim (side way day (k / 86_400)) [
+      | before less ↦ inl (record { found = p.found; until = less })
+      | same f ↦ inr (record { found = p.found; here = f; until = p.until })
+      | after past gt ↦ let P : ℕ → Type 0 = λ d. Precedes way d (k / 86_400) in absurd (no_later_day way k c (subst P (sym e) gt) p.until)
+    ])
+
+pub asked_found : (way : Way) (s : Sets) (z : TimeZone) (start day a b : ℕ) (found : Option Found) → is_some found ≡ true → Finds way s z (pos start) day (option_map found_items found) → IsTally 4_133_980_800 (IsAskedBefore way s (pos start) (Some day)) a → IsTally 4_133_980_800 (IsAskedIn way s (pos start) day (second_of found)) b → IsTally 4_133_980_800 (IsAsked way s (pos start) (second_of found)) (a + b)
+asked_found way s z start day a b None e h early here = cc
+asked_found way s z start day a b (Some f) e h early here =
+    asked_whole way s start day f.first.second a b (found_day way s z day h.from f h.finds) early here
+
+-- the search of the days comes to an end
+pub fewer_days : (way : Way) (s : Sets) (day : ℕ) (next : Option ℕ) → candidate_day s day ≡ true → IsNearest way (candidate_day s) (beyond way day) next → left_to_reach way 47_847 next < left_to_reach way 47_847 (Some day)
+fewer_days Ahead s day None c h = omega (arith, ltb-true day 47_847 (and_parts (nat_lt day 47_847) (is_candidate s (date_numbered day).0) c).0)
+fewer_days Ahead s day (Some n) c h = omega (arith, signed_arith, after_beyond Ahead day n h.lies, ltb-true n 47_847 (and_parts (nat_lt n 47_847) (is_candidate s (date_numbered n).0) h.passes).0)
+fewer_days Back s day None c h = omega arith
+fewer_days Back s day (Some n) c h = omega (arith, signed_arith, after_beyond Back day n h.lies)
+
+pub candidate_in : (s : Sets) (day : ℕ) → candidate_day s day ≡ true → day < 47_847
+candidate_in s day h = ltb-true day 47_847 (and_parts (nat_lt day 47_847) (is_candidate s (date_numbered day).0) h).0

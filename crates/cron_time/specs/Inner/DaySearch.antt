@@ -1,0 +1,69 @@
+-- What the search of one day finds, and what it asks.
+use Rattle.std.specs.Prelude.{◌≡◌, ℕ, ◌+◌, ◌*◌, ◌/◌, ◌%◌, ℤ, pos, Bool, true, false, ◌&&◌, nat_lt, List, Option, MatchOption, option_map}
+use Rattle.jiff_tz.specs.declared.timezone.TimeZone.{TimeZone}
+use Rattle.cron_units.specs.declared.way.Way.{Way}
+use Rattle.cron_units.specs.Nearest.{LiesFrom, IsNearestAt}
+use Rattle.cron_time.specs.Inner.Blocks.{AllFail, Enters}
+use Rattle.cron_time.specs.Civil.{civil, days_in_range}
+use Rattle.cron_time.specs.CivilDates.{date_numbered}
+use Rattle.cron_time.specs.Inner.Places.{stands_at}
+use Rattle.cron_time.specs.Readings.{Reading}
+use Rattle.cron_time.specs.Search.{items_of, stands}
+use Rattle.cron_units.specs.Sets.{Sets}
+use Rattle.cron_time.specs.Matches.{is_candidate, matches}
+use Rattle.cron_time.specs.Inner.Tally.{Before, NotPast}
+use Rattle.cron_time.specs.declared.found.Found.{Found}
+
+-- the second of the day that was found
+abbrev pub time_of : Option Found → Option ℕ
+time_of found = option_map (λ f. f.first.second % 86_400) found
+
+-- and its day
+abbrev pub day_of : Option Found → Option ℕ
+day_of found = option_map (λ f. f.first.second / 86_400) found
+
+-- a day in range whose date is a candidate
+abbrev pub candidate_day : Sets → ℕ → Bool
+candidate_day s day = nat_lt day days_in_range && is_candidate s (date_numbered day).0
+
+-- a time of the day is found: the nearest one from a time on
+pub record FindsTime (way : Way) (s : Sets) (z : TimeZone) (day from : ℕ) (found : List Reading) : Type 0 where
+  pub time : ℕ
+  pub nearest : IsNearestAt way (stands_at s z day) (pos from) time
+  pub items : items_of s z (day * 86_400 + time) ≡ found
+
+-- nothing is found exactly where no time of the day stands
+abbrev pub FindsInDay : Way → Sets → TimeZone → ℕ → ℕ → Option (List Reading) → Type 0
+FindsInDay way s z day from found =
+    MatchOption found (AllFail way (stands_at s z day) (pos from)) (FindsTime way s z day from)
+
+-- the same from a civil second on, which may lie in another day: the day is entered at a time
+pub record FindsFrom (way : Way) (s : Sets) (z : TimeZone) (start : ℤ) (day : ℕ) (found : List Reading) : Type 0 where
+  pub from : ℕ
+  pub enters : Enters way 86_400 start day from
+  pub finds : FindsTime way s z day from found
+
+abbrev pub Finds : Way → Sets → TimeZone → ℤ → ℕ → Option (List Reading) → Type 0
+Finds way s z start day found =
+    MatchOption found ((c : ℕ) → LiesFrom way start c → c / 86_400 ≡ day → stands s z c ≡ false) (FindsFrom way s z start day)
+
+-- a matching civil second that lies from the start
+pub record IsMatch (way : Way) (s : Sets) (start : ℤ) (k : ℕ) : Type 0 where
+  pub is_match : matches s (civil k) ≡ true
+  pub lies : LiesFrom way start k
+
+-- the matching civil seconds of a day, as far as the answer
+pub record IsAskedIn (way : Way) (s : Sets) (start : ℤ) (day : ℕ) (answer : Option ℕ) (k : ℕ) : Type 0 where
+  pub found : IsMatch way s start k
+  pub here : k / 86_400 ≡ day
+  pub until : NotPast way k answer
+
+-- those of all days, as far as the answer
+pub record IsAsked (way : Way) (s : Sets) (start : ℤ) (answer : Option ℕ) (k : ℕ) : Type 0 where
+  pub found : IsMatch way s start k
+  pub until : NotPast way k answer
+
+-- those of the days before one
+pub record IsAskedBefore (way : Way) (s : Sets) (start : ℤ) (next : Option ℕ) (k : ℕ) : Type 0 where
+  pub found : IsMatch way s start k
+  pub until : Before way (k / 86_400) next

@@ -1,0 +1,33 @@
+-- How many numbers below a limit there are of a kind.
+use Rattle.std.specs.Prelude.{◌≡◌, ℕ, ◌<◌, ℤ, Bool, true, ◌↔◌, ◌⊎◌, Option, Some, None, count_by}
+use Rattle.cron_units.specs.declared.way.Way.{Way}
+use Rattle.cron_units.specs.Nearest.{LiesFrom, Precedes}
+use Rattle.cron_time.specs.Timeline.{numbers_below}
+
+-- so many numbers below the limit are of this kind
+pub record IsTally (limit : ℕ) (Kind : ℕ → Type 0) (count : ℕ) : Type 0 where
+  pub test : ℕ → Bool
+  pub tells : (k : ℕ) → k < limit → (test k ≡ true) ↔ Kind k
+  pub total : count ≡ count_by test (numbers_below limit)
+
+-- k comes before the number, if there is one
+abbrev pub Before : Way → ℕ → Option ℕ → Type 0
+Before way k None = Unit {0}
+Before way k (Some n) = Precedes way k n
+
+-- k comes before the number or is it, if there is one
+abbrev pub NotPast : Way → ℕ → Option ℕ → Type 0
+NotPast way k None = Unit {0}
+NotPast way k (Some n) = Precedes way k n ⊎ (k ≡ n)
+
+-- a number from the start on that passes, before the next one that a search comes to
+pub record IsPassedBefore (way : Way) (test : ℕ → Bool) (start : ℤ) (next : Option ℕ) (k : ℕ) : Type 0 where
+  pub passes : test k ≡ true
+  pub lies : LiesFrom way start k
+  pub until : Before way k next
+
+-- the same as far as the answer
+pub record IsPassedTo (way : Way) (test : ℕ → Bool) (start : ℤ) (answer : Option ℕ) (k : ℕ) : Type 0 where
+  pub passes : test k ≡ true
+  pub lies : LiesFrom way start k
+  pub until : NotPast way k answer

@@ -1,0 +1,17 @@
+pub mod Matches
+pub mod CivilDates
+pub mod Civil
+pub mod Readings
+pub mod Timeline
+pub mod Search
+pub mod Bounds
+pub mod Cursor
+pub mod Counts
+pub mod Times
+pub mod MomentText
+pub mod Found
+pub mod Ways
+pub mod Rest
+pub mod WalkLaws
+pub mod FixedLaws
+pub mod Inner

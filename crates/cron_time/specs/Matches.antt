@@ -1,0 +1,37 @@
+-- The civil datetimes that lie in the seven sets of a schedule.
+use Rattle.std.specs.Prelude.{ℕ, ◌+◌, ◌%◌, ℤ, pos, negsuc, Bool, false, ◌&&◌, List}
+use Rattle.jiff_core.specs.declared.civil.date.Date.{Date}
+use Rattle.jiff_core.specs.declared.civil.time.Time.{Time}
+use Rattle.jiff_core.specs.declared.civil.datetime.DateTime.{DateTime}
+use Rattle.jiff_core.specs.Date.{weekday_of}
+use Rattle.cron_units.specs.Sets.{Sets}
+use Rattle.cron_units.specs.Units.{contains}
+
+-- no year before 0 is a member
+abbrev pub contains_year : List ℕ → ℤ → Bool
+contains_year xs (pos y) = contains xs y
+contains_year xs (negsuc y) = false
+
+-- the day of the week, from 1 for Sunday to 7 for Saturday
+abbrev pub weekday_number : Date → ℕ
+weekday_number d = (weekday_of d + 1) % 7 + 1
+
+-- the day of the month lies in its set
+abbrev pub matches_day_of_month : Sets → Date → Bool
+matches_day_of_month s d = contains s.days_of_month d.day
+
+-- a candidate: year, month and day of the month lie in their sets
+abbrev pub is_candidate : Sets → Date → Bool
+is_candidate s d = contains_year s.years d.year && contains s.months d.month && matches_day_of_month s d
+
+-- the day of the week lies in its set too
+abbrev pub matches_date : Sets → Date → Bool
+matches_date s d = is_candidate s d && contains s.days_of_week (weekday_number d)
+
+-- hour, minute and second lie in their sets
+abbrev pub matches_time : Sets → Time → Bool
+matches_time s t = contains s.hours t.hour && contains s.minutes t.minute && contains s.seconds t.second
+
+-- a civil datetime matches: all seven parts lie in their sets
+unfoldable pub matches : Sets → DateTime → Bool
+matches s dt = matches_date s dt.date && matches_time s dt.time

@@ -1,0 +1,30 @@
+//! Numbers of civil seconds, counted from 1970-01-01 00:00:00.
+ghost use Rattle.std.specs.Prelude.{◌≡◌, ◌≤◌};
+ghost use Rattle.jiff_core.specs.DateTime.{civil_seconds};
+ghost use Rattle.cron_time.specs.Civil.{civil};
+ghost use Rattle.cron_time.specs.CivilDates.{date_numbered};
+
+use jiff::civil::{Date, DateTime};
+
+/// The number of a civil second, negative before 1970. A part of a second is cut.
+pub fn civil_number(dt: DateTime) -> i64
+    ensures { result ≡ civil_seconds dt }
+{
+    dt.to_plain().to_second()
+}
+
+/// The civil datetime with this number.
+pub fn civil_of(second: u32) -> DateTime
+    ensures { result ≡ civil second }
+{
+    let nanos = second as i128 * 1_000_000_000;
+    DateTime::from_plain(jiff_core::civil::DateTime::from_nanosecond_in_range(nanos))
+}
+
+/// The date with this day number, counted from 1970-01-01.
+pub fn date_of(day: u32) -> Date
+    requires { day ≤ 2_932_896 }
+    ensures { result ≡ (date_numbered day).0 }
+{
+    Date::from_plain(jiff_core::civil::Date::from_days_since_min(day + 4_371_587))
+}

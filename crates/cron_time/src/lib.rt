@@ -1,0 +1,17 @@
+//! The civil seconds that match the sets of a schedule: their readings in a zone, the search for the
+//! nearest one, and the steps of a walk over them.
+#![tactic(auto)]
+
+mod bounds;
+mod civil;
+mod days;
+pub mod found;
+pub mod matching;
+pub mod moment;
+pub mod search;
+pub mod state;
+pub mod step;
+mod times;
+mod ways;
+
+pub use civil::civil_number;

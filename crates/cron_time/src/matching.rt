@@ -1,0 +1,43 @@
+//! Which dates and times lie in the seven sets.
+
+ghost use Rattle.std.specs.Prelude.{◌≡◌};
+ghost use Rattle.cron_time.specs.Matches.{matches, is_candidate, matches_date, matches_time};
+
+use cron_units::fields::ScheduleFields;
+use cron_units::time_unit::TimeUnitSpec;
+use jiff::civil::{Date, DateTime, Time};
+
+// Whether year, month and day of the month lie in their sets.
+fn is_candidate(fields: &ScheduleFields, date: Date) -> bool
+    ensures { result ≡ is_candidate fields.now date }
+{
+    date.year() >= 0
+        && fields.years.includes(date.year() as u32)
+        && fields.months.includes(date.month() as u32)
+        && fields.days_of_month.includes(date.day() as u32)
+}
+
+// Whether the date lies in the four sets of dates.
+fn includes_date(fields: &ScheduleFields, date: Date) -> bool
+    ensures { result ≡ matches_date fields.now date }
+{
+    is_candidate(fields, date)
+        && fields.includes_weekday(date.weekday().to_sunday_one_offset() as u32)
+}
+
+// Whether the time of day lies in the three sets of times.
+fn includes_time(fields: &ScheduleFields, time: Time) -> bool
+    ensures { result ≡ matches_time fields.now time }
+{
+    fields.hours.includes(time.hour() as u32)
+        && fields.minutes.includes(time.minute() as u32)
+        && fields.seconds.includes(time.second() as u32)
+}
+
+/// Whether the civil datetime lies in all seven sets.
+#[tactic(auto, unfolding(crate::specs::Matches::matches))]
+pub fn includes(fields: &ScheduleFields, date_time: DateTime) -> bool
+    ensures { result ≡ matches fields.now date_time }
+{
+    includes_date(fields, date_time.date()) && includes_time(fields, date_time.time())
+}

@@ -1,5 +1,0 @@
-//! Texts made at random.
-
-pub mod outside_the_grammar;
-pub mod read;
-pub mod refused_values;
