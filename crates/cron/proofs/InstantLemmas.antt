@@ -33,7 +33,7 @@ item_placed i None x h = absurd (cc)
 item_placed i (Some r) x h = (refl, h)
 
 -- a call that answers an item leaves the cursor at its place
-placed : (items : List Reading) (o : Option ℕ) (x : Reading) → (go_to items o).answer ≡ Some x → (i : ℕ) × ((go_to items o).cursor ≡ Place i) × (slice_get items i ≡ Some x)
+pub placed : (items : List Reading) (o : Option ℕ) (x : Reading) → (go_to items o).answer ≡ Some x → (i : ℕ) × ((go_to items o).cursor ≡ Place i) × (slice_get items i ≡ Some x)
 placed items None x h = absurd (cc)
 placed items (Some i) x h = let at = item_placed i (slice_get items i) x h in (i, at.0, at.1)
 

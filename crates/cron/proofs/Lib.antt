@@ -2,3 +2,4 @@ pub mod RunLemmas
 pub mod Examples
 pub mod InstantLemmas
 pub mod Callers
+pub mod ResumedLemmas

@@ -4,4 +4,5 @@ pub mod Turns
 pub mod Examples
 pub mod Headline
 pub mod Instants
+pub mod Resumed
 pub mod Words

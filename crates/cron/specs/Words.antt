@@ -1,5 +1,5 @@
 -- The words of public contracts, in one place for callers: what a schedule, a walk and a search are, and what texts mean.
-pub use Rattle.cron_units.specs.Units.{IsSet, contains, whole}
+pub use Rattle.cron_units.specs.Units.{TimeUnit, IsSet, contains, whole, seconds, minutes, hours, days_of_month, months, days_of_week, years}
 pub use Rattle.cron_units.specs.Bounds.{IsForward, is_within}
 pub use Rattle.cron_units.specs.Sets.{Sets, AreSets, IsFilled}
 pub use Rattle.cron_units.specs.Texts.{Tells, IsMemory, error_text}
@@ -13,15 +13,18 @@ pub use Rattle.cron_time.specs.CivilDates.{date_numbered}
 pub use Rattle.cron_time.specs.Readings.{Reading, instant, reading, readings}
 pub use Rattle.cron_time.specs.Timeline.{timeline, numbers_below}
 pub use Rattle.cron_time.specs.Bounds.{bound_ahead, bound_back}
-pub use Rattle.cron_time.specs.Cursor.{Cursor, Start, Place, Ended, Step, Walk, Steps, Run, step_on, run_on}
+pub use Rattle.cron_time.specs.Cursor.{Cursor, Start, Place, Ended, Step, Walk, Steps, Run, step_on, run_on, go_to, item_at}
 pub use Rattle.cron_time.specs.Ways.{opposite, target}
 pub use Rattle.cron_time.specs.Rest.{Gives, items_from, rest, rest_on, rest_ahead, rest_back}
 pub use Rattle.cron_time.specs.Search.{IsFound, stands}
 pub use Rattle.cron_time.specs.Found.{found_items, second_of}
-pub use Rattle.cron_time.specs.Counts.{conversions, days_of}
-pub use Rattle.cron_time.specs.Times.{TimeOfDay, times_of_day}
+pub use Rattle.cron_time.specs.Counts.{conversions, days_of, candidates, gap_matches}
+pub use Rattle.cron_time.specs.Surveys.{standing_from, surveyed, surveyed_days}
+pub use Rattle.cron_time.specs.Times.{TimeOfDay, times_of_day, time_of_parts, IsNearestTime}
 pub use Rattle.cron_time.specs.MomentText.{moment_text}
 pub use Rattle.cron_text.specs.TextLaws.{IsInGrammar, MeansOnce, MeansSets, LongestFrontsAgree, HasOneFault}
 pub use Rattle.cron_time.specs.WalkLaws.{RunsAreJoined, EndIsForEver, NeighboursAreAnswered, SecondsNeverDecrease, SecondsStandTwiceAtMost, ItemsMatch, ItemsStandOnce}
 pub use Rattle.cron_time.specs.FixedLaws.{Shows, IsAfter, IsLeastAfter, offset_of, FirstIsLeast, NextIsLater}
 pub use Rattle.cron.specs.Instants.{IsLeastIfAny, IsLaterIfAny}
+pub use Rattle.cron_time.specs.Resume.{HasParts, IsAbsent, IsAtItem, IsResumed}
+pub use Rattle.cron.specs.Resumed.{followed_by, CutRunsAreResumed, ItemsAreInRange}

@@ -7,8 +7,10 @@ ghost use Rattle.cron.specs.Examples.{TextsAreCut, ItemsDenote, ItemsAreRefused,
 ghost use Rattle.cron_text.specs.Fault.{IsRefusal};
 ghost use Rattle.cron.specs.Headline.{IsWalked};
 ghost use Rattle.cron.specs.Instants.{IsLeastIfAny, IsLaterIfAny};
+ghost use Rattle.cron.specs.Resumed.{CutRunsAreResumed, ItemsAreInRange};
 ghost use Rattle.cron_text.specs.TextLaws.{MeansOnce, MeansSets, LongestFrontsAgree, HasOneFault};
 ghost use Rattle.cron_time.specs.Times.{TimesOfDayMatch};
+ghost use Rattle.cron_time.specs.Counts.{DaysAtMost};
 ghost use Rattle.cron_time.specs.FixedLaws as fixed;
 ghost use Rattle.cron_time.specs.WalkLaws as law;
 
@@ -122,6 +124,11 @@ pub fn times_of_day()
     ensures { TimesOfDayMatch }
 {}
 
+/// A search makes and tests no more dates than the 47847 of the range.
+pub fn days_at_most()
+    ensures { DaysAtMost }
+{}
+
 /// The run of a joined list of calls is the joined runs.
 pub fn joined_runs()
     ensures { law.RunsAreJoined }
@@ -151,6 +158,16 @@ pub fn twice_at_most()
 /// Each item's civil second matches.
 pub fn matching_items()
     ensures { law.ItemsMatch }
+{}
+
+/// A run that is cut after an item and resumed from it is the run uncut.
+pub fn cut_runs()
+    ensures { CutRunsAreResumed }
+{}
+
+/// Each item's civil second is in the range.
+pub fn items_in_range()
+    ensures { ItemsAreInRange }
 {}
 
 /// No item stands on a timeline twice.

@@ -1,21 +1,22 @@
 //! From a text to a schedule: four readers, one grammar.
 
 ghost use Rattle.std.specs.Prelude.{◌≡◌, IfOk, IfErr};
-ghost use Rattle.std.specs.Cow.{cow_str_bytes};
+ghost use Rattle.std.specs.Cow.{cow_str_bytes, IsOwnedStr};
 ghost use Rattle.std.specs.String.{string_bytes};
-ghost use Rattle.cron_text.specs.Meaning.{Means};
+ghost use Rattle.cron_text.specs.Meaning.{Means, MeansNothing};
 ghost use Rattle.cron_units.specs.Texts.{Tells};
 ghost use Rattle.cron_text.specs.Fault.{IsRefusal};
 
 use crate::schedule::Schedule;
-use cron_text::read_text;
+use cron_text::{fault_error, read_text};
 use cron_units::error::Error;
 use std::alloc::Global;
 use std::borrow::CowStr;
 
 /// Each reader answers a schedule exactly where the text is in the grammar, want of memory aside. A
 /// refusal tells the first refused field's message or `Invalid cron expression.`; or, where a growth
-/// was refused, `out of memory`.
+/// was refused, `out of memory`. Memory is taken for the copy of a borrowed text and for a message
+/// alone, so an owned text of the grammar is always read.
 impl Schedule {
     /// Reads an expression, as `0 0,30 9 * * Mon-Fri`, and keeps a copy of it.
     pub fn from_str(alloc: Global, text: &str) -> Result<Schedule, Error>
@@ -23,9 +24,13 @@ impl Schedule {
         ensures source { IfOk result (λ s. s.source ≡ text.now) }
         ensures refused { IfErr result (Tells (IsRefusal text.now)) }
     {
-        let fields = read_text(alloc, text)?;
-        let source = String::from_str(alloc, text)?;
-        Ok(Schedule::new(source, fields))
+        match read_text(text) {
+            Ok(fields) => {
+                let source = String::from_str(alloc, text)?;
+                Ok(Schedule::new(source, fields))
+            }
+            Err(fault) => Err(fault_error(alloc, fault)),
+        }
     }
 
     /// The same as [`Schedule::from_str`].
@@ -42,9 +47,12 @@ impl Schedule {
         ensures means { IfOk result (λ s. Means (string_bytes text) s.sets) }
         ensures source { IfOk result (λ s. s.source ≡ string_bytes text) }
         ensures refused { IfErr result (Tells (IsRefusal (string_bytes text))) }
+        ensures accepted { IfErr result (λ _. MeansNothing (string_bytes text)) }
     {
-        let fields = read_text(alloc, text.as_str())?;
-        Ok(Schedule::new(text, fields))
+        match read_text(text.as_str()) {
+            Ok(fields) => Ok(Schedule::new(text, fields)),
+            Err(fault) => Err(fault_error(alloc, fault)),
+        }
     }
 
     /// Reads an expression that is borrowed, as [`Schedule::from_str`], or owned, as
@@ -53,6 +61,7 @@ impl Schedule {
         ensures means { IfOk result (λ s. Means (cow_str_bytes text.entry) s.sets) }
         ensures source { IfOk result (λ s. s.source ≡ cow_str_bytes text.entry) }
         ensures refused { IfErr result (Tells (IsRefusal (cow_str_bytes text.entry))) }
+        ensures accepted { IsOwnedStr text.entry → IfErr result (λ _. MeansNothing (cow_str_bytes text.entry)) }
     {
         match text {
             CowStr::Borrowed(text) => Schedule::from_str(alloc, text),

@@ -1,17 +1,22 @@
 //! Single searches on a timeline.
 
-ghost use Rattle.std.specs.Prelude.{◌≡◌, option_map};
+ghost use Rattle.std.specs.Prelude.{◌≡◌, ◌+◌, ◌<◌, ◌≤◌, MatchOption, length, option_map, take};
 ghost use Rattle.cron_units.specs.declared.way.Way.TheVariants.{Ahead, Back};
 ghost use Rattle.jiff.specs.Words.{plain_zone};
 ghost use Rattle.jiff_core.specs.DateTime.{civil_seconds};
-ghost use Rattle.cron_time.specs.Counts.{conversions, days_of};
+ghost use Rattle.cron_time.specs.Counts.{candidates, conversions, days_of, gap_matches};
 ghost use Rattle.cron_time.specs.Found.{found_items, second_of};
 ghost use Rattle.cron_time.specs.Search.{IsFound};
+ghost use Rattle.cron_time.specs.Surveys.{standing_from, surveyed, surveyed_days};
+ghost use Rattle.cron_time.specs.Times.{IsNearestTime, time_of_parts};
 
 use crate::schedule::Schedule;
 use cron_time::civil_number;
-pub use cron_time::found::{Found, Search};
+pub use cron_time::found::{Found, Search, Survey, TimeFound};
 use cron_time::search::search;
+use cron_time::survey::survey;
+use cron_time::times::nearest_time;
+use cron_units::time_unit::Ordinal;
 use cron_units::way::Way;
 use jiff::civil::DateTime;
 use jiff::tz::TimeZone;
@@ -39,5 +44,55 @@ impl Schedule {
             ≡ conversions Back self.now.sets (plain_zone zone.now) (civil_seconds from) (second_of result.found) }
     {
         search(self.fields(), zone, Way::Back, civil_number(from))
+    }
+
+    /// Finds the first `count` civil seconds at or after `from` that match and have a reading, or all
+    /// where there are fewer, by searches ahead one after the other. It tells how many it found and the
+    /// sums of both counts, so a day in which one search ends and the next begins may be counted twice.
+    pub fn survey(&self, from: DateTime, zone: &TimeZone<'_>, count: u32) -> Survey
+        ensures seconds { result.seconds
+            ≡ length (take count (standing_from self.now.sets (plain_zone zone.now) (civil_seconds from))) }
+        ensures conversions { result.conversions
+            ≡ gap_matches self.now.sets (plain_zone zone.now)
+            (surveyed self.now.sets (plain_zone zone.now) (civil_seconds from) count)
+            + result.seconds }
+        ensures least_days { candidates self.now.sets
+            (surveyed_days self.now.sets (plain_zone zone.now) (civil_seconds from) count)
+            ≤ result.days }
+        ensures most_days { result.days
+            ≤ candidates self.now.sets
+            (surveyed_days self.now.sets (plain_zone zone.now) (civil_seconds from) count)
+            + result.seconds }
+    {
+        survey(self.fields(), zone, civil_number(from), count)
+    }
+
+    /// Finds the least time of day at or after the given one whose hour, minute and second lie in their
+    /// sets. The questions for a neighbouring member are counted, one for a least member too.
+    pub fn first_time(&self, hour: Ordinal, minute: Ordinal, second: Ordinal) -> TimeFound
+        requires hour { hour < 24 }
+        requires minute { minute < 60 }
+        requires second { second < 60 }
+        ensures time { IsNearestTime Ahead self.now.sets (time_of_parts (hour, minute, second))
+            (option_map time_of_parts result.time) }
+        ensures questions { MatchOption result.time
+            ((1 ≤ result.questions) × (result.questions ≤ 7))
+            (λ time. (3 ≤ result.questions) × (result.questions ≤ 7)) }
+    {
+        nearest_time(self.filled_fields(), Way::Ahead, hour, minute, second)
+    }
+
+    /// Finds the greatest such time of day at or before the given one.
+    pub fn last_time(&self, hour: Ordinal, minute: Ordinal, second: Ordinal) -> TimeFound
+        requires hour { hour < 24 }
+        requires minute { minute < 60 }
+        requires second { second < 60 }
+        ensures time { IsNearestTime Back self.now.sets (time_of_parts (hour, minute, second))
+            (option_map time_of_parts result.time) }
+        ensures questions { MatchOption result.time
+            ((1 ≤ result.questions) × (result.questions ≤ 7))
+            (λ time. (3 ≤ result.questions) × (result.questions ≤ 7)) }
+    {
+        nearest_time(self.filled_fields(), Way::Back, hour, minute, second)
     }
 }

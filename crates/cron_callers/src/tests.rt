@@ -1,9 +1,9 @@
 //! Each caller once.
 
 use super::{
-    count_fires, count_hours, descending_hours, fault_of, fires_of_day, first_alarms, first_fires,
-    greatest_month, last_fires, minutes_between, missed_runs, next_fire, some_warm_month,
-    summer_months, year_count,
+    Noted, count_fires, count_hours, descending_hours, fault_of, fire_after, fires_of_day,
+    first_alarms, first_fires, greatest_month, has_thirteenth_month, last_fires, minutes_between,
+    missed_runs, next_fire, some_warm_month, summer_months, year_count,
 };
 use cron::Schedule;
 use cron::schedule::Moment;
@@ -163,5 +163,23 @@ fn alarms_ascend_at_one_offset(rt: HostRuntime) -> Result<(), Fail> {
     let alarms = first_alarms(&schedule, instant("1969-12-31T18:29:59.25Z")?, offset);
     assert_eq!(rt; alarms.first, Some(instant("1969-12-31T18:30:00Z")?));
     assert_eq!(rt; alarms.second, Some(instant("1969-12-31T18:30:01Z")?));
+    Ok(())
+}
+
+#[test]
+fn a_service_goes_on_in_a_fold(rt: HostRuntime) -> Result<(), Fail> {
+    let schedule = Schedule::from_str(rt.alloc(), "0 0,30 1 6 11 ? 2022")?;
+    let noted = Noted {
+        shown: "2022-11-06T01:00:00".parse()?,
+        offset: Offset::from_seconds(-4 * 3600)?,
+    };
+    let next = fire_after(&schedule, noted, &new_york()?).ok_or("no fire follows")?;
+    check_fires(&rt, &[next], "2022-11-06 01:00:00 -05:00, ")
+}
+
+#[test]
+fn no_schedule_has_a_thirteenth_month(rt: HostRuntime) -> Result<(), Fail> {
+    let schedule = Schedule::from_str(rt.alloc(), "* * * * * *")?;
+    assert!(rt; !has_thirteenth_month(&schedule));
     Ok(())
 }

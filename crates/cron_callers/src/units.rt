@@ -1,6 +1,6 @@
 //! Walks over the sets of a schedule.
 
-ghost use Rattle.std.specs.Prelude.{◌≡◌, ◌≤◌, length, filter, reverse, max, IfOk, IfSome};
+ghost use Rattle.std.specs.Prelude.{◌≡◌, ◌≤◌, false, length, filter, reverse, max, IfOk, IfSome};
 ghost use Rattle.std.specs.declared.ops.Bound.TheVariants.{Included};
 ghost use Rattle.std.specs.List.{reduce};
 ghost use Rattle.cron.specs.Words.{is_within};
@@ -91,4 +91,13 @@ pub fn greatest_month(schedule: &Schedule, first: Ordinal, last: Ordinal) -> Opt
         });
     }
     greatest
+}
+
+/// Whether the schedule has a thirteenth month: none has.
+pub fn has_thirteenth_month(schedule: &Schedule) -> bool
+    ensures { result ≡ false }
+{
+    let months = schedule.months();
+    let _members = months.iter();
+    months.includes(13)
 }

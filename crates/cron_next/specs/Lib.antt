@@ -2,3 +2,4 @@ pub mod Watching
 pub mod Output
 pub mod Words
 pub mod Answers
+pub mod Pages

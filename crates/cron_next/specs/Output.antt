@@ -29,10 +29,23 @@ abbrev pub direction : Bool → Way
 direction false = Ahead
 direction true = Back
 
--- the lines of the first so many answers of a walk in a direction
+-- the first so many answers of a walk in a direction
+unfoldable pub answers_of : Bool → Walk → ℕ → List (Option Reading)
+answers_of back w count = (run_on (timeline w.sets w.zone) w.zone (replicate count (direction back)) w.cursor).answers
+
+-- their lines
 unfoldable pub lines_of : Bool → Walk → ℕ → List ℕ
-lines_of back w count =
-    flat_map answer_line (run_on (timeline w.sets w.zone) w.zone (replicate count (direction back)) w.cursor).answers
+lines_of back w count = flat_map answer_line (answers_of back w count)
+
+-- the first if it is there, else the second
+abbrev pub first_there : Option Reading → Option Reading → Option Reading
+first_there (Some r) other = Some r
+first_there None other = other
+
+-- the last item among answers, if there is one
+unfoldable pub last_item : List (Option Reading) → Option Reading
+last_item [] = None
+last_item (answer ∷ answers) = first_there (last_item answers) answer
 
 -- the same of the walk that starts at an instant
 abbrev pub listing : Sets → TimeZone → ℤ → ℕ → Bool → List ℕ

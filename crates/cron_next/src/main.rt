@@ -4,6 +4,7 @@
 
 mod answer;
 mod line;
+pub mod page;
 pub mod run;
 #[cfg(test)]
 mod tests;

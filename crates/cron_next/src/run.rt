@@ -4,7 +4,7 @@ ghost use Rattle.std.specs.Prelude.{◌≡◌, ℕ, List, Option, false};
 ghost use Rattle.jiff.specs.Words.{plain_zone};
 ghost use Rattle.cron_units.specs.Texts.{error_text};
 ghost use Rattle.cron_time.specs.Cursor.{Steps};
-ghost use Rattle.cron_next.specs.Output.{direction, lines_of, complaint, Ends, Writes, is_write_failure};
+ghost use Rattle.cron_next.specs.Output.{answers_of, direction, last_item, lines_of, complaint, Ends, Writes, is_write_failure};
 ghost use Rattle.cron_next.specs.Watching.{has_failed, writer_of, IsSent};
 ghost use Rattle.cron_next.specs.declared.run.Outcome.TheVariants.{Refused};
 
@@ -29,31 +29,48 @@ pub enum Outcome {
     WriteFailed,
 }
 
+/// How a page ended.
+#[derive(Clone, Copy, Debug, PartialEq, Eq)]
+pub enum Page {
+    /// The items were written. This is the last of them, or the given item where there was none: hand
+    /// it in for the following page.
+    Listed(Moment),
+    /// The given moment is no item of the schedule in this zone. Nothing was written or flushed.
+    NotAnItem,
+    /// A write or the flush failed, and nothing more was written.
+    WriteFailed,
+}
+
 fn step(walk: &mut ScheduleIterator<'_>, back: bool) -> Option<Moment>
     ensures { Steps (direction back) walk.old result walk.new }
 {
     if back { walk.next_back() } else { walk.next() }
 }
 
-// Writes the lines of the first `count` answers, until the walk ends or a write fails.
-fn send_items<W: Write>(
+/// Writes the lines of the first `count` answers, until the walk ends or a write fails, and answers
+/// the last item whose line was written.
+pub(crate) fn send_items<W: Write>(
     walk: &mut ScheduleIterator<'_>,
     count: u32,
     back: bool,
     out: &mut Watched<W>,
-)
+) -> Option<Moment>
     requires { has_failed out.old ≡ false }
-    ensures { IsSent (W.contents (writer_of out.old)) (W.contents (writer_of out.new)) (has_failed out.new) (lines_of back walk.old count) }
+    ensures lines { IsSent (W.contents (writer_of out.old)) (W.contents (writer_of out.new)) (has_failed out.new) (lines_of back walk.old count) }
+    ensures last { has_failed out.new ≡ false → result ≡ last_item (answers_of back walk.old count) }
 {
+    let mut last = None;
     for _ in 0..count {
         let Some(moment) = step(walk, back) else {
-            return;
+            return last;
         };
         send(out, line_of(&moment).as_slice());
         if out.failed() {
-            return;
+            return last;
         }
+        last = Some(moment);
     }
+    last
 }
 
 // What an error prints.
@@ -76,13 +93,14 @@ fn send_complaint<W: Write>(error: &Error, out: &mut Watched<W>)
     send(out, b"\n");
 }
 
-// Flushes what was written whole, and tells how the run ended.
-fn finish<W: Write>(out: &mut Watched<W>, done: Outcome) -> Outcome
+/// Flushes what was written whole, and tells how the run ended.
+pub(crate) fn finish<W: Write>(out: &mut Watched<W>, done: Outcome) -> Outcome
     requires { is_write_failure done ≡ false }
     ensures ends { (origin : Option (List ℕ)) (text : List ℕ)
         → IsSent origin (W.contents (writer_of out.old)) (has_failed out.old) text
         → Ends done text origin (W.contents (writer_of out.new)) result }
     ensures mark { has_failed out.new ≡ is_write_failure result }
+    ensures whole { is_write_failure result ≡ false → has_failed out.old ≡ false }
 {
     if out.failed() {
         return Outcome::WriteFailed;
@@ -122,7 +140,7 @@ pub fn run<W: Write>(
 {
     match Schedule::from_str(alloc, expression) {
         Ok(schedule) => {
-            send_items(&mut schedule.after(start, zone), count, back, out);
+            let _last = send_items(&mut schedule.after(start, zone), count, back, out);
             finish(out, Outcome::Listed)
         }
         Err(error) => {

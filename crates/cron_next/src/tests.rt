@@ -1,7 +1,11 @@
 //! Outside values, failing writers, words and statuses.
 
+mod limited;
 mod listings;
 mod memory;
+mod owned;
+mod pages;
+mod wanting;
 mod watching;
 mod words_read;
 mod writers;

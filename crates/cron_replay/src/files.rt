@@ -7,6 +7,8 @@ pub(crate) enum Kind {
     Texts,
     /// A form, and the short texts that are read in it.
     ShortTexts,
+    /// A long text, told by its pieces, and its answer.
+    LongTexts,
     /// A walk: expression, zone, start, calls and answers.
     Walks,
     /// A search: expression, zone, datetime and answer.
@@ -16,7 +18,7 @@ pub(crate) enum Kind {
 }
 
 /// The files, each with its kind.
-pub(crate) const FILES: [(Kind, &str); 36] = [
+pub(crate) const FILES: [(Kind, &str); 38] = [
     (Kind::Texts, "texts_accepted.txt"),
     (Kind::Texts, "texts_refused.txt"),
     (Kind::Texts, "texts_beginnings.txt"),
@@ -38,6 +40,7 @@ pub(crate) const FILES: [(Kind, &str); 36] = [
     (Kind::Texts, "texts_random_outside_the_grammar.txt"),
     (Kind::Texts, "texts_random_refused_values.txt"),
     (Kind::ShortTexts, "short_texts.txt"),
+    (Kind::LongTexts, "long_texts.txt"),
     (Kind::Walks, "walks_ahead.txt"),
     (Kind::Walks, "walks_back.txt"),
     (Kind::Walks, "walks_that_turn.txt"),
@@ -48,6 +51,7 @@ pub(crate) const FILES: [(Kind, &str); 36] = [
     (Kind::Walks, "walks_utc.txt"),
     (Kind::Walks, "walks_fixed.txt"),
     (Kind::Walks, "walks_rules.txt"),
+    (Kind::Walks, "walks_zone_turns.txt"),
     (Kind::Walks, "walks_mended_late_starts.txt"),
     (Kind::Walks, "walks_mended_early_starts.txt"),
     (Kind::Walks, "walks_mended_turns.txt"),

@@ -1,11 +1,13 @@
 //! Replays the rows of `data/`: texts and what they mean, walks and what they answer. It prints each
-//! answer that isn't the one of its row, and for each file how many rows it has. Where an answer
-//! differs, a file is missing or a row can't be taken apart, it ends with a status other than 0.
+//! answer that isn't the one of its row, for each file how many rows it has, and how many texts one
+//! change away from an accepted one were tried. Where an answer differs, a file is missing or a row can't be taken apart, it ends with a status other than 0.
 #![tactic(auto)]
 
 mod answers;
 mod characters;
 mod files;
+mod long_texts;
+mod mutations;
 mod readers;
 mod report;
 mod searches;
@@ -25,6 +27,7 @@ fn replay_row(report: &mut Report<'_>, kind: Kind, row: Row<'_>) -> Result<()> {
     match kind {
         Kind::Texts => texts::replay(report, row),
         Kind::ShortTexts => short_texts::replay(report, row),
+        Kind::LongTexts => long_texts::replay(report, row),
         Kind::Walks => walks::replay(report, row),
         Kind::SearchesAhead => searches::replay_ahead(report, row),
         Kind::SearchesBack => searches::replay_back(report, row),
@@ -54,6 +57,7 @@ fn main(rt: HostRuntime) -> Result<()> {
     for (kind, file) in FILES {
         replay_file(&mut report, kind, file)?;
     }
+    mutations::replay(&mut report)?;
     let differences = report.differences();
     ensure!(differences == 0, "{differences} answers differ");
     Ok(())

@@ -2,6 +2,7 @@
 
 use crate::report::{Report, Row};
 use crate::settings::{Case, case_of, listed, zone_named};
+use crate::texts::compare_beginnings;
 use anyhow::Result;
 use cron::Schedule;
 use cron::queries::{Found, Search};
@@ -45,11 +46,13 @@ fn back(alloc: Global, case: Case<'_>) -> Result<String> {
 pub(crate) fn replay_ahead(report: &mut Report<'_>, row: Row<'_>) -> Result<()> {
     let case = case_of(row.text)?;
     let answer = ahead(report.alloc(), case)?;
-    report.compare(row, "first_at_or_after", case.rest, answer.as_str())
+    report.compare(row, "first_at_or_after", case.rest, answer.as_str())?;
+    compare_beginnings(report, row, case.expression)
 }
 
 pub(crate) fn replay_back(report: &mut Report<'_>, row: Row<'_>) -> Result<()> {
     let case = case_of(row.text)?;
     let answer = back(report.alloc(), case)?;
-    report.compare(row, "last_at_or_before", case.rest, answer.as_str())
+    report.compare(row, "last_at_or_before", case.rest, answer.as_str())?;
+    compare_beginnings(report, row, case.expression)
 }

@@ -17,7 +17,7 @@ use anyhow::Result;
 
 /// Compares what a reader makes of a text, and what is kept of it: a schedule keeps the text, and a
 /// refusal its message.
-fn compare_reader(
+pub(crate) fn compare_reader(
     report: &mut Report<'_>,
     row: Row<'_>,
     reader: Reader,
@@ -32,7 +32,7 @@ fn compare_reader(
 }
 
 /// Compares what the other readers make of a text with what the first one makes of it.
-fn compare_readers(report: &mut Report<'_>, row: Row<'_>, text: &str) -> Result<()> {
+pub(crate) fn compare_readers(report: &mut Report<'_>, row: Row<'_>, text: &str) -> Result<()> {
     let read = Reader::FromStr.read(report.alloc(), text);
     let answer = outcome(report.alloc(), &read)?;
     for reader in READERS {

@@ -13,6 +13,9 @@
 //! - Early starts: it takes a year below 0 for one far ahead.
 //! - Turns: it keeps the other reading of an hour that a clock shows twice when a walk turns round.
 //!
+//! `walks_zone_turns.txt` has the turns of 2025 and 2026 in twelve places, and some midnights of places that
+//! don't turn, as the zone database of an ordinary system tells them (2025b).
+//!
 //! `walks_of_eight_calls.txt` has every list of eight calls from four starts about a fold of four items,
 //! with what an index answers that is moved along these items.
 

@@ -1,16 +1,17 @@
 -- The set of a field that is joined item by item, and its first refusal.
 use Rattle.std.proofs.Common.{◌≡◌, ℕ, Bool, true, false, ◌||◌, ◌&&◌, Option, Some, None, Result, Ok, Err, List, [], ◌∷◌, ◌++◌, refl, sym, ap, ◌∙◌, subst, append_assoc, append-nil}
 use Rattle.std.specs.Option.{option_map_or}
-use Rattle.cron_units.specs.Units.{TimeUnit, contains, set_of, IsSet}
+use Rattle.cron_units.specs.Units.{TimeUnit, contains, set_of}
 use Rattle.cron_units.specs.Items.{Item}
 use Rattle.cron_units.specs.Denotation.{Steps, Refusal, in_steps, steps_of, denoted_has, first_refusal, refusal_of, in_items, message}
-use Rattle.std.specs.String.{string_bytes}
-use Rattle.cron_units.specs.declared.error.Error.{Error}
-use Rattle.cron_units.specs.declared.error.ErrorKind.{ErrorKind}
-use Rattle.cron_units.specs.declared.error.ErrorKind.TheVariants.{Expression, OutOfMemory}
-use Rattle.cron_units.specs.Texts.{IsMemoryKind, IsMemory, TellsKind, Tells, Fails}
-use Rattle.cron_units.proofs.Sets.{set_same, contains_set, set_is_set, or_false}
+use Rattle.cron_units.specs.SetLaws.{set_same, contains_set, or_false}
 use Rattle.cron_text.specs.Fault.{TakesField, RefusesField}
+use Rattle.cron_units.specs.Tables.{definition_view}
+use Rattle.cron_units.specs.Views.{refusal_view}
+use Rattle.cron_text.specs.declared.faults.Fault.{Fault}
+use Rattle.cron_text.specs.declared.faults.Fault.TheVariants.{Syntax, Refused}
+use Rattle.cron_units.specs.declared.specifier.messages.RefusedItem.{RefusedItem}
+use Rattle.cron_text.specs.Inner.Faults.{TellsItem, IsUnread}
 use Rattle.cron_text.specs.Inner.FieldReading.{State, joined, next_state, lone_item, with_end, with_step, furthest, field_at, state_items}
 use Rattle.cron_text.specs.Fields.{spacing_fits}
 use Rattle.cron_text.specs.Tokens.{Token, Symbol, symbol_of, comma, dash, slash}
@@ -56,9 +57,6 @@ set_push u is i s xs ys h e k =
     k ∙ set_same u (λ x. contains xs x || in_steps s x) (in_items u (is ++ i ∷ [])) (λ x low high.
     ap (λ (b : Bool). b || in_steps s x) (ap (λ (zs : List ℕ). contains zs x) h ∙ contains_set u (in_items u is) x low high)
     ∙ (ap (λ (o : Result Steps Refusal). in_items u is x || denoted_has x o) (sym e) ∙ sym (in_items-push u is i x)))
-
-pub joined_is_set : (u : TimeUnit) (is : List Item) (xs : List ℕ) → xs ≡ set_of u (in_items u is) → IsSet u xs
-joined_is_set u is xs h = subst (IsSet u) (sym h) (set_is_set u (in_items u is))
 
 -- ---- finished items stay
 
@@ -132,31 +130,20 @@ unread_first u t ts h = rw h refl
 pub read_first : (u : TimeUnit) (t : Token) (ts : List Token) (i : Item) → lone_item u (symbol_of t) ≡ Some i → field_at u (t ∷ ts) ≡ Some (furthest u (record { done = []; item = i; last = t }) ts)
 read_first u t ts i h = rw h refl
 
--- ---- the error of a refused item
+-- ---- the fault of a refused item
 
-kind_memory : (P : List ℕ → Type 0) (k : ErrorKind) → IsMemoryKind k → TellsKind P k
-kind_memory P (Expression t) h = absurd h
-kind_memory P OutOfMemory h = tt
+-- a fault that tells an item tells what it was refused for
+told_item : (u : TimeUnit) (P : Fault → Type 0) (o : Result Steps Refusal) (f : Fault) → ((r : RefusedItem) → o ≡ Err (refusal_view r.refusal) → definition_view r.definition ≡ u → P (Refused r)) → TellsItem u o f → P f
+told_item u P o Syntax g h = absurd h
+told_item u P o (Refused r) g h = g r h.1 h.0
 
-pub memory_tells : (P : List ℕ → Type 0) (e : Error) → IsMemory e → Tells P e
-memory_tells P e h = kind_memory P e.kind h
+unread_by : (u : TimeUnit) (ts : List Token) (r : RefusedItem) → definition_view r.definition ≡ u → RefusesField u ts (message u (refusal_view r.refusal)) → IsUnread u ts (Refused r)
+unread_by u ts r same h = subst (λ (v : TimeUnit). RefusesField u ts (message v (refusal_view r.refusal))) (sym same) h
 
--- what holds of each text that is told
-kind_map : (P Q : List ℕ → Type 0) → ((text : List ℕ) → P text → Q text) → (k : ErrorKind) → TellsKind P k → TellsKind Q k
-kind_map P Q f (Expression t) h = f (string_bytes t) h
-kind_map P Q f OutOfMemory h = tt
+pub unread_inside : (u : TimeUnit) (ts rest : List Token) (done : List Item) (i : Item) (s : State) (f : Fault) → field_at u ts ≡ Some (furthest u s rest) → s.done ≡ done ++ i ∷ [] → refusal_of u done ≡ None → TellsItem u (steps_of u i) f → IsUnread u ts f
+unread_inside u ts rest done i s f h d none t =
+    told_item u (IsUnread u ts) (steps_of u i) f (λ r bad same. unread_by u ts r same (refused_inside u ts rest done i s (refusal_view r.refusal) h d none bad)) t
 
-pub tells_map : (P Q : List ℕ → Type 0) → ((text : List ℕ) → P text → Q text) → (e : Error) → Tells P e → Tells Q e
-tells_map P Q f e h = kind_map P Q f e.kind h
-
-fails_tells : (u : TimeUnit) (P : List ℕ → Type 0) (o : Result Steps Refusal) (e : Error) → ((r : Refusal) → o ≡ Err r → P (message u r)) → Fails u o e → Tells P e
-fails_tells u P (Ok s) e f h = memory_tells P e h
-fails_tells u P (Err r) e f h = tells_map (λ text. text ≡ message u r) P (λ text same. subst P (sym same) (f r refl)) e h
-
-pub failed_inside : (u : TimeUnit) (ts rest : List Token) (done : List Item) (i : Item) (s : State) (e : Error) → field_at u ts ≡ Some (furthest u s rest) → s.done ≡ done ++ i ∷ [] → refusal_of u done ≡ None → Fails u (steps_of u i) e → Tells (RefusesField u ts) e
-failed_inside u ts rest done i s e h d none f =
-    fails_tells u (RefusesField u ts) (steps_of u i) e (λ r bad. refused_inside u ts rest done i s r h d none bad) f
-
-pub failed_last : (u : TimeUnit) (ts rest : List Token) (s : State) (e : Error) → field_at u ts ≡ Some (s, rest) → refusal_of u s.done ≡ None → Fails u (steps_of u s.item) e → Tells (RefusesField u ts) e
-failed_last u ts rest s e h none f =
-    fails_tells u (RefusesField u ts) (steps_of u s.item) e (λ r bad. refused_last u ts rest s r h none bad) f
+pub unread_last : (u : TimeUnit) (ts rest : List Token) (s : State) (f : Fault) → field_at u ts ≡ Some (s, rest) → refusal_of u s.done ≡ None → TellsItem u (steps_of u s.item) f → IsUnread u ts f
+unread_last u ts rest s f h none t =
+    told_item u (IsUnread u ts) (steps_of u s.item) f (λ r bad same. unread_by u ts r same (refused_last u ts rest s (refusal_view r.refusal) h none bad)) t

@@ -9,7 +9,7 @@ use Rattle.cron_units.specs.Items.{Base, every, question_mark, single, number_ra
 use Rattle.cron_units.specs.Laws.{is_unit-seconds, is_unit-minutes, is_unit-hours, is_unit-days_of_month, is_unit-months, is_unit-days_of_week, is_unit-years}
 use Rattle.cron_units.specs.Units.{TimeUnit, IsUnit, whole, contains, set_of, ordinal_of}
 use Rattle.cron_units.specs.Units as units
-use Rattle.cron_units.proofs.Sets.{is_set_from, contains_set, whole_is_all}
+use Rattle.cron_units.specs.SetLaws.{is_set_from, contains_set, whole_is_all}
 use Rattle.cron_units.proofs.Steps.{is_step}
 use Rattle.cron_units.proofs.Words.{ordinal_within}
 use Rattle.cron_text.specs.Meaning.{DenoteYears, DenoteSets, six_units, set_lists, shorthand_of, IsLonghand, trimmed_front, trimmed_end, yearly, monthly, weekly, daily, hourly}

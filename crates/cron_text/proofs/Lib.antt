@@ -1,6 +1,8 @@
 pub mod Digits
 pub mod TokenRuns
+pub mod Places
 pub mod Walks
+pub mod Growing
 pub mod Longest
 pub mod Trims
 pub mod TextLemmas

@@ -1,5 +1,5 @@
 -- A text means one thing, and has one fault.
-use Rattle.std.proofs.Common.{◌≡◌, ℕ, Bool, true, false, cond, ◌⊎◌, inl, inr, not, ◌&&◌, if◌then◌else◌, Option, Some, List, [], ◌∷◌, ◌++◌, codes, refl, sym, ap, ◌∙◌, subst}
+use Rattle.std.proofs.Common.{◌≡◌, ℕ, Bool, true, false, cond, ◌⊎◌, inl, inr, not, ◌&&◌, if◌then◌else◌, Option, Some, None, List, [], ◌∷◌, ◌++◌, codes, refl, sym, ap, ◌∙◌, subst}
 use Rattle.std.specs.Prelude.{slice_index}
 use Rattle.std.specs.Str.{bytes_eq}
 use Rattle.cron_units.specs.Units.{TimeUnit}
@@ -62,6 +62,18 @@ end_first : (text : List ℕ) (d : ℕ) (ds : List ℕ) → trimmed_end text ≡
 unfolding trimmed_end
 end_first [] d ds h = absurd (cc)
 end_first (c ∷ cs) d ds h = (cs, ap (λ (x : ℕ). x ∷ cs) (before_first c d (trimmed_end cs) ds h))
+
+none_from : (o : Option Sets) → ((s : Sets) → o ≡ Some s → ⊥) → o ≡ None
+none_from None f = refl
+none_from (Some s) f = absurd (f s refl)
+
+-- a text that doesn't begin with `@`
+pub no_shorthand : (text : List ℕ) → ((cs : List ℕ) → text ≡ 64 ∷ cs → ⊥) → shorthand_of (trimmed_end text) ≡ None
+no_shorthand text f =
+    none_from (shorthand_of (trimmed_end text)) (λ s h.
+    let w = begins_at (trimmed_end text) s h in
+    let t = end_first text 64 w.0 w.1 in
+    f t.0 t.1)
 
 after_space_gap : (b : Bool) (ts : List Token) → after_space (after_gap b ts) ≡ after_space ts
 after_space_gap false ts = refl

@@ -4,6 +4,10 @@ use Rattle.cron_units.specs.Units.{TimeUnit, whole}
 use Rattle.cron_units.specs.Units as units
 use Rattle.cron_units.specs.Denotation.{refusal_of, Denotes}
 use Rattle.cron_text.specs.Fault.{IsLongestField, NoField, TakesField, RefusesField, IsRefused, IsFaultOf, TakeSets, syntax_text}
+use Rattle.cron_text.specs.FaultText.{fault_text}
+use Rattle.cron_text.specs.Inner.Faults.{IsUnread}
+use Rattle.cron_text.specs.declared.faults.Fault.{Fault}
+use Rattle.cron_text.specs.declared.faults.Fault.TheVariants.{Syntax, Refused}
 use Rattle.cron_text.specs.Fields.{Item, is_connector, spacing_fits, IsField}
 use Rattle.cron_text.specs.Inner.FieldReading.{State, lone_item, joined, next_state, walk, first_state, state_items}
 use Rattle.cron_text.specs.Meaning.{DenoteYears, DenoteSets}
@@ -162,6 +166,23 @@ refused_first u us ts text r =
       no_sets [] h = h
       no_sets (xs ∷ xss) h = let f = first_taken u us ts xs xss h in not_both u ts xs f.0 text r f.1
 
+-- where no front is a field
+unread_first : (u : TimeUnit) (us : List TimeUnit) (ts : List Token) → NoField u ts → IsRefusalOf (u ∷ us) ts syntax_text
+unread_first u us ts n =
+    record { nothing = no_sets; told = inr (none_told, refl) } where
+      no_sets : (xss : List (List ℕ)) → DenoteSets (u ∷ us) ts xss → ⊥
+      no_sets [] h = h
+      no_sets (xs ∷ xss) h = n h.0 h.1 h.2 h.3 h.4
+
+      none_told : (other : List ℕ) → IsRefused (u ∷ us) ts other → ⊥
+      none_told other (inl q) = n q.front q.rest q.items q.longest.cut q.longest.field
+      none_told other (inr q) = n q.2.front q.1 q.2.items q.2.longest.cut q.2.longest.field
+
+-- where the first field isn't read
+pub unread_refused : (u : TimeUnit) (us : List TimeUnit) (ts : List Token) (f : Fault) → IsUnread u ts f → IsRefusalOf (u ∷ us) ts (fault_text f)
+unread_refused u us ts Syntax h = unread_first u us ts h
+unread_refused u us ts (Refused r) h = refused_first u us ts (fault_text (Refused r)) h
+
 -- where the first field is taken and the others are refused
 pub refused_after : (u : TimeUnit) (us : List TimeUnit) (ts : List Token) (xs : List ℕ) (rest : List Token) (text : List ℕ) → TakesField u ts xs rest → IsRefusalOf us rest text → IsRefusalOf (u ∷ us) ts text
 refused_after u us ts xs rest text t r =
@@ -209,6 +230,17 @@ years_refused ts text some r =
 pub years_left_over : (ts : List Token) (xs : List ℕ) (rest : List Token) → (ts ≡ [] → ⊥) → TakesField units.years ts xs rest → (rest ≡ [] → ⊥) → IsRefusalOf [] ts syntax_text
 years_left_over ts xs rest some t left =
     refused_years ts (no_years ts some (λ items ys f d. left (takes_once units.years ts xs ys rest [] t (years_whole ts items ys f d)).0))
+
+-- the field of years isn't read
+pub years_fault : (ts : List Token) (f : Fault) → (ts ≡ [] → ⊥) → IsUnread units.years ts f → IsRefusalOf [] ts syntax_text
+years_fault ts Syntax some h = years_unread ts some h
+years_fault ts (Refused r) some h = years_refused ts (fault_text (Refused r)) some h
+
+-- the field of years, with nothing behind it
+pub years_read : (ts : List Token) (xs : List ℕ) (rest : List Token) → TakesField units.years ts xs rest → rest ≡ [] → DenoteYears ts xs
+years_read ts xs rest t e =
+    let all : ts ≡ t.front = t.longest.cut ∙ (ap (λ (zs : List Token). t.front ++ zs) e ∙ append-nil t.front) in
+    inr (t.items, subst (λ (zs : List Token). IsField units.years zs t.items) (sym all) t.longest.field, t.denotes)
 
 -- a field taken and the sets of the others
 pub sets_after : (u : TimeUnit) (us : List TimeUnit) (ts : List Token) (xs : List ℕ) (rest : List Token) (xss : List (List ℕ)) → TakesField u ts xs rest → DenoteSets us rest xss → DenoteSets (u ∷ us) ts (xs ∷ xss)

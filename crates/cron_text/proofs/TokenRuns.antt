@@ -33,10 +33,10 @@ run_cases c d h = both (is_digit c) (is_digit d) (is_letter c) (is_letter d) h
 digit_no_letter : (c : ℕ) → is_digit c ≡ true → is_letter c ≡ true → ⊥
 digit_no_letter c p q = grind (arith, nat_tests)
 
-digit_no_space : (c : ℕ) → is_digit c ≡ true → is_space c ≡ false
+pub digit_no_space : (c : ℕ) → is_digit c ≡ true → is_space c ≡ false
 digit_no_space c p = grind (arith, nat_tests)
 
-letter_no_space : (c : ℕ) → is_letter c ≡ true → is_space c ≡ false
+pub letter_no_space : (c : ℕ) → is_letter c ≡ true → is_space c ≡ false
 letter_no_space c p = grind (arith, nat_tests)
 
 digits_run : (a b c d : Bool) → a ≡ true → b ≡ true → ((a && b) || (c && d)) ≡ true

@@ -1,4 +1,5 @@
 pub mod FieldReading
 pub mod TextReading
 pub mod Views
-pub mod Shorthands
+pub mod Places
+pub mod Faults

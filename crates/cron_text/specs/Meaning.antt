@@ -59,12 +59,18 @@ monthly = record daily { days_of_month = 1 ∷ [] }
 abbrev pub yearly : Sets
 yearly = record monthly { months = 1 ∷ [] }
 
+-- the words that stand for a whole schedule, and what they mean
+abbrev pub shorthands : List (List ℕ × Sets)
+shorthands =
+    (codes "@yearly", yearly) ∷ (codes "@monthly", monthly) ∷ (codes "@weekly", weekly) ∷ (codes "@daily", daily) ∷ (codes "@hourly", hourly) ∷ []
+
+abbrev pub meaning_in : List (List ℕ × Sets) → List ℕ → Option Sets
+meaning_in [] word = None
+meaning_in (e ∷ es) word = if bytes_eq word e.0 then Some e.1 else meaning_in es word
+
 -- what a shorthand means
 abbrev pub shorthand_of : List ℕ → Option Sets
-shorthand_of word =
-    if bytes_eq word (codes "@yearly") then Some yearly else if bytes_eq word (codes "@monthly") then Some monthly
-    else if bytes_eq word (codes "@weekly") then Some weekly else if bytes_eq word (codes "@daily") then Some daily
-    else if bytes_eq word (codes "@hourly") then Some hourly else None
+shorthand_of word = meaning_in shorthands word
 
 -- a text without the white space before it
 unfoldable pub trimmed_front : List ℕ → List ℕ

@@ -1,45 +1,65 @@
 //! One field, read once from the left and joined into its set on the way.
 
-ghost use Rattle.std.specs.Prelude.{◌≡◌, ◌<◌, length, MatchOption, IfSome, IfNone, IfOk, IfErr, Some, None, List};
+ghost use Rattle.std.specs.Prelude.{◌≡◌, ◌<◌, ◌||◌, length, MatchOption, IfSome, IfErr, OnOk, Some, None, Ok, List, false};
 ghost use Rattle.cron_units.specs.Views.{item_view};
-ghost use Rattle.cron_text.specs.Fault.{NoField, TakesField, RefusesField};
-ghost use Rattle.cron_text.specs.Inner.FieldReading.{next_state, furthest};
-ghost use Rattle.cron_text.specs.Fields.{spacing_fits, is_wildcard, is_connector};
+ghost use Rattle.cron_text.specs.Fault.{TakesField};
+ghost use Rattle.cron_text.specs.Inner.FieldReading.{joined, furthest};
+ghost use Rattle.cron_text.specs.Fields.{is_connector, is_wildcard};
 ghost use Rattle.cron_text.specs.Fields as field;
-ghost use Rattle.cron_units.specs.Texts.{Tells};
-ghost use Rattle.cron_text.specs.Tokens.{tokens};
-ghost use Rattle.cron_text.specs.Inner.Views.{piece, symbol_view, state_view, after_growth};
+ghost use Rattle.cron_text.specs.Tokens.{sign_of, symbol_of};
+ghost use Rattle.cron_text.specs.Tokens as spec;
+ghost use Rattle.cron_text.specs.Inner.Places.{IsPlace, tokens_from, IsConnector, NoConnector, GrowsOn};
+ghost use Rattle.cron_text.specs.Inner.Views.{symbol_view, connector_view, state_view, after_growth};
+ghost use Rattle.cron_text.specs.Inner.Faults.{IsUnread, TellsItem};
+ghost use Rattle.cron_units.specs.Denotation as denotation;
+ghost use Rattle.cron_units.specs.Denotation.{in_steps, steps_of};
+ghost use Rattle.cron_units.specs.Units.{contains, set_of};
 
+use super::faults::Fault;
 use super::items::{lone_item, with_end, with_step};
-use super::symbols::{Symbol, symbol_of};
-use super::tokens::{Token, token_at};
-use cron_units::error::Error;
-use cron_units::specifier::{Item, add_item};
-use cron_units::time_unit::{OrdinalSet, TimeUnitField};
-use std::alloc::Global;
+use super::symbols::{Symbol, token_at};
+use super::tokens::{Place, skip_space};
+use cron_units::specifier::{Item, RefusedItem, add_item};
+use cron_units::time_unit::{TimeUnitField, empty};
 
+/// A sign between two tokens of a field.
+#[derive(Clone, Copy)]
+pub enum Connector {
+    Comma,
+    Dash,
+    Slash,
+}
+
+#[inline(always)]
+fn connector_of(byte: u8) -> Option<Connector>
+    ensures { MatchOption result (is_connector (sign_of byte) ≡ false) (λ kept. connector_view kept ≡ sign_of byte) }
+{
+    match byte {
+        b',' => Some(Connector::Comma),
+        b'-' => Some(Connector::Dash),
+        b'/' => Some(Connector::Slash),
+        _ => None,
+    }
+}
+
+/// The connector at a place.
+#[inline(always)]
+fn connector_at(text: &[u8], place: Place) -> Option<Connector>
+    requires { IsPlace text.now place }
+    ensures connector { MatchOption result (NoConnector (tokens_from text.now place)) (IsConnector text.now place) }
+    ensures within { IfSome result (λ _. place.at < length text.now) }
+{
+    if place.at >= text.len() {
+        return None;
+    }
+    connector_of(text[place.at])
+}
+
+#[inline(always)]
 fn is_wildcard(symbol: Symbol<'_>) -> bool
     ensures { result ≡ is_wildcard (symbol_view symbol.entry) }
 {
     matches!(symbol, Symbol::Star | Symbol::Question)
-}
-
-fn is_connector(symbol: Symbol<'_>) -> bool
-    ensures { result ≡ is_connector (symbol_view symbol.entry) }
-{
-    matches!(symbol, Symbol::Comma | Symbol::Dash | Symbol::Slash)
-}
-
-/// Of a wildcard and a connector side by side, the second has no white space before it.
-fn spacing_fits(left: Token<'_>, right: Token<'_>) -> bool
-    requires left { 0 < length left.text.now }
-    requires right { 0 < length right.text.now }
-    ensures { result ≡ spacing_fits (piece left.entry) (piece right.entry) }
-{
-    let (first, second) = (symbol_of(left), symbol_of(right));
-    !right.spaced
-        || !((is_wildcard(first) && is_connector(second))
-            || (is_connector(first) && is_wildcard(second)))
 }
 
 /// What a connector and a token make of the item before them.
@@ -51,81 +71,104 @@ pub enum Growth<'a> {
     Next(Item<'a>),
 }
 
+#[inline(always)]
 fn growth_by<'a, T: TimeUnitField>(
     item: Item<'a>,
-    last: Token<'a>,
-    connector: Token<'a>,
-    token: Token<'a>,
+    connector: Connector,
+    symbol: Symbol<'a>,
 ) -> Option<Growth<'a>>
-    requires last { 0 < length last.text.now }
-    requires connector { 0 < length connector.text.now }
-    requires token { 0 < length token.text.now }
-    ensures { (done : List field.Item) → MatchOption result
-        (next_state T.unit (state_view done item.entry last.entry) (piece connector.entry) (piece token.entry) ≡ None)
-        (λ g. next_state T.unit (state_view done item.entry last.entry) (piece connector.entry) (piece token.entry) ≡ Some (after_growth done item.entry token.entry g)) }
+    ensures { (done : List field.Item) (last x : spec.Token) → symbol_view symbol.entry ≡ symbol_of x → MatchOption result
+        (joined T.unit (state_view done item.entry last) (connector_view connector) x ≡ None)
+        (λ g. joined T.unit (state_view done item.entry last) (connector_view connector) x ≡ Some (after_growth done item.entry x g)) }
 {
-    if !(spacing_fits(last, connector) && spacing_fits(connector, token)) {
+    match connector {
+        Connector::Comma => Some(Growth::Next(lone_item::<T>(symbol)?)),
+        Connector::Dash => Some(Growth::Grown(with_end(item, symbol)?)),
+        Connector::Slash => Some(Growth::Grown(with_step(item, symbol)?)),
+    }
+}
+
+/// The next connector and token, where the field goes on with them: what they make of the item, whether
+/// the token is a wildcard as the last one was, and the place after it. Of a wildcard and a
+/// connector side by side, the second has no white space before it.
+#[inline(always)]
+fn more_at<'a, T: TimeUnitField>(
+    text: &'a str,
+    place: Place,
+    item: Item<'a>,
+    wildcard: bool,
+) -> Option<(Growth<'a>, bool, Place)>
+    requires { IsPlace text.now place }
+    ensures more { (done : List field.Item) (last : spec.Token) → is_wildcard (symbol_of last) ≡ wildcard → MatchOption result
+        (furthest T.unit (state_view done item.entry last) (tokens_from text.now place) ≡ (state_view done item.entry last, tokens_from text.now place))
+        (λ m. GrowsOn T.unit (state_view done item.entry last) (tokens_from text.now place) done item.entry m.0 m.1 (tokens_from text.now m.2)) }
+    ensures place { IfSome result (λ m. IsPlace text.now m.2) }
+    ensures further { IfSome result (λ m. place.at < m.2.at) }
+{
+    let bytes = text.as_bytes();
+    let connector = connector_at(bytes, place)?;
+    if wildcard && place.spaced {
         return None;
     }
-    let symbol = symbol_of(token);
-    match symbol_of(connector) {
-        Symbol::Comma => Some(Growth::Next(lone_item::<T>(symbol)?)),
-        Symbol::Dash => Some(Growth::Grown(with_end(item, symbol)?)),
-        Symbol::Slash => Some(Growth::Grown(with_step(item, symbol)?)),
-        _ => None,
+    let (token, after) = token_at(text, skip_space(bytes, place.at + 1))?;
+    let wildcard = is_wildcard(token.symbol);
+    if wildcard && token.spaced {
+        return None;
+    }
+    let growth = growth_by::<T>(item, connector, token.symbol)?;
+    Some((growth, wildcard, after))
+}
+
+/// Adds what an item denotes to the set of a field.
+#[inline(always)]
+fn add_to<'a, T: TimeUnitField>(set: &mut T, item: Item<'a>) -> Result<(), Fault<'a>>
+    ensures ok { OnOk result ((s : denotation.Steps) × (steps_of T.unit (item_view item.entry) ≡ Ok s) × (T.members set.new ≡ set_of T.unit (λ x. contains (T.members set.old) x || in_steps s x))) }
+    ensures err { IfErr result (TellsItem T.unit (steps_of T.unit (item_view item.entry))) }
+{
+    match add_item::<T>(set, item) {
+        Ok(()) => Ok(()),
+        Err(refusal) => Err(Fault::Refused(RefusedItem {
+            definition: T::definition(),
+            refusal,
+        })),
     }
 }
 
-/// The next connector and token, where the field goes on with them: what they make of the item, the
-/// token, and the text after it.
-fn more_at<'a, T: TimeUnitField>(
-    item: Item<'a>,
-    last: Token<'a>,
-    text: &'a [u8],
-) -> Option<(Growth<'a>, Token<'a>, &'a [u8])>
-    requires { 0 < length last.text.now }
-    ensures more { (done : List field.Item) → MatchOption result
-        (furthest T.unit (state_view done item.entry last.entry) (tokens text.now) ≡ (state_view done item.entry last.entry, tokens text.now))
-        (λ m. furthest T.unit (state_view done item.entry last.entry) (tokens text.now) ≡ furthest T.unit (after_growth done item.entry m.1 m.0) (tokens m.2.now)) }
-    ensures some { IfSome result (λ m. 0 < length m.1.text.now) }
-    ensures shorter { IfSome result (λ m. length m.2.now < length text.now) }
-{
-    let (connector, rest) = token_at(text)?;
-    let (token, after) = token_at(rest)?;
-    let growth = growth_by::<T>(item, last, connector, token)?;
-    Some((growth, token, after))
-}
-
-/// The set of the longest field at the front of a text, and the text after it; `None` where no front is a field.
+/// Reads the longest field at a place into a set, and goes to the place after it.
+#[inline(always)]
 pub fn read_field<'a, T: TimeUnitField>(
-    alloc: Global,
-    text: &'a [u8],
-) -> Result<Option<(T, &'a [u8])>, Error>
-    ensures taken { IfOk result (λ r. IfSome r (λ f. TakesField T.unit (tokens text.now) (T.members f.0) (tokens f.1.now))) }
-    ensures unread { IfOk result (λ r. IfNone r (NoField T.unit (tokens text.now))) }
-    ensures refused { IfErr result (Tells (RefusesField T.unit (tokens text.now))) }
+    text: &'a str,
+    place: &mut Place,
+    set: &mut T,
+) -> Result<(), Fault<'a>>
+    requires { IsPlace text.now place.old }
+    ensures taken { OnOk result (TakesField T.unit (tokens_from text.now place.old) (T.members set.new) (tokens_from text.now place.new)) }
+    ensures place { OnOk result (IsPlace text.now place.new) }
+    ensures refused { IfErr result (IsUnread T.unit (tokens_from text.now place.old)) }
 {
-    let Some((first, after)) = token_at(text) else {
-        return Ok(None);
+    let Some((first, after)) = token_at(text, *place) else {
+        return Err(Fault::Syntax);
     };
-    let Some(lone) = lone_item::<T>(symbol_of(first)) else {
-        return Ok(None);
+    let Some(lone) = lone_item::<T>(first.symbol) else {
+        return Err(Fault::Syntax);
     };
-    let mut set = OrdinalSet::new(alloc);
+    let mut joined: T = empty();
     let mut item = lone;
-    let mut last: Token = first;
-    let mut rest = after;
-    while let Some((growth, token, after)) = more_at::<T>(item, last, rest) {
+    let mut wildcard = is_wildcard(first.symbol);
+    let mut next = after;
+    while let Some((growth, last, after)) = more_at::<T>(text, next, item, wildcard) {
         match growth {
             Growth::Grown(grown) => item = grown,
-            Growth::Next(next) => {
-                add_item::<T>(alloc, &mut set, item)?;
-                item = next;
+            Growth::Next(other) => {
+                add_to(&mut joined, item)?;
+                item = other;
             }
         }
-        last = token;
-        rest = after;
+        wildcard = last;
+        next = after;
     }
-    add_item::<T>(alloc, &mut set, item)?;
-    Ok(Some((T::from_ordinals(set), rest)))
+    add_to(&mut joined, item)?;
+    *place = next;
+    *set = joined;
+    Ok(())
 }

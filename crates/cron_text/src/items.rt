@@ -11,6 +11,7 @@ use cron_units::specifier::{Base, Item};
 use cron_units::time_unit::TimeUnitField;
 
 /// The item that one token is.
+#[inline(always)]
 pub fn lone_item<'a, T: TimeUnitField>(symbol: Symbol<'a>) -> Option<Item<'a>>
     ensures { option_map item_view result ≡ lone_item T.unit (symbol_view symbol.entry) }
 {
@@ -24,6 +25,7 @@ pub fn lone_item<'a, T: TimeUnitField>(symbol: Symbol<'a>) -> Option<Item<'a>>
 }
 
 /// The range from an item to a token.
+#[inline(always)]
 pub fn with_end<'a>(item: Item<'a>, end: Symbol<'a>) -> Option<Item<'a>>
     ensures { option_map item_view result ≡ with_end (item_view item.entry) (symbol_view end.entry) }
 {
@@ -37,6 +39,7 @@ pub fn with_end<'a>(item: Item<'a>, end: Symbol<'a>) -> Option<Item<'a>>
 }
 
 /// The item with a step.
+#[inline(always)]
 pub fn with_step<'a>(item: Item<'a>, step: Symbol<'a>) -> Option<Item<'a>>
     ensures { option_map item_view result ≡ with_step (item_view item.entry) (symbol_view step.entry) }
 {

@@ -1,10 +1,13 @@
 //! The texts of cron expressions: what they mean, and why others mean nothing.
 #![tactic(auto)]
 
+mod faults;
 mod fields;
 mod items;
+mod shorthands;
 mod symbols;
 mod texts;
 mod tokens;
 
+pub use faults::{Fault, fault_error};
 pub use texts::read_text;

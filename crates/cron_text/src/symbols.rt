@@ -1,14 +1,14 @@
 //! What the grammar sees in a token.
 
-ghost use Rattle.std.specs.Prelude.{◌≡◌, ◌<◌, ◌^◌, length, true};
+ghost use Rattle.std.specs.Prelude.{◌≡◌, ◌<◌, [], length, slice_index, MatchOption, IfSome, true, false};
 ghost use Rattle.std.specs.List.{list_all};
 ghost use Rattle.std.specs.Option.{SomeIff};
 ghost use Rattle.std.specs.Str.Parse.{digits_value};
-ghost use Rattle.cron_text.specs.Tokens.{is_digit, is_letter, symbol_of};
-ghost use Rattle.cron_text.specs.Inner.Views.{piece, symbol_view};
+ghost use Rattle.cron_text.specs.Tokens.{is_digit, is_letter, is_space, sign_of};
+ghost use Rattle.cron_text.specs.Inner.Places.{IsPlace, tokens_from, IsTokenAt, IsRead};
+ghost use Rattle.cron_text.specs.Inner.Views.{symbol_view};
 
-use super::tokens::Token;
-use std::str;
+use super::tokens::{Place, digits_end, is_digit, is_letter, letters_end, skip_space};
 
 #[derive(Clone, Copy)]
 pub enum Symbol<'a> {
@@ -23,52 +23,12 @@ pub enum Symbol<'a> {
     Foreign,
 }
 
-fn all_digits(text: &[u8]) -> bool
-    ensures { result ≡ list_all is_digit text.now }
+/// What the grammar sees in a single byte.
+#[inline(always)]
+fn sign(byte: u8) -> Symbol<'static>
+    ensures { symbol_view result ≡ sign_of byte }
 {
-    text.iter().all(|byte| byte.is_ascii_digit())
-}
-
-fn all_letters(text: &[u8]) -> bool
-    ensures { result ≡ list_all is_letter text.now }
-{
-    text.iter().all(|byte| byte.is_ascii_alphabetic())
-}
-
-/// The number that digits spell, if it fits.
-fn number(digits: &[u8]) -> Option<u32>
-    requires some { 0 < length digits.now }
-    requires digits { list_all is_digit digits.now ≡ true }
-    ensures { SomeIff result (digits_value 10 digits.now < 4294967296) (digits_value 10 digits.now) }
-{
-    let Ok(text) = str::from_utf8(digits) else {
-        unreachable!()
-    };
-    match text.parse::<u32>() {
-        Ok(value) => Some(value),
-        Err(_) => None,
-    }
-}
-
-/// What the grammar sees in a token.
-#[tactic(auto, unfolding(crate::specs::Tokens::symbol_of))]
-pub fn symbol_of<'a>(token: Token<'a>) -> Symbol<'a>
-    requires { 0 < length token.text.now }
-    ensures { symbol_view result ≡ symbol_of (piece token.entry) }
-{
-    if all_digits(token.text) {
-        return match number(token.text) {
-            Some(value) => Symbol::Number(value),
-            None => Symbol::Foreign,
-        };
-    }
-    if all_letters(token.text) {
-        let Ok(word) = str::from_utf8(token.text) else {
-            unreachable!()
-        };
-        return Symbol::Word(word);
-    }
-    match token.text[0] {
+    match byte {
         b'*' => Symbol::Star,
         b'?' => Symbol::Question,
         b',' => Symbol::Comma,
@@ -76,4 +36,83 @@ pub fn symbol_of<'a>(token: Token<'a>) -> Symbol<'a>
         b'/' => Symbol::Slash,
         _ => Symbol::Foreign,
     }
+}
+
+/// The number that digits spell, if it fits.
+#[inline(always)]
+fn number(digits: &str) -> Option<u32>
+    requires some { 0 < length digits.now }
+    requires digits { list_all is_digit digits.now ≡ true }
+    ensures { SomeIff result (digits_value 10 digits.now < 4294967296) (digits_value 10 digits.now) }
+{
+    match digits.parse::<u32>() {
+        Ok(value) => Some(value),
+        Err(_) => None,
+    }
+}
+
+/// The number that begins at an index, and where it ends.
+#[inline(always)]
+fn number_at(text: &str, at: usize) -> (Symbol<'_>, usize)
+    requires within { at < length text.now }
+    requires digit { is_digit (slice_index text.now at) ≡ true }
+    ensures { IsTokenAt text.now at result.0 result.1 }
+{
+    let end = digits_end(text.as_bytes(), at + 1);
+    match number(&text[at..end]) {
+        Some(value) => (Symbol::Number(value), end),
+        None => (Symbol::Foreign, end),
+    }
+}
+
+/// The word that begins at an index, and where it ends.
+#[inline(always)]
+fn word_at(text: &str, at: usize) -> (Symbol<'_>, usize)
+    requires within { at < length text.now }
+    requires letter { is_letter (slice_index text.now at) ≡ true }
+    ensures { IsTokenAt text.now at result.0 result.1 }
+{
+    let end = letters_end(text.as_bytes(), at + 1);
+    (Symbol::Word(&text[at..end]), end)
+}
+
+/// The token that begins at an index: what the grammar sees in it, and where it ends.
+#[inline(always)]
+fn symbol_at(text: &str, at: usize) -> (Symbol<'_>, usize)
+    requires within { at < length text.now }
+    requires front { is_space (slice_index text.now at) ≡ false }
+    ensures { IsTokenAt text.now at result.0 result.1 }
+{
+    let first = text.as_bytes()[at];
+    if is_digit(first) {
+        return number_at(text, at);
+    }
+    if is_letter(first) {
+        return word_at(text, at);
+    }
+    (sign(first), at + 1)
+}
+
+/// A token, by what the grammar sees in it.
+#[derive(Clone, Copy)]
+pub struct Token<'a> {
+    /// White space stands directly before it.
+    pub spaced: bool,
+    pub symbol: Symbol<'a>,
+}
+
+/// The token at a place, and the place of the next one.
+#[inline(always)]
+pub fn token_at(text: &str, place: Place) -> Option<(Token<'_>, Place)>
+    requires { IsPlace text.now place }
+    ensures token { MatchOption result (tokens_from text.now place ≡ []) (λ found. IsRead text.now place found.0 found.1) }
+    ensures place { IfSome result (λ found. IsPlace text.now found.1) }
+    ensures further { IfSome result (λ found. place.at < found.1.at) }
+{
+    if place.at >= text.len() {
+        return None;
+    }
+    let (symbol, end) = symbol_at(text, place.at);
+    let spaced = place.spaced;
+    Some((Token { spaced, symbol }, skip_space(text.as_bytes(), end)))
 }

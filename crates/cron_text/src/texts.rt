@@ -1,163 +1,95 @@
 //! Whole texts: a shorthand, or six fields and years or none.
 
-ghost use Rattle.std.specs.Prelude.{◌≡◌, ◌∷◌, [], IfOk, IfErr, List, true, false};
-ghost use Rattle.std.specs.Option.{option_map};
-ghost use Rattle.cron_units.specs.Units.{TimeUnit};
-ghost use Rattle.cron_text.specs.Fault.{TakesField, syntax_text};
-ghost use Rattle.cron_text.specs.Meaning.{DenoteYears, DenoteSets, six_units, set_lists, shorthand_of, Means};
-ghost use Rattle.cron_text.specs.Inner.Shorthands.{shorthand_sets};
-ghost use Rattle.cron_units.specs.Texts.{Tells};
+ghost use Rattle.std.specs.Prelude.{◌≡◌, ◌≤◌, [], length, drop, IfOk, IfErr, OnOk};
 ghost use Rattle.cron_text.specs.Fault.{IsRefusal};
+ghost use Rattle.cron_text.specs.FaultText.{fault_text};
+ghost use Rattle.cron_text.specs.Inner.Places.{IsPlace, tokens_from};
 ghost use Rattle.cron_text.specs.Inner.TextReading.{IsRefusalOf};
-ghost use Rattle.cron_text.specs.Tokens.{tokens};
+ghost use Rattle.cron_text.specs.Meaning.{DenoteYears, DenoteSets, Means, six_units, set_lists, shorthand_of, trimmed_end};
 
+use super::faults::Fault;
 use super::fields::read_field;
-use super::tokens::{token_at, trimmed};
-use cron_units::error::{Error, ErrorKind};
+use super::shorthands::shorthand_named;
+use super::tokens::{Place, skip_space, trimmed_end};
 use cron_units::fields::ScheduleFields;
-use cron_units::specifier::told;
-use cron_units::time_unit::{TimeUnitField, Years, only, whole};
-use std::alloc::{AllocError, Global};
+use cron_units::time_unit::{Years, empty, whole};
 
-/// A word that stands for a whole schedule.
-#[derive(Clone, Copy)]
-pub enum Shorthand {
-    Yearly,
-    Monthly,
-    Weekly,
-    Daily,
-    Hourly,
-}
-
-fn shorthand_named(word: &[u8]) -> Option<Shorthand>
-    ensures { option_map shorthand_sets result ≡ shorthand_of word.now }
+/// The sets of the shorthand from an index on, behind which white space may stand.
+fn shorthand_at(text: &[u8], at: usize) -> Option<ScheduleFields>
+    requires { at ≤ length text.now }
+    ensures { result ≡ shorthand_of (trimmed_end (drop at text.now)) }
 {
-    if word == b"@yearly".as_slice() {
-        return Some(Shorthand::Yearly);
+    if at >= text.len() {
+        return None;
     }
-    if word == b"@monthly".as_slice() {
-        return Some(Shorthand::Monthly);
+    if text[at] != b'@' {
+        return None;
     }
-    if word == b"@weekly".as_slice() {
-        return Some(Shorthand::Weekly);
-    }
-    if word == b"@daily".as_slice() {
-        return Some(Shorthand::Daily);
-    }
-    if word == b"@hourly".as_slice() {
-        return Some(Shorthand::Hourly);
-    }
-    None
-}
-
-/// The sets of a shorthand.
-fn shorthand_fields(alloc: Global, shorthand: Shorthand) -> Result<ScheduleFields, AllocError>
-    ensures { IfOk result (λ f. f ≡ shorthand_sets shorthand) }
-{
-    Ok(ScheduleFields {
-        seconds: only(alloc, 0)?,
-        minutes: only(alloc, 0)?,
-        hours: match shorthand {
-            Shorthand::Hourly => whole(alloc)?,
-            _ => only(alloc, 0)?,
-        },
-        days_of_month: match shorthand {
-            Shorthand::Yearly | Shorthand::Monthly => only(alloc, 1)?,
-            _ => whole(alloc)?,
-        },
-        months: match shorthand {
-            Shorthand::Yearly => only(alloc, 1)?,
-            _ => whole(alloc)?,
-        },
-        days_of_week: match shorthand {
-            Shorthand::Weekly => only(alloc, 1)?,
-            _ => whole(alloc)?,
-        },
-        years: whole(alloc)?,
-    })
-}
-
-/// The error of a text that can't be read.
-fn syntax(alloc: Global) -> Error
-    ensures { Tells (λ text. text ≡ syntax_text) result }
-{
-    told(alloc, "Invalid cron expression.")
-}
-
-/// Reads a field that must be there.
-fn required<'a, T: TimeUnitField>(alloc: Global, text: &'a [u8]) -> Result<(T, &'a [u8]), Error>
-    ensures taken { IfOk result (λ f. TakesField T.unit (tokens text.now) (T.members f.0) (tokens f.1.now)) }
-    ensures refused { IfErr result (Tells (λ fault. (us : List TimeUnit) → IsRefusalOf (T.unit ∷ us) (tokens text.now) fault)) }
-{
-    match read_field::<T>(alloc, text) {
-        Ok(Some(field)) => Ok(field),
-        Ok(None) => Err(syntax(alloc)),
-        Err(error) => Err(error),
-    }
-}
-
-/// Nothing but white space is left.
-fn is_blank(text: &[u8]) -> bool
-    ensures blank { result ≡ true → tokens text.now ≡ [] }
-    ensures some { result ≡ false → tokens text.now ≡ [] → ⊥ }
-{
-    token_at(text).is_none()
+    shorthand_named(trimmed_end(&text[at..]))
 }
 
 /// Reads the years after the six fields, all of them where nothing is left. A refused field of years
 /// has no message of its own.
-fn years_or_all(alloc: Global, text: &[u8]) -> Result<Years, Error>
-    ensures years { IfOk result (λ years. DenoteYears (tokens text.now) years) }
-    ensures refused { IfErr result (Tells (IsRefusalOf [] (tokens text.now))) }
+fn read_years<'a>(text: &'a str, start: Place, years: &mut Years) -> Result<(), Fault<'a>>
+    requires { IsPlace text.now start }
+    ensures years { OnOk result (DenoteYears (tokens_from text.now start) years.new) }
+    ensures refused { IfErr result (λ fault. IsRefusalOf [] (tokens_from text.now start) (fault_text fault)) }
 {
-    if is_blank(text) {
-        return Ok(whole(alloc)?);
+    if start.at >= text.len() {
+        *years = whole();
+        return Ok(());
     }
-    match read_field::<Years>(alloc, text) {
-        Ok(Some((years, rest))) => {
-            if is_blank(rest) {
-                return Ok(years);
-            }
-            Err(syntax(alloc))
-        }
-        Ok(None) => Err(syntax(alloc)),
-        Err(error) => match error.kind() {
-            ErrorKind::Expression(_) => Err(syntax(alloc)),
-            ErrorKind::OutOfMemory => Err(error),
-        },
+    let mut place = start;
+    match read_field(text, &mut place, years) {
+        Ok(()) => {}
+        Err(_) => return Err(Fault::Syntax),
+    }
+    if place.at < text.len() {
+        return Err(Fault::Syntax);
+    }
+    Ok(())
+}
+
+/// Seven empty sets.
+fn no_ordinals() -> ScheduleFields {
+    ScheduleFields {
+        seconds: empty(),
+        minutes: empty(),
+        hours: empty(),
+        days_of_month: empty(),
+        months: empty(),
+        days_of_week: empty(),
+        years: empty(),
     }
 }
 
 /// Reads six fields, and years or none.
-fn longhand(alloc: Global, text: &[u8]) -> Result<ScheduleFields, Error>
-    ensures sets { IfOk result (λ fields. DenoteSets six_units (tokens text.now) (set_lists fields)) }
-    ensures refused { IfErr result (Tells (IsRefusalOf six_units (tokens text.now))) }
+fn longhand(text: &str, start: Place) -> Result<ScheduleFields, Fault<'_>>
+    requires { IsPlace text.now start }
+    ensures sets { IfOk result (λ fields. DenoteSets six_units (tokens_from text.now start) (set_lists fields)) }
+    ensures refused { IfErr result (λ fault. IsRefusalOf six_units (tokens_from text.now start) (fault_text fault)) }
 {
-    let (seconds, rest) = required(alloc, text)?;
-    let (minutes, rest) = required(alloc, rest)?;
-    let (hours, rest) = required(alloc, rest)?;
-    let (days_of_month, rest) = required(alloc, rest)?;
-    let (months, rest) = required(alloc, rest)?;
-    let (days_of_week, rest) = required(alloc, rest)?;
-    let years = years_or_all(alloc, rest)?;
-    Ok(ScheduleFields {
-        seconds,
-        minutes,
-        hours,
-        days_of_month,
-        months,
-        days_of_week,
-        years,
-    })
+    let mut place = start;
+    let mut fields = no_ordinals();
+    read_field(text, &mut place, &mut fields.seconds)?;
+    read_field(text, &mut place, &mut fields.minutes)?;
+    read_field(text, &mut place, &mut fields.hours)?;
+    read_field(text, &mut place, &mut fields.days_of_month)?;
+    read_field(text, &mut place, &mut fields.months)?;
+    read_field(text, &mut place, &mut fields.days_of_week)?;
+    read_years(text, place, &mut fields.years)?;
+    Ok(fields)
 }
 
-/// The seven sets that a text means.
-pub fn read_text(alloc: Global, text: &str) -> Result<ScheduleFields, Error>
+/// The seven sets that a text means, or why it means nothing. No memory is taken.
+pub fn read_text(text: &str) -> Result<ScheduleFields, Fault<'_>>
     ensures sets { IfOk result (λ fields. Means text.now fields) }
-    ensures refused { IfErr result (Tells (IsRefusal text.now)) }
+    ensures refused { IfErr result (λ fault. IsRefusal text.now (fault_text fault)) }
 {
-    match shorthand_named(trimmed(text.as_bytes())) {
-        Some(shorthand) => Ok(shorthand_fields(alloc, shorthand)?),
-        None => longhand(alloc, text.as_bytes()),
+    let bytes = text.as_bytes();
+    let start = skip_space(bytes, 0);
+    match shorthand_at(bytes, start.at) {
+        Some(fields) => Ok(fields),
+        None => longhand(text, start),
     }
 }

@@ -1,63 +1,99 @@
-//! The tokens of a text.
+//! Where the tokens of a text begin and end.
 
-ghost use Rattle.std.specs.Prelude.{◌≡◌, ◌∷◌, [], ◌+◌, ◌≤◌, ◌<◌, length, MatchOption, IfSome, IsTrue, drop, take, slice_index, ℕ, true, false};
-ghost use Rattle.cron_text.specs.Tokens.{tokens, is_space, in_one_run, after_gap, BeginsNoSpace};
+ghost use Rattle.std.specs.Prelude.{◌≡◌, ◌≤◌, ◌<◌, length, drop, slice_index, ℕ, true, false};
+ghost use Rattle.cron_text.specs.Tokens.{tokens, is_space, is_digit, is_letter};
 ghost use Rattle.cron_text.specs.Meaning.{trimmed_front, trimmed_end};
-ghost use Rattle.cron_text.specs.Inner.Views.{piece};
+ghost use Rattle.cron_text.specs.Inner.Places.{IsPlace, tokens_from};
 
 /// White space is space, tab, carriage return and line feed.
+#[inline(always)]
 fn is_space(byte: u8) -> bool
     ensures { result ≡ is_space byte }
 {
     matches!(byte, b' ' | b'\t' | b'\r' | b'\n')
 }
 
-/// Whether two bytes that stand side by side are of one token: both digits, or both letters.
-fn in_one_run(left: u8, right: u8) -> bool
-    ensures { result ≡ in_one_run left right }
+#[inline(always)]
+pub fn is_digit(byte: u8) -> bool
+    ensures { result ≡ is_digit byte }
 {
-    (left.is_ascii_digit() && right.is_ascii_digit())
-        || (left.is_ascii_alphabetic() && right.is_ascii_alphabetic())
+    byte.is_ascii_digit()
 }
 
-/// How many bytes after the first are of its token.
-fn run_len(first: u8, others: &[u8]) -> usize
-    ensures within { result ≤ length others.now }
-    ensures before { (k : ℕ) → k < result → in_one_run first (slice_index others.now k) ≡ true }
-    ensures end { result < length others.now → in_one_run first (slice_index others.now result) ≡ false }
+#[inline(always)]
+pub fn is_letter(byte: u8) -> bool
+    ensures { result ≡ is_letter byte }
 {
-    for (i, byte) in others.iter().enumerate() {
-        if !in_one_run(first, *byte) {
-            return i;
+    byte.is_ascii_alphabetic()
+}
+
+/// A place of a text where a token begins or the text ends.
+#[derive(Clone, Copy)]
+pub struct Place {
+    pub at: usize,
+    /// White space stands directly before it.
+    pub spaced: bool,
+}
+
+/// The first place behind white space.
+#[inline(always)]
+pub fn skip_space(text: &[u8], from: usize) -> Place
+    requires { from ≤ length text.now }
+    ensures place { IsPlace text.now result }
+    ensures same { tokens_from text.now result ≡ tokens (drop from text.now) }
+    ensures trims { drop result.at text.now ≡ trimmed_front (drop from text.now) }
+    ensures further { from ≤ result.at }
+{
+    for at in from..text.len() {
+        if !is_space(text[at]) {
+            let spaced = from < at;
+            return Place { at, spaced };
         }
     }
-    others.len()
+    Place {
+        at: text.len(),
+        spaced: false,
+    }
 }
 
-/// The text without the white space at its front, and whether there was any.
-fn skip_space(text: &[u8]) -> (bool, &[u8])
-    ensures same { tokens text.now ≡ after_gap result.0 (tokens result.1.now) }
-    ensures trims { result.1.now ≡ trimmed_front text.now }
-    ensures front { BeginsNoSpace result.1.now }
-    ensures shorter { length result.1.now ≤ length text.now }
+/// The end of the digits from an index on.
+#[inline(always)]
+pub fn digits_end(text: &[u8], from: usize) -> usize
+    requires { from ≤ length text.now }
+    ensures within { result ≤ length text.now }
+    ensures further { from ≤ result }
+    ensures before { (k : ℕ) → from ≤ k → k < result → is_digit (slice_index text.now k) ≡ true }
+    ensures end { result < length text.now → is_digit (slice_index text.now result) ≡ false }
 {
-    let mut spaced = false;
+    for at in from..text.len() {
+        if !is_digit(text[at]) {
+            return at;
+        }
+    }
+    text.len()
+}
+
+/// The end of the letters from an index on.
+pub fn letters_end(text: &[u8], from: usize) -> usize
+    requires { from ≤ length text.now }
+    ensures within { result ≤ length text.now }
+    ensures further { from ≤ result }
+    ensures before { (k : ℕ) → from ≤ k → k < result → is_letter (slice_index text.now k) ≡ true }
+    ensures end { result < length text.now → is_letter (slice_index text.now result) ≡ false }
+{
+    for at in from..text.len() {
+        if !is_letter(text[at]) {
+            return at;
+        }
+    }
+    text.len()
+}
+
+/// A text without the white space at its end.
+pub fn trimmed_end(text: &[u8]) -> &[u8]
+    ensures { result.now ≡ trimmed_end text.now }
+{
     let mut rest = text;
-    while let Some((first, others)) = rest.split_first() {
-        if !is_space(*first) {
-            break;
-        }
-        spaced = true;
-        rest = others;
-    }
-    (spaced, rest)
-}
-
-/// The text without the white space at both ends.
-pub fn trimmed(text: &[u8]) -> &[u8]
-    ensures { result.now ≡ trimmed_end (trimmed_front text.now) }
-{
-    let (_, mut rest) = skip_space(text);
     while let Some((last, others)) = rest.split_last() {
         if !is_space(*last) {
             break;
@@ -65,24 +101,4 @@ pub fn trimmed(text: &[u8]) -> &[u8]
         rest = others;
     }
     rest
-}
-
-/// A token of a text: all digits of a number, all letters of a word, or one other byte.
-#[derive(Clone, Copy)]
-pub struct Token<'a> {
-    /// White space stood directly before it.
-    pub spaced: bool,
-    pub text: &'a [u8],
-}
-
-/// The first token, and the text after it.
-pub fn token_at(text: &[u8]) -> Option<(Token<'_>, &[u8])>
-    ensures first { MatchOption result (tokens text.now ≡ []) (λ found. tokens text.now ≡ piece found.0 ∷ tokens found.1.now) }
-    ensures some { IfSome result (λ found. 0 < length found.0.text.now) }
-    ensures shorter { IfSome result (λ found. length found.1.now < length text.now) }
-{
-    let (spaced, rest) = skip_space(text);
-    let (first, others) = rest.split_first()?;
-    let (text, after) = rest.split_at(run_len(*first, others) + 1);
-    Some((Token { spaced, text }, after))
 }

@@ -35,6 +35,14 @@ civil_nanos-civil c h = omega (arith, signed_arith, civil_nanos-civil_seconds (c
 pub is_civil : (dt : DateTime) (c : ℕ) → c < 2 ^ 32 → civil_nanos dt ≡ pos (c * 1_000_000_000) → dt ≡ civil c
 is_civil dt c h e = same_datetime dt (civil c) (e ∙ sym (civil_nanos-civil c h))
 
+-- so is one with its day's date and its seconds since midnight
+pub is_civil_of : (dt : DateTime) (c : ℕ) → c < 2 ^ 32 → dt.date ≡ (date_numbered (c / 86_400)).0 → time_seconds dt.time ≡ c % 86_400 → dt.time.subsec_nanosecond ≡ 0 → dt ≡ civil c
+unfolding civil_seconds
+is_civil_of dt c h date time whole =
+    let day : epoch_day dt.date ≡ pos (c / 86_400) = rw date ((date_numbered (c / 86_400)).1 (omega arith)) in
+    let seconds : civil_seconds dt ≡ pos c = omega (arith, signed_arith, day, time) in
+    is_civil dt c h (omega (arith, signed_arith, civil_nanos-civil_seconds dt, seconds, whole))
+
 -- the date of a civil second is that of its day
 pub date-civil : (c : ℕ) → (civil c).date ≡ (date_numbered (c / 86_400)).0
 unfolding civil

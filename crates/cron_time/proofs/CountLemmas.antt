@@ -1,5 +1,5 @@
 -- The counts of a whole search.
-use Rattle.std.proofs.Common.{◌≡◌, ℕ, ◌+◌, ◌/◌, ◌<◌, ◌≤◌, Bool, true, false, not, nat_lt, ℤ, pos, negsuc, Option, Some, None, option_map, add-zero, refl, sym, ap, subst, ◌∙◌, inl, inr, arith}
+use Rattle.std.proofs.Common.{◌≡◌, ℕ, ◌+◌, ◌/◌, ◌<◌, ◌≤◌, Bool, true, false, not, nat_lt, ℤ, pos, negsuc, Option, Some, None, option_map, IfSome, add-zero, refl, sym, ap, subst, ◌∙◌, inl, inr, arith}
 use Rattle.std.proofs.lemmas.Bool.{cases_Bool, cases_lt, and_parts, and_from, and_cases, both_ways, lt-ltb, ltb-true, not_from_false}
 use Rattle.jiff_core.proofs.SignedLemmas.{signed_arith}
 use Rattle.jiff_tz.specs.declared.timezone.TimeZone.{TimeZone}
@@ -22,7 +22,7 @@ use Rattle.cron_units.specs.Sets.{Sets}
 use Rattle.cron_time.specs.Matches.{is_candidate, matches}
 use Rattle.cron_time.specs.Inner.Starts.{Starts, LiesOutside}
 use Rattle.cron_time.specs.Inner.Tally.{IsTally, NotPast, IsPassedTo}
-use Rattle.cron_time.proofs.TallyLemmas.{kind_same, kind_one, kind_joined, kind_unique, within_kind, kind_none}
+use Rattle.cron_time.proofs.TallyLemmas.{kind_bound, kind_same, kind_one, kind_joined, kind_unique, within_kind, kind_none}
 
 -- the numbers from a start to an answer are those of the stretch
 Within : ℕ → Way → ℤ → Option ℕ → Stretch → Type 0
@@ -144,7 +144,7 @@ whole_seconds Back from start st =
     (omega arith, λ k small lies until. (omega arith, omega (arith, signed_arith)), λ k low high. (omega (arith, signed_arith), tt))
 
 -- the answer's second stands, so it matches and is in range
-stands_matches : (s : Sets) (z : TimeZone) (c : ℕ) → stands s z c ≡ true → (c < 4_133_980_800) × (matches s (civil c) ≡ true)
+pub stands_matches : (s : Sets) (z : TimeZone) (c : ℕ) → stands s z c ≡ true → (c < 4_133_980_800) × (matches s (civil c) ≡ true)
 stands_matches s z c h =
     elim (cases_Bool (matches s (civil c))) [
       | inl inside ↦ (ltb-true c 4_133_980_800 (and_parts (nat_lt c 4_133_980_800) (has_item (items_of s z c)) h).0, inside)
@@ -152,7 +152,7 @@ stands_matches s z c h =
     ]
 
 -- what was found is the answer's second
-answer_second : (way : Way) (s : Sets) (z : TimeZone) (start : ℤ) (f : Found) → IsFoundAt way s z start (found_items f) → IsNearestAt way (stands s z) start f.first.second
+pub answer_second : (way : Way) (s : Sets) (z : TimeZone) (start : ℤ) (f : Found) → IsFoundAt way s z start (found_items f) → IsNearestAt way (stands s z) start f.first.second
 answer_second way s z start f h =
     let P : ℕ → Type 0 = IsNearestAt way (stands s z) start in subst P (sym (items_second s z h.second f h.items)) h.nearest
 
@@ -187,3 +187,23 @@ outside_conversions Ahead s z (pos b) h = empty_stretch (is_gap_match s z) (pass
 outside_conversions Ahead s z (negsuc b) h = absurd (omega (arith, signed_arith))
 outside_conversions Back s z (pos b) h = absurd (omega (arith, signed_arith))
 outside_conversions Back s z (negsuc b) h = empty_stretch (is_gap_match s z) (passed Back (negsuc b) None) (omega arith) ∙ sym (add-zero _)
+
+-- a search looks at no more days than there are
+pub within_end : (test : ℕ → Bool) (s : Stretch) → count_within test s ≤ s.to
+within_end test s = kind_bound s.to _ _ (within_kind s.to test s (omega arith))
+
+pub days_at_most : (way : Way) (s : Sets) (from : ℤ) (answer : Option ℕ) → IfSome answer (λ c. c < 4_133_980_800) → days_of way s from answer ≤ 47_847
+days_at_most way s from answer h = omega (arith, within_end (λ day. is_candidate s (date_numbered day).0) (span way from answer), span_end way from answer h)
+  where
+    span_end : (way : Way) (from : ℤ) (answer : Option ℕ) → IfSome answer (λ c. c < 4_133_980_800) → (span way from answer).to ≤ 47_847
+    span_end Ahead from None h = omega arith
+    span_end Ahead from (Some c) h = omega arith
+    span_end Back (pos b) None h = omega arith
+    span_end Back (negsuc b) None h = omega arith
+    span_end Back (pos b) (Some c) h = omega arith
+    span_end Back (negsuc b) (Some c) h = omega arith
+
+-- what was found is in range
+pub found_in : (way : Way) (s : Sets) (z : TimeZone) (from : ℤ) (found : Option Found) → IsFound way s z from (option_map found_items found) → IfSome (second_of found) (λ c. c < 4_133_980_800)
+found_in way s z from None h = tt
+found_in way s z from (Some f) h = (stands_matches s z f.first.second (answer_second way s z from f h).passes).0

@@ -3,8 +3,6 @@ use Rattle.std.proofs.Common.{◌≡◌, ℕ, ◌+◌, ◌-◌, ◌*◌, ◌/◌
 use Rattle.std.proofs.lemmas.Int.{by_lt_z}
 use Rattle.std.proofs.lemmas.Bool.{le-leb}
 use Rattle.jiff_core.specs.declared.civil.date.Date.{Date}
-use Rattle.jiff_core.specs.declared.civil.datetime.DateTime.{DateTime}
-use Rattle.cron_time.specs.Civil.{civil}
 use Rattle.jiff_core.specs.Calendar.{days_from_civil, days_in_month}
 use Rattle.jiff_core.specs.Date.{epoch_day}
 use Rattle.jiff_core.proofs.SignedLemmas.{signed_arith}
@@ -17,7 +15,6 @@ use Rattle.cron_units.specs.Sets.{Sets}
 use Rattle.cron_time.specs.Matches.{is_candidate}
 use Rattle.cron_time.specs.Inner.Places.{matches_place}
 use Rattle.cron_units.specs.Units.{contains}
-use Rattle.cron_time.proofs.CivilLemmas.{date-civil}
 
 first_day : days_from_civil (pos 1970) 1 1 ≡ pos 0
 first_day = omega (arith, signed_arith, days_from_civil-day_count (pos 1970) 1 1, day_count-epoch)
@@ -75,6 +72,11 @@ low_year : (d : Date) → pos 0 ≤ℤ epoch_day d → pos 1970 ≤ℤ d.year
 unfolding first_date
 low_year d h =
     by_lt_z d.year (pos 1970) (λ lt. absurd (omega (arith, signed_arith, first_epoch, epoch_day-lt d first_date (inl lt)))) (λ ge. ge)
+
+high_year : (d : Date) → epoch_day d <ℤ pos 47_847 → d.year ≤ℤ pos 2100
+unfolding last_date
+high_year d h =
+    by_lt_z (pos 2100) d.year (λ lt. absurd (omega (arith, signed_arith, last_epoch, epoch_day-lt last_date d (inl lt)))) (λ ge. ge)
 
 year_is : (y : ℤ) → pos 1970 ≤ℤ y → y ≡ pos (unsigned_abs y)
 year_is (pos n) h = refl
@@ -134,15 +136,12 @@ place_candidate s d low =
     let parts = matches_parts s (place_date d) (unsigned_abs d.year) d.month d.day (omega arith) (omega arith) (omega arith) fits in
     rw parts (rw e refl)
 
--- the date of a civil second of the range
-pub date_with : (d : Date) (dt : DateTime) (c : ℕ) → d ≡ dt.date → dt ≡ civil c → d ≡ (date_numbered (c / 86_400)).0
-date_with d dt c e f = e ∙ ap (λ x. x.date) f ∙ date-civil c
-
 pub place_with : (d : Date) (n : ℕ) → d ≡ (date_numbered n).0 → place (unsigned_abs d.year * 12 + d.month - 1) d.day ≡ place_date (date_numbered n).0
 place_with d n e =
     let here : place (unsigned_abs d.year * 12 + d.month - 1) d.day ≡ place_date d = omega (arith, d.month_in) in
     here ∙ ap (λ x. place_date x) e
 
-pub year_with : (d : Date) (c : ℕ) → c < 4_133_980_800 → d ≡ (date_numbered (c / 86_400)).0 → pos 1970 ≤ℤ d.year
-year_with d c h e =
-    let P : Date → Type 0 = λ x. pos 1970 ≤ℤ x.year in subst P (sym e) (low_at (c / 86_400) (omega arith))
+pub year_with : (d : Date) (n : ℕ) → n < 47_847 → d ≡ (date_numbered n).0 → (pos 1970 ≤ℤ d.year) × (d.year ≤ℤ pos 2100)
+year_with d n h e =
+    let P : Date → Type 0 = λ x. (pos 1970 ≤ℤ x.year) × (x.year ≤ℤ pos 2100) in
+    subst P (sym e) (low_at n h, high_year (date_numbered n).0 (omega (arith, signed_arith, epoch_at n h)))

@@ -1,21 +1,22 @@
 -- Days by their places, a hundred for each month, and by their numbers.
-use Rattle.std.proofs.Common.{◌≡◌, ℕ, ◌/◌, ◌%◌, ◌<◌, ◌≤◌, true, false, nat_lt, nat_le, min, ℤ, pos, negsuc, ◌≤ℤ◌, unsigned_abs, Option, Some, None, option_map, IfSome, refl, sym, ap, subst, ◌∙◌, inl, inr, arith}
-use Rattle.std.proofs.lemmas.Bool.{and_parts, and_from, and_left, and_right, cases_lt, lt-ltb, le-ltb, leb-true}
+use Rattle.std.proofs.Common.{◌≡◌, ℕ, ◌+◌, ◌/◌, ◌%◌, ◌<◌, ◌≤◌, true, false, nat_lt, nat_le, nat_eq, Bool, cond, ℤ, pos, negsuc, ◌≤ℤ◌, unsigned_abs, Option, Some, None, option_map, IfSome, refl, sym, ap, subst, ◌∙◌, inl, inr, arith}
+use Rattle.std.proofs.lemmas.Bool.{both_ways, cases_Bool, and_parts, and_from, and_left, and_right, cases_lt, lt-ltb, le-ltb, leb-true}
 use Rattle.jiff_core.specs.declared.civil.date.Date.{Date}
-use Rattle.jiff_core.specs.Calendar.{days_from_civil, days_in_month}
+use Rattle.jiff_core.specs.Calendar.{days_from_civil, days_in_month, is_leap_year}
 use Rattle.jiff_core.specs.Date.{epoch_day}
+use Rattle.jiff_core.proofs.CalendarLemmas.{weekday_number-parts}
 use Rattle.jiff_core.proofs.SignedLemmas.{signed_arith}
 use Rattle.cron_units.specs.declared.way.Way.{Way}
 use Rattle.cron_units.specs.declared.way.Way.TheVariants.{Ahead, Back}
-use Rattle.cron_units.specs.Nearest.{LiesFrom, Precedes, IsNearest}
+use Rattle.cron_units.specs.Nearest.{LiesFrom, Precedes, IsNearest, IsNearestAt}
 use Rattle.cron_units.specs.Units.{contains}
 use Rattle.cron_time.specs.Inner.Blocks.{IsSplit}
 use Rattle.cron_time.specs.CivilDates.{date_numbered}
 use Rattle.cron_time.specs.Inner.DaySearch.{candidate_day}
-use Rattle.cron_time.specs.Inner.Days.{day_place, number_of, IsInRange}
+use Rattle.cron_time.specs.Inner.Days.{day_place, number_of, IsInRange, longest}
 use Rattle.cron_time.specs.Inner.Places.{beyond, place, place_date, day_number, year_of, month_of, length_of, matches_day, matches_month, matches_place}
 use Rattle.cron_units.specs.Sets.{Sets}
-use Rattle.cron_time.specs.Matches.{is_candidate}
+use Rattle.cron_time.specs.Matches.{is_candidate, weekday_number}
 use Rattle.cron_time.specs.declared.days.Day.{Day}
 use Rattle.cron_time.proofs.BlockLemmas.{both_split}
 use Rattle.cron_time.proofs.CivilLemmas.{is_date_numbered}
@@ -100,7 +101,7 @@ place_past way i j hi hj h =
 candidate_place : (s : Sets) (j : ℕ) → j < 47_847 → matches_place s (place_date (date_numbered j).0) ≡ is_candidate s (date_numbered j).0
 candidate_place s j h = place_candidate s (date_numbered j).0 (low_at j h)
 
-candidate_fails : (s : Sets) (j : ℕ) → (j < 47_847 → matches_place s (place_date (date_numbered j).0) ≡ false) → candidate_day s j ≡ false
+pub candidate_fails : (s : Sets) (j : ℕ) → (j < 47_847 → matches_place s (place_date (date_numbered j).0) ≡ false) → candidate_day s j ≡ false
 candidate_fails s j h =
     elim (cases_lt j 47_847) [
       | inl lt ↦ and_right (nat_lt j 47_847) (is_candidate s (date_numbered j).0) (sym (candidate_place s j lt) ∙ h lt)
@@ -113,17 +114,16 @@ same_day s m d a b e f h =
     let Q : ℕ → Type 0 = λ y. matches_day s a y ≡ true in
     subst Q f (subst P e h)
 
--- the date of a candidate, made from its parts
-pub record IsMade (s : Sets) (d : Day) (date : Date) : Type 0 where
-  pub in_range : number_of d < 47_847
-  pub is : date ≡ (date_numbered (number_of d)).0
-  pub epoch : epoch_day date ≡ pos (number_of d)
-  pub candidate : is_candidate s (date_numbered (number_of d)).0 ≡ true
+-- the date of a day of a month, made from its parts
+pub record IsMade (month day : ℕ) (date : Date) : Type 0 where
+  pub in_range : day_number month day < 47_847
+  pub is : date ≡ (date_numbered (day_number month day)).0
+  pub epoch : epoch_day date ≡ pos (day_number month day)
 
 same_parts : (date : Date) (y : ℤ) (m k : ℕ) → date.year ≡ y → date.month ≡ m → date.day ≡ k → epoch_day date ≡ days_from_civil y m k
 same_parts date y m k ey em ek = rw (ey, em, ek) refl
 
-day_fits : (s : Sets) (d : Day) → IsInRange d → matches_place s (day_place d) ≡ true → d.day ≤ length_of d.month
+pub day_fits : (s : Sets) (d : Day) → IsInRange d → matches_place s (day_place d) ≡ true → d.day ≤ length_of d.month
 day_fits s d range h =
     let parts = and_parts (matches_month s (day_place d / 100)) (matches_day s (day_place d / 100) (day_place d % 100)) h in
     let e : day_place d / 100 ≡ d.month = omega (arith, range) in
@@ -134,20 +134,53 @@ day_fits s d range h =
 pub number_of_place : (s : Sets) (d : Day) → IsInRange d → matches_place s (day_place d) ≡ true → IsNumber d.month d.day (number_of d)
 number_of_place s d range h = number_is d.month d.day range.0 range.1 range.2 (day_fits s d range h)
 
-pub is_made : (s : Sets) (d : Day) (y : ℤ) (date : Date) → IsInRange d → matches_place s (day_place d) ≡ true → y ≡ pos (year_of d.month) → date.year ≡ y → date.month ≡ month_of d.month → date.day ≡ min d.day (days_in_month y (month_of d.month)) → IsMade s d date
-is_made s d y date range h ey year month day =
-    let n = number_of_place s d range h in
-    let fits = day_fits s d range h in
-    let P : ℤ → Type 0 = λ z. date.day ≡ min d.day (days_in_month z (month_of d.month)) in
-    let short : date.day ≡ min d.day (length_of d.month) = subst P ey day in
-    let whole : date.day ≡ d.day = omega (arith, short, fits) in
-    let epoch : epoch_day date ≡ pos (number_of d) = same_parts date (pos (year_of d.month)) (month_of d.month) d.day (year ∙ ey) month whole ∙ n.epoch in
+pub is_made : (month day : ℕ) (date : Date) → 23_640 ≤ month → month < 25_212 → 1 ≤ day → day ≤ length_of month → date.year ≡ pos (year_of month) → date.month ≡ month_of month → date.day ≡ day → IsMade month day date
+is_made month day date low high first last ey em ek =
+    let n = number_is month day low high first last in
+    let epoch : epoch_day date ≡ pos (day_number month day) = same_parts date (pos (year_of month)) (month_of month) day ey em ek ∙ n.epoch in
     record {
       in_range = n.in_range;
-      is = is_date_numbered date (number_of d) (omega (arith, n.in_range)) epoch;
+      is = is_date_numbered date (day_number month day) (omega (arith, n.in_range)) epoch;
       epoch = epoch;
-      candidate = sym (candidate_place s (number_of d) n.in_range) ∙ ap (matches_place s) n.at ∙ h;
     }
+
+-- the day of the week by the day number, from 1 for Sunday
+pub weekday_by_number : (date : Date) (n : ℕ) → epoch_day date ≡ pos n → (n + 4) % 7 + 1 ≡ weekday_number date
+weekday_by_number date n e =
+    omega (arith, signed_arith, weekday_number-parts (epoch_day date), e)
+
+-- a month is no longer than in a leap year
+longer : (two leap : Bool) (n : ℕ) → cond two (cond leap 29 28) n ≤ cond two 29 n
+longer true true n = omega arith
+longer true false n = omega arith
+longer false leap n = omega arith
+
+length_longest : (y : ℤ) (m : ℕ) → days_in_month y m ≤ days_in_month (pos 2000) m
+length_longest y m = longer (nat_eq m 2) (is_leap_year y) _
+
+-- where the least day of the set is past the end of every month, no place passes
+pub no_month_has : (s : Sets) (least : ℕ) → IsNearestAt Ahead (contains s.days_of_month) (pos 0) least → ((m : ℕ) → contains s.months m ≡ true → longest m < least) → (p : ℕ) → matches_place s p ≡ false
+no_month_has s least days short p =
+    elim (cases_Bool (matches_place s p)) [
+      | inr out ↦ out
+      | inl inside ↦
+          let both = and_parts (matches_month s (p / 100)) (matches_day s (p / 100) (p % 100)) inside in
+          let month = (and_parts (contains s.years (year_of (p / 100))) (contains s.months (month_of (p / 100))) both.0).1 in
+          let day = and_parts (contains s.days_of_month (p % 100)) (nat_le (p % 100) (length_of (p / 100))) both.1 in
+          let fits = leb-true (p % 100) (length_of (p / 100)) day.1 in
+          let long = length_longest (pos (year_of (p / 100))) (month_of (p / 100)) in
+          let below = short (month_of (p / 100)) month in
+          absurd (both_ways (contains s.days_of_month (p % 100)) (days.nearest (p % 100) (omega (arith, signed_arith)) (omega (arith, fits, long, below))) day.0)
+    ]
+
+pub no_day : (s : Sets) → ((p : ℕ) → matches_place s p ≡ false) → (day : ℕ) → candidate_day s day ≡ false
+no_day s none day = candidate_fails s day (λ lt. none _)
+
+-- a day whose place passes is a candidate
+pub is_candidate_place : (s : Sets) (d : Day) → IsInRange d → matches_place s (day_place d) ≡ true → is_candidate s (date_numbered (number_of d)).0 ≡ true
+is_candidate_place s d range h =
+    let n = number_of_place s d range h in
+    sym (candidate_place s (number_of d) n.in_range) ∙ ap (matches_place s) n.at ∙ h
 
 -- the nearest day by places is the nearest by numbers
 pub by_number : (way : Way) (s : Sets) (places numbers : ℤ) (found : Option Day) → ((j : ℕ) → j < 47_847 → LiesFrom way numbers j → LiesFrom way places (place_date (date_numbered j).0)) → ((j : ℕ) → j < 47_847 → LiesFrom way places (place_date (date_numbered j).0) → LiesFrom way numbers j) → IfSome found IsInRange → IsNearest way (matches_place s) places (option_map day_place found) → IsNearest way (candidate_day s) numbers (option_map number_of found)

@@ -1,7 +1,6 @@
 -- The search of one day: what it finds, and what it asks.
-use Rattle.std.proofs.Common.{◌≡◌, ℕ, ◌+◌, ◌*◌, ◌/◌, ◌%◌, ◌<◌, true, false, nat_lt, List, [], ℤ, pos, Option, Some, None, option_map, refl, sym, ap, subst, ◌∙◌, inl, inr, arith}
+use Rattle.std.proofs.Common.{◌≡◌, ℕ, ◌+◌, ◌*◌, ◌/◌, ◌%◌, ◌<◌, true, false, nat_lt, List, [], ℤ, pos, Option, Some, None, option_map, refl, sym, subst, ◌∙◌, inl, inr, arith}
 use Rattle.std.proofs.lemmas.Bool.{and_parts, and_from, and_left, and_right, both_ways, cases_Bool, ltb-true}
-use Rattle.jiff_core.specs.declared.civil.date.Date.{Date}
 use Rattle.jiff_tz.specs.declared.timezone.TimeZone.{TimeZone}
 use Rattle.cron_units.specs.declared.way.Way.{Way}
 use Rattle.cron_units.specs.declared.way.Way.TheVariants.{Ahead, Back}
@@ -12,7 +11,6 @@ use Rattle.cron_time.specs.Civil.{civil}
 use Rattle.cron_time.specs.CivilDates.{date_numbered}
 use Rattle.cron_time.specs.Inner.DaySearch.{candidate_day, FindsInDay, FindsTime, Finds, IsAskedIn, time_of}
 use Rattle.cron_time.specs.Found.{second_of}
-use Rattle.cron_time.specs.Inner.Days.{number_of}
 use Rattle.cron_time.specs.Found.{found_items}
 use Rattle.cron_time.specs.Inner.Places.{matches_second, stands_at}
 use Rattle.cron_time.specs.Readings.{Reading}
@@ -20,30 +18,18 @@ use Rattle.cron_time.specs.Search.{items_of, stands}
 use Rattle.cron_units.specs.Sets.{Sets}
 use Rattle.cron_time.specs.Matches.{is_candidate, matches, matches_date, weekday_number}
 use Rattle.cron_time.specs.Inner.Tally.{IsTally, IsPassedTo, NotPast}
-use Rattle.cron_time.specs.declared.days.Day.{Day}
 use Rattle.cron_time.specs.declared.found.Found.{Found}
 use Rattle.cron_time.proofs.BlockLemmas.{block_fails}
-use Rattle.cron_time.proofs.DayLemmas.{IsMade}
 use Rattle.cron_time.proofs.FoundLemmas.{second_is}
 use Rattle.cron_time.proofs.StandLemmas.{matches_at, unmatched, split_stands}
 use Rattle.cron_time.proofs.TallyLemmas.{kind_block, kind_none, kind_same}
 
--- whether the made date matches goes with its weekday
-pub date_fails : (s : Sets) (d : Day) (date : Date) (w : ℕ) → IsMade s d date → w ≡ weekday_number date → false ≡ contains s.days_of_week w → matches_date s (date_numbered (number_of d)).0 ≡ false
-date_fails s d date w made e h =
-    let same : w ≡ weekday_number (date_numbered (number_of d)).0 = e ∙ ap (λ x. weekday_number x) made.is in
-    let P : ℕ → Type 0 = λ x. contains s.days_of_week x ≡ false in
-    and_right (is_candidate s (date_numbered (number_of d)).0) _ (subst P same (sym h))
+-- whether the date of a candidate matches goes with its weekday
+pub date_fails : (s : Sets) (n : ℕ) → contains s.days_of_week (weekday_number (date_numbered n).0) ≡ false → matches_date s (date_numbered n).0 ≡ false
+date_fails s n h = and_right (is_candidate s (date_numbered n).0) _ h
 
-pub date_passes : (s : Sets) (d : Day) (date : Date) (w : ℕ) → IsMade s d date → w ≡ weekday_number date → true ≡ contains s.days_of_week w → matches_date s (date_numbered (number_of d)).0 ≡ true
-date_passes s d date w made e h =
-    let same : w ≡ weekday_number (date_numbered (number_of d)).0 = e ∙ ap (λ x. weekday_number x) made.is in
-    let P : ℕ → Type 0 = λ x. contains s.days_of_week x ≡ true in
-    and_from (is_candidate s (date_numbered (number_of d)).0) _ made.candidate (subst P same (sym h))
-
--- a number computed from a date's day number is it
-pub same_number : (z : ℤ) (a b : ℕ) → pos a ≡ z → z ≡ pos b → a ≡ b
-same_number z a b e f = cc
+pub date_passes : (s : Sets) (n : ℕ) → is_candidate s (date_numbered n).0 ≡ true → contains s.days_of_week (weekday_number (date_numbered n).0) ≡ true → matches_date s (date_numbered n).0 ≡ true
+date_passes s n c h = and_from (is_candidate s (date_numbered n).0) _ c h
 
 -- nothing matches on a day whose date doesn't
 day_unmatched : (s : Sets) (day k : ℕ) → matches_date s (date_numbered day).0 ≡ false → k / 86_400 ≡ day → matches s (civil k) ≡ false

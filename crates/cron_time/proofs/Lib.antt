@@ -1,4 +1,5 @@
 pub mod TimeOfDayLemmas
+pub mod NearestTimeLemmas
 pub mod CivilLemmas
 pub mod ReadingLemmas
 pub mod PlaceLemmas
@@ -13,12 +14,17 @@ pub mod FixedLemmas
 pub mod WayLemmas
 pub mod BlockLemmas
 pub mod CarryLemmas
+pub mod AskedLemmas
 pub mod TallyLemmas
 pub mod StandLemmas
 pub mod FoundLemmas
 pub mod TimesLemmas
 pub mod DaySearchLemmas
 pub mod CountLemmas
+pub mod SurveyLemmas
 pub mod SearchLemmas
+pub mod OwnDayLemmas
 pub mod DateLemmas
 pub mod DayLemmas
+pub mod PartLemmas
+pub mod ResumeLemmas

@@ -74,10 +74,10 @@ module _ {A : Type 0} (p : A → Bool) where
 
 -- ---- items from a bound on
 
-holds_le : (a b : ℤ) → a ≤ℤ b → int_le a b ≡ true
+pub holds_le : (a b : ℤ) → a ≤ℤ b → int_le a b ≡ true
 holds_le a b h = grind (arith, ints)
 
-fails_le : (a b : ℤ) → ¬ (a ≤ℤ b) → int_le a b ≡ false
+pub fails_le : (a b : ℤ) → ¬ (a ≤ℤ b) → int_le a b ≡ false
 fails_le a b h = grind (arith, ints)
 
 -- the place of an item from the bound on, before which there is none

@@ -14,11 +14,11 @@ use Rattle.cron_time.specs.Inner.Placed.{answer_of, cursor_of, place_of, IsPlace
 use Rattle.cron_time.specs.Readings.{Reading}
 use Rattle.cron_time.specs.Rest.{Gives, items_from, rest_on, rest}
 use Rattle.cron_units.specs.Sets.{Sets}
-use Rattle.cron_time.specs.Inner.Stop.{IsStop}
+use Rattle.cron_time.specs.Inner.Stop.{IsReached, IsStop}
 use Rattle.cron_time.specs.Timeline.{timeline}
 use Rattle.cron_time.specs.Ways.{target, place_from, place_beside, bound}
-use Rattle.cron_time.specs.declared.state.State.{State}
-use Rattle.cron_time.specs.declared.state.State.TheVariants as Kept
+use Rattle.cron_time.specs.Inner.Stand.{Stand}
+use Rattle.cron_time.specs.Inner.Stand as Kept
 use Rattle.cron_time.proofs.PlaceLemmas.{position-in}
 use Rattle.cron_time.proofs.StepLemmas.{kept_in}
 
@@ -64,7 +64,7 @@ takes_go_to way items z None h = (refl, refl)
 takes_go_to Ahead items z (Some i) h = takes_ahead items z i (slice_get items i) (drop_cases items i)
 takes_go_to Back items z (Some i) h = takes_back items z i (slice_get items i) h refl
 
-step-target : (way : Way) (items : List Reading) (z : TimeZone) (c : Cursor) → step_on items z way c ≡ go_to items (target way items z c)
+pub step-target : (way : Way) (items : List Reading) (z : TimeZone) (c : Cursor) → step_on items z way c ≡ go_to items (target way items z c)
 step-target Ahead items z (Start t) = refl
 step-target Back items z (Start t) = refl
 step-target Ahead items z (Place i) = refl
@@ -72,9 +72,9 @@ step-target Back items z (Place i) = refl
 step-target way items z Ended = refl
 
 -- from where a walk stands
-target-in : (way : Way) (s : Sets) (z : TimeZone) (state : State) → IsPlaced s z state → IsIn way (timeline s z) (target way (timeline s z) z (cursor_of s z state))
+target-in : (way : Way) (s : Sets) (z : TimeZone) (state : Stand) → IsPlaced s z state → IsIn way (timeline s z) (target way (timeline s z) z (cursor_of s z state))
 target-in Ahead s z state h = tt
-target-in Back s z (Kept.Start t) h = back_in (bound Back z t.nanosecond)
+target-in Back s z (Kept.Start t) h = back_in (bound Back z t)
   where
     found_in : (p : Reading → ℤ → Bool) (b : ℤ) → IsIn Back (timeline s z) (last_place (λ r. p r b) (timeline s z))
     found_in p b = by_place (last_place (λ r. p r b) (timeline s z)) refl
@@ -94,7 +94,7 @@ target-in Back s z (Kept.At f later) h = before_in (place_of s z f.first.second 
 target-in Back s z Kept.Ended h = tt
 
 -- a call of a walk takes the first of the items to come
-yields : (way : Way) (s : Sets) (z : TimeZone) (from to : State) (old : Walk) (r : Option Reading) → IsPlaced s z from → record { sets = s; zone = z; cursor = cursor_of s z from } ≡ old → IsStop way s z (cursor_of s z from) to → r ≡ answer_of to → YieldsFirst (rest way) old r (record { sets = s; zone = z; cursor = cursor_of s z to })
+yields : (way : Way) (s : Sets) (z : TimeZone) (from to : Stand) (old : Walk) (r : Option Reading) → IsPlaced s z from → record { sets = s; zone = z; cursor = cursor_of s z from } ≡ old → IsStop way s z (cursor_of s z from) to → r ≡ answer_of to → YieldsFirst (rest way) old r (record { sets = s; zone = z; cursor = cursor_of s z to })
 yields way s z from to old r placed is stop answer =
     let items = timeline s z in
     let c = cursor_of s z from in
@@ -103,11 +103,11 @@ yields way s z from to old r placed is stop answer =
     rw (answer, ← is) (rw stepped at took)
 
 -- a call of a walk makes a step of its cursor
-steps : (way : Way) (s : Sets) (z : TimeZone) (from to : State) (old : Walk) (r : Option Reading) → record { sets = s; zone = z; cursor = cursor_of s z from } ≡ old → IsStop way s z (cursor_of s z from) to → r ≡ answer_of to → Steps way old r (record { sets = s; zone = z; cursor = cursor_of s z to })
+steps : (way : Way) (s : Sets) (z : TimeZone) (from to : Stand) (old : Walk) (r : Option Reading) → record { sets = s; zone = z; cursor = cursor_of s z from } ≡ old → IsStop way s z (cursor_of s z from) to → r ≡ answer_of to → Steps way old r (record { sets = s; zone = z; cursor = cursor_of s z to })
 steps way s z from to old r is stop answer =
     rw (← is) (record { answer = answer ∙ ap (λ (q : Step). q.answer) (sym stop.leads); cursor = ap (λ (q : Step). q.cursor) (sym stop.leads); sets = refl; zone = refl })
 
-pub gives : (way : Way) (s : Sets) (z : TimeZone) (from to : State) (old : Walk) (r : Option Reading) → IsPlaced s z from → record { sets = s; zone = z; cursor = cursor_of s z from } ≡ old → IsStop way s z (cursor_of s z from) to → r ≡ answer_of to → Gives way old r (record { sets = s; zone = z; cursor = cursor_of s z to })
+pub gives : (way : Way) (s : Sets) (z : TimeZone) (from to : Stand) (old : Walk) (r : Option Reading) → IsPlaced s z from → record { sets = s; zone = z; cursor = cursor_of s z from } ≡ old → IsStop way s z (cursor_of s z from) to → r ≡ answer_of to → Gives way old r (record { sets = s; zone = z; cursor = cursor_of s z to })
 gives way s z from to old r placed is stop answer =
     record { cursor = steps way s z from to old r is stop answer; items = yields way s z from to old r placed is stop answer }
 
@@ -115,3 +115,20 @@ gives way s z from to old r placed is stop answer =
 pub YieldsList-from_walk : (way : Way) {w : Walk} (items : List Reading) → rest way w ≡ items → YieldsList (Gives way) (λ x. x) w items
 YieldsList-from_walk way {w} items is =
     subst (YieldsList (Gives way) (λ x. x) w) is (YieldsList-from_shown (Gives way) (λ x. x) (rest way) (λ s t g. ap length g.items.0) (λ s x t g. g.items) w)
+
+-- a call at a start leaves the walk at the first item from the bound on
+pub start_stop : (way : Way) (s : Sets) (z : TimeZone) (t : ℤ) (b : ℤ) (stand : Stand) → bound way z t ≡ Some b → IsReached way s z b stand → IsStop way s z (Start t) stand
+start_stop way s z t b stand e h = record {
+  placed = h.placed;
+  leads = step-target way (timeline s z) z (Start t) ∙ ap (λ x. go_to (timeline s z) (place_from way (timeline s z) x)) e ∙ h.leads;
+}
+
+place_from_nothing : (way : Way) (items : List Reading) → place_from way items None ≡ None
+place_from_nothing Ahead items = refl
+place_from_nothing Back items = refl
+
+pub start_ends : (way : Way) (s : Sets) (z : TimeZone) (t : ℤ) → bound way z t ≡ None → IsStop way s z (Start t) Kept.Ended
+start_ends way s z t e = record {
+  placed = tt;
+  leads = step-target way (timeline s z) z (Start t) ∙ ap (λ x. go_to (timeline s z) (place_from way (timeline s z) x)) e ∙ ap (go_to (timeline s z)) (place_from_nothing way (timeline s z));
+}

@@ -25,7 +25,7 @@ use Rattle.cron_time.proofs.BlockLemmas.{reach_start, reach_on, block_found}
 use Rattle.cron_time.proofs.DayLemmas.{number_of_place, by_number, lies_place, place_lies, past_place, place_past}
 use Rattle.cron_time.proofs.DaySearchLemmas.{found_day, time_fits}
 use Rattle.cron_time.proofs.StandLemmas.{matches_at, split_stands}
-use Rattle.cron_time.proofs.TallyLemmas.{kind_none, kind_joined, passed_found}
+use Rattle.cron_time.proofs.TallyLemmas.{kind_none, kind_joined, kind_same, passed_found}
 use Rattle.cron_time.proofs.WayLemmas.{side, before, same, after, after_beyond, lies_div, precedes_along}
 
 -- the nearest day, by numbers
@@ -152,3 +152,8 @@ fewer_days Back s day (Some n) c h = omega (arith, signed_arith, after_beyond Ba
 
 pub candidate_in : (s : Sets) (day : ℕ) → candidate_day s day ≡ true → day < 47_847
 candidate_in s day h = ltb-true day 47_847 (and_parts (nat_lt day 47_847) (is_candidate s (date_numbered day).0) h).0
+
+-- what was asked before the end was asked as far as no answer
+pub asked_none_left : (way : Way) (s : Sets) (start : ℤ) (count : ℕ) → IsTally 4_133_980_800 (IsAskedBefore way s start None) count → IsTally 4_133_980_800 (IsAsked way s start None) count
+asked_none_left way s start count h =
+    kind_same 4_133_980_800 _ _ count (λ k lt p. record { found = p.found; until = tt }) (λ k lt p. record { found = p.found; until = tt }) h

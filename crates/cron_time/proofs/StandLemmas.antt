@@ -1,5 +1,5 @@
 -- Which civil seconds match and stand, by their days and times.
-use Rattle.std.proofs.Common.{◌≡◌, ℕ, ◌+◌, ◌*◌, ◌/◌, ◌%◌, ◌<◌, ◌≤◌, true, false, ◌&&◌, nat_lt, [], refl, subst, ◌∙◌, inl, inr, arith}
+use Rattle.std.proofs.Common.{◌≡◌, ℕ, ◌+◌, ◌*◌, ◌/◌, ◌%◌, ◌<◌, ◌≤◌, true, false, ◌&&◌, nat_lt, [], Bool, refl, ap, subst, ◌∙◌, inl, inr, arith}
 use Rattle.std.proofs.lemmas.Bool.{both_ways, and_parts, and_cases, and_from, and_left, and_right, cases_lt, lt-ltb, le-ltb, ltb-false}
 use Rattle.std.proofs.lemmas.Nat.{div-add-mod'}
 use Rattle.jiff_tz.specs.declared.timezone.TimeZone.{TimeZone}
@@ -11,16 +11,20 @@ use Rattle.cron_time.specs.Inner.Places.{matches_second, stands_at}
 use Rattle.cron_time.specs.Readings.{readings}
 use Rattle.cron_time.specs.Search.{items_of, has_item, stands}
 use Rattle.cron_units.specs.Sets.{Sets}
+use Rattle.cron_units.specs.Units.{contains}
 use Rattle.cron_time.specs.Matches.{is_candidate, matches, matches_date}
+
+and_assoc : (a b c : Bool) → ((a && b) && c) ≡ (a && (b && c))
+and_assoc true b c = refl
+and_assoc false b c = refl
 
 -- the day and the time of a civil second of a day
 pub matches_at : (s : Sets) (k : ℕ) → matches s (civil k) ≡ (matches_date s (date_numbered (k / 86_400)).0 && matches_second s (k % 86_400))
 unfolding matches civil time_numbered
 matches_at s k =
-    let h : k % 86_400 / 3600 ≡ k % 86_400 / 60 / 60 = omega arith in
-    let m : k % 3600 / 60 ≡ k % 86_400 / 60 % 60 = omega arith in
-    let sec : k % 60 ≡ k % 86_400 % 60 = omega arith in
-    rw (h, m, sec) refl
+    let rest : k % 86_400 % 3600 ≡ k % 3600 = omega arith in
+    let sec : k % 60 ≡ k % 3600 % 60 = omega arith in
+    rw (rest, sec) (ap (λ b. matches_date s (date_numbered (k / 86_400)).0 && b) (and_assoc (contains s.hours (k % 86_400 / 3600)) (contains s.minutes (k % 3600 / 60)) (contains s.seconds (k % 3600 % 60))))
 
 pub day_of_place : (day r : ℕ) → r < 86_400 → (day * 86_400 + r) / 86_400 ≡ day
 day_of_place day r h = omega arith

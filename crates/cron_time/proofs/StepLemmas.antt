@@ -1,8 +1,14 @@
 -- Where a call leaves a walk, in either direction.
-use Rattle.std.proofs.Common.{◌≡◌, ℕ, zero, suc, ◌+◌, ◌<◌, ◌≤◌, ℤ, pos, ◌+ℤ◌, ◌-ℤ◌, ◌≤ℤ◌, Bool, true, false, not, List, [], ◌∷◌, length, Option, Some, None, refl, sym, ap, ◌∙◌, arith, true≢false, is_some}
+use Rattle.std.proofs.Common.{◌≡◌, ℕ, zero, suc, ◌+◌, ◌/◌, ◌%◌, ◌<◌, ◌≤◌, ℤ, pos, ◌+ℤ◌, ◌-ℤ◌, ◌≤ℤ◌, Bool, true, false, not, List, [], ◌∷◌, length, Option, Some, None, refl, sym, ap, ◌∙◌, arith, true≢false, is_some}
 use Rattle.std.specs.Prelude.{slice_get, option_to_list}
 use Rattle.std.proofs.lemmas.Option.{slice_get_cases, slice_get_within, slice_get_past}
-use Rattle.std.proofs.Common.{inl, inr}
+use Rattle.std.proofs.Common.{inl, inr, option_map}
+use Rattle.std.proofs.lemmas.Bool.{and_parts, cases_Bool}
+use Rattle.cron_time.specs.Civil.{civil}
+use Rattle.cron_time.specs.CivilDates.{date_numbered}
+use Rattle.cron_time.specs.Inner.Places.{matches_second}
+use Rattle.cron_time.specs.Matches.{matches, matches_date}
+use Rattle.cron_time.proofs.StandLemmas.{matches_at}
 use Rattle.jiff_core.proofs.SignedLemmas.{signed_arith}
 use Rattle.jiff_tz.specs.declared.timezone.TimeZone.{TimeZone}
 use Rattle.cron_units.specs.declared.way.Way.{Way}
@@ -10,17 +16,17 @@ use Rattle.cron_units.specs.declared.way.Way.TheVariants.{Ahead, Back}
 use Rattle.cron_units.specs.Nearest.{LiesFrom, Precedes}
 use Rattle.cron_time.specs.Cursor.{Place, go_to, no_item, step_on}
 use Rattle.cron_time.specs.Found.{found_items}
-use Rattle.cron_time.specs.Inner.Placed.{index, place_of, reading_of, last_is_later, IsKept}
+use Rattle.cron_time.specs.Inner.Placed.{index, place_of, reading_of, last_is_later, stop_of, IsKept}
 use Rattle.cron_time.specs.Readings.{Reading}
-use Rattle.cron_time.specs.Search.{items_of, stands, IsFoundAt}
+use Rattle.cron_time.specs.Search.{items_of, stands, IsFound, IsFoundAt}
 use Rattle.cron_units.specs.Sets.{Sets}
 use Rattle.cron_time.specs.Inner.Stop.{IsReached, IsStop}
 use Rattle.cron_time.specs.Timeline.{timeline}
 use Rattle.cron_time.specs.Inner.Places.{beyond}
 use Rattle.cron_time.specs.Ways.{opposite, place_from, place_beside}
 use Rattle.cron_time.specs.declared.found.Found.{Found}
-use Rattle.cron_time.specs.declared.state.State.{State}
-use Rattle.cron_time.specs.declared.state.State.TheVariants as Kept
+use Rattle.cron_time.specs.Inner.Stand.{Stand}
+use Rattle.cron_time.specs.Inner.Stand as Kept
 use Rattle.cron_time.proofs.PlaceLemmas.{place_from-at, place_from-none}
 use Rattle.cron_time.proofs.TimelineLemmas.{before, before-next, before-all, item_in, items_of-second, stands-high, is_in, early, late}
 
@@ -49,7 +55,7 @@ last-inside Back f = let e = length_found f in omega arith
 -- ---- from a place where the walk stands
 
 -- the item there
-kept_item : (s : Sets) (z : TimeZone) (f : Found) (later : Bool) → IsKept s z f later → slice_get (timeline s z) (place_of s z f.first.second later) ≡ reading_of f later
+pub kept_item : (s : Sets) (z : TimeZone) (f : Found) (later : Bool) → IsKept s z f later → slice_get (timeline s z) (place_of s z f.first.second later) ≡ reading_of f later
 kept_item s z f later k =
     let inside : index later < length (items_of s z f.first.second) = rw k.items k.inside in
     item_in s z f.first.second (index later) k.high inside ∙ ap (λ xs. slice_get xs (index later)) k.items ∙ reading_of-item f later
@@ -190,9 +196,22 @@ reached_none way s z b none = record {
       (λ k y at from. true≢false (sym (is_in s z k y at).stands ∙ none y.second from)));
 }
 
+pub reached : (way : Way) (s : Sets) (z : TimeZone) (b : ℤ) (found : Option Found) → IsFound way s z b (option_map found_items found) → IsReached way s z b (stop_of way found)
+reached way s z b None h = reached_none way s z b h
+reached way s z b (Some f) h = reached_at way s z b f h
+
+-- the date of a civil second that is kept matches
+pub kept_date : (s : Sets) (z : TimeZone) (f : Found) (later : Bool) → IsKept s z f later → matches_date s (date_numbered (f.first.second / 86_400)).0 ≡ true
+unfolding items_of
+kept_date s z f later k =
+    elim (cases_Bool (matches s (civil f.first.second))) [
+      | inl inside ↦ (and_parts (matches_date s (date_numbered (f.first.second / 86_400)).0) (matches_second s (f.first.second % 86_400)) (sym (matches_at s f.first.second) ∙ inside)).0
+      | inr out ↦ let none : items_of s z f.first.second ≡ [] = rw out refl in let e = sym none ∙ k.items in cc
+    ]
+
 -- ---- the calls
 
-pub last_stop : (way : Way) (s : Sets) (z : TimeZone) (f : Found) (later : Bool) (state : State) → IsKept s z f later → later ≡ last_is_later way f → IsReached way s z (beyond way f.first.second) state → IsStop way s z (Place (place_of s z f.first.second later)) state
+pub last_stop : (way : Way) (s : Sets) (z : TimeZone) (f : Found) (later : Bool) (state : Stand) → IsKept s z f later → later ≡ last_is_later way f → IsReached way s z (beyond way f.first.second) state → IsStop way s z (Place (place_of s z f.first.second later)) state
 last_stop way s z f later state k last h = record { placed = h.placed; leads = from_last way s z f later k last ∙ h.leads }
 
 -- the other reading of the same civil second

@@ -7,14 +7,14 @@ use Rattle.cron_units.specs.declared.way.Way.{Way}
 use Rattle.cron_units.specs.declared.way.Way.TheVariants.{Ahead, Back}
 use Rattle.cron_units.specs.Nearest.{LiesFrom, Precedes, IsNearest}
 use Rattle.cron_time.specs.Inner.Places.{beyond}
-use Rattle.cron_time.specs.Inner.Tally.{IsTally, IsPassedBefore, IsPassedTo}
+use Rattle.cron_time.specs.Inner.Tally.{IsTally, Adds, IsPassedBefore, IsPassedTo}
 use Rattle.std.proofs.lemmas.Nat.{div-add-mod'}
 use Rattle.cron_time.proofs.BlockLemmas.{div_of, mod_of}
 use Rattle.cron_time.proofs.WayLemmas.{side, before, same, after, after_beyond, precedes_along}
 use Rattle.cron_time.specs.Counts.{Stretch, count_within}
 use Rattle.cron_time.specs.Timeline.{numbers_below}
 
-count_step : (p : ℕ → Bool) (n : ℕ) → count_by p (numbers_below (suc n)) ≡ count_by p (numbers_below n) + cond (p n) 1 0
+pub count_step : (p : ℕ → Bool) (n : ℕ) → count_by p (numbers_below (suc n)) ≡ count_by p (numbers_below n) + cond (p n) 1 0
 unfolding numbers_below
 count_step p n = sum_by_push (λ k. cond (p k) 1 0) (numbers_below n) n
 
@@ -162,7 +162,7 @@ passed_found way limit test start n count lt passes lies counted =
     ])
 
 -- the numbers of one block, counted by their rests
-count_add : (p : ℕ → Bool) (a n : ℕ) → count_by p (numbers_below (a + n)) ≡ count_by p (numbers_below a) + count_by (λ r. p (a + r)) (numbers_below n)
+pub count_add : (p : ℕ → Bool) (a n : ℕ) → count_by p (numbers_below (a + n)) ≡ count_by p (numbers_below a) + count_by (λ r. p (a + r)) (numbers_below n)
 count_add p a zero = rw (count_zero (λ r. p (a + r))) (rw (add-zero a) (sym (add-zero _)))
 count_add p a (suc n) =
     let e : a + suc n ≡ suc (a + n) = omega arith in
@@ -220,3 +220,27 @@ within_kind limit test s fits = record {
       let Q : ℕ → Type 0 = λ n. count_by inner (numbers_below s.to) ≡ count_by (λ k. nat_lt k s.to && inner k) (numbers_below n) in
       subst Q e (sym (count_cut inner s.to (limit - s.to)));
 }
+
+-- a count that stayed, and one that went on by one
+pub adds_none : (limit : ℕ) (Kind : ℕ → Type 0) (old new : ℕ) → new ≡ old → IsTally limit Kind 0 → Adds limit Kind old new
+adds_none limit Kind old new e h = record { count = 0; is = e ∙ sym (add-zero old); tally = h }
+
+pub adds_more : (limit : ℕ) (P Q : ℕ → Type 0) (old mid new : ℕ) (h : Adds limit P old mid) → new ≡ mid + 1 → IsTally limit Q (h.count + 1) → Adds limit Q old new
+adds_more limit P Q old mid new h e t = record { count = h.count + 1; is = omega (arith, h.is, e); tally = t }
+
+-- the same count, of another kind
+pub adds_as : (limit more : ℕ) (P Q : ℕ → Type 0) (old mid new : ℕ) (h : Adds limit P mid new) → mid ≡ old → IsTally more Q h.count → Adds more Q old new
+adds_as limit more P Q old mid new h e t = record { count = h.count; is = omega (arith, h.is, e); tally = t }
+
+-- a count that stayed from there on
+pub adds_to : (limit : ℕ) (P : ℕ → Type 0) (old mid new : ℕ) (h : Adds limit P old mid) → new ≡ mid → Adds limit P old new
+adds_to limit P old mid new h e = record { count = h.count; is = omega (arith, h.is, e); tally = h.tally }
+
+-- two counts one after the other
+pub adds_on : (limit : ℕ) (P Q R : ℕ → Type 0) (old mid new : ℕ) (h : Adds limit P old mid) (k : Adds limit Q mid new) → IsTally limit R (h.count + k.count) → Adds limit R old new
+adds_on limit P Q R old mid new h k t = record { count = h.count + k.count; is = omega (arith, h.is, k.is); tally = t }
+
+-- what was passed before the end was passed as far as no answer
+pub passed_none : (way : Way) (test : ℕ → Bool) (start : ℤ) (count : ℕ) {limit : ℕ} → IsTally limit (IsPassedBefore way test start None) count → IsTally limit (IsPassedTo way test start None) count
+passed_none way test start count {limit} h =
+    kind_same limit _ _ count (λ k lt p. record { passes = p.passes; lies = p.lies; until = tt }) (λ k lt p. record { passes = p.passes; lies = p.lies; until = tt }) h

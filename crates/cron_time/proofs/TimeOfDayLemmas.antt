@@ -5,7 +5,7 @@ use Rattle.std.proofs.lemmas.List.Elements.{Contains-push, Contains-push_cases, 
 use Rattle.std.proofs.lemmas.List.Folds.{list_any_at}
 use Rattle.std.proofs.lemmas.Map.Views.{Contains-from_any}
 use Rattle.cron_units.specs.Units.{contains}
-use Rattle.cron_units.proofs.Sets.{same_eq}
+use Rattle.cron_units.specs.SetLaws.{same_eq}
 use Rattle.jiff_core.specs.declared.civil.time.Time.{Time}
 use Rattle.cron_units.specs.Sets.{Sets}
 use Rattle.cron_time.specs.Matches.{matches_time}
@@ -69,7 +69,7 @@ member_to xs x h = Contains-from_any (λ a b e. eqb-true a b e) x xs h
 -- ---- times of day
 
 -- a time of day among these has its parts in their sets
-among_to : (s : Sets) (x : TimeOfDay) → Contains (times_of_day s) x → (contains s.hours x.hour ≡ true) × (contains s.minutes x.minute ≡ true) × (contains s.seconds x.second ≡ true)
+pub among_to : (s : Sets) (x : TimeOfDay) → Contains (times_of_day s) x → (contains s.hours x.hour ≡ true) × (contains s.minutes x.minute ≡ true) × (contains s.seconds x.second ≡ true)
 unfolding times_of_day
 among_to s x k =
     let a = flat_to (λ h. flat_map (λ m. map (λ sec. record { hour = h; minute = m; second = sec }) s.seconds) s.minutes) s.hours x k in
@@ -81,7 +81,7 @@ among_to s x k =
     (subst (λ n. contains s.hours n ≡ true) hour (member_from s.hours a.0 a.1), subst (λ n. contains s.minutes n ≡ true) minute (member_from s.minutes b.0 b.1), subst (λ n. contains s.seconds n ≡ true) second (member_from s.seconds c.0 c.1))
 
 -- the converse
-among_from : (s : Sets) (h m sec : ℕ) → contains s.hours h ≡ true → contains s.minutes m ≡ true → contains s.seconds sec ≡ true → Contains (times_of_day s) (record { hour = h; minute = m; second = sec })
+pub among_from : (s : Sets) (h m sec : ℕ) → contains s.hours h ≡ true → contains s.minutes m ≡ true → contains s.seconds sec ≡ true → Contains (times_of_day s) (record { hour = h; minute = m; second = sec })
 unfolding times_of_day
 among_from s h m sec a b c =
     flat_from (λ h. flat_map (λ m. map (λ sec. record { hour = h; minute = m; second = sec }) s.seconds) s.minutes) s.hours h _ (member_to s.hours h a)

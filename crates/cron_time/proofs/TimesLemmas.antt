@@ -1,5 +1,5 @@
 -- The search of the times of one day.
-use Rattle.std.proofs.Common.{◌≡◌, ℕ, ◌+◌, ◌*◌, ◌%◌, ◌<◌, true, false, pos, Option, Some, None, is_some, option_map, refl, sym, subst, ◌∙◌}
+use Rattle.std.proofs.Common.{◌≡◌, ℕ, ◌+◌, ◌*◌, ◌%◌, ◌<◌, ◌≤◌, true, false, pos, Option, Some, None, is_some, option_map, IfSome, arith, refl, sym, subst, ◌∙◌}
 use Rattle.jiff_tz.specs.declared.timezone.TimeZone.{TimeZone}
 use Rattle.cron_units.specs.declared.way.Way.{Way}
 use Rattle.cron_units.specs.Nearest.{IsNearest}
@@ -58,3 +58,7 @@ times_start way s z day from next h =
 pub times_next : (way : Way) (s : Sets) (z : TimeZone) (day from time : ℕ) (next : Option ℕ) → AtTime way s z day from time → stands_at s z day time ≡ false → IsNearest way (matches_second s) (beyond way time) next → ReachesIfAny way 1 (matches_second s) (stands_at s z day) (pos from) (pos from) next
 times_next way s z day from time next at fails h =
     reach_on way 1 (matches_second s) (stands_at s z day) (pos from) (pos from) time next (fails_each (matches_second s) (stands_at s z day) (second_fails s z day)) at.reached (block_each way (stands_at s z day) (pos from) time fails) h
+
+pub time_low : (next : Option ℕ) → IfSome next (λ n. n < 86_400) → IfSome next (λ n. (0 ≤ n) × (n < 86_400))
+time_low None h = h
+time_low (Some n) h = (omega arith, h)

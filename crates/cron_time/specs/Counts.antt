@@ -1,5 +1,5 @@
 -- What a search passes: the civil seconds without a reading, and the days that it has to look at.
-use Rattle.std.specs.Prelude.{ℕ, ◌+◌, ◌/◌, ℤ, pos, negsuc, Bool, ◌&&◌, not, nat_le, min, Option, Some, None, count_by}
+use Rattle.std.specs.Prelude.{ℕ, ◌<◌, ◌≤◌, IfSome, ◌+◌, ◌/◌, ℤ, pos, negsuc, Bool, ◌&&◌, not, nat_le, min, Option, Some, None, count_by}
 use Rattle.jiff_tz.specs.declared.timezone.TimeZone.{TimeZone}
 use Rattle.cron_units.specs.declared.way.Way.{Way}
 use Rattle.cron_units.specs.declared.way.Way.TheVariants.{Ahead, Back}
@@ -68,3 +68,10 @@ conversions way s z start answer = gap_matches s z (passed way start answer) + o
 
 abbrev pub days_of : Way → Sets → ℤ → Option ℕ → ℕ
 days_of way s start answer = candidates s (span way start answer)
+
+-- a search whose answer, if there is one, is in range looks at no more days than there are
+abbrev pub DaysAtMost : Type 0
+DaysAtMost =
+    (way : Way) (s : Sets) (start : ℤ) (answer : Option ℕ)
+    → IfSome answer (λ c. c < seconds_in_range)
+    → days_of way s start answer ≤ days_in_range

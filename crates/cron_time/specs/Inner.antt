@@ -1,3 +1,4 @@
+pub mod Stand
 pub mod Placed
 pub mod Stop
 pub mod Places
@@ -6,3 +7,5 @@ pub mod Days
 pub mod Tally
 pub mod DaySearch
 pub mod Starts
+pub mod Inquired
+pub mod Filled

@@ -7,11 +7,13 @@ pub mod Search
 pub mod Bounds
 pub mod Cursor
 pub mod Counts
+pub mod Surveys
 pub mod Times
 pub mod MomentText
 pub mod Found
 pub mod Ways
 pub mod Rest
+pub mod Resume
 pub mod WalkLaws
 pub mod FixedLaws
 pub mod Inner

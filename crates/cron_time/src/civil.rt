@@ -4,7 +4,11 @@ ghost use Rattle.jiff_core.specs.DateTime.{civil_seconds};
 ghost use Rattle.cron_time.specs.Civil.{civil};
 ghost use Rattle.cron_time.specs.CivilDates.{date_numbered};
 
-use jiff::civil::{Date, DateTime};
+use jiff::civil::DateTime;
+use jiff_core::civil::{Date, Time};
+
+/// The days from the first date of `jiff` to 1970-01-01.
+pub(crate) const DAYS_BEFORE_EPOCH: u32 = 4_371_587;
 
 /// The number of a civil second, negative before 1970. A part of a second is cut.
 pub fn civil_number(dt: DateTime) -> i64
@@ -13,18 +17,20 @@ pub fn civil_number(dt: DateTime) -> i64
     dt.to_plain().to_second()
 }
 
+/// The date with this day number, counted from 1970-01-01.
+pub(crate) fn date_of(day: u32) -> Date
+    requires { day ≤ 2_932_896 }
+    ensures { result ≡ (date_numbered day).0 }
+{
+    Date::from_days_since_min(day + DAYS_BEFORE_EPOCH)
+}
+
 /// The civil datetime with this number.
 pub fn civil_of(second: u32) -> DateTime
     ensures { result ≡ civil second }
 {
-    let nanos = second as i128 * 1_000_000_000;
-    DateTime::from_plain(jiff_core::civil::DateTime::from_nanosecond_in_range(nanos))
-}
-
-/// The date with this day number, counted from 1970-01-01.
-pub fn date_of(day: u32) -> Date
-    requires { day ≤ 2_932_896 }
-    ensures { result ≡ (date_numbered day).0 }
-{
-    Date::from_plain(jiff_core::civil::Date::from_days_since_min(day + 4_371_587))
+    DateTime::from_plain(jiff_core::civil::DateTime {
+        date: date_of(second / 86_400),
+        time: Time::from_second(second % 86_400, 0),
+    })
 }

@@ -1,15 +1,17 @@
 //! The nearest day whose year, month and day of the month lie in the sets.
-ghost use Rattle.std.specs.Prelude.{◌≡◌, ℕ, ◌+◌, ◌*◌, ◌/◌, ◌%◌, ◌<◌, ◌≤◌, pos, IfSome, option_map};
+ghost use Rattle.std.specs.Prelude.{◌≡◌, ℕ, ◌+◌, ◌*◌, ◌/◌, ◌%◌, ◌^◌, ◌<◌, ◌≤◌, pos, IfSome, option_map, true, false};
 ghost use Rattle.cron_units.specs.Units.{contains};
 ghost use Rattle.cron_units.specs.Nearest.{IsNearest};
 ghost use Rattle.cron_time.specs.Civil.{seconds_in_range};
 ghost use Rattle.cron_time.specs.CivilDates.{date_numbered};
-ghost use Rattle.cron_time.specs.Inner.Days.{day_place, IsInRange, capped};
+ghost use Rattle.cron_time.specs.Inner.Days.{day_place, IsInRange, capped, longest};
+ghost use Rattle.cron_time.specs.Inner.Inquired.{LooksAlone};
 ghost use Rattle.cron_time.specs.Inner.Places.{beyond, length_of, matches_day, matches_month, matches_place, place_date};
 
-use crate::civil::civil_of;
-use crate::ways::{entry, extreme, past};
-use cron_units::fields::ScheduleFields;
+use crate::civil::date_of;
+use crate::inquiry::{Inquiry, Unit};
+use crate::neighbours::{Months, Neighbours};
+use crate::ways::{entry, past};
 use cron_units::way::Way;
 use jiff_core::civil::days_in_month;
 
@@ -25,49 +27,57 @@ pub(crate) fn day_with(second: u32) -> Day
     requires { second < seconds_in_range }
     ensures place { day_place result ≡ place_date (date_numbered (second / 86_400)).0 }
     ensures bound { result.day < 100 }
+    ensures month { result.month < 2 ^ 24 }
 {
-    let date = civil_of(second).date();
+    let date = date_of(second / 86_400);
     Day {
-        month: date.year() as u32 * 12 + date.month() as u32 - 1,
-        day: date.day() as u32,
+        month: date.year as u32 * 12 + date.month as u32 - 1,
+        day: date.day as u32,
     }
 }
 
-// The nearest month of a year that lies in its set. January is 0.
-fn month_of_year(fields: &ScheduleFields, way: Way, from: u32) -> Option<u32>
-    requires { from < 12 }
-    ensures nearest { IsNearest way (λ n. contains fields.now.months (n + 1)) (pos from) result }
-    ensures bound { IfSome result (λ n. n < 12) }
+// The length that a month of the year has in a leap year.
+fn longest_month(month: u32) -> u32
+    requires { (1 ≤ month) × (month ≤ 12) }
+    ensures { result ≡ longest month }
 {
-    let month = fields.nearest_month(way, from + 1)?;
-    Some(month - 1)
+    days_in_month(2000, month as u8) as u32
 }
 
-// The nearest month that lies in the sets with its year.
-fn nearest_month(fields: &ScheduleFields, way: Way, from: u32) -> Option<u32>
-    ensures nearest { IsNearest way (matches_month fields.now) (pos from) result }
-    ensures bound { IfSome result (λ n. (23_640 ≤ n) × (n < 25_212)) }
+/// Whether some month of the set has the least day of the set in some year.
+pub(crate) fn some_month_has_a_day(inquiry: &mut Inquiry<'_>) -> bool
+    ensures none { result ≡ false → (p : ℕ) → matches_place inquiry.old.sets p ≡ false }
+    ensures same { LooksAlone inquiry.old inquiry.new }
 {
-    let year = fields.nearest_year(way, from / 12)?;
-    let start = entry(way, 12, from / 12, from % 12, year);
-    if let Some(month) = month_of_year(fields, way, start) {
-        return Some(year * 12 + month);
+    let Some(least) = inquiry.member(Unit::Day, Way::Ahead, 0) else {
+        return false;
+    };
+    if least <= 29 {
+        return true;
     }
-    let next = fields.nearest_year(way, past(way, year)?)?;
-    let least = month_of_year(fields, way, extreme(way, 12))?;
-    Some(next * 12 + least)
+    let mut next = inquiry.member(Unit::Month, Way::Ahead, 0);
+    while let Some(month) = next {
+        if least <= longest_month(month) {
+            return true;
+        }
+        next = inquiry.member(Unit::Month, Way::Ahead, month + 1);
+    }
+    false
 }
 
 // The nearest one past a month.
-fn month_past(fields: &ScheduleFields, way: Way, month: u32) -> Option<u32>
+#[inline(always)]
+fn month_past(inquiry: &mut Inquiry<'_>, way: Way, month: u32) -> Option<u32>
     requires { month < 25_212 }
-    ensures nearest { IsNearest way (matches_month fields.now) (beyond way month) result }
+    ensures nearest { IsNearest way (matches_month inquiry.old.sets) (beyond way month) result }
     ensures bound { IfSome result (λ n. (23_640 ≤ n) × (n < 25_212)) }
+    ensures same { LooksAlone inquiry.old inquiry.new }
 {
-    nearest_month(fields, way, past(way, month)?)
+    Months::nearest(inquiry, way, past(way, month)?)
 }
 
 // Where a search in a month of this length starts.
+#[inline(always)]
 fn start_in_month(way: Way, from: u32, last: u32) -> u32
     ensures { result ≡ capped way from last }
 {
@@ -78,13 +88,15 @@ fn start_in_month(way: Way, from: u32, last: u32) -> u32
 }
 
 // The nearest day of the month that lies in its set.
-fn day_of_month(fields: &ScheduleFields, way: Way, month: u32, from: u32) -> Option<u32>
+#[inline(always)]
+fn day_of_month(inquiry: &mut Inquiry<'_>, way: Way, month: u32, from: u32) -> Option<u32>
     requires { month < 25_212 }
-    ensures nearest { IsNearest way (matches_day fields.now month) (pos from) result }
+    ensures nearest { IsNearest way (matches_day inquiry.old.sets month) (pos from) result }
     ensures bound { IfSome result (λ n. (1 ≤ n) × (n ≤ 31)) }
+    ensures same { LooksAlone inquiry.old inquiry.new }
 {
     let last = days_in_month((month / 12) as i16, (month % 12 + 1) as u8) as u32;
-    let day = fields.nearest_day(way, start_in_month(way, from, last))?;
+    let day = inquiry.member(Unit::Day, way, start_in_month(way, from, last))?;
     if day > last {
         return None;
     }
@@ -92,21 +104,24 @@ fn day_of_month(fields: &ScheduleFields, way: Way, month: u32, from: u32) -> Opt
 }
 
 /// The nearest day whose year, month and day of the month lie in their sets.
-pub(crate) fn nearest_day(fields: &ScheduleFields, way: Way, from: Day) -> Option<Day>
-    requires { from.day < 100 }
+#[inline(always)]
+pub(crate) fn nearest_day(inquiry: &mut Inquiry<'_>, way: Way, from: Day) -> Option<Day>
+    requires day { from.day < 100 }
+    requires month { from.month < 2 ^ 24 }
     ensures nearest { IsNearest way
-        (matches_place fields.now)
+        (matches_place inquiry.old.sets)
         (pos (day_place from))
         (option_map day_place result) }
     ensures range { IfSome result IsInRange }
+    ensures same { LooksAlone inquiry.old inquiry.new }
 {
-    let mut next = nearest_month(fields, way, from.month);
+    let mut next = Months::nearest(inquiry, way, from.month);
     while let Some(month) = next {
         let start = entry(way, 100, from.month, from.day, month);
-        if let Some(day) = day_of_month(fields, way, month, start) {
+        if let Some(day) = day_of_month(inquiry, way, month, start) {
             return Some(Day { month, day });
         }
-        next = month_past(fields, way, month);
+        next = month_past(inquiry, way, month);
     }
     None
 }
@@ -116,6 +131,7 @@ fn place_past(way: Way, day: Day) -> Day
     requires { IsInRange day }
     ensures place { pos (day_place result) ≡ beyond way (day_place day) }
     ensures bound { result.day < 100 }
+    ensures month { result.month < 2 ^ 24 }
 {
     let Day { month, day } = day;
     match way {
@@ -131,13 +147,15 @@ fn place_past(way: Way, day: Day) -> Day
 }
 
 /// The nearest one past a day.
-pub(crate) fn day_past(fields: &ScheduleFields, way: Way, day: Day) -> Option<Day>
+#[inline(always)]
+pub(crate) fn day_past(inquiry: &mut Inquiry<'_>, way: Way, day: Day) -> Option<Day>
     requires { IsInRange day }
     ensures nearest { IsNearest way
-        (matches_place fields.now)
+        (matches_place inquiry.old.sets)
         (beyond way (day_place day))
         (option_map day_place result) }
     ensures range { IfSome result IsInRange }
+    ensures same { LooksAlone inquiry.old inquiry.new }
 {
-    nearest_day(fields, way, place_past(way, day))
+    nearest_day(inquiry, way, place_past(way, day))
 }

@@ -1,12 +1,5 @@
 //! The readings of a civil second in a zone, and the answer of a search.
-ghost use Rattle.std.specs.Prelude.{◌≡◌};
-ghost use Rattle.jiff.specs.Words.{plain_zone};
-ghost use Rattle.cron_time.specs.Found.{items_if_any};
-ghost use Rattle.cron_time.specs.Readings.{readings};
-
-use crate::civil::civil_of;
 use crate::moment::Moment;
-use jiff::tz::{AmbiguousOffset, TimeZone};
 
 /// A civil second that stands on a timeline, by its readings: the earlier one first, and the later
 /// one where there are two.
@@ -25,28 +18,17 @@ pub struct Search {
     pub conversions: u64,
 }
 
-/// The readings of the civil second with this number, `None` in a gap of the zone.
-pub(crate) fn readings_of(zone: &TimeZone<'_>, second: u32) -> Option<Found>
-    ensures { items_if_any result ≡ readings (plain_zone zone.now) second }
-{
-    match zone.to_ambiguous_timestamp(civil_of(second)).offset() {
-        AmbiguousOffset::Gap { .. } => None,
-        AmbiguousOffset::Unambiguous { offset } => Some(Found {
-            first: Moment::new(second, offset),
-            second: None,
-        }),
-        AmbiguousOffset::Fold { before, after } => {
-            let first = Moment::new(second, before);
-            if before == after {
-                return Some(Found {
-                    first,
-                    second: None,
-                });
-            }
-            Some(Found {
-                first,
-                second: Some(Moment::new(second, after)),
-            })
-        }
-    }
+/// The time of day that was found, and the number of questions for a neighbouring member.
+#[derive(Clone, Copy, Debug, PartialEq, Eq)]
+pub struct TimeFound {
+    pub time: Option<(u32, u32, u32)>,
+    pub questions: u8,
+}
+
+/// How many civil seconds were found one after the other, and what their searches made and asked.
+#[derive(Clone, Copy, Debug, PartialEq, Eq)]
+pub struct Survey {
+    pub seconds: u32,
+    pub days: u64,
+    pub conversions: u64,
 }

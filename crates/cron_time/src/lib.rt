@@ -6,12 +6,17 @@ mod bounds;
 mod civil;
 mod days;
 pub mod found;
+mod inquiry;
 pub mod matching;
 pub mod moment;
+mod neighbours;
+mod parts;
+pub mod resume;
 pub mod search;
 pub mod state;
 pub mod step;
-mod times;
+pub mod survey;
+pub mod times;
 mod ways;
 
 pub use civil::civil_number;

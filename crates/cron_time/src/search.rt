@@ -1,131 +1,102 @@
 //! The nearest civil second that stands on a timeline, field by field.
-ghost use Rattle.std.specs.Prelude.{◌≡◌, ℕ, ◌/◌, ◌<◌, ◌≤ℤ◌, pos, true, Option, None, MatchOption, option_map};
+ghost use Rattle.std.specs.Prelude.{◌≡◌, ℕ, ◌+◌, ◌/◌, ◌^◌, ◌<◌, ◌≤◌, pos, true, IfSome, MatchOption, option_map};
 ghost use Rattle.jiff.specs.Words.{plain_zone};
-ghost use Rattle.jiff_core.specs.Date.{epoch_day};
-ghost use Rattle.cron_units.specs.Nearest.{LiesFrom};
+ghost use Rattle.cron_units.specs.Nearest.{LiesFrom, IsNearest};
 ghost use Rattle.cron_time.specs.Civil.{days_in_range, seconds_in_range};
 ghost use Rattle.cron_time.specs.CivilDates.{date_numbered};
 ghost use Rattle.cron_time.specs.Counts.{conversions, days_of};
-ghost use Rattle.cron_time.specs.Inner.DaySearch.{candidate_day, FindsInDay, Finds, IsAskedIn, IsAsked, day_of, time_of};
-ghost use Rattle.cron_time.specs.Found.{second_of};
+ghost use Rattle.cron_time.specs.Found.{found_items, second_of};
+ghost use Rattle.cron_time.specs.Inner.DaySearch.{candidate_day, FindsInDay, FindsTimePast, Finds, IsAskedIn, IsAsked, day_of, time_of};
 ghost use Rattle.cron_time.specs.Inner.Days.{number_of, day_place, IsInRange};
-ghost use Rattle.cron_time.specs.Found.{found_items};
-ghost use Rattle.cron_time.specs.Inner.Places.{matches_place, matches_second};
-ghost use Rattle.cron_time.specs.Search.{IsFound};
-ghost use Rattle.cron_time.specs.Matches.{matches_date, weekday_number};
+ghost use Rattle.cron_time.specs.Inner.Inquired.{IsSame, LooksAlone};
+ghost use Rattle.cron_time.specs.Inner.Places.{beyond, beyond_day, matches_place, matches_second, stands_at};
+ghost use Rattle.cron_time.specs.Inner.Blocks.{AllFail};
 ghost use Rattle.cron_time.specs.Inner.Starts.{LiesOutside, Starts};
-ghost use Rattle.cron_time.specs.Inner.Tally.{IsTally, IsPassedTo};
+ghost use Rattle.cron_time.specs.Inner.Tally.{Adds, IsPassedTo};
+ghost use Rattle.cron_time.specs.Matches.{matches_date};
+ghost use Rattle.cron_time.specs.Search.{IsFound};
 
-use crate::days::{Day, day_past, day_with, nearest_day};
-use crate::found::{Search, readings_of};
-use crate::times::{nearest_time, time_past};
-use crate::ways::entry;
+use crate::days::{Day, day_past, day_with, nearest_day, some_month_has_a_day};
+use crate::found::{Found, Search};
+use crate::inquiry::Inquiry;
+use crate::neighbours::{Neighbours, TimesOfDay};
+use crate::ways::{entry, past};
 use cron_units::fields::ScheduleFields;
 use cron_units::way::Way;
 use jiff::tz::TimeZone;
-use jiff_core::civil::Date;
 
 const SECONDS_PER_DAY: u32 = 86_400;
 
 // The civil seconds of the range.
 const SECONDS: i64 = 4_133_980_800;
 
-// Nothing is found.
-fn nothing(days: u32, conversions: u64) -> Search
-    ensures { result ≡ record { found = None; days = days; conversions = conversions } }
+// The nearest one past a second of the day.
+#[inline(always)]
+fn time_past(inquiry: &mut Inquiry<'_>, way: Way, time: u32) -> Option<u32>
+    requires { time < 86_400 }
+    ensures nearest { IsNearest way (matches_second inquiry.old.sets) (beyond way time) result }
+    ensures bound { IfSome result (λ n. n < 86_400) }
+    ensures same { LooksAlone inquiry.old inquiry.new }
 {
-    Search {
-        found: None,
-        days,
-        conversions,
-    }
+    TimesOfDay::nearest(inquiry, way, past(way, time)?)
 }
 
-// A day whose date matches: its times of day are gone through from one on, until one has a
-// reading. No other function asks the zone.
-fn search_times(
-    fields: &ScheduleFields,
-    zone: &TimeZone<'_>,
-    way: Way,
-    day: u32,
-    from: u32,
-) -> Search
+// A day whose date matches: its times of day are gone through from one on, until one has a reading.
+#[inline(always)]
+fn search_times(inquiry: &mut Inquiry<'_>, way: Way, day: u32, from: u32) -> Option<Found>
     requires in_range { day < days_in_range }
-    requires matching { matches_date fields.now (date_numbered day).0 ≡ true }
+    requires from { from ≤ 86_400 }
+    requires matching { matches_date inquiry.old.sets (date_numbered day).0 ≡ true }
+    requires room { inquiry.old.conversions < 2 ^ 62 }
     ensures found { FindsInDay way
-        fields.now
-        (plain_zone zone.now)
+        inquiry.old.sets
+        inquiry.old.zone
         day
         from
-        (option_map found_items result.found) }
-    ensures days { result.days ≡ 0 }
-    ensures conversions { IsTally
+        (option_map found_items result) }
+    ensures same { IsSame inquiry.old inquiry.new }
+    ensures days { inquiry.new.days ≡ inquiry.old.days }
+    ensures conversions { Adds
         86_400
-        (IsPassedTo way (matches_second fields.now) (pos from) (time_of result.found))
-        result.conversions }
+        (IsPassedTo way (matches_second inquiry.old.sets) (pos from) (time_of result))
+        inquiry.old.conversions
+        inquiry.new.conversions }
 {
-    let mut conversions = 0;
-    let mut next = nearest_time(fields, way, from);
+    let mut next = TimesOfDay::nearest(inquiry, way, from);
     while let Some(time) = next {
-        let found = readings_of(zone, day * SECONDS_PER_DAY + time);
-        conversions += 1;
+        let found = inquiry.readings(day * SECONDS_PER_DAY + time);
         if found.is_some() {
-            return Search {
-                found,
-                days: 0,
-                conversions,
-            };
+            return found;
         }
-        next = time_past(fields, way, time);
+        next = time_past(inquiry, way, time);
     }
-    nothing(0, conversions)
-}
-
-// The day of the week, from 1 for Sunday.
-fn sunday_one(date: Date) -> u32
-    ensures { result ≡ weekday_number date }
-{
-    date.weekday().to_sunday_one_offset() as u32
-}
-
-// The number of a day that isn't before 1970.
-fn day_number(date: Date) -> u32
-    requires { pos 0 ≤ℤ epoch_day date }
-    ensures { pos result ≡ epoch_day date }
-{
-    date.to_unix_epoch_day() as u32
+    None
 }
 
 // A candidate: its date is made, and if its weekday lies in its set, its times of day are gone
-// through from the start on. No other function makes a date of the sets or tests it.
-fn search_day(
-    fields: &ScheduleFields,
-    zone: &TimeZone<'_>,
-    way: Way,
-    start: u32,
-    day: Day,
-) -> Search
+// through from the start on.
+#[inline(always)]
+fn search_day(inquiry: &mut Inquiry<'_>, way: Way, start: u32, day: Day) -> Option<Found>
     requires range { IsInRange day }
-    requires candidate { matches_place fields.now (day_place day) ≡ true }
+    requires candidate { matches_place inquiry.old.sets (day_place day) ≡ true }
     requires lies { LiesFrom way (pos (start / 86_400)) (number_of day) }
+    requires days_room { inquiry.old.days < 2 ^ 62 }
+    requires room { inquiry.old.conversions < 2 ^ 62 }
     ensures found { Finds way
-        fields.now
-        (plain_zone zone.now)
+        inquiry.old.sets
+        inquiry.old.zone
         (pos start)
         (number_of day)
-        (option_map found_items result.found) }
-    ensures days { result.days ≡ 1 }
-    ensures conversions { IsTally
+        (option_map found_items result) }
+    ensures same { IsSame inquiry.old inquiry.new }
+    ensures days { inquiry.new.days ≡ inquiry.old.days + 1 }
+    ensures conversions { Adds
         seconds_in_range
-        (IsAskedIn way fields.now (pos start) (number_of day) (second_of result.found))
-        result.conversions }
+        (IsAskedIn way inquiry.old.sets (pos start) (number_of day) (second_of result))
+        inquiry.old.conversions
+        inquiry.new.conversions }
 {
-    let Day { month, day } = day;
-    let date = Date::constrain((month / 12) as i16, (month % 12 + 1) as u8, day as u8);
-    if !fields.includes_weekday(sunday_one(date)) {
-        return nothing(1, 0);
-    }
-    let number = day_number(date);
+    let number = inquiry.matching_day(day.month, day.day)?;
     let from = entry(
         way,
         SECONDS_PER_DAY,
@@ -133,47 +104,46 @@ fn search_day(
         start % SECONDS_PER_DAY,
         number,
     );
-    let tried = search_times(fields, zone, way, number, from);
-    Search { days: 1, ..tried }
+    search_times(inquiry, way, number, from)
 }
 
 // The candidates from the start's day on, until the times of one of them find an answer.
-fn search_days(fields: &ScheduleFields, zone: &TimeZone<'_>, way: Way, start: u32) -> Search
-    requires { start < seconds_in_range }
+fn search_days(inquiry: &mut Inquiry<'_>, way: Way, start: u32) -> Option<Found>
+    requires start { start < seconds_in_range }
+    requires days_room { inquiry.old.days < 2 ^ 60 }
+    requires room { inquiry.old.conversions < 2 ^ 60 }
     ensures found { IsFound way
-        fields.now
-        (plain_zone zone.now)
+        inquiry.old.sets
+        inquiry.old.zone
         (pos start)
-        (option_map found_items result.found) }
-    ensures days { IsTally
+        (option_map found_items result) }
+    ensures same { IsSame inquiry.old inquiry.new }
+    ensures days { Adds
         days_in_range
         (IsPassedTo way
-        (candidate_day fields.now)
+        (candidate_day inquiry.old.sets)
         (pos (start / 86_400))
-        (day_of result.found))
-        result.days }
-    ensures conversions { IsTally
+        (day_of result))
+        inquiry.old.days
+        inquiry.new.days }
+    ensures conversions { Adds
         seconds_in_range
-        (IsAsked way fields.now (pos start) (second_of result.found))
-        result.conversions }
+        (IsAsked way inquiry.old.sets (pos start) (second_of result))
+        inquiry.old.conversions
+        inquiry.new.conversions }
 {
-    let mut days = 0;
-    let mut conversions = 0;
-    let mut next = nearest_day(fields, way, day_with(start));
-    while let Some(day) = next {
-        let tried = search_day(fields, zone, way, start, day);
-        days += tried.days;
-        conversions += tried.conversions;
-        if tried.found.is_some() {
-            return Search {
-                found: tried.found,
-                days,
-                conversions,
-            };
-        }
-        next = day_past(fields, way, day);
+    if !some_month_has_a_day(inquiry) {
+        return None;
     }
-    nothing(days, conversions)
+    let mut next = nearest_day(inquiry, way, day_with(start));
+    while let Some(day) = next {
+        let found = search_day(inquiry, way, start, day);
+        if found.is_some() {
+            return found;
+        }
+        next = day_past(inquiry, way, day);
+    }
+    None
 }
 
 // The civil second of the range that a search from a number starts at.
@@ -196,8 +166,76 @@ fn start_of(way: Way, from: i64) -> Option<u32>
     }
 }
 
-/// The nearest civil second from a number on that stands on the timeline, with its readings; and
-/// the numbers of dates and of questions to the zone that it took.
+/// The nearest civil second from a number on that stands on the timeline, with its readings.
+pub(crate) fn search_from(inquiry: &mut Inquiry<'_>, way: Way, from: i64) -> Option<Found>
+    requires days_room { inquiry.old.days < 2 ^ 60 }
+    requires room { inquiry.old.conversions < 2 ^ 60 }
+    ensures found { IsFound way
+        inquiry.old.sets
+        inquiry.old.zone
+        from
+        (option_map found_items result) }
+    ensures same { IsSame inquiry.old inquiry.new }
+    ensures days { inquiry.new.days
+        ≡ inquiry.old.days + days_of way inquiry.old.sets from (second_of result) }
+    ensures conversions { inquiry.new.conversions
+        ≡ inquiry.old.conversions
+        + conversions way inquiry.old.sets inquiry.old.zone from (second_of result) }
+{
+    let start = start_of(way, from)?;
+    search_days(inquiry, way, start)
+}
+
+// The number past the civil seconds of a day.
+fn beyond_day(way: Way, day: u32) -> i64
+    ensures { result ≡ beyond_day way day }
+{
+    match way {
+        Way::Ahead => (day as i64 + 1) * 86_400,
+        Way::Back => day as i64 * 86_400 - 1,
+    }
+}
+
+// The times of the day past one of them, if there are any.
+#[inline(always)]
+fn search_times_past(inquiry: &mut Inquiry<'_>, way: Way, day: u32, time: u32) -> Option<Found>
+    requires in_range { day < days_in_range }
+    requires time { time < 86_400 }
+    requires matching { matches_date inquiry.old.sets (date_numbered day).0 ≡ true }
+    requires room { inquiry.old.conversions < 2 ^ 62 }
+    ensures found { MatchOption (option_map found_items result)
+        (AllFail way (stands_at inquiry.old.sets inquiry.old.zone day) (beyond way time))
+        (FindsTimePast way inquiry.old.sets inquiry.old.zone day time) }
+    ensures same { IsSame inquiry.old inquiry.new }
+    ensures few { (inquiry.new.days ≡ inquiry.old.days) × (inquiry.new.conversions ≤ inquiry.old.conversions + 86_400) }
+{
+    let from = past(way, time)?;
+    search_times(inquiry, way, day, from)
+}
+
+/// The nearest one past a civil second whose date matches: first in its own day, whose date needn't
+/// be made, and then in the days past it.
+#[inline(always)]
+pub(crate) fn search_past(inquiry: &mut Inquiry<'_>, way: Way, second: u32) -> Option<Found>
+    requires in_range { second < seconds_in_range }
+    requires matching { matches_date inquiry.old.sets (date_numbered (second / 86_400)).0 ≡ true }
+    requires days_room { inquiry.old.days < 2 ^ 59 }
+    requires room { inquiry.old.conversions < 2 ^ 59 }
+    ensures { IsFound way
+        inquiry.old.sets
+        inquiry.old.zone
+        (beyond way second)
+        (option_map found_items result) }
+{
+    let day = second / SECONDS_PER_DAY;
+    let found = search_times_past(inquiry, way, day, second % SECONDS_PER_DAY);
+    if found.is_some() {
+        return found;
+    }
+    search_from(inquiry, way, beyond_day(way, day))
+}
+
+/// The same in a new inquiry, with the numbers of dates and of questions to the zone that it took.
 pub fn search(fields: &ScheduleFields, zone: &TimeZone<'_>, way: Way, from: i64) -> Search
     ensures found { IsFound way
         fields.now
@@ -208,8 +246,11 @@ pub fn search(fields: &ScheduleFields, zone: &TimeZone<'_>, way: Way, from: i64)
     ensures conversions { result.conversions
         ≡ conversions way fields.now (plain_zone zone.now) from (second_of result.found) }
 {
-    match start_of(way, from) {
-        Some(start) => search_days(fields, zone, way, start),
-        None => nothing(0, 0),
+    let mut inquiry = Inquiry::new(fields, zone);
+    let found = search_from(&mut inquiry, way, from);
+    Search {
+        found,
+        days: inquiry.days() as u32,
+        conversions: inquiry.conversions(),
     }
 }

@@ -1,31 +1,111 @@
 //! Where a walk stands.
-ghost use Rattle.std.specs.Prelude.{◌≡◌};
-ghost use Rattle.cron_time.specs.Inner.Placed.{answer_of};
+ghost use Rattle.std.specs.Prelude.{◌≡◌, Some};
+ghost use Rattle.cron_time.specs.Inner.Placed.{answer_of, reading_of, stand_of, stop_of};
+ghost use Rattle.cron_time.specs.Inner.Stand as kept;
+ghost use Rattle.cron_time.specs.Readings.{Reading};
 
 use crate::found::Found;
 use crate::moment::Moment;
+use cron_units::way::Way;
+use jiff::Timestamp;
+use jiff::tz::Offset;
 
-/// At an instant that it started from, at one of the readings of a civil second that a search
-/// found, or ended.
+/// What a walk has come to: nothing yet, the only reading of a civil second, the earlier or the
+/// later one of two, or the end.
 #[derive(Clone, Copy)]
-pub enum State {
-    Start(jiff_core::Timestamp),
-    At { found: Found, later: bool },
+pub(crate) enum Stage {
+    Start,
+    Single,
+    Earlier,
+    Later,
     Ended,
 }
 
+/// The stage of a walk, the readings of its civil second, and the instant that it started from. What
+/// the stage doesn't speak of means nothing.
+#[derive(Clone, Copy)]
+pub struct State {
+    pub(crate) stage: Stage,
+    pub(crate) first: Moment,
+    pub(crate) second: Moment,
+    pub(crate) start: jiff_core::Timestamp,
+}
+
 impl State {
-    /// The reading at which the walk stands, which is what the call that led there answers.
-    pub fn answer(self) -> Option<Moment>
-        ensures { result ≡ answer_of self }
+    /// The state of a walk that starts at an instant.
+    pub fn starting(start: Timestamp) -> State
+        ensures { stand_of result ≡ kept.Start start.nanosecond }
     {
-        match self {
-            State::At { found, later } => if later {
-                found.second
-            } else {
-                Some(found.first)
-            },
-            _ => None,
+        let none = Moment::new(0, Offset::UTC);
+        State {
+            stage: Stage::Start,
+            first: none,
+            second: none,
+            start: start.to_plain(),
+        }
+    }
+
+    /// The state to which a search leads: the first of the readings found, in this direction.
+    #[inline(always)]
+    pub(crate) fn stopped(self, way: Way, found: Option<Found>) -> State
+        ensures { stand_of result ≡ stop_of way found }
+    {
+        let Some(Found { first, second }) = found else {
+            return State {
+                stage: Stage::Ended,
+                ..self
+            };
+        };
+        let Some(second) = second else {
+            return State {
+                stage: Stage::Single,
+                first,
+                ..self
+            };
+        };
+        let stage = match way {
+            Way::Ahead => Stage::Earlier,
+            Way::Back => Stage::Later,
+        };
+        State {
+            stage,
+            first,
+            second,
+            ..self
+        }
+    }
+
+    /// The state at the later or at the earlier of the readings found.
+    pub(crate) fn standing(self, found: Found, later: bool) -> State
+        requires { (r : Reading) × (reading_of found later ≡ Some r) }
+        ensures { stand_of result ≡ kept.At found later }
+    {
+        let Found { first, second } = found;
+        let Some(second) = second else {
+            return State {
+                stage: Stage::Single,
+                first,
+                ..self
+            };
+        };
+        let stage = if later { Stage::Later } else { Stage::Earlier };
+        State {
+            stage,
+            first,
+            second,
+            ..self
+        }
+    }
+
+    /// The reading at which the walk stands, which is what the call that led there answers.
+    #[inline(always)]
+    pub fn answer(&self) -> Option<Moment>
+        ensures { result ≡ answer_of (stand_of self.now) }
+    {
+        match self.stage {
+            Stage::Single | Stage::Earlier => Some(self.first),
+            Stage::Later => Some(self.second),
+            Stage::Start | Stage::Ended => None,
         }
     }
 }

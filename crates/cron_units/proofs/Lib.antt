@@ -1,6 +1,4 @@
-pub mod Sets
-pub mod Steps
-pub mod Neighbours
-pub mod Bounds
 pub mod Words
-pub mod Members
+pub mod Laid
+pub mod Remaining
+pub mod Steps

@@ -8,3 +8,9 @@ pub mod Texts
 pub mod Tables
 pub mod Bounds
 pub mod Laws
+pub mod Words
+pub mod WordLaws
+pub mod LongerLaws
+pub mod SetLaws
+pub mod Places
+pub mod PlaceLaws

@@ -1,19 +1,18 @@
 //! The seven sets of a schedule, one of each unit.
 
-ghost use Rattle.std.specs.Prelude.{◌≡◌, ◌≤◌, ◌<◌, pos, IfOk, IfSome};
+ghost use Rattle.std.specs.Prelude.{◌≡◌, ◌≤◌, ◌<◌, pos, IfSome};
 ghost use Rattle.cron_units.specs.Nearest.{IsNearest};
 ghost use Rattle.cron_units.specs.Units.{contains};
 
 use crate::time_unit::{
     DaysOfMonth, DaysOfWeek, Hours, Minutes, Months, Ordinal, Seconds, TimeUnitField, TimeUnitSpec,
-    Years, copied,
+    Years,
 };
 use crate::way::Way;
-use std::alloc::AllocError;
 use std::marker::Model;
 
 /// Seven sets, seen as `Sets`.
-#[derive(Debug, Drop, PartialEq, Eq)]
+#[derive(Debug, Clone, Copy, PartialEq, Eq)]
 pub struct ScheduleFields {
     pub seconds: Seconds,
     pub minutes: Minutes,
@@ -51,21 +50,6 @@ impl Model for ScheduleFields {
 }
 
 impl ScheduleFields {
-    /// A copy of the seven sets.
-    pub fn clone(&self) -> Result<ScheduleFields, AllocError>
-        ensures { IfOk result (λ copy. copy ≡ self.now) }
-    {
-        Ok(ScheduleFields {
-            seconds: copied(&self.seconds)?,
-            minutes: copied(&self.minutes)?,
-            hours: copied(&self.hours)?,
-            days_of_month: copied(&self.days_of_month)?,
-            months: copied(&self.months)?,
-            days_of_week: copied(&self.days_of_week)?,
-            years: copied(&self.years)?,
-        })
-    }
-
     /// The nearest second of a minute.
     pub fn nearest_second(&self, way: Way, from: Ordinal) -> Option<Ordinal>
         ensures nearest { IsNearest way (contains self.now.seconds) (pos from) result }

@@ -1,19 +1,16 @@
 //! The items of a field, and what they denote.
 
-ghost use Rattle.std.specs.Prelude.{◌≡◌, ◌≤◌, ◌<◌, ◌||◌, IfOk, IfErr, MatchResult, OnOk, Ok, Err};
+ghost use Rattle.std.specs.Prelude.{◌≡◌, ◌≤◌, ◌<◌, ◌||◌, IfOk, IfErr, MatchResult, OnOk, OnErr, Ok, Err};
 ghost use Rattle.cron_units.specs.Denotation.{in_steps, ordinal, span, steps_of};
 ghost use Rattle.cron_units.specs.Denotation as spec;
 ghost use Rattle.cron_units.specs.Items as items;
-ghost use Rattle.cron_units.specs.Texts.{Fails};
-ghost use Rattle.cron_units.specs.Units.{IsSet, contains, set_of};
+ghost use Rattle.cron_units.specs.Units.{contains, set_of};
 ghost use Rattle.cron_units.specs.Views.{base_view, item_view, refusal_view, steps_view};
 
 mod messages;
 
-use crate::error::Error;
-use crate::time_unit::{Ordinal, OrdinalSet, TimeUnitField, add_every_nth};
-pub use messages::{message, refused, told};
-use std::alloc::Global;
+use crate::time_unit::{Ordinal, TimeUnitField, add_steps};
+pub use messages::{RefusedItem, refused, told};
 
 /// What an item ranges over before its step.
 #[derive(Clone, Copy)]
@@ -56,6 +53,7 @@ pub struct Steps {
 }
 
 /// Finds the ordinal of a name.
+#[inline(always)]
 fn ordinal<'a, T: TimeUnitField>(name: &'a str) -> Result<Ordinal, Refusal<'a>>
     ensures within { IfOk result (λ n. (T.unit.least ≤ n) × (n ≤ T.unit.greatest)) }
     ensures value { MatchResult result (λ n. ordinal T.unit name.now ≡ Ok n) (λ r. ordinal T.unit name.now ≡ Err (refusal_view r)) }
@@ -67,6 +65,7 @@ fn ordinal<'a, T: TimeUnitField>(name: &'a str) -> Result<Ordinal, Refusal<'a>>
 }
 
 /// Finds the first and the last ordinal of a base.
+#[inline(always)]
 fn span<'a, T: TimeUnitField>(base: Base<'a>) -> Result<(Ordinal, Ordinal), Refusal<'a>>
     ensures within { IfOk result (λ p. (T.unit.least ≤ p.0) × (p.1 ≤ T.unit.greatest)) }
     ensures value { MatchResult result (λ p. span T.unit (base_view base.entry) ≡ Ok p) (λ r. span T.unit (base_view base.entry) ≡ Err (refusal_view r)) }
@@ -93,6 +92,7 @@ fn span<'a, T: TimeUnitField>(base: Base<'a>) -> Result<(Ordinal, Ordinal), Refu
 }
 
 // Finds what a base with a step denotes. The step is tested before the base.
+#[inline(always)]
 fn stepped<'a, T: TimeUnitField>(base: Base<'a>, every: u32) -> Result<Steps, Refusal<'a>>
     ensures within { IfOk result (λ s. (T.unit.least ≤ s.first) × (s.last ≤ T.unit.greatest) × (0 < s.every)) }
     ensures value { MatchResult result (λ s. steps_of T.unit (items.stepped (base_view base.entry) every) ≡ Ok (steps_view s)) (λ r. steps_of T.unit (items.stepped (base_view base.entry) every) ≡ Err (refusal_view r)) }
@@ -116,6 +116,7 @@ fn stepped<'a, T: TimeUnitField>(base: Base<'a>, every: u32) -> Result<Steps, Re
 }
 
 /// Finds what an item denotes.
+#[inline(always)]
 pub fn steps_of<'a, T: TimeUnitField>(item: Item<'a>) -> Result<Steps, Refusal<'a>>
     ensures within { IfOk result (λ s. (T.unit.least ≤ s.first) × (s.last ≤ T.unit.greatest) × (0 < s.every)) }
     ensures value { MatchResult result (λ s. steps_of T.unit (item_view item.entry) ≡ Ok (steps_view s)) (λ r. steps_of T.unit (item_view item.entry) ≡ Err (refusal_view r)) }
@@ -141,18 +142,14 @@ pub fn steps_of<'a, T: TimeUnitField>(item: Item<'a>) -> Result<Steps, Refusal<'
     }
 }
 
-/// Adds what an item denotes to a set of the unit.
-pub fn add_item<T: TimeUnitField>(
-    alloc: Global,
-    set: &mut OrdinalSet,
-    item: Item<'_>,
-) -> Result<(), Error>
-    requires { IsSet T.unit set.old }
-    ensures ok { OnOk result ((s : spec.Steps) × (steps_of T.unit (item_view item.entry) ≡ Ok s) × (set.new ≡ set_of T.unit (λ x. contains set.old x || in_steps s x))) }
-    ensures err { IfErr result (Fails T.unit (steps_of T.unit (item_view item.entry))) }
+/// Adds what an item denotes to a set of the unit. A refused item leaves the set as it was.
+#[inline(always)]
+pub fn add_item<'a, T: TimeUnitField>(set: &mut T, item: Item<'a>) -> Result<(), Refusal<'a>>
+    ensures ok { OnOk result ((s : spec.Steps) × (steps_of T.unit (item_view item.entry) ≡ Ok s) × (T.members set.new ≡ set_of T.unit (λ x. contains (T.members set.old) x || in_steps s x))) }
+    ensures err { IfErr result (λ r. steps_of T.unit (item_view item.entry) ≡ Err (refusal_view r)) }
+    ensures unchanged { OnErr result (set.new ≡ set.old) }
 {
-    match steps_of::<T>(item) {
-        Ok(Steps { first, last, every }) => Ok(add_every_nth::<T>(set, first, last, every)?),
-        Err(refusal) => Err(refused::<T>(alloc, refusal)),
-    }
+    let Steps { first, last, every } = steps_of::<T>(item)?;
+    add_steps(set, first, last, every);
+    Ok(())
 }

@@ -5,17 +5,21 @@ mod field;
 mod iterators;
 mod makers;
 mod names;
-mod ordinal_set;
+mod ordinals;
 mod units;
 mod views;
+pub mod words;
 
 pub use definition::{Definition, Names};
 pub use field::TimeUnitField;
 pub use iterators::{OrdinalIter, OrdinalRangeIter};
-pub(crate) use makers::add_every_nth;
-pub use makers::{copied, only, whole};
-pub use ordinal_set::OrdinalSet;
-pub use units::{DaysOfMonth, DaysOfWeek, Hours, Minutes, Months, Seconds, Years};
+pub(crate) use makers::add_steps;
+pub use makers::{empty, only, whole};
+pub use ordinals::{Ordinals, UnitTable};
+pub use units::{
+    DaysOfMonth, DaysOfMonthTable, DaysOfWeek, DaysOfWeekTable, Hours, HoursTable, Minutes,
+    MinutesTable, Months, MonthsTable, Seconds, SecondsTable, Years, YearsTable,
+};
 pub use views::TimeUnitSpec;
 
 /// A number that stands for a second, an hour, a month and so on.

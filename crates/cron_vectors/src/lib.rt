@@ -4,15 +4,23 @@
 #[cfg(test)]
 mod equalities;
 #[cfg(test)]
-mod hostile_texts;
-#[cfg(test)]
 mod json;
 #[cfg(test)]
+mod laws;
+#[cfg(test)]
 mod moments;
+#[cfg(test)]
+mod odd_zones;
+#[cfg(test)]
+mod resumed;
+#[cfg(test)]
+mod shown;
 #[cfg(test)]
 mod slow_twin;
 #[cfg(test)]
 mod support;
+#[cfg(test)]
+mod times;
 #[cfg(test)]
 mod units;
 #[cfg(test)]

@@ -4,9 +4,9 @@
 use crate::support::chicago;
 use cron::Schedule;
 use cron::schedule::Moment;
-use jiff::Error;
 use jiff::civil::{Date, DateTime, Time};
 use jiff::tz::{AmbiguousOffset, Offset, TimeZone};
+use jiff::{Error, Timestamp};
 use std::alloc::{AllocError, Global};
 use std::process::Abort;
 use std::test::Fail;
@@ -113,6 +113,24 @@ fn check_beyond(rt: &impl Abort, beyond: Option<Moment>, date: Date) {
     }
 }
 
+// The instant before a day's first second. Where the zone turns there, it goes by the offset after the
+// turn: the second that follows is then the first one of the day, and no earlier one comes again.
+fn before(zone: &TimeZone<'_>, date: Date) -> Result<Timestamp, Fail> {
+    let last = date.yesterday()?.to_datetime(Time::new(23, 59, 59, 0)?);
+    let offset = match zone.to_ambiguous_timestamp(last).offset() {
+        AmbiguousOffset::Unambiguous { offset } => offset,
+        AmbiguousOffset::Gap { after, .. } => after,
+        AmbiguousOffset::Fold { after, .. } => after,
+    };
+    Ok(offset.to_timestamp(last)?)
+}
+
+// The instant after a day's last second. Where the zone turns there, it goes by the offset before it.
+fn after(zone: &TimeZone<'_>, date: Date) -> Result<Timestamp, Fail> {
+    let first = date.tomorrow()?.to_datetime(Time::new(0, 0, 0, 0)?);
+    Ok(zone.to_timestamp(first)?)
+}
+
 // Makes one call ahead for each reading, which it has to answer, and one more, which it may not answer
 // on the same day.
 fn check_ahead(
@@ -122,8 +140,7 @@ fn check_ahead(
     date: Date,
     readings: &[Shown],
 ) -> Result<(), Fail> {
-    let before = date.yesterday()?.to_datetime(Time::new(23, 59, 59, 0)?);
-    let mut walk = schedule.after(zone.to_timestamp(before)?, zone);
+    let mut walk = schedule.after(before(zone, date)?, zone);
     for wanted in readings {
         check_answer(rt, walk.next(), *wanted)?;
     }
@@ -139,8 +156,7 @@ fn check_back(
     date: Date,
     readings: &[Shown],
 ) -> Result<(), Fail> {
-    let after = date.tomorrow()?.to_datetime(Time::new(0, 0, 0, 0)?);
-    let mut walk = schedule.after(zone.to_timestamp(after)?, zone);
+    let mut walk = schedule.after(after(zone, date)?, zone);
     for wanted in readings.iter().rev() {
         check_answer(rt, walk.next_back(), *wanted)?;
     }
@@ -153,9 +169,8 @@ pub(crate) fn check_day(
     rt: &(impl Abort + AllocGlobal),
     text: &str,
     zone: &TimeZone<'_>,
-    date: &str,
+    date: Date,
 ) -> Result<(), Fail> {
-    let date = date.parse::<Date>()?;
     let schedule = Schedule::from_str(rt.alloc(), text)?;
     let readings = day(rt.alloc(), &schedule, zone, date)?;
     check_ahead(rt, &schedule, zone, date, readings.as_slice())?;
@@ -165,20 +180,20 @@ pub(crate) fn check_day(
 #[test]
 fn a_day_with_a_fold(rt: HostRuntime) -> Result<(), Fail> {
     let zone = chicago()?;
-    check_day(&rt, "*/7 */3 0-3 6 11 *", &zone, "2022-11-06")?;
-    check_day(&rt, "30 30 * * * *", &zone, "2022-11-06")
+    check_day(&rt, "*/7 */3 0-3 6 11 *", &zone, "2022-11-06".parse()?)?;
+    check_day(&rt, "30 30 * * * *", &zone, "2022-11-06".parse()?)
 }
 
 #[test]
 fn a_day_with_a_gap(rt: HostRuntime) -> Result<(), Fail> {
     let zone = chicago()?;
-    check_day(&rt, "*/7 */3 0-3 13 3 *", &zone, "2022-03-13")?;
-    check_day(&rt, "30 30 * * * *", &zone, "2022-03-13")
+    check_day(&rt, "*/7 */3 0-3 13 3 *", &zone, "2022-03-13".parse()?)?;
+    check_day(&rt, "30 30 * * * *", &zone, "2022-03-13".parse()?)
 }
 
 #[test]
 fn days_of_a_fixed_offset(rt: HostRuntime) -> Result<(), Fail> {
     let zone = TimeZone::fixed(Offset::from_seconds(-20_700)?);
-    check_day(&rt, "59 59 23 31 12 *", &zone, "2099-12-31")?;
-    check_day(&rt, "0 0 0,12 * * Thu", &zone, "1970-01-01")
+    check_day(&rt, "59 59 23 31 12 *", &zone, "2099-12-31".parse()?)?;
+    check_day(&rt, "0 0 0,12 * * Thu", &zone, "1970-01-01".parse()?)
 }

@@ -43,8 +43,13 @@ fn zone_file(
     Ok(bytes)
 }
 
-// The zone of such a file.
-fn read_file(alloc: Global, offset: i32, first: &str, second: &str) -> Result<Tzif, Fail> {
+/// The zone of such a file.
+pub(crate) fn read_file(
+    alloc: Global,
+    offset: i32,
+    first: &str,
+    second: &str,
+) -> Result<Tzif, Fail> {
     let first = first.parse::<Timestamp>()?;
     let second = second.parse::<Timestamp>()?;
     let bytes = zone_file(alloc, offset, first, second)?;
@@ -103,8 +108,9 @@ fn check_half_an_hour(rt: &(impl Abort + AllocGlobal), offset: i32) -> Result<()
     let (first, second) = ("2020-03-01T12:00:00Z", "2020-03-01T12:30:00Z");
     let file = read_file(rt.alloc(), offset, first, second)?;
     let zone = TimeZone::tzif(&file);
-    check_day(rt, "0 */5 11-14 * * *", &zone, "2020-03-01")?;
-    check_day(rt, "59 */7 * 1 3 ?", &zone, "2020-03-01")
+    let date = "2020-03-01".parse()?;
+    check_day(rt, "0 */5 11-14 * * *", &zone, date)?;
+    check_day(rt, "59 */7 * 1 3 ?", &zone, date)
 }
 
 #[test]

@@ -3,6 +3,7 @@
 ghost use Rattle.std.specs.Prelude.{◌≡◌, ◌==◌, ◌↔◌, IfOk, IsTrue, Some};
 ghost use Rattle.std.specs.String.{string_bytes};
 ghost use Rattle.cron_text.specs.Meaning.{Means};
+ghost use Rattle.cron_units.specs.Sets.{AreSets};
 ghost use Rattle.cron_time.specs.Matches.{matches};
 
 use cron_time::matching;
@@ -47,6 +48,14 @@ impl Schedule {
         &self.fields
     }
 
+    /// The same sets, none of which is empty.
+    pub(crate) fn filled_fields(&self) -> &ScheduleFields
+        ensures sets { result.now ≡ self.now.sets }
+        ensures filled { AreSets result.now }
+    {
+        &self.fields
+    }
+
     pub(crate) fn into_fields(self) -> ScheduleFields
         ensures { result ≡ self.sets }
     {
@@ -60,7 +69,7 @@ impl Schedule {
     {
         Ok(Schedule {
             source: self.source.clone()?,
-            fields: self.fields.clone()?,
+            fields: self.fields,
         })
     }
 

@@ -22,15 +22,15 @@ impl<'z> Model for OwnedScheduleIterator<'z> {
 
     ghost Value = { Walk };
 
-    ghost use Rattle.cron_time.specs.Inner.Placed.{cursor_of, IsPlaced};
+    ghost use Rattle.cron_time.specs.Inner.Placed.{cursor_of, stand_of, IsPlaced};
 
     ghost view = { λ w. record {
       sets = w.fields;
       zone = plain_zone w.zone;
-      cursor = cursor_of w.fields (plain_zone w.zone) w.state;
+      cursor = cursor_of w.fields (plain_zone w.zone) (stand_of w.state);
     } };
 
-    ghost invariant = { λ w. IsPlaced w.fields (plain_zone w.zone) w.state };
+    ghost invariant = { λ w. IsPlaced w.fields (plain_zone w.zone) (stand_of w.state) };
 }
 
 impl<'z> OwnedScheduleIterator<'z> {
@@ -52,10 +52,11 @@ impl<'z> OwnedScheduleIterator<'z> {
         OwnedScheduleIterator {
             fields,
             zone,
-            state: State::Start(start.to_plain()),
+            state: State::starting(start),
         }
     }
 
+    #[inline(always)]
     fn step(&mut self, way: Way) -> Option<Moment>
         ensures { Gives way self.old result self.new }
     {

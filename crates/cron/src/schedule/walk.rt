@@ -22,15 +22,15 @@ impl<'a> Model for ScheduleIterator<'a> {
 
     ghost Value = { Walk };
 
-    ghost use Rattle.cron_time.specs.Inner.Placed.{cursor_of, IsPlaced};
+    ghost use Rattle.cron_time.specs.Inner.Placed.{cursor_of, stand_of, IsPlaced};
 
     ghost view = { λ w. record {
       sets = w.fields.now;
       zone = plain_zone w.zone.now;
-      cursor = cursor_of w.fields.now (plain_zone w.zone.now) w.state;
+      cursor = cursor_of w.fields.now (plain_zone w.zone.now) (stand_of w.state);
     } };
 
-    ghost invariant = { λ w. IsPlaced w.fields.now (plain_zone w.zone.now) w.state };
+    ghost invariant = { λ w. IsPlaced w.fields.now (plain_zone w.zone.now) (stand_of w.state) };
 }
 
 impl<'a> ScheduleIterator<'a> {
@@ -38,6 +38,7 @@ impl<'a> ScheduleIterator<'a> {
     ghost use Rattle.jiff.specs.Words.{plain_zone};
     ghost use Rattle.cron_units.specs.declared.way.Way.TheVariants.{Back};
     ghost use Rattle.cron_time.specs.Cursor.{Start};
+    ghost use Rattle.cron_time.specs.Inner.Placed.{cursor_of, stand_of, IsPlaced};
     ghost use Rattle.cron_time.specs.Rest.{Gives};
 
     pub(crate) fn new(
@@ -52,10 +53,29 @@ impl<'a> ScheduleIterator<'a> {
         ScheduleIterator {
             fields,
             zone,
-            state: State::Start(start.to_plain()),
+            state: State::starting(start),
         }
     }
 
+    /// A walk that stands at a place.
+    pub(crate) fn at(
+        fields: &'a ScheduleFields,
+        zone: &'a TimeZone<'a>,
+        state: State,
+    ) -> ScheduleIterator<'a>
+        requires { IsPlaced fields.now (plain_zone zone.now) (stand_of state) }
+        ensures sets { result.sets ≡ fields.now }
+        ensures zone { result.zone ≡ plain_zone zone.now }
+        ensures cursor { result.cursor ≡ cursor_of fields.now (plain_zone zone.now) (stand_of state) }
+    {
+        ScheduleIterator {
+            fields,
+            zone,
+            state,
+        }
+    }
+
+    #[inline(always)]
     fn step(&mut self, way: Way) -> Option<Moment>
         ensures { Gives way self.old result self.new }
     {

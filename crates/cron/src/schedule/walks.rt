@@ -1,10 +1,12 @@
 //! The ways from a schedule to a walk.
 
-ghost use Rattle.std.specs.Prelude.{◌≡◌, IfOk};
+ghost use Rattle.std.specs.Prelude.{◌≡◌, IfOk, IsOk, MatchOption};
 ghost use Rattle.jiff.specs.Words.{plain_zone};
 ghost use Rattle.cron_time.specs.Cursor.{Start};
+ghost use Rattle.cron_time.specs.Resume.{IsAbsent, IsResumed};
 
-use super::{OwnedScheduleIterator, Schedule, ScheduleIterator};
+use super::{Moment, OwnedScheduleIterator, Schedule, ScheduleIterator};
+use cron_time::resume::resumed;
 use jiff::Timestamp;
 use jiff::tz::TimeZone;
 use std::alloc::AllocError;
@@ -32,7 +34,25 @@ impl Schedule {
         self.after(now, zone)
     }
 
-    /// The same walk, over a clone of the schedule and the zone itself, which a refusal gives up.
+    /// The walk whose cursor is at the place of an item, as a walk left it that answered the item: its
+    /// `next` answers the following one, its `next_back` the one before, also in a fold. It is `None`
+    /// where the moment is no item of this schedule in this zone. It takes no memory, and asks the zone
+    /// once.
+    pub fn resume<'a>(
+        &'a self,
+        item: &Moment,
+        zone: &'a TimeZone<'a>,
+    ) -> Option<ScheduleIterator<'a>>
+        ensures { MatchOption result
+            (IsAbsent self.now.sets (plain_zone zone.now) item.now)
+            (IsResumed self.now.sets (plain_zone zone.now) item.now) }
+    {
+        let state = resumed(self.fields(), zone, item)?;
+        Some(ScheduleIterator::at(self.fields(), zone, state))
+    }
+
+    /// The same walk, over the schedule's sets and the zone itself. It takes no memory, so it never
+    /// fails.
     pub fn after_owned<'z>(
         &self,
         start: Timestamp,
@@ -41,8 +61,9 @@ impl Schedule {
         ensures sets { IfOk result (λ walk. walk.sets ≡ self.now.sets) }
         ensures zone { IfOk result (λ walk. walk.zone ≡ plain_zone zone.entry) }
         ensures cursor { IfOk result (λ walk. walk.cursor ≡ Start start.nanosecond) }
+        ensures succeeds { IsOk result }
     {
-        Ok(OwnedScheduleIterator::new(self.clone()?, start, zone))
+        Ok(OwnedScheduleIterator::from_fields(*self.fields(), start, zone))
     }
 
     /// The same as [`Schedule::after_owned`], from the present instant.
@@ -54,6 +75,7 @@ impl Schedule {
         ensures sets { IfOk result (λ walk. walk.sets ≡ self.now.sets) }
         ensures zone { IfOk result (λ walk. walk.zone ≡ plain_zone zone.entry) }
         ensures cursor { IfOk result (λ walk. walk.cursor ≡ Start now.nanosecond) }
+        ensures succeeds { IsOk result }
     {
         self.after_owned(now, zone)
     }

@@ -10,10 +10,10 @@ use std::alloc::Global;
 use std::io::{self, Write};
 use std::test::Fail;
 
-const MOST_BLOCKS: usize = 20_000;
+pub(super) const MOST_BLOCKS: usize = 20_000;
 
-// Takes blocks of each size down to a single byte until each is refused, so that nothing is left.
-fn take_all_memory(blocks: &mut Vec<Vec<u8>>, alloc: Global) {
+/// Takes blocks of each size down to a single byte until each is refused, so that nothing is left.
+pub(super) fn take_all_memory(blocks: &mut Vec<Vec<u8>>, alloc: Global) {
     let mut size = 1usize << 40;
     for _ in 0..41 {
         for _ in 0..MOST_BLOCKS {

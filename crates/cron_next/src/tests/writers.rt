@@ -1,14 +1,14 @@
 //! Writers that fail on the way.
 
-ghost use Rattle.std.specs.Prelude.{Some};
-
+use super::limited::Limited;
 use super::words_in;
 use crate::answer::answer;
 use crate::run::{Outcome, run};
 use crate::watched::Watched;
 use jiff::tz::TimeZone;
-use std::alloc::Global;
-use std::io::{self, ErrorKind, Write};
+use std::alloc::{AllocError, Global};
+use std::io::ErrorKind;
+use std::process::Abort;
 use std::test::Fail;
 
 const TWO_DAYS: &str = "2020-01-02 00:00:00 +00:00\n2020-01-03 00:00:00 +00:00\n";
@@ -16,72 +16,6 @@ const TWO_DAYS: &str = "2020-01-02 00:00:00 +00:00\n2020-01-03 00:00:00 +00:00\n
 const FAULT: &str = "error: Seconds must be less than 59. ('60' specified.)\n";
 
 const USAGE: &str = "usage: cron_next EXPRESSION START ZONE COUNT [back]\n";
-
-// Takes at most `step` bytes a call and `room` in all, and then fails. It counts the calls that
-// fail or take nothing, and its flush fails unless it `flushes`.
-#[derive(Drop)]
-struct Limited {
-    held: Vec<u8>,
-    room: usize,
-    step: usize,
-    flushes: bool,
-    kind: ErrorKind,
-    failures: u8,
-}
-
-impl Limited {
-    fn new(alloc: Global, room: usize, step: usize) -> Limited {
-        Limited {
-            held: Vec::new(alloc),
-            room,
-            step,
-            flushes: true,
-            kind: ErrorKind::BrokenPipe,
-            failures: 0,
-        }
-    }
-
-    // A call that fails as one that only asks to be tried again.
-    fn interrupted(alloc: Global, room: usize) -> Limited {
-        Limited {
-            kind: ErrorKind::Interrupted,
-            ..Limited::new(alloc, room, usize::MAX)
-        }
-    }
-
-    // Takes every byte, and fails in the flush.
-    fn unflushed(alloc: Global) -> Limited {
-        Limited {
-            flushes: false,
-            ..Limited::new(alloc, usize::MAX, usize::MAX)
-        }
-    }
-}
-
-impl Write for Limited {
-    ghost contents = { λ w. Some w.held.items };
-
-    fn write(&mut self, buf: &[u8]) -> io::Result<usize> {
-        let count = buf.len().min(self.step).min(self.room);
-        if count == 0 {
-            self.failures = self.failures.saturating_add(1);
-        }
-        if self.room == 0 {
-            return Err(io::Error::from(self.kind));
-        }
-        self.held.extend_from_slice(&buf[..count])?;
-        self.room -= count;
-        Ok(count)
-    }
-
-    fn flush(&mut self) -> io::Result<()> {
-        if !self.flushes {
-            self.failures = self.failures.saturating_add(1);
-            return Err(io::Error::from(self.kind));
-        }
-        Ok(())
-    }
-}
 
 // Asks for two items after the start of 2020.
 fn two_items(
@@ -95,25 +29,41 @@ fn two_items(
     Ok((outcome, out))
 }
 
+// A write that fails so ends the run, with what the writer took before.
+fn check_failed_write(
+    rt: &(impl Abort + AllocGlobal),
+    expression: &str,
+    text: &str,
+    writer: Limited,
+) -> Result<(), Fail> {
+    let room = writer.room;
+    let (outcome, out) = two_items(rt.alloc(), expression, writer)?;
+    assert_eq!(rt; outcome, Outcome::WriteFailed, "{expression} at {room}");
+    assert!(rt; out.failed(), "{expression} at {room}");
+    let writer = out.into_inner();
+    let held = writer.held.as_slice();
+    assert!(rt;
+        held.len() == room && text.as_bytes().starts_with(held),
+        "{expression} at {room}"
+    );
+    assert_eq!(rt; writer.failures, 1, "{expression} at {room}");
+    Ok(())
+}
+
+// Two of these kinds ask to be tried again.
+const KINDS: [ErrorKind; 3] = [
+    ErrorKind::BrokenPipe,
+    ErrorKind::Interrupted,
+    ErrorKind::WouldBlock,
+];
+
 #[test]
 fn a_failed_write_ends_the_run_where_it_stands(rt: HostRuntime) -> Result<(), Fail> {
     for (expression, text) in [("@daily", TWO_DAYS), ("60 * * * * *", FAULT)] {
-        let text = text.as_bytes();
         for room in 0..text.len() {
-            for writer in [
-                Limited::new(rt.alloc(), room, usize::MAX),
-                Limited::interrupted(rt.alloc(), room),
-            ] {
-                let (outcome, out) = two_items(rt.alloc(), expression, writer)?;
-                assert_eq!(rt; outcome, Outcome::WriteFailed, "{expression} at {room}");
-                assert!(rt; out.failed(), "{expression} at {room}");
-                let writer = out.into_inner();
-                assert_eq!(rt;
-                    writer.held.as_slice(),
-                    &text[..room],
-                    "{expression} at {room}"
-                );
-                assert_eq!(rt; writer.failures, 1, "{expression} at {room}");
+            for kind in KINDS {
+                let writer = Limited::failing(rt.alloc(), room, kind);
+                check_failed_write(&rt, expression, text, writer)?;
             }
         }
     }
@@ -164,6 +114,39 @@ fn a_writer_that_takes_nothing_is_not_tried_again(rt: HostRuntime) -> Result<(),
     Ok(())
 }
 
+// A message that names a word of a million letters.
+fn long_message(alloc: Global, word: &str) -> Result<String, AllocError> {
+    format!(in alloc;
+        "error: The 'Seconds' field does not support using names. '{word}' specified.\n"
+    )
+}
+
+fn million_letters(alloc: Global) -> Result<String, AllocError> {
+    let mut word = String::new(alloc);
+    for _ in 0..1_000_000 {
+        word.push('a')?;
+    }
+    Ok(word)
+}
+
+#[test]
+fn a_long_word_is_written_whole(rt: HostRuntime) -> Result<(), Fail> {
+    let word = million_letters(rt.alloc())?;
+    let expression = format!(in rt.alloc(); "{word} * * * * *")?;
+    let message = long_message(rt.alloc(), word.as_str())?;
+    for step in [usize::MAX, 1000] {
+        let writer = Limited::new(rt.alloc(), usize::MAX, step);
+        let (outcome, out) = two_items(rt.alloc(), expression.as_str(), writer)?;
+        assert_eq!(rt; outcome, Outcome::Refused, "{step} bytes a call");
+        let held = out.into_inner().held;
+        assert!(rt;
+            held.as_slice() == message.as_bytes(),
+            "{step} bytes a call"
+        );
+    }
+    Ok(())
+}
+
 #[test]
 fn the_status_tells_of_a_failed_write(rt: HostRuntime) -> Result<(), Fail> {
     for (line, text) in [
@@ -175,7 +158,8 @@ fn the_status_tells_of_a_failed_write(rt: HostRuntime) -> Result<(), Fail> {
         for writer in [
             Limited::new(rt.alloc(), 20, usize::MAX),
             Limited::new(rt.alloc(), 20, 3),
-            Limited::interrupted(rt.alloc(), 20),
+            Limited::failing(rt.alloc(), 20, ErrorKind::Interrupted),
+            Limited::failing(rt.alloc(), 20, ErrorKind::WouldBlock),
         ] {
             let mut out = Watched::new(writer);
             assert_eq!(rt;

@@ -5,16 +5,13 @@ use Rattle.cron_text.specs.Tokens.{number, word, star, question, comma, dash, sl
 use Rattle.cron_text.specs.Fields as field
 use Rattle.cron_units.specs.Views.{item_view}
 use Rattle.cron_units.specs.declared.specifier.Item.{Item}
-use Rattle.cron_text.specs.declared.tokens.Token.{Token}
 use Rattle.cron_text.specs.declared.symbols.Symbol.{Symbol}
 use Rattle.cron_text.specs.declared.symbols.Symbol.TheVariants.{Number, Word, Star, Question, Comma, Dash, Slash, Foreign}
+use Rattle.cron_text.specs.declared.fields.Connector as connector
+use Rattle.cron_text.specs.declared.fields.Connector.TheVariants as connectors
 use Rattle.cron_text.specs.declared.fields.Growth.{Growth}
 use Rattle.cron_text.specs.declared.fields.Growth.TheVariants.{Grown, Next}
 use Rattle.cron_text.specs.Inner.FieldReading.{State}
-
--- a token without where it lies in memory
-abbrev pub piece : Token → spec.Token
-piece t = record { spaced = t.spaced; text = t.text.now }
 
 abbrev pub symbol_view : Symbol → spec.Symbol
 symbol_view (Number n) = number n
@@ -26,11 +23,16 @@ symbol_view Dash = dash
 symbol_view Slash = slash
 symbol_view Foreign = foreign
 
+abbrev pub connector_view : connector.Connector → spec.Symbol
+connector_view connectors.Comma = comma
+connector_view connectors.Dash = dash
+connector_view connectors.Slash = slash
+
 -- the state of a reading
-abbrev pub state_view : List field.Item → Item → Token → State
-state_view done item last = record { done = done; item = item_view item; last = piece last }
+abbrev pub state_view : List field.Item → Item → spec.Token → State
+state_view done item last = record { done = done; item = item_view item; last = last }
 
 -- the state after a step, at the token
-abbrev pub after_growth : List field.Item → Item → Token → Growth → State
+abbrev pub after_growth : List field.Item → Item → spec.Token → Growth → State
 after_growth done item token (Grown i) = state_view done i token
 after_growth done item token (Next i) = state_view (done ++ item_view item ∷ []) i token

@@ -6,7 +6,7 @@ use Rattle.cron_units.specs.Nearest.{LiesFrom, IsNearestAt}
 use Rattle.cron_time.specs.Inner.Blocks.{AllFail, Enters}
 use Rattle.cron_time.specs.Civil.{civil, days_in_range}
 use Rattle.cron_time.specs.CivilDates.{date_numbered}
-use Rattle.cron_time.specs.Inner.Places.{stands_at}
+use Rattle.cron_time.specs.Inner.Places.{beyond, stands_at}
 use Rattle.cron_time.specs.Readings.{Reading}
 use Rattle.cron_time.specs.Search.{items_of, stands}
 use Rattle.cron_units.specs.Sets.{Sets}
@@ -30,6 +30,12 @@ candidate_day s day = nat_lt day days_in_range && is_candidate s (date_numbered 
 pub record FindsTime (way : Way) (s : Sets) (z : TimeZone) (day from : ℕ) (found : List Reading) : Type 0 where
   pub time : ℕ
   pub nearest : IsNearestAt way (stands_at s z day) (pos from) time
+  pub items : items_of s z (day * 86_400 + time) ≡ found
+
+-- a time of the day past another is found
+pub record FindsTimePast (way : Way) (s : Sets) (z : TimeZone) (day before : ℕ) (found : List Reading) : Type 0 where
+  pub time : ℕ
+  pub nearest : IsNearestAt way (stands_at s z day) (beyond way before) time
   pub items : items_of s z (day * 86_400 + time) ≡ found
 
 -- nothing is found exactly where no time of the day stands

@@ -1,5 +1,6 @@
 -- The days that a search goes by.
-use Rattle.std.specs.Prelude.{ℕ, ◌≤◌, ◌<◌, min}
+use Rattle.std.specs.Prelude.{ℕ, ◌≤◌, ◌<◌, min, pos}
+use Rattle.jiff_core.specs.Calendar.{days_in_month}
 use Rattle.cron_units.specs.declared.way.Way.{Way}
 use Rattle.cron_units.specs.declared.way.Way.TheVariants.{Ahead, Back}
 use Rattle.cron_time.specs.Inner.Places.{place, day_number}
@@ -19,3 +20,7 @@ IsInRange d = (23_640 ≤ d.month) × (d.month < 25_212) × (1 ≤ d.day) × (d.
 abbrev pub capped : Way → ℕ → ℕ → ℕ
 capped Ahead from last = from
 capped Back from last = min from last
+
+-- the length that a month of the year has in a leap year
+abbrev pub longest : ℕ → ℕ
+longest month = days_in_month (pos 2000) month

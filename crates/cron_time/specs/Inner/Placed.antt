@@ -1,5 +1,5 @@
 -- The cursor of what a walk keeps.
-use Rattle.std.specs.Prelude.{◌≡◌, ℕ, ◌+◌, ◌<◌, Bool, true, false, length, is_some, if◌then◌else◌, Option, Some, None}
+use Rattle.std.specs.Prelude.{◌≡◌, ℕ, ◌+◌, ◌<◌, ℤ, Bool, true, false, length, is_some, if◌then◌else◌, Option, Some, None}
 use Rattle.cron_units.specs.declared.way.Way.{Way}
 use Rattle.cron_units.specs.declared.way.Way.TheVariants.{Ahead, Back}
 use Rattle.jiff_tz.specs.declared.timezone.TimeZone.{TimeZone}
@@ -11,8 +11,23 @@ use Rattle.cron_time.specs.Search.{items_of}
 use Rattle.cron_units.specs.Sets.{Sets}
 use Rattle.cron_time.specs.Timeline.{items_below}
 use Rattle.cron_time.specs.declared.found.Found.{Found}
+use Rattle.cron_time.specs.Inner.Stand.{Stand}
+use Rattle.cron_time.specs.Inner.Stand as Kept
+use Rattle.cron_time.specs.Ways.{opposite}
+use Rattle.cron_time.specs.declared.state.Stage.{Stage}
+use Rattle.cron_time.specs.declared.state.Stage.TheVariants as stage
 use Rattle.cron_time.specs.declared.state.State.{State}
-use Rattle.cron_time.specs.declared.state.State.TheVariants as Kept
+
+-- the stand that plain numbers say: the stage, one reading or two, and the instant of the start
+abbrev pub stand_at : Stage → Reading → Reading → ℤ → Stand
+stand_at stage.Start first second start = Kept.Start start
+stand_at stage.Single first second start = Kept.At (record { first = first; second = None }) false
+stand_at stage.Earlier first second start = Kept.At (record { first = first; second = Some second }) false
+stand_at stage.Later first second start = Kept.At (record { first = first; second = Some second }) true
+stand_at stage.Ended first second start = Kept.Ended
+
+abbrev pub stand_of : State → Stand
+stand_of state = stand_at state.stage state.first state.second state.start.nanosecond
 
 -- which reading of its civil second
 abbrev pub index : Bool → ℕ
@@ -22,8 +37,8 @@ index later = if later then 1 else 0
 abbrev pub place_of : Sets → TimeZone → ℕ → Bool → ℕ
 place_of s z c later = length (items_below s z c) + index later
 
-abbrev pub cursor_of : Sets → TimeZone → State → Cursor
-cursor_of s z (Kept.Start t) = Start t.nanosecond
+abbrev pub cursor_of : Sets → TimeZone → Stand → Cursor
+cursor_of s z (Kept.Start t) = Start t
 cursor_of s z (Kept.At f later) = Place (place_of s z f.first.second later)
 cursor_of s z Kept.Ended = Ended
 
@@ -33,7 +48,7 @@ pub record IsKept (s : Sets) (z : TimeZone) (f : Found) (later : Bool) : Type 0 
   pub items : items_of s z f.first.second ≡ found_items f
   pub inside : index later < length (found_items f)
 
-abbrev pub IsPlaced : Sets → TimeZone → State → Type 0
+abbrev pub IsPlaced : Sets → TimeZone → Stand → Type 0
 IsPlaced s z (Kept.Start t) = Unit {0}
 IsPlaced s z (Kept.At f later) = IsKept s z f later
 IsPlaced s z Kept.Ended = Unit {0}
@@ -43,7 +58,7 @@ abbrev pub reading_of : Found → Bool → Option Reading
 reading_of f true = f.second
 reading_of f false = Some f.first
 
-abbrev pub answer_of : State → Option Reading
+abbrev pub answer_of : Stand → Option Reading
 answer_of (Kept.Start t) = None
 answer_of (Kept.At f later) = reading_of f later
 answer_of Kept.Ended = None
@@ -52,3 +67,8 @@ answer_of Kept.Ended = None
 abbrev pub last_is_later : Way → Found → Bool
 last_is_later Ahead f = is_some f.second
 last_is_later Back f = false
+
+-- where a search leaves a walk: at the first of the readings found, in this direction
+abbrev pub stop_of : Way → Option Found → Stand
+stop_of way None = Kept.Ended
+stop_of way (Some f) = Kept.At f (last_is_later (opposite way) f)

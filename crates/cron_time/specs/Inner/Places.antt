@@ -14,13 +14,18 @@ abbrev pub beyond : Way → ℕ → ℤ
 beyond Ahead n = pos n +ℤ pos 1
 beyond Back n = pos n -ℤ pos 1
 
--- hour and minute of a minute of the day lie in their sets
-abbrev pub matches_minute : Sets → ℕ → Bool
-matches_minute s n = contains s.hours (n / 60) && contains s.minutes (n % 60)
+-- where the civil seconds past a day start
+abbrev pub beyond_day : Way → ℕ → ℤ
+beyond_day Ahead day = pos ((day + 1) * 86_400)
+beyond_day Back day = pos (day * 86_400) -ℤ pos 1
+
+-- minute and second of a second of the hour lie in their sets
+abbrev pub matches_rest : Sets → ℕ → Bool
+matches_rest s n = contains s.minutes (n / 60) && contains s.seconds (n % 60)
 
 -- hour, minute and second of a second of the day lie in their sets
 abbrev pub matches_second : Sets → ℕ → Bool
-matches_second s n = matches_minute s (n / 60) && contains s.seconds (n % 60)
+matches_second s n = contains s.hours (n / 3600) && matches_rest s (n % 3600)
 
 -- months are numbered from January of the year 0 on
 abbrev pub year_of : ℕ → ℕ

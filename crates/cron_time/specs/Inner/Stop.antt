@@ -7,17 +7,17 @@ use Rattle.cron_time.specs.Inner.Placed.{cursor_of, answer_of, IsPlaced}
 use Rattle.cron_units.specs.Sets.{Sets}
 use Rattle.cron_time.specs.Timeline.{timeline}
 use Rattle.cron_time.specs.Ways.{place_from}
-use Rattle.cron_time.specs.declared.state.State.{State}
+use Rattle.cron_time.specs.Inner.Stand.{Stand}
 
 -- what is kept says the answer and the cursor of this step
-pub record IsLeftBy (s : Sets) (z : TimeZone) (step : Step) (state : State) : Type 0 where
-  pub placed : IsPlaced s z state
-  pub leads : step ≡ record { answer = answer_of state; cursor = cursor_of s z state }
+pub record IsLeftBy (s : Sets) (z : TimeZone) (step : Step) (stand : Stand) : Type 0 where
+  pub placed : IsPlaced s z stand
+  pub leads : step ≡ record { answer = answer_of stand; cursor = cursor_of s z stand }
 
 -- the walk is left at the first item from the bound on
-abbrev pub IsReached : Way → Sets → TimeZone → ℤ → State → Type 0
-IsReached way s z bound state = IsLeftBy s z (go_to (timeline s z) (place_from way (timeline s z) (Some bound))) state
+abbrev pub IsReached : Way → Sets → TimeZone → ℤ → Stand → Type 0
+IsReached way s z bound stand = IsLeftBy s z (go_to (timeline s z) (place_from way (timeline s z) (Some bound))) stand
 
 -- the walk is left where a call from this cursor leaves it
-abbrev pub IsStop : Way → Sets → TimeZone → Cursor → State → Type 0
-IsStop way s z cursor state = IsLeftBy s z (step_on (timeline s z) z way cursor) state
+abbrev pub IsStop : Way → Sets → TimeZone → Cursor → Stand → Type 0
+IsStop way s z cursor stand = IsLeftBy s z (step_on (timeline s z) z way cursor) stand

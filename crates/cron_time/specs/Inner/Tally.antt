@@ -1,5 +1,5 @@
 -- How many numbers below a limit there are of a kind.
-use Rattle.std.specs.Prelude.{◌≡◌, ℕ, ◌<◌, ℤ, Bool, true, ◌↔◌, ◌⊎◌, Option, Some, None, count_by}
+use Rattle.std.specs.Prelude.{◌≡◌, ℕ, ◌+◌, ◌<◌, ℤ, Bool, true, ◌↔◌, ◌⊎◌, Option, Some, None, count_by}
 use Rattle.cron_units.specs.declared.way.Way.{Way}
 use Rattle.cron_units.specs.Nearest.{LiesFrom, Precedes}
 use Rattle.cron_time.specs.Timeline.{numbers_below}
@@ -9,6 +9,12 @@ pub record IsTally (limit : ℕ) (Kind : ℕ → Type 0) (count : ℕ) : Type 0 
   pub test : ℕ → Bool
   pub tells : (k : ℕ) → k < limit → (test k ≡ true) ↔ Kind k
   pub total : count ≡ count_by test (numbers_below limit)
+
+-- a count went up by so many
+pub record Adds (limit : ℕ) (Kind : ℕ → Type 0) (old new : ℕ) : Type 0 where
+  pub count : ℕ
+  pub is : new ≡ old + count
+  pub tally : IsTally limit Kind count
 
 -- k comes before the number, if there is one
 abbrev pub Before : Way → ℕ → Option ℕ → Type 0

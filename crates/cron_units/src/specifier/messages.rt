@@ -1,58 +1,79 @@
 //! The messages of refusals.
 
-ghost use Rattle.std.specs.Prelude.{◌≡◌, IfOk};
-ghost use Rattle.std.specs.String.{string_bytes};
+ghost use Rattle.std.specs.Prelude.{◌≡◌};
 ghost use Rattle.cron_units.specs.Denotation.{message};
+ghost use Rattle.cron_units.specs.Tables.{definition_view};
 ghost use Rattle.cron_units.specs.Texts.{Tells};
 ghost use Rattle.cron_units.specs.Views.{refusal_view};
 
 use super::Refusal;
 use crate::error::{Error, ErrorKind};
-use crate::time_unit::TimeUnitField;
-use std::alloc::{AllocError, Global};
+use crate::time_unit::{Definition, Names};
+use std::alloc::Global;
+use std::fmt;
 
-/// Writes the message of a refusal.
-pub fn message<T: TimeUnitField>(alloc: Global, refusal: Refusal<'_>) -> Result<String, AllocError>
-    ensures { IfOk result (λ s. string_bytes s ≡ message T.unit (refusal_view refusal.entry)) }
-{
-    let title = T::name();
-    let least = T::inclusive_min();
-    let greatest = T::inclusive_max();
-    match refusal {
-        Refusal::UnknownName(name) => match T::noun() {
-            None => {
-                format!(in alloc;
-                    "The '{title}' field does not support using names. '{name}' specified."
+/// A refusal, with the unit whose item is refused. It prints the message.
+#[derive(Clone, Copy)]
+pub struct RefusedItem<'a> {
+    pub definition: Definition,
+    pub refusal: Refusal<'a>,
+}
+
+impl<'a> fmt::Display for RefusedItem<'a> {
+    ghost use Rattle.std.specs.Prelude.{Some};
+    ghost use Rattle.cron_units.specs.Denotation.{message};
+    ghost use Rattle.cron_units.specs.Tables.{definition_view};
+    ghost use Rattle.cron_units.specs.Views.{refusal_view};
+
+    ghost output = { λ r. Some (message (definition_view r.definition) (refusal_view r.refusal)) };
+
+    fn fmt<W: fmt::Write>(&self, f: &mut fmt::Formatter<W>) -> fmt::Result {
+        let unit = self.definition;
+        let (title, least, greatest) = (unit.title, unit.least, unit.greatest);
+        match self.refusal {
+            Refusal::UnknownName(name) => match unit.names {
+                None => {
+                    write!(
+                        f,
+                        "The '{title}' field does not support using names. '{name}' specified."
+                    )
+                }
+                Some(Names { noun, .. }) => write!(f, "'{name}' is not a valid {noun}."),
+            },
+            Refusal::TooSmall(n) => {
+                write!(
+                    f,
+                    "{title} must be greater than or equal to {least}. ('{n}' specified.)"
                 )
             }
-            Some(noun) => format!(in alloc; "'{name}' is not a valid {noun}."),
-        },
-        Refusal::TooSmall(n) => {
-            format!(in alloc;
-                "{title} must be greater than or equal to {least}. ('{n}' specified.)"
-            )
-        }
-        Refusal::TooLarge(n) => {
-            format!(in alloc; "{title} must be less than {greatest}. ('{n}' specified.)")
-        }
-        Refusal::BadRange(first, last) => {
-            format!(in alloc; "Invalid range for {title}: {first}-{last}")
-        }
-        Refusal::BadNameRange(first, last) => {
-            format!(in alloc; "Invalid named range for {title}: {first}-{last}")
-        }
-        Refusal::ZeroStep => String::from_str(alloc, "range step cannot be zero"),
-        Refusal::LargeStep(step) => {
-            format!(in alloc; "{title} must be between 1 and {greatest}. ('{step}' specified.)")
+            Refusal::TooLarge(n) => {
+                write!(
+                    f,
+                    "{title} must be less than {greatest}. ('{n}' specified.)"
+                )
+            }
+            Refusal::BadRange(first, last) => {
+                write!(f, "Invalid range for {title}: {first}-{last}")
+            }
+            Refusal::BadNameRange(first, last) => {
+                write!(f, "Invalid named range for {title}: {first}-{last}")
+            }
+            Refusal::ZeroStep => write!(f, "range step cannot be zero"),
+            Refusal::LargeStep(step) => {
+                write!(
+                    f,
+                    "{title} must be between 1 and {greatest}. ('{step}' specified.)"
+                )
+            }
         }
     }
 }
 
 /// Makes the error that tells a refusal.
-pub fn refused<T: TimeUnitField>(alloc: Global, refusal: Refusal<'_>) -> Error
-    ensures { Tells (λ text. text ≡ message T.unit (refusal_view refusal.entry)) result }
+pub fn refused(alloc: Global, item: RefusedItem<'_>) -> Error
+    ensures { Tells (λ text. text ≡ message (definition_view item.entry.definition) (refusal_view item.entry.refusal)) result }
 {
-    match message::<T>(alloc, refusal) {
+    match format!(in alloc; "{item}") {
         Ok(text) => Error::from(ErrorKind::Expression(text)),
         Err(refused) => Error::from(refused),
     }

@@ -1,17 +1,17 @@
 //! What every unit has, written once for all of them.
 
-ghost use Rattle.std.specs.Prelude.{◌≡◌, ◌≤◌, List, ℕ, pos, IfSome};
+ghost use Rattle.std.specs.Prelude.{◌≡◌, ◌≤◌, ◌&&◌, ◌||◌, [], List, ℕ, pos, length, nat_eq, nat_le, IfSome};
 ghost use Rattle.std.specs.Option.{option_map};
 ghost use Rattle.cron_units.specs.Nearest.{IsNearest};
 ghost use Rattle.cron_units.specs.Tables.{definition_view};
-ghost use Rattle.cron_units.specs.Units.{TimeUnit, IsUnit, IsSet, contains, ordinal_of};
+ghost use Rattle.cron_units.specs.Units.{TimeUnit, IsUnit, IsSet, contains, set_of, ordinal_of};
 
 use super::definition::ordinal_named;
-use super::{Definition, Ordinal, OrdinalSet};
+use super::{Definition, Ordinal, OrdinalIter};
 use crate::way::Way;
 
 /// A unit with its sets. A value is the set of one field, which holds ordinals of its unit alone.
-pub trait TimeUnitField: Drop {
+pub trait TimeUnitField: Copy {
     /// The unit, as contracts see it.
     ghost unit: { TimeUnit };
 
@@ -22,15 +22,42 @@ pub trait TimeUnitField: Drop {
     fn definition() -> Definition
         ensures { definition_view result ≡ unit };
 
-    /// Wraps a set of the unit.
-    fn from_ordinals(ordinals: OrdinalSet) -> Self
-        requires { IsSet unit ordinals }
-        ensures { members result ≡ ordinals };
+    /// The set has ordinals of the unit alone, in ascending order.
+    fn known(&self)
+        ensures { IsSet unit (members self.now) };
 
-    /// Lends the set.
-    fn ordinals(&self) -> &OrdinalSet
-        ensures members { result.now ≡ members self.now }
-        ensures set { IsSet unit (members self.now) };
+    /// Makes the set without members.
+    fn empty() -> Self
+        ensures { members result ≡ [] };
+
+    /// Adds an ordinal.
+    fn insert(&mut self, ordinal: Ordinal)
+        requires low { unit.least ≤ ordinal }
+        requires high { ordinal ≤ unit.greatest }
+        ensures { members self.new ≡ set_of unit (λ x. contains (members self.old) x || nat_eq x ordinal) };
+
+    /// Adds the ordinals from the first to the last.
+    fn insert_range(&mut self, first: Ordinal, last: Ordinal)
+        requires low { unit.least ≤ first }
+        requires high { last ≤ unit.greatest }
+        ensures { members self.new ≡ set_of unit (λ x. contains (members self.old) x || nat_le first x && nat_le x last) };
+
+    /// Tells whether an ordinal is a member.
+    fn contains(&self, ordinal: Ordinal) -> bool
+        ensures { result ≡ contains (members self.now) ordinal };
+
+    /// Counts the members.
+    fn len(&self) -> u32
+        ensures { result ≡ length (members self.now) };
+
+    /// Goes over the members, in ascending order.
+    fn ascending(&self) -> OrdinalIter<'_>
+        ensures { result ≡ members self.now };
+
+    /// Finds the member nearest to an ordinal, which may be that ordinal itself.
+    fn nearest(&self, way: Way, from: Ordinal) -> Option<Ordinal>
+        ensures nearest { IsNearest way (contains (members self.now)) (pos from) result }
+        ensures within { IfSome result (λ n. (unit.least ≤ n) × (n ≤ unit.greatest)) };
 
     /// The bounds are in order, the names' ordinals are within them, and the ordinals can be counted.
     ghost is_unit: { IsUnit unit };
@@ -78,13 +105,5 @@ pub trait TimeUnitField: Drop {
     {
         let names = Self::definition().names?;
         ordinal_named(names.ordinals, name)
-    }
-
-    /// Finds the member nearest to an ordinal, which may be that ordinal itself.
-    final fn nearest(&self, way: Way, from: Ordinal) -> Option<Ordinal>
-        ensures nearest { IsNearest way (contains (members self.now)) (pos from) result }
-        ensures within { IfSome result (λ n. (unit.least ≤ n) × (n ≤ unit.greatest)) }
-    {
-        self.ordinals().nearest(way, from)
     }
 }

@@ -1,37 +1,28 @@
 //! The seven units.
 
 use super::names::{DAY_NAMES, MONTH_NAMES};
-use super::{Definition, Names, OrdinalSet, TimeUnitField};
-use std::marker::Model;
+use super::words::Wide;
+use super::{Definition, Names, Ordinals, UnitTable};
 
 /// The seconds of a minute.
-#[derive(Debug, Drop, PartialEq, Eq)]
-pub struct Seconds {
-    ordinals: OrdinalSet,
-}
+pub type Seconds = Ordinals<SecondsTable, u64>;
 
-impl Model for Seconds {
-    ghost use Rattle.std.specs.Prelude.{List, ℕ};
-    ghost use Rattle.cron_units.specs.Units.{seconds, IsSet};
+/// The table of `Seconds`.
+#[derive(Clone, Copy, Debug)]
+pub struct SecondsTable;
 
-    ghost Value = { List ℕ };
-
-    ghost view = { λ s. s.ordinals };
-
-    ghost invariant = { λ s. IsSet seconds s.ordinals };
-
-    ghost inverse = { λ ordinals. record { ordinals = ordinals } };
-}
-
-impl TimeUnitField for Seconds {
+impl UnitTable<u64> for SecondsTable {
+    ghost use Rattle.std.proofs.Common.{rules};
     ghost use Rattle.cron_units.specs.Units.{seconds};
     ghost use Rattle.cron_units.specs.Laws.{is_unit-seconds};
 
     ghost unit = { seconds };
 
-    ghost members = { λ ordinals. ordinals };
-
     ghost is_unit = { is_unit-seconds };
+
+    ghost fits = { Prim.search rules };
+
+    ghost iterates = { Prim.search rules };
 
     fn definition() -> Definition {
         Definition {
@@ -42,44 +33,27 @@ impl TimeUnitField for Seconds {
             question_mark: false,
         }
     }
-
-    fn from_ordinals(ordinals: OrdinalSet) -> Seconds {
-        Seconds { ordinals }
-    }
-
-    fn ordinals(&self) -> &OrdinalSet {
-        &self.ordinals
-    }
 }
 
 /// The minutes of an hour.
-#[derive(Debug, Drop, PartialEq, Eq)]
-pub struct Minutes {
-    ordinals: OrdinalSet,
-}
+pub type Minutes = Ordinals<MinutesTable, u64>;
 
-impl Model for Minutes {
-    ghost use Rattle.std.specs.Prelude.{List, ℕ};
-    ghost use Rattle.cron_units.specs.Units.{minutes, IsSet};
+/// The table of `Minutes`.
+#[derive(Clone, Copy, Debug)]
+pub struct MinutesTable;
 
-    ghost Value = { List ℕ };
-
-    ghost view = { λ s. s.ordinals };
-
-    ghost invariant = { λ s. IsSet minutes s.ordinals };
-
-    ghost inverse = { λ ordinals. record { ordinals = ordinals } };
-}
-
-impl TimeUnitField for Minutes {
+impl UnitTable<u64> for MinutesTable {
+    ghost use Rattle.std.proofs.Common.{rules};
     ghost use Rattle.cron_units.specs.Units.{minutes};
     ghost use Rattle.cron_units.specs.Laws.{is_unit-minutes};
 
     ghost unit = { minutes };
 
-    ghost members = { λ ordinals. ordinals };
-
     ghost is_unit = { is_unit-minutes };
+
+    ghost fits = { Prim.search rules };
+
+    ghost iterates = { Prim.search rules };
 
     fn definition() -> Definition {
         Definition {
@@ -90,44 +64,27 @@ impl TimeUnitField for Minutes {
             question_mark: false,
         }
     }
-
-    fn from_ordinals(ordinals: OrdinalSet) -> Minutes {
-        Minutes { ordinals }
-    }
-
-    fn ordinals(&self) -> &OrdinalSet {
-        &self.ordinals
-    }
 }
 
 /// The hours of a day.
-#[derive(Debug, Drop, PartialEq, Eq)]
-pub struct Hours {
-    ordinals: OrdinalSet,
-}
+pub type Hours = Ordinals<HoursTable, u64>;
 
-impl Model for Hours {
-    ghost use Rattle.std.specs.Prelude.{List, ℕ};
-    ghost use Rattle.cron_units.specs.Units.{hours, IsSet};
+/// The table of `Hours`.
+#[derive(Clone, Copy, Debug)]
+pub struct HoursTable;
 
-    ghost Value = { List ℕ };
-
-    ghost view = { λ s. s.ordinals };
-
-    ghost invariant = { λ s. IsSet hours s.ordinals };
-
-    ghost inverse = { λ ordinals. record { ordinals = ordinals } };
-}
-
-impl TimeUnitField for Hours {
+impl UnitTable<u64> for HoursTable {
+    ghost use Rattle.std.proofs.Common.{rules};
     ghost use Rattle.cron_units.specs.Units.{hours};
     ghost use Rattle.cron_units.specs.Laws.{is_unit-hours};
 
     ghost unit = { hours };
 
-    ghost members = { λ ordinals. ordinals };
-
     ghost is_unit = { is_unit-hours };
+
+    ghost fits = { Prim.search rules };
+
+    ghost iterates = { Prim.search rules };
 
     fn definition() -> Definition {
         Definition {
@@ -138,44 +95,27 @@ impl TimeUnitField for Hours {
             question_mark: false,
         }
     }
-
-    fn from_ordinals(ordinals: OrdinalSet) -> Hours {
-        Hours { ordinals }
-    }
-
-    fn ordinals(&self) -> &OrdinalSet {
-        &self.ordinals
-    }
 }
 
 /// The days of a month.
-#[derive(Debug, Drop, PartialEq, Eq)]
-pub struct DaysOfMonth {
-    ordinals: OrdinalSet,
-}
+pub type DaysOfMonth = Ordinals<DaysOfMonthTable, u64>;
 
-impl Model for DaysOfMonth {
-    ghost use Rattle.std.specs.Prelude.{List, ℕ};
-    ghost use Rattle.cron_units.specs.Units.{days_of_month, IsSet};
+/// The table of `DaysOfMonth`.
+#[derive(Clone, Copy, Debug)]
+pub struct DaysOfMonthTable;
 
-    ghost Value = { List ℕ };
-
-    ghost view = { λ s. s.ordinals };
-
-    ghost invariant = { λ s. IsSet days_of_month s.ordinals };
-
-    ghost inverse = { λ ordinals. record { ordinals = ordinals } };
-}
-
-impl TimeUnitField for DaysOfMonth {
+impl UnitTable<u64> for DaysOfMonthTable {
+    ghost use Rattle.std.proofs.Common.{rules};
     ghost use Rattle.cron_units.specs.Units.{days_of_month};
     ghost use Rattle.cron_units.specs.Laws.{is_unit-days_of_month};
 
     ghost unit = { days_of_month };
 
-    ghost members = { λ ordinals. ordinals };
-
     ghost is_unit = { is_unit-days_of_month };
+
+    ghost fits = { Prim.search rules };
+
+    ghost iterates = { Prim.search rules };
 
     fn definition() -> Definition {
         Definition {
@@ -186,44 +126,27 @@ impl TimeUnitField for DaysOfMonth {
             question_mark: true,
         }
     }
-
-    fn from_ordinals(ordinals: OrdinalSet) -> DaysOfMonth {
-        DaysOfMonth { ordinals }
-    }
-
-    fn ordinals(&self) -> &OrdinalSet {
-        &self.ordinals
-    }
 }
 
 /// The months of a year.
-#[derive(Debug, Drop, PartialEq, Eq)]
-pub struct Months {
-    ordinals: OrdinalSet,
-}
+pub type Months = Ordinals<MonthsTable, u64>;
 
-impl Model for Months {
-    ghost use Rattle.std.specs.Prelude.{List, ℕ};
-    ghost use Rattle.cron_units.specs.Units.{months, IsSet};
+/// The table of `Months`.
+#[derive(Clone, Copy, Debug)]
+pub struct MonthsTable;
 
-    ghost Value = { List ℕ };
-
-    ghost view = { λ s. s.ordinals };
-
-    ghost invariant = { λ s. IsSet months s.ordinals };
-
-    ghost inverse = { λ ordinals. record { ordinals = ordinals } };
-}
-
-impl TimeUnitField for Months {
+impl UnitTable<u64> for MonthsTable {
+    ghost use Rattle.std.proofs.Common.{rules};
     ghost use Rattle.cron_units.specs.Units.{months};
     ghost use Rattle.cron_units.specs.Laws.{is_unit-months};
 
     ghost unit = { months };
 
-    ghost members = { λ ordinals. ordinals };
-
     ghost is_unit = { is_unit-months };
+
+    ghost fits = { Prim.search rules };
+
+    ghost iterates = { Prim.search rules };
 
     fn definition() -> Definition {
         Definition {
@@ -237,44 +160,27 @@ impl TimeUnitField for Months {
             question_mark: false,
         }
     }
-
-    fn from_ordinals(ordinals: OrdinalSet) -> Months {
-        Months { ordinals }
-    }
-
-    fn ordinals(&self) -> &OrdinalSet {
-        &self.ordinals
-    }
 }
 
 /// The days of a week, of which Sunday is 1.
-#[derive(Debug, Drop, PartialEq, Eq)]
-pub struct DaysOfWeek {
-    ordinals: OrdinalSet,
-}
+pub type DaysOfWeek = Ordinals<DaysOfWeekTable, u64>;
 
-impl Model for DaysOfWeek {
-    ghost use Rattle.std.specs.Prelude.{List, ℕ};
-    ghost use Rattle.cron_units.specs.Units.{days_of_week, IsSet};
+/// The table of `DaysOfWeek`.
+#[derive(Clone, Copy, Debug)]
+pub struct DaysOfWeekTable;
 
-    ghost Value = { List ℕ };
-
-    ghost view = { λ s. s.ordinals };
-
-    ghost invariant = { λ s. IsSet days_of_week s.ordinals };
-
-    ghost inverse = { λ ordinals. record { ordinals = ordinals } };
-}
-
-impl TimeUnitField for DaysOfWeek {
+impl UnitTable<u64> for DaysOfWeekTable {
+    ghost use Rattle.std.proofs.Common.{rules};
     ghost use Rattle.cron_units.specs.Units.{days_of_week};
     ghost use Rattle.cron_units.specs.Laws.{is_unit-days_of_week};
 
     ghost unit = { days_of_week };
 
-    ghost members = { λ ordinals. ordinals };
-
     ghost is_unit = { is_unit-days_of_week };
+
+    ghost fits = { Prim.search rules };
+
+    ghost iterates = { Prim.search rules };
 
     fn definition() -> Definition {
         Definition {
@@ -288,44 +194,27 @@ impl TimeUnitField for DaysOfWeek {
             question_mark: true,
         }
     }
-
-    fn from_ordinals(ordinals: OrdinalSet) -> DaysOfWeek {
-        DaysOfWeek { ordinals }
-    }
-
-    fn ordinals(&self) -> &OrdinalSet {
-        &self.ordinals
-    }
 }
 
 /// The years.
-#[derive(Debug, Drop, PartialEq, Eq)]
-pub struct Years {
-    ordinals: OrdinalSet,
-}
+pub type Years = Ordinals<YearsTable, Wide>;
 
-impl Model for Years {
-    ghost use Rattle.std.specs.Prelude.{List, ℕ};
-    ghost use Rattle.cron_units.specs.Units.{years, IsSet};
+/// The table of `Years`.
+#[derive(Clone, Copy, Debug)]
+pub struct YearsTable;
 
-    ghost Value = { List ℕ };
-
-    ghost view = { λ s. s.ordinals };
-
-    ghost invariant = { λ s. IsSet years s.ordinals };
-
-    ghost inverse = { λ ordinals. record { ordinals = ordinals } };
-}
-
-impl TimeUnitField for Years {
+impl UnitTable<Wide> for YearsTable {
+    ghost use Rattle.std.proofs.Common.{rules};
     ghost use Rattle.cron_units.specs.Units.{years};
     ghost use Rattle.cron_units.specs.Laws.{is_unit-years};
 
     ghost unit = { years };
 
-    ghost members = { λ ordinals. ordinals };
-
     ghost is_unit = { is_unit-years };
+
+    ghost fits = { Prim.search rules };
+
+    ghost iterates = { Prim.search rules };
 
     fn definition() -> Definition {
         Definition {
@@ -335,13 +224,5 @@ impl TimeUnitField for Years {
             names: None,
             question_mark: false,
         }
-    }
-
-    fn from_ordinals(ordinals: OrdinalSet) -> Years {
-        Years { ordinals }
-    }
-
-    fn ordinals(&self) -> &OrdinalSet {
-        &self.ordinals
     }
 }

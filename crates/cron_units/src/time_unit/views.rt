@@ -2,7 +2,7 @@
 
 ghost use Rattle.std.specs.Prelude.{◌≡◌, ◌<◌, ◌^◌, ◌↔◌, List, ℕ, IsTrue, filter, length};
 ghost use Rattle.cron_units.specs.Bounds.{IsForward, is_within};
-ghost use Rattle.cron_units.specs.Units.{TimeUnit, contains, whole};
+ghost use Rattle.cron_units.specs.Units.{TimeUnit, IsSet, contains, whole};
 
 use super::{Ordinal, OrdinalIter, OrdinalRangeIter, TimeUnitField};
 use std::ops::Bound;
@@ -22,6 +22,7 @@ pub trait TimeUnitSpec {
     /// Goes over the members, in ascending order.
     fn iter(&self) -> OrdinalIter<'_>
         ensures members { result ≡ ordinals self.now }
+        ensures set { IsSet time_unit (ordinals self.now) }
         ensures countable { length result < 2 ^ 32 };
 
     /// Goes over the members between two bounds, in ascending order.
@@ -45,23 +46,26 @@ impl<T: TimeUnitField> TimeUnitSpec for T {
     ghost ordinals = { T.members };
 
     fn includes(&self, ordinal: Ordinal) -> bool {
-        self.ordinals().contains(ordinal)
+        self.contains(ordinal)
     }
 
     fn iter(&self) -> OrdinalIter<'_> {
-        self.ordinals().iter()
+        self.known();
+        self.ascending()
     }
 
     fn range(&self, range: (Bound<Ordinal>, Bound<Ordinal>)) -> OrdinalRangeIter<'_> {
-        self.ordinals().range(range)
+        self.known();
+        OrdinalRangeIter::new(self.ascending(), range)
     }
 
     fn count(&self) -> u32 {
-        self.ordinals().len() as u32
+        self.len()
     }
 
     fn is_all(&self) -> bool {
+        self.known();
         let whole = T::inclusive_max() - T::inclusive_min() + 1;
-        self.ordinals().len() == whole as usize
+        whole == self.len()
     }
 }

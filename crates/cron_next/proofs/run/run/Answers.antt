@@ -16,7 +16,7 @@ pub returns-in-Ok-clause-writes : goal.returns-in-Ok-clause-writes
 returns-in-Ok-clause-writes g c =
     let lines = lines_of c.args.back c.after.result c.args.count in
     let same = ap (λ (w : Walk). lines_of c.args.back w c.args.count) (walk_is c.after.result _ c.after.ensures.sets c.after.ensures.zone c.after.ensures.cursor) in
-    inl (lines, (c.in-Ok.schedule.sets, c.in-Ok.ensures.means, same), c.finish.ensures.ends _ lines c.send_items.ensures)
+    inl (lines, (c.in-Ok.schedule.sets, c.in-Ok.ensures.means, same), c.finish.ensures.ends _ lines c.send_items-last.ensures.lines)
 
 pub returns-in-Err-clause-writes : goal.returns-in-Err-clause-writes
 returns-in-Err-clause-writes g c =

@@ -1,47 +1,60 @@
-use Rattle.std.proofs.Common.{[], ◌∷◌, List}
+use Rattle.std.proofs.Common.{[], ◌∷◌}
 use Rattle.std.proofs.lemmas.Result.{err_from_is_err_and}
-use Rattle.cron_units.specs.Units.{TimeUnit}
 use Rattle.cron_units.specs.Units as units
-use Rattle.cron_text.specs.Inner.TextReading.{IsRefusalOf}
-use Rattle.cron_text.proofs.FieldSets.{tells_map}
-use Rattle.cron_text.proofs.Prefixes.{start, next, told_by, denoted_by}
+use Rattle.cron_text.proofs.Prefixes.{start, next, refused_by, unread_by, denoted_by}
 use Rattle.cron_text.proofs.texts.longhand.Goals as goal
 
-pub returns-in_err-seconds-clause-refused : goal.returns-in_err-seconds-clause-refused
-returns-in_err-seconds-clause-refused c =
+pub returns-in_err-read_field-clause-refused : goal.returns-in_err-read_field-clause-refused
+returns-in_err-read_field-clause-refused c =
     let told = err_from_is_err_and c.from_residual.result c.from_residual.ensures.1 in
-    rw (told.1, told.2) (told_by _ (units.seconds ∷ units.minutes ∷ units.hours ∷ units.days_of_month ∷ units.months ∷ units.days_of_week ∷ []) _ _ _ _ (start _) (tells_map (λ fault. (us : List TimeUnit) → IsRefusalOf (units.seconds ∷ us) _ fault) (IsRefusalOf (units.seconds ∷ units.minutes ∷ units.hours ∷ units.days_of_month ∷ units.months ∷ units.days_of_week ∷ []) _) (λ text r. r (units.minutes ∷ units.hours ∷ units.days_of_month ∷ units.months ∷ units.days_of_week ∷ [])) _ c.in_err-seconds.ensures.refused))
+    rw (told.1, told.2) (unread_by ([]) (units.minutes ∷ units.hours ∷ units.days_of_month ∷ units.months ∷ units.days_of_week ∷ []) units.seconds _ _ _ _
+    (start _)
+    c.in_err-read_field.ensures.refused)
 
-pub returns-in_err-minutes-clause-refused : goal.returns-in_err-minutes-clause-refused
-returns-in_err-minutes-clause-refused c =
-    let told = err_from_is_err_and c.from_residual-in_err-minutes.result c.from_residual-in_err-minutes.ensures.1 in
-    rw (told.1, told.2) (told_by _ (units.minutes ∷ units.hours ∷ units.days_of_month ∷ units.months ∷ units.days_of_week ∷ []) _ _ _ _ (next units.seconds _ _ _ _ _ _ c.in_ok-seconds.ensures.taken (start _)) (tells_map (λ fault. (us : List TimeUnit) → IsRefusalOf (units.minutes ∷ us) _ fault) (IsRefusalOf (units.minutes ∷ units.hours ∷ units.days_of_month ∷ units.months ∷ units.days_of_week ∷ []) _) (λ text r. r (units.hours ∷ units.days_of_month ∷ units.months ∷ units.days_of_week ∷ [])) _ c.in_err-minutes.ensures.refused))
+pub returns-in_err-read_field-2-clause-refused : goal.returns-in_err-read_field-2-clause-refused
+returns-in_err-read_field-2-clause-refused c =
+    let told = err_from_is_err_and c.from_residual-in_err-read_field-2.result c.from_residual-in_err-read_field-2.ensures.1 in
+    rw (told.1, told.2) (unread_by (units.seconds ∷ []) (units.hours ∷ units.days_of_month ∷ units.months ∷ units.days_of_week ∷ []) units.minutes _ _ _ _
+    (next units.seconds _ _ _ _ _ _ c.in_ok-read_field.ensures.taken (start _))
+    c.in_err-read_field-2.ensures.refused)
 
-pub returns-in_err-hours-clause-refused : goal.returns-in_err-hours-clause-refused
-returns-in_err-hours-clause-refused c =
-    let told = err_from_is_err_and c.from_residual-in_err-hours.result c.from_residual-in_err-hours.ensures.1 in
-    rw (told.1, told.2) (told_by _ (units.hours ∷ units.days_of_month ∷ units.months ∷ units.days_of_week ∷ []) _ _ _ _ (next units.seconds _ _ _ _ _ _ c.in_ok-seconds.ensures.taken (next units.minutes _ _ _ _ _ _ c.in_ok-minutes.ensures.taken (start _))) (tells_map (λ fault. (us : List TimeUnit) → IsRefusalOf (units.hours ∷ us) _ fault) (IsRefusalOf (units.hours ∷ units.days_of_month ∷ units.months ∷ units.days_of_week ∷ []) _) (λ text r. r (units.days_of_month ∷ units.months ∷ units.days_of_week ∷ [])) _ c.in_err-hours.ensures.refused))
+pub returns-in_err-read_field-3-clause-refused : goal.returns-in_err-read_field-3-clause-refused
+returns-in_err-read_field-3-clause-refused c =
+    let told = err_from_is_err_and c.from_residual-in_err-read_field-3.result c.from_residual-in_err-read_field-3.ensures.1 in
+    rw (told.1, told.2) (unread_by (units.seconds ∷ units.minutes ∷ []) (units.days_of_month ∷ units.months ∷ units.days_of_week ∷ []) units.hours _ _ _ _
+    (next units.seconds _ _ _ _ _ _ c.in_ok-read_field.ensures.taken (next units.minutes _ _ _ _ _ _ c.in_ok-read_field-2.ensures.taken (start _)))
+    c.in_err-read_field-3.ensures.refused)
 
-pub returns-in_err-days_of_month-clause-refused : goal.returns-in_err-days_of_month-clause-refused
-returns-in_err-days_of_month-clause-refused c =
-    let told = err_from_is_err_and c.from_residual-in_err-days_of_month.result c.from_residual-in_err-days_of_month.ensures.1 in
-    rw (told.1, told.2) (told_by _ (units.days_of_month ∷ units.months ∷ units.days_of_week ∷ []) _ _ _ _ (next units.seconds _ _ _ _ _ _ c.in_ok-seconds.ensures.taken (next units.minutes _ _ _ _ _ _ c.in_ok-minutes.ensures.taken (next units.hours _ _ _ _ _ _ c.in_ok-hours.ensures.taken (start _)))) (tells_map (λ fault. (us : List TimeUnit) → IsRefusalOf (units.days_of_month ∷ us) _ fault) (IsRefusalOf (units.days_of_month ∷ units.months ∷ units.days_of_week ∷ []) _) (λ text r. r (units.months ∷ units.days_of_week ∷ [])) _ c.in_err-days_of_month.ensures.refused))
+pub returns-in_err-read_field-4-clause-refused : goal.returns-in_err-read_field-4-clause-refused
+returns-in_err-read_field-4-clause-refused c =
+    let told = err_from_is_err_and c.from_residual-in_err-read_field-4.result c.from_residual-in_err-read_field-4.ensures.1 in
+    rw (told.1, told.2) (unread_by (units.seconds ∷ units.minutes ∷ units.hours ∷ []) (units.months ∷ units.days_of_week ∷ []) units.days_of_month _ _ _ _
+    (next units.seconds _ _ _ _ _ _ c.in_ok-read_field.ensures.taken (next units.minutes _ _ _ _ _ _ c.in_ok-read_field-2.ensures.taken (next units.hours _ _ _ _ _ _ c.in_ok-read_field-3.ensures.taken (start _))))
+    c.in_err-read_field-4.ensures.refused)
 
-pub returns-in_err-months-clause-refused : goal.returns-in_err-months-clause-refused
-returns-in_err-months-clause-refused c =
-    let told = err_from_is_err_and c.from_residual-in_err-months.result c.from_residual-in_err-months.ensures.1 in
-    rw (told.1, told.2) (told_by _ (units.months ∷ units.days_of_week ∷ []) _ _ _ _ (next units.seconds _ _ _ _ _ _ c.in_ok-seconds.ensures.taken (next units.minutes _ _ _ _ _ _ c.in_ok-minutes.ensures.taken (next units.hours _ _ _ _ _ _ c.in_ok-hours.ensures.taken (next units.days_of_month _ _ _ _ _ _ c.in_ok-days_of_month.ensures.taken (start _))))) (tells_map (λ fault. (us : List TimeUnit) → IsRefusalOf (units.months ∷ us) _ fault) (IsRefusalOf (units.months ∷ units.days_of_week ∷ []) _) (λ text r. r (units.days_of_week ∷ [])) _ c.in_err-months.ensures.refused))
+pub returns-in_err-read_field-5-clause-refused : goal.returns-in_err-read_field-5-clause-refused
+returns-in_err-read_field-5-clause-refused c =
+    let told = err_from_is_err_and c.from_residual-in_err-read_field-5.result c.from_residual-in_err-read_field-5.ensures.1 in
+    rw (told.1, told.2) (unread_by (units.seconds ∷ units.minutes ∷ units.hours ∷ units.days_of_month ∷ []) (units.days_of_week ∷ []) units.months _ _ _ _
+    (next units.seconds _ _ _ _ _ _ c.in_ok-read_field.ensures.taken (next units.minutes _ _ _ _ _ _ c.in_ok-read_field-2.ensures.taken (next units.hours _ _ _ _ _ _ c.in_ok-read_field-3.ensures.taken (next units.days_of_month _ _ _ _ _ _ c.in_ok-read_field-4.ensures.taken (start _)))))
+    c.in_err-read_field-5.ensures.refused)
 
-pub returns-in_err-days_of_week-clause-refused : goal.returns-in_err-days_of_week-clause-refused
-returns-in_err-days_of_week-clause-refused c =
-    let told = err_from_is_err_and c.from_residual-in_err-days_of_week.result c.from_residual-in_err-days_of_week.ensures.1 in
-    rw (told.1, told.2) (told_by _ (units.days_of_week ∷ []) _ _ _ _ (next units.seconds _ _ _ _ _ _ c.in_ok-seconds.ensures.taken (next units.minutes _ _ _ _ _ _ c.in_ok-minutes.ensures.taken (next units.hours _ _ _ _ _ _ c.in_ok-hours.ensures.taken (next units.days_of_month _ _ _ _ _ _ c.in_ok-days_of_month.ensures.taken (next units.months _ _ _ _ _ _ c.in_ok-months.ensures.taken (start _)))))) (tells_map (λ fault. (us : List TimeUnit) → IsRefusalOf (units.days_of_week ∷ us) _ fault) (IsRefusalOf (units.days_of_week ∷ []) _) (λ text r. r ([])) _ c.in_err-days_of_week.ensures.refused))
+pub returns-in_err-read_field-6-clause-refused : goal.returns-in_err-read_field-6-clause-refused
+returns-in_err-read_field-6-clause-refused c =
+    let told = err_from_is_err_and c.from_residual-in_err-read_field-6.result c.from_residual-in_err-read_field-6.ensures.1 in
+    rw (told.1, told.2) (unread_by (units.seconds ∷ units.minutes ∷ units.hours ∷ units.days_of_month ∷ units.months ∷ []) ([]) units.days_of_week _ _ _ _
+    (next units.seconds _ _ _ _ _ _ c.in_ok-read_field.ensures.taken (next units.minutes _ _ _ _ _ _ c.in_ok-read_field-2.ensures.taken (next units.hours _ _ _ _ _ _ c.in_ok-read_field-3.ensures.taken (next units.days_of_month _ _ _ _ _ _ c.in_ok-read_field-4.ensures.taken (next units.months _ _ _ _ _ _ c.in_ok-read_field-5.ensures.taken (start _))))))
+    c.in_err-read_field-6.ensures.refused)
 
-pub returns-in_err-years-clause-refused : goal.returns-in_err-years-clause-refused
-returns-in_err-years-clause-refused c =
-    let told = err_from_is_err_and c.from_residual-in_err-years.result c.from_residual-in_err-years.ensures.1 in
-    rw (told.1, told.2) (told_by _ ([]) _ _ _ _ (next units.seconds _ _ _ _ _ _ c.in_ok-seconds.ensures.taken (next units.minutes _ _ _ _ _ _ c.in_ok-minutes.ensures.taken (next units.hours _ _ _ _ _ _ c.in_ok-hours.ensures.taken (next units.days_of_month _ _ _ _ _ _ c.in_ok-days_of_month.ensures.taken (next units.months _ _ _ _ _ _ c.in_ok-months.ensures.taken (next units.days_of_week _ _ _ _ _ _ c.in_ok-days_of_week.ensures.taken (start _))))))) c.in_err-years.ensures.refused)
+pub returns-in_err-read_years-clause-refused : goal.returns-in_err-read_years-clause-refused
+returns-in_err-read_years-clause-refused c =
+    let told = err_from_is_err_and c.from_residual-in_err-read_years.result c.from_residual-in_err-read_years.ensures.1 in
+    rw (told.1, told.2) (refused_by (units.seconds ∷ units.minutes ∷ units.hours ∷ units.days_of_month ∷ units.months ∷ units.days_of_week ∷ []) [] _ _ _ _
+    (next units.seconds _ _ _ _ _ _ c.in_ok-read_field.ensures.taken (next units.minutes _ _ _ _ _ _ c.in_ok-read_field-2.ensures.taken (next units.hours _ _ _ _ _ _ c.in_ok-read_field-3.ensures.taken (next units.days_of_month _ _ _ _ _ _ c.in_ok-read_field-4.ensures.taken (next units.months _ _ _ _ _ _ c.in_ok-read_field-5.ensures.taken (next units.days_of_week _ _ _ _ _ _ c.in_ok-read_field-6.ensures.taken (start _)))))))
+    c.in_err-read_years.ensures.refused)
 
 pub returns-clause-sets : goal.returns-clause-sets
 returns-clause-sets c =
-    denoted_by _ [] _ (c.in_ok-years.years ∷ []) _ _ (next units.seconds _ _ _ _ _ _ c.in_ok-seconds.ensures.taken (next units.minutes _ _ _ _ _ _ c.in_ok-minutes.ensures.taken (next units.hours _ _ _ _ _ _ c.in_ok-hours.ensures.taken (next units.days_of_month _ _ _ _ _ _ c.in_ok-days_of_month.ensures.taken (next units.months _ _ _ _ _ _ c.in_ok-months.ensures.taken (next units.days_of_week _ _ _ _ _ _ c.in_ok-days_of_week.ensures.taken (start _))))))) c.in_ok-years.ensures.years
+    denoted_by _ [] _ (c.read_years.new.years ∷ []) _ _
+    (next units.seconds _ _ _ _ _ _ c.in_ok-read_field.ensures.taken (next units.minutes _ _ _ _ _ _ c.in_ok-read_field-2.ensures.taken (next units.hours _ _ _ _ _ _ c.in_ok-read_field-3.ensures.taken (next units.days_of_month _ _ _ _ _ _ c.in_ok-read_field-4.ensures.taken (next units.months _ _ _ _ _ _ c.in_ok-read_field-5.ensures.taken (next units.days_of_week _ _ _ _ _ _ c.in_ok-read_field-6.ensures.taken (start _)))))))
+    c.in_ok-read_years.ensures.years

@@ -1,24 +1,33 @@
-use Rattle.std.proofs.Common.{◌≡◌, true, sym, ap, ◌∙◌, arith}
+use Rattle.std.proofs.Common.{◌≡◌, true, false, nat_lt, get_or, length, drop, sym, ◌∙◌, arith, le_refl}
+use Rattle.cron_text.specs.Tokens.{tokens, is_space, after_gap}
 use Rattle.cron_text.specs.Meaning.{trimmed_front}
-use Rattle.cron_text.specs.Tokens.{is_space}
-use Rattle.cron_text.proofs.TokenRuns.{skip_more}
-use Rattle.cron_text.proofs.Trims.{front_more, front_stays, front_empty}
+use Rattle.cron_text.proofs.Places.{gap_more, front_further, front_here, front_end, end_of_gap}
 use Rattle.cron_text.proofs.tokens.skip_space.Goals as goal
-use Rattle.cron_text.proofs.tokens.skip_space.Goals.{in-Some+then-not-is_space, in_default}
 
-pub loop-first-preserved : goal.loop-first-preserved
-loop-first-preserved c =
-    let space : is_space c.in-Some.first.now ≡ true = sym c.is_space.ensures ∙ c.if-not-is_space.false in (
-      skip_more c.loop-first.spaced _ c.loop-first.rest.now c.in-Some.others.now c.in-Some.first.now c.loop-first.invariant.0 c.in-Some.ensures.cases.0 space,
-      omega (arith, c.in-Some.ensures.cases),
-      c.loop-first.invariant.2 ∙ (ap trimmed_front c.in-Some.ensures.cases.0 ∙ front_more c.in-Some.first.now c.in-Some.others.now space),
+pub loop-at-preserved : goal.loop-at-preserved
+loop-at-preserved c =
+    let space : is_space (get_or c.args.text.now c.loop-at.at 0) ≡ true = sym c.is_space.ensures ∙ c.if-not-is_space.false in (
+      gap_more c.args.text.now c.args.from c.loop-at.at _ (omega arith) c.loop-at-test.true space c.loop-at.invariant.0,
+      front_further c.args.text.now c.loop-at.at _ c.loop-at-test.true space c.loop-at.invariant.1,
     )
+
+pub returns-then-not-is_space-clause-trims : goal.returns-then-not-is_space-clause-trims
+returns-then-not-is_space-clause-trims c =
+    let space : is_space (get_or c.args.text.now c.loop-at.at 0) ≡ false = sym c.is_space.ensures ∙ c.if-not-is_space.true in
+    front_here c.args.text.now c.loop-at.at _ c.loop-at-test.true space c.loop-at.invariant.1
+
+-- where the loop ended, at the end of the text
+rest_of : (c : goal.After-loop-at) → (tokens (drop c.args.from c.args.text.now) ≡ after_gap (nat_lt c.args.from (length c.args.text.now)) (tokens (drop (length c.args.text.now) c.args.text.now))) × (trimmed_front (drop c.args.from c.args.text.now) ≡ trimmed_front (drop (length c.args.text.now) c.args.text.now))
+rest_of c =
+    let end : c.loop-at.at ≡ length c.args.text.now = omega (arith, c.loop-at-test.false, c.loop-at.auto.at-end, c.requires) in
+    rw end at c.loop-at.invariant
+
+pub returns-clause-same : goal.returns-clause-same
+returns-clause-same c =
+    let (gap, front) = rest_of c in
+    end_of_gap c.args.text.now (length c.args.text.now) _ _ (le_refl (length c.args.text.now)) gap
 
 pub returns-clause-trims : goal.returns-clause-trims
 returns-clause-trims c =
-    elim c.match-split_first.branch [
-      | in-Some+then-not-is_space w ↦
-          let same = w.in-Some.ensures.cases.0 in
-          sym (c.loop-first.invariant.2 ∙ (ap trimmed_front same ∙ (front_stays w.in-Some.first.now w.in-Some.others.now (sym w.is_space.ensures ∙ w.if-not-is_space.true) ∙ sym same)))
-      | in_default w ↦ sym (c.loop-first.invariant.2 ∙ front_empty c.loop-first.rest.now w.in_default.ensures.cases)
-    ]
+    let (gap, front) = rest_of c in
+    front_end c.args.text.now (length c.args.text.now) _ (le_refl (length c.args.text.now)) front

@@ -1,11 +1,9 @@
-use Rattle.std.proofs.Common.{◌≡◌, ◌≤◌, length}
+use Rattle.std.proofs.Common.{◌≡◌, nat_lt, drop}
 use Rattle.cron_text.specs.Meaning.{trimmed_front}
 use Rattle.cron_text.specs.Tokens.{tokens, after_gap}
 use Rattle.cron_text.proofs.tokens.skip_space.Given as goal
 
-abbrev pub invariant-loop-first : goal.invariant-loop-first
-invariant-loop-first l =
-    (tokens l.fn.text ≡ after_gap l.spaced (tokens l.rest)) × (length l.rest ≤ length l.fn.text) × (trimmed_front l.fn.text ≡ trimmed_front l.rest)
-
-abbrev pub decreases-loop-first : goal.decreases-loop-first
-decreases-loop-first l = length l.rest
+-- the bytes before the index are white space
+abbrev pub invariant-loop-at : goal.invariant-loop-at
+invariant-loop-at l =
+    (tokens (drop l.from l.text) ≡ after_gap (nat_lt l.from l.at) (tokens (drop l.at l.text))) × (trimmed_front (drop l.from l.text) ≡ trimmed_front (drop l.at l.text))

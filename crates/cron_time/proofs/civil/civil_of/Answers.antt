@@ -1,10 +1,6 @@
-use Rattle.std.proofs.Common.{◌≡◌, ◌*◌, pos, arith, ◌∙◌}
-use Rattle.std.proofs.lemmas.Int.{ints}
-use Rattle.jiff_core.specs.DateTime.{civil_nanos}
-use Rattle.cron_time.proofs.CivilLemmas.{is_civil}
+use Rattle.std.proofs.Common.{◌∙◌, rules}
+use Rattle.cron_time.proofs.CivilLemmas.{is_civil_of}
 use Rattle.cron_time.proofs.civil.civil_of.Goals as goal
 
 pub returns : goal.returns
-returns c =
-    let nanos : civil_nanos c.from_nanosecond_in_range.result ≡ pos (c.args.second * 1_000_000_000) = omega (arith, ints) in
-    c.from_plain.ensures ∙ is_civil c.from_nanosecond_in_range.result c.args.second (omega arith) nanos
+returns c = c.from_plain.ensures ∙ is_civil_of _ c.args.second (search rules) c.date_of.ensures c.from_second.ensures.seconds c.from_second.ensures.subsec

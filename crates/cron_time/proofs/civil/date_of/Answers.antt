@@ -1,4 +1,4 @@
-use Rattle.std.proofs.Common.{◌≡◌, pos, arith, ◌∙◌}
+use Rattle.std.proofs.Common.{◌≡◌, pos, arith}
 use Rattle.jiff_core.specs.Date.{epoch_day}
 use Rattle.jiff_core.proofs.SignedLemmas.{signed_arith}
 use Rattle.cron_time.proofs.CivilLemmas.{is_date_numbered}
@@ -7,4 +7,4 @@ use Rattle.cron_time.proofs.civil.date_of.Goals as goal
 pub returns : goal.returns
 returns c =
     let day : epoch_day c.from_days_since_min.result ≡ pos c.args.day = omega (arith, signed_arith) in
-    c.from_plain.ensures ∙ is_date_numbered c.from_days_since_min.result c.args.day c.requires day
+    is_date_numbered c.from_days_since_min.result c.args.day c.requires day

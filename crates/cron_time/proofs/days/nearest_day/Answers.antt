@@ -1,20 +1,28 @@
-use Rattle.std.proofs.Common.{arith}
+use Rattle.std.proofs.Common.{arith, ◌∙◌}
+use Rattle.cron_time.proofs.AskedLemmas.{looks_on}
 use Rattle.cron_time.proofs.BlockLemmas.{block_fails, block_found, reach_on, reach_start, starts_at}
 use Rattle.cron_time.proofs.DayLemmas.{split_place}
 use Rattle.cron_time.proofs.days.nearest_day.Goals as goal
 
 pub loop-next-init : goal.loop-next-init
 loop-next-init c = record {
-  reached = reach_start _ 100 _ _ _ _ _ (split_place c.args.fields.now).block_fails (starts_at _ 100 _ _ (omega arith) c.requires) c.nearest_month-next.ensures.nearest;
-  bound = c.nearest_month-next.ensures.bound;
+  same = c.nearest-next.ensures.same;
+  reached = reach_start _ 100 _ _ _ _ _ (split_place c.args.inquiry.now.sets).block_fails (starts_at _ 100 _ _ (omega arith) c.requires.day) c.nearest-next.ensures.nearest;
+  bound = c.nearest-next.ensures.bound;
 }
 
 pub returns-in-Some-day_of_month-clause-nearest : goal.returns-in-Some-day_of_month-clause-nearest
 returns-in-Some-day_of_month-clause-nearest c =
-    block_found _ 100 _ _ _ _ _ _ _ _ (split_place c.args.fields.now) (rw c.in-Some.is at c.loop-next.invariant.reached) c.entry-start.ensures.enters (omega (arith, c.in-Some-day_of_month.ensures.bound)) c.in-Some-day_of_month.ensures.nearest
+    let found = rw c.loop-next.invariant.same.sets at c.in-Some-day_of_month.ensures.nearest in
+    block_found _ 100 _ _ _ _ _ _ _ _ (split_place c.args.inquiry.now.sets) (rw c.in-Some.is at c.loop-next.invariant.reached) c.entry-start.ensures.enters (omega (arith, c.in-Some-day_of_month.ensures.bound)) found
 
 pub loop-next-preserved : goal.loop-next-preserved
-loop-next-preserved c = record {
-  reached = reach_on _ 100 _ _ _ _ _ _ (split_place c.args.fields.now).block_fails (rw c.in-Some.is at c.loop-next.invariant.reached) (block_fails _ 100 _ _ _ _ _ _ (split_place c.args.fields.now) c.entry-start.ensures.enters c.in_default-day_of_month.ensures.nearest) c.month_past-next.ensures.nearest;
-  bound = c.month_past-next.ensures.bound;
-}
+loop-next-preserved c =
+    let none = rw c.loop-next.invariant.same.sets at c.in_default-day_of_month.ensures.nearest in
+    let sets = c.day_of_month.ensures.same.sets ∙ c.loop-next.invariant.same.sets in
+    let next = rw sets at c.month_past-next.ensures.nearest in
+    record {
+      same = looks_on _ _ _ (looks_on _ _ _ c.loop-next.invariant.same c.day_of_month.ensures.same) c.month_past-next.ensures.same;
+      reached = reach_on _ 100 _ _ _ _ _ _ (split_place c.args.inquiry.now.sets).block_fails (rw c.in-Some.is at c.loop-next.invariant.reached) (block_fails _ 100 _ _ _ _ _ _ (split_place c.args.inquiry.now.sets) c.entry-start.ensures.enters none) next;
+      bound = c.month_past-next.ensures.bound;
+    }

@@ -1,12 +1,14 @@
 use Rattle.std.proofs.Common.{◌<◌, ◌≤◌, pos, IfSome}
 use Rattle.cron_time.specs.Inner.Blocks.{ReachesIfAny, left_to_reach}
 use Rattle.cron_time.specs.Inner.Days.{day_place}
+use Rattle.cron_time.specs.Inner.Inquired.{LooksAlone}
 use Rattle.cron_time.specs.Inner.Places.{matches_month, matches_place}
 use Rattle.cron_time.proofs.days.nearest_day.Given as goal
 
 abbrev pub invariant-loop-next : goal.invariant-loop-next
 invariant-loop-next l = record {
-  reached : ReachesIfAny l.way 100 (matches_month l.fields) (matches_place l.fields) (pos (day_place l.from)) (pos l.from.month) l.next;
+  same : LooksAlone l.fn.inquiry l.inquiry;
+  reached : ReachesIfAny l.way 100 (matches_month l.fn.inquiry.sets) (matches_place l.fn.inquiry.sets) (pos (day_place l.from)) (pos l.from.month) l.next;
   bound : IfSome l.next (λ n. (23_640 ≤ n) × (n < 25_212));
 }
 

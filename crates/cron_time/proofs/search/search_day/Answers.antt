@@ -1,71 +1,65 @@
-use Rattle.std.proofs.Common.{◌≡◌, ◌/◌, ◌+◌, ◌*◌, ◌%◌, ℕ, pos, false, true, option_map, sym, subst, arith}
-use Rattle.std.proofs.lemmas.Int.{ints}
-use Rattle.jiff.specs.Words.{plain_zone}
-use Rattle.jiff_core.proofs.SignedLemmas.{signed_arith}
-use Rattle.cron_units.specs.Nearest.{LiesFrom}
+use Rattle.std.proofs.Common.{◌≡◌, ◌/◌, ◌+◌, ◌*◌, ◌%◌, ℕ, pos, true, option_map, sym, subst, arith}
 use Rattle.cron_time.specs.CivilDates.{date_numbered}
 use Rattle.cron_time.specs.Inner.Blocks.{Enters}
 use Rattle.cron_time.specs.Inner.DaySearch.{FindsInDay}
 use Rattle.cron_time.specs.Inner.Days.{number_of}
 use Rattle.cron_time.specs.Found.{found_items}
 use Rattle.cron_time.specs.Matches.{matches_date}
+use Rattle.cron_time.proofs.AskedLemmas.{dated}
 use Rattle.cron_time.proofs.CarryLemmas.{start_parts}
-use Rattle.cron_time.proofs.DayLemmas.{is_made}
-use Rattle.cron_time.proofs.DaySearchLemmas.{same_number, date_fails, date_passes, day_silent, day_unasked, day_finds, day_asked}
+use Rattle.cron_time.proofs.DayLemmas.{day_fits, number_of_place, is_candidate_place}
+use Rattle.cron_time.proofs.DaySearchLemmas.{date_fails, date_passes, day_silent, day_unasked, day_finds, day_asked}
+use Rattle.cron_time.proofs.TallyLemmas.{adds_none, adds_as}
 use Rattle.cron_time.proofs.search.search_day.Goals as goal
-use Rattle.cron_time.proofs.search.search_day.Goals.{After-nothing}
 
-fails_then : (c : After-nothing) → matches_date c.args.fields.now (date_numbered (number_of c.args.day)).0 ≡ false
-fails_then c =
-    let made = is_made c.args.fields.now c.args.day _ c.constrain-date.result c.requires.range c.requires.candidate (omega (arith, ints, c.requires.range)) c.constrain-date.ensures.year c.constrain-date.ensures.month c.constrain-date.ensures.day in
-    date_fails _ _ _ _ made c.sunday_one.ensures c.if-not-includes_weekday.ensures
+pub matching_day-requires-clause-day : goal.matching_day-requires-clause-day
+matching_day-requires-clause-day c = (c.requires.range.2, day_fits c.args.inquiry.now.sets c.args.day c.requires.range c.requires.candidate)
 
-pub returns-then-not-includes_weekday-clause-found : goal.returns-then-not-includes_weekday-clause-found
-returns-then-not-includes_weekday-clause-found c = rw c.nothing.ensures (day_silent _ _ _ _ _ (fails_then c))
+pub returns-in_err-number-clause-found : goal.returns-in_err-number-clause-found
+returns-in_err-number-clause-found c =
+    rw c.from_residual.ensures (day_silent _ c.args.inquiry.now.sets _ _ _ (date_fails c.args.inquiry.now.sets (number_of c.args.day) c.in_err-number.ensures.matches))
 
-pub returns-then-not-includes_weekday-clause-conversions : goal.returns-then-not-includes_weekday-clause-conversions
-returns-then-not-includes_weekday-clause-conversions c = rw c.nothing.ensures (day_unasked _ _ _ _ _ (fails_then c))
+pub returns-in_err-number-clause-conversions : goal.returns-in_err-number-clause-conversions
+returns-in_err-number-clause-conversions c =
+    let asked = dated _ _ c.matching_day.ensures.counted in
+    rw c.from_residual.ensures (adds_none _ _ _ _ asked.conversions (day_unasked _ c.args.inquiry.now.sets _ _ _ (date_fails c.args.inquiry.now.sets (number_of c.args.day) c.in_err-number.ensures.matches)))
 
-pub day_number-number-requires : goal.day_number-number-requires
-day_number-number-requires c =
-    let made = is_made c.args.fields.now c.args.day _ c.constrain-date.result c.requires.range c.requires.candidate (omega (arith, ints, c.requires.range)) c.constrain-date.ensures.year c.constrain-date.ensures.month c.constrain-date.ensures.day in
-    omega (arith, signed_arith, made.epoch)
+pub search_times-requires-clause-in_range : goal.search_times-requires-clause-in_range
+search_times-requires-clause-in_range c =
+    let n = number_of_place c.args.inquiry.now.sets c.args.day c.requires.range c.requires.candidate in
+    omega (arith, n.in_range, c.in_ok-number.ensures.matches.0)
 
-pub entry-from-requires-clause-lies : goal.entry-from-requires-clause-lies
-entry-from-requires-clause-lies c =
-    let made = is_made c.args.fields.now c.args.day _ c.constrain-date.result c.requires.range c.requires.candidate (omega (arith, ints, c.requires.range)) c.constrain-date.ensures.year c.constrain-date.ensures.month c.constrain-date.ensures.day in
-    let same = same_number _ c.day_number-number.result (number_of c.args.day) c.day_number-number.ensures made.epoch in
-    let P : ℕ → Type 0 = LiesFrom c.args.way (pos (c.args.start / 86_400)) in
-    subst P (sym same) c.requires.lies
-
-pub search_times-tried-requires-clause-in_range : goal.search_times-tried-requires-clause-in_range
-search_times-tried-requires-clause-in_range c =
-    let made = is_made c.args.fields.now c.args.day _ c.constrain-date.result c.requires.range c.requires.candidate (omega (arith, ints, c.requires.range)) c.constrain-date.ensures.year c.constrain-date.ensures.month c.constrain-date.ensures.day in
-    let same = same_number _ c.day_number-number.result (number_of c.args.day) c.day_number-number.ensures made.epoch in
-    omega (arith, same, made.in_range)
-
-pub search_times-tried-requires-clause-matching : goal.search_times-tried-requires-clause-matching
-search_times-tried-requires-clause-matching c =
-    let made = is_made c.args.fields.now c.args.day _ c.constrain-date.result c.requires.range c.requires.candidate (omega (arith, ints, c.requires.range)) c.constrain-date.ensures.year c.constrain-date.ensures.month c.constrain-date.ensures.day in
-    let same = same_number _ c.day_number-number.result (number_of c.args.day) c.day_number-number.ensures made.epoch in
-    let P : ℕ → Type 0 = λ n. matches_date c.args.fields.now (date_numbered n).0 ≡ true in
-    subst P (sym same) (date_passes _ _ _ _ made c.sunday_one.ensures c.if-not-includes_weekday.ensures)
+pub search_times-requires-clause-matching : goal.search_times-requires-clause-matching
+search_times-requires-clause-matching c =
+    let s = c.args.inquiry.now.sets in
+    let asked = dated _ _ c.matching_day.ensures.counted in
+    let date = date_passes s (number_of c.args.day) (is_candidate_place s c.args.day c.requires.range c.requires.candidate) c.in_ok-number.ensures.matches.1 in
+    let P : ℕ → Type 0 = λ n. matches_date s (date_numbered n).0 ≡ true in
+    rw asked.same.sets (subst P (sym c.in_ok-number.ensures.matches.0) date)
 
 pub returns-clause-found : goal.returns-clause-found
 returns-clause-found c =
-    let made = is_made c.args.fields.now c.args.day _ c.constrain-date.result c.requires.range c.requires.candidate (omega (arith, ints, c.requires.range)) c.constrain-date.ensures.year c.constrain-date.ensures.month c.constrain-date.ensures.day in
-    let same = same_number _ c.day_number-number.result (number_of c.args.day) c.day_number-number.ensures made.epoch in
-    let o = option_map found_items c.search_times-tried.result.found in
+    let asked = dated _ _ c.matching_day.ensures.counted in
+    let same = c.in_ok-number.ensures.matches.0 in
+    let s = c.args.inquiry.now.sets in
+    let z = c.args.inquiry.now.zone in
+    let o = option_map found_items c.search_times.result in
     let E : ℕ → Type 0 = λ n. Enters c.args.way 86_400 (pos (c.args.start / 86_400 * 86_400 + c.args.start % 86_400)) n c.entry-from.result in
-    let F : ℕ → Type 0 = λ n. FindsInDay c.args.way c.args.fields.now (plain_zone c.args.zone.now) n c.entry-from.result o in
-    day_finds _ _ _ _ _ _ _ (start_parts 86_400 c.args.start (λ p. Enters c.args.way 86_400 p (number_of c.args.day) c.entry-from.result) (subst E same c.entry-from.ensures.enters)) (subst F same c.search_times-tried.ensures.found)
+    let F : ℕ → Type 0 = λ n. FindsInDay c.args.way s z n c.entry-from.result o in
+    let found = rw (asked.same.sets, asked.same.zone) at c.search_times.ensures.found in
+    day_finds c.args.way s z (pos c.args.start) (number_of c.args.day) c.entry-from.result o (start_parts 86_400 c.args.start (λ p. Enters c.args.way 86_400 p (number_of c.args.day) c.entry-from.result) (subst E same c.entry-from.ensures.enters)) (subst F same found)
 
 pub returns-clause-conversions : goal.returns-clause-conversions
 returns-clause-conversions c =
-    let made = is_made c.args.fields.now c.args.day _ c.constrain-date.result c.requires.range c.requires.candidate (omega (arith, ints, c.requires.range)) c.constrain-date.ensures.year c.constrain-date.ensures.month c.constrain-date.ensures.day in
-    let same = same_number _ c.day_number-number.result (number_of c.args.day) c.day_number-number.ensures made.epoch in
-    let date = date_passes _ _ _ _ made c.sunday_one.ensures c.if-not-includes_weekday.ensures in
-    let o = option_map found_items c.search_times-tried.result.found in
+    let asked = dated _ _ c.matching_day.ensures.counted in
+    let same = c.in_ok-number.ensures.matches.0 in
+    let s = c.args.inquiry.now.sets in
+    let z = c.args.inquiry.now.zone in
+    let n = number_of_place s c.args.day c.requires.range c.requires.candidate in
+    let date = date_passes s (number_of c.args.day) (is_candidate_place s c.args.day c.requires.range c.requires.candidate) c.in_ok-number.ensures.matches.1 in
+    let o = option_map found_items c.search_times.result in
     let E : ℕ → Type 0 = λ n. Enters c.args.way 86_400 (pos (c.args.start / 86_400 * 86_400 + c.args.start % 86_400)) n c.entry-from.result in
-    let F : ℕ → Type 0 = λ n. FindsInDay c.args.way c.args.fields.now (plain_zone c.args.zone.now) n c.entry-from.result o in
-    day_asked c.args.way c.args.fields.now (plain_zone c.args.zone.now) _ _ c.entry-from.result _ c.search_times-tried.result.found made.in_range date (start_parts 86_400 c.args.start (λ p. Enters c.args.way 86_400 p (number_of c.args.day) c.entry-from.result) (subst E same c.entry-from.ensures.enters)) (subst F same c.search_times-tried.ensures.found) c.search_times-tried.ensures.conversions
+    let F : ℕ → Type 0 = λ n. FindsInDay c.args.way s z n c.entry-from.result o in
+    let found = rw (asked.same.sets, asked.same.zone) at c.search_times.ensures.found in
+    let times = rw asked.same.sets at c.search_times.ensures.conversions in
+    adds_as _ _ _ _ _ _ _ times asked.conversions (day_asked c.args.way s z (pos c.args.start) (number_of c.args.day) c.entry-from.result times.count c.search_times.result n.in_range date (start_parts 86_400 c.args.start (λ p. Enters c.args.way 86_400 p (number_of c.args.day) c.entry-from.result) (subst E same c.entry-from.ensures.enters)) (subst F same found) times.tally)

@@ -1,50 +1,69 @@
-use Rattle.std.proofs.Common.{sym, arith}
-use Rattle.jiff.specs.Words.{plain_zone}
-use Rattle.cron_time.proofs.TallyLemmas.{kind_bound, passed_start, passed_next}
-use Rattle.cron_time.proofs.TimesLemmas.{AtTime, time_found, time_counted, time_silent, times_start, times_next}
+use Rattle.std.proofs.Common.{sym, arith, ◌∙◌}
+use Rattle.cron_time.proofs.AskedLemmas.{looks_same, same_on, converted}
+use Rattle.cron_time.proofs.TallyLemmas.{kind_bound, adds_none, adds_more, passed_start, passed_next}
+use Rattle.cron_time.proofs.TimesLemmas.{AtTime, time_found, time_counted, time_silent, times_start, times_next, time_low}
 use Rattle.cron_time.proofs.search.search_times.Goals as goal
 
 pub loop-next-init : goal.loop-next-init
 loop-next-init c = record {
-  reached = times_start _ _ _ _ _ _ c.nearest_time-next.ensures.nearest;
-  bound = c.nearest_time-next.ensures.bound;
-  conversions = passed_start _ _ _ _ _ c.nearest_time-next.ensures.nearest;
+  same = looks_same _ _ c.nearest-next.ensures.same;
+  days = c.nearest-next.ensures.same.days;
+  reached = times_start _ _ _ _ _ _ c.nearest-next.ensures.nearest;
+  bound = c.nearest-next.ensures.bound;
+  conversions = adds_none _ _ _ _ c.nearest-next.ensures.same.conversions (passed_start _ _ _ _ _ c.nearest-next.ensures.nearest);
 }
 
-pub overflow_add-conversions : goal.overflow_add-conversions
-overflow_add-conversions c =
-    omega (arith, kind_bound 86_400 _ _ c.loop-next.invariant.conversions)
+pub readings-found-requires : goal.readings-found-requires
+readings-found-requires c =
+    let adds = c.loop-next.invariant.conversions in
+    omega (arith, adds.is, kind_bound 86_400 _ _ adds.tally, c.requires.room)
 
 pub returns-then-is_some-clause-found : goal.returns-then-is_some-clause-found
 returns-then-is_some-clause-found c =
-    let at : AtTime c.args.way c.args.fields.now (plain_zone c.args.zone.now) c.args.day c.args.from c.in-Some.time = record {
+    let s = c.args.inquiry.now.sets in
+    let at : AtTime c.args.way s c.args.inquiry.now.zone c.args.day c.args.from c.in-Some.time = record {
       day_in = c.requires.in_range;
-      time_in = rw c.in-Some.is at c.loop-next.invariant.bound;
+      time_in = (rw c.in-Some.is at c.loop-next.invariant.bound).1;
       matching = c.requires.matching;
       reached = rw c.in-Some.is at c.loop-next.invariant.reached;
     } in
-    time_found _ _ _ _ _ _ _ at c.readings_of-found.ensures (sym c.if-is_some.ensures)
+    let readings = rw c.loop-next.invariant.same.zone at c.readings-found.ensures.readings in
+    let asked = converted _ _ c.readings-found.ensures.counted in
+    time_found _ _ _ _ _ _ _ at readings (sym c.if-is_some.ensures)
 
 pub returns-then-is_some-clause-conversions : goal.returns-then-is_some-clause-conversions
 returns-then-is_some-clause-conversions c =
-    let at : AtTime c.args.way c.args.fields.now (plain_zone c.args.zone.now) c.args.day c.args.from c.in-Some.time = record {
+    let s = c.args.inquiry.now.sets in
+    let at : AtTime c.args.way s c.args.inquiry.now.zone c.args.day c.args.from c.in-Some.time = record {
       day_in = c.requires.in_range;
-      time_in = rw c.in-Some.is at c.loop-next.invariant.bound;
+      time_in = (rw c.in-Some.is at c.loop-next.invariant.bound).1;
       matching = c.requires.matching;
       reached = rw c.in-Some.is at c.loop-next.invariant.reached;
     } in
-    time_counted _ _ _ _ _ _ _ _ at c.readings_of-found.ensures (sym c.if-is_some.ensures) (rw c.in-Some.is at c.loop-next.invariant.conversions)
+    let readings = rw c.loop-next.invariant.same.zone at c.readings-found.ensures.readings in
+    let asked = converted _ _ c.readings-found.ensures.counted in
+    let early = rw c.in-Some.is at c.loop-next.invariant.conversions in
+    adds_more 86_400 _ _ _ _ _ early asked.more (time_counted _ _ _ _ _ _ _ _ at readings (sym c.if-is_some.ensures) early.tally)
 
 pub loop-next-preserved : goal.loop-next-preserved
 loop-next-preserved c =
-    let at : AtTime c.args.way c.args.fields.now (plain_zone c.args.zone.now) c.args.day c.args.from c.in-Some.time = record {
+    let s = c.args.inquiry.now.sets in
+    let at : AtTime c.args.way s c.args.inquiry.now.zone c.args.day c.args.from c.in-Some.time = record {
       day_in = c.requires.in_range;
-      time_in = rw c.in-Some.is at c.loop-next.invariant.bound;
+      time_in = (rw c.in-Some.is at c.loop-next.invariant.bound).1;
       matching = c.requires.matching;
       reached = rw c.in-Some.is at c.loop-next.invariant.reached;
     } in
+    let readings = rw c.loop-next.invariant.same.zone at c.readings-found.ensures.readings in
+    let asked = converted _ _ c.readings-found.ensures.counted in
+    let early = rw c.in-Some.is at c.loop-next.invariant.conversions in
+    let sets = asked.same.sets ∙ c.loop-next.invariant.same.sets in
+    let next = rw sets at c.time_past-next.ensures.nearest in
+    let looked = c.time_past-next.ensures.same in
     record {
-      reached = times_next _ _ _ _ _ _ _ at (time_silent _ _ _ _ _ _ _ at c.readings_of-found.ensures (sym c.if-is_some.ensures)) c.time_past-next.ensures.nearest;
-      bound = c.time_past-next.ensures.bound;
-      conversions = passed_next _ _ _ _ _ _ _ at.time_in at.reached.block at.reached.lies c.time_past-next.ensures.nearest (rw c.in-Some.is at c.loop-next.invariant.conversions);
+      same = same_on _ _ _ (same_on _ _ _ c.loop-next.invariant.same asked.same) (looks_same _ _ looked);
+      days = looked.days ∙ asked.days ∙ c.loop-next.invariant.days;
+      reached = times_next _ _ _ _ _ _ _ at (time_silent _ _ _ _ _ _ _ at readings (sym c.if-is_some.ensures)) next;
+      bound = time_low c.time_past-next.result c.time_past-next.ensures.bound;
+      conversions = adds_more 86_400 _ _ _ _ _ early (looked.conversions ∙ asked.more) (passed_next _ _ _ _ _ _ _ at.time_in at.reached.block at.reached.lies next early.tally);
     }

@@ -1,15 +1,17 @@
-use Rattle.std.proofs.Common.{◌<◌, pos, IfSome}
-use Rattle.jiff.specs.Words.{plain_zone}
+use Rattle.std.proofs.Common.{◌≡◌, ◌<◌, ◌≤◌, pos, IfSome}
 use Rattle.cron_time.specs.Inner.Blocks.{ReachesIfAny, left_to_reach}
+use Rattle.cron_time.specs.Inner.Inquired.{IsSame}
 use Rattle.cron_time.specs.Inner.Places.{matches_second, stands_at}
-use Rattle.cron_time.specs.Inner.Tally.{IsTally, IsPassedBefore}
+use Rattle.cron_time.specs.Inner.Tally.{Adds, IsPassedBefore}
 use Rattle.cron_time.proofs.search.search_times.Given as goal
 
 abbrev pub invariant-loop-next : goal.invariant-loop-next
 invariant-loop-next l = record {
-  reached : ReachesIfAny l.way 1 (matches_second l.fields) (stands_at l.fields (plain_zone l.zone) l.day) (pos l.from) (pos l.from) l.next;
-  bound : IfSome l.next (λ n. n < 86_400);
-  conversions : IsTally 86_400 (IsPassedBefore l.way (matches_second l.fields) (pos l.from) l.next) l.conversions;
+  same : IsSame l.fn.inquiry l.inquiry;
+  days : l.inquiry.days ≡ l.fn.inquiry.days;
+  reached : ReachesIfAny l.way 1 (matches_second l.fn.inquiry.sets) (stands_at l.fn.inquiry.sets l.fn.inquiry.zone l.day) (pos l.from) (pos l.from) l.next;
+  bound : IfSome l.next (λ n. (0 ≤ n) × (n < 86_400));
+  conversions : Adds 86_400 (IsPassedBefore l.way (matches_second l.fn.inquiry.sets) (pos l.from) l.next) l.fn.inquiry.conversions l.inquiry.conversions;
 }
 
 abbrev pub decreases-loop-next : goal.decreases-loop-next

@@ -1,21 +1,79 @@
-use Rattle.std.proofs.Common.{◌≡◌, ap, ◌∙◌, FitsSigned, w64, to_z-of_z, rules, arith}
+use Rattle.std.proofs.Common.{◌≡◌, true, false, Some, None, refl}
 use Rattle.jiff.specs.Words.{plain_zone}
+use Rattle.cron_units.specs.declared.way.Way.{Way}
+use Rattle.cron_units.specs.declared.way.Way.TheVariants.{Ahead, Back}
 use Rattle.cron_time.specs.Inner.Placed.{last_is_later, IsKept}
-use Rattle.cron_time.specs.Inner.Stop.{IsReached}
-use Rattle.cron_time.specs.Inner.Places.{beyond}
-use Rattle.cron_time.proofs.StepLemmas.{last_stop, other_stop}
+use Rattle.cron_time.specs.Readings.{Reading}
+use Rattle.cron_time.specs.declared.found.Found.{Found}
+use Rattle.cron_time.proofs.StepLemmas.{last_stop, other_stop, kept_date}
 use Rattle.cron_time.proofs.step.step.Goals as goal
 
-pub returns-then-later-last_is_later : goal.returns-then-later-last_is_later
-returns-then-later-last_is_later c =
-    let kept : IsKept c.args.fields.now (plain_zone c.args.zone.now) c.in-At.found c.in-At.later = rw c.in-At.is at c.requires in
-    let last : c.in-At.later ≡ last_is_later c.args.way c.in-At.found = rw (← c.last_is_later.ensures) (grind arith) in
-    let fits : FitsSigned w64 c.beyond.result = search rules in
-    let number : c.beyond.result ≡ beyond c.args.way c.in-At.found.first.second = c.beyond.ensures ∙ ap (beyond c.args.way) c.second.ensures in
-    let reached : IsReached c.args.way c.args.fields.now (plain_zone c.args.zone.now) (beyond c.args.way c.in-At.found.first.second) c.reach.result = rw (to_z-of_z fits, number) at c.reach.ensures in
-    rw c.in-At.is (last_stop c.args.way c.args.fields.now (plain_zone c.args.zone.now) c.in-At.found c.in-At.later c.reach.result kept last reached)
+single_is_last : (way : Way) (first : Reading) → false ≡ last_is_later way (record { first = first; second = None })
+single_is_last Ahead first = refl
+single_is_last Back first = refl
 
-pub returns-else-later-last_is_later : goal.returns-else-later-last_is_later
-returns-else-later-last_is_later c =
-    let kept : IsKept c.args.fields.now (plain_zone c.args.zone.now) c.in-At.found c.in-At.later = rw c.in-At.is at c.requires in
-    rw c.in-At.is (other_stop c.args.way c.args.fields.now (plain_zone c.args.zone.now) c.in-At.found c.in-At.later kept (λ last. grind arith))
+pub past_item-requires-clause-matching : goal.past_item-requires-clause-matching
+past_item-requires-clause-matching c =
+    let s = c.args.fields.now in
+    let z = plain_zone c.args.zone.now in
+    let f : Found = record { first = c.args.state.first; second = None } in
+    let kept : IsKept s z f false = rw c.in-Single.is at c.requires in
+    kept_date s z f false kept
+
+pub past_item-requires-in-Back-clause-matching : goal.past_item-requires-in-Back-clause-matching
+past_item-requires-in-Back-clause-matching c =
+    let s = c.args.fields.now in
+    let z = plain_zone c.args.zone.now in
+    let f : Found = record { first = c.args.state.first; second = Some c.args.state.second } in
+    let kept : IsKept s z f false = rw c.in-Earlier.is at c.requires in
+    kept_date s z f false kept
+
+pub past_item-requires-in-Ahead-way-clause-matching : goal.past_item-requires-in-Ahead-way-clause-matching
+past_item-requires-in-Ahead-way-clause-matching c =
+    let s = c.args.fields.now in
+    let z = plain_zone c.args.zone.now in
+    let f : Found = record { first = c.args.state.first; second = Some c.args.state.second } in
+    let kept : IsKept s z f true = rw c.in-Later.is at c.requires in
+    kept_date s z f true kept
+
+pub returns-in-Single : goal.returns-in-Single
+returns-in-Single c =
+    let s = c.args.fields.now in
+    let z = plain_zone c.args.zone.now in
+    let f : Found = record { first = c.args.state.first; second = None } in
+    let kept : IsKept s z f false = rw c.in-Single.is at c.requires in
+    rw c.in-Single.is (last_stop c.args.way s z f false _ kept (single_is_last c.args.way c.args.state.first) c.past_item.ensures)
+
+pub returns-in-Ahead : goal.returns-in-Ahead
+returns-in-Ahead c =
+    let s = c.args.fields.now in
+    let z = plain_zone c.args.zone.now in
+    let f : Found = record { first = c.args.state.first; second = Some c.args.state.second } in
+    let kept : IsKept s z f false = rw c.in-Earlier.is at c.requires in
+    rw (c.in-Earlier.is, c.in-Ahead.is) (other_stop Ahead s z f false kept (λ e. cc))
+
+pub returns-in-Back : goal.returns-in-Back
+returns-in-Back c =
+    let s = c.args.fields.now in
+    let z = plain_zone c.args.zone.now in
+    let f : Found = record { first = c.args.state.first; second = Some c.args.state.second } in
+    let kept : IsKept s z f false = rw c.in-Earlier.is at c.requires in
+    let past = rw c.in-Back.is at c.past_item-in-Back.ensures in
+    rw (c.in-Earlier.is, c.in-Back.is) (last_stop Back s z f false _ kept refl past)
+
+pub returns-in-Ahead-way : goal.returns-in-Ahead-way
+returns-in-Ahead-way c =
+    let s = c.args.fields.now in
+    let z = plain_zone c.args.zone.now in
+    let f : Found = record { first = c.args.state.first; second = Some c.args.state.second } in
+    let kept : IsKept s z f true = rw c.in-Later.is at c.requires in
+    let past = rw c.in-Ahead-way.is at c.past_item-in-Ahead-way.ensures in
+    rw (c.in-Later.is, c.in-Ahead-way.is) (last_stop Ahead s z f true _ kept refl past)
+
+pub returns-in-Back-way : goal.returns-in-Back-way
+returns-in-Back-way c =
+    let s = c.args.fields.now in
+    let z = plain_zone c.args.zone.now in
+    let f : Found = record { first = c.args.state.first; second = Some c.args.state.second } in
+    let kept : IsKept s z f true = rw c.in-Later.is at c.requires in
+    rw (c.in-Later.is, c.in-Back-way.is) (other_stop Back s z f true kept (λ e. cc))

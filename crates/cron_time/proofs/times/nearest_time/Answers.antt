@@ -1,44 +1,14 @@
-use Rattle.std.proofs.Common.{ℕ, Bool, refl, arith}
-use Rattle.cron_units.specs.Units.{contains}
-use Rattle.cron_time.specs.Inner.Blocks.{IsSplit}
-use Rattle.cron_time.specs.Inner.Places.{matches_minute, matches_second}
-use Rattle.cron_units.specs.Sets.{Sets}
-use Rattle.cron_time.proofs.BlockLemmas.{both_split}
-use Rattle.cron_time.proofs.CarryLemmas.{carry_none, carry_first, carry_end, carry_empty, carry_next}
+use Rattle.std.proofs.Common.{ap, Some, None, refl}
+use Rattle.cron_time.specs.Times.{time_of_parts}
+use Rattle.cron_time.proofs.NearestTimeLemmas.{nearest_time}
 use Rattle.cron_time.proofs.times.nearest_time.Goals as goal
 
-inner : Sets → ℕ → Bool
-inner s = contains s.seconds
+pub returns-in-Some-clause-time : goal.returns-in-Some-clause-time
+returns-in-Some-clause-time c =
+    let nearest = rw (ap (λ q. q.sets) c.new-inquiry.ensures) at c.in-Some.ensures.nearest in
+    nearest_time c.args.way c.args.fields.now (time_of_parts (c.args.hour, c.args.minute, c.args.second)) _ (Some c.in-Some.time) c.requires.sets c.requires.minute c.requires.second refl nearest
 
-split : (s : Sets) → IsSplit 60 (matches_minute s) (λ _. inner s) (matches_second s)
-unfolding inner
-split s = both_split 60 (matches_minute s) (λ _. inner s) (matches_second s) (λ n. refl)
-
-pub returns-in_err-minute-clause-nearest : goal.returns-in_err-minute-clause-nearest
-returns-in_err-minute-clause-nearest c =
-    rw c.from_residual.ensures (carry_none _ 60 _ _ _ _ (split c.args.fields.now) (omega arith) c.in_err-minute.ensures.nearest)
-
-pub returns-in-Some-clause-nearest : goal.returns-in-Some-clause-nearest
-unfolding inner
-returns-in-Some-clause-nearest c =
-    carry_first _ 60 _ _ _ _ _ _ _ (record { split = split c.args.fields.now; positive = omega arith; first = c.in_ok-minute.ensures.nearest; enters = c.entry-start.ensures.enters }) c.in-Some.ensures.bound c.in-Some.ensures.nearest
-
-pub returns-in_err-past-clause-nearest : goal.returns-in_err-past-clause-nearest
-unfolding inner
-returns-in_err-past-clause-nearest c =
-    rw c.from_residual-in_err-past.ensures (carry_end _ 60 _ _ _ _ _ _ (record { split = split c.args.fields.now; positive = omega arith; first = c.in_ok-minute.ensures.nearest; enters = c.entry-start.ensures.enters }) c.in_default.ensures.nearest (λ k lies. absurd (c.in_err-past.ensures k lies)))
-
-pub returns-in_err-next-clause-nearest : goal.returns-in_err-next-clause-nearest
-unfolding inner
-returns-in_err-next-clause-nearest c =
-    rw c.from_residual-in_err-next.ensures (carry_end _ 60 _ _ _ _ _ _ (record { split = split c.args.fields.now; positive = omega arith; first = c.in_ok-minute.ensures.nearest; enters = c.entry-start.ensures.enters }) c.in_default.ensures.nearest (rw c.in_ok-past.ensures at c.in_err-next.ensures.nearest))
-
-pub returns-in_err-least-clause-nearest : goal.returns-in_err-least-clause-nearest
-unfolding inner
-returns-in_err-least-clause-nearest c =
-    rw c.from_residual-in_err-least.ensures (carry_empty _ 60 _ _ _ _ _ (split c.args.fields.now) (omega arith) c.extreme.ensures.extreme c.in_err-least.ensures.nearest)
-
-pub returns-clause-nearest : goal.returns-clause-nearest
-unfolding inner
-returns-clause-nearest c =
-    carry_next _ 60 _ _ _ _ _ _ _ _ _ (record { split = split c.args.fields.now; positive = omega arith; first = c.in_ok-minute.ensures.nearest; enters = c.entry-start.ensures.enters }) c.in_default.ensures.nearest (rw c.in_ok-past.ensures at c.in_ok-next.ensures.nearest) c.extreme.ensures.extreme c.in_ok-least.ensures.bound c.in_ok-least.ensures.nearest
+pub returns-in-None-clause-time : goal.returns-in-None-clause-time
+returns-in-None-clause-time c =
+    let nearest = rw (ap (λ q. q.sets) c.new-inquiry.ensures) at c.in-None.ensures.nearest in
+    nearest_time c.args.way c.args.fields.now (time_of_parts (c.args.hour, c.args.minute, c.args.second)) _ None c.requires.sets c.requires.minute c.requires.second refl nearest

@@ -1,30 +1,34 @@
-use Rattle.std.proofs.Common.{◌≡◌, ◌+◌, ◌∙◌, arith}
-use Rattle.cron_units.specs.Units.{contains, set_of}
+use Rattle.std.proofs.Common.{◌≡◌, ◌+◌, ◌-◌, ◌%◌, ◌∙◌, ap, ℕ, arith}
+use Rattle.cron_units.specs.Units.{contains}
 use Rattle.cron_units.specs.Denotation.{Steps}
-use Rattle.cron_units.proofs.Steps.{add_more, add_pass, add_all, is_step, is_no_step, added_below}
+use Rattle.cron_units.proofs.Steps.{add_none, add_step, next_step, add_all}
 use Rattle.cron_units.proofs.time_unit.makers.add_every_nth.Goals as goal
-use Rattle.cron_units.proofs.time_unit.makers.add_every_nth.Goals.{then-at-first-eq0+in_ok-insert, else-at-first-eq0}
+
+pub loop-at-init : goal.loop-at-init
+loop-at-init g c =
+    let s : Steps = record { first = c.args.first; last = c.args.last; every = c.args.every } in record {
+      from = omega arith;
+      step = λ l. let none : c.args.first - c.args.first ≡ 0 = omega arith in rw none (omega arith);
+      added = add_none g.T.TimeUnitField.unit s (g.T.TimeUnitField.members c.args.set.now) c.known.ensures;
+    }
 
 pub loop-at-preserved : goal.loop-at-preserved
 loop-at-preserved g c =
     let u = g.T.TimeUnitField.unit in
+    let members = g.T.TimeUnitField.members in
     let s : Steps = record { first = c.args.first; last = c.args.last; every = c.args.every } in
-    let old = contains c.args.set.now in
     let at = c.loop-at.at in
-    elim c.if-at-first-eq0.branch [
-      | then-at-first-eq0+in_ok-insert w ↦ w.set-is ∙ add_more u old s at c.loop-at.set w.insert.new.self c.loop-at.invariant (is_step s at (omega arith) (omega arith) w.if-at-first-eq0.true) (omega arith) (omega arith) w.in_ok-insert.ensures.ok
-      | else-at-first-eq0 w ↦ w.set-is ∙ add_pass u old s at c.loop-at.set c.loop-at.invariant (is_no_step s at w.if-at-first-eq0.false)
-    ]
+    let next = c.saturating_add-at.result in
+    let count = g.met.T.TimeUnitField.is_unit.countable in
+    let here : (at - c.args.first) % c.args.every ≡ 0 = c.loop-at.invariant.step c.loop-at-test.true in record {
+      from = omega (arith, count);
+      step = λ l.
+          let whole_step : next ≡ at + c.args.every = omega (arith, count, l) in
+          ap (λ (n : ℕ). (n - c.args.first) % c.args.every) whole_step ∙ next_step c.args.first at c.args.every c.loop-at.invariant.from here;
+      added = add_step u (contains (members c.args.set.now)) s at next (members c.loop-at.set) (members c.insert.new.self) c.loop-at.invariant.from c.loop-at-test.true here (omega (arith, count)) (omega arith) c.loop-at.invariant.added c.insert.ensures;
+    }
 
-pub returns-after-at-first-eq0 : goal.returns-after-at-first-eq0
-returns-after-at-first-eq0 g c =
-    let u = g.T.TimeUnitField.unit in
+pub returns : goal.returns
+returns g c =
     let s : Steps = record { first = c.args.first; last = c.args.last; every = c.args.every } in
-    let old = contains c.args.set.now in
-    let at = c.loop-at.at in
-    let grown : c.if-at-first-eq0.set ≡ set_of u (added_below old s (at + 1)) =
-    elim c.if-at-first-eq0.branch [
-      | then-at-first-eq0+in_ok-insert w ↦ w.set-is ∙ add_more u old s at c.loop-at.set w.insert.new.self c.loop-at.invariant (is_step s at (omega arith) (omega arith) w.if-at-first-eq0.true) (omega arith) (omega arith) w.in_ok-insert.ensures.ok
-      | else-at-first-eq0 w ↦ w.set-is ∙ add_pass u old s at c.loop-at.set c.loop-at.invariant (is_no_step s at w.if-at-first-eq0.false)
-    ] in
-    add_all u old s (at + 1) c.if-at-first-eq0.set grown (omega arith)
+    add_all g.T.TimeUnitField.unit (contains (g.T.TimeUnitField.members c.args.set.now)) s c.loop-at.at (g.T.TimeUnitField.members c.loop-at.set) c.loop-at.invariant.added c.loop-at-test.false

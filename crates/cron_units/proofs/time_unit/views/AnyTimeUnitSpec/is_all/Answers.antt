@@ -1,6 +1,6 @@
-use Rattle.std.proofs.Common.{ap, arith, List, ℕ, length, ◌≡◌, ◌+◌, ◌-◌, ◌∙◌}
-use Rattle.std.proofs.lemmas.Bool.{eq-eqb, eqb-true}
-use Rattle.cron_units.proofs.Sets.{full_set, length_whole}
+use Rattle.std.proofs.Common.{◌≡◌, ◌+◌, ◌-◌, ap, arith, List, ℕ, length}
+use Rattle.std.proofs.lemmas.Bool.{eqb-true, eq-eqb}
+use Rattle.cron_units.specs.SetLaws.{full_set, length_whole}
 use Rattle.cron_units.proofs.time_unit.views.AnyTimeUnitSpec.is_all.Goals as goal
 
 pub returns : goal.returns
@@ -10,7 +10,7 @@ returns g c =
     let least = c.inclusive_min.result in
     let greatest = c.inclusive_max.result in
     let ordered = g.met.T.TimeUnitField.is_unit.ordered in
-    let counted : c.len.result ≡ length xs = c.len.ensures ∙ ap (λ (ys : List ℕ). length ys) c.ordinals.ensures.members in (
-      λ t. full_set u xs c.ordinals.ensures.set (omega (arith, eqb-true c.len.result (greatest - least + 1) t)),
-      λ e. eq-eqb c.len.result (greatest - least + 1) (omega (arith, ap (λ (ys : List ℕ). length ys) e, length_whole u)),
+    let counted : c.len.result ≡ length xs = c.len.ensures in (
+      λ t. full_set u xs c.known.ensures (omega (arith, eqb-true (greatest - least + 1) c.len.result t)),
+      λ e. eq-eqb (greatest - least + 1) c.len.result (omega (arith, ap (λ (ys : List ℕ). length ys) e, length_whole u)),
     )

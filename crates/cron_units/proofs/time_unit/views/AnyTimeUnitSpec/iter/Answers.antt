@@ -1,9 +1,9 @@
 use Rattle.std.proofs.Common.{ap, arith, List, ℕ, length}
-use Rattle.cron_units.proofs.Sets.{length_set}
+use Rattle.cron_units.specs.SetLaws.{length_set}
 use Rattle.cron_units.proofs.time_unit.views.AnyTimeUnitSpec.iter.Goals as goal
 
 pub returns-clause-countable : goal.returns-clause-countable
 returns-clause-countable g c =
     let u = g.T.TimeUnitField.unit in
     let xs = g.T.TimeUnitField.members c.args.self.now in
-    omega (arith, length_set u xs c.ordinals.ensures.set, ap (λ (ys : List ℕ). length ys) c.ordinals.ensures.members, ap (λ (ys : List ℕ). length ys) c.iter.ensures, g.met.T.TimeUnitField.is_unit.countable)
+    omega (arith, length_set u xs c.known.ensures, ap (λ (ys : List ℕ). length ys) c.ascending.ensures, g.met.T.TimeUnitField.is_unit.countable)

@@ -1,11 +1,11 @@
 use Rattle.std.proofs.Common.{◌≡◌, ap, arith, List, ℕ, filter, length}
 use Rattle.cron_units.specs.Bounds.{is_within}
-use Rattle.cron_units.proofs.Sets.{length_filter, length_set}
+use Rattle.cron_units.specs.SetLaws.{length_filter, length_set}
 use Rattle.cron_units.proofs.time_unit.views.AnyTimeUnitSpec.range.Goals as goal
 
 pub returns-clause-countable : goal.returns-clause-countable
 returns-clause-countable g c =
     let u = g.T.TimeUnitField.unit in
-    let kept : c.range.result ≡ filter (is_within c.args.range.0 c.args.range.1) c.ordinals.result.now = c.range.ensures in
     let xs = g.T.TimeUnitField.members c.args.self.now in
-    omega (arith, length_filter (is_within c.args.range.0 c.args.range.1) c.ordinals.result.now, length_set u xs c.ordinals.ensures.set, ap (λ (ys : List ℕ). length ys) c.ordinals.ensures.members, ap (λ (ys : List ℕ). length ys) kept, g.met.T.TimeUnitField.is_unit.countable)
+    let kept : c.new.result ≡ filter (is_within c.args.range.0 c.args.range.1) c.ascending.result = c.new.ensures in
+    omega (arith, length_filter (is_within c.args.range.0 c.args.range.1) c.ascending.result, length_set u xs c.known.ensures, ap (λ (ys : List ℕ). length ys) c.ascending.ensures, ap (λ (ys : List ℕ). length ys) kept, g.met.T.TimeUnitField.is_unit.countable)

@@ -1,0 +1,10 @@
+//! Each call that takes memory, made once where memory may be wanting: it gives the right answer, or says
+//! that memory is wanting and changes nothing. `tools/refuse_memory` refuses each growth in turn.
+#![tactic(auto)]
+
+#[cfg(test)]
+mod calls;
+#[cfg(test)]
+mod readers;
+#[cfg(test)]
+mod support;

@@ -1,0 +1,20 @@
+use Rattle.std.proofs.Common.{◌≡◌, ℕ, Bool, false, List, Option, ◌∙◌, sym, ap, inr, refl}
+use Rattle.std.specs.Io.KnownBytes.{Appends}
+use Rattle.cron_time.specs.Readings.{Reading}
+use Rattle.cron_next.specs.Output.{Ends, answers_of, last_item, lines_of, is_write_failure}
+use Rattle.cron_next.specs.Pages.{item_or}
+use Rattle.cron_next.specs.declared.run.Outcome.{Outcome}
+use Rattle.cron_next.specs.declared.run.Outcome.TheVariants.{Listed, Refused, WriteFailed}
+use Rattle.cron_next.proofs.page.page.Goals as goal
+
+went_out : (text : List ℕ) (old new : Option (List ℕ)) (o : Outcome) → (o ≡ WriteFailed → ⊥) → Ends Listed text old new o → (is_write_failure o ≡ false) × Appends old new text
+went_out text old new Listed n e = (refl, e.1)
+went_out text old new Refused n e = (refl, e.1)
+went_out text old new WriteFailed n e = absurd (n refl)
+
+pub returns-in_default-finish : goal.returns-in_default-finish
+returns-in_default-finish g c =
+    let lines = lines_of c.args.back c.in-Some.walk c.args.size in
+    let (went, appended) = went_out lines _ _ c.finish.result c.in_default-finish.not-WriteFailed (c.finish.ensures.ends _ lines c.send_items.ensures.lines) in
+    let last = c.item_or-listed.ensures ∙ ap (item_or c.args.last.now) (c.send_items.ensures.last (c.finish.ensures.whole went)) in
+    record { writes = inr (c.in-Some.walk, c.in-Some.ensures, (last, appended)); mark = c.finish.ensures.mark ∙ went; untouched = λ listed. absurd (cc) }

@@ -1,0 +1,151 @@
+//! Pages after an item and before it, also over writers that fail on the way.
+
+ghost use Rattle.std.specs.Prelude.{◌≡◌, false};
+ghost use Rattle.cron_next.specs.Watching.{has_failed};
+
+use super::limited::Limited;
+use crate::page::page;
+use crate::run::Page;
+use crate::watched::Watched;
+use cron::Schedule;
+use cron::schedule::Moment;
+use jiff::tz::{Offset, TimeZone};
+use std::io::ErrorKind;
+use std::process::Abort;
+use std::test::Fail;
+
+// Four items in the fold of Chicago, of which the two texts list the last three, and the first three
+// from the last.
+const FOLD: &str = "0 0,30 1 6 11 ? 2022";
+
+const LATER_THREE: &str =
+    "2022-11-06 01:00:00 -06:00\n2022-11-06 01:30:00 -05:00\n2022-11-06 01:30:00 -06:00\n";
+
+const EARLIER_THREE: &str =
+    "2022-11-06 01:30:00 -05:00\n2022-11-06 01:00:00 -06:00\n2022-11-06 01:00:00 -05:00\n";
+
+// The moment at which a clock so many seconds ahead of UTC shows this.
+fn moment(shown: &str, ahead: i32) -> Result<Moment, Fail> {
+    let offset = Offset::from_seconds(ahead)?;
+    Ok(Moment::from_parts(shown.parse()?, offset).ok_or("no civil second of the range")?)
+}
+
+fn first() -> Result<Moment, Fail> {
+    moment("2022-11-06T01:00:00", -18_000)
+}
+
+fn last() -> Result<Moment, Fail> {
+    moment("2022-11-06T01:30:00", -21_600)
+}
+
+// A page of the items beside one in Chicago.
+fn page_in_chicago(
+    schedule: &Schedule,
+    last: Moment,
+    size: u32,
+    back: bool,
+    out: &mut Watched<Limited>,
+) -> Result<Page, Fail>
+    requires { has_failed out.old ≡ false }
+{
+    let zone = TimeZone::posix("CST6CDT,M3.2.0,M11.1.0")?;
+    Ok(page(schedule, &last, &zone, size, back, out))
+}
+
+fn check_page(
+    rt: &(impl Abort + AllocGlobal),
+    last: Moment,
+    size: u32,
+    back: bool,
+    text: &str,
+    listed: Moment,
+) -> Result<(), Fail> {
+    let schedule = Schedule::from_str(rt.alloc(), FOLD)?;
+    let mut out = Watched::new(Limited::new(rt.alloc(), usize::MAX, usize::MAX));
+    let told = page_in_chicago(&schedule, last, size, back, &mut out)?;
+    assert_eq!(rt; told, Page::Listed(listed));
+    assert_eq!(rt; out.into_inner().held.as_slice(), text.as_bytes());
+    Ok(())
+}
+
+#[test]
+fn a_page_lists_what_follows_an_item(rt: HostRuntime) -> Result<(), Fail> {
+    check_page(&rt, first()?, 9, false, LATER_THREE, last()?)?;
+    check_page(&rt, first()?, 0, false, "", first()?)?;
+    check_page(&rt, last()?, 9, false, "", last()?)
+}
+
+#[test]
+fn a_page_lists_what_precedes_an_item(rt: HostRuntime) -> Result<(), Fail> {
+    check_page(&rt, last()?, 9, true, EARLIER_THREE, first()?)
+}
+
+#[test]
+fn pages_of_one_item_follow_one_another(rt: HostRuntime) -> Result<(), Fail> {
+    let second = moment("2022-11-06T01:00:00", -21_600)?;
+    let third = moment("2022-11-06T01:30:00", -18_000)?;
+    check_page(
+        &rt,
+        first()?,
+        1,
+        false,
+        "2022-11-06 01:00:00 -06:00\n",
+        second,
+    )?;
+    check_page(&rt, second, 1, false, "2022-11-06 01:30:00 -05:00\n", third)?;
+    check_page(
+        &rt,
+        third,
+        1,
+        false,
+        "2022-11-06 01:30:00 -06:00\n",
+        last()?,
+    )?;
+    check_page(&rt, last()?, 1, false, "", last()?)
+}
+
+// A page that fails, over a writer that then holds this.
+fn check_failed_page(
+    rt: &(impl Abort + AllocGlobal),
+    writer: Limited,
+    text: &str,
+) -> Result<(), Fail> {
+    let schedule = Schedule::from_str(rt.alloc(), FOLD)?;
+    let mut out = Watched::new(writer);
+    let told = page_in_chicago(&schedule, first()?, 9, false, &mut out)?;
+    assert_eq!(rt; told, Page::WriteFailed, "at {text}");
+    let writer = out.into_inner();
+    assert_eq!(rt; writer.held.as_slice(), text.as_bytes(), "at {text}");
+    assert_eq!(rt; writer.failures, 1, "at {text}");
+    Ok(())
+}
+
+#[test]
+fn a_failed_write_ends_a_page_where_it_stands(rt: HostRuntime) -> Result<(), Fail> {
+    for (room, _) in LATER_THREE.char_indices() {
+        let text = LATER_THREE.get(..room).ok_or("a letter begins here")?;
+        let broken = Limited::failing(rt.alloc(), room, ErrorKind::BrokenPipe);
+        check_failed_page(&rt, broken, text)?;
+        let interrupted = Limited::failing(rt.alloc(), room, ErrorKind::Interrupted);
+        check_failed_page(&rt, interrupted, text)?;
+    }
+    Ok(())
+}
+
+#[test]
+fn a_failed_flush_fails_a_page(rt: HostRuntime) -> Result<(), Fail> {
+    check_failed_page(&rt, Limited::unflushed(rt.alloc()), LATER_THREE)
+}
+
+#[test]
+fn a_moment_of_another_schedule_is_no_item(rt: HostRuntime) -> Result<(), Fail> {
+    let schedule = Schedule::from_str(rt.alloc(), "@daily")?;
+    let other = moment("2020-01-01T02:00:00", 0)?;
+    let mut out = Watched::new(Limited::unflushed(rt.alloc()));
+    let told = page(&schedule, &other, &TimeZone::UTC, 9, false, &mut out);
+    assert_eq!(rt; told, Page::NotAnItem);
+    let writer = out.into_inner();
+    assert_eq!(rt; writer.held.len(), 0);
+    assert_eq!(rt; writer.failures, 0);
+    Ok(())
+}

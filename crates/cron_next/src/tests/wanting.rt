@@ -1,0 +1,98 @@
+//! Calls of the library where no memory is left: they say so and change nothing. Like the tests of
+//! `memory`, these take all of it.
+
+use super::memory::{MOST_BLOCKS, take_all_memory};
+use cron::Schedule;
+use cron::error::{Error, ErrorKind};
+use cron::schedule::{Moment, Turn};
+use jiff::Timestamp;
+use jiff::tz::TimeZone;
+use std::alloc::Global;
+use std::borrow::CowStr;
+use std::fmt::Write;
+use std::process::Abort;
+use std::test::Fail;
+
+fn is_memory(read: &Result<Schedule, Error>) -> bool {
+    match read {
+        Ok(_) => false,
+        Err(error) => matches!(error.kind(), ErrorKind::OutOfMemory),
+    }
+}
+
+const TEXTS: [&str; 4] = [
+    "@daily",
+    "0 0 0 1 1 ? 2020-2040/10",
+    "60 * * * * *",
+    "no expression",
+];
+
+// Whether each reader that copies a text answers want of memory.
+fn readers_want(alloc: Global, text: &str) -> bool {
+    let from_str = is_memory(&Schedule::from_str(alloc, text));
+    let try_from_str = is_memory(&Schedule::try_from_str(alloc, text));
+    let try_from_cow = is_memory(&Schedule::try_from_cow(alloc, CowStr::Borrowed(text)));
+    from_str && try_from_str && try_from_cow
+}
+
+// How many texts all these readers want memory for.
+fn wanting_texts(alloc: Global) -> u32 {
+    let mut count = 0_u32;
+    for text in TEXTS {
+        if readers_want(alloc, text) {
+            count = count.saturating_add(1);
+        }
+    }
+    count
+}
+
+fn check_again(rt: &(impl Abort + AllocGlobal), schedule: &Schedule) -> Result<(), Fail> {
+    let again = Schedule::from_str(rt.alloc(), "@daily")?;
+    assert!(rt; again == *schedule && again.timeunitspec_eq(schedule));
+    assert!(rt; schedule.clone()? == *schedule);
+    Ok(())
+}
+
+#[test]
+fn calls_without_memory_say_so_and_change_nothing(rt: HostRuntime) -> Result<(), Fail> {
+    let alloc = rt.alloc();
+    let schedule = Schedule::from_str(alloc, "@daily")?;
+    let mut blocks = Vec::with_capacity(alloc, MOST_BLOCKS)?;
+    take_all_memory(&mut blocks, alloc);
+    let texts = wanting_texts(alloc);
+    let is_cloned = schedule.clone().is_ok();
+    let taken = blocks.len();
+    blocks.truncate(0);
+    assert!(rt; taken < MOST_BLOCKS, "{taken} blocks");
+    assert_eq!(rt; texts, 4);
+    assert!(rt; !is_cloned);
+    check_again(&rt, &schedule)
+}
+
+// The texts of two answers.
+fn told(alloc: Global, answers: &[Option<Moment>]) -> Result<String, Fail> {
+    let mut text = String::new(alloc);
+    for answer in answers {
+        let moment = answer.ok_or("the walk has no such item")?;
+        write!(text, "{moment}, ")?;
+    }
+    Ok(text)
+}
+
+#[test]
+fn a_list_of_calls_without_memory_leaves_the_walk(rt: HostRuntime) -> Result<(), Fail> {
+    let alloc = rt.alloc();
+    let schedule = Schedule::from_str(alloc, "@daily")?;
+    let start = "2020-01-01T00:00:00Z".parse::<Timestamp>()?;
+    let mut walk = schedule.after(start, &TimeZone::UTC);
+    let mut blocks = Vec::with_capacity(alloc, MOST_BLOCKS)?;
+    take_all_memory(&mut blocks, alloc);
+    let is_played = walk.play(alloc, &[Turn::Next, Turn::Next]).is_ok();
+    let taken = blocks.len();
+    blocks.truncate(0);
+    assert!(rt; taken < MOST_BLOCKS && !is_played, "{taken} blocks");
+    let answers = walk.play(alloc, &[Turn::Next, Turn::NextBack])?;
+    let wanted = "2020-01-02 00:00:00 +00:00, 2020-01-01 00:00:00 +00:00, ";
+    assert_eq!(rt; told(alloc, answers.as_slice())?.as_str(), wanted);
+    Ok(())
+}

@@ -1,0 +1,47 @@
+//! Very long texts. A row has a count; the text as a front, a piece that stands so many times, and an end;
+//! and its answer, in which braces stand for all the pieces.
+
+use crate::characters::text_meant;
+use crate::readers::READERS;
+use crate::report::{Report, Row, cut};
+use crate::texts::compare_reader;
+use anyhow::Result;
+use std::alloc::{AllocError, Global};
+
+/// So many times one piece.
+fn repeated(alloc: Global, piece: &str, count: u32) -> Result<String, AllocError> {
+    let mut text = String::new(alloc);
+    for _ in 0..count {
+        text.push_str(piece)?;
+    }
+    Ok(text)
+}
+
+/// An answer with all the pieces in place of the braces.
+fn filled(alloc: Global, answer: &str, pieces: &str) -> Result<String, AllocError> {
+    match answer.split_once("{}") {
+        Some((front, back)) => format!(in alloc; "{front}{pieces}{back}"),
+        None => String::from_str(alloc, answer),
+    }
+}
+
+/// The text of a row, and its answer.
+fn text_and_answer(alloc: Global, row: &str) -> Result<(String, String)> {
+    let (count, row) = cut(row)?;
+    let (front, row) = cut(row)?;
+    let (piece, row) = cut(row)?;
+    let (end, answer) = cut(row)?;
+    let piece = text_meant(alloc, piece)?;
+    let pieces = repeated(alloc, piece.as_str(), count.parse::<u32>()?)?;
+    let (front, end) = (text_meant(alloc, front)?, text_meant(alloc, end)?);
+    let text = format!(in alloc; "{front}{pieces}{end}")?;
+    Ok((text, filled(alloc, answer, pieces.as_str())?))
+}
+
+pub(crate) fn replay(report: &mut Report<'_>, row: Row<'_>) -> Result<()> {
+    let (text, answer) = text_and_answer(report.alloc(), row.text)?;
+    for reader in READERS {
+        compare_reader(report, row, reader, text.as_str(), answer.as_str())?;
+    }
+    Ok(())
+}

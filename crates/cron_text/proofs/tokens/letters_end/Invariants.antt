@@ -1,0 +1,6 @@
+use Rattle.std.proofs.Common.{◌≡◌, ℕ, ◌<◌, ◌≤◌, get_or, true}
+use Rattle.cron_text.specs.Tokens.{is_letter}
+use Rattle.cron_text.proofs.tokens.letters_end.Given as goal
+
+abbrev pub invariant-loop-at : goal.invariant-loop-at
+invariant-loop-at l = (k : ℕ) → l.from ≤ k → k < l.at → is_letter (get_or l.text k 0) ≡ true

@@ -1,9 +1,0 @@
-use Rattle.std.proofs.Common.{◌≡◌, length}
-use Rattle.cron_text.specs.Meaning.{trimmed_front, trimmed_end}
-use Rattle.cron_text.proofs.tokens.trimmed.Given as goal
-
-abbrev pub invariant-loop-last : goal.invariant-loop-last
-invariant-loop-last l = trimmed_end (trimmed_front l.fn.text) ≡ trimmed_end l.rest
-
-abbrev pub decreases-loop-last : goal.decreases-loop-last
-decreases-loop-last l = length l.rest

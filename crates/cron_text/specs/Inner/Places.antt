@@ -1,0 +1,62 @@
+-- Places of a text, and what is read there. These are words of the reader's inner functions; no public contract cites
+-- them.
+use Rattle.std.specs.Prelude.{◌≡◌, ◌+◌, ◌<◌, ◌≤◌, ℕ, Bool, false, List, [], ◌∷◌, length, drop, slice_range}
+use Rattle.cron_units.specs.Units.{TimeUnit}
+use Rattle.cron_units.specs.declared.specifier.Item.{Item}
+use Rattle.cron_text.specs.Fields as field
+use Rattle.cron_text.specs.Fields.{is_connector, is_wildcard}
+use Rattle.cron_text.specs.Tokens as spec
+use Rattle.cron_text.specs.Tokens.{tokens, symbol_of, after_gap, BeginsNoSpace}
+use Rattle.cron_text.specs.Inner.FieldReading.{State, furthest}
+use Rattle.cron_text.specs.Inner.Views.{symbol_view, connector_view, after_growth}
+use Rattle.cron_text.specs.declared.fields.Connector.{Connector}
+use Rattle.cron_text.specs.declared.fields.Growth.{Growth}
+use Rattle.cron_text.specs.declared.symbols.Symbol.{Symbol}
+use Rattle.cron_text.specs.declared.symbols.Token.{Token}
+use Rattle.cron_text.specs.declared.tokens.Place.{Place}
+
+-- the place lies in the text, and no white space stands there
+pub record IsPlace (text : List ℕ) (p : Place) : Type 0 where
+  pub within : p.at ≤ length text
+  pub front : BeginsNoSpace (drop p.at text)
+
+-- the tokens from a place on
+abbrev pub tokens_from : List ℕ → Place → List spec.Token
+tokens_from text p = after_gap p.spaced (tokens (drop p.at text))
+
+-- the bytes between two indices, as a token
+abbrev pub token_between : List ℕ → ℕ → ℕ → spec.Token
+token_between text from end = record { spaced = false; text = slice_range text from end }
+
+-- a token begins at the index, the grammar sees this in it, and it ends before the other index
+pub record IsTokenAt (text : List ℕ) (at : ℕ) (symbol : Symbol) (end : ℕ) : Type 0 where
+  pub further : at < end
+  pub within : end ≤ length text
+  pub seen : symbol_view symbol ≡ symbol_of (token_between text at end)
+  pub rest : tokens (drop at text) ≡ token_between text at end ∷ tokens (drop end text)
+
+-- a token stands at the place, of which the code keeps this, and then comes the next place
+pub record IsRead (text : List ℕ) (p : Place) (kept : Token) (next : Place) : Type 0 where
+  pub token : spec.Token
+  pub spaced : kept.spaced ≡ token.spaced
+  pub symbol : symbol_view kept.symbol ≡ symbol_of token
+  pub rest : tokens_from text p ≡ token ∷ tokens_from text next
+
+-- a connector stands at the place
+pub record IsConnector (text : List ℕ) (p : Place) (kept : Connector) : Type 0 where
+  pub token : spec.Token
+  pub spaced : p.spaced ≡ token.spaced
+  pub symbol : connector_view kept ≡ symbol_of token
+  pub rest : tokens_from text p ≡ token ∷ tokens (drop (p.at + 1) text)
+
+-- the tokens don't begin with a connector
+abbrev pub NoConnector : List spec.Token → Type 0
+NoConnector [] = Unit {0}
+NoConnector (t ∷ ts) = is_connector (symbol_of t) ≡ false
+
+-- The field goes on: an item grows or is followed by another, at a token that is a wildcard or not, and reading goes on
+-- behind it.
+pub record GrowsOn (u : TimeUnit) (s : State) (ts : List spec.Token) (done : List field.Item) (item : Item) (growth : Growth) (wildcard : Bool) (rest : List spec.Token) : Type 0 where
+  pub token : spec.Token
+  pub seen : is_wildcard (symbol_of token) ≡ wildcard
+  pub on : furthest u s ts ≡ furthest u (after_growth done item token growth) rest

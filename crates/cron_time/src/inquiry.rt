@@ -1,0 +1,222 @@
+//! What a search asks, and how often.
+ghost use Rattle.std.specs.Prelude.{◌≡◌, ℕ, ◌+◌, ◌^◌, ◌<◌, ◌≤◌, pos, List, [], ◌∷◌, IfSome, MatchOption, true, false};
+ghost use Rattle.jiff.specs.Words.{plain_zone};
+ghost use Rattle.cron_units.specs.Nearest.{IsNearest};
+ghost use Rattle.cron_units.specs.Units.{contains};
+ghost use Rattle.cron_time.specs.Civil.{days_in_range};
+ghost use Rattle.cron_time.specs.CivilDates.{date_numbered};
+ghost use Rattle.cron_time.specs.Found.{found_items, items_if_any};
+ghost use Rattle.cron_time.specs.Inner.Inquired.{Inquired, unasked, one_day, one_conversion, one_question, members, unit_of};
+ghost use Rattle.cron_time.specs.Inner.Places.{day_number, length_of, month_of, year_of};
+ghost use Rattle.cron_time.specs.Matches.{weekday_number};
+ghost use Rattle.cron_time.specs.Readings.{reading, readings};
+
+use crate::civil::{DAYS_BEFORE_EPOCH, civil_of};
+use crate::found::Found;
+use crate::moment::Moment;
+use cron_units::fields::ScheduleFields;
+use cron_units::way::Way;
+use jiff::tz::{AmbiguousOffset, Offset, TimeZone};
+use jiff_core::civil::Date;
+use std::marker::Model;
+
+/// The units that a search looks for members of.
+#[derive(Clone, Copy)]
+pub(crate) enum Unit {
+    Second,
+    Minute,
+    Hour,
+    Day,
+    Month,
+    Year,
+}
+
+/// The sets and the zone that a search asks, and how often it has asked. One is made for each public
+/// call and given up at its end. Its methods alone ask, and each raises its own count by one.
+#[derive(Drop)]
+pub(crate) struct Inquiry<'a> {
+    fields: &'a ScheduleFields,
+    zone: &'a TimeZone<'a>,
+    days: u64,
+    conversions: u64,
+    questions: u64,
+}
+
+impl<'a> Model for Inquiry<'a> {
+    ghost use Rattle.jiff.specs.Words.{plain_zone};
+    ghost use Rattle.cron_time.specs.Inner.Inquired.{Inquired};
+
+    ghost Value = { Inquired };
+
+    ghost view = { λ i. record {
+      sets = i.fields.now;
+      zone = plain_zone i.zone.now;
+      days = i.days;
+      conversions = i.conversions;
+      questions = i.questions;
+    } };
+}
+
+// The date of a day of a month.
+#[inline(always)]
+fn date_made(month: u32, day: u32) -> Date
+    requires month { (23_640 ≤ month) × (month < 25_212) }
+    requires day { (1 ≤ day) × (day ≤ length_of month) }
+    ensures year { result.year ≡ pos (year_of month) }
+    ensures month { result.month ≡ month_of month }
+    ensures day { result.day ≡ day }
+{
+    Date {
+        year: (month / 12) as i16,
+        month: (month % 12 + 1) as u8,
+        day: day as u8,
+    }
+}
+
+// Its day number.
+#[inline(always)]
+fn number_made(month: u32, day: u32) -> u32
+    requires month { (23_640 ≤ month) × (month < 25_212) }
+    requires day { (1 ≤ day) × (day ≤ length_of month) }
+    ensures number { result ≡ day_number month day }
+    ensures bound { result < days_in_range }
+{
+    date_made(month, day).days_since_min() - DAYS_BEFORE_EPOCH
+}
+
+// The day of the week of a day number, from 1 for Sunday: day 0 was a Thursday.
+#[inline(always)]
+fn weekday_of(number: u32) -> u32
+    requires { number < days_in_range }
+    ensures { result ≡ weekday_number (date_numbered number).0 }
+{
+    (number + 4) % 7 + 1
+}
+
+// A civil second at one offset.
+#[inline(always)]
+fn single(second: u32, offset: Offset) -> Found
+    ensures { found_items result ≡ reading second offset ∷ [] }
+{
+    Found {
+        first: Moment::new(second, offset),
+        second: None,
+    }
+}
+
+// The readings of the civil second with this number, `None` in a gap of the zone. A zone with one
+// offset is answered without its general question.
+#[inline(always)]
+fn readings_of(zone: &TimeZone<'_>, second: u32) -> Option<Found>
+    ensures { items_if_any result ≡ readings (plain_zone zone.now) second }
+{
+    match zone.to_plain() {
+        jiff_tz::TimeZone::UTC | jiff_tz::TimeZone::Unknown => Some(single(second, Offset::UTC)),
+        jiff_tz::TimeZone::Fixed(offset) => Some(single(second, Offset::from_plain(offset))),
+        _ => readings_by_rule(zone, second),
+    }
+}
+
+// The same, as `jiff` tells it.
+#[inline(never)]
+fn readings_by_rule(zone: &TimeZone<'_>, second: u32) -> Option<Found>
+    ensures { items_if_any result ≡ readings (plain_zone zone.now) second }
+{
+    match zone.to_ambiguous_timestamp(civil_of(second)).offset() {
+        AmbiguousOffset::Gap { .. } => None,
+        AmbiguousOffset::Unambiguous { offset } => Some(single(second, offset)),
+        AmbiguousOffset::Fold { before, after } => {
+            if before == after {
+                return Some(single(second, before));
+            }
+            Some(Found {
+                first: Moment::new(second, before),
+                second: Some(Moment::new(second, after)),
+            })
+        }
+    }
+}
+
+impl<'a> Inquiry<'a> {
+    pub(crate) fn new(fields: &'a ScheduleFields, zone: &'a TimeZone<'a>) -> Inquiry<'a>
+        ensures { result ≡ unasked fields.now (plain_zone zone.now) }
+    {
+        Inquiry {
+            fields,
+            zone,
+            days: 0,
+            conversions: 0,
+            questions: 0,
+        }
+    }
+
+    /// The dates that were made and tested.
+    pub(crate) fn days(&self) -> u64
+        ensures { result ≡ self.now.days }
+    {
+        self.days
+    }
+
+    /// The questions to the zone.
+    pub(crate) fn conversions(&self) -> u64
+        ensures { result ≡ self.now.conversions }
+    {
+        self.conversions
+    }
+
+    /// The questions for a neighbouring member, counted from 0 again after 2^64.
+    pub(crate) fn questions(&self) -> u64
+        ensures { result ≡ self.now.questions }
+    {
+        self.questions
+    }
+
+    /// Asks for the member of a unit's set that is nearest to a number.
+    #[inline(always)]
+    pub(crate) fn member(&mut self, unit: Unit, way: Way, from: u32) -> Option<u32>
+        ensures nearest { IsNearest way (contains (members unit self.old.sets)) (pos from) result }
+        ensures bound { IfSome result (λ n. ((unit_of unit).least ≤ n) × (n ≤ (unit_of unit).greatest)) }
+        ensures counted { self.new ≡ one_question self.old }
+    {
+        self.questions = self.questions.wrapping_add(1);
+        match unit {
+            Unit::Second => self.fields.nearest_second(way, from),
+            Unit::Minute => self.fields.nearest_minute(way, from),
+            Unit::Hour => self.fields.nearest_hour(way, from),
+            Unit::Day => self.fields.nearest_day(way, from),
+            Unit::Month => self.fields.nearest_month(way, from),
+            Unit::Year => self.fields.nearest_year(way, from),
+        }
+    }
+
+    /// Makes the date of a day of a month, and tests whether its weekday lies in its set: the number of the day.
+    #[inline(always)]
+    pub(crate) fn matching_day(&mut self, month: u32, day: u32) -> Option<u32>
+        requires month { (23_640 ≤ month) × (month < 25_212) }
+        requires day { (1 ≤ day) × (day ≤ length_of month) }
+        requires room { self.old.days < 2 ^ 63 }
+        ensures matches { MatchOption result
+            (contains self.old.sets.days_of_week (weekday_number (date_numbered (day_number month day)).0) ≡ false)
+            (λ n. (n ≡ day_number month day)
+            × (contains self.old.sets.days_of_week (weekday_number (date_numbered (day_number month day)).0) ≡ true)) }
+        ensures counted { self.new ≡ one_day self.old }
+    {
+        self.days += 1;
+        let number = number_made(month, day);
+        if !self.fields.includes_weekday(weekday_of(number)) {
+            return None;
+        }
+        Some(number)
+    }
+
+    /// Asks the zone for the readings of a civil second: none in a gap.
+    #[inline(always)]
+    pub(crate) fn readings(&mut self, second: u32) -> Option<Found>
+        requires room { self.old.conversions < 2 ^ 63 }
+        ensures readings { items_if_any result ≡ readings self.old.zone second }
+        ensures counted { self.new ≡ one_conversion self.old }
+    {
+        self.conversions += 1;
+        readings_of(self.zone, second)
+    }
+}

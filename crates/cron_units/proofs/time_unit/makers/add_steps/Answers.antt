@@ -1,0 +1,6 @@
+use Rattle.cron_units.proofs.Steps.{range_steps}
+use Rattle.cron_units.proofs.time_unit.makers.add_steps.Goals as goal
+
+pub returns-then-every-eq1 : goal.returns-then-every-eq1
+returns-then-every-eq1 g c =
+    range_steps g.T.TimeUnitField.unit (g.T.TimeUnitField.members c.args.set.now) (g.T.TimeUnitField.members c.insert_range.new.self) c.args.first c.args.last c.args.every c.if-every-eq1.true c.insert_range.ensures

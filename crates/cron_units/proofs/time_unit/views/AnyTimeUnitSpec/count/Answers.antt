@@ -1,9 +1,0 @@
-use Rattle.std.proofs.Common.{ap, arith, List, ℕ, length}
-use Rattle.cron_units.proofs.Sets.{length_set}
-use Rattle.cron_units.proofs.time_unit.views.AnyTimeUnitSpec.count.Goals as goal
-
-pub overflow_cast-result : goal.overflow_cast-result
-overflow_cast-result g c =
-    let u = g.T.TimeUnitField.unit in
-    let xs = g.T.TimeUnitField.members c.args.self.now in
-    omega (arith, length_set u xs c.ordinals.ensures.set, ap (λ (ys : List ℕ). length ys) c.ordinals.ensures.members, g.met.T.TimeUnitField.is_unit.countable)

@@ -1,0 +1,5 @@
+use Rattle.cron_units.specs.WordLaws.{lowest_bit}
+use Rattle.cron_units.proofs.time_unit.words.U64Words.lowest.Goals as goal
+
+pub returns-else-self-eq0 : goal.returns-else-self-eq0
+returns-else-self-eq0 c = lowest_bit c.args.self c.if-self-eq0.false c.requires

@@ -1,0 +1,8 @@
+use Rattle.cron_units.specs.WordLaws.{bit_without, bit_without_past}
+use Rattle.cron_units.proofs.time_unit.words.U64Words.without.Goals as goal
+
+pub returns-then-place-lt64-clause-bits : goal.returns-then-place-lt64-clause-bits
+returns-then-place-lt64-clause-bits c = λ k. bit_without c.args.self c.args.place k c.if-place-lt64.true
+
+pub returns-else-place-lt64-clause-bits : goal.returns-else-place-lt64-clause-bits
+returns-else-place-lt64-clause-bits c = λ k. bit_without_past c.args.self c.args.place k c.if-place-lt64.false

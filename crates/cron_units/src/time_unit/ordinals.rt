@@ -1,0 +1,192 @@
+//! Sets of ordinals, a bit for each ordinal of the unit.
+
+ghost use Rattle.std.specs.Prelude.{◌≡◌, ◌≤◌, ◌<◌, ◌+◌, ◌^◌, ◌↔◌, ℕ, List};
+ghost use Rattle.cron_units.specs.Units.{TimeUnit, IsUnit, contains};
+ghost use Rattle.cron_units.specs.Words.{has_bit};
+ghost use Rattle.cron_units.specs.Places.{placed, NonePast};
+ghost use Rattle.cron_units.specs.Tables.{definition_view};
+
+use super::words::{Words, widened};
+use super::{Definition, Ordinal, OrdinalIter, TimeUnitField};
+use crate::way::Way;
+use std::alloc::AllocError;
+use std::marker::{Model, PhantomData};
+
+/// The table of a unit, whose sets take so many words.
+pub trait UnitTable<W: Words>: Copy {
+    /// The unit, as contracts see it.
+    ghost unit: { TimeUnit };
+
+    /// The table of the unit.
+    fn definition() -> Definition
+        ensures { definition_view result ≡ unit };
+
+    /// The least ordinal.
+    final fn least() -> Ordinal
+        ensures { result ≡ unit.least }
+    {
+        Self::definition().least
+    }
+
+    /// The greatest ordinal.
+    final fn greatest() -> Ordinal
+        ensures { result ≡ unit.greatest }
+    {
+        Self::definition().greatest
+    }
+
+    /// The bounds are in order, the names' ordinals are within them, and the ordinals can be counted.
+    ghost is_unit: { IsUnit unit };
+
+    /// There is a bit for each ordinal.
+    ghost fits: { unit.greatest < unit.least + W.size };
+
+    /// Iterators have room for them.
+    ghost iterates: { unit.greatest < unit.least + 192 };
+}
+
+/// A set of ordinals of a unit. Bit i stands for the least ordinal plus i.
+#[derive(Debug)]
+pub struct Ordinals<U: UnitTable<W>, W: Words> {
+    words: W,
+    of: PhantomData<U>,
+}
+
+impl<U: UnitTable<W>, W: Words> Model for Ordinals<U, W> {
+    ghost use Rattle.std.specs.Prelude.{◌+◌, List, ℕ};
+    ghost use Rattle.cron_units.specs.Units.{contains};
+    ghost use Rattle.cron_units.specs.Places.{placed, IsLaidOut};
+
+    ghost Value = { List ℕ };
+
+    ghost view = { λ s. placed U.unit (W.has s.words) };
+
+    ghost invariant = { λ s. IsLaidOut U.unit W.IsFit W.has W.made s.words };
+
+    ghost inverse = { λ ordinals. record { words = W.made (λ k. contains ordinals (U.unit.least + k)); of = record {} } };
+
+    ghost use Rattle.std.proofs.Common.{ap};
+
+    ghost inverse_ok = { λ s laid. ap (λ words. record { words = words; of = s.of }) laid.remade };
+}
+
+impl<U: UnitTable<W>, W: Words> Clone for Ordinals<U, W> {
+    ghost use Rattle.std.specs.Prelude.{◌≡◌, ⊤};
+
+    ghost is_clone = { λ set copy. copy ≡ set };
+
+    ghost is_infallible = { λ _. ⊤ };
+
+    fn clone(&self) -> Result<Ordinals<U, W>, AllocError> {
+        Ok(*self)
+    }
+}
+
+impl<U: UnitTable<W>, W: Words> Copy for Ordinals<U, W> {}
+
+impl<U: UnitTable<W>, W: Words> Ordinals<U, W> {
+    /// Takes words for a set.
+    fn laid(words: W) -> Ordinals<U, W>
+        requires fit { W.IsFit words }
+        requires none_past { NonePast U.unit (W.has words) }
+        ensures { result ≡ placed U.unit (W.has words) }
+    {
+        Ordinals {
+            words,
+            of: PhantomData,
+        }
+    }
+}
+
+impl<U: UnitTable<u64>> Ordinals<U, u64> {
+    /// Lends the word of the set, in which bit i stands for the least ordinal plus i.
+    pub fn bits(&self) -> u64
+        ensures bits { (k : ℕ) → has_bit result k ≡ contains self.now (U.unit.least + k) }
+        ensures within { result < 2 ^ 64 }
+    {
+        self.words.word(0)
+    }
+}
+
+impl<U: UnitTable<W>, W: Words> TimeUnitField for Ordinals<U, W> {
+    ghost unit = { U.unit };
+
+    ghost members = { λ ordinals. ordinals };
+
+    ghost is_unit = { U.is_unit };
+
+    fn definition() -> Definition {
+        U::definition()
+    }
+
+    fn known(&self) {
+        let _words = &self.words;
+    }
+
+    fn empty() -> Ordinals<U, W> {
+        Ordinals::laid(W::none())
+    }
+
+    fn insert(&mut self, ordinal: Ordinal) {
+        *self = Ordinals::laid(self.words.with(ordinal - U::least()));
+    }
+
+    fn insert_range(&mut self, first: Ordinal, last: Ordinal) {
+        if first <= last {
+            let least = U::least();
+            let range = W::full().at_least(first - least).below(last - least + 1);
+            *self = Ordinals::laid(self.words.joined(range));
+        }
+    }
+
+    fn contains(&self, ordinal: Ordinal) -> bool {
+        let least = U::least();
+        ordinal >= least && self.words.contains(ordinal - least)
+    }
+
+    fn len(&self) -> u32 {
+        self.words.count()
+    }
+
+    fn ascending(&self) -> OrdinalIter<'_> {
+        OrdinalIter::new(widened(self.words), U::least())
+    }
+
+    fn nearest(&self, way: Way, from: Ordinal) -> Option<Ordinal> {
+        let least = U::least();
+        match way {
+            Way::Ahead => {
+                let place = self.words.at_least(from.saturating_sub(least)).lowest()?;
+                Some(least + place)
+            }
+            Way::Back if from < least => None,
+            Way::Back => {
+                let last = from.min(U::greatest()) - least;
+                let place = self.words.below(last + 1).highest()?;
+                Some(least + place)
+            }
+        }
+    }
+}
+
+impl<U: UnitTable<W>, W: Words> PartialEq for Ordinals<U, W> {
+    ghost use Rattle.std.specs.Prelude.{◌==◌};
+    ghost use Rattle.std.specs.Cmp.Lexicographic.{pointwise};
+    ghost use Rattle.std.specs.Cmp.Rules.{comparing};
+    ghost use Rattle.std.proofs.Common.{rules};
+
+    ghost eq = { pointwise ◌==◌ };
+
+    ghost laws = { Prim.search (comparing, rules) };
+
+    fn eq(&self, other: &Ordinals<U, W>) -> bool {
+        self.words.same(other.words)
+    }
+}
+
+impl<U: UnitTable<W>, W: Words> Eq for Ordinals<U, W> {
+    ghost use Rattle.std.specs.Cmp.Rules.{comparing};
+    ghost use Rattle.std.proofs.Common.{rules};
+
+    ghost laws = { Prim.search (comparing, rules) };
+}

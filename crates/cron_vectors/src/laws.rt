@@ -1,0 +1,115 @@
+//! The laws that a program can call.
+
+use crate::support::{check_same, chicago, cut};
+use cron::error::Error;
+use cron::schedule::{Moment, Turn};
+use cron::{Schedule, laws};
+use jiff::Timestamp;
+use jiff::tz::{Offset, TimeZone};
+use std::alloc::{AllocError, Global};
+use std::fmt::Write;
+use std::process::Abort;
+use std::test::Fail;
+
+fn listed(alloc: Global, answers: &[Option<Moment>]) -> Result<String, AllocError> {
+    let mut text = String::new(alloc);
+    for answer in answers {
+        match answer {
+            Some(moment) => write!(text, "{moment}, ")?,
+            None => text.push_str("None, ")?,
+        }
+    }
+    Ok(text)
+}
+
+// What these calls on a walk over a text answer, or its refusal.
+fn told(alloc: Global, text: &str) -> Result<String, Fail> {
+    let start = "2022-11-06T04:30:00Z".parse()?;
+    let turns = [
+        Turn::Next,
+        Turn::Next,
+        Turn::NextBack,
+        Turn::Next,
+        Turn::Next,
+        Turn::Next,
+        Turn::Next,
+        Turn::NextBack,
+    ];
+    match laws::headline(alloc, text, start, &chicago()?, &turns) {
+        Ok(answers) => Ok(listed(alloc, answers.as_slice())?),
+        Err(error) => Ok(error.to_string(alloc)?),
+    }
+}
+
+const WALKED: &str = "2022-11-06 01:00:00 -05:00, 2022-11-06 01:00:00 -06:00, \
+2022-11-06 01:00:00 -05:00, 2022-11-06 01:00:00 -06:00, 2022-11-06 01:30:00 -05:00, \
+2022-11-06 01:30:00 -06:00, None, None, ";
+
+#[test]
+fn the_headline(rt: HostRuntime) -> Result<(), Fail> {
+    for (text, wanted) in [
+        ("0 0,30 1 6 11 ? 2022", WALKED),
+        (
+            "60 * * * * *",
+            "Seconds must be less than 59. ('60' specified.)",
+        ),
+        ("* * * *", "Invalid cron expression."),
+    ] {
+        check_same(&rt, told(rt.alloc(), text)?.as_str(), wanted, text);
+    }
+    Ok(())
+}
+
+// Whether reading a schedule's source again gives an equal schedule.
+fn is_read_again(alloc: Global, schedule: &Schedule) -> Result<bool, Error> {
+    let again = laws::reread(alloc, schedule)?;
+    laws::equal_sets(schedule, &again);
+    Ok(again == *schedule && again.timeunitspec_eq(schedule))
+}
+
+#[test]
+fn a_source_is_read_again(rt: HostRuntime) -> Result<(), Fail> {
+    for text in [" @hourly ", "* 1,2,3 * * * *", "0 0 0 1 1 ? 2020-2040/10"] {
+        let schedule = Schedule::from_str(rt.alloc(), text)?;
+        assert!(rt; is_read_again(rt.alloc(), &schedule)?, "{text}");
+    }
+    Ok(())
+}
+
+// An expression, the seconds ahead of UTC, a start, and the first two answers.
+const FIRST: &str = "\
+@daily | 0 | 2016-12-29T14:29:36Z | 2016-12-30 00:00:00 +00:00, 2016-12-31 00:00:00 +00:00, 
+0 5 17 1 6 ? 2022 | 0 | 2021-10-27T00:00:00Z | 2022-06-01 17:05:00 +00:00, None, 
+0 0 0 1 1 ? 2100 | 28800 | 2024-02-29T02:00:00Z | 2100-01-01 00:00:00 +08:00, None, 
+0 0 0 30 2 * | 19800 | 2020-01-01T00:00:00Z | None, None, ";
+
+// The first two answers in a zone with one offset.
+fn first_two(
+    schedule: &Schedule,
+    start: Timestamp,
+    zone: &TimeZone<'_>,
+) -> Result<[Option<Moment>; 2], Fail> {
+    zone.to_fixed_offset()?;
+    let (first, second) = laws::first_instants(schedule, start, zone);
+    Ok([first, second])
+}
+
+fn check_first(rt: &(impl Abort + AllocGlobal), row: &str) -> Result<(), Fail> {
+    let (text, rest) = cut(row)?;
+    let (ahead, rest) = cut(rest)?;
+    let (start, wanted) = cut(rest)?;
+    let zone = TimeZone::fixed(Offset::from_seconds(ahead.parse()?)?);
+    let schedule = Schedule::from_str(rt.alloc(), text)?;
+    let answers = first_two(&schedule, start.parse()?, &zone)?;
+    check_same(rt, listed(rt.alloc(), &answers)?.as_str(), wanted, row);
+    Ok(())
+}
+
+#[test]
+fn first_instants(rt: HostRuntime) -> Result<(), Fail> {
+    assert_eq!(rt; FIRST.lines().count(), 4);
+    for row in FIRST.lines() {
+        check_first(&rt, row)?;
+    }
+    Ok(())
+}

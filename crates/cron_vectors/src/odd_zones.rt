@@ -1,0 +1,275 @@
+//! Zones that break schedulers: each second of a gap is passed and counted, and each second of a fold
+//! is answered twice. The turns are told from outside, and the days around them also go through the
+//! slow twin.
+
+use crate::slow_twin::check_day;
+use crate::support::cut;
+use crate::zone_files::read_file;
+use cron::schedule::{Moment, Turn};
+use cron::{Schedule, laws};
+use jiff::Timestamp;
+use jiff::civil::{Date, DateTime};
+use jiff::tz::{Offset, TimeZone};
+use std::alloc::{AllocError, Global};
+use std::process::Abort;
+use std::test::Fail;
+
+// Each row: rule, the first civil second of the turn, its length in seconds, the offsets before and
+// after it.
+const GAPS: &str = "\
+CST6CDT,M3.2.0,M11.1.0 | 2022-03-13T02:00:00 | 3600 | -21600 | -18000
+GMT0BST,M3.5.0/1,M10.5.0 | 2022-03-27T01:00:00 | 3600 | 0 | 3600
+LHST-10:30LHDT-11,M10.1.0,M4.1.0 | 2022-10-02T02:00:00 | 1800 | 37800 | 39600
+IST-1GMT0,M10.5.0,M3.5.0/1 | 2022-03-27T01:00:00 | 3600 | 0 | 3600
+<-03>3<-02>,M3.5.0/-2,M10.5.0/-1 | 2024-03-30T22:00:00 | 3600 | -10800 | -7200
+EET-2EEST,M3.5.0/0,M10.5.0/0 | 2022-03-27T00:00:00 | 3600 | 7200 | 10800
+LMT5:50:36LDT4:50:37,M3.2.0,M11.1.0 | 2022-03-13T02:00:00 | 3599 | -21036 | -17437";
+
+const FOLDS: &str = "\
+CST6CDT,M3.2.0,M11.1.0 | 2022-11-06T01:00:00 | 3600 | -18000 | -21600
+GMT0BST,M3.5.0/1,M10.5.0 | 2022-10-30T01:00:00 | 3600 | 3600 | 0
+LHST-10:30LHDT-11,M10.1.0,M4.1.0 | 2022-04-03T01:30:00 | 1800 | 39600 | 37800
+IST-1GMT0,M10.5.0,M3.5.0/1 | 2022-10-30T01:00:00 | 3600 | 3600 | 0
+<-03>3<-02>,M3.5.0/-2,M10.5.0/-1 | 2024-10-26T22:00:00 | 3600 | -7200 | -10800
+EET-2EEST,M3.5.0/0,M10.5.0/0 | 2022-10-29T23:00:00 | 3600 | 10800 | 7200
+LMT5:50:36LDT4:50:37,M3.2.0,M11.1.0 | 2022-11-06T01:00:01 | 3599 | -17437 | -21036";
+
+// A stretch of civil seconds at which a zone turns: the number of the first, how many they are, and the
+// seconds ahead of UTC before and after the turn.
+#[derive(Clone, Copy)]
+struct Stretch {
+    first: i64,
+    length: u32,
+    before: i32,
+    after: i32,
+}
+
+// The number of the second after a stretch.
+fn past(stretch: Stretch) -> i64 {
+    stretch.first.saturating_add(i64::from(stretch.length))
+}
+
+// The number of a civil second, by its instant at UTC.
+fn number(shown: DateTime) -> Result<i64, Fail> {
+    Ok(Offset::UTC.to_timestamp(shown)?.as_second())
+}
+
+// Whether a moment is the civil second with this number, at this offset.
+fn is_at(moment: Moment, second: i64, offset: i32) -> Result<bool, Fail> {
+    let instant = second.saturating_sub(i64::from(offset));
+    Ok(
+        number(moment.datetime())? == second
+            && moment.offset().seconds() == offset
+            && moment.timestamp().as_second() == instant,
+    )
+}
+
+fn check_is_at(
+    rt: &impl Abort,
+    moment: Option<Moment>,
+    second: i64,
+    offset: i32,
+) -> Result<(), Fail> {
+    let moment = moment.ok_or("nothing is answered")?;
+    let is_at = is_at(moment, second, offset)?;
+    assert!(rt; is_at, "{moment} for {second}");
+    Ok(())
+}
+
+// The civil second with this number.
+fn shown(second: i64) -> Result<DateTime, Fail> {
+    Ok(Offset::UTC.to_datetime(Timestamp::from_second(second)?))
+}
+
+// The searches pass each second of a gap, and count it.
+fn check_gap(
+    rt: &(impl Abort + AllocGlobal),
+    zone: &TimeZone<'_>,
+    gap: Stretch,
+) -> Result<(), Fail> {
+    let every = Schedule::from_str(rt.alloc(), "* * * * * *")?;
+    let (first, past) = (gap.first, past(gap));
+    let asked = u64::from(gap.length) + 1;
+    let ahead = every.first_at_or_after(shown(first)?, zone);
+    assert_eq!(rt; ahead.conversions, asked);
+    let back = every.last_at_or_before(shown(past.saturating_sub(1))?, zone);
+    assert_eq!(rt; back.conversions, asked);
+    check_is_at(rt, ahead.found.map(|found| found.first), past, gap.after)?;
+    check_is_at(
+        rt,
+        back.found.map(|found| found.first),
+        first.saturating_sub(1),
+        gap.before,
+    )
+}
+
+// A civil second by its number, and an offset.
+#[derive(Clone, Copy)]
+struct Reading {
+    second: i64,
+    offset: i32,
+}
+
+impl Reading {
+    fn new(second: i64, offset: i32) -> Reading {
+        Reading { second, offset }
+    }
+}
+
+// Both readings of each second of a fold, and the second after it.
+fn readings_ahead(alloc: Global, fold: Stretch) -> Result<Vec<Reading>, Fail> {
+    let (past, before, after) = (past(fold), fold.before, fold.after);
+    let mut readings = Vec::new(alloc);
+    for second in fold.first..past {
+        readings.push(Reading::new(second, before))?;
+        readings.push(Reading::new(second, after))?;
+    }
+    readings.push(Reading::new(past, after))?;
+    Ok(readings)
+}
+
+// The answers of so many calls ahead that end after a fold, and of as many back.
+fn readings_both_ways(alloc: Global, fold: Stretch) -> Result<Vec<Reading>, Fail> {
+    let ahead = readings_ahead(alloc, fold)?;
+    let mut readings = Vec::new(alloc);
+    readings.extend_from_slice(ahead.as_slice())?;
+    for reading in ahead.iter().rev().skip(1) {
+        readings.push(*reading)?;
+    }
+    let last = fold.first.saturating_sub(1);
+    readings.push(Reading::new(last, fold.before))?;
+    Ok(readings)
+}
+
+// As many calls ahead as back.
+fn turns_both_ways(alloc: Global, count: usize) -> Result<Vec<Turn>, AllocError> {
+    let mut turns = Vec::new(alloc);
+    for at in 0..count {
+        let is_ahead = at < count / 2;
+        turns.push(if is_ahead { Turn::Next } else { Turn::NextBack })?;
+    }
+    Ok(turns)
+}
+
+// A walk answers each second of a fold twice, ahead and then back, and the seconds beside it once.
+fn check_fold(
+    rt: &(impl Abort + AllocGlobal),
+    zone: &TimeZone<'_>,
+    fold: Stretch,
+) -> Result<(), Fail> {
+    let readings = readings_both_ways(rt.alloc(), fold)?;
+    let turns = turns_both_ways(rt.alloc(), readings.len())?;
+    let start = fold.first.saturating_sub(1);
+    let start = Timestamp::from_second(start.saturating_sub(i64::from(fold.before)))?;
+    let answers = laws::headline(rt.alloc(), "* * * * * *", start, zone, turns.as_slice())?;
+    assert_eq!(rt; answers.len(), readings.len());
+    for (answer, reading) in answers.iter().zip(readings.iter()) {
+        check_is_at(rt, *answer, reading.second, reading.offset)?;
+    }
+    Ok(())
+}
+
+// The days around a turn, both ways, through the slow twin.
+fn check_days(
+    rt: &(impl Abort + AllocGlobal),
+    zone: &TimeZone<'_>,
+    date: Date,
+) -> Result<(), Fail> {
+    for text in ["*/7 */3 * * * *", "30 30 * * * *", "@daily"] {
+        check_day(rt, text, zone, date.yesterday()?)?;
+        check_day(rt, text, zone, date)?;
+        check_day(rt, text, zone, date.tomorrow()?)?;
+    }
+    Ok(())
+}
+
+fn read_stretch(row: &str) -> Result<Stretch, Fail> {
+    let (from, row) = cut(row)?;
+    let (length, row) = cut(row)?;
+    let (before, after) = cut(row)?;
+    Ok(Stretch {
+        first: number(from.parse()?)?,
+        length: length.parse()?,
+        before: before.parse()?,
+        after: after.parse()?,
+    })
+}
+
+fn check_gap_of(
+    rt: &(impl Abort + AllocGlobal),
+    zone: &TimeZone<'_>,
+    row: &str,
+) -> Result<(), Fail> {
+    let gap = read_stretch(row)?;
+    let date = shown(gap.first)?.date();
+    check_gap(rt, zone, gap)?;
+    check_days(rt, zone, date)
+}
+
+fn check_fold_of(
+    rt: &(impl Abort + AllocGlobal),
+    zone: &TimeZone<'_>,
+    row: &str,
+) -> Result<(), Fail> {
+    let fold = read_stretch(row)?;
+    let date = shown(fold.first)?.date();
+    check_fold(rt, zone, fold)?;
+    check_days(rt, zone, date)
+}
+
+#[test]
+fn gaps_of_rules(rt: HostRuntime) -> Result<(), Fail> {
+    assert_eq!(rt; GAPS.lines().count(), 7);
+    for row in GAPS.lines() {
+        let (rule, row) = cut(row)?;
+        check_gap_of(&rt, &TimeZone::posix(rule)?, row)?;
+    }
+    Ok(())
+}
+
+#[test]
+fn folds_of_rules(rt: HostRuntime) -> Result<(), Fail> {
+    assert_eq!(rt; FOLDS.lines().count(), 7);
+    for row in FOLDS.lines() {
+        let (rule, row) = cut(row)?;
+        check_fold_of(&rt, &TimeZone::posix(rule)?, row)?;
+    }
+    Ok(())
+}
+
+#[test]
+fn a_saving_that_lasts_all_year(rt: HostRuntime) -> Result<(), Fail> {
+    let zone = TimeZone::posix("EST5EDT,0/0,J365/25")?;
+    for date in ["2021-12-31", "2022-01-01", "2022-06-01", "2022-12-31"] {
+        check_days(&rt, &zone, date.parse()?)?;
+    }
+    Ok(())
+}
+
+#[test]
+fn a_day_that_is_skipped_and_one_that_comes_twice(rt: HostRuntime) -> Result<(), Fail> {
+    let file = read_file(
+        rt.alloc(),
+        86_400,
+        "2020-03-01T00:00:00Z",
+        "2020-06-01T00:00:00Z",
+    )?;
+    let zone = TimeZone::tzif(&file);
+    check_gap_of(&rt, &zone, "2020-03-01T00:00:00 | 86400 | 0 | 86400")?;
+    check_fold_of(&rt, &zone, "2020-06-01T00:00:00 | 86400 | 86400 | 0")
+}
+
+#[test]
+fn a_fold_across_the_end_of_a_year(rt: HostRuntime) -> Result<(), Fail> {
+    let file = read_file(
+        rt.alloc(),
+        3_600,
+        "2020-06-01T00:00:00Z",
+        "2020-12-31T23:30:00Z",
+    )?;
+    check_fold_of(
+        &rt,
+        &TimeZone::tzif(&file),
+        "2020-12-31T23:30:00 | 3600 | 3600 | 0",
+    )
+}
