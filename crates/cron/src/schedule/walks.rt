@@ -37,7 +37,7 @@ impl Schedule {
     /// The walk whose cursor is at the place of an item, as a walk left it that answered the item: its
     /// `next` answers the following one, its `next_back` the one before, also in a fold. It is `None`
     /// where the moment is no item of this schedule in this zone. It takes no memory, and asks the zone
-    /// once.
+    /// at most once.
     pub fn resume<'a>(
         &'a self,
         item: &Moment,
