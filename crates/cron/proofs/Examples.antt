@@ -21,7 +21,12 @@ texts_are_cut = record {
 
 pub items_denote : ItemsDenote
 unfolding whole
-items_denote = record { steps = record { unrefused = refl; union = refl }; names = record { unrefused = refl; union = refl } }
+items_denote = record {
+  steps = record { unrefused = refl; union = refl };
+  names = record { unrefused = refl; union = refl };
+  last_day = record { unrefused = refl; union = refl };
+  last_day_first = record { unrefused = refl; union = refl };
+}
 
 pub items_are_refused : ItemsAreRefused
 unfolding digits
@@ -30,6 +35,9 @@ items_are_refused = record {
   large = record { refusal = _; first = refl; told = refl };
   unknown = record { refusal = _; first = refl; told = refl };
   unnamed = record { refusal = _; first = refl; told = refl };
+  lone = record { refusal = _; first = refl; told = refl };
+  longer = record { refusal = _; first = refl; told = refl };
+  last_days = record { refusal = _; first = refl; told = refl };
   range = record { refusal = _; first = refl; told = refl };
   names = record { refusal = _; first = refl; told = refl };
   zero = record { refusal = _; first = refl; told = refl };

@@ -3,3 +3,5 @@ pub mod Examples
 pub mod InstantLemmas
 pub mod Callers
 pub mod ResumedLemmas
+pub mod ReadLemmas
+pub mod OnLiterals

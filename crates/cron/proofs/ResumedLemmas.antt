@@ -27,7 +27,8 @@ pub cut_runs_resumed : CutRunsAreResumed
 cut_runs_resumed s z before after last c r place answered at =
     let items = timeline s z in
     let (i, left, item) = placed_step items z last (run_on items z before c).cursor r answered in
-    let cursor : (run_on items z (before ++ last ∷ []) c).cursor ≡ Place place = cursor-append items z before (last ∷ []) c ∙ (left ∙ ap Place (stand_once s z i place r item at)) in
+    let cursor : (run_on items z (before ++ last ∷ []) c).cursor ≡ Place place = cursor-append items z before (last ∷ []) c
+    ∙ (left ∙ ap Place (stand_once s z i place r item at)) in
     runs_joined items z (before ++ last ∷ []) after c
     ∙ ap (λ (k : Cursor). followed_by (run_on items z (before ++ last ∷ []) c) (run_on items z after k)) cursor
 

@@ -11,22 +11,28 @@ use Rattle.cron.specs.Turns.{IsPlayed, way_of}
 use Rattle.cron_time.specs.WalkLaws.{RunsAreJoined, EndIsForEver, NeighboursAreAnswered}
 use Rattle.cron.specs.declared.schedule.play.Turn.{Turn}
 
-pub answers-append : (items : List Reading) (z : TimeZone) (us vs : List Way) (c : Cursor) → (run_on items z (us ++ vs) c).answers ≡ (run_on items z us c).answers ++ (run_on items z vs (run_on items z us c).cursor).answers
+pub answers-append : (items : List Reading) (z : TimeZone) (us vs : List Way) (c : Cursor)
+    → (run_on items z (us ++ vs) c).answers ≡ (run_on items z us c).answers ++ (run_on items z vs (run_on items z us c).cursor).answers
 answers-append items z [] vs c = refl
 answers-append items z (u ∷ us) vs c = ap (λ xs. (step_on items z u c).answer ∷ xs) (answers-append items z us vs (step_on items z u c).cursor)
 
-pub cursor-append : (items : List Reading) (z : TimeZone) (us vs : List Way) (c : Cursor) → (run_on items z (us ++ vs) c).cursor ≡ (run_on items z vs (run_on items z us c).cursor).cursor
+pub cursor-append : (items : List Reading) (z : TimeZone) (us vs : List Way) (c : Cursor)
+    → (run_on items z (us ++ vs) c).cursor ≡ (run_on items z vs (run_on items z us c).cursor).cursor
 cursor-append items z [] vs c = refl
 cursor-append items z (u ∷ us) vs c = cursor-append items z us vs (step_on items z u c).cursor
 
 -- one call more
-pub played_more : (old mid new : Walk) (turns : List Turn) (t : Turn) (answers : List (Option Reading)) (r : Option Reading) → IsPlayed old turns answers mid → Steps (way_of t) mid r new → IsPlayed old (turns ++ t ∷ []) (answers ++ r ∷ []) new
+pub played_more : (old mid new : Walk) (turns : List Turn) (t : Turn) (answers : List (Option Reading)) (r : Option Reading)
+    → IsPlayed old turns answers mid → Steps (way_of t) mid r new → IsPlayed old (turns ++ t ∷ []) (answers ++ r ∷ []) new
 played_more old mid new turns t answers r before s =
     let items = timeline old.sets old.zone in
     let ways : map way_of (turns ++ t ∷ []) ≡ map way_of turns ++ way_of t ∷ [] = map-append way_of turns (t ∷ []) in
-    let same : step_on (timeline mid.sets mid.zone) mid.zone (way_of t) mid.cursor ≡ step_on items old.zone (way_of t) (run_on items old.zone (map way_of turns) old.cursor).cursor = rw (before.sets, before.zone, before.cursor) refl in
+    let same : step_on (timeline mid.sets mid.zone) mid.zone (way_of t) mid.cursor
+    ≡ step_on items old.zone (way_of t) (run_on items old.zone (map way_of turns) old.cursor).cursor = rw (before.sets, before.zone, before.cursor)
+    refl in
     record {
-      answers_are = rw (ways, answers-append items old.zone (map way_of turns) (way_of t ∷ []) old.cursor, ← before.answers_are) (ap (λ x. answers ++ x ∷ []) (s.answer ∙ ap (λ (q : Step). q.answer) same));
+      answers_are = rw (ways, answers-append items old.zone (map way_of turns) (way_of t ∷ []) old.cursor, ← before.answers_are)
+          (ap (λ x. answers ++ x ∷ []) (s.answer ∙ ap (λ (q : Step). q.answer) same));
       cursor = rw (ways, cursor-append items old.zone (map way_of turns) (way_of t ∷ []) old.cursor) (s.cursor ∙ ap (λ (q : Step). q.cursor) same);
       sets = s.sets ∙ before.sets;
       zone = s.zone ∙ before.zone;
@@ -34,7 +40,8 @@ played_more old mid new turns t answers r before s =
 
 -- ---- laws
 
-same_run : (r : Run) (answers : List (Option Reading)) (cursor : Cursor) → r.answers ≡ answers → r.cursor ≡ cursor → r ≡ record { answers = answers; cursor = cursor }
+same_run : (r : Run) (answers : List (Option Reading)) (cursor : Cursor) → r.answers ≡ answers → r.cursor ≡ cursor
+    → r ≡ record { answers = answers; cursor = cursor }
 same_run r answers cursor a c = rw (← a, ← c) refl
 
 pub runs_joined : RunsAreJoined

@@ -5,6 +5,7 @@ use Rattle.jiff_core.specs.DateTime.{civil_seconds}
 use Rattle.jiff_tz.specs.declared.timezone.TimeZone.{TimeZone}
 use Rattle.cron_units.specs.declared.way.Way.TheVariants.{Ahead, Back}
 use Rattle.cron_units.specs.Units as units
+use Rattle.cron_units.specs.Units.{unmarked, with_mark}
 use Rattle.cron_units.specs.Denotation.{Refusal, Denotes, refusal_of, message}
 use Rattle.cron_time.specs.Civil.{civil, seconds_in_range}
 use Rattle.cron_time.specs.Cursor.{Place, Ended, step_on}
@@ -28,7 +29,8 @@ pub record TextsAreCut : Type 0 where
   pub list_field : IsField units.seconds (tokens (codes "1,2,3/5")) (plain (single 1) ∷ plain (single 2) ∷ stepped (single 3) 5 ∷ [])
   pub names_tokens :
       tokens (codes " mon-FRI/2, SAT ")
-      ≡ spaced_token (codes "mon") ∷ token (codes "-") ∷ token (codes "FRI") ∷ token (codes "/") ∷ token (codes "2") ∷ token (codes ",") ∷ spaced_token (codes "SAT") ∷ []
+      ≡ spaced_token (codes "mon") ∷ token (codes "-") ∷ token (codes "FRI") ∷ token (codes "/") ∷ token (codes "2") ∷ token (codes ",") ∷ spaced_token
+      (codes "SAT") ∷ []
   pub names_field :
       IsField units.days_of_week (tokens (codes " mon-FRI/2, SAT ")) (stepped (name_range (codes "mon") (codes "FRI")) 2 ∷ name (codes "SAT") ∷ [])
   pub apart : spacing_fits_all (tokens (codes "* / 2")) ≡ false
@@ -37,8 +39,10 @@ pub record TextsAreCut : Type 0 where
 pub record ItemsDenote : Type 0 where
   pub steps :
       Denotes units.seconds (plain (single 1) ∷ plain (single 2) ∷ stepped (single 3) 5 ∷ [])
-      (1 ∷ 2 ∷ 3 ∷ 8 ∷ 13 ∷ 18 ∷ 23 ∷ 28 ∷ 33 ∷ 38 ∷ 43 ∷ 48 ∷ 53 ∷ 58 ∷ [])
-  pub names : Denotes units.days_of_week (stepped (name_range (codes "Mon") (codes "Thurs")) 2 ∷ []) (2 ∷ 4 ∷ [])
+      (unmarked (1 ∷ 2 ∷ 3 ∷ 8 ∷ 13 ∷ 18 ∷ 23 ∷ 28 ∷ 33 ∷ 38 ∷ 43 ∷ 48 ∷ 53 ∷ 58 ∷ []))
+  pub names : Denotes units.days_of_week (stepped (name_range (codes "Mon") (codes "Thurs")) 2 ∷ []) (unmarked (2 ∷ 4 ∷ []))
+  pub last_day : Denotes units.days_of_month (name (codes "L") ∷ []) (with_mark [] true)
+  pub last_day_first : Denotes units.days_of_month (name (codes "l") ∷ plain (number_range 30 31) ∷ []) (with_mark (30 ∷ 31 ∷ []) true)
 
 -- an item is refused with this message
 pub record IsRefusedWith (u : units.TimeUnit) (i : Item) (text : List ℕ) : Type 0 where
@@ -52,6 +56,12 @@ pub record ItemsAreRefused : Type 0 where
   pub large : IsRefusedWith units.seconds (plain (single 60)) (codes "Seconds must be less than 59. ('60' specified.)")
   pub unknown : IsRefusedWith units.months (name (codes "Foo")) (codes "'Foo' is not a valid month name.")
   pub unnamed : IsRefusedWith units.hours (name (codes "Jan")) (codes "The 'Hours' field does not support using names. 'Jan' specified.")
+  pub lone : IsRefusedWith units.days_of_week (name (codes "L")) (codes "'L' is not a valid day of the week.")
+  pub longer :
+      IsRefusedWith units.days_of_month (name (codes "LW")) (codes "The 'Days of Month' field does not support using names. 'LW' specified.")
+  pub last_days :
+      IsRefusedWith units.days_of_month (plain (name_range (codes "L") (codes "L")))
+      (codes "The 'Days of Month' field does not support using names. 'L' specified.")
   pub range : IsRefusedWith units.seconds (plain (number_range 5 1)) (codes "Invalid range for Seconds: 5-1")
   pub names : IsRefusedWith units.days_of_week (plain (name_range (codes "Fri") (codes "Mon"))) (codes "Invalid named range for Days of Week: Fri-Mon")
   pub zero : IsRefusedWith units.seconds (stepped (number_range 9 3) 0) (codes "range step cannot be zero")

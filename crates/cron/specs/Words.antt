@@ -1,13 +1,13 @@
 -- The words of public contracts, in one place for callers: what a schedule, a walk and a search are, and what texts mean.
-pub use Rattle.cron_units.specs.Units.{TimeUnit, IsSet, contains, whole, seconds, minutes, hours, days_of_month, months, days_of_week, years}
+pub use Rattle.cron_units.specs.Units.{TimeUnit, FieldSet, unmarked, without_last_day, IsSet, contains, whole, seconds, minutes, hours, days_of_month, months, days_of_week, years}
 pub use Rattle.cron_units.specs.Bounds.{IsForward, is_within}
-pub use Rattle.cron_units.specs.Sets.{Sets, AreSets, IsFilled}
+pub use Rattle.cron_units.specs.Sets.{Sets, AreSets, IsFilled, IsFilledOrMarked}
 pub use Rattle.cron_units.specs.Texts.{Tells, IsMemory, error_text}
 pub use Rattle.cron_units.specs.declared.way.Way.{Way}
 pub use Rattle.cron_units.specs.declared.way.Way.TheVariants.{Ahead, Back}
-pub use Rattle.cron_text.specs.Meaning.{Means, MeansNothing, IsLonghand, IsShorthand}
+pub use Rattle.cron_text.specs.Meaning.{Means, MeansBy, MeansNothing, IsLonghand, IsShorthand}
 pub use Rattle.cron_text.specs.Fault.{IsFault, IsRefusal, syntax_text}
-pub use Rattle.cron_time.specs.Matches.{matches, matches_date, matches_time, is_candidate}
+pub use Rattle.cron_time.specs.Matches.{matches, matches_date, matches_time, is_candidate, matches_day_of_month, has_day}
 pub use Rattle.cron_time.specs.Civil.{civil, days_in_range, seconds_in_range}
 pub use Rattle.cron_time.specs.CivilDates.{date_numbered}
 pub use Rattle.cron_time.specs.Readings.{Reading, instant, reading, readings}
@@ -22,7 +22,7 @@ pub use Rattle.cron_time.specs.Counts.{conversions, days_of, candidates, gap_mat
 pub use Rattle.cron_time.specs.Surveys.{standing_from, surveyed, surveyed_days}
 pub use Rattle.cron_time.specs.Times.{TimeOfDay, times_of_day, time_of_parts, IsNearestTime}
 pub use Rattle.cron_time.specs.MomentText.{moment_text}
-pub use Rattle.cron_text.specs.TextLaws.{IsInGrammar, MeansOnce, MeansSets, LongestFrontsAgree, HasOneFault}
+pub use Rattle.cron_text.specs.TextLaws.{IsInGrammar, MeansOnce, MeansSets, LongestFrontsAgree, HasOneFault, MeantEarlier, KeepsItsMeaning}
 pub use Rattle.cron_time.specs.WalkLaws.{RunsAreJoined, EndIsForEver, NeighboursAreAnswered, SecondsNeverDecrease, SecondsStandTwiceAtMost, ItemsMatch, ItemsStandOnce}
 pub use Rattle.cron_time.specs.FixedLaws.{Shows, IsAfter, IsLeastAfter, offset_of, FirstIsLeast, NextIsLater}
 pub use Rattle.cron.specs.Instants.{IsLeastIfAny, IsLaterIfAny}

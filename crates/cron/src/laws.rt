@@ -8,7 +8,7 @@ ghost use Rattle.cron_text.specs.Fault.{IsRefusal};
 ghost use Rattle.cron.specs.Headline.{IsWalked};
 ghost use Rattle.cron.specs.Instants.{IsLeastIfAny, IsLaterIfAny};
 ghost use Rattle.cron.specs.Resumed.{CutRunsAreResumed, ItemsAreInRange};
-ghost use Rattle.cron_text.specs.TextLaws.{MeansOnce, MeansSets, LongestFrontsAgree, HasOneFault};
+ghost use Rattle.cron_text.specs.TextLaws.{MeansOnce, MeansSets, LongestFrontsAgree, HasOneFault, KeepsItsMeaning};
 ghost use Rattle.cron_time.specs.Times.{TimesOfDayMatch};
 ghost use Rattle.cron_time.specs.Counts.{DaysAtMost};
 ghost use Rattle.cron_time.specs.FixedLaws as fixed;
@@ -102,9 +102,16 @@ pub fn means_once()
     ensures { MeansOnce }
 {}
 
-/// What a text means are sets of the units, and none of them is empty.
+/// What a text means are sets of the units, and none of them is empty, but for days of the month that
+/// have the mark of the last day in place of numbers.
 pub fn means_sets()
     ensures { MeansSets }
+{}
+
+/// A text that meant seven sets before the last day of a month had a word, and with the five
+/// shorthands of then, means the same ones now, and has no mark.
+pub fn earlier_texts()
+    ensures { KeepsItsMeaning }
 {}
 
 /// A text that is no shorthand is in the grammar exactly if its longest fronts are six or seven

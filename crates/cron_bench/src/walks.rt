@@ -6,11 +6,13 @@ use jiff::tz::{Offset, TimeZone};
 use std::io;
 use std::time::Instant;
 
-const TEXTS: [&str; 6] = [
+const TEXTS: [&str; 8] = [
     "0 30 9,12,15 1,15 May-Aug Mon,Wed,Fri 2018/2",
     "* * * * * *",
     "0 0 0 29 2 *",
     "0 0 0 13 * Fri",
+    "0 0 0 1 * ?",
+    "0 0 0 L * ?",
     "0 0 0 * * *",
     "0 * * * * *",
 ];

@@ -22,10 +22,12 @@ pub int_le-past : (b c : ℤ) → c <ℤ b → int_le b c ≡ false
 int_le-past b c h = grind (arith, ints)
 
 -- the item's day and the last one, compared
-pub is_through-from : (date : Date) (r : Reading) (day last : ℤ) → day ≡ epoch_day (civil r.second).date → last ≡ epoch_day date → day ≤ℤ last → is_through date r ≡ true
+pub is_through-from : (date : Date) (r : Reading) (day last : ℤ) → day ≡ epoch_day (civil r.second).date → last ≡ epoch_day date → day ≤ℤ last
+    → is_through date r ≡ true
 is_through-from date r day last e f h = ap (λ d. int_le d (epoch_day date)) (sym e) ∙ ap (λ d. int_le day d) (sym f) ∙ int_le-from day last h
 
-pub is_through-past : (date : Date) (r : Reading) (day last : ℤ) → day ≡ epoch_day (civil r.second).date → last ≡ epoch_day date → last <ℤ day → is_through date r ≡ false
+pub is_through-past : (date : Date) (r : Reading) (day last : ℤ) → day ≡ epoch_day (civil r.second).date → last ≡ epoch_day date → last <ℤ day
+    → is_through date r ≡ false
 is_through-past date r day last e f h = ap (λ d. int_le d (epoch_day date)) (sym e) ∙ ap (λ d. int_le day d) (sym f) ∙ int_le-past day last h
 
 pub take_while-passes : {X : Type 0} (p : X → Bool) (x : X) (xs all : List X) → all ≡ x ∷ xs → p x ≡ true → take_while p all ≡ x ∷ take_while p xs
@@ -35,9 +37,11 @@ pub take_while-fails : {X : Type 0} (p : X → Bool) (x : X) (xs all : List X) �
 take_while-fails p x xs all e h = rw e (rw h refl)
 
 -- one more is taken
-pub taken-more : {X : Type 0} (p : X → Bool) (x : X) (all taken more old rest : List X) → all ≡ taken ++ take_while p old → old ≡ x ∷ rest → p x ≡ true → more ≡ taken ++ x ∷ [] → all ≡ more ++ take_while p rest
+pub taken-more : {X : Type 0} (p : X → Bool) (x : X) (all taken more old rest : List X) → all ≡ taken ++ take_while p old → old ≡ x ∷ rest → p x ≡ true
+    → more ≡ taken ++ x ∷ [] → all ≡ more ++ take_while p rest
 taken-more p x all taken more old rest so_far e h pushed =
-    so_far ∙ ap (λ t. taken ++ t) (take_while-passes p x rest old e h) ∙ sym (append_assoc taken (x ∷ []) (take_while p rest)) ∙ ap (λ t. t ++ take_while p rest) (sym pushed)
+    so_far ∙ ap (λ t. taken ++ t) (take_while-passes p x rest old e h) ∙ sym (append_assoc taken (x ∷ []) (take_while p rest))
+    ∙ ap (λ t. t ++ take_while p rest) (sym pushed)
 
 -- all are taken where the next one fails
 pub taken-all : {X : Type 0} (p : X → Bool) (x : X) (all taken old rest : List X) → all ≡ taken ++ take_while p old → old ≡ x ∷ rest → p x ≡ false → taken ≡ all

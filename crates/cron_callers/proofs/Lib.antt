@@ -2,3 +2,4 @@ pub mod FireTimes
 pub mod Missed
 pub mod AlarmLemmas
 pub mod RestartLemmas
+pub mod LiteralLemmas

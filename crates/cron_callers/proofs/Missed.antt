@@ -31,14 +31,16 @@ not_due now c x late le =
     let bound = x.offset.in_range in
     int_le-past (instant x *ℤ pos 1_000_000_000) now (omega (arith, ints, bound))
 
-none_due : (now : ℤ) (c : ℕ) (xs : List Reading) → now <ℤ ((pos c -ℤ pos 93_599) *ℤ pos 1_000_000_000) → ((k : ℕ) (y : Reading) → slice_get xs k ≡ Some y → c ≤ y.second) → filter (is_due now) xs ≡ []
+none_due : (now : ℤ) (c : ℕ) (xs : List Reading) → now <ℤ ((pos c -ℤ pos 93_599) *ℤ pos 1_000_000_000)
+    → ((k : ℕ) (y : Reading) → slice_get xs k ≡ Some y → c ≤ y.second) → filter (is_due now) xs ≡ []
 none_due now c [] late at_least = refl
 none_due now c (x ∷ xs) late at_least =
     let fails : is_due now x ≡ false = not_due now c x late (at_least 0 x refl) in
     rw fails (none_due now c xs late (λ k y e. at_least (suc k) y e))
 
 -- the search may stop: what was found is all
-pub due-all : (now : ℤ) (x : Reading) (all found old rest : List Reading) → all ≡ found ++ filter (is_due now) old → IsAscending old → old ≡ x ∷ rest → IsTooLate now x → found ≡ all
+pub due-all : (now : ℤ) (x : Reading) (all found old rest : List Reading) → all ≡ found ++ filter (is_due now) old → IsAscending old → old ≡ x ∷ rest
+    → IsTooLate now x → found ≡ all
 due-all now x all found old rest so_far a e late =
     let b : IsAscending (x ∷ rest) = rw e at a in
     let none = none_due now x.second (x ∷ rest) late (λ k y f. b.ordered 0 k x y (omega arith) refl f) in
@@ -47,12 +49,15 @@ due-all now x all found old rest so_far a e late =
 pub due-end : (now : ℤ) (all found old : List Reading) → all ≡ found ++ filter (is_due now) old → old ≡ [] → found ≡ all
 due-end now all found old so_far e = sym (so_far ∙ ap (λ t. found ++ filter (is_due now) t) e ∙ append-nil found)
 
-pub due-more : (now : ℤ) (x : Reading) (all found more old rest : List Reading) → all ≡ found ++ filter (is_due now) old → old ≡ x ∷ rest → is_due now x ≡ true → more ≡ found ++ x ∷ [] → all ≡ more ++ filter (is_due now) rest
+pub due-more : (now : ℤ) (x : Reading) (all found more old rest : List Reading) → all ≡ found ++ filter (is_due now) old → old ≡ x ∷ rest
+    → is_due now x ≡ true → more ≡ found ++ x ∷ [] → all ≡ more ++ filter (is_due now) rest
 due-more now x all found more old rest so_far e h pushed =
     let step : filter (is_due now) (x ∷ rest) ≡ x ∷ filter (is_due now) rest = rw h refl in
-    so_far ∙ ap (λ t. found ++ t) (ap (filter (is_due now)) e ∙ step) ∙ sym (append_assoc found (x ∷ []) (filter (is_due now) rest)) ∙ ap (λ t. t ++ filter (is_due now) rest) (sym pushed)
+    so_far ∙ ap (λ t. found ++ t) (ap (filter (is_due now)) e ∙ step) ∙ sym (append_assoc found (x ∷ []) (filter (is_due now) rest))
+    ∙ ap (λ t. t ++ filter (is_due now) rest) (sym pushed)
 
-pub due-same : (now : ℤ) (x : Reading) (all found old rest : List Reading) → all ≡ found ++ filter (is_due now) old → old ≡ x ∷ rest → is_due now x ≡ false → all ≡ found ++ filter (is_due now) rest
+pub due-same : (now : ℤ) (x : Reading) (all found old rest : List Reading) → all ≡ found ++ filter (is_due now) old → old ≡ x ∷ rest
+    → is_due now x ≡ false → all ≡ found ++ filter (is_due now) rest
 due-same now x all found old rest so_far e h =
     let step : filter (is_due now) (x ∷ rest) ≡ filter (is_due now) rest = rw h refl in
     so_far ∙ ap (λ t. found ++ t) (ap (filter (is_due now)) e ∙ step)

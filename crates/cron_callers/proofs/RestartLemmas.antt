@@ -11,12 +11,14 @@ answer_at i None = refl
 answer_at i (Some r) = refl
 
 -- the parts of an item make it again
-pub made_again : (s : Sets) (z : TimeZone) (shown : DateTime) (o : Offset) (made : Option Reading) → ItemsAreInRange → ((m : Reading) → HasParts shown o m → made ≡ Some m)
+pub made_again : (s : Sets) (z : TimeZone) (shown : DateTime) (o : Offset) (made : Option Reading) → ItemsAreInRange
+    → ((m : Reading) → HasParts shown o m → made ≡ Some m)
     → (i : ℕ) (r : Reading) → slice_get (timeline s z) i ≡ Some r → civil r.second ≡ shown → r.offset ≡ o → made ≡ Some r
 made_again s z shown o made in_range only i r item same_time same_offset =
     only r (record { in_range = in_range s z i r item; shown_is = same_time; offset_is = same_offset })
 
-pub next_of : (s : Sets) (z : TimeZone) (last r : Reading) (i : ℕ) (walk after : Walk) (answer : Option Reading) → ItemsStandOnce → Some last ≡ Some r → slice_get (timeline s z) i ≡ Some r
+pub next_of : (s : Sets) (z : TimeZone) (last r : Reading) (i : ℕ) (walk after : Walk) (answer : Option Reading) → ItemsStandOnce → Some last ≡ Some r
+    → slice_get (timeline s z) i ≡ Some r
     → IsResumed s z last walk → Steps Ahead walk answer after → answer ≡ slice_get (timeline s z) (i + 1)
 next_of s z last r i walk after answer once same item resumed call =
     let items = timeline s z in

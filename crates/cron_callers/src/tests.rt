@@ -3,7 +3,7 @@
 use super::{
     Noted, count_fires, count_hours, descending_hours, fault_of, fire_after, fires_of_day,
     first_alarms, first_fires, greatest_month, has_thirteenth_month, last_fires, minutes_between,
-    missed_runs, next_fire, some_warm_month, summer_months, year_count,
+    missed_runs, next_fire, some_warm_month, summer_months, work_days, year_count,
 };
 use cron::Schedule;
 use cron::schedule::Moment;
@@ -71,6 +71,23 @@ fn fires_lead_to_a_start(rt: HostRuntime) -> Result<(), Fail> {
         &rt,
         fires.as_slice(),
         "2024-02-29 00:00:00 +00:00, 2024-02-28 00:00:00 +00:00, ",
+    )
+}
+
+#[test]
+fn work_days_follow_a_friday(rt: HostRuntime) -> Result<(), Fail> {
+    let start = instant("2024-03-01T09:30:00Z")?;
+    let fires = first_fires(
+        rt.alloc(),
+        &work_days(rt.alloc())?,
+        start,
+        &TimeZone::UTC,
+        2,
+    )?;
+    check_fires(
+        &rt,
+        fires.as_slice(),
+        "2024-03-04 09:30:00 +00:00, 2024-03-05 09:30:00 +00:00, ",
     )
 }
 

@@ -7,6 +7,7 @@ use Rattle.cron_time.specs.Bounds.{bound_ahead, bound_back}
 use Rattle.cron_time.specs.Cursor.{Cursor, Start, Place, Ended, Step, Walk, Steps, step, step_on, go_to, item_at, first_from, last_to, place_before}
 use Rattle.cron_time.specs.Readings.{Reading}
 use Rattle.cron_time.specs.Timeline.{timeline}
+use Rattle.cron.proofs.Callers.{walk_is}
 use Rattle.cron_next.specs.Output.{direction, answer_line, answers_of, lines_of, first_there, last_item}
 
 pub lines_none : (back : Bool) (w : Walk) → lines_of back w 0 ≡ []
@@ -21,18 +22,17 @@ lines_more : (back : Bool) (w : Walk) (n : ℕ) → lines_of back w (suc n) ≡ 
 unfolding lines_of answers_of after
 lines_more back w n = refl
 
-pub walk_is : (v w : Walk) → v.sets ≡ w.sets → v.zone ≡ w.zone → v.cursor ≡ w.cursor → v ≡ w
-walk_is v w p q r =
-    let e : record { sets = v.sets; zone = v.zone; cursor = v.cursor } ≡ record { sets = w.sets; zone = w.zone; cursor = w.cursor } = rw (p, q, r) refl in e
-
 after_is : (back : Bool) (old new : Walk) (r : Option Reading) → Steps (direction back) old r new → after back old ≡ new
 unfolding after
 after_is back old new r s = walk_is (after back old) new (sym s.sets) (sym s.zone) (sym s.cursor)
 
 -- one line first, and then those of the walk that a call leaves
-pub lines_step : (back : Bool) (old new : Walk) (r : Option Reading) (n : ℕ) → Steps (direction back) old r new → lines_of back old (n + 1) ≡ answer_line r ++ lines_of back new n
+pub lines_step : (back : Bool) (old new : Walk) (r : Option Reading) (n : ℕ) → Steps (direction back) old r new
+    → lines_of back old (n + 1) ≡ answer_line r ++ lines_of back new n
 lines_step back old new r n s =
-    ap (lines_of back old) (add-one n) ∙ (lines_more back old n ∙ (ap (λ (a : Option Reading). answer_line a ++ lines_of back (after back old) n) (sym s.answer) ∙ ap (λ (w : Walk). answer_line r ++ lines_of back w n) (after_is back old new r s)))
+    ap (lines_of back old) (add-one n) ∙ (lines_more back old n
+    ∙ (ap (λ (a : Option Reading). answer_line a ++ lines_of back (after back old) n) (sym s.answer)
+    ∙ ap (λ (w : Walk). answer_line r ++ lines_of back w n) (after_is back old new r s)))
 
 after_ended : (back : Bool) (w : Walk) → (step (direction back) w).cursor ≡ Ended → (after back w).cursor ≡ Ended
 unfolding after
@@ -43,7 +43,8 @@ pub lines_ended : (back : Bool) (w : Walk) (n : ℕ) → w.cursor ≡ Ended → 
 lines_ended back w zero e = lines_none back w
 lines_ended back w (suc n) e =
     let here : step (direction back) w ≡ record { answer = None; cursor = Ended } = ap (step_on (timeline w.sets w.zone) w.zone (direction back)) e in
-    lines_more back w n ∙ (ap (λ (s : Step). answer_line s.answer ++ lines_of back (after back w) n) here ∙ lines_ended back (after back w) n (after_ended back w (ap (λ (s : Step). s.cursor) here)))
+    lines_more back w n ∙ (ap (λ (s : Step). answer_line s.answer ++ lines_of back (after back w) n) here
+    ∙ lines_ended back (after back w) n (after_ended back w (ap (λ (s : Step). s.cursor) here)))
 
 none_at : (i : ℕ) (o : Option Reading) → (item_at i o).answer ≡ None → (item_at i o).cursor ≡ Ended
 none_at i None h = refl
@@ -73,12 +74,14 @@ last_none : (back : Bool) (w : Walk) → last_item (answers_of back w 0) ≡ Non
 unfolding answers_of last_item
 last_none back w = refl
 
-answers_more : (back : Bool) (w : Walk) (n : ℕ) → last_item (answers_of back w (suc n)) ≡ first_there (last_item (answers_of back (after back w) n)) (step (direction back) w).answer
+answers_more : (back : Bool) (w : Walk) (n : ℕ) → last_item (answers_of back w (suc n))
+    ≡ first_there (last_item (answers_of back (after back w) n)) (step (direction back) w).answer
 unfolding answers_of last_item after
 answers_more back w n = refl
 
 -- of one answer more, and then those of the walk that a call leaves
-last_step : (back : Bool) (old new : Walk) (r : Option Reading) (n : ℕ) → Steps (direction back) old r new → last_item (answers_of back old (n + 1)) ≡ first_there (last_item (answers_of back new n)) r
+last_step : (back : Bool) (old new : Walk) (r : Option Reading) (n : ℕ) → Steps (direction back) old r new
+    → last_item (answers_of back old (n + 1)) ≡ first_there (last_item (answers_of back new n)) r
 last_step back old new r n s =
     ap (λ (k : ℕ). last_item (answers_of back old k)) (add-one n) ∙ (answers_more back old n
     ∙ (ap (λ (a : Option Reading). first_there (last_item (answers_of back (after back old) n)) a) (sym s.answer)
@@ -96,7 +99,8 @@ first_of_some None p r = refl
 first_of_some (Some x) p r = refl
 
 -- after an item, the last one so far is this
-pub last_more : (back : Bool) (old new : Walk) (r : Reading) (n : ℕ) (all so_far : Option Reading) → all ≡ first_there (last_item (answers_of back old (n + 1))) so_far
+pub last_more : (back : Bool) (old new : Walk) (r : Reading) (n : ℕ) (all so_far : Option Reading)
+    → all ≡ first_there (last_item (answers_of back old (n + 1))) so_far
     → Steps (direction back) old (Some r) new → all ≡ first_there (last_item (answers_of back new n)) (Some r)
 last_more back old new r n all so_far e s =
     e ∙ (ap (λ (o : Option Reading). first_there o so_far) (last_step back old new (Some r) n s) ∙ first_of_some (last_item (answers_of back new n)) so_far r)
@@ -109,7 +113,8 @@ last_stop back old new n all so_far e s =
     let nothing = last_step back old new None n s ∙ ap (λ (o : Option Reading). first_there o None) (last_ended back new n ended) in
     sym (e ∙ ap (λ (o : Option Reading). first_there o so_far) nothing)
 
-pub last_done : (back : Bool) (w : Walk) (n : ℕ) (all so_far : Option Reading) → all ≡ first_there (last_item (answers_of back w n)) so_far → n ≡ 0 → so_far ≡ all
+pub last_done : (back : Bool) (w : Walk) (n : ℕ) (all so_far : Option Reading) → all ≡ first_there (last_item (answers_of back w n)) so_far → n ≡ 0
+    → so_far ≡ all
 last_done back w n all so_far e zero_left =
     let nothing = ap (λ (k : ℕ). last_item (answers_of back w k)) zero_left ∙ last_none back w in
     sym (e ∙ ap (λ (o : Option Reading). first_there o so_far) nothing)

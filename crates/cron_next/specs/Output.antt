@@ -7,7 +7,7 @@ use Rattle.cron_units.specs.declared.way.Way.{Way}
 use Rattle.cron_units.specs.declared.way.Way.TheVariants.{Ahead, Back}
 use Rattle.cron_time.specs.Cursor.{Start, Walk, run_on}
 use Rattle.cron_text.specs.Meaning.{Means}
-use Rattle.cron_time.specs.MomentText.{moment_text}
+use Rattle.cron_time.specs.MomentText.{item_line}
 use Rattle.cron_time.specs.Readings.{Reading}
 use Rattle.cron_units.specs.Sets.{Sets}
 use Rattle.cron_text.specs.Fault.{IsRefusal}
@@ -15,10 +15,6 @@ use Rattle.cron_time.specs.Timeline.{timeline}
 use Rattle.cron_next.specs.Watching.{IsFrontSent}
 use Rattle.cron_next.specs.declared.run.Outcome.{Outcome}
 use Rattle.cron_next.specs.declared.run.Outcome.TheVariants.{Listed, Refused, WriteFailed}
-
--- the text of an item, and a line feed
-abbrev pub item_line : Reading → List ℕ
-item_line r = moment_text r ++ 10 ∷ []
 
 -- the line of an answer; a walk that has ended gives none
 abbrev pub answer_line : Option Reading → List ℕ

@@ -1,6 +1,7 @@
 -- A watched writer, and what reaches it.
 use Rattle.std.specs.Prelude.{◌≡◌, ℕ, Bool, true, false, ◌&&◌, ◌==◌, not, List, [], ◌∷◌, ◌++◌, Option, Result, Ok, Err}
 use Rattle.std.specs.Io.KnownBytes.{Appends}
+use Rattle.cron_next.specs.declared.gathered.Gathered.{Gathered}
 use Rattle.cron_next.specs.declared.watched.Watched.{Watched}
 
 -- the mark: a call has failed
@@ -35,3 +36,18 @@ pub record IsFrontSent (old new : Option (List ℕ)) (text : List ℕ) : Type 0 
 pub record IsSent (old new : Option (List ℕ)) (failed : Bool) (text : List ℕ) : Type 0 where
   pub front : IsFrontSent old new text
   pub whole : failed ≡ false → Appends old new text
+
+-- the bytes that were gathered and are not handed on yet
+abbrev pub kept_in : Gathered → List ℕ
+kept_in g = g.bytes.items
+
+-- all of the text but what is kept was appended
+pub record IsKept (old new : Option (List ℕ)) (kept text : List ℕ) : Type 0 where
+  pub sent : List ℕ
+  pub cut : text ≡ sent ++ kept
+  pub appended : Appends old new sent
+
+-- The text was gathered: a beginning of it was appended, and all of it but what is kept where no call has failed.
+pub record IsGathered (old new : Option (List ℕ)) (failed : Bool) (kept text : List ℕ) : Type 0 where
+  pub front : IsFrontSent old new text
+  pub rest : failed ≡ false → IsKept old new kept text

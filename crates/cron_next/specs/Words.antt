@@ -1,25 +1,14 @@
 -- What the words of a command line say.
-use Rattle.std.specs.Prelude.{◌≡◌, ◌<◌, ◌^◌, ◌⊎◌, ℕ, Bool, true, false, List, [], ◌∷◌, length, codes, IsSome, Ok, IsOk}
+use Rattle.std.specs.Prelude.{◌≡◌, ◌<◌, ◌^◌, ℕ, Bool, true, false, List, [], ◌∷◌, length, codes, Ok, IsOk}
 use Rattle.std.specs.Str.{all_ascii_digits}
 use Rattle.std.specs.Str.Parse.{digits_value}
-use Rattle.jiff.specs.Placed.{IsPosixZone}
 use Rattle.jiff.specs.Words.{plain_zone, parse_timestamp}
-use Rattle.jiff_tz.specs.PosixReader.{read_whole}
-use Rattle.jiff_tz.specs.declared.timezone.TimeZone.{TimeZone}
-use Rattle.jiff_tz.specs.declared.timezone.TimeZone.TheVariants.{UTC}
+use Rattle.cron_time.specs.ZoneWords.{IsZoneWord, IsZoneOf}
 use Rattle.cron_next.specs.declared.words.Request.{Request}
 
 -- one digit or more, and nothing else, whose number fits 32 bits
 abbrev pub IsCount : List ℕ → Type 0
 IsCount word = (all_ascii_digits word ≡ true) × (0 < length word) × (digits_value 10 word < 2 ^ 32)
-
--- `UTC`, or the text of a rule
-abbrev pub IsZoneWord : List ℕ → Type 0
-IsZoneWord word = (word ≡ codes "UTC") ⊎ IsSome (read_whole word)
-
--- the zone that the word names
-abbrev pub IsZoneOf : List ℕ → TimeZone → Type 0
-IsZoneOf word zone = ((word ≡ codes "UTC") × (zone ≡ UTC)) ⊎ IsPosixZone word zone
 
 -- START, ZONE and COUNT can be read
 abbrev pub AreReadable : List ℕ → List ℕ → List ℕ → Type 0

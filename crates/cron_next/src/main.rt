@@ -3,7 +3,7 @@
 #![tactic(auto)]
 
 mod answer;
-mod line;
+mod gathered;
 pub mod page;
 pub mod run;
 #[cfg(test)]

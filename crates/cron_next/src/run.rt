@@ -1,18 +1,19 @@
 //! The items of an expression, written to a watched writer.
 
-ghost use Rattle.std.specs.Prelude.{◌≡◌, ℕ, List, Option, false};
+ghost use Rattle.std.specs.Prelude.{◌≡◌, ℕ, List, [], Option, false};
 ghost use Rattle.jiff.specs.Words.{plain_zone};
 ghost use Rattle.cron_units.specs.Texts.{error_text};
 ghost use Rattle.cron_time.specs.Cursor.{Steps};
 ghost use Rattle.cron_next.specs.Output.{answers_of, direction, last_item, lines_of, complaint, Ends, Writes, is_write_failure};
-ghost use Rattle.cron_next.specs.Watching.{has_failed, writer_of, IsSent};
+ghost use Rattle.cron_next.specs.Watching.{has_failed, kept_in, writer_of, IsGathered, IsSent};
 ghost use Rattle.cron_next.specs.declared.run.Outcome.TheVariants.{Refused};
 
-use crate::line::line_of;
+use crate::gathered::Gathered;
 use crate::watched::{Watched, send};
 use cron::error::{Error, ErrorKind};
 use cron::schedule::Moment;
 use cron::{Schedule, ScheduleIterator};
+use cron_time::line::line_of;
 use jiff::Timestamp;
 use jiff::tz::TimeZone;
 use std::alloc::Global;
@@ -47,8 +48,36 @@ fn step(walk: &mut ScheduleIterator<'_>, back: bool) -> Option<Moment>
     if back { walk.next_back() } else { walk.next() }
 }
 
+// Gathers the lines of the first `count` answers, until the walk ends or a write fails, and answers
+// the last item whose line was gathered.
+fn gather_items<W: Write>(
+    walk: &mut ScheduleIterator<'_>,
+    count: u32,
+    back: bool,
+    lines: &mut Gathered,
+    out: &mut Watched<W>,
+) -> Option<Moment>
+    requires fresh { has_failed out.old ≡ false }
+    requires nothing { kept_in lines.old ≡ [] }
+    ensures lines { IsGathered (W.contents (writer_of out.old)) (W.contents (writer_of out.new)) (has_failed out.new) (kept_in lines.new) (lines_of back walk.old count) }
+    ensures last { has_failed out.new ≡ false → result ≡ last_item (answers_of back walk.old count) }
+{
+    let mut last = None;
+    for _ in 0..count {
+        let Some(moment) = step(walk, back) else {
+            return last;
+        };
+        lines.push_line(line_of(&moment).as_slice(), out);
+        if out.failed() {
+            return last;
+        }
+        last = Some(moment);
+    }
+    last
+}
+
 /// Writes the lines of the first `count` answers, until the walk ends or a write fails, and answers
-/// the last item whose line was written.
+/// the last item. The lines are handed on many at a time, and the rest of them at the end.
 pub(crate) fn send_items<W: Write>(
     walk: &mut ScheduleIterator<'_>,
     count: u32,
@@ -59,22 +88,14 @@ pub(crate) fn send_items<W: Write>(
     ensures lines { IsSent (W.contents (writer_of out.old)) (W.contents (writer_of out.new)) (has_failed out.new) (lines_of back walk.old count) }
     ensures last { has_failed out.new ≡ false → result ≡ last_item (answers_of back walk.old count) }
 {
-    let mut last = None;
-    for _ in 0..count {
-        let Some(moment) = step(walk, back) else {
-            return last;
-        };
-        send(out, line_of(&moment).as_slice());
-        if out.failed() {
-            return last;
-        }
-        last = Some(moment);
-    }
+    let mut lines = Gathered::new();
+    let last = gather_items(walk, count, back, &mut lines, out);
+    lines.send(out);
     last
 }
 
 // What an error prints.
-fn told(error: &Error) -> &str
+fn message_of(error: &Error) -> &str
     ensures { result.now ≡ error_text error.now }
 {
     match error.kind() {
@@ -89,7 +110,7 @@ fn send_complaint<W: Write>(error: &Error, out: &mut Watched<W>)
     ensures { IsSent (W.contents (writer_of out.old)) (W.contents (writer_of out.new)) (has_failed out.new) (complaint (error_text error.now)) }
 {
     send(out, b"error: ");
-    send(out, told(error).as_bytes());
+    send(out, message_of(error).as_bytes());
     send(out, b"\n");
 }
 
@@ -125,6 +146,10 @@ pub(crate) fn refuse<W: Write>(out: &mut Watched<W>, line: &str) -> Outcome
 /// Writes a line for each of the first `count` items of the expression after the start, or before
 /// it where `back` says so, and flushes. A refused expression is told by one line. It takes memory
 /// in the reading alone, so a list that was begun never ends for want of memory.
+///
+/// Whole lines are handed to the writer together, up to 4,096 bytes a call, and the last of them
+/// before the flush. So who reads sees a short list at once, and a long one in blocks. Once a call
+/// fails the writer is not called again: it holds what it took before.
 pub fn run<W: Write>(
     alloc: Global,
     expression: &str,

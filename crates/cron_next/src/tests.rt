@@ -1,5 +1,6 @@
 //! Outside values, failing writers, words and statuses.
 
+mod blocks;
 mod limited;
 mod listings;
 mod memory;

@@ -1,6 +1,6 @@
 //! A writer that remembers whether it failed, and a loop that hands a whole text to it.
 
-ghost use Rattle.std.specs.Prelude.{◌≡◌, ◌||◌, ◌++◌, ℕ, List, Option, false};
+ghost use Rattle.std.specs.Prelude.{◌≡◌, ◌||◌, ◌++◌, ℕ, List, Option, false, true};
 ghost use Rattle.std.specs.Io.KnownBytes.{Keeps, WriteAppends};
 ghost use Rattle.std.specs.Io.{WritesAtMost};
 ghost use Rattle.cron_next.specs.Watching.{has_failed, writer_of, is_failed_write, is_failed_flush, IsSent};
@@ -87,9 +87,10 @@ fn send_whole<W: Write>(out: &mut Watched<W>, text: &[u8])
 
 /// Hands a text on after what was handed on before, and nothing once a call has failed.
 pub(crate) fn send<W: Write>(out: &mut Watched<W>, text: &[u8])
-    ensures { (origin : Option (List ℕ)) (before : List ℕ)
+    ensures sent { (origin : Option (List ℕ)) (before : List ℕ)
         → IsSent origin (W.contents (writer_of out.old)) (has_failed out.old) before
         → IsSent origin (W.contents (writer_of out.new)) (has_failed out.new) (before ++ text.now) }
+    ensures untouched { has_failed out.old ≡ true → out.new ≡ out.old }
 {
     if !out.failed() {
         send_whole(out, text);

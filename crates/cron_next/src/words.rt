@@ -2,9 +2,9 @@
 
 ghost use Rattle.std.specs.Prelude.{◌↔◌, IfSome, IsSome, SomeIff, map, string_bytes};
 ghost use Rattle.std.specs.Str.Parse.{digits_value};
-ghost use Rattle.jiff.specs.Words.{plain_zone};
-ghost use Rattle.cron_next.specs.Words.{IsCount, IsZoneWord, IsZoneOf, AreReadable, IsRead, IsReadable, Asks};
+ghost use Rattle.cron_next.specs.Words.{IsCount, AreReadable, IsRead, IsReadable, Asks};
 
+use cron_time::zone::zone_of;
 use jiff::Timestamp;
 use jiff::tz::TimeZone;
 
@@ -16,17 +16,6 @@ pub struct Request<'a> {
     pub zone: TimeZone<'a>,
     pub count: u32,
     pub back: bool,
-}
-
-// `UTC`, or a rule text as POSIX has it.
-fn zone_of(word: &str) -> Option<TimeZone<'_>>
-    ensures succeeds { IsSome result ↔ IsZoneWord word.now }
-    ensures value { IfSome result (λ zone. IsZoneOf word.now (plain_zone zone)) }
-{
-    if word == "UTC" {
-        return Some(TimeZone::UTC);
-    }
-    TimeZone::posix(word).ok()
 }
 
 // Digits alone; `parse` lets a plus stand before them.

@@ -1,6 +1,7 @@
 //! What readers answer, as text that stands in a row.
 
 use cron::error::{Error, ErrorKind};
+use cron::time_unit::DaysOfMonth;
 use cron::{Schedule, TimeUnitSpec};
 use std::alloc::{AllocError, Global};
 
@@ -49,13 +50,26 @@ fn add_set<T: TimeUnitSpec>(
     })
 }
 
+/// Writes the set of the days of the month, with an `L` behind the numbered ones where the last day is
+/// marked.
+fn add_days(alloc: Global, text: &mut String, days: &DaysOfMonth) -> Result<(), AllocError> {
+    add_set(alloc, text, days, "1-31")?;
+    if !days.last_day() {
+        return Ok(());
+    }
+    if days.count() > 0 {
+        text.push(',')?;
+    }
+    text.push('L')
+}
+
 /// Writes the seven sets, from the seconds to the years.
 fn sets_text(alloc: Global, schedule: &Schedule) -> Result<String, AllocError> {
     let mut text = String::new(alloc);
     add_set(alloc, &mut text, schedule.seconds(), "0-59")?;
     add_set(alloc, &mut text, schedule.minutes(), "0-59")?;
     add_set(alloc, &mut text, schedule.hours(), "0-23")?;
-    add_set(alloc, &mut text, schedule.days_of_month(), "1-31")?;
+    add_days(alloc, &mut text, schedule.days_of_month())?;
     add_set(alloc, &mut text, schedule.months(), "1-12")?;
     add_set(alloc, &mut text, schedule.days_of_week(), "1-7")?;
     add_set(alloc, &mut text, schedule.years(), "1970-2100")?;

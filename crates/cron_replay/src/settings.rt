@@ -32,18 +32,35 @@ pub(crate) fn case_of(row: &str) -> Result<Case<'_>> {
     })
 }
 
-/// A fixed offset of so many seconds, two cities, UTC, or a POSIX rule.
+/// The rule text of a place, as docs/ZONES.md has it; any other name is a rule text itself.
+fn rule_of(name: &str) -> &str {
+    match name {
+        "Chicago" => "CST6CDT,M3.2.0,M11.1.0",
+        "New York" => "EST5EDT,M3.2.0,M11.1.0",
+        "Los Angeles" => "PST8PDT,M3.2.0,M11.1.0",
+        "São Paulo" => "<-03>3",
+        "London" => "GMT0BST,M3.5.0/1,M10.5.0",
+        "Berlin" => "CET-1CEST,M3.5.0,M10.5.0/3",
+        "Helsinki" => "EET-2EEST,M3.5.0/3,M10.5.0/4",
+        "Kolkata" => "IST-5:30",
+        "Tokyo" => "JST-9",
+        "Sydney" => "AEST-10AEDT,M10.1.0,M4.1.0/3",
+        "Lord Howe" => "<+1030>-10:30<+11>-11,M10.1.0,M4.1.0",
+        "Auckland" => "NZST-12NZDT,M9.5.0,M4.1.0/3",
+        rule => rule,
+    }
+}
+
+/// UTC, a fixed offset of so many seconds, a place, or a POSIX rule.
 pub(crate) fn zone_named(name: &str) -> Result<TimeZone<'static>> {
+    if name == "UTC" {
+        return Ok(TimeZone::UTC);
+    }
     if let Some(seconds) = name.strip_prefix("fixed ") {
         let offset = Offset::from_seconds(seconds.parse::<i32>()?)?;
         return Ok(TimeZone::fixed(offset));
     }
-    match name {
-        "UTC" => Ok(TimeZone::UTC),
-        "Chicago" => Ok(TimeZone::posix("CST6CDT,M3.2.0,M11.1.0")?),
-        "London" => Ok(TimeZone::posix("GMT0BST,M3.5.0/1,M10.5.0")?),
-        rule => Ok(TimeZone::posix(rule)?),
-    }
+    Ok(TimeZone::posix(rule_of(name))?)
 }
 
 /// An instant, or the instant at which a clock of the zone shows a civil datetime.

@@ -1,4 +1,4 @@
-//! Walks and their answers. A row has five parts: the expression; the zone, as `UTC`, a city, `fixed`
+//! Walks and their answers. A row has five parts: the expression; the zone, as `UTC`, a place, `fixed`
 //! and the seconds ahead of UTC, or a rule for the turns of a year; the start; the calls, `>` for the
 //! next item and `<` for the one before; and the answers to these calls.
 //!

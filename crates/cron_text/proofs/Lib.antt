@@ -1,12 +1,14 @@
 pub mod Digits
 pub mod TokenRuns
 pub mod Places
-pub mod Walks
+pub mod FieldStates
 pub mod Growing
 pub mod Longest
 pub mod Trims
 pub mod TextLemmas
 pub mod FieldSets
+pub mod Stars
 pub mod Prefixes
 pub mod MeaningLemmas
 pub mod FilledLemmas
+pub mod EarlierLemmas

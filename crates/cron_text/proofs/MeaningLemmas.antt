@@ -2,24 +2,36 @@
 use Rattle.std.proofs.Common.{◌≡◌, ℕ, Bool, true, false, cond, ◌⊎◌, inl, inr, not, ◌&&◌, if◌then◌else◌, Option, Some, None, List, [], ◌∷◌, ◌++◌, codes, refl, sym, ap, ◌∙◌, subst}
 use Rattle.std.specs.Prelude.{slice_index}
 use Rattle.std.specs.Str.{bytes_eq}
-use Rattle.cron_units.specs.Units.{TimeUnit}
+use Rattle.cron_units.specs.Units.{TimeUnit, FieldSet, unmarked}
 use Rattle.cron_units.specs.Denotation.{Refusal, refusal_of, message}
 use Rattle.cron_text.specs.Fault.{IsRefused, IsFaultOf, TakeSets}
 use Rattle.cron_text.specs.Fields.{Item, IsField}
-use Rattle.cron_text.specs.Inner.FieldReading.{State, first_state, lone_item, walk}
-use Rattle.cron_text.specs.Meaning.{six_units, set_lists, shorthand_of, trimmed_front, trimmed_end, before_rest, IsLonghand, IsShorthand, Means, yearly, monthly, weekly, daily, hourly}
+use Rattle.cron_text.specs.Inner.FieldReading.{FieldState, first_state, lone_item, state_after}
+use Rattle.cron_text.specs.Meaning.{six_units, field_sets, shorthand_of, trimmed_front, trimmed_end, before_rest, IsLonghand, IsShorthand, Means, yearly, monthly, weekly, daily, hourly}
 use Rattle.cron_units.specs.Sets.{Sets}
 use Rattle.cron_text.specs.TextLaws.{MeansOnce, LongestFrontsAgree, HasOneFault}
 use Rattle.cron_text.specs.Tokens.{Token, Symbol, tokens, is_space, in_one_run, after_space, after_byte, after_gap, symbol_of, foreign}
 use Rattle.cron_text.proofs.Longest.{nothing}
 use Rattle.cron_text.proofs.TextLemmas.{sets_once, sets_taken, taken_sets, same_longest, takes_once, not_both}
 use Rattle.cron_text.proofs.TokenRuns.{tokens-cons, skip_more}
-use Rattle.cron_text.proofs.Walks.{field_walk, bound, mapped, some_same}
+use Rattle.cron_text.proofs.FieldStates.{field_states, bound, mapped, some_same}
 use Rattle.std.proofs.lemmas.Slice.Eq.{bytes_eq-Decides}
 
-same_sets : (a b : Sets) → set_lists a ≡ set_lists b → a ≡ b
+same_list : (xs ys : List ℕ) → unmarked xs ≡ unmarked ys → xs ≡ ys
+same_list xs ys h = ap (λ (s : FieldSet). s.ordinals) h
+
+same_sets : (a b : Sets) → field_sets a ≡ field_sets b → a ≡ b
 same_sets a b h =
-    let e : (a.seconds ≡ b.seconds) × (a.minutes ≡ b.minutes) × (a.hours ≡ b.hours) × (a.days_of_month ≡ b.days_of_month) × (a.months ≡ b.months) × (a.days_of_week ≡ b.days_of_week) × (a.years ≡ b.years) = (cc, cc, cc, cc, cc, cc, cc) in
+    let e : (a.seconds ≡ b.seconds) × (a.minutes ≡ b.minutes) × (a.hours ≡ b.hours) × (a.days_of_month ≡ b.days_of_month) × (a.months ≡ b.months)
+    × (a.days_of_week ≡ b.days_of_week) × (a.years ≡ b.years) = (
+      same_list a.seconds b.seconds (cc),
+      same_list a.minutes b.minutes (cc),
+      same_list a.hours b.hours (cc),
+      cc,
+      same_list a.months b.months (cc),
+      same_list a.days_of_week b.days_of_week (cc),
+      same_list a.years b.years (cc),
+    ) in
     rw (e.0, e.1, e.2, e.3, e.4, e.5, e.6) refl
 
 -- ---- a shorthand begins with `@`
@@ -43,7 +55,13 @@ begins_at w s h =
             | inl e ↦ (codes "daily", tested w (codes "@daily") e)
             | inr h ↦ elim (one_test (bytes_eq w (codes "@hourly")) s hourly _ h) [
               | inl e ↦ (codes "hourly", tested w (codes "@hourly") e)
-              | inr h ↦ absurd (cc)
+              | inr h ↦ elim (one_test (bytes_eq w (codes "@annually")) s yearly _ h) [
+                | inl e ↦ (codes "annually", tested w (codes "@annually") e)
+                | inr h ↦ elim (one_test (bytes_eq w (codes "@midnight")) s daily _ h) [
+                  | inl e ↦ (codes "midnight", tested w (codes "@midnight") e)
+                  | inr h ↦ absurd (cc)
+                ]
+              ]
             ]
           ]
         ]
@@ -85,7 +103,8 @@ front_tokens : (text : List ℕ) → (b : Bool) × (tokens text ≡ after_gap b 
 unfolding trimmed_front
 front_tokens [] = (false, refl)
 front_tokens (c ∷ cs) = by_space (is_space c) refl (front_tokens cs) where
-  by_space : (b : Bool) → is_space c ≡ b → ((x : Bool) × (tokens cs ≡ after_gap x (tokens (trimmed_front cs)))) → (x : Bool) × (tokens (c ∷ cs) ≡ after_gap x (tokens (cond b (trimmed_front cs) (c ∷ cs))))
+  by_space : (b : Bool) → is_space c ≡ b → ((x : Bool) × (tokens cs ≡ after_gap x (tokens (trimmed_front cs))))
+      → (x : Bool) × (tokens (c ∷ cs) ≡ after_gap x (tokens (cond b (trimmed_front cs) (c ∷ cs))))
   by_space true e more =
       (true, skip_more false (c ∷ cs) (c ∷ cs) cs c refl refl e ∙ (ap after_space more.1 ∙ after_space_gap more.0 (tokens (trimmed_front cs))))
   by_space false e more = (false, refl)
@@ -94,7 +113,10 @@ front_tokens (c ∷ cs) = by_space (is_space c) refl (front_tokens cs) where
 at_sign : (ts : List Token) → after_byte 64 ts ≡ record { spaced = false; text = 64 ∷ [] } ∷ ts
 at_sign [] = refl
 at_sign (t ∷ ts) = by_spacing t.spaced where
-  by_spacing : (b : Bool) → (if not b && in_one_run 64 (slice_index t.text 0) then record { spaced = false; text = 64 ∷ t.text } ∷ ts else record { spaced = false; text = 64 ∷ [] } ∷ t ∷ ts) ≡ record { spaced = false; text = 64 ∷ [] } ∷ t ∷ ts
+  by_spacing : (b : Bool) → (if not b && in_one_run 64 (slice_index t.text 0) then record {
+    spaced = false;
+    text = 64 ∷ t.text;
+  } ∷ ts else record { spaced = false; text = 64 ∷ [] } ∷ t ∷ ts) ≡ record { spaced = false; text = 64 ∷ [] } ∷ t ∷ ts
   by_spacing true = refl
   by_spacing false = refl
 
@@ -121,18 +143,20 @@ shorthand_foreign text s h =
     record {
       first = record { spaced = t.0; text = 64 ∷ [] };
       more = tokens front.0;
-      is = t.1 ∙ (ap (λ (cs : List ℕ). after_gap t.0 (tokens cs)) front.1 ∙ (ap (after_gap t.0) (tokens-cons 64 front.0 ∙ at_sign (tokens front.0)) ∙ spaced_at t.0 (tokens front.0)));
+      is = t.1 ∙ (ap (λ (cs : List ℕ). after_gap t.0 (tokens cs)) front.1
+          ∙ (ap (after_gap t.0) (tokens-cons 64 front.0 ∙ at_sign (tokens front.0)) ∙ spaced_at t.0 (tokens front.0)));
       foreign_first = foreign_at t.0;
     }
 
 no_lone : (u : TimeUnit) (a : Symbol) (i : Item) → a ≡ foreign → lone_item u a ≡ Some i → ⊥
 no_lone u a i e h = let k : lone_item u foreign ≡ Some i = subst (λ (b : Symbol). lone_item u b ≡ Some i) e h in cc
 
-no_foreign : (u : TimeUnit) (ts front rest : List Token) (items : List Item) (t : Token) (more : List Token) → ts ≡ t ∷ more → symbol_of t ≡ foreign → ts ≡ front ++ rest → IsField u front items → ⊥
+no_foreign : (u : TimeUnit) (ts front rest : List Token) (items : List Item) (t : Token) (more : List Token) → ts ≡ t ∷ more → symbol_of t ≡ foreign
+    → ts ≡ front ++ rest → IsField u front items → ⊥
 no_foreign u ts [] rest items t more is f e h = nothing u items h
 no_foreign u ts (x ∷ front) rest items t more is f e h =
-    let w = field_walk u (x ∷ front) items h in
-    let b = bound (λ (y : State). walk u y front) (first_state u x) w.0 w.1 in
+    let w = field_states u (x ∷ front) items h in
+    let b = bound (λ (y : FieldState). state_after u y front) (first_state u x) w.0 w.1 in
     let m = mapped (λ (i : Item). record { done = []; item = i; last = x }) (lone_item u (symbol_of x)) b.0 b.1 in
     let same : t ≡ x = cc in
     no_lone u (symbol_of x) m.0 (ap symbol_of (sym same) ∙ f) m.1
@@ -143,15 +167,15 @@ not_both_ways text a b h k =
     no_foreign _ (tokens text) h.0 h.1 h.2 f.first f.more f.is f.foreign_first h.3 h.4
 
 pub means_once : MeansOnce
-means_once text a b (inl h) (inl k) = same_sets a b (sets_once six_units (tokens text) (set_lists a) (set_lists b) h k)
+means_once text a b (inl h) (inl k) = same_sets a b (sets_once six_units (tokens text) (field_sets a) (field_sets b) h k)
 means_once text a b (inl h) (inr k) = absurd (not_both_ways text a b h k)
 means_once text a b (inr h) (inl k) = absurd (not_both_ways text b a k h)
 means_once text a b (inr h) (inr k) = some_same a b (sym h ∙ k)
 
 pub fronts_agree : LongestFrontsAgree
-fronts_agree text none = (λ m. taken m.0 m.1, λ t. (t.0, inl (taken_sets six_units (tokens text) (set_lists t.0) t.1))) where
-  taken : (s : Sets) → Means text s → (s : Sets) × TakeSets six_units (tokens text) (set_lists s)
-  taken s (inl h) = (s, sets_taken six_units (tokens text) (set_lists s) h)
+fronts_agree text none = (λ m. taken m.0 m.1, λ t. (t.0, inl (taken_sets six_units (tokens text) (field_sets t.0) t.1))) where
+  taken : (s : Sets) → Means text s → (s : Sets) × TakeSets six_units (tokens text) (field_sets s)
+  taken s (inl h) = (s, sets_taken six_units (tokens text) (field_sets s) h)
   taken s (inr h) = absurd (none s h)
 
 -- ---- one fault
@@ -163,7 +187,8 @@ refused_once : (us : List TimeUnit) (ts : List Token) (a b : List ℕ) → IsRef
 refused_once [] ts a b h k = absurd h
 refused_once (u ∷ us) ts a b (inl h) (inl k) =
     let s = same_longest u ts h.front h.rest k.front k.rest h.items k.items h.longest k.longest in
-    same_message u (refusal_of u k.items) h.refusal k.refusal a b (subst (λ (is : List Item). refusal_of u is ≡ Some h.refusal) s.1 h.first) k.first h.told k.told
+    same_message u (refusal_of u k.items) h.refusal k.refusal a b (subst (λ (is : List Item). refusal_of u is ≡ Some h.refusal) s.1 h.first) k.first
+    h.told k.told
 refused_once (u ∷ us) ts a b (inl h) (inr k) = absurd (not_both u ts k.0 k.1 a h k.2)
 refused_once (u ∷ us) ts a b (inr h) (inl k) = absurd (not_both u ts h.0 h.1 b k h.2)
 refused_once (u ∷ us) ts a b (inr h) (inr k) =

@@ -79,43 +79,56 @@ run_end c d e p q = false_from (in_one_run d e) (λ h. false≢true (sym q ∙ r
 pub run_no_space : (c d : ℕ) → in_one_run c d ≡ true → is_space d ≡ false
 run_no_space c d p = elim (run_cases c d p) [ inl x ↦ digit_no_space d x.1 | inr x ↦ letter_no_space d x.1 ]
 
-lone_grown : (c d : ℕ) (t : Token) (ts : List Token) (b : Bool) → in_one_run c d ≡ false → after_byte c (cond b (record { spaced = false; text = d ∷ t.text } ∷ ts) (record { spaced = false; text = d ∷ [] } ∷ t ∷ ts)) ≡ record { spaced = false; text = c ∷ [] } ∷ cond b (record { spaced = false; text = d ∷ t.text } ∷ ts) (record { spaced = false; text = d ∷ [] } ∷ t ∷ ts)
+lone_grown : (c d : ℕ) (t : Token) (ts : List Token) (b : Bool) → in_one_run c d ≡ false
+    → after_byte c (cond b (record { spaced = false; text = d ∷ t.text } ∷ ts) (record { spaced = false; text = d ∷ [] } ∷ t ∷ ts))
+    ≡ record { spaced = false; text = c ∷ [] } ∷ cond b (record { spaced = false; text = d ∷ t.text } ∷ ts)
+    (record { spaced = false; text = d ∷ [] } ∷ t ∷ ts)
 lone_grown c d t ts true h = rw h refl
 lone_grown c d t ts false h = rw h refl
 
-lone_cases : (c d : ℕ) (ts : List Token) (b : Bool) → in_one_run c d ≡ false → after_byte c (cond b (after_space ts) (after_byte d ts)) ≡ record { spaced = false; text = c ∷ [] } ∷ cond b (after_space ts) (after_byte d ts)
+lone_cases : (c d : ℕ) (ts : List Token) (b : Bool) → in_one_run c d ≡ false
+    → after_byte c (cond b (after_space ts) (after_byte d ts)) ≡ record { spaced = false; text = c ∷ [] } ∷ cond b (after_space ts) (after_byte d ts)
 lone_cases c d [] true h = refl
 lone_cases c d (t ∷ ts) true h = refl
 lone_cases c d [] false h = rw h refl
 lone_cases c d (t ∷ ts) false h = lone_grown c d t ts (not t.spaced && in_one_run d (slice_index t.text 0)) h
 
 -- what begins a rest that doesn't go on with the run of c
-pub lone_before : (c : ℕ) (rest : List ℕ) → (0 < length rest → in_one_run c (get_or rest 0 0) ≡ false) → after_byte c (tokens rest) ≡ record { spaced = false; text = c ∷ [] } ∷ tokens rest
+pub lone_before : (c : ℕ) (rest : List ℕ) → (0 < length rest → in_one_run c (get_or rest 0 0) ≡ false)
+    → after_byte c (tokens rest) ≡ record { spaced = false; text = c ∷ [] } ∷ tokens rest
 lone_before c [] h = rw tokens-nil refl
 lone_before c (d ∷ ds) h = rw tokens-cons (lone_cases c d (tokens ds) (is_space d) (h (omega arith)))
 
 -- a whole run is the first token
-pub run_is_token : (c : ℕ) (bytes : List ℕ) (n : ℕ) → is_space c ≡ false → n ≤ length bytes → ((k : ℕ) → k < n → in_one_run c (get_or bytes k 0) ≡ true) → (n < length bytes → in_one_run c (get_or bytes n 0) ≡ false) → tokens (c ∷ bytes) ≡ record { spaced = false; text = c ∷ take n bytes } ∷ tokens (drop n bytes)
+pub run_is_token : (c : ℕ) (bytes : List ℕ) (n : ℕ) → is_space c ≡ false → n ≤ length bytes → ((k : ℕ) → k < n → in_one_run c (get_or bytes k 0) ≡ true)
+    → (n < length bytes → in_one_run c (get_or bytes n 0) ≡ false)
+    → tokens (c ∷ bytes) ≡ record { spaced = false; text = c ∷ take n bytes } ∷ tokens (drop n bytes)
 run_is_token c bytes zero s w b e = tokens-cons c bytes ∙ rw s (lone_before c bytes (λ h. e h))
 run_is_token c [] (suc n) s w b e = absurd (omega arith)
 run_is_token c (d ∷ ds) (suc n) s w b e =
     let joined : in_one_run c d ≡ true = b 0 (omega arith) in
     let again : tokens (d ∷ ds) ≡ record { spaced = false; text = d ∷ take n ds } ∷ tokens (drop n ds) =
-    run_is_token d ds n (run_no_space c d joined) (omega arith) (λ k h. run_trans c d (get_or ds k 0) joined (b (suc k) (omega arith))) (λ h. run_end c d (get_or ds n 0) joined (e (omega arith))) in
+    run_is_token d ds n (run_no_space c d joined) (omega arith) (λ k h. run_trans c d (get_or ds k 0) joined (b (suc k) (omega arith)))
+    (λ h. run_end c d (get_or ds n 0) joined (e (omega arith))) in
     tokens-cons c (d ∷ ds) ∙ rw (s, again, joined) refl
 
-pub skip_more : (b : Bool) (whole rest others : List ℕ) (c : ℕ) → tokens whole ≡ after_gap b (tokens rest) → rest ≡ c ∷ others → is_space c ≡ true → tokens whole ≡ after_space (tokens others)
+pub skip_more : (b : Bool) (whole rest others : List ℕ) (c : ℕ) → tokens whole ≡ after_gap b (tokens rest) → rest ≡ c ∷ others → is_space c ≡ true
+    → tokens whole ≡ after_space (tokens others)
 skip_more b whole rest others c h e s = h ∙ rw (e, tokens-cons, s) (after_gap-space b (tokens others))
 
-gap_front : (b : Bool) (c : ℕ) (others : List ℕ) (ts : List Token) → after_gap b (record { spaced = false; text = c ∷ others } ∷ ts) ≡ record { spaced = b; text = c ∷ others } ∷ ts
+gap_front : (b : Bool) (c : ℕ) (others : List ℕ) (ts : List Token)
+    → after_gap b (record { spaced = false; text = c ∷ others } ∷ ts) ≡ record { spaced = b; text = c ∷ others } ∷ ts
 gap_front true c others ts = refl
 gap_front false c others ts = refl
 
 -- the first token of a text that begins with white space or doesn't, by where its run ends
-pub first_token : (text rest others : List ℕ) (b : Bool) (c n : ℕ) → tokens text ≡ after_gap b (tokens rest) → BeginsNoSpace rest → rest ≡ c ∷ others → n ≤ length others → ((k : ℕ) → k < n → in_one_run c (get_or others k 0) ≡ true) → (n < length others → in_one_run c (get_or others n 0) ≡ false) → tokens text ≡ record { spaced = b; text = c ∷ take n others } ∷ tokens (drop n others)
+pub first_token : (text rest others : List ℕ) (b : Bool) (c n : ℕ) → tokens text ≡ after_gap b (tokens rest) → BeginsNoSpace rest → rest ≡ c ∷ others
+    → n ≤ length others → ((k : ℕ) → k < n → in_one_run c (get_or others k 0) ≡ true) → (n < length others → in_one_run c (get_or others n 0) ≡ false)
+    → tokens text ≡ record { spaced = b; text = c ∷ take n others } ∷ tokens (drop n others)
 first_token text rest others b c n same front is within before end =
     let no_space : is_space c ≡ false = subst BeginsNoSpace is front in
-    same ∙ (ap (λ bytes. after_gap b (tokens bytes)) is ∙ (ap (after_gap b) (run_is_token c others n no_space within before end) ∙ gap_front b c (take n others) (tokens (drop n others))))
+    same ∙ (ap (λ bytes. after_gap b (tokens bytes)) is ∙ (ap (after_gap b) (run_is_token c others n no_space within before end)
+    ∙ gap_front b c (take n others) (tokens (drop n others))))
 
 -- only white space
 pub no_token : (text rest : List ℕ) (b : Bool) → tokens text ≡ after_gap b (tokens rest) → length rest ≡ 0 → tokens text ≡ []

@@ -1,6 +1,6 @@
 -- The fault that is told of a text that means nothing.
 use Rattle.std.specs.Prelude.{◌≡◌, ℕ, List, [], ◌∷◌, ◌++◌, ◌⊎◌, Some, codes}
-use Rattle.cron_units.specs.Units.{TimeUnit}
+use Rattle.cron_units.specs.Units.{TimeUnit, FieldSet}
 use Rattle.cron_units.specs.Denotation.{Refusal, refusal_of, message, Denotes}
 use Rattle.cron_text.specs.Fields.{Item, IsField}
 use Rattle.cron_text.specs.Meaning.{six_units, DenoteYears, MeansNothing}
@@ -17,7 +17,7 @@ abbrev pub NoField : TimeUnit → List Token → Type 0
 NoField u ts = (front rest : List Token) (items : List Item) → ts ≡ front ++ rest → IsField u front items → ⊥
 
 -- the longest field at the front denotes this set, and this is the rest after it
-pub record TakesField (u : TimeUnit) (ts : List Token) (xs : List ℕ) (rest : List Token) : Type 0 where
+pub record TakesField (u : TimeUnit) (ts : List Token) (xs : FieldSet) (rest : List Token) : Type 0 where
   pub front : List Token
   pub items : List Item
   pub longest : IsLongestField u ts front rest items
@@ -37,7 +37,7 @@ pub record RefusesField (u : TimeUnit) (ts : List Token) (text : List ℕ) : Typ
 abbrev pub IsRefused : List TimeUnit → List Token → List ℕ → Type 0
 IsRefused [] ts text = ⊥
 IsRefused (u ∷ us) ts text =
-    RefusesField u ts text ⊎ ((xs : List ℕ) × (rest : List Token) × TakesField u ts xs rest × IsRefused us rest text)
+    RefusesField u ts text ⊎ ((xs : FieldSet) × (rest : List Token) × TakesField u ts xs rest × IsRefused us rest text)
 
 -- what a text is told that can't be read, or whose seventh field is refused
 abbrev pub syntax_text : List ℕ
@@ -58,7 +58,7 @@ pub record IsRefusal (text fault : List ℕ) : Type 0 where
   pub told : IsFault text fault
 
 -- Longest fronts take all tokens: six fields that denote these sets, and then years or nothing.
-abbrev pub TakeSets : List TimeUnit → List Token → List (List ℕ) → Type 0
+abbrev pub TakeSets : List TimeUnit → List Token → List FieldSet → Type 0
 TakeSets [] ts (xs ∷ []) = DenoteYears ts xs
 TakeSets (u ∷ us) ts (xs ∷ xss) = (rest : List Token) × TakesField u ts xs rest × TakeSets us rest xss
 TakeSets _ ts _ = ⊥

@@ -5,10 +5,14 @@ ghost use Rattle.cron_text.specs.FaultText.{fault_text};
 ghost use Rattle.cron_units.specs.Texts.{Tells};
 
 use cron_units::error::Error;
-use cron_units::specifier::{RefusedItem, refused, told};
+use cron_units::specifier::{RefusedItem, refused, text_error};
 use std::alloc::Global;
+use std::fmt;
 
-/// Why a text means nothing. It borrows words of the text.
+// What is told of a text that can't be read.
+const SYNTAX: &str = "Invalid cron expression.";
+
+/// Why a text means nothing. It borrows words of the text, and prints the message.
 #[derive(Clone, Copy)]
 pub enum Fault<'a> {
     /// The text can't be read, or its seventh field is refused.
@@ -17,12 +21,26 @@ pub enum Fault<'a> {
     Refused(RefusedItem<'a>),
 }
 
+impl<'a> fmt::Display for Fault<'a> {
+    ghost use Rattle.std.specs.Prelude.{Some};
+    ghost use Rattle.cron_text.specs.FaultText.{fault_text};
+
+    ghost output = { λ f. Some (fault_text f) };
+
+    fn fmt<W: fmt::Write>(&self, f: &mut fmt::Formatter<W>) -> fmt::Result {
+        match self {
+            Fault::Syntax => write!(f, "{SYNTAX}"),
+            Fault::Refused(item) => write!(f, "{item}"),
+        }
+    }
+}
+
 /// Makes the error that tells a fault.
 pub fn fault_error(alloc: Global, fault: Fault<'_>) -> Error
     ensures { Tells (λ text. text ≡ fault_text fault.entry) result }
 {
     match fault {
-        Fault::Syntax => told(alloc, "Invalid cron expression."),
+        Fault::Syntax => text_error(alloc, SYNTAX),
         Fault::Refused(item) => refused(alloc, item),
     }
 }

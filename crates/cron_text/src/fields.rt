@@ -12,14 +12,14 @@ ghost use Rattle.cron_text.specs.Inner.Places.{IsPlace, tokens_from, IsConnector
 ghost use Rattle.cron_text.specs.Inner.Views.{symbol_view, connector_view, state_view, after_growth};
 ghost use Rattle.cron_text.specs.Inner.Faults.{IsUnread, TellsItem};
 ghost use Rattle.cron_units.specs.Denotation as denotation;
-ghost use Rattle.cron_units.specs.Denotation.{in_steps, steps_of};
-ghost use Rattle.cron_units.specs.Units.{contains, set_of};
+ghost use Rattle.cron_units.specs.Denotation.{denoted_by, in_denoted, is_last_day};
+ghost use Rattle.cron_units.specs.Units.{contains, set_of, with_mark};
 
 use super::faults::Fault;
 use super::items::{lone_item, with_end, with_step};
-use super::symbols::{Symbol, token_at};
+use super::symbols::{Symbol, lone_star_at, token_at};
 use super::tokens::{Place, skip_space};
-use cron_units::specifier::{Item, RefusedItem, add_item};
+use cron_units::specifier::{Base, Item, RefusedItem, add_item};
 use cron_units::time_unit::{TimeUnitField, empty};
 
 /// A sign between two tokens of a field.
@@ -122,8 +122,10 @@ fn more_at<'a, T: TimeUnitField>(
 /// Adds what an item denotes to the set of a field.
 #[inline(always)]
 fn add_to<'a, T: TimeUnitField>(set: &mut T, item: Item<'a>) -> Result<(), Fault<'a>>
-    ensures ok { OnOk result ((s : denotation.Steps) × (steps_of T.unit (item_view item.entry) ≡ Ok s) × (T.members set.new ≡ set_of T.unit (λ x. contains (T.members set.old) x || in_steps s x))) }
-    ensures err { IfErr result (TellsItem T.unit (steps_of T.unit (item_view item.entry))) }
+    ensures ok { OnOk result ((d : denotation.Denoted) × (denoted_by T.unit (item_view item.entry) ≡ Ok d)
+        × (T.members set.new ≡ set_of T.unit (λ x. contains (T.members set.old) x || in_denoted d x))
+        × (T.marked set.new ≡ (T.marked set.old || is_last_day d))) }
+    ensures err { IfErr result (TellsItem T.unit (denoted_by T.unit (item_view item.entry))) }
 {
     match add_item::<T>(set, item) {
         Ok(()) => Ok(()),
@@ -134,15 +136,34 @@ fn add_to<'a, T: TimeUnitField>(set: &mut T, item: Item<'a>) -> Result<(), Fault
     }
 }
 
-/// Reads the longest field at a place into a set, and goes to the place after it.
+/// Reads a field that is one star into a set, and finds the place after it. Most fields are such a star,
+/// and no token is made for it.
 #[inline(always)]
-pub fn read_field<'a, T: TimeUnitField>(
+fn read_star<T: TimeUnitField>(text: &str, place: Place, set: &mut T) -> Option<Place>
+    requires { IsPlace text.now place }
+    ensures taken { IfSome result (λ after. TakesField T.unit (tokens_from text.now place) (with_mark (T.members set.new) (T.marked set.new)) (tokens_from text.now after)) }
+    ensures place { IfSome result (IsPlace text.now) }
+{
+    let behind = lone_star_at(text.as_bytes(), place)?;
+    let mut all: T = empty();
+    match add_item::<T>(&mut all, Item::Plain(Base::Every)) {
+        Ok(()) => {
+            *set = all;
+            Some(behind)
+        }
+        Err(_) => None,
+    }
+}
+
+/// Reads the longest field at a place item by item.
+#[inline(always)]
+fn read_items<'a, T: TimeUnitField>(
     text: &'a str,
     place: &mut Place,
     set: &mut T,
 ) -> Result<(), Fault<'a>>
     requires { IsPlace text.now place.old }
-    ensures taken { OnOk result (TakesField T.unit (tokens_from text.now place.old) (T.members set.new) (tokens_from text.now place.new)) }
+    ensures taken { OnOk result (TakesField T.unit (tokens_from text.now place.old) (with_mark (T.members set.new) (T.marked set.new)) (tokens_from text.now place.new)) }
     ensures place { OnOk result (IsPlace text.now place.new) }
     ensures refused { IfErr result (IsUnread T.unit (tokens_from text.now place.old)) }
 {
@@ -171,4 +192,23 @@ pub fn read_field<'a, T: TimeUnitField>(
     *place = next;
     *set = joined;
     Ok(())
+}
+
+/// Reads the longest field at a place into a set, and goes to the place after it.
+#[inline(always)]
+pub fn read_field<'a, T: TimeUnitField>(
+    text: &'a str,
+    place: &mut Place,
+    set: &mut T,
+) -> Result<(), Fault<'a>>
+    requires { IsPlace text.now place.old }
+    ensures taken { OnOk result (TakesField T.unit (tokens_from text.now place.old) (with_mark (T.members set.new) (T.marked set.new)) (tokens_from text.now place.new)) }
+    ensures place { OnOk result (IsPlace text.now place.new) }
+    ensures refused { IfErr result (IsUnread T.unit (tokens_from text.now place.old)) }
+{
+    if let Some(behind) = read_star(text, *place, set) {
+        *place = behind;
+        return Ok(());
+    }
+    read_items(text, place, set)
 }

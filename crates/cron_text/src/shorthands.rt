@@ -76,5 +76,11 @@ pub fn shorthand_named(word: &[u8]) -> Option<ScheduleFields>
     if word == b"@hourly".as_slice() {
         return Some(hourly());
     }
+    if word == b"@annually".as_slice() {
+        return Some(yearly());
+    }
+    if word == b"@midnight".as_slice() {
+        return Some(daily());
+    }
     None
 }

@@ -5,7 +5,7 @@ ghost use Rattle.std.specs.List.{list_all};
 ghost use Rattle.std.specs.Option.{SomeIff};
 ghost use Rattle.std.specs.Str.Parse.{digits_value};
 ghost use Rattle.cron_text.specs.Tokens.{is_digit, is_letter, is_space, sign_of};
-ghost use Rattle.cron_text.specs.Inner.Places.{IsPlace, tokens_from, IsTokenAt, IsRead};
+ghost use Rattle.cron_text.specs.Inner.Places.{IsPlace, tokens_from, IsTokenAt, IsRead, IsLoneStar};
 ghost use Rattle.cron_text.specs.Inner.Views.{symbol_view};
 
 use super::tokens::{Place, digits_end, is_digit, is_letter, letters_end, skip_space};
@@ -115,4 +115,27 @@ pub fn token_at(text: &str, place: Place) -> Option<(Token<'_>, Place)>
     let (symbol, end) = symbol_at(text, place.at);
     let spaced = place.spaced;
     Some((Token { spaced, symbol }, skip_space(text.as_bytes(), end)))
+}
+
+/// The place behind a star that no connector goes on with: white space stands behind it, or nothing.
+#[inline(always)]
+pub fn lone_star_at(text: &[u8], place: Place) -> Option<Place>
+    requires { IsPlace text.now place }
+    ensures star { IfSome result (IsLoneStar text.now place) }
+    ensures place { IfSome result (IsPlace text.now) }
+{
+    if place.at >= text.len() {
+        return None;
+    }
+    if text[place.at] != b'*' {
+        return None;
+    }
+    let after = skip_space(text, place.at + 1);
+    if after.spaced {
+        return Some(after);
+    }
+    if after.at >= text.len() {
+        return Some(after);
+    }
+    None
 }

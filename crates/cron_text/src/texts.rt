@@ -5,7 +5,8 @@ ghost use Rattle.cron_text.specs.Fault.{IsRefusal};
 ghost use Rattle.cron_text.specs.FaultText.{fault_text};
 ghost use Rattle.cron_text.specs.Inner.Places.{IsPlace, tokens_from};
 ghost use Rattle.cron_text.specs.Inner.TextReading.{IsRefusalOf};
-ghost use Rattle.cron_text.specs.Meaning.{DenoteYears, DenoteSets, Means, six_units, set_lists, shorthand_of, trimmed_end};
+ghost use Rattle.cron_units.specs.Units.{unmarked};
+ghost use Rattle.cron_text.specs.Meaning.{DenoteYears, DenoteSets, Means, six_units, field_sets, shorthand_of, trimmed_end};
 
 use super::faults::Fault;
 use super::fields::read_field;
@@ -32,7 +33,7 @@ fn shorthand_at(text: &[u8], at: usize) -> Option<ScheduleFields>
 /// has no message of its own.
 fn read_years<'a>(text: &'a str, start: Place, years: &mut Years) -> Result<(), Fault<'a>>
     requires { IsPlace text.now start }
-    ensures years { OnOk result (DenoteYears (tokens_from text.now start) years.new) }
+    ensures years { OnOk result (DenoteYears (tokens_from text.now start) (unmarked years.new)) }
     ensures refused { IfErr result (λ fault. IsRefusalOf [] (tokens_from text.now start) (fault_text fault)) }
 {
     if start.at >= text.len() {
@@ -66,7 +67,7 @@ fn no_ordinals() -> ScheduleFields {
 /// Reads six fields, and years or none.
 fn longhand(text: &str, start: Place) -> Result<ScheduleFields, Fault<'_>>
     requires { IsPlace text.now start }
-    ensures sets { IfOk result (λ fields. DenoteSets six_units (tokens_from text.now start) (set_lists fields)) }
+    ensures sets { IfOk result (λ fields. DenoteSets six_units (tokens_from text.now start) (field_sets fields)) }
     ensures refused { IfErr result (λ fault. IsRefusalOf six_units (tokens_from text.now start) (fault_text fault)) }
 {
     let mut place = start;

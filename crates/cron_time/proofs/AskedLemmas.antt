@@ -7,7 +7,7 @@ use Rattle.cron_units.specs.declared.way.Way.TheVariants.{Ahead, Back}
 use Rattle.cron_units.specs.Nearest.{LiesFrom}
 use Rattle.cron_time.specs.Inner.Blocks.{AllFail}
 use Rattle.cron_time.specs.Inner.Filled.{HasOne}
-use Rattle.cron_time.specs.Inner.Inquired.{Inquired, one_conversion, one_day, IsSame, LooksAlone, Asks, AsksFor, outermost}
+use Rattle.cron_time.specs.Inner.Inquired.{Inquired, one_conversion, one_day, IsSame, LooksAlone, Asks, AsksFor, AsksPast, outermost}
 use Rattle.cron_time.proofs.BlockLemmas.{div_of, mod_of}
 
 -- a single unit asks once
@@ -29,21 +29,21 @@ pub asked_none : (parts a b c : ℕ) → Asks 1 a b → AsksFor parts None b c �
 asked_none parts a b c h i =
     let m = i.is_count in record { count = 1 + i.count; asks = asks_on 1 i.count a b c h i.asks; is_count = (omega (arith, m), omega (arith, m)) }
 
--- the same, and the outer unit once more
-asked_again : (parts a b c d : ℕ) → Asks 1 a b → (i : AsksFor parts None b c) → Asks 1 c d → Asks (1 + i.count + 1) a d
-asked_again parts a b c d h i j = asks_on (1 + i.count) 1 a c d (asks_on 1 i.count a b c h i.asks) j
-
-pub asked_end : (parts a b c d : ℕ) → Asks 1 a b → AsksFor parts None b c → Asks 1 c d → AsksFor (parts + 1) None a d
-asked_end parts a b c d h i j =
-    let m = i.is_count in
-    record { count = 1 + i.count + 1; asks = asked_again parts a b c d h i j; is_count = (omega (arith, m), omega (arith, m)) }
-
-pub asked_next : (parts k a b c d e : ℕ) → Asks 1 a b → AsksFor parts None b c → Asks 1 c d → Asks parts d e → AsksFor (parts + 1) (Some k) a e
-asked_next parts k a b c d e h i j l =
+-- the same, and then past the block of the outer number
+pub asked_past : (parts : ℕ) (found : Option ℕ) (a b c d : ℕ) → Asks 1 a b → AsksFor parts None b c → AsksPast parts found c d → AsksFor (parts + 1) found a d
+asked_past parts None a b c d h i (inl e) = rw e (asked_none parts a b c h i)
+asked_past parts None a b c d h i (inr j) =
     let m = i.is_count in
     record {
-      count = 1 + i.count + 1 + parts;
-      asks = asks_on (1 + i.count + 1) parts a d e (asked_again parts a b c d h i j) l;
+      count = 1 + i.count + 1;
+      asks = asks_on (1 + i.count) 1 a c d (asks_on 1 i.count a b c h i.asks) j;
+      is_count = (omega (arith, m), omega (arith, m));
+    }
+asked_past parts (Some k) a b c d h i j =
+    let m = i.is_count in
+    record {
+      count = 1 + i.count + (1 + parts);
+      asks = asks_on (1 + i.count) (1 + parts) a c d (asks_on 1 i.count a b c h i.asks) j;
       is_count = (omega (arith, m), omega (arith, m));
     }
 
@@ -57,7 +57,8 @@ outermost_finds way limit test one none =
     absurd (both_ways (test one.0) (none one.0 (lies_outermost way limit one.0 one.1)) one.2)
 
 -- the parts of the outermost number are outermost
-pub outermost_parts : (way : Way) (limit w : ℕ) → 0 < limit → 0 < w → (outermost way (limit * w) / w ≡ outermost way limit) × (outermost way (limit * w) % w ≡ outermost way w)
+pub outermost_parts : (way : Way) (limit w : ℕ) → 0 < limit → 0 < w
+    → (outermost way (limit * w) / w ≡ outermost way limit) × (outermost way (limit * w) % w ≡ outermost way w)
 outermost_parts Ahead limit w positive wide =
     let e : 0 * w + 0 ≡ 0 = omega arith in
     let P : ℕ → Type 0 = λ n. n / w ≡ 0 in
@@ -70,7 +71,8 @@ outermost_parts Back limit w positive wide =
     (rw e (div_of w (limit - 1) (w - 1) (omega arith)), rw e (mod_of w (limit - 1) (w - 1) (omega arith)))
 
 -- from there on the inner numbers are entered at their outermost
-pub start_outermost : (way : Way) (limit w from start : ℕ) → 0 < limit → 0 < w → from ≡ outermost way (limit * w) → (start ≡ from % w) ⊎ (start ≡ outermost way w) → start ≡ outermost way w
+pub start_outermost : (way : Way) (limit w from start : ℕ) → 0 < limit → 0 < w → from ≡ outermost way (limit * w)
+    → (start ≡ from % w) ⊎ (start ≡ outermost way w) → start ≡ outermost way w
 start_outermost way limit w from start positive wide at (inl e) = e ∙ ap (λ n. n % w) at ∙ (outermost_parts way limit w positive wide).1
 start_outermost way limit w from start positive wide at (inr e) = e
 

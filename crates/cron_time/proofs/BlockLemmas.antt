@@ -19,31 +19,36 @@ mod_of w m r h = let q = div_of w m r h in
     let e : (m * w + r) / w * w ≡ m * w = rw q refl in omega (arith, div-add-mod' (m * w + r) w, e)
 
 -- the blocks of the numbers that lie from the start lie from the first one
-abbrev pub Starts : Way → ℕ → ℤ → ℤ → Type 0
-Starts way w start first = (n : ℕ) → LiesFrom way start n → LiesFrom way first (n / w)
+abbrev pub BlocksLieFrom : Way → ℕ → ℤ → ℤ → Type 0
+BlocksLieFrom way w start first = (n : ℕ) → LiesFrom way start n → LiesFrom way first (n / w)
 
 -- the first block that passes
-pub reach_first : (way : Way) (w : ℕ) (outer test : ℕ → Bool) (start first : ℤ) (m : ℕ) → ((n : ℕ) → outer (n / w) ≡ false → test n ≡ false) → Starts way w start first → IsNearestAt way outer first m → Reaches way w outer test start first m
+pub reach_first : (way : Way) (w : ℕ) (outer test : ℕ → Bool) (start first : ℤ) (m : ℕ) → ((n : ℕ) → outer (n / w) ≡ false → test n ≡ false)
+    → BlocksLieFrom way w start first → IsNearestAt way outer first m → Reaches way w outer test start first m
 reach_first way w outer test start first m fails starts h = record {
   block = h.passes;
   lies = h.lies;
   failed = λ n lies before_m. fails n (h.nearest (n / w) (starts n lies) before_m);
 }
 
-pub reach_none : (way : Way) (w : ℕ) (outer test : ℕ → Bool) (start first : ℤ) → ((n : ℕ) → outer (n / w) ≡ false → test n ≡ false) → Starts way w start first → AllFail way outer first → AllFail way test start
+pub reach_none : (way : Way) (w : ℕ) (outer test : ℕ → Bool) (start first : ℤ) → ((n : ℕ) → outer (n / w) ≡ false → test n ≡ false)
+    → BlocksLieFrom way w start first → AllFail way outer first → AllFail way test start
 reach_none way w outer test start first fails starts h n lies = fails n (h (n / w) (starts n lies))
 
 -- nothing in the block m passes
 abbrev pub BlockFails : Way → ℕ → (ℕ → Bool) → ℤ → ℕ → Type 0
 BlockFails way w test start m = (n : ℕ) → LiesFrom way start n → n / w ≡ m → test n ≡ false
 
-pub block_fails : (way : Way) (w : ℕ) (outer : ℕ → Bool) (inner : ℕ → ℕ → Bool) (test : ℕ → Bool) (start : ℤ) (m s : ℕ) → IsSplit w outer inner test → Enters way w start m s → AllFail way (inner m) (pos s) → BlockFails way w test start m
+pub block_fails : (way : Way) (w : ℕ) (outer : ℕ → Bool) (inner : ℕ → ℕ → Bool) (test : ℕ → Bool) (start : ℤ) (m s : ℕ) → IsSplit w outer inner test
+    → Enters way w start m s → AllFail way (inner m) (pos s) → BlockFails way w test start m
 block_fails way w outer inner test start m s split enters h n lies e =
     let P : ℕ → Type 0 = λ b. inner b (n % w) ≡ false in
     split.rest_fails n (subst P (sym e) (h (n % w) (enters.into n lies e)))
 
 -- the next block that passes
-pub reach_next : (way : Way) (w : ℕ) (outer test : ℕ → Bool) (start first : ℤ) (m next : ℕ) → ((n : ℕ) → outer (n / w) ≡ false → test n ≡ false) → Reaches way w outer test start first m → BlockFails way w test start m → IsNearestAt way outer (beyond way m) next → Reaches way w outer test start first next
+pub reach_next : (way : Way) (w : ℕ) (outer test : ℕ → Bool) (start first : ℤ) (m next : ℕ) → ((n : ℕ) → outer (n / w) ≡ false → test n ≡ false)
+    → Reaches way w outer test start first m → BlockFails way w test start m → IsNearestAt way outer (beyond way m) next
+    → Reaches way w outer test start first next
 reach_next way w outer test start first m next fails reached here h = record {
   block = h.passes;
   lies = lies_past way first m next reached.lies h.lies;
@@ -54,7 +59,8 @@ reach_next way w outer test start first m next fails reached here h = record {
   ];
 }
 
-pub reach_end : (way : Way) (w : ℕ) (outer test : ℕ → Bool) (start first : ℤ) (m : ℕ) → ((n : ℕ) → outer (n / w) ≡ false → test n ≡ false) → Reaches way w outer test start first m → BlockFails way w test start m → AllFail way outer (beyond way m) → AllFail way test start
+pub reach_end : (way : Way) (w : ℕ) (outer test : ℕ → Bool) (start first : ℤ) (m : ℕ) → ((n : ℕ) → outer (n / w) ≡ false → test n ≡ false)
+    → Reaches way w outer test start first m → BlockFails way w test start m → AllFail way outer (beyond way m) → AllFail way test start
 reach_end way w outer test start first m fails reached here h n lies =
     elim (side way m (n / w)) [
       | before lt ↦ reached.failed n lies lt
@@ -63,7 +69,7 @@ reach_end way w outer test start first m fails reached here h n lies =
     ]
 
 -- what precedes a number of the block m lies in a block before, or before it in the block
-precedes_split : (way : Way) (w m r n : ℕ) → r < w → Precedes way n (m * w + r) → Precedes way (n / w) m ⊎ ((n / w ≡ m) × Precedes way (n % w) r)
+pub precedes_split : (way : Way) (w m r n : ℕ) → r < w → Precedes way n (m * w + r) → Precedes way (n / w) m ⊎ ((n / w ≡ m) × Precedes way (n % w) r)
 precedes_split Ahead w m r n h lt =
     elim (side Ahead m (n / w)) [
       | before b ↦ inl b
@@ -78,7 +84,9 @@ precedes_split Back w m r n h gt =
     ]
 
 -- what the search of the block m finds is the nearest number of all
-pub block_found : (way : Way) (w : ℕ) (outer : ℕ → Bool) (inner : ℕ → ℕ → Bool) (test : ℕ → Bool) (start first : ℤ) (m s r : ℕ) → IsSplit w outer inner test → Reaches way w outer test start first m → Enters way w start m s → r < w → IsNearestAt way (inner m) (pos s) r → IsNearestAt way test start (m * w + r)
+pub block_found : (way : Way) (w : ℕ) (outer : ℕ → Bool) (inner : ℕ → ℕ → Bool) (test : ℕ → Bool) (start first : ℤ) (m s r : ℕ)
+    → IsSplit w outer inner test → Reaches way w outer test start first m → Enters way w start m s → r < w → IsNearestAt way (inner m) (pos s) r
+    → IsNearestAt way test start (m * w + r)
 block_found way w outer inner test start first m s r split reached enters h found = record {
   passes = split.passes m r h reached.block found.passes;
   lies = enters.out r h found.lies;
@@ -114,7 +122,7 @@ enters_later way w a b m s positive h past extreme = record {
 }
 
 -- the blocks of the numbers from a start lie from the start's block
-pub starts_at : (way : Way) (w a b : ℕ) → 0 < w → b < w → Starts way w (pos (a * w + b)) (pos a)
+pub starts_at : (way : Way) (w a b : ℕ) → 0 < w → b < w → BlocksLieFrom way w (pos (a * w + b)) (pos a)
 starts_at way w a b positive h n lies =
     let P : ℕ → Type 0 = λ k. LiesFrom way (pos k) (n / w) in
     subst P (div_of w a b h) (lies_div way w (a * w + b) n positive lies)
@@ -129,7 +137,8 @@ first_or_later way a m lies =
     ]
 
 -- a test that is true where the block's and the rest's tests are
-pub both_split : (w : ℕ) (outer : ℕ → Bool) (inner : ℕ → ℕ → Bool) (test : ℕ → Bool) → ((n : ℕ) → test n ≡ (outer (n / w) && inner (n / w) (n % w))) → IsSplit w outer inner test
+pub both_split : (w : ℕ) (outer : ℕ → Bool) (inner : ℕ → ℕ → Bool) (test : ℕ → Bool) → ((n : ℕ) → test n ≡ (outer (n / w) && inner (n / w) (n % w)))
+    → IsSplit w outer inner test
 both_split w outer inner test e = record {
   block_fails = λ n h. e n ∙ and_left (outer (n / w)) (inner (n / w) (n % w)) h;
   rest_fails = λ n h. e n ∙ and_right (outer (n / w)) (inner (n / w) (n % w)) h;
@@ -137,11 +146,14 @@ both_split w outer inner test e = record {
 }
 
 -- the same of what a search for blocks answers
-pub reach_start : (way : Way) (w : ℕ) (outer test : ℕ → Bool) (start first : ℤ) (next : Option ℕ) → ((n : ℕ) → outer (n / w) ≡ false → test n ≡ false) → Starts way w start first → IsNearest way outer first next → ReachesIfAny way w outer test start first next
+pub reach_start : (way : Way) (w : ℕ) (outer test : ℕ → Bool) (start first : ℤ) (next : Option ℕ) → ((n : ℕ) → outer (n / w) ≡ false → test n ≡ false)
+    → BlocksLieFrom way w start first → IsNearest way outer first next → ReachesIfAny way w outer test start first next
 reach_start way w outer test start first None fails starts h = reach_none way w outer test start first fails starts h
 reach_start way w outer test start first (Some m) fails starts h = reach_first way w outer test start first m fails starts h
 
-pub reach_on : (way : Way) (w : ℕ) (outer test : ℕ → Bool) (start first : ℤ) (m : ℕ) (next : Option ℕ) → ((n : ℕ) → outer (n / w) ≡ false → test n ≡ false) → Reaches way w outer test start first m → BlockFails way w test start m → IsNearest way outer (beyond way m) next → ReachesIfAny way w outer test start first next
+pub reach_on : (way : Way) (w : ℕ) (outer test : ℕ → Bool) (start first : ℤ) (m : ℕ) (next : Option ℕ)
+    → ((n : ℕ) → outer (n / w) ≡ false → test n ≡ false) → Reaches way w outer test start first m → BlockFails way w test start m
+    → IsNearest way outer (beyond way m) next → ReachesIfAny way w outer test start first next
 reach_on way w outer test start first m None fails reached here h = reach_end way w outer test start first m fails reached here h
 reach_on way w outer test start first m (Some next) fails reached here h = reach_next way w outer test start first m next fails reached here h
 
@@ -149,7 +161,7 @@ reach_on way w outer test start first m (Some next) fails reached here h = reach
 one_each : (n : ℕ) → n / 1 ≡ n
 one_each n = omega arith
 
-pub starts_each : (way : Way) (start : ℤ) → Starts way 1 start start
+pub starts_each : (way : Way) (start : ℤ) → BlocksLieFrom way 1 start start
 starts_each way start n lies = let P : ℕ → Type 0 = LiesFrom way start in subst P (sym (one_each n)) lies
 
 pub fails_each : (outer test : ℕ → Bool) → ((n : ℕ) → outer n ≡ false → test n ≡ false) → (n : ℕ) → outer (n / 1) ≡ false → test n ≡ false

@@ -36,7 +36,8 @@ pub is_civil : (dt : DateTime) (c : ℕ) → c < 2 ^ 32 → civil_nanos dt ≡ p
 is_civil dt c h e = same_datetime dt (civil c) (e ∙ sym (civil_nanos-civil c h))
 
 -- so is one with its day's date and its seconds since midnight
-pub is_civil_of : (dt : DateTime) (c : ℕ) → c < 2 ^ 32 → dt.date ≡ (date_numbered (c / 86_400)).0 → time_seconds dt.time ≡ c % 86_400 → dt.time.subsec_nanosecond ≡ 0 → dt ≡ civil c
+pub is_civil_of : (dt : DateTime) (c : ℕ) → c < 2 ^ 32 → dt.date ≡ (date_numbered (c / 86_400)).0 → time_seconds dt.time ≡ c % 86_400
+    → dt.time.subsec_nanosecond ≡ 0 → dt ≡ civil c
 unfolding civil_seconds
 is_civil_of dt c h date time whole =
     let day : epoch_day dt.date ≡ pos (c / 86_400) = rw date ((date_numbered (c / 86_400)).1 (omega arith)) in

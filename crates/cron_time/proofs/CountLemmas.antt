@@ -27,9 +27,11 @@ use Rattle.cron_time.proofs.TallyLemmas.{kind_bound, kind_same, kind_one, kind_j
 -- the numbers from a start to an answer are those of the stretch
 Within : ℕ → Way → ℤ → Option ℕ → Stretch → Type 0
 Within limit way first answer s =
-    (s.to ≤ limit) × ((k : ℕ) → k < limit → LiesFrom way first k → NotPast way k answer → (s.from ≤ k) × (k < s.to)) × ((k : ℕ) → s.from ≤ k → k < s.to → LiesFrom way first k × NotPast way k answer)
+    (s.to ≤ limit) × ((k : ℕ) → k < limit → LiesFrom way first k → NotPast way k answer → (s.from ≤ k) × (k < s.to))
+    × ((k : ℕ) → s.from ≤ k → k < s.to → LiesFrom way first k × NotPast way k answer)
 
-days_within : (way : Way) (s : Sets) (first : ℤ) (answer : Option ℕ) (stretch : Stretch) (days : ℕ) → Within 47_847 way first answer stretch → IsTally 47_847 (IsPassedTo way (candidate_day s) first answer) days → days ≡ candidates s stretch
+days_within : (way : Way) (s : Sets) (first : ℤ) (answer : Option ℕ) (stretch : Stretch) (days : ℕ) → Within 47_847 way first answer stretch
+    → IsTally 47_847 (IsPassedTo way (candidate_day s) first answer) days → days ≡ candidates s stretch
 unfolding Within
 days_within way s first answer stretch days w counted =
     let test : ℕ → Bool = λ day. is_candidate s (date_numbered day).0 in
@@ -52,25 +54,29 @@ gap_from s z k lt h silent =
 gap_matched : (s : Sets) (z : TimeZone) (k : ℕ) → is_gap_match s z k ≡ true → matches s (civil k) ≡ true
 gap_matched s z k h = (and_parts (matches s (civil k)) (not (has_item (readings z k))) h).0
 
-none_within : (way : Way) (s : Sets) (z : TimeZone) (first : ℤ) (stretch : Stretch) (count : ℕ) → Within 4_133_980_800 way first None stretch → AllFail way (stands s z) first → IsTally 4_133_980_800 (IsAsked way s first None) count → count ≡ gap_matches s z stretch
+none_within : (way : Way) (s : Sets) (z : TimeZone) (first : ℤ) (stretch : Stretch) (count : ℕ) → Within 4_133_980_800 way first None stretch
+    → AllFail way (stands s z) first → IsTally 4_133_980_800 (IsAsked way s first None) count → count ≡ gap_matches s z stretch
 unfolding Within
 none_within way s z first stretch count w none counted =
     kind_unique 4_133_980_800 (IsAsked way s first None) count (gap_matches s z stretch) counted
     (kind_same 4_133_980_800 _ _ _
-    (λ k lt p. record { found = record { is_match = gap_matched s z k p.2; lies = (w.2 k p.0 p.1).0 }; until = tt })
-    (λ k lt p. let both = w.1 k lt p.found.lies tt in (both.0, both.1, gap_from s z k lt p.found.is_match (none k p.found.lies)))
+    (λ k lt p. record { passes = gap_matched s z k p.2; lies = (w.2 k p.0 p.1).0; until = tt })
+    (λ k lt p. let both = w.1 k lt p.lies tt in (both.0, both.1, gap_from s z k lt p.passes (none k p.lies)))
     (within_kind 4_133_980_800 (is_gap_match s z) stretch w.0))
 
 -- the numbers from a start up to an answer, which is left out, are those of the stretch
 Until : ℕ → Way → ℤ → ℕ → Stretch → Type 0
 Until limit way first c s =
-    (s.to ≤ limit) × ((k : ℕ) → LiesFrom way first k → Precedes way k c → (s.from ≤ k) × (k < s.to)) × ((k : ℕ) → s.from ≤ k → k < s.to → LiesFrom way first k × Precedes way k c)
+    (s.to ≤ limit) × ((k : ℕ) → LiesFrom way first k → Precedes way k c → (s.from ≤ k) × (k < s.to))
+    × ((k : ℕ) → s.from ≤ k → k < s.to → LiesFrom way first k × Precedes way k c)
 
 apart : (way : Way) (k c : ℕ) → Precedes way k c → k ≡ c → ⊥
 apart Ahead k c h e = omega arith
 apart Back k c h e = omega arith
 
-some_until : (way : Way) (s : Sets) (z : TimeZone) (first : ℤ) (c : ℕ) (stretch : Stretch) (count : ℕ) → c < 4_133_980_800 → Until 4_133_980_800 way first c stretch → matches s (civil c) ≡ true → IsNearestAt way (stands s z) first c → IsTally 4_133_980_800 (IsAsked way s first (Some c)) count → count ≡ gap_matches s z stretch + 1
+some_until : (way : Way) (s : Sets) (z : TimeZone) (first : ℤ) (c : ℕ) (stretch : Stretch) (count : ℕ) → c < 4_133_980_800
+    → Until 4_133_980_800 way first c stretch → matches s (civil c) ≡ true → IsNearestAt way (stands s z) first c
+    → IsTally 4_133_980_800 (IsAsked way s first (Some c)) count → count ≡ gap_matches s z stretch + 1
 unfolding Until
 some_until way s z first c stretch count lt u match found counted =
     kind_unique 4_133_980_800 (IsAsked way s first (Some c)) count (gap_matches s z stretch + 1) counted
@@ -79,30 +85,33 @@ some_until way s z first c stretch count lt u match found counted =
     (kind_one 4_133_980_800 (λ k. k ≡ c) c lt refl (λ k below e. e))
     (λ k below p e. apart way k c (u.2 k p.0 p.1).1 e)
     (λ k below e. elim e [
-      | inl p ↦ let both = u.2 k p.0 p.1 in record { found = record { is_match = gap_matched s z k p.2; lies = both.0 }; until = inl both.1 }
-      | inr here ↦ let P : ℕ → Type 0 = IsAsked way s first (Some c) in subst P (sym here) (record { found = record { is_match = match; lies = found.lies }; until = inr refl })
+      | inl p ↦ let both = u.2 k p.0 p.1 in record { passes = gap_matched s z k p.2; lies = both.0; until = inl both.1 }
+      | inr here ↦ let P : ℕ → Type 0 = IsAsked way s first (Some c) in subst P (sym here) (record { passes = match; lies = found.lies; until = inr refl })
     ])
     (λ k below p. elim p.until [
-      | inl less ↦ let both = u.1 k p.found.lies less in inl (both.0, both.1, gap_from s z k below p.found.is_match (found.nearest k p.found.lies less))
+      | inl less ↦ let both = u.1 k p.lies less in inl (both.0, both.1, gap_from s z k below p.passes (found.nearest k p.lies less))
       | inr here ↦ inr here
     ]))
 
 -- the days of a search, one direction at a time
-days_to_ahead : (from : ℤ) (start c k : ℕ) → start ≡ low_end from → LiesFrom Ahead (pos (start / 86_400)) k → NotPast Ahead k (Some (c / 86_400)) → (low_end from / 86_400 ≤ k) × (k < c / 86_400 + 1)
+days_to_ahead : (from : ℤ) (start c k : ℕ) → start ≡ low_end from → LiesFrom Ahead (pos (start / 86_400)) k → NotPast Ahead k (Some (c / 86_400))
+    → (low_end from / 86_400 ≤ k) × (k < c / 86_400 + 1)
 days_to_ahead from start c k e lies (inl lt) = (omega (arith, signed_arith), omega arith)
 days_to_ahead from start c k e lies (inr here) = (omega (arith, signed_arith), omega arith)
 
 days_from_ahead : (c k : ℕ) → k < c / 86_400 + 1 → NotPast Ahead k (Some (c / 86_400))
 days_from_ahead c k h = elim (cases_lt k (c / 86_400)) [ inl lt ↦ inl lt | inr ge ↦ inr (omega arith) ]
 
-days_to_back : (from : ℤ) (start c k : ℕ) → start + 1 ≡ high_end from → LiesFrom Back (pos (start / 86_400)) k → NotPast Back k (Some (c / 86_400)) → (c / 86_400 ≤ k) × (k < (high_end from + 86_399) / 86_400)
+days_to_back : (from : ℤ) (start c k : ℕ) → start + 1 ≡ high_end from → LiesFrom Back (pos (start / 86_400)) k → NotPast Back k (Some (c / 86_400))
+    → (c / 86_400 ≤ k) × (k < (high_end from + 86_399) / 86_400)
 days_to_back from start c k e lies (inl lt) = (omega arith, omega (arith, signed_arith))
 days_to_back from start c k e lies (inr here) = (omega arith, omega (arith, signed_arith))
 
 days_from_back : (c k : ℕ) → c / 86_400 ≤ k → NotPast Back k (Some (c / 86_400))
 days_from_back c k h = elim (cases_lt (c / 86_400) k) [ inl lt ↦ inl lt | inr ge ↦ inr (omega arith) ]
 
-ends_days : (way : Way) (from : ℤ) (start c : ℕ) → Starts way from start → c < 4_133_980_800 → Within 47_847 way (pos (start / 86_400)) (Some (c / 86_400)) (span way from (Some c))
+ends_days : (way : Way) (from : ℤ) (start c : ℕ) → Starts way from start → c < 4_133_980_800
+    → Within 47_847 way (pos (start / 86_400)) (Some (c / 86_400)) (span way from (Some c))
 unfolding Within
 ends_days Ahead from start c st lt =
     let e : start ≡ low_end from = st.is_first in
@@ -123,7 +132,8 @@ whole_days Back from start st =
     (omega arith, λ k small lies until. (omega arith, omega (arith, signed_arith)), λ k low high. (omega (arith, signed_arith), tt))
 
 -- the civil seconds of a search
-ends_seconds : (way : Way) (from : ℤ) (start c : ℕ) → Starts way from start → c < 4_133_980_800 → Until 4_133_980_800 way (pos start) c (passed way from (Some c))
+ends_seconds : (way : Way) (from : ℤ) (start c : ℕ) → Starts way from start → c < 4_133_980_800
+    → Until 4_133_980_800 way (pos start) c (passed way from (Some c))
 unfolding Until
 ends_seconds Ahead from start c st lt =
     let e : start ≡ low_end from = st.is_first in
@@ -152,24 +162,31 @@ stands_matches s z c h =
     ]
 
 -- what was found is the answer's second
-pub answer_second : (way : Way) (s : Sets) (z : TimeZone) (start : ℤ) (f : Found) → IsFoundAt way s z start (found_items f) → IsNearestAt way (stands s z) start f.first.second
+pub answer_second : (way : Way) (s : Sets) (z : TimeZone) (start : ℤ) (f : Found) → IsFoundAt way s z start (found_items f)
+    → IsNearestAt way (stands s z) start f.first.second
 answer_second way s z start f h =
     let P : ℕ → Type 0 = IsNearestAt way (stands s z) start in subst P (sym (items_second s z h.second f h.items)) h.nearest
 
-pub days_counted : (way : Way) (s : Sets) (z : TimeZone) (from : ℤ) (start days : ℕ) (found : Option Found) → Starts way from start → IsFound way s z (pos start) (option_map found_items found) → IsTally 47_847 (IsPassedTo way (candidate_day s) (pos (start / 86_400)) (day_of found)) days → days ≡ days_of way s from (second_of found)
+pub days_counted : (way : Way) (s : Sets) (z : TimeZone) (from : ℤ) (start days : ℕ) (found : Option Found) → Starts way from start
+    → IsFound way s z (pos start) (option_map found_items found)
+    → IsTally 47_847 (IsPassedTo way (candidate_day s) (pos (start / 86_400)) (day_of found)) days → days ≡ days_of way s from (second_of found)
 days_counted way s z from start days None st h counted =
     days_within way s (pos (start / 86_400)) None (span way from None) days (whole_days way from start st) counted
 days_counted way s z from start days (Some f) st h counted =
     let fits = (stands_matches s z f.first.second (answer_second way s z (pos start) f h).passes).0 in
-    days_within way s (pos (start / 86_400)) (Some (f.first.second / 86_400)) (span way from (Some f.first.second)) days (ends_days way from start f.first.second st fits) counted
+    days_within way s (pos (start / 86_400)) (Some (f.first.second / 86_400)) (span way from (Some f.first.second)) days
+    (ends_days way from start f.first.second st fits) counted
 
-pub conversions_counted : (way : Way) (s : Sets) (z : TimeZone) (from : ℤ) (start count : ℕ) (found : Option Found) → Starts way from start → IsFound way s z (pos start) (option_map found_items found) → IsTally 4_133_980_800 (IsAsked way s (pos start) (second_of found)) count → count ≡ conversions way s z from (second_of found)
+pub conversions_counted : (way : Way) (s : Sets) (z : TimeZone) (from : ℤ) (start count : ℕ) (found : Option Found) → Starts way from start
+    → IsFound way s z (pos start) (option_map found_items found) → IsTally 4_133_980_800 (IsAsked way s (pos start) (second_of found)) count
+    → count ≡ conversions way s z from (second_of found)
 conversions_counted way s z from start count None st h counted =
     none_within way s z (pos start) (passed way from None) count (whole_seconds way from start st) h counted ∙ sym (add-zero _)
 conversions_counted way s z from start count (Some f) st h counted =
     let nearest = answer_second way s z (pos start) f h in
     let both = stands_matches s z f.first.second nearest.passes in
-    some_until way s z (pos start) f.first.second (passed way from (Some f.first.second)) count both.0 (ends_seconds way from start f.first.second st both.0) both.1 nearest counted
+    some_until way s z (pos start) f.first.second (passed way from (Some f.first.second)) count both.0
+    (ends_seconds way from start f.first.second st both.0) both.1 nearest counted
 
 -- where the numbers of a stretch come to nothing
 empty_stretch : (test : ℕ → Bool) (s : Stretch) → s.to ≤ s.from → 0 ≡ count_within test s
@@ -204,6 +221,7 @@ days_at_most way s from answer h = omega (arith, within_end (λ day. is_candidat
     span_end Back (negsuc b) (Some c) h = omega arith
 
 -- what was found is in range
-pub found_in : (way : Way) (s : Sets) (z : TimeZone) (from : ℤ) (found : Option Found) → IsFound way s z from (option_map found_items found) → IfSome (second_of found) (λ c. c < 4_133_980_800)
+pub found_in : (way : Way) (s : Sets) (z : TimeZone) (from : ℤ) (found : Option Found) → IsFound way s z from (option_map found_items found)
+    → IfSome (second_of found) (λ c. c < 4_133_980_800)
 found_in way s z from None h = tt
 found_in way s z from (Some f) h = (stands_matches s z f.first.second (answer_second way s z from f h).passes).0

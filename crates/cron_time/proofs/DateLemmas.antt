@@ -10,9 +10,9 @@ use Rattle.jiff_core.proofs.CalendarLemmas.{days_from_civil-day_count, day_count
 use Rattle.jiff_core.proofs.MarchLemmas.{day_count-early}
 use Rattle.jiff_core.proofs.DateLemmas.{IsEarlier, days_from_civil-next_year, epoch_day-lt, epoch_day_same, cases_date}
 use Rattle.cron_time.specs.CivilDates.{date_numbered}
-use Rattle.cron_time.specs.Inner.Places.{place, place_date}
+use Rattle.cron_time.specs.Inner.Places.{month_number, place, place_date, first_month, months_end}
 use Rattle.cron_units.specs.Sets.{Sets}
-use Rattle.cron_time.specs.Matches.{is_candidate}
+use Rattle.cron_time.specs.Matches.{has_day, is_candidate}
 use Rattle.cron_time.specs.Inner.Places.{matches_place}
 use Rattle.cron_units.specs.Units.{contains}
 
@@ -121,9 +121,10 @@ and_same : (a b : Bool) → b ≡ true → (a && b) ≡ a
 and_same true b h = h
 and_same false b h = refl
 
-matches_parts : (s : Sets) (p y m k : ℕ) → p / 100 / 12 ≡ y → p / 100 % 12 + 1 ≡ m → p % 100 ≡ k → k ≤ days_in_month (pos y) m → matches_place s p ≡ (contains s.years y && contains s.months m && contains s.days_of_month k)
+matches_parts : (s : Sets) (p y m k : ℕ) → p / 100 / 12 ≡ y → p / 100 % 12 + 1 ≡ m → p % 100 ≡ k → k ≤ days_in_month (pos y) m
+    → matches_place s p ≡ (contains s.years y && contains s.months m && has_day s.days_of_month (days_in_month (pos y) m) k)
 matches_parts s p y m k ey em ek fits =
-    rw (ey, em, ek) (rw (and_same (contains s.days_of_month k) _ (le-leb k (days_in_month (pos y) m) fits)) refl)
+    rw (ey, em, ek) (rw (and_same (has_day s.days_of_month (days_in_month (pos y) m) k) _ (le-leb k (days_in_month (pos y) m) fits)) refl)
 
 -- a date is a candidate exactly if its place is one's
 pub place_candidate : (s : Sets) (d : Date) → pos 1970 ≤ℤ d.year → matches_place s (place_date d) ≡ is_candidate s d
@@ -145,3 +146,11 @@ pub year_with : (d : Date) (n : ℕ) → n < 47_847 → d ≡ (date_numbered n).
 year_with d n h e =
     let P : Date → Type 0 = λ x. (pos 1970 ≤ℤ x.year) × (x.year ≤ℤ pos 2100) in
     subst P (sym e) (low_at n h, high_year (date_numbered n).0 (omega (arith, signed_arith, epoch_at n h)))
+
+-- month and day of a date of these years lie within their bounds
+pub date_range : (d : Date) → (pos 1970 ≤ℤ d.year) × (d.year ≤ℤ pos 2100)
+    → (first_month ≤ month_number d) × (month_number d < months_end) × (1 ≤ d.day) × (d.day ≤ 31)
+date_range d years =
+    let e = year_is d.year years.0 in
+    let m = d.month_in in
+    (omega (arith, signed_arith, e, years, m), omega (arith, signed_arith, e, years, m), d.day_in.0, day_low d)

@@ -1,5 +1,5 @@
 -- Days by their places, a hundred for each month, and by their numbers.
-use Rattle.std.proofs.Common.{◌≡◌, ℕ, ◌+◌, ◌/◌, ◌%◌, ◌<◌, ◌≤◌, true, false, nat_lt, nat_le, nat_eq, Bool, cond, ℤ, pos, negsuc, ◌≤ℤ◌, unsigned_abs, Option, Some, None, option_map, IfSome, refl, sym, ap, subst, ◌∙◌, inl, inr, arith}
+use Rattle.std.proofs.Common.{◌≡◌, ℕ, ◌+◌, ◌/◌, ◌%◌, ◌<◌, ◌≤◌, ◌==◌, ◌&&◌, ◌||◌, true, false, nat_lt, nat_le, nat_eq, Bool, cond, ℤ, pos, negsuc, ◌≤ℤ◌, unsigned_abs, Option, Some, None, option_map, IfSome, refl, sym, ap, subst, ◌∙◌, inl, inr, arith}
 use Rattle.std.proofs.lemmas.Bool.{both_ways, cases_Bool, and_parts, and_from, and_left, and_right, cases_lt, lt-ltb, le-ltb, leb-true}
 use Rattle.jiff_core.specs.declared.civil.date.Date.{Date}
 use Rattle.jiff_core.specs.Calendar.{days_from_civil, days_in_month, is_leap_year}
@@ -9,14 +9,15 @@ use Rattle.jiff_core.proofs.SignedLemmas.{signed_arith}
 use Rattle.cron_units.specs.declared.way.Way.{Way}
 use Rattle.cron_units.specs.declared.way.Way.TheVariants.{Ahead, Back}
 use Rattle.cron_units.specs.Nearest.{LiesFrom, Precedes, IsNearest, IsNearestAt}
-use Rattle.cron_units.specs.Units.{contains}
+use Rattle.cron_units.specs.SetLaws.{or_false}
+use Rattle.cron_units.specs.Units.{FieldSet, contains}
 use Rattle.cron_time.specs.Inner.Blocks.{IsSplit}
 use Rattle.cron_time.specs.CivilDates.{date_numbered}
 use Rattle.cron_time.specs.Inner.DaySearch.{candidate_day}
 use Rattle.cron_time.specs.Inner.Days.{day_place, number_of, IsInRange, longest}
-use Rattle.cron_time.specs.Inner.Places.{beyond, place, place_date, day_number, year_of, month_of, length_of, matches_day, matches_month, matches_place}
+use Rattle.cron_time.specs.Inner.Places.{beyond, place, place_date, day_number, year_of, month_of, length_of, matches_day, matches_month, matches_place, first_month, months_end}
 use Rattle.cron_units.specs.Sets.{Sets}
-use Rattle.cron_time.specs.Matches.{is_candidate, weekday_number}
+use Rattle.cron_time.specs.Matches.{has_day, is_candidate, matches_date, weekday_number}
 use Rattle.cron_time.specs.declared.days.Day.{Day}
 use Rattle.cron_time.proofs.BlockLemmas.{both_split}
 use Rattle.cron_time.proofs.CivilLemmas.{is_date_numbered}
@@ -37,7 +38,7 @@ nonnegative : (z : ℤ) → pos 0 ≤ℤ z → z ≡ pos (unsigned_abs z)
 nonnegative (pos n) h = refl
 nonnegative (negsuc n) h = absurd (omega (arith, signed_arith))
 
-made : (month day : ℕ) → 23_640 ≤ month → month < 25_212 → 1 ≤ day → day ≤ length_of month → Date
+made : (month day : ℕ) → first_month ≤ month → month < months_end → 1 ≤ day → day ≤ length_of month → Date
 made month day low high first last = record {
   year = pos (year_of month);
   month = month_of month;
@@ -47,11 +48,12 @@ made month day low high first last = record {
   day_in = (first, last);
 }
 
-made_place : (month day : ℕ) (low : 23_640 ≤ month) (high : month < 25_212) (first : 1 ≤ day) (last : day ≤ length_of month) → place_date (made month day low high first last) ≡ place month day
+made_place : (month day : ℕ) (low : first_month ≤ month) (high : month < months_end) (first : 1 ≤ day) (last : day ≤ length_of month)
+    → place_date (made month day low high first last) ≡ place month day
 unfolding made
 made_place month day low high first last = omega arith
 
-pub number_is : (month day : ℕ) → 23_640 ≤ month → month < 25_212 → 1 ≤ day → day ≤ length_of month → IsNumber month day (day_number month day)
+pub number_is : (month day : ℕ) → first_month ≤ month → month < months_end → 1 ≤ day → day ≤ length_of month → IsNumber month day (day_number month day)
 unfolding made
 number_is month day low high first last =
     let d = made month day low high first last in
@@ -67,29 +69,34 @@ number_is month day low high first last =
     }
 
 -- the places go with the numbers
-precedes_place : (way : Way) (i j : ℕ) → i < 47_847 → j < 47_847 → Precedes way i j → Precedes way (place_date (date_numbered i).0) (place_date (date_numbered j).0)
+precedes_place : (way : Way) (i j : ℕ) → i < 47_847 → j < 47_847 → Precedes way i j
+    → Precedes way (place_date (date_numbered i).0) (place_date (date_numbered j).0)
 precedes_place Ahead i j hi hj h = place_lt i j h hj
 precedes_place Back i j hi hj h = place_lt j i h hi
 
-pub lies_place : (way : Way) (i j : ℕ) → i < 47_847 → j < 47_847 → LiesFrom way (pos i) j → LiesFrom way (pos (place_date (date_numbered i).0)) (place_date (date_numbered j).0)
+pub lies_place : (way : Way) (i j : ℕ) → i < 47_847 → j < 47_847 → LiesFrom way (pos i) j
+    → LiesFrom way (pos (place_date (date_numbered i).0)) (place_date (date_numbered j).0)
 lies_place way i j hi hj h =
     elim (first_or_later way i j h) [
       | inl e ↦ rw e (lies_self way (place_date (date_numbered i).0))
       | inr later ↦ lies_after way _ _ (precedes_place way i j hi hj later)
     ]
 
-pub place_lies : (way : Way) (i j : ℕ) → i < 47_847 → j < 47_847 → LiesFrom way (pos (place_date (date_numbered i).0)) (place_date (date_numbered j).0) → LiesFrom way (pos i) j
+pub place_lies : (way : Way) (i j : ℕ) → i < 47_847 → j < 47_847 → LiesFrom way (pos (place_date (date_numbered i).0)) (place_date (date_numbered j).0)
+    → LiesFrom way (pos i) j
 place_lies way i j hi hj h =
     elim (lies_or_before way i j) [
       | inl lies ↦ lies
       | inr early ↦ lies_not_before way _ _ h (precedes_place way j i hj hi early)
     ]
 
-pub past_place : (way : Way) (i j : ℕ) → i < 47_847 → j < 47_847 → LiesFrom way (beyond way i) j → LiesFrom way (beyond way (place_date (date_numbered i).0)) (place_date (date_numbered j).0)
+pub past_place : (way : Way) (i j : ℕ) → i < 47_847 → j < 47_847 → LiesFrom way (beyond way i) j
+    → LiesFrom way (beyond way (place_date (date_numbered i).0)) (place_date (date_numbered j).0)
 past_place way i j hi hj h =
     beyond_after way _ _ (precedes_place way i j hi hj (after_beyond way i j h))
 
-pub place_past : (way : Way) (i j : ℕ) → i < 47_847 → j < 47_847 → LiesFrom way (beyond way (place_date (date_numbered i).0)) (place_date (date_numbered j).0) → LiesFrom way (beyond way i) j
+pub place_past : (way : Way) (i j : ℕ) → i < 47_847 → j < 47_847
+    → LiesFrom way (beyond way (place_date (date_numbered i).0)) (place_date (date_numbered j).0) → LiesFrom way (beyond way i) j
 place_past way i j hi hj h =
     let later = after_beyond way _ _ h in
     elim (lies_or_before way j i) [
@@ -128,13 +135,31 @@ day_fits s d range h =
     let parts = and_parts (matches_month s (day_place d / 100)) (matches_day s (day_place d / 100) (day_place d % 100)) h in
     let e : day_place d / 100 ≡ d.month = omega (arith, range) in
     let f : day_place d % 100 ≡ d.day = omega (arith, range) in
-    leb-true d.day (length_of d.month) (and_parts (contains s.days_of_month d.day) (nat_le d.day (length_of d.month)) (same_day s _ _ _ _ e f parts.1)).1
+    leb-true d.day (length_of d.month) (and_parts (has_day s.days_of_month (length_of d.month) d.day) (nat_le d.day (length_of d.month))
+    (same_day s _ _ _ _ e f parts.1)).1
+
+-- the month of a day whose place passes lies in its sets
+pub month_passes : (s : Sets) (d : Day) → IsInRange d → matches_place s (day_place d) ≡ true → matches_month s d.month ≡ true
+month_passes s d range h =
+    let parts = and_parts (matches_month s (day_place d / 100)) (matches_day s (day_place d / 100) (day_place d % 100)) h in
+    let e : day_place d / 100 ≡ d.month = omega (arith, range) in
+    let P : ℕ → Type 0 = λ m. matches_month s m ≡ true in
+    subst P e parts.0
+
+-- so does that of a day whose date matches
+pub own_month : (s : Sets) (day : ℕ) (d : Day) → day < 47_847 → IsInRange d → day_place d ≡ place_date (date_numbered day).0
+    → matches_date s (date_numbered day).0 ≡ true → matches_month s d.month ≡ true
+own_month s day d small range e h =
+    let candidate = (and_parts (is_candidate s (date_numbered day).0) (contains s.days_of_week (weekday_number (date_numbered day).0)) h).0 in
+    let P : ℕ → Type 0 = λ p. matches_place s p ≡ true in
+    month_passes s d range (subst P (sym e) (candidate_place s day small ∙ candidate))
 
 -- the number of a day whose place passes
 pub number_of_place : (s : Sets) (d : Day) → IsInRange d → matches_place s (day_place d) ≡ true → IsNumber d.month d.day (number_of d)
 number_of_place s d range h = number_is d.month d.day range.0 range.1 range.2 (day_fits s d range h)
 
-pub is_made : (month day : ℕ) (date : Date) → 23_640 ≤ month → month < 25_212 → 1 ≤ day → day ≤ length_of month → date.year ≡ pos (year_of month) → date.month ≡ month_of month → date.day ≡ day → IsMade month day date
+pub is_made : (month day : ℕ) (date : Date) → first_month ≤ month → month < months_end → 1 ≤ day → day ≤ length_of month → date.year ≡ pos (year_of month)
+    → date.month ≡ month_of month → date.day ≡ day → IsMade month day date
 is_made month day date low high first last ey em ek =
     let n = number_is month day low high first last in
     let epoch : epoch_day date ≡ pos (day_number month day) = same_parts date (pos (year_of month)) (month_of month) day ey em ek ∙ n.epoch in
@@ -158,19 +183,26 @@ longer false leap n = omega arith
 length_longest : (y : ℤ) (m : ℕ) → days_in_month y m ≤ days_in_month (pos 2000) m
 length_longest y m = longer (nat_eq m 2) (is_leap_year y) _
 
+-- without the mark, a day lies in the set by its number
+pub by_number_alone : (days : FieldSet) (length day : ℕ) → days.last_day ≡ false → has_day days length day ≡ contains days.ordinals day
+by_number_alone days length day e = ap (λ (b : Bool). contains days.ordinals day || (b && day == length)) e ∙ or_false (contains days.ordinals day)
+
 -- where the least day of the set is past the end of every month, no place passes
-pub no_month_has : (s : Sets) (least : ℕ) → IsNearestAt Ahead (contains s.days_of_month) (pos 0) least → ((m : ℕ) → contains s.months m ≡ true → longest m < least) → (p : ℕ) → matches_place s p ≡ false
-no_month_has s least days short p =
+pub no_month_has : (s : Sets) (least : ℕ) → s.days_of_month.last_day ≡ false → IsNearestAt Ahead (contains s.days_of_month.ordinals) (pos 0) least
+    → ((m : ℕ) → contains s.months m ≡ true → longest m < least) → (p : ℕ) → matches_place s p ≡ false
+no_month_has s least unmarked days short p =
     elim (cases_Bool (matches_place s p)) [
       | inr out ↦ out
       | inl inside ↦
           let both = and_parts (matches_month s (p / 100)) (matches_day s (p / 100) (p % 100)) inside in
           let month = (and_parts (contains s.years (year_of (p / 100))) (contains s.months (month_of (p / 100))) both.0).1 in
-          let day = and_parts (contains s.days_of_month (p % 100)) (nat_le (p % 100) (length_of (p / 100))) both.1 in
+          let day = and_parts (has_day s.days_of_month (length_of (p / 100)) (p % 100)) (nat_le (p % 100) (length_of (p / 100))) both.1 in
+          let has = sym (by_number_alone s.days_of_month (length_of (p / 100)) (p % 100) unmarked) ∙ day.0 in
           let fits = leb-true (p % 100) (length_of (p / 100)) day.1 in
           let long = length_longest (pos (year_of (p / 100))) (month_of (p / 100)) in
           let below = short (month_of (p / 100)) month in
-          absurd (both_ways (contains s.days_of_month (p % 100)) (days.nearest (p % 100) (omega (arith, signed_arith)) (omega (arith, fits, long, below))) day.0)
+          absurd (both_ways (contains s.days_of_month.ordinals (p % 100))
+          (days.nearest (p % 100) (omega (arith, signed_arith)) (omega (arith, fits, long, below))) has)
     ]
 
 pub no_day : (s : Sets) → ((p : ℕ) → matches_place s p ≡ false) → (day : ℕ) → candidate_day s day ≡ false
@@ -183,13 +215,17 @@ is_candidate_place s d range h =
     sym (candidate_place s (number_of d) n.in_range) ∙ ap (matches_place s) n.at ∙ h
 
 -- the nearest day by places is the nearest by numbers
-pub by_number : (way : Way) (s : Sets) (places numbers : ℤ) (found : Option Day) → ((j : ℕ) → j < 47_847 → LiesFrom way numbers j → LiesFrom way places (place_date (date_numbered j).0)) → ((j : ℕ) → j < 47_847 → LiesFrom way places (place_date (date_numbered j).0) → LiesFrom way numbers j) → IfSome found IsInRange → IsNearest way (matches_place s) places (option_map day_place found) → IsNearest way (candidate_day s) numbers (option_map number_of found)
+pub by_number : (way : Way) (s : Sets) (places numbers : ℤ) (found : Option Day)
+    → ((j : ℕ) → j < 47_847 → LiesFrom way numbers j → LiesFrom way places (place_date (date_numbered j).0))
+    → ((j : ℕ) → j < 47_847 → LiesFrom way places (place_date (date_numbered j).0) → LiesFrom way numbers j) → IfSome found IsInRange
+    → IsNearest way (matches_place s) places (option_map day_place found) → IsNearest way (candidate_day s) numbers (option_map number_of found)
 by_number way s places numbers None to back range h = λ k lies. candidate_fails s k (λ lt. h _ (to k lt lies))
 by_number way s places numbers (Some d) to back range h =
     let n = number_of_place s d range h.passes in
     let P : ℕ → Type 0 = λ p. LiesFrom way places p in
     record {
-      passes = and_from (nat_lt (number_of d) 47_847) (is_candidate s (date_numbered (number_of d)).0) (lt-ltb (number_of d) 47_847 n.in_range) (sym (candidate_place s (number_of d) n.in_range) ∙ ap (matches_place s) n.at ∙ h.passes);
+      passes = and_from (nat_lt (number_of d) 47_847) (is_candidate s (date_numbered (number_of d)).0) (lt-ltb (number_of d) 47_847 n.in_range)
+          (sym (candidate_place s (number_of d) n.in_range) ∙ ap (matches_place s) n.at ∙ h.passes);
       lies = back (number_of d) n.in_range (subst P (sym n.at) h.lies);
       nearest = λ k lies early. candidate_fails s k (λ lt.
           let Q : ℕ → Type 0 = λ p. Precedes way (place_date (date_numbered k).0) p in

@@ -28,7 +28,8 @@ use Rattle.cron_time.proofs.TallyLemmas.{kind_block, kind_none, kind_same}
 pub date_fails : (s : Sets) (n : ℕ) → contains s.days_of_week (weekday_number (date_numbered n).0) ≡ false → matches_date s (date_numbered n).0 ≡ false
 date_fails s n h = and_right (is_candidate s (date_numbered n).0) _ h
 
-pub date_passes : (s : Sets) (n : ℕ) → is_candidate s (date_numbered n).0 ≡ true → contains s.days_of_week (weekday_number (date_numbered n).0) ≡ true → matches_date s (date_numbered n).0 ≡ true
+pub date_passes : (s : Sets) (n : ℕ) → is_candidate s (date_numbered n).0 ≡ true → contains s.days_of_week (weekday_number (date_numbered n).0) ≡ true
+    → matches_date s (date_numbered n).0 ≡ true
 date_passes s n c h = and_from (is_candidate s (date_numbered n).0) _ c h
 
 -- nothing matches on a day whose date doesn't
@@ -40,12 +41,14 @@ day_unmatched s day k h e =
 pub day_silent : (way : Way) (s : Sets) (z : TimeZone) (start : ℤ) (day : ℕ) → matches_date s (date_numbered day).0 ≡ false → Finds way s z start day None
 day_silent way s z start day h = λ k lies e. unmatched s z k (day_unmatched s day k h e)
 
-pub day_unasked : (way : Way) (s : Sets) (start : ℤ) (day : ℕ) (answer : Option ℕ) → matches_date s (date_numbered day).0 ≡ false → IsTally 4_133_980_800 (IsAskedIn way s start day answer) 0
+pub day_unasked : (way : Way) (s : Sets) (start : ℤ) (day : ℕ) (answer : Option ℕ) → matches_date s (date_numbered day).0 ≡ false
+    → IsTally 4_133_980_800 (IsAskedIn way s start day answer) 0
 day_unasked way s start day answer h =
-    kind_none 4_133_980_800 _ (λ k lt p. both_ways (matches s (civil k)) (day_unmatched s day k h p.here) p.found.is_match)
+    kind_none 4_133_980_800 _ (λ k lt p. both_ways (matches s (civil k)) (day_unmatched s day k h p.until.0) p.passes)
 
 -- what is found among the times of a day is found from a civil second on
-pub day_finds : (way : Way) (s : Sets) (z : TimeZone) (start : ℤ) (day from : ℕ) (found : Option (List Reading)) → Enters way 86_400 start day from → FindsInDay way s z day from found → Finds way s z start day found
+pub day_finds : (way : Way) (s : Sets) (z : TimeZone) (start : ℤ) (day from : ℕ) (found : Option (List Reading)) → Enters way 86_400 start day from
+    → FindsInDay way s z day from found → Finds way s z start day found
 day_finds way s z start day from None enters h =
     block_fails way 86_400 (candidate_day s) (stands_at s z) (stands s z) start day from (split_stands s z) enters h
 day_finds way s z start day from (Some items) enters h = record { from = from; enters = enters; finds = h }
@@ -59,7 +62,8 @@ items_second s z c f e =
       | inr out ↦ let none : items_of s z c ≡ [] = rw out refl in cc
     ]
 
-pub found_second : (way : Way) (s : Sets) (z : TimeZone) (day from : ℕ) (f : Found) (h : FindsTime way s z day from (found_items f)) → f.first.second ≡ day * 86_400 + h.time
+pub found_second : (way : Way) (s : Sets) (z : TimeZone) (day from : ℕ) (f : Found) (h : FindsTime way s z day from (found_items f))
+    → f.first.second ≡ day * 86_400 + h.time
 found_second way s z day from f h = items_second s z (day * 86_400 + h.time) f h.items
 
 pub time_fits : (s : Sets) (z : TimeZone) (day r : ℕ) → stands_at s z day r ≡ true → r < 86_400
@@ -90,7 +94,8 @@ unfolding AnswerIn
 answer_in way s z day from None h = tt
 answer_in way s z day from (Some f) h = found_day way s z day from f h
 
-until_second : (way : Way) (day k : ℕ) (o : Option Found) → AnswerIn day o → k / 86_400 ≡ day → NotPast way (k % 86_400) (time_of o) → NotPast way k (second_of o)
+until_second : (way : Way) (day k : ℕ) (o : Option Found) → AnswerIn day o → k / 86_400 ≡ day → NotPast way (k % 86_400) (time_of o)
+    → NotPast way k (second_of o)
 unfolding AnswerIn
 until_second way day k None at e h = tt
 until_second way day k (Some f) at e (inl lt) = inl (rest_precedes way k f.first.second (e ∙ sym at) lt)
@@ -102,32 +107,36 @@ until_time way day k None at e h = tt
 until_time way day k (Some f) at e (inl lt) = inl (precedes_rest way k f.first.second (e ∙ sym at) lt)
 until_time way day k (Some f) at e (inr same) = inr (omega arith)
 
-asked_from : (way : Way) (s : Sets) (start : ℤ) (day from k : ℕ) (o : Option Found) → AnswerIn day o → matches_date s (date_numbered day).0 ≡ true → Enters way 86_400 start day from → (k / 86_400 ≡ day) × IsPassedTo way (matches_second s) (pos from) (time_of o) (k % 86_400) → IsAskedIn way s start day (second_of o) k
+asked_from : (way : Way) (s : Sets) (start : ℤ) (day from k : ℕ) (o : Option Found) → AnswerIn day o → matches_date s (date_numbered day).0 ≡ true
+    → Enters way 86_400 start day from → (k / 86_400 ≡ day) × IsPassedTo way (matches_second s) (pos from) (time_of o) (k % 86_400)
+    → IsAskedIn way s start day (second_of o) k
 asked_from way s start day from k o at date enters p =
     let P : ℕ → Type 0 = λ n. matches_date s (date_numbered n).0 ≡ true in
     let whole : day * 86_400 + k % 86_400 ≡ k = omega (arith, p.0) in
     let Q : ℕ → Type 0 = LiesFrom way start in
     record {
-      found = record {
-        is_match = matches_at s k ∙ and_from (matches_date s (date_numbered (k / 86_400)).0) (matches_second s (k % 86_400)) (subst P (sym p.0) date) p.1.passes;
-        lies = subst Q whole (enters.out (k % 86_400) (omega arith) p.1.lies);
-      };
-      here = p.0;
-      until = until_second way day k o at p.0 p.1.until;
+      passes = matches_at s k ∙ and_from (matches_date s (date_numbered (k / 86_400)).0) (matches_second s (k % 86_400)) (subst P (sym p.0) date) p.1.passes;
+      lies = subst Q whole (enters.out (k % 86_400) (omega arith) p.1.lies);
+      until = (p.0, until_second way day k o at p.0 p.1.until);
     }
 
-asked_to : (way : Way) (s : Sets) (start : ℤ) (day from k : ℕ) (o : Option Found) → AnswerIn day o → matches_date s (date_numbered day).0 ≡ true → Enters way 86_400 start day from → IsAskedIn way s start day (second_of o) k → (k / 86_400 ≡ day) × IsPassedTo way (matches_second s) (pos from) (time_of o) (k % 86_400)
+asked_to : (way : Way) (s : Sets) (start : ℤ) (day from k : ℕ) (o : Option Found) → AnswerIn day o → matches_date s (date_numbered day).0 ≡ true
+    → Enters way 86_400 start day from → IsAskedIn way s start day (second_of o) k
+    → (k / 86_400 ≡ day) × IsPassedTo way (matches_second s) (pos from) (time_of o) (k % 86_400)
 asked_to way s start day from k o at date enters p = (
-  p.here,
+  p.until.0,
   record {
-    passes = (and_parts (matches_date s (date_numbered (k / 86_400)).0) (matches_second s (k % 86_400)) (sym (matches_at s k) ∙ p.found.is_match)).1;
-    lies = enters.into k p.found.lies p.here;
-    until = until_time way day k o at p.here p.until;
+    passes = (and_parts (matches_date s (date_numbered (k / 86_400)).0) (matches_second s (k % 86_400)) (sym (matches_at s k) ∙ p.passes)).1;
+    lies = enters.into k p.lies p.until.0;
+    until = until_time way day k o at p.until.0 p.until.1;
   },
 )
 
 -- the times asked are the civil seconds asked in the day
-pub day_asked : (way : Way) (s : Sets) (z : TimeZone) (start : ℤ) (day from count : ℕ) (o : Option Found) → day < 47_847 → matches_date s (date_numbered day).0 ≡ true → Enters way 86_400 start day from → FindsInDay way s z day from (option_map found_items o) → IsTally 86_400 (IsPassedTo way (matches_second s) (pos from) (time_of o)) count → IsTally 4_133_980_800 (IsAskedIn way s start day (second_of o)) count
+pub day_asked : (way : Way) (s : Sets) (z : TimeZone) (start : ℤ) (day from count : ℕ) (o : Option Found) → day < 47_847
+    → matches_date s (date_numbered day).0 ≡ true → Enters way 86_400 start day from → FindsInDay way s z day from (option_map found_items o)
+    → IsTally 86_400 (IsPassedTo way (matches_second s) (pos from) (time_of o)) count
+    → IsTally 4_133_980_800 (IsAskedIn way s start day (second_of o)) count
 day_asked way s z start day from count o small date enters finds counted =
     let at = answer_in way s z day from o finds in
     kind_same 4_133_980_800 _ _ count

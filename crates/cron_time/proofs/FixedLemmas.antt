@@ -44,7 +44,8 @@ one_reading (Fixed o) c h = (o, refl, refl)
 one_reading (Posix p) c h = absurd h
 one_reading (Tzif p) c h = absurd h
 
-one_item : (s : Sets) (z : TimeZone) (c : ℕ) → IsFixed z → matches s (civil c) ≡ true → (o : Offset) × (items_of s z c ≡ reading c o ∷ []) × (o.seconds ≡ offset_of z)
+one_item : (s : Sets) (z : TimeZone) (c : ℕ) → IsFixed z → matches s (civil c) ≡ true
+    → (o : Offset) × (items_of s z c ≡ reading c o ∷ []) × (o.seconds ≡ offset_of z)
 unfolding items_of
 one_item s z c h m = let one = one_reading z c h in (one.0, rw m one.1, one.2)
 
@@ -75,7 +76,8 @@ module _ {A : Type 0} (p : A → Bool) where
   some_passes n [] i e = absurd (nothing_in_nil 0 i e)
   some_passes n (x ∷ xs) i e = by_head (p x) refl e (λ g. some_passes (n + 1) xs i g)
     where
-      by_head : (b : Bool) → p x ≡ b → cond b (Some n) (position_from p (n + 1) xs) ≡ Some i → (position_from p (n + 1) xs ≡ Some i → (j : ℕ) × (i ≡ n + 1 + j) × IsFirst p xs j) → (j : ℕ) × (i ≡ n + j) × IsFirst p (x ∷ xs) j
+      by_head : (b : Bool) → p x ≡ b → cond b (Some n) (position_from p (n + 1) xs) ≡ Some i
+          → (position_from p (n + 1) xs ≡ Some i → (j : ℕ) × (i ≡ n + 1 + j) × IsFirst p xs j) → (j : ℕ) × (i ≡ n + j) × IsFirst p (x ∷ xs) j
       by_head true is g more =
           let same : n ≡ i = cc in
           (0, omega arith, record { x = x; here = refl; passes = is; first = λ k y lt at. absurd (omega arith) })
@@ -108,7 +110,8 @@ bound_back_is z t n c h is low =
     omega (arith, signed_arith)
 
 -- the offset of an item
-item_offset : (s : Sets) (z : TimeZone) (i : ℕ) (r : Reading) → IsFixed z → slice_get (timeline s z) i ≡ Some r → (r.offset.seconds ≡ offset_of z) × (i ≡ before s z r.second) × (before s z (r.second + 1) ≡ i + 1)
+item_offset : (s : Sets) (z : TimeZone) (i : ℕ) (r : Reading) → IsFixed z → slice_get (timeline s z) i ≡ Some r
+    → (r.offset.seconds ≡ offset_of z) × (i ≡ before s z r.second) × (before s z (r.second + 1) ≡ i + 1)
 item_offset s z i r h here =
     let there = is_in s z i r here in
     let one = one_item s z r.second h (items_match s z i r here) in
@@ -117,7 +120,8 @@ item_offset s z i r h here =
     let low = there.low in
     let high = there.high in
     let place : i ≡ before s z r.second = omega arith in
-    let item : slice_get (timeline s z) (before s z r.second + 0) ≡ Some (reading r.second one.0) = item_in s z r.second 0 (stands-high s z r.second there.stands) (omega arith) ∙ ap (λ xs. slice_get xs 0) one.1 in
+    let item : slice_get (timeline s z) (before s z r.second + 0)
+    ≡ Some (reading r.second one.0) = item_in s z r.second 0 (stands-high s z r.second there.stands) (omega arith) ∙ ap (λ xs. slice_get xs 0) one.1 in
     let zero : before s z r.second + 0 ≡ i = omega arith in
     let same : Some r ≡ Some (reading r.second one.0) = sym here ∙ (rw zero at item) in
     (ap (λ (o : Option Reading). offset_in o) same ∙ one.2, place, omega arith)
@@ -151,7 +155,8 @@ int_le-to : (b c : ℤ) → int_le b c ≡ true → b ≤ℤ c
 int_le-to b c h = grind (arith, ints)
 
 -- where jiff has no instant one second after t, nothing is shown after t
-none_past_end : (s : Sets) (z : TimeZone) (t : ℤ) → IsFixed z → IsTimestampNanos t → bound_ahead z t ≡ None → (n : ℤ) → IsAfter t n → ¬ (Shows s (offset_of z) n)
+none_past_end : (s : Sets) (z : TimeZone) (t : ℤ) → IsFixed z → IsTimestampNanos t → bound_ahead z t ≡ None → (n : ℤ) → IsAfter t n
+    → ¬ (Shows s (offset_of z) n)
 unfolding bound_ahead
 none_past_end s z t h here none n after k =
     let one = one_reading z 0 h in
@@ -166,13 +171,15 @@ none_past_end s z t h here none n after k =
 bound_ahead-is : (z : TimeZone) (t b : ℤ) → bound_ahead z t ≡ Some b → b ≡ shown_at z (t +ℤ pos 1_000_000_000)
 unfolding bound_ahead
 bound_ahead-is z t b e =
-    elim (is_instant (t +ℤ pos 1_000_000_000)) as (λ i. cond i (Some (shown_at z (t +ℤ pos 1_000_000_000))) None ≡ Some b → b ≡ shown_at z (t +ℤ pos 1_000_000_000)) [
+    elim (is_instant (t +ℤ pos 1_000_000_000)) as (λ i. cond i (Some (shown_at z (t +ℤ pos 1_000_000_000))) None ≡ Some b
+    → b ≡ shown_at z (t +ℤ pos 1_000_000_000)) [
       | true ↦ λ k. cc
       | false ↦ λ k. cc
     ] e
 
 -- what is shown has its item on the timeline
-shown_item : (s : Sets) (z : TimeZone) (n : ℤ) → IsFixed z → (k : Shows s (offset_of z) n) → (y : Reading) × (slice_get (timeline s z) (before s z k.second + 0) ≡ Some y) × (y.second ≡ k.second)
+shown_item : (s : Sets) (z : TimeZone) (n : ℤ) → IsFixed z → (k : Shows s (offset_of z) n)
+    → (y : Reading) × (slice_get (timeline s z) (before s z k.second + 0) ≡ Some y) × (y.second ≡ k.second)
 shown_item s z n h k =
     let one = one_item s z k.second h k.matching in
     let single : length (items_of s z k.second) ≡ 1 = rw one.1 refl in
@@ -203,14 +210,17 @@ module _ (s : Sets) (z : TimeZone) (t b : ℤ) (h : IsFixed z) (is : b ≡ shown
             let shown = k.is in
             elim (cases_lt k.second f.x.second) [
               | inl lt ↦ elim (cases_lt (before s z k.second + 0) i) [
-                | inl early ↦ absurd (true≢false (sym (shown_passes n after k) ∙ ap (λ c. int_le b (pos c)) (sym there.2) ∙ f.first (before s z k.second + 0) there.0 early there.1))
-                | inr late ↦ let up = never_decrease s z i (before s z k.second + 0) f.x there.0 late f.here there.1 in let same = there.2 in absurd (omega arith)
+                | inl early ↦ absurd (true≢false (sym (shown_passes n after k) ∙ ap (λ c. int_le b (pos c)) (sym there.2)
+                    ∙ f.first (before s z k.second + 0) there.0 early there.1))
+                | inr late ↦ let up = never_decrease s z i (before s z k.second + 0) f.x there.0 late f.here there.1 in let same = there.2 in
+                    absurd (omega arith)
               ]
               | inr ge ↦ omega (arith, signed_arith)
             ];
       }
 
-  by_place : (o : Option ℕ) → position is_from (timeline s z) ≡ o → MatchOption (go_to (timeline s z) o).answer ((n : ℤ) → IsAfter t n → ¬ (Shows s (offset_of z) n)) (IsLeastAfter s (offset_of z) t)
+  by_place : (o : Option ℕ) → position is_from (timeline s z) ≡ o
+      → MatchOption (go_to (timeline s z) o).answer ((n : ℤ) → IsAfter t n → ¬ (Shows s (offset_of z) n)) (IsLeastAfter s (offset_of z) t)
   by_place None e = λ n after k.
       let there = shown_item s z n h k in
       let fails = none_passes is_from 0 (timeline s z) (sym (position_from-zero is_from (timeline s z)) ∙ e) (before s z k.second + 0) there.0 there.1 in
@@ -224,6 +234,7 @@ module _ (s : Sets) (z : TimeZone) (t b : ℤ) (h : IsFixed z) (is : b ≡ shown
 pub first_is_least : FirstIsLeast
 first_is_least s z t h here = by_bound (bound_ahead z t) refl
   where
-    by_bound : (o : Option ℤ) → bound_ahead z t ≡ o → MatchOption (go_to (timeline s z) (first_from (timeline s z) o)).answer ((n : ℤ) → IsAfter t n → ¬ (Shows s (offset_of z) n)) (IsLeastAfter s (offset_of z) t)
+    by_bound : (o : Option ℤ) → bound_ahead z t ≡ o → MatchOption (go_to (timeline s z) (first_from (timeline s z) o)).answer ((n : ℤ) → IsAfter t n
+        → ¬ (Shows s (offset_of z) n)) (IsLeastAfter s (offset_of z) t)
     by_bound None e = none_past_end s z t h here e
     by_bound (Some b) e = by_place s z t b h (bound_ahead-is z t b e) (position (λ (r : Reading). int_le b (pos r.second)) (timeline s z)) refl

@@ -26,5 +26,6 @@ pub mod SearchLemmas
 pub mod OwnDayLemmas
 pub mod DateLemmas
 pub mod DayLemmas
+pub mod LastDayLemmas
 pub mod PartLemmas
 pub mod ResumeLemmas

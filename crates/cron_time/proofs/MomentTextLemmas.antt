@@ -61,7 +61,14 @@ date_by d (pos n) e low =
     let thousands : n / 100 / 10 % 10 ≡ n / 100 / 10 = omega arith in
     let tens : n % 100 / 10 ≡ n / 10 % 10 = omega arith in
     let ones : n % 100 % 10 ≡ n % 10 = omega arith in
-    rw (e, thousands, tens, ones, tens_of d.month (omega (arith, d.month_in)), tens_of d.day (omega (arith, d.day_in, days_in_month_bounds d.year d.month))) refl
+    rw (
+      e,
+      thousands,
+      tens,
+      ones,
+      tens_of d.month (omega (arith, d.month_in)),
+      tens_of d.day (omega (arith, d.day_in, days_in_month_bounds d.year d.month)),
+    ) refl
 date_by d (negsuc n) e low = absurd (omega (arith, signed_arith))
 
 date_is : (d : Date) → pos 0 ≤ℤ epoch_day d → Jiff.date_text d ≡ date_text d
@@ -71,7 +78,8 @@ time_is : (t : Time) → t.subsec_nanosecond ≡ 0 → Jiff.time_text None t ≡
 time_is t whole =
     rw (whole, tens_of t.hour (omega (arith, t.hour_in)), tens_of t.minute (omega (arith, t.minute_in)), tens_of t.second (omega (arith, t.second_in))) refl
 
-pub moment_is : (m : Reading) (d : Date) (t : Time) (o : ℤ) → m.second < 2 ^ 32 → d ≡ (civil m.second).date → t ≡ (civil m.second).time → o ≡ m.offset.seconds → Jiff.date_text d ++ (codes " " ++ (Jiff.time_text None t ++ (codes " " ++ offset_text o))) ≡ moment_text m
+pub moment_is : (m : Reading) (d : Date) (t : Time) (o : ℤ) → m.second < 2 ^ 32 → d ≡ (civil m.second).date → t ≡ (civil m.second).time
+    → o ≡ m.offset.seconds → Jiff.date_text d ++ (codes " " ++ (Jiff.time_text None t ++ (codes " " ++ offset_text o))) ≡ moment_text m
 unfolding moment_text
 moment_is m d t o small date time offset =
     let from : pos 0 ≤ℤ epoch_day d = rw date (omega (arith, signed_arith, epoch_day-civil m.second small)) in
@@ -85,11 +93,13 @@ moment_is m d t o small date time offset =
 abbrev pub printed : ℕ → List ℕ
 printed n = padded_integral (format_spec 32 0 4 2 (2 ^ 64 - 1)) false [] (decimal n)
 
-pub offset_is : (o : ℤ) (size : ℕ) (sign : List ℕ) → size ≡ size_of o → size < 100 * 3600 → sign ≡ sign_text o → size % 60 ≡ 0 → sign ++ (printed (size / 3600) ++ (codes ":" ++ printed (size / 60 % 60))) ≡ offset_text o
+pub offset_is : (o : ℤ) (size : ℕ) (sign : List ℕ) → size ≡ size_of o → size < 100 * 3600 → sign ≡ sign_text o → size % 60 ≡ 0
+    → sign ++ (printed (size / 3600) ++ (codes ":" ++ printed (size / 60 % 60))) ≡ offset_text o
 offset_is o size sign is small signed whole =
     rw (signed, padded_two (size / 3600) (omega arith), padded_two (size / 60 % 60) (omega arith), ← is, whole) refl
 
-pub offset_is-long : (o : ℤ) (size : ℕ) (sign : List ℕ) → size ≡ size_of o → size < 100 * 3600 → sign ≡ sign_text o → ¬ (size % 60 ≡ 0) → sign ++ (printed (size / 3600) ++ (codes ":" ++ (printed (size / 60 % 60) ++ (codes ":" ++ printed (size % 60))))) ≡ offset_text o
+pub offset_is-long : (o : ℤ) (size : ℕ) (sign : List ℕ) → size ≡ size_of o → size < 100 * 3600 → sign ≡ sign_text o → ¬ (size % 60 ≡ 0)
+    → sign ++ (printed (size / 3600) ++ (codes ":" ++ (printed (size / 60 % 60) ++ (codes ":" ++ printed (size % 60))))) ≡ offset_text o
 offset_is-long o size sign is small signed part =
     let some : size % 60 == 0 ≡ false = grind arith in
     rw (signed, padded_two (size / 3600) (omega arith), padded_two (size / 60 % 60) (omega arith), padded_two (size % 60) (omega arith), ← is, some) refl

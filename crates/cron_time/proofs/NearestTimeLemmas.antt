@@ -62,7 +62,8 @@ among_time s t sets h =
     let sec = member_within _ s.seconds t.second sets.seconds (omega arith) parts.2 in
     record { minute_in = omega (arith, m.1); second_in = omega (arith, sec.1) }
 
-parts_match : (s : Sets) (h m sec n : ℕ) → n / 3600 ≡ h → n % 3600 / 60 ≡ m → n % 3600 % 60 ≡ sec → (matches_second s n ≡ (contains s.hours h && (contains s.minutes m && contains s.seconds sec)))
+parts_match : (s : Sets) (h m sec n : ℕ) → n / 3600 ≡ h → n % 3600 / 60 ≡ m → n % 3600 % 60 ≡ sec
+    → (matches_second s n ≡ (contains s.hours h && (contains s.minutes m && contains s.seconds sec)))
 parts_match s h m sec n e f g = rw (e, f, g) refl
 
 among_matches : (s : Sets) (t : TimeOfDay) → IsTime t → Contains (times_of_day s) t → matches_second s (number t) ≡ true
@@ -71,7 +72,9 @@ among_matches s t time h =
     let parts = among_to s t h in
     let low = time.minute_in in
     let short = time.second_in in
-    rw (parts_match s t.hour t.minute t.second (t.hour * 3600 + t.minute * 60 + t.second) (omega (arith, low, short)) (omega (arith, low, short)) (omega (arith, low, short))) (and_from (contains s.hours t.hour) (contains s.minutes t.minute && contains s.seconds t.second) parts.0 (and_from (contains s.minutes t.minute) (contains s.seconds t.second) parts.1 parts.2))
+    rw (parts_match s t.hour t.minute t.second (t.hour * 3600 + t.minute * 60 + t.second) (omega (arith, low, short)) (omega (arith, low, short))
+    (omega (arith, low, short))) (and_from (contains s.hours t.hour) (contains s.minutes t.minute && contains s.seconds t.second) parts.0
+    (and_from (contains s.minutes t.minute) (contains s.seconds t.second) parts.1 parts.2))
 
 -- the time of day with a number
 abbrev pub time_at : ℕ → TimeOfDay
@@ -88,12 +91,15 @@ matches_among : (s : Sets) (n : ℕ) → matches_second s n ≡ true → Contain
 matches_among s n h =
     let e : n % 3600 / 60 ≡ n / 60 % 60 = omega arith in
     let f : n % 3600 % 60 ≡ n % 60 = omega arith in
-    let parts = and_parts (contains s.hours (n / 3600)) (contains s.minutes (n / 60 % 60) && contains s.seconds (n % 60)) (sym (parts_match s (n / 3600) (n / 60 % 60) (n % 60) n refl e f) ∙ h) in
+    let parts = and_parts (contains s.hours (n / 3600)) (contains s.minutes (n / 60 % 60) && contains s.seconds (n % 60))
+    (sym (parts_match s (n / 3600) (n / 60 % 60) (n % 60) n refl e f) ∙ h) in
     let rest = and_parts (contains s.minutes (n / 60 % 60)) (contains s.seconds (n % 60)) parts.1 in
     among_from s (n / 3600) (n / 60 % 60) (n % 60) parts.0 rest.0 rest.1
 
 -- the nearest second of the day is the nearest time
-pub nearest_time : (way : Way) (s : Sets) (start : TimeOfDay) (from : ℕ) (found : Option ℕ) → AreSets s → start.minute < 60 → start.second < 60 → from ≡ start.hour * 3600 + start.minute * 60 + start.second → IsNearest way (matches_second s) (pos from) found → IsNearestTime way s start (option_map time_at found)
+pub nearest_time : (way : Way) (s : Sets) (start : TimeOfDay) (from : ℕ) (found : Option ℕ) → AreSets s → start.minute < 60 → start.second < 60
+    → from ≡ start.hour * 3600 + start.minute * 60 + start.second → IsNearest way (matches_second s) (pos from) found
+    → IsNearestTime way s start (option_map time_at found)
 unfolding number
 nearest_time way s start from found sets low short e h =
     let P : ℕ → Type 0 = λ n. IsNearest way (matches_second s) (pos n) found in

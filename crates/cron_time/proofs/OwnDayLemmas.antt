@@ -18,7 +18,8 @@ use Rattle.cron_time.proofs.DaySearchLemmas.{time_fits}
 use Rattle.cron_time.proofs.StandLemmas.{split_stands}
 
 -- the search from the next number on is the search past a number
-pub found_past : (way : Way) (s : Sets) (z : TimeZone) (day time from : ℕ) (found : Option (List Reading)) → pos from ≡ beyond way time → FindsInDay way s z day from found → MatchOption found (AllFail way (stands_at s z day) (beyond way time)) (FindsTimePast way s z day time)
+pub found_past : (way : Way) (s : Sets) (z : TimeZone) (day time from : ℕ) (found : Option (List Reading)) → pos from ≡ beyond way time
+    → FindsInDay way s z day from found → MatchOption found (AllFail way (stands_at s z day) (beyond way time)) (FindsTimePast way s z day time)
 found_past way s z day time from None e h =
     let P : ℤ → Type 0 = AllFail way (stands_at s z day) in subst P e h
 found_past way s z day time from (Some items) e h =
@@ -43,7 +44,8 @@ past_time Ahead c r h = omega (arith, signed_arith)
 past_time Back c r h = omega (arith, signed_arith)
 
 -- between a civil second and one of its day lie those of the day alone
-between : (way : Way) (c r k : ℕ) → r < 86_400 → LiesFrom way (beyond way c) k → Precedes way k (c / 86_400 * 86_400 + r) → (k / 86_400 ≡ c / 86_400) × Precedes way (k % 86_400) r
+between : (way : Way) (c r k : ℕ) → r < 86_400 → LiesFrom way (beyond way c) k → Precedes way k (c / 86_400 * 86_400 + r)
+    → (k / 86_400 ≡ c / 86_400) × Precedes way (k % 86_400) r
 between Ahead c r k h lies lt = (omega (arith, signed_arith), omega (arith, signed_arith))
 between Back c r k h lies gt = (omega (arith, signed_arith), omega (arith, signed_arith))
 
@@ -53,7 +55,8 @@ silent_in s z day k e h =
     (split_stands s z).rest_fails k (subst P (sym e) h)
 
 -- what is found in the own day is found
-pub own_day : (way : Way) (s : Sets) (z : TimeZone) (c : ℕ) (items : List Reading) → FindsTimePast way s z (c / 86_400) (c % 86_400) items → IsFoundAt way s z (beyond way c) items
+pub own_day : (way : Way) (s : Sets) (z : TimeZone) (c : ℕ) (items : List Reading) → FindsTimePast way s z (c / 86_400) (c % 86_400) items
+    → IsFoundAt way s z (beyond way c) items
 own_day way s z c items h =
     let fits = time_fits s z (c / 86_400) h.time h.nearest.passes in
     record {
@@ -69,7 +72,9 @@ own_day way s z c items h =
     }
 
 -- where the own day has nothing more, what is found past it is found
-pub later_day : (way : Way) (s : Sets) (z : TimeZone) (c : ℕ) (found : Option (List Reading)) → AllFail way (stands_at s z (c / 86_400)) (beyond way (c % 86_400)) → IsFound way s z (beyond_day way (c / 86_400)) found → IsFound way s z (beyond way c) found
+pub later_day : (way : Way) (s : Sets) (z : TimeZone) (c : ℕ) (found : Option (List Reading))
+    → AllFail way (stands_at s z (c / 86_400)) (beyond way (c % 86_400)) → IsFound way s z (beyond_day way (c / 86_400)) found
+    → IsFound way s z (beyond way c) found
 later_day way s z c None own h = λ k lies.
     elim (cases_eq (k / 86_400) (c / 86_400)) [
       | inl same ↦ silent_in s z (c / 86_400) k same (own (k % 86_400) (rest_past way c k lies same))
@@ -88,10 +93,14 @@ later_day way s z c (Some items) own h = record {
   items = h.items;
 }
 
-pub own_found : (way : Way) (s : Sets) (z : TimeZone) (c : ℕ) (found : Option Found) → is_some found ≡ true → MatchOption (option_map found_items found) (AllFail way (stands_at s z (c / 86_400)) (beyond way (c % 86_400))) (FindsTimePast way s z (c / 86_400) (c % 86_400)) → IsFound way s z (beyond way c) (option_map found_items found)
+pub own_found : (way : Way) (s : Sets) (z : TimeZone) (c : ℕ) (found : Option Found) → is_some found ≡ true
+    → MatchOption (option_map found_items found) (AllFail way (stands_at s z (c / 86_400)) (beyond way (c % 86_400)))
+    (FindsTimePast way s z (c / 86_400) (c % 86_400)) → IsFound way s z (beyond way c) (option_map found_items found)
 own_found way s z c None e h = cc
 own_found way s z c (Some f) e h = own_day way s z c (found_items f) h
 
-pub own_none : (way : Way) (s : Sets) (z : TimeZone) (c : ℕ) (found : Option Found) → is_some found ≡ false → MatchOption (option_map found_items found) (AllFail way (stands_at s z (c / 86_400)) (beyond way (c % 86_400))) (FindsTimePast way s z (c / 86_400) (c % 86_400)) → AllFail way (stands_at s z (c / 86_400)) (beyond way (c % 86_400))
+pub own_none : (way : Way) (s : Sets) (z : TimeZone) (c : ℕ) (found : Option Found) → is_some found ≡ false
+    → MatchOption (option_map found_items found) (AllFail way (stands_at s z (c / 86_400)) (beyond way (c % 86_400)))
+    (FindsTimePast way s z (c / 86_400) (c % 86_400)) → AllFail way (stands_at s z (c / 86_400)) (beyond way (c % 86_400))
 own_none way s z c None e h = h
 own_none way s z c (Some f) e h = cc

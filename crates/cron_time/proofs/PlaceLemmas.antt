@@ -27,7 +27,8 @@ nothing_in_nil zero x e = cc
 nothing_in_nil (suc i) x e = cc
 
 module _ {A : Type 0} (p : A → Bool) where
-  position_from-at : (n : ℕ) (xs : List A) (i : ℕ) (x : A) → slice_get xs i ≡ Some x → p x ≡ true → ((k : ℕ) (y : A) → k < i → slice_get xs k ≡ Some y → p y ≡ false) → position_from p n xs ≡ Some (n + i)
+  position_from-at : (n : ℕ) (xs : List A) (i : ℕ) (x : A) → slice_get xs i ≡ Some x → p x ≡ true
+      → ((k : ℕ) (y : A) → k < i → slice_get xs k ≡ Some y → p y ≡ false) → position_from p n xs ≡ Some (n + i)
   position_from-at n [] i x here holds none = absurd (nothing_in_nil i x here)
   position_from-at n (y ∷ ys) zero x here holds none =
       let passes : p y ≡ true = cc in rw passes (ap Some (omega arith))
@@ -41,7 +42,8 @@ module _ {A : Type 0} (p : A → Bool) where
       let fails : p y ≡ false = none 0 y refl in
       rw fails (position_from-none (n + 1) ys (λ k w at. none (suc k) w at))
 
-  position-at : (xs : List A) (i : ℕ) (x : A) → slice_get xs i ≡ Some x → p x ≡ true → ((k : ℕ) (y : A) → k < i → slice_get xs k ≡ Some y → p y ≡ false) → position p xs ≡ Some i
+  position-at : (xs : List A) (i : ℕ) (x : A) → slice_get xs i ≡ Some x → p x ≡ true → ((k : ℕ) (y : A) → k < i → slice_get xs k ≡ Some y → p y ≡ false)
+      → position p xs ≡ Some i
   position-at xs i x here holds none =
       position_from-zero p xs ∙ position_from-at 0 xs i x here holds none ∙ ap Some (omega arith)
 
@@ -54,7 +56,8 @@ module _ {A : Type 0} (p : A → Bool) where
       let fails : p y ≡ false = none 0 y refl in
       rw (fails, last_place-none ys (λ k w at. none (suc k) w at)) refl
 
-  last_place-at : (xs : List A) (i : ℕ) (x : A) → slice_get xs i ≡ Some x → p x ≡ true → ((k : ℕ) (y : A) → i < k → slice_get xs k ≡ Some y → p y ≡ false) → last_place p xs ≡ Some i
+  last_place-at : (xs : List A) (i : ℕ) (x : A) → slice_get xs i ≡ Some x → p x ≡ true → ((k : ℕ) (y : A) → i < k → slice_get xs k ≡ Some y → p y ≡ false)
+      → last_place p xs ≡ Some i
   last_place-at [] i x here holds none = absurd (nothing_in_nil i x here)
   last_place-at (y ∷ ys) zero x here holds none =
       let passes : p y ≡ true = cc in
@@ -81,13 +84,17 @@ pub fails_le : (a b : ℤ) → ¬ (a ≤ℤ b) → int_le a b ≡ false
 fails_le a b h = grind (arith, ints)
 
 -- the place of an item from the bound on, before which there is none
-pub place_from-at : (way : Way) (b : ℤ) (items : List Reading) (i : ℕ) (x : Reading) → slice_get items i ≡ Some x → LiesFrom way b x.second → ((k : ℕ) (y : Reading) → Precedes way k i → slice_get items k ≡ Some y → ¬ (LiesFrom way b y.second)) → place_from way items (Some b) ≡ Some i
+pub place_from-at : (way : Way) (b : ℤ) (items : List Reading) (i : ℕ) (x : Reading) → slice_get items i ≡ Some x → LiesFrom way b x.second
+    → ((k : ℕ) (y : Reading) → Precedes way k i → slice_get items k ≡ Some y → ¬ (LiesFrom way b y.second)) → place_from way items (Some b) ≡ Some i
 place_from-at Ahead b items i x here holds none =
-    position-at (λ (r : Reading). int_le b (pos r.second)) items i x here (holds_le b (pos x.second) holds) (λ k y lt at. fails_le b (pos y.second) (none k y lt at))
+    position-at (λ (r : Reading). int_le b (pos r.second)) items i x here (holds_le b (pos x.second) holds)
+    (λ k y lt at. fails_le b (pos y.second) (none k y lt at))
 place_from-at Back b items i x here holds none =
-    last_place-at (λ (r : Reading). int_le (pos r.second) b) items i x here (holds_le (pos x.second) b holds) (λ k y gt at. fails_le (pos y.second) b (none k y gt at))
+    last_place-at (λ (r : Reading). int_le (pos r.second) b) items i x here (holds_le (pos x.second) b holds)
+    (λ k y gt at. fails_le (pos y.second) b (none k y gt at))
 
-pub place_from-none : (way : Way) (b : ℤ) (items : List Reading) → ((k : ℕ) (y : Reading) → slice_get items k ≡ Some y → ¬ (LiesFrom way b y.second)) → place_from way items (Some b) ≡ None
+pub place_from-none : (way : Way) (b : ℤ) (items : List Reading) → ((k : ℕ) (y : Reading) → slice_get items k ≡ Some y → ¬ (LiesFrom way b y.second))
+    → place_from way items (Some b) ≡ None
 place_from-none Ahead b items none =
     position-none (λ (r : Reading). int_le b (pos r.second)) items (λ k y at. fails_le b (pos y.second) (none k y at))
 place_from-none Back b items none =

@@ -15,11 +15,13 @@ pub readings-by : (z : TimeZone) (c : ℕ) (a : AmbiguousOffset) → ambiguous_a
 unfolding readings
 readings-by z c a e = ap (readings_by c) e
 
-pub readings-same : (z : TimeZone) (c : ℕ) (b a : Offset) → ambiguous_at z (civil c) ≡ Fold b a → int_eq b.seconds a.seconds ≡ true → readings z c ≡ reading c b ∷ []
+pub readings-same : (z : TimeZone) (c : ℕ) (b a : Offset) → ambiguous_at z (civil c) ≡ Fold b a → int_eq b.seconds a.seconds ≡ true
+    → readings z c ≡ reading c b ∷ []
 unfolding readings
 readings-same z c b a e same = rw (e, same)
 
-pub readings-apart : (z : TimeZone) (c : ℕ) (b a : Offset) → ambiguous_at z (civil c) ≡ Fold b a → int_eq b.seconds a.seconds ≡ false → readings z c ≡ reading c b ∷ reading c a ∷ []
+pub readings-apart : (z : TimeZone) (c : ℕ) (b a : Offset) → ambiguous_at z (civil c) ≡ Fold b a → int_eq b.seconds a.seconds ≡ false
+    → readings z c ≡ reading c b ∷ reading c a ∷ []
 unfolding readings
 readings-apart z c b a e apart = rw (e, apart)
 

@@ -1,5 +1,5 @@
 -- A call takes the first of the items that are still to come in its direction.
-use Rattle.std.proofs.Common.{◌≡◌, ℕ, zero, suc, ◌+◌, ◌<◌, ℤ, pos, int_le, Bool, List, [], ◌∷◌, ◌++◌, drop, take, reverse, length, Option, Some, None, refl, sym, ap, subst, ◌∙◌, arith}
+use Rattle.std.proofs.Common.{◌≡◌, ℕ, zero, suc, ◌+◌, ◌/◌, ◌<◌, ℤ, pos, int_le, Bool, false, List, [], ◌∷◌, ◌++◌, drop, take, reverse, length, Option, Some, None, refl, sym, ap, subst, ◌∙◌, arith}
 use Rattle.std.specs.Prelude.{MatchOption, slice_get}
 use Rattle.std.specs.Iterator.{YieldsFirst}
 use Rattle.std.proofs.lemmas.Iterator.{YieldsList}
@@ -20,7 +20,11 @@ use Rattle.cron_time.specs.Ways.{target, place_from, place_beside, bound}
 use Rattle.cron_time.specs.Inner.Stand.{Stand}
 use Rattle.cron_time.specs.Inner.Stand as Kept
 use Rattle.cron_time.proofs.PlaceLemmas.{position-in}
-use Rattle.cron_time.proofs.StepLemmas.{kept_in}
+use Rattle.cron_time.proofs.StepLemmas.{kept_in, reached_none}
+use Rattle.cron_time.proofs.DayLemmas.{no_day}
+use Rattle.cron_time.proofs.StandLemmas.{split_stands}
+use Rattle.cron_time.specs.Search.{stands}
+use Rattle.cron_time.specs.Inner.Places.{matches_place}
 
 -- the step goes from one list of items to come to the next
 abbrev Takes : Way → List Reading → TimeZone → List Reading → Step → Type 0
@@ -38,7 +42,8 @@ drop_cases (x ∷ xs) zero = refl
 drop_cases (x ∷ xs) (suc i) =
     let next : suc i + 1 ≡ suc (i + 1) = omega arith in rw next (drop_cases xs i)
 
-takes_ahead : (items : List Reading) (z : TimeZone) (i : ℕ) (o : Option Reading) → MatchOption o (drop i items ≡ []) (λ x. drop i items ≡ x ∷ drop (i + 1) items) → Takes Ahead items z (drop i items) (item_at i o)
+takes_ahead : (items : List Reading) (z : TimeZone) (i : ℕ) (o : Option Reading)
+    → MatchOption o (drop i items ≡ []) (λ x. drop i items ≡ x ∷ drop (i + 1) items) → Takes Ahead items z (drop i items) (item_at i o)
 takes_ahead items z i None h = (h, refl)
 takes_ahead items z i (Some x) h = h
 
@@ -47,7 +52,8 @@ before_place : (items : List Reading) (i : ℕ) → items_from Back items (place
 before_place items zero = refl
 before_place items (suc i) = let e : i + 1 ≡ suc i = omega arith in rw e refl
 
-takes_back : (items : List Reading) (z : TimeZone) (i : ℕ) (o : Option Reading) → i < length items → slice_get items i ≡ o → Takes Back items z (reverse (take (i + 1) items)) (item_at i o)
+takes_back : (items : List Reading) (z : TimeZone) (i : ℕ) (o : Option Reading) → i < length items → slice_get items i ≡ o
+    → Takes Back items z (reverse (take (i + 1) items)) (item_at i o)
 takes_back items z i None lt e = absurd (there items i lt e)
   where
     there : (xs : List Reading) (k : ℕ) → k < length xs → slice_get xs k ≡ None → ⊥
@@ -59,7 +65,8 @@ takes_back items z i (Some x) lt e =
     ∙ reverse-append (take i items) (x ∷ [])
     ∙ ap (λ xs. x ∷ xs) (sym (before_place items i))
 
-takes_go_to : (way : Way) (items : List Reading) (z : TimeZone) (place : Option ℕ) → IsIn way items place → Takes way items z (items_from way items place) (go_to items place)
+takes_go_to : (way : Way) (items : List Reading) (z : TimeZone) (place : Option ℕ) → IsIn way items place
+    → Takes way items z (items_from way items place) (go_to items place)
 takes_go_to way items z None h = (refl, refl)
 takes_go_to Ahead items z (Some i) h = takes_ahead items z i (slice_get items i) (drop_cases items i)
 takes_go_to Back items z (Some i) h = takes_back items z i (slice_get items i) h refl
@@ -72,7 +79,8 @@ step-target Back items z (Place i) = refl
 step-target way items z Ended = refl
 
 -- from where a walk stands
-target-in : (way : Way) (s : Sets) (z : TimeZone) (state : Stand) → IsPlaced s z state → IsIn way (timeline s z) (target way (timeline s z) z (cursor_of s z state))
+target-in : (way : Way) (s : Sets) (z : TimeZone) (state : Stand) → IsPlaced s z state
+    → IsIn way (timeline s z) (target way (timeline s z) z (cursor_of s z state))
 target-in Ahead s z state h = tt
 target-in Back s z (Kept.Start t) h = back_in (bound Back z t)
   where
@@ -94,20 +102,32 @@ target-in Back s z (Kept.At f later) h = before_in (place_of s z f.first.second 
 target-in Back s z Kept.Ended h = tt
 
 -- a call of a walk takes the first of the items to come
-yields : (way : Way) (s : Sets) (z : TimeZone) (from to : Stand) (old : Walk) (r : Option Reading) → IsPlaced s z from → record { sets = s; zone = z; cursor = cursor_of s z from } ≡ old → IsStop way s z (cursor_of s z from) to → r ≡ answer_of to → YieldsFirst (rest way) old r (record { sets = s; zone = z; cursor = cursor_of s z to })
+yields : (way : Way) (s : Sets) (z : TimeZone) (from to : Stand) (old : Walk) (r : Option Reading) → IsPlaced s z from
+    → record { sets = s; zone = z; cursor = cursor_of s z from } ≡ old → IsStop way s z (cursor_of s z from) to → r ≡ answer_of to
+    → YieldsFirst (rest way) old r (record { sets = s; zone = z; cursor = cursor_of s z to })
 yields way s z from to old r placed is stop answer =
     let items = timeline s z in
     let c = cursor_of s z from in
     let took = takes_go_to way items z (target way items z c) (target-in way s z from placed) in
-    let stepped : go_to items (target way items z c) ≡ record { answer = answer_of to; cursor = cursor_of s z to } = sym (step-target way items z c) ∙ stop.leads in
+    let stepped : go_to items (target way items z c) ≡ record { answer = answer_of to; cursor = cursor_of s z to } = sym (step-target way items z c)
+    ∙ stop.leads in
     rw (answer, ← is) (rw stepped at took)
 
 -- a call of a walk makes a step of its cursor
-steps : (way : Way) (s : Sets) (z : TimeZone) (from to : Stand) (old : Walk) (r : Option Reading) → record { sets = s; zone = z; cursor = cursor_of s z from } ≡ old → IsStop way s z (cursor_of s z from) to → r ≡ answer_of to → Steps way old r (record { sets = s; zone = z; cursor = cursor_of s z to })
+steps : (way : Way) (s : Sets) (z : TimeZone) (from to : Stand) (old : Walk) (r : Option Reading)
+    → record { sets = s; zone = z; cursor = cursor_of s z from } ≡ old → IsStop way s z (cursor_of s z from) to → r ≡ answer_of to
+    → Steps way old r (record { sets = s; zone = z; cursor = cursor_of s z to })
 steps way s z from to old r is stop answer =
-    rw (← is) (record { answer = answer ∙ ap (λ (q : Step). q.answer) (sym stop.leads); cursor = ap (λ (q : Step). q.cursor) (sym stop.leads); sets = refl; zone = refl })
+    rw (← is) (record {
+      answer = answer ∙ ap (λ (q : Step). q.answer) (sym stop.leads);
+      cursor = ap (λ (q : Step). q.cursor) (sym stop.leads);
+      sets = refl;
+      zone = refl;
+    })
 
-pub gives : (way : Way) (s : Sets) (z : TimeZone) (from to : Stand) (old : Walk) (r : Option Reading) → IsPlaced s z from → record { sets = s; zone = z; cursor = cursor_of s z from } ≡ old → IsStop way s z (cursor_of s z from) to → r ≡ answer_of to → Gives way old r (record { sets = s; zone = z; cursor = cursor_of s z to })
+pub gives : (way : Way) (s : Sets) (z : TimeZone) (from to : Stand) (old : Walk) (r : Option Reading) → IsPlaced s z from
+    → record { sets = s; zone = z; cursor = cursor_of s z from } ≡ old → IsStop way s z (cursor_of s z from) to → r ≡ answer_of to
+    → Gives way old r (record { sets = s; zone = z; cursor = cursor_of s z to })
 gives way s z from to old r placed is stop answer =
     record { cursor = steps way s z from to old r is stop answer; items = yields way s z from to old r placed is stop answer }
 
@@ -117,7 +137,8 @@ YieldsList-from_walk way {w} items is =
     subst (YieldsList (Gives way) (λ x. x) w) is (YieldsList-from_shown (Gives way) (λ x. x) (rest way) (λ s t g. ap length g.items.0) (λ s x t g. g.items) w)
 
 -- a call at a start leaves the walk at the first item from the bound on
-pub start_stop : (way : Way) (s : Sets) (z : TimeZone) (t : ℤ) (b : ℤ) (stand : Stand) → bound way z t ≡ Some b → IsReached way s z b stand → IsStop way s z (Start t) stand
+pub start_stop : (way : Way) (s : Sets) (z : TimeZone) (t : ℤ) (b : ℤ) (stand : Stand) → bound way z t ≡ Some b → IsReached way s z b stand
+    → IsStop way s z (Start t) stand
 start_stop way s z t b stand e h = record {
   placed = h.placed;
   leads = step-target way (timeline s z) z (Start t) ∙ ap (λ x. go_to (timeline s z) (place_from way (timeline s z) x)) e ∙ h.leads;
@@ -130,5 +151,18 @@ place_from_nothing Back items = refl
 pub start_ends : (way : Way) (s : Sets) (z : TimeZone) (t : ℤ) → bound way z t ≡ None → IsStop way s z (Start t) Kept.Ended
 start_ends way s z t e = record {
   placed = tt;
-  leads = step-target way (timeline s z) z (Start t) ∙ ap (λ x. go_to (timeline s z) (place_from way (timeline s z) x)) e ∙ ap (go_to (timeline s z)) (place_from_nothing way (timeline s z));
+  leads = step-target way (timeline s z) z (Start t) ∙ ap (λ x. go_to (timeline s z) (place_from way (timeline s z) x)) e
+      ∙ ap (go_to (timeline s z)) (place_from_nothing way (timeline s z));
 }
+
+-- a call at a start where no civil second stands ends the walk, whatever its bound is
+pub start_nowhere : (way : Way) (s : Sets) (z : TimeZone) (t : ℤ) → ((k : ℕ) → stands s z k ≡ false) → IsStop way s z (Start t) Kept.Ended
+start_nowhere way s z t none = by_bound (bound way z t) refl
+  where
+    by_bound : (b : Option ℤ) → bound way z t ≡ b → IsStop way s z (Start t) Kept.Ended
+    by_bound None e = start_ends way s z t e
+    by_bound (Some b) e = start_stop way s z t b Kept.Ended e (reached_none way s z b (λ k lies. none k))
+
+-- where no month has a day of the set, no civil second stands
+pub nowhere : (s : Sets) (z : TimeZone) → ((p : ℕ) → matches_place s p ≡ false) → (k : ℕ) → stands s z k ≡ false
+nowhere s z none k = (split_stands s z).block_fails k (no_day s none (k / 86_400))

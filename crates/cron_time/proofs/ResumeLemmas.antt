@@ -49,7 +49,8 @@ pub absent_past : (s : Sets) (z : TimeZone) (r : Reading) → ¬ (r.second < sec
 absent_past s z r past = λ i e. past (item_of s z i r e).high
 
 -- nor does one that is none of the items of its civil second
-pub absent_among : (s : Sets) (z : TimeZone) (r : Reading) (items : List Reading) → items ≡ items_of s z r.second → ((j : ℕ) → slice_get items j ≡ Some r → ⊥) → IsAbsent s z r
+pub absent_among : (s : Sets) (z : TimeZone) (r : Reading) (items : List Reading) → items ≡ items_of s z r.second
+    → ((j : ℕ) → slice_get items j ≡ Some r → ⊥) → IsAbsent s z r
 absent_among s z r items same none = λ i e.
     let item = item_of s z i r e in
     none item.at (subst (λ (xs : List Reading). slice_get xs item.at ≡ Some r) (sym same) item.here)
@@ -58,7 +59,8 @@ pub absent_nowhere : (s : Sets) (z : TimeZone) (r : Reading) → [] ≡ items_of
 absent_nowhere s z r same = absent_among s z r [] same (λ j. nothing_in_nil j r)
 
 -- what is kept of an item's civil second
-pub kept_of : (s : Sets) (z : TimeZone) (r : Reading) (f : Found) (later : Bool) → r.second < seconds_in_range → found_items f ≡ items_of s z r.second → reading_of f later ≡ Some r → IsKept s z f later
+pub kept_of : (s : Sets) (z : TimeZone) (r : Reading) (f : Found) (later : Bool) → r.second < seconds_in_range → found_items f ≡ items_of s z r.second
+    → reading_of f later ≡ Some r → IsKept s z f later
 kept_of s z r f later high same is =
     let first : f.first.second ≡ r.second = items_of-second s z r.second 0 f.first (subst (λ (xs : List Reading). slice_get xs 0 ≡ Some f.first) same refl) in
     record {
@@ -67,7 +69,8 @@ kept_of s z r f later high same is =
       inside = slice_get_within (found_items f) (index later) r (reading_of-item f later ∙ is);
     }
 
-pub at_item : (s : Sets) (z : TimeZone) (r : Reading) (f : Found) (later : Bool) → IsKept s z f later → reading_of f later ≡ Some r → IsAtItem s z r (cursor_of s z (Kept.At f later))
+pub at_item : (s : Sets) (z : TimeZone) (r : Reading) (f : Found) (later : Bool) → IsKept s z f later → reading_of f later ≡ Some r
+    → IsAtItem s z r (cursor_of s z (Kept.At f later))
 at_item s z r f later kept is =
     record { place = place_of s z f.first.second later; item = kept_item s z f later kept ∙ is; cursor = refl }
 

@@ -24,7 +24,8 @@ unfolding matches civil time_numbered
 matches_at s k =
     let rest : k % 86_400 % 3600 ≡ k % 3600 = omega arith in
     let sec : k % 60 ≡ k % 3600 % 60 = omega arith in
-    rw (rest, sec) (ap (λ b. matches_date s (date_numbered (k / 86_400)).0 && b) (and_assoc (contains s.hours (k % 86_400 / 3600)) (contains s.minutes (k % 3600 / 60)) (contains s.seconds (k % 3600 % 60))))
+    rw (rest, sec) (ap (λ b. matches_date s (date_numbered (k / 86_400)).0 && b)
+    (and_assoc (contains s.hours (k % 86_400 / 3600)) (contains s.minutes (k % 3600 / 60)) (contains s.seconds (k % 3600 % 60))))
 
 pub day_of_place : (day r : ℕ) → r < 86_400 → (day * 86_400 + r) / 86_400 ≡ day
 day_of_place day r h = omega arith
@@ -47,23 +48,28 @@ unmatched s z c h = rw h (and_right (nat_lt c 4_133_980_800) false refl)
 pub second_fails : (s : Sets) (z : TimeZone) (day r : ℕ) → matches_second s r ≡ false → stands_at s z day r ≡ false
 second_fails s z day r h =
     elim (cases_lt r 86_400) [
-      | inl lt ↦ and_right (nat_lt r 86_400) (stands s z (day * 86_400 + r)) (unmatched s z (day * 86_400 + r) (matches_time_of s day r lt ∙ and_right (matches_date s (date_numbered day).0) (matches_second s r) h))
+      | inl lt ↦ and_right (nat_lt r 86_400) (stands s z (day * 86_400 + r))
+          (unmatched s z (day * 86_400 + r) (matches_time_of s day r lt ∙ and_right (matches_date s (date_numbered day).0) (matches_second s r) h))
       | inr ge ↦ and_left (nat_lt r 86_400) (stands s z (day * 86_400 + r)) (le-ltb r 86_400 ge)
     ]
 
 -- the items of one that matches are its readings
-pub items_at : (s : Sets) (z : TimeZone) (day r : ℕ) → r < 86_400 → matches_date s (date_numbered day).0 ≡ true → matches_second s r ≡ true → items_of s z (day * 86_400 + r) ≡ readings z (day * 86_400 + r)
+pub items_at : (s : Sets) (z : TimeZone) (day r : ℕ) → r < 86_400 → matches_date s (date_numbered day).0 ≡ true → matches_second s r ≡ true
+    → items_of s z (day * 86_400 + r) ≡ readings z (day * 86_400 + r)
 unfolding items_of
 items_at s z day r h date time =
     rw (matches_time_of s day r h ∙ and_from (matches_date s (date_numbered day).0) (matches_second s r) date time) refl
 
 pub silent : (s : Sets) (z : TimeZone) (day r : ℕ) → items_of s z (day * 86_400 + r) ≡ [] → stands_at s z day r ≡ false
 silent s z day r h =
-    and_right (nat_lt r 86_400) (stands s z (day * 86_400 + r)) (and_right (nat_lt (day * 86_400 + r) 4_133_980_800) (has_item (items_of s z (day * 86_400 + r))) (rw h refl))
+    and_right (nat_lt r 86_400) (stands s z (day * 86_400 + r))
+    (and_right (nat_lt (day * 86_400 + r) 4_133_980_800) (has_item (items_of s z (day * 86_400 + r))) (rw h refl))
 
 pub heard : (s : Sets) (z : TimeZone) (day r : ℕ) → day < 47_847 → r < 86_400 → has_item (items_of s z (day * 86_400 + r)) ≡ true → stands_at s z day r ≡ true
 heard s z day r small h item =
-    and_from (nat_lt r 86_400) (stands s z (day * 86_400 + r)) (lt-ltb r 86_400 h) (and_from (nat_lt (day * 86_400 + r) 4_133_980_800) (has_item (items_of s z (day * 86_400 + r))) (lt-ltb (day * 86_400 + r) 4_133_980_800 (omega arith)) item)
+    and_from (nat_lt r 86_400) (stands s z (day * 86_400 + r)) (lt-ltb r 86_400 h)
+    (and_from (nat_lt (day * 86_400 + r) 4_133_980_800) (has_item (items_of s z (day * 86_400 + r)))
+    (lt-ltb (day * 86_400 + r) 4_133_980_800 (omega arith)) item)
 
 -- nothing stands on a day that is no candidate
 day_fails : (s : Sets) (z : TimeZone) (n : ℕ) → candidate_day s (n / 86_400) ≡ false → stands s z n ≡ false
@@ -71,7 +77,8 @@ day_fails s z n h =
     elim (and_cases (nat_lt (n / 86_400) 47_847) (is_candidate s (date_numbered (n / 86_400)).0) h) [
       | inl far ↦ let ge : 47_847 ≤ n / 86_400 = ltb-false (n / 86_400) 47_847 far in
           and_left (nat_lt n 4_133_980_800) (has_item (items_of s z n)) (le-ltb n 4_133_980_800 (omega arith))
-      | inr out ↦ unmatched s z n (matches_at s n ∙ and_left (matches_date s (date_numbered (n / 86_400)).0) (matches_second s (n % 86_400)) (and_left (is_candidate s (date_numbered (n / 86_400)).0) _ out))
+      | inr out ↦ unmatched s z n (matches_at s n ∙ and_left (matches_date s (date_numbered (n / 86_400)).0) (matches_second s (n % 86_400))
+          (and_left (is_candidate s (date_numbered (n / 86_400)).0) _ out))
     ]
 
 -- a day stands only in the range and where its date matches

@@ -55,7 +55,8 @@ last-inside Back f = let e = length_found f in omega arith
 -- ---- from a place where the walk stands
 
 -- the item there
-pub kept_item : (s : Sets) (z : TimeZone) (f : Found) (later : Bool) → IsKept s z f later → slice_get (timeline s z) (place_of s z f.first.second later) ≡ reading_of f later
+pub kept_item : (s : Sets) (z : TimeZone) (f : Found) (later : Bool) → IsKept s z f later
+    → slice_get (timeline s z) (place_of s z f.first.second later) ≡ reading_of f later
 kept_item s z f later k =
     let inside : index later < length (items_of s z f.first.second) = rw k.items k.inside in
     item_in s z f.first.second (index later) k.high inside ∙ ap (λ xs. slice_get xs (index later)) k.items ∙ reading_of-item f later
@@ -95,7 +96,8 @@ not_back_of : (c d : ℕ) → c ≤ d → ¬ (pos d ≤ℤ (pos c -ℤ pos 1))
 not_back_of c d h k = omega (arith, signed_arith)
 
 -- the items from the number beyond c on begin behind, or end before, the items of c
-after_items : (s : Sets) (z : TimeZone) (c : ℕ) → go_to (timeline s z) (Some (before s z (c + 1))) ≡ go_to (timeline s z) (place_from Ahead (timeline s z) (Some (beyond Ahead c)))
+after_items : (s : Sets) (z : TimeZone) (c : ℕ) → go_to (timeline s z) (Some (before s z (c + 1)))
+    ≡ go_to (timeline s z) (place_from Ahead (timeline s z) (Some (beyond Ahead c)))
 after_items s z c =
     let items = timeline s z in
     let n = before s z (c + 1) in
@@ -109,11 +111,13 @@ after_items s z c =
           rw (
             go_to-past items n past.0,
             place_from-none Ahead (beyond Ahead c) items
-                (λ k y at. not_ahead_of c y.second (let in_list = slice_get_within items k y at in let below = early s z k y (c + 1) at (omega arith) in omega arith)),
+                (λ k y at. not_ahead_of c y.second (let in_list = slice_get_within items k y at in let below = early s z k y (c + 1) at (omega arith) in
+                omega arith)),
           ) refl
     ]
 
-before_items : (s : Sets) (z : TimeZone) (c n : ℕ) → c ≤ 4_133_980_800 → n ≡ before s z c → go_to (timeline s z) (place_beside Back n) ≡ go_to (timeline s z) (place_from Back (timeline s z) (Some (beyond Back c)))
+before_items : (s : Sets) (z : TimeZone) (c n : ℕ) → c ≤ 4_133_980_800 → n ≡ before s z c
+    → go_to (timeline s z) (place_beside Back n) ≡ go_to (timeline s z) (place_from Back (timeline s z) (Some (beyond Back c)))
 before_items s z c zero high is =
     ap (go_to (timeline s z)) (sym (place_from-none Back (beyond Back c) (timeline s z)
     (λ k y at. not_back_of c y.second (late s z k y c at (omega arith)))))
@@ -126,7 +130,9 @@ before_items s z c (suc m) high is =
     (λ k y gt at. not_back_of c y.second (late s z k y c at (omega arith)))))
 
 -- from the last reading in its direction a call goes to the first item from the number beyond on
-pub from_last : (way : Way) (s : Sets) (z : TimeZone) (f : Found) (later : Bool) → IsKept s z f later → later ≡ last_is_later way f → step_on (timeline s z) z way (Place (place_of s z f.first.second later)) ≡ go_to (timeline s z) (place_from way (timeline s z) (Some (beyond way f.first.second)))
+pub from_last : (way : Way) (s : Sets) (z : TimeZone) (f : Found) (later : Bool) → IsKept s z f later → later ≡ last_is_later way f
+    → step_on (timeline s z) z way (Place (place_of s z f.first.second later))
+    ≡ go_to (timeline s z) (place_from way (timeline s z) (Some (beyond way f.first.second)))
 from_last Ahead s z f later k last =
     let size = length_found f in
     let next = before-next s z f.first.second in
@@ -142,7 +148,9 @@ from_last Back s z f later k last =
 -- ---- where a search leads
 
 -- what precedes the first place of a civil second has a civil second that precedes it
-precedes : (way : Way) (s : Sets) (z : TimeZone) (f : Found) (k : ℕ) (y : Reading) → items_of s z f.first.second ≡ found_items f → Precedes way k (place_of s z f.first.second (last_is_later (opposite way) f)) → slice_get (timeline s z) k ≡ Some y → Precedes way y.second f.first.second
+precedes : (way : Way) (s : Sets) (z : TimeZone) (f : Found) (k : ℕ) (y : Reading) → items_of s z f.first.second ≡ found_items f
+    → Precedes way k (place_of s z f.first.second (last_is_later (opposite way) f)) → slice_get (timeline s z) k ≡ Some y
+    → Precedes way y.second f.first.second
 precedes Ahead s z f k y items lt at =
     early s z k y f.first.second at (omega arith)
 precedes Back s z f k y items gt at =
@@ -156,7 +164,8 @@ found_second : (s : Sets) (z : TimeZone) (f : Found) (c : ℕ) → items_of s z 
 found_second s z f c items =
     items_of-second s z c 0 f.first (ap (λ xs. slice_get xs 0) items)
 
-is_kept : (way : Way) (s : Sets) (z : TimeZone) (f : Found) → stands s z f.first.second ≡ true → items_of s z f.first.second ≡ found_items f → IsKept s z f (last_is_later way f)
+is_kept : (way : Way) (s : Sets) (z : TimeZone) (f : Found) → stands s z f.first.second ≡ true → items_of s z f.first.second ≡ found_items f
+    → IsKept s z f (last_is_later way f)
 is_kept way s z f here items = record {
   high = stands-high s z f.first.second here;
   items = items;
@@ -169,7 +178,8 @@ reading_there f later inside =
     let there = item_there (found_items f) (index later) inside in
     (there.0, sym (reading_of-item f later) ∙ there.1)
 
-pub reached_at : (way : Way) (s : Sets) (z : TimeZone) (b : ℤ) (f : Found) → IsFoundAt way s z b (found_items f) → IsReached way s z b (Kept.At f (last_is_later (opposite way) f))
+pub reached_at : (way : Way) (s : Sets) (z : TimeZone) (b : ℤ) (f : Found) → IsFoundAt way s z b (found_items f)
+    → IsReached way s z b (Kept.At f (last_is_later (opposite way) f))
 reached_at way s z b f h =
     let c = f.first.second in
     let later = last_is_later (opposite way) f in
@@ -180,9 +190,11 @@ reached_at way s z b f h =
     let kept = is_kept (opposite way) s z f here items in
     let there = reading_there f later kept.inside in
     let item = kept_item s z f later kept ∙ there.1 in
-    let second : there.0.second ≡ c = items_of-second s z c (index later) there.0 (ap (λ xs. slice_get xs (index later)) items ∙ reading_of-item f later ∙ there.1) in
+    let second : there.0.second ≡ c = items_of-second s z c (index later) there.0 (ap (λ xs. slice_get xs (index later)) items ∙ reading_of-item f later
+    ∙ there.1) in
     let place = place_from-at way b (timeline s z) (place_of s z c later) there.0 item (rw second lies)
-    (λ k y before_it at from. true≢false (sym (is_in s z k y at).stands ∙ h.nearest.nearest y.second from (rw (← number) (precedes way s z f k y items before_it at)))) in
+    (λ k y before_it at from. true≢false (sym (is_in s z k y at).stands
+    ∙ h.nearest.nearest y.second from (rw (← number) (precedes way s z f k y items before_it at)))) in
     record {
       placed = kept;
       leads = rw (place, there.1) (go_to-reading (timeline s z) (place_of s z c later) there.0 item);
@@ -196,26 +208,37 @@ reached_none way s z b none = record {
       (λ k y at from. true≢false (sym (is_in s z k y at).stands ∙ none y.second from)));
 }
 
-pub reached : (way : Way) (s : Sets) (z : TimeZone) (b : ℤ) (found : Option Found) → IsFound way s z b (option_map found_items found) → IsReached way s z b (stop_of way found)
+pub reached : (way : Way) (s : Sets) (z : TimeZone) (b : ℤ) (found : Option Found) → IsFound way s z b (option_map found_items found)
+    → IsReached way s z b (stop_of way found)
 reached way s z b None h = reached_none way s z b h
 reached way s z b (Some f) h = reached_at way s z b f h
 
 -- the date of a civil second that is kept matches
-pub kept_date : (s : Sets) (z : TimeZone) (f : Found) (later : Bool) → IsKept s z f later → matches_date s (date_numbered (f.first.second / 86_400)).0 ≡ true
+kept_parts : (s : Sets) (z : TimeZone) (f : Found) (later : Bool) → IsKept s z f later
+    → (matches_date s (date_numbered (f.first.second / 86_400)).0 ≡ true) × (matches_second s (f.first.second % 86_400) ≡ true)
 unfolding items_of
-kept_date s z f later k =
+kept_parts s z f later k =
     elim (cases_Bool (matches s (civil f.first.second))) [
-      | inl inside ↦ (and_parts (matches_date s (date_numbered (f.first.second / 86_400)).0) (matches_second s (f.first.second % 86_400)) (sym (matches_at s f.first.second) ∙ inside)).0
+      | inl inside ↦ and_parts (matches_date s (date_numbered (f.first.second / 86_400)).0) (matches_second s (f.first.second % 86_400))
+          (sym (matches_at s f.first.second) ∙ inside)
       | inr out ↦ let none : items_of s z f.first.second ≡ [] = rw out refl in let e = sym none ∙ k.items in cc
     ]
 
+pub kept_date : (s : Sets) (z : TimeZone) (f : Found) (later : Bool) → IsKept s z f later → matches_date s (date_numbered (f.first.second / 86_400)).0 ≡ true
+kept_date s z f later k = (kept_parts s z f later k).0
+
+pub kept_time : (s : Sets) (z : TimeZone) (f : Found) (later : Bool) → IsKept s z f later → matches_second s (f.first.second % 86_400) ≡ true
+kept_time s z f later k = (kept_parts s z f later k).1
+
 -- ---- the calls
 
-pub last_stop : (way : Way) (s : Sets) (z : TimeZone) (f : Found) (later : Bool) (state : Stand) → IsKept s z f later → later ≡ last_is_later way f → IsReached way s z (beyond way f.first.second) state → IsStop way s z (Place (place_of s z f.first.second later)) state
+pub last_stop : (way : Way) (s : Sets) (z : TimeZone) (f : Found) (later : Bool) (state : Stand) → IsKept s z f later → later ≡ last_is_later way f
+    → IsReached way s z (beyond way f.first.second) state → IsStop way s z (Place (place_of s z f.first.second later)) state
 last_stop way s z f later state k last h = record { placed = h.placed; leads = from_last way s z f later k last ∙ h.leads }
 
 -- the other reading of the same civil second
-turned : (way : Way) (s : Sets) (z : TimeZone) (f : Found) (later : Bool) → ¬ (later ≡ last_is_later way f) → IsKept s z f later → step_on (timeline s z) z way (Place (place_of s z f.first.second later)) ≡ go_to (timeline s z) (Some (place_of s z f.first.second (not later)))
+turned : (way : Way) (s : Sets) (z : TimeZone) (f : Found) (later : Bool) → ¬ (later ≡ last_is_later way f) → IsKept s z f later
+    → step_on (timeline s z) z way (Place (place_of s z f.first.second later)) ≡ go_to (timeline s z) (Some (place_of s z f.first.second (not later)))
 turned Ahead s z f false h k =
     let e : place_of s z f.first.second false + 1 ≡ place_of s z f.first.second true = omega arith in rw e refl
 turned Ahead s z f true h k =
@@ -240,11 +263,13 @@ other-inside Ahead f false h = let size = length_found f in some (is_some f.seco
 other-inside Back f true h = let size = length_found f in omega arith
 other-inside Back f false h = absurd (h refl)
 
-pub other_stop : (way : Way) (s : Sets) (z : TimeZone) (f : Found) (later : Bool) → IsKept s z f later → ¬ (later ≡ last_is_later way f) → IsStop way s z (Place (place_of s z f.first.second later)) (Kept.At f (not later))
+pub other_stop : (way : Way) (s : Sets) (z : TimeZone) (f : Found) (later : Bool) → IsKept s z f later → ¬ (later ≡ last_is_later way f)
+    → IsStop way s z (Place (place_of s z f.first.second later)) (Kept.At f (not later))
 other_stop way s z f later k differ =
     let kept : IsKept s z f (not later) = record { high = k.high; items = k.items; inside = other-inside way f later differ } in
     let there = reading_there f (not later) kept.inside in
     record {
       placed = kept;
-      leads = turned way s z f later differ k ∙ rw there.1 (go_to-reading (timeline s z) (place_of s z f.first.second (not later)) there.0 (kept_item s z f (not later) kept ∙ there.1));
+      leads = turned way s z f later differ k ∙ rw there.1
+          (go_to-reading (timeline s z) (place_of s z f.first.second (not later)) there.0 (kept_item s z f (not later) kept ∙ there.1));
     }

@@ -50,7 +50,8 @@ count_up test a n h =
     let P : ℕ → Type 0 = λ m. count_by test (numbers_below a) ≤ count_by test (numbers_below m) in
     subst P e (omega (arith, count_add test a (n - a)))
 
-count_flat : (test : ℕ → Bool) (a n : ℕ) → a ≤ n → ((k : ℕ) → a ≤ k → k < n → test k ≡ false) → count_by test (numbers_below n) ≡ count_by test (numbers_below a)
+count_flat : (test : ℕ → Bool) (a n : ℕ) → a ≤ n → ((k : ℕ) → a ≤ k → k < n → test k ≡ false)
+    → count_by test (numbers_below n) ≡ count_by test (numbers_below a)
 count_flat test a zero le none = let e : a ≡ 0 = omega arith in ap (λ n. count_by test (numbers_below n)) (sym e)
 count_flat test a (suc n) le none =
     elim (cases_lt n a) [
@@ -60,19 +61,28 @@ count_flat test a (suc n) le none =
     ]
 
 -- a number that passes stands behind as many as pass before it
-pub place_passing : (test : ℕ → Bool) (limit c : ℕ) → c < limit → test c ≡ true → slice_get (filter test (numbers_below limit)) (count_by test (numbers_below c)) ≡ Some c
+pub place_passing : (test : ℕ → Bool) (limit c : ℕ) → c < limit → test c ≡ true
+    → slice_get (filter test (numbers_below limit)) (count_by test (numbers_below c)) ≡ Some c
 place_passing test zero c lt h = absurd (omega arith)
 place_passing test (suc n) c lt h =
     elim (cases_lt c n) [
       | inl less ↦
           let up = count_up test (c + 1) n (omega arith) in
           let here = add_one test c h in
-          ap (λ xs. slice_get xs (count_by test (numbers_below c))) (filter_next test n) ∙ slice_get-left (filter test (numbers_below n)) (filter test (n ∷ [])) (count_by test (numbers_below c)) (omega (arith, filter_count test n, here, up)) ∙ place_passing test n c less h
+          ap (λ xs. slice_get xs (count_by test (numbers_below c))) (filter_next test n)
+          ∙ slice_get-left (filter test (numbers_below n)) (filter test (n ∷ [])) (count_by test (numbers_below c))
+          (omega (arith, filter_count test n, here, up)) ∙ place_passing test n c less h
       | inr ge ↦
           let same : c ≡ n = omega arith in
-          let e : count_by test (numbers_below c) ≡ length (filter test (numbers_below n)) + 0 = omega (arith, filter_count test n, ap (λ k. count_by test (numbers_below k)) same) in
+          let e : count_by test (numbers_below c) ≡ length (filter test (numbers_below n)) + 0 = omega (
+            arith,
+            filter_count test n,
+            ap (λ k. count_by test (numbers_below k)) same,
+          ) in
           let P : ℕ → Type 0 = λ k. test k ≡ true in
-          ap (λ xs. slice_get xs (count_by test (numbers_below c))) (filter_next test n) ∙ ap (slice_get (filter test (numbers_below n) ++ filter test (n ∷ []))) e ∙ slice_get-append (filter test (numbers_below n)) (filter test (n ∷ [])) 0 ∙ last n (subst P same h) ∙ ap Some (sym same)
+          ap (λ xs. slice_get xs (count_by test (numbers_below c))) (filter_next test n)
+          ∙ ap (slice_get (filter test (numbers_below n) ++ filter test (n ∷ []))) e
+          ∙ slice_get-append (filter test (numbers_below n)) (filter test (n ∷ [])) 0 ∙ last n (subst P same h) ∙ ap Some (sym same)
     ]
   where
     last : (n : ℕ) → test n ≡ true → slice_get (filter test (n ∷ [])) 0 ≡ Some n
@@ -80,7 +90,8 @@ place_passing test (suc n) c lt h =
 
 -- ---- stretches one after the other
 
-within_joined : (test : ℕ → Bool) (a b c : ℕ) → a ≤ b → b ≤ c → count_within test (record { from = a; to = b }) + count_within test (record { from = b; to = c }) ≡ count_within test (record { from = a; to = c })
+within_joined : (test : ℕ → Bool) (a b c : ℕ) → a ≤ b → b ≤ c
+    → count_within test (record { from = a; to = b }) + count_within test (record { from = b; to = c }) ≡ count_within test (record { from = a; to = c })
 within_joined test a b c h k =
     kind_unique c _ _ _
     (kind_joined c _ _ _ _ _ (within_kind c test (record { from = a; to = b }) k) (within_kind c test (record { from = b; to = c }) (omega arith))
@@ -91,26 +102,33 @@ within_joined test a b c h k =
 
 within_none : (test : ℕ → Bool) (a : ℕ) → test a ≡ false → count_within test (record { from = a; to = a + 1 }) ≡ 0
 within_none test a fails =
-    kind_unique (a + 1) _ _ _ (within_kind (a + 1) test (record { from = a; to = a + 1 }) (omega arith)) (kind_none (a + 1) _ (λ k lt p. both_ways (test a) fails (let e : k ≡ a = omega (arith, p.0, p.1) in let P : ℕ → Type 0 = λ n. test n ≡ true in subst P e p.2)))
+    kind_unique (a + 1) _ _ _ (within_kind (a + 1) test (record { from = a; to = a + 1 }) (omega arith))
+    (kind_none (a + 1) _ (λ k lt p. both_ways (test a) fails (let e : k ≡ a = omega (arith, p.0, p.1) in let P : ℕ → Type 0 = λ n. test n ≡ true in
+    subst P e p.2)))
 
 within_one : (test : ℕ → Bool) (a : ℕ) → count_within test (record { from = a; to = a + 1 }) ≤ 1
 within_one test a =
     elim (cases_Bool (test a)) [
       | inl passes ↦
-          let e = kind_unique (a + 1) _ _ _ (within_kind (a + 1) test (record { from = a; to = a + 1 }) (omega arith)) (kind_one (a + 1) _ a (omega arith) (omega arith, omega arith, passes) (λ k lt p. omega (arith, p.0, p.1))) in
+          let e = kind_unique (a + 1) _ _ _ (within_kind (a + 1) test (record { from = a; to = a + 1 }) (omega arith))
+          (kind_one (a + 1) _ a (omega arith) (omega arith, omega arith, passes) (λ k lt p. omega (arith, p.0, p.1))) in
           omega (arith, e)
       | inr fails ↦ omega (arith, within_none test a fails)
     ]
 
 -- a number that fails between two stretches adds nothing
-within_past : (test : ℕ → Bool) (a c d : ℕ) → a ≤ c → c < d → test c ≡ false → count_within test (record { from = a; to = c }) + count_within test (record { from = c + 1; to = d }) ≡ count_within test (record { from = a; to = d })
+within_past : (test : ℕ → Bool) (a c d : ℕ) → a ≤ c → c < d → test c ≡ false
+    → count_within test (record { from = a; to = c }) + count_within test (record { from = c + 1; to = d })
+    ≡ count_within test (record { from = a; to = d })
 within_past test a c d h lt fails =
     omega (arith, within_none test c fails, within_joined test a c (c + 1) h (omega arith), within_joined test a (c + 1) d (omega arith) (omega arith))
 
 -- days that are looked at twice at a seam
 record Seam (test : ℕ → Bool) (a d e end : ℕ) : Type 0 where
-  pub low : count_within test (record { from = a; to = end }) ≤ count_within test (record { from = a; to = d + 1 }) + count_within test (record { from = e; to = end })
-  pub high : count_within test (record { from = a; to = d + 1 }) + count_within test (record { from = e; to = end }) ≤ count_within test (record { from = a; to = end }) + 1
+  pub low : count_within test (record { from = a; to = end }) ≤ count_within test (record { from = a; to = d + 1 }) + count_within test
+      (record { from = e; to = end })
+  pub high : count_within test (record { from = a; to = d + 1 }) + count_within test (record { from = e; to = end }) ≤ count_within test
+      (record { from = a; to = end }) + 1
 
 seam : (test : ℕ → Bool) (a d e end : ℕ) → a ≤ d → d ≤ e → e ≤ d + 1 → d + 1 ≤ end → Seam test a d e end
 seam test a d e end h low high fits =
@@ -181,7 +199,8 @@ none_below test = refl
 pub survey_starts : (s : Sets) (z : TimeZone) (from : ℤ) → IsSurveyed s z from from 0 0 0
 survey_starts s z from = record {
   from_on = omega (arith, signed_arith);
-  found = count_flat (stands_from s z from) 0 (low_end from) (omega arith) (λ k low high. and_left (int_le from (pos k)) (stands s z k) (fails_le from (pos k) (not_low from k high))) ∙ none_below (stands_from s z from);
+  found = count_flat (stands_from s z from) 0 (low_end from) (omega arith)
+      (λ k low high. and_left (int_le from (pos k)) (stands s z k) (fails_le from (pos k) (not_low from k high))) ∙ none_below (stands_from s z from);
   costs = inl (record { next_is = refl; none = refl; days_none = refl; asked_none = refl });
 }
 
@@ -193,11 +212,15 @@ gap_none s z c h =
     and_right (matches s (civil c)) (not (has_item (readings z c))) (ap not heard)
 
 -- one more was found
-count_to : (s : Sets) (z : TimeZone) (from next : ℤ) (k c : ℕ) → count_by (stands_from s z from) (numbers_below (low_end next)) ≡ k → IsNearestAt Ahead (stands s z) next c → count_by (stands_from s z from) (numbers_below c) ≡ k
+count_to : (s : Sets) (z : TimeZone) (from next : ℤ) (k c : ℕ) → count_by (stands_from s z from) (numbers_below (low_end next)) ≡ k
+    → IsNearestAt Ahead (stands s z) next c → count_by (stands_from s z from) (numbers_below c) ≡ k
 count_to s z from next k c counted h =
-    count_flat (stands_from s z from) (low_end next) c (lies_low next c h.lies) (λ n low high. and_right (int_le from (pos n)) (stands s z n) (h.nearest n (low_lies next n low) high)) ∙ counted
+    count_flat (stands_from s z from) (low_end next) c (lies_low next c h.lies)
+    (λ n low high. and_right (int_le from (pos n)) (stands s z n) (h.nearest n (low_lies next n low) high)) ∙ counted
 
-come : (s : Sets) (z : TimeZone) (from next : ℤ) (k days asked c : ℕ) → from ≤ℤ next → IsNearestAt Ahead (stands s z) next c → slice_get (standing_from s z from) k ≡ Some c → Begun from next k days asked ⊎ Come s z from next k days asked → Come s z from (pos (c + 1)) (k + 1) (days + days_of Ahead s next (Some c)) (asked + conversions Ahead s z next (Some c))
+come : (s : Sets) (z : TimeZone) (from next : ℤ) (k days asked c : ℕ) → from ≤ℤ next → IsNearestAt Ahead (stands s z) next c
+    → slice_get (standing_from s z from) k ≡ Some c → Begun from next k days asked ⊎ Come s z from next k days asked
+    → Come s z from (pos (c + 1)) (k + 1) (days + days_of Ahead s next (Some c)) (asked + conversions Ahead s z next (Some c))
 come s z from next k days asked c on h at (inl b) =
     let e : k + 1 - 1 ≡ k = omega arith in
     let P : ℕ → Type 0 = λ n. slice_get (standing_from s z from) n ≡ Some c in
@@ -226,7 +249,8 @@ come s z from next k days asked c on h at (inr b) =
     let same_asked = subst A (sym b.next_is) refl in
     let later : b.last < c = omega (arith, signed_arith, h.lies, b.next_is) in
     let gaps = within_past (is_gap_match s z) (low_end from) b.last c b.low later b.no_gap in
-    let days_at = seam (day_test s) (low_end from / 86_400) (b.last / 86_400) ((b.last + 1) / 86_400) (c / 86_400 + 1) (omega (arith, b.low)) (omega arith) (omega arith) (omega (arith, later)) in
+    let days_at = seam (day_test s) (low_end from / 86_400) (b.last / 86_400) ((b.last + 1) / 86_400) (c / 86_400 + 1) (omega (arith, b.low))
+    (omega arith) (omega arith) (omega (arith, later)) in
     record {
       last = c;
       next_is = refl;
@@ -240,7 +264,9 @@ come s z from next k days asked c on h at (inr b) =
       most = omega (arith, same_days, b.most, days_at.high);
     }
 
-pub survey_more : (s : Sets) (z : TimeZone) (from next : ℤ) (k days asked c : ℕ) → IsSurveyed s z from next k days asked → IsNearestAt Ahead (stands s z) next c → IsSurveyed s z from (pos (c + 1)) (k + 1) (days + days_of Ahead s next (Some c)) (asked + conversions Ahead s z next (Some c))
+pub survey_more : (s : Sets) (z : TimeZone) (from next : ℤ) (k days asked c : ℕ) → IsSurveyed s z from next k days asked
+    → IsNearestAt Ahead (stands s z) next c
+    → IsSurveyed s z from (pos (c + 1)) (k + 1) (days + days_of Ahead s next (Some c)) (asked + conversions Ahead s z next (Some c))
 unfolding standing_from
 survey_more s z from next k days asked c so h =
     let on : from ≤ℤ pos c = omega (arith, signed_arith, so.from_on, h.lies) in
@@ -269,7 +295,8 @@ within_nothing : (test : ℕ → Bool) → count_within test (record { from = 0;
 within_nothing test = omega (arith, kind_bound 0 _ _ (within_kind 0 test (record { from = 0; to = 0 }) (omega arith)))
 
 -- so many were found
-pub survey_full : (s : Sets) (z : TimeZone) (from next : ℤ) (count k days asked : ℕ) → k ≡ count → IsSurveyed s z from next k days asked → IsSurvey s z from count k days asked
+pub survey_full : (s : Sets) (z : TimeZone) (from next : ℤ) (count k days asked : ℕ) → k ≡ count → IsSurveyed s z from next k days asked
+    → IsSurvey s z from count k days asked
 survey_full s z from next count k days asked e so = full count e so.costs
   where
     full : (count : ℕ) → k ≡ count → Begun from next k days asked ⊎ Come s z from next k days asked → IsSurvey s z from count k days asked
@@ -296,18 +323,22 @@ survey_full s z from next count k days asked e so = full count e so.costs
         }
 
 -- a search found none, so fewer were found
-counted_all : (s : Sets) (z : TimeZone) (from next : ℤ) (k days asked : ℕ) → IsSurveyed s z from next k days asked → AllFail Ahead (stands s z) next → count_by (stands_from s z from) (numbers_below 4_133_980_800) ≡ k
+counted_all : (s : Sets) (z : TimeZone) (from next : ℤ) (k days asked : ℕ) → IsSurveyed s z from next k days asked → AllFail Ahead (stands s z) next
+    → count_by (stands_from s z from) (numbers_below 4_133_980_800) ≡ k
 counted_all s z from next k days asked so none =
     elim (cases_lt 4_133_980_800 (low_end next)) [
       | inl past ↦ all_past past so.costs
-      | inr ge ↦ count_flat (stands_from s z from) (low_end next) 4_133_980_800 ge (λ n low high. and_right (int_le from (pos n)) (stands s z n) (none n (low_lies next n low))) ∙ so.found
+      | inr ge ↦ count_flat (stands_from s z from) (low_end next) 4_133_980_800 ge
+          (λ n low high. and_right (int_le from (pos n)) (stands s z n) (none n (low_lies next n low))) ∙ so.found
     ]
   where
-    all_past : 4_133_980_800 < low_end next → Begun from next k days asked ⊎ Come s z from next k days asked → count_by (stands_from s z from) (numbers_below 4_133_980_800) ≡ k
+    all_past : 4_133_980_800 < low_end next → Begun from next k days asked ⊎ Come s z from next k days asked
+        → count_by (stands_from s z from) (numbers_below 4_133_980_800) ≡ k
     all_past past (inl b) = omega (arith, count_up (stands_from s z from) 4_133_980_800 (low_end next) (omega (arith, past)), so.found, b.none)
     all_past past (inr b) = let e : low_end next ≡ b.last + 1 = ap low_end b.next_is in absurd (omega (arith, past, e, b.high))
 
-pub survey_end : (s : Sets) (z : TimeZone) (from next : ℤ) (count k days asked : ℕ) → k < count → IsSurveyed s z from next k days asked → AllFail Ahead (stands s z) next → IsSurvey s z from count k (days + days_of Ahead s next None) (asked + conversions Ahead s z next None)
+pub survey_end : (s : Sets) (z : TimeZone) (from next : ℤ) (count k days asked : ℕ) → k < count → IsSurveyed s z from next k days asked
+    → AllFail Ahead (stands s z) next → IsSurvey s z from count k (days + days_of Ahead s next None) (asked + conversions Ahead s z next None)
 survey_end s z from next zero k days asked lt so none = absurd (omega arith)
 survey_end s z from next (suc n) k days asked lt so none =
     let all = in_all s z from ∙ counted_all s z from next k days asked so none in
@@ -319,7 +350,8 @@ survey_end s z from next (suc n) k days asked lt so none =
       most_days = rw past (days_all so.costs).1;
     }
   where
-    asked_all : Begun from next k days asked ⊎ Come s z from next k days asked → asked + conversions Ahead s z next None ≡ gap_matches s z (passed Ahead from None) + k
+    asked_all : Begun from next k days asked ⊎ Come s z from next k days asked
+        → asked + conversions Ahead s z next None ≡ gap_matches s z (passed Ahead from None) + k
     asked_all (inl b) =
         let A : ℤ → Type 0 = λ m. conversions Ahead s z m None ≡ conversions Ahead s z from None in
         omega (arith, subst A (sym b.next_is) refl, b.none, b.asked_none)
@@ -327,18 +359,22 @@ survey_end s z from next (suc n) k days asked lt so none =
         let A : ℤ → Type 0 = λ m. conversions Ahead s z m None ≡ conversions Ahead s z (pos (b.last + 1)) None in
         omega (arith, subst A (sym b.next_is) refl, b.asked, within_past (is_gap_match s z) (low_end from) b.last 4_133_980_800 b.low b.high b.no_gap)
 
-    days_all : Begun from next k days asked ⊎ Come s z from next k days asked → (candidates s (span Ahead from None) ≤ days + days_of Ahead s next None) × (days + days_of Ahead s next None ≤ candidates s (span Ahead from None) + k)
+    days_all : Begun from next k days asked ⊎ Come s z from next k days asked
+        → (candidates s (span Ahead from None) ≤ days + days_of Ahead s next None)
+        × (days + days_of Ahead s next None ≤ candidates s (span Ahead from None) + k)
     days_all (inl b) =
         let D : ℤ → Type 0 = λ m. days_of Ahead s m None ≡ days_of Ahead s from None in
         let same = subst D (sym b.next_is) refl in (omega (arith, same, b.days_none), omega (arith, same, b.days_none))
     days_all (inr b) =
         let D : ℤ → Type 0 = λ m. days_of Ahead s m None ≡ days_of Ahead s (pos (b.last + 1)) None in
         let same = subst D (sym b.next_is) refl in
-        let days_at = seam (day_test s) (low_end from / 86_400) (b.last / 86_400) ((b.last + 1) / 86_400) 47_847 (omega (arith, b.low)) (omega arith) (omega arith) (omega (arith, b.high)) in
+        let days_at = seam (day_test s) (low_end from / 86_400) (b.last / 86_400) ((b.last + 1) / 86_400) 47_847 (omega (arith, b.low)) (omega arith)
+        (omega arith) (omega (arith, b.high)) in
         (omega (arith, same, b.least, days_at.low), omega (arith, same, b.most, days_at.high))
 
 -- the counts stay small
-pub survey_bound : (s : Sets) (z : TimeZone) (from next : ℤ) (k days asked : ℕ) → k < 2 ^ 32 → IsSurveyed s z from next k days asked → (days < 2 ^ 60) × (asked < 2 ^ 60)
+pub survey_bound : (s : Sets) (z : TimeZone) (from next : ℤ) (k days asked : ℕ) → k < 2 ^ 32 → IsSurveyed s z from next k days asked
+    → (days < 2 ^ 60) × (asked < 2 ^ 60)
 survey_bound s z from next k days asked small so = bound so.costs
   where
     bound : Begun from next k days asked ⊎ Come s z from next k days asked → (days < 2 ^ 60) × (asked < 2 ^ 60)

@@ -29,7 +29,8 @@ count_same p q (suc n) h =
     let here : p n ≡ q n = h n (omega arith) in
     count_step p n ∙ (rw (below, here) (sym (count_step q n)))
 
-count_sum : (p q r : ℕ → Bool) (n : ℕ) → ((k : ℕ) → k < n → cond (p k) 1 0 + cond (q k) 1 0 ≡ cond (r k) 1 0) → count_by p (numbers_below n) + count_by q (numbers_below n) ≡ count_by r (numbers_below n)
+count_sum : (p q r : ℕ → Bool) (n : ℕ) → ((k : ℕ) → k < n → cond (p k) 1 0 + cond (q k) 1 0 ≡ cond (r k) 1 0)
+    → count_by p (numbers_below n) + count_by q (numbers_below n) ≡ count_by r (numbers_below n)
 count_sum p q r zero h = rw (count_zero p, count_zero q, count_zero r) refl
 count_sum p q r (suc n) h =
     omega (arith, count_sum p q r n (λ k lt. h k (omega arith)), h n (omega arith), count_step p n, count_step q n, count_step r n)
@@ -61,7 +62,8 @@ same_tests true q h = sym (h.0 refl)
 same_tests false true h = h.1 refl
 same_tests false false h = refl
 
-pub kind_same : (limit : ℕ) (P Q : ℕ → Type 0) (count : ℕ) → ((k : ℕ) → k < limit → P k → Q k) → ((k : ℕ) → k < limit → Q k → P k) → IsTally limit P count → IsTally limit Q count
+pub kind_same : (limit : ℕ) (P Q : ℕ → Type 0) (count : ℕ) → ((k : ℕ) → k < limit → P k → Q k) → ((k : ℕ) → k < limit → Q k → P k) → IsTally limit P count
+    → IsTally limit Q count
 kind_same limit P Q count to back h = record {
   test = h.test;
   tells = λ k lt. (λ e. to k lt ((h.tells k lt).0 e), λ q. (h.tells k lt).1 (back k lt q));
@@ -88,25 +90,32 @@ either true false h = refl
 either false true h = refl
 either false false h = refl
 
-pub kind_joined : (limit : ℕ) (P Q R : ℕ → Type 0) (a b : ℕ) → IsTally limit P a → IsTally limit Q b → ((k : ℕ) → k < limit → P k → Q k → ⊥) → ((k : ℕ) → k < limit → P k ⊎ Q k → R k) → ((k : ℕ) → k < limit → R k → P k ⊎ Q k) → IsTally limit R (a + b)
+pub kind_joined : (limit : ℕ) (P Q R : ℕ → Type 0) (a b : ℕ) → IsTally limit P a → IsTally limit Q b → ((k : ℕ) → k < limit → P k → Q k → ⊥)
+    → ((k : ℕ) → k < limit → P k ⊎ Q k → R k) → ((k : ℕ) → k < limit → R k → P k ⊎ Q k) → IsTally limit R (a + b)
 kind_joined limit P Q R a b p q apart to back = record {
   test = λ k. p.test k || q.test k;
   tells = λ k lt. (
     λ e. to k lt (elim (or_cases (p.test k) (q.test k) e) [ inl x ↦ inl ((p.tells k lt).0 x) | inr y ↦ inr ((q.tells k lt).0 y) ]),
     λ r. elim (back k lt r) [ inl x ↦ or_left (p.test k) (q.test k) ((p.tells k lt).1 x) | inr y ↦ or_right (p.test k) (q.test k) ((q.tells k lt).1 y) ],
   );
-  total = rw (p.total, q.total) (count_sum p.test q.test (λ k. p.test k || q.test k) limit (λ k lt. either (p.test k) (q.test k) (λ x y. apart k lt ((p.tells k lt).0 x) ((q.tells k lt).0 y))));
+  total = rw (p.total, q.total) (count_sum p.test q.test (λ k. p.test k || q.test k) limit
+      (λ k lt. either (p.test k) (q.test k) (λ x y. apart k lt ((p.tells k lt).0 x) ((q.tells k lt).0 y))));
 }
 
 pub kind_bound : (limit : ℕ) (P : ℕ → Type 0) (a : ℕ) → IsTally limit P a → a ≤ limit
 kind_bound limit P a h = rw h.total (count_bound h.test limit)
 
-pub kind_total : (limit : ℕ) (P : ℕ → Type 0) (a : ℕ) (test : ℕ → Bool) → IsTally limit P a → ((k : ℕ) → k < limit → (test k ≡ true) ↔ P k) → a ≡ count_by test (numbers_below limit)
+pub kind_total : (limit : ℕ) (P : ℕ → Type 0) (a : ℕ) (test : ℕ → Bool) → IsTally limit P a → ((k : ℕ) → k < limit → (test k ≡ true) ↔ P k)
+    → a ≡ count_by test (numbers_below limit)
 kind_total limit P a test h tells =
-    h.total ∙ count_same h.test test limit (λ k lt. same_tests (h.test k) (test k) (λ e. (tells k lt).1 ((h.tells k lt).0 e), λ e. (h.tells k lt).1 ((tells k lt).0 e)))
+    h.total ∙ count_same h.test test limit (λ k lt. same_tests (h.test k) (test k) (
+      λ e. (tells k lt).1 ((h.tells k lt).0 e),
+      λ e. (h.tells k lt).1 ((tells k lt).0 e),
+    ))
 
 -- what a search has passed before the first number, the next one, the answer and the end
-pub passed_start : (way : Way) (limit : ℕ) (test : ℕ → Bool) (start : ℤ) (next : Option ℕ) → IsNearest way test start next → IsTally limit (IsPassedBefore way test start next) 0
+pub passed_start : (way : Way) (limit : ℕ) (test : ℕ → Bool) (start : ℤ) (next : Option ℕ) → IsNearest way test start next
+    → IsTally limit (IsPassedBefore way test start next) 0
 passed_start way limit test start None h = kind_none limit _ (λ k lt p. both_ways (test k) (h k p.lies) p.passes)
 passed_start way limit test start (Some n) h = kind_none limit _ (λ k lt p. both_ways (test k) (h.nearest k p.lies p.until) p.passes)
 
@@ -122,19 +131,24 @@ apart_from way test start n k p e =
     let P : ℕ → Type 0 = λ x. Precedes way x n in not_itself way n (subst P e p.until)
 
 -- the number itself is passed
-pub itself : (way : Way) (test : ℕ → Bool) (start : ℤ) (n : ℕ) (next : Option ℕ) → test n ≡ true → LiesFrom way start n → IsNearest way test (beyond way n) next → IsPassedBefore way test start next n
+pub itself : (way : Way) (test : ℕ → Bool) (start : ℤ) (n : ℕ) (next : Option ℕ) → test n ≡ true → LiesFrom way start n
+    → IsNearest way test (beyond way n) next → IsPassedBefore way test start next n
 itself way test start n None passes lies h = record { passes = passes; lies = lies; until = tt }
 itself way test start n (Some m) passes lies h = record { passes = passes; lies = lies; until = after_beyond way n m h.lies }
 
-earlier : (way : Way) (test : ℕ → Bool) (start : ℤ) (n k : ℕ) (next : Option ℕ) → IsNearest way test (beyond way n) next → IsPassedBefore way test start (Some n) k → IsPassedBefore way test start next k
+earlier : (way : Way) (test : ℕ → Bool) (start : ℤ) (n k : ℕ) (next : Option ℕ) → IsNearest way test (beyond way n) next
+    → IsPassedBefore way test start (Some n) k → IsPassedBefore way test start next k
 earlier way test start n k None h p = record { passes = p.passes; lies = p.lies; until = tt }
 earlier way test start n k (Some m) h p = record { passes = p.passes; lies = p.lies; until = precedes_along way k n m p.until (after_beyond way n m h.lies) }
 
-no_other : (way : Way) (test : ℕ → Bool) (start : ℤ) (n k : ℕ) (next : Option ℕ) → IsNearest way test (beyond way n) next → IsPassedBefore way test start next k → LiesFrom way (beyond way n) k → ⊥
+no_other : (way : Way) (test : ℕ → Bool) (start : ℤ) (n k : ℕ) (next : Option ℕ) → IsNearest way test (beyond way n) next
+    → IsPassedBefore way test start next k → LiesFrom way (beyond way n) k → ⊥
 no_other way test start n k None h p lies = both_ways (test k) (h k lies) p.passes
 no_other way test start n k (Some m) h p lies = both_ways (test k) (h.nearest k lies p.until) p.passes
 
-pub passed_next : (way : Way) (limit : ℕ) (test : ℕ → Bool) (start : ℤ) (n count : ℕ) (next : Option ℕ) → n < limit → test n ≡ true → LiesFrom way start n → IsNearest way test (beyond way n) next → IsTally limit (IsPassedBefore way test start (Some n)) count → IsTally limit (IsPassedBefore way test start next) (count + 1)
+pub passed_next : (way : Way) (limit : ℕ) (test : ℕ → Bool) (start : ℤ) (n count : ℕ) (next : Option ℕ) → n < limit → test n ≡ true → LiesFrom way start n
+    → IsNearest way test (beyond way n) next → IsTally limit (IsPassedBefore way test start (Some n)) count
+    → IsTally limit (IsPassedBefore way test start next) (count + 1)
 passed_next way limit test start n count next lt passes lies h counted =
     kind_joined limit (IsPassedBefore way test start (Some n)) (λ k. k ≡ n) (IsPassedBefore way test start next) count 1 counted (passed_one limit n lt)
     (λ k below p e. apart_from way test start n k p e)
@@ -148,7 +162,8 @@ passed_next way limit test start n count next lt passes lies h counted =
       | after past gt ↦ absurd (no_other way test start n k next h p past)
     ])
 
-pub passed_found : (way : Way) (limit : ℕ) (test : ℕ → Bool) (start : ℤ) (n count : ℕ) → n < limit → test n ≡ true → LiesFrom way start n → IsTally limit (IsPassedBefore way test start (Some n)) count → IsTally limit (IsPassedTo way test start (Some n)) (count + 1)
+pub passed_found : (way : Way) (limit : ℕ) (test : ℕ → Bool) (start : ℤ) (n count : ℕ) → n < limit → test n ≡ true → LiesFrom way start n
+    → IsTally limit (IsPassedBefore way test start (Some n)) count → IsTally limit (IsPassedTo way test start (Some n)) (count + 1)
 passed_found way limit test start n count lt passes lies counted =
     kind_joined limit (IsPassedBefore way test start (Some n)) (λ k. k ≡ n) (IsPassedTo way test start (Some n)) count 1 counted (passed_one limit n lt)
     (λ k below p e. apart_from way test start n k p e)
@@ -172,15 +187,25 @@ count_add p a (suc n) =
 past_block : (w day r : ℕ) → 0 < w → (day * w + (w + r)) / w * w ≡ day * w → ⊥
 past_block w day r h q = omega (arith, div-add-mod' (day * w + (w + r)) w)
 
-count_block : (w day rest : ℕ) (p : ℕ → Bool) → 0 < w → count_by (λ k. nat_eq (k / w) day && p (k % w)) (numbers_below (day * w + (w + rest))) ≡ count_by p (numbers_below w)
+count_block : (w day rest : ℕ) (p : ℕ → Bool) → 0 < w → count_by (λ k. nat_eq (k / w) day && p (k % w)) (numbers_below (day * w + (w + rest)))
+    ≡ count_by p (numbers_below w)
 count_block w day rest p positive =
     let t : ℕ → Bool = λ k. nat_eq (k / w) day && p (k % w) in
-    let below : count_by t (numbers_below (day * w)) ≡ 0 = count_same t (λ k. false) (day * w) (λ k lt. and_left (nat_eq (k / w) day) (p (k % w)) (ne_eqb (k / w) day (λ e. let q : k / w * w ≡ day * w = rw e refl in omega (arith, div-add-mod' k w, q)))) ∙ count_none (day * w) in
-    let here : count_by (λ r. t (day * w + r)) (numbers_below w) ≡ count_by p (numbers_below w) = count_same (λ r. t (day * w + r)) p w (λ r lt. rw (div_of w day r lt, mod_of w day r lt) (rw (eq-eqb day day refl) refl)) in
-    let past : count_by (λ r. t (day * w + (w + r))) (numbers_below rest) ≡ 0 = count_same (λ r. t (day * w + (w + r))) (λ k. false) rest (λ r lt. and_left (nat_eq ((day * w + (w + r)) / w) day) (p ((day * w + (w + r)) % w)) (ne_eqb ((day * w + (w + r)) / w) day (λ e. let q : (day * w + (w + r)) / w * w ≡ day * w = rw e refl in past_block w day r positive q))) ∙ count_none rest in
+    let below : count_by t (numbers_below (day * w)) ≡ 0 = count_same t (λ k. false) (day * w)
+    (λ k lt. and_left (nat_eq (k / w) day) (p (k % w)) (ne_eqb (k / w) day (λ e. let q : k / w * w ≡ day * w = rw e refl in
+    omega (arith, div-add-mod' k w, q)))) ∙ count_none (day * w) in
+    let here : count_by (λ r. t (day * w + r)) (numbers_below w)
+    ≡ count_by p (numbers_below w) = count_same (λ r. t (day * w + r)) p w
+    (λ r lt. rw (div_of w day r lt, mod_of w day r lt) (rw (eq-eqb day day refl) refl)) in
+    let past : count_by (λ r. t (day * w + (w + r))) (numbers_below rest)
+    ≡ 0 = count_same (λ r. t (day * w + (w + r))) (λ k. false) rest
+    (λ r lt. and_left (nat_eq ((day * w + (w + r)) / w) day) (p ((day * w + (w + r)) % w))
+    (ne_eqb ((day * w + (w + r)) / w) day (λ e. let q : (day * w + (w + r)) / w * w ≡ day * w = rw e refl in past_block w day r positive q)))
+    ∙ count_none rest in
     omega (arith, count_add t (day * w) (w + rest), count_add (λ r. t (day * w + r)) w rest, below, here, past)
 
-pub kind_block : (limit w day : ℕ) (P : ℕ → Type 0) (count : ℕ) → day * w + w ≤ limit → 0 < w → IsTally w P count → IsTally limit (λ k. (k / w ≡ day) × P (k % w)) count
+pub kind_block : (limit w day : ℕ) (P : ℕ → Type 0) (count : ℕ) → day * w + w ≤ limit → 0 < w → IsTally w P count
+    → IsTally limit (λ k. (k / w ≡ day) × P (k % w)) count
 kind_block limit w day P count fits positive h = record {
   test = λ k. nat_eq (k / w) day && h.test (k % w);
   tells = λ k lt. (
@@ -202,10 +227,13 @@ count_cut : (test : ℕ → Bool) (to rest : ℕ) → count_by (λ k. nat_lt k t
 count_cut test to rest =
     let t : ℕ → Bool = λ k. nat_lt k to && test k in
     let inside : count_by t (numbers_below to) ≡ count_by test (numbers_below to) = count_same t test to (λ k lt. rw (lt-ltb k to lt) refl) in
-    let outside : count_by (λ r. t (to + r)) (numbers_below rest) ≡ 0 = count_same (λ r. t (to + r)) (λ k. false) rest (λ r lt. and_left (nat_lt (to + r) to) (test (to + r)) (le-ltb (to + r) to (omega arith))) ∙ count_none rest in
+    let outside : count_by (λ r. t (to + r)) (numbers_below rest)
+    ≡ 0 = count_same (λ r. t (to + r)) (λ k. false) rest (λ r lt. and_left (nat_lt (to + r) to) (test (to + r)) (le-ltb (to + r) to (omega arith)))
+    ∙ count_none rest in
     omega (arith, count_add t to rest, inside, outside)
 
-pub within_kind : (limit : ℕ) (test : ℕ → Bool) (s : Stretch) → s.to ≤ limit → IsTally limit (λ k. (s.from ≤ k) × (k < s.to) × (test k ≡ true)) (count_within test s)
+pub within_kind : (limit : ℕ) (test : ℕ → Bool) (s : Stretch) → s.to ≤ limit
+    → IsTally limit (λ k. (s.from ≤ k) × (k < s.to) × (test k ≡ true)) (count_within test s)
 unfolding count_within
 within_kind limit test s fits = record {
   test = λ k. nat_lt k s.to && (nat_le s.from k && test k);
@@ -225,7 +253,8 @@ within_kind limit test s fits = record {
 pub adds_none : (limit : ℕ) (Kind : ℕ → Type 0) (old new : ℕ) → new ≡ old → IsTally limit Kind 0 → Adds limit Kind old new
 adds_none limit Kind old new e h = record { count = 0; is = e ∙ sym (add-zero old); tally = h }
 
-pub adds_more : (limit : ℕ) (P Q : ℕ → Type 0) (old mid new : ℕ) (h : Adds limit P old mid) → new ≡ mid + 1 → IsTally limit Q (h.count + 1) → Adds limit Q old new
+pub adds_more : (limit : ℕ) (P Q : ℕ → Type 0) (old mid new : ℕ) (h : Adds limit P old mid) → new ≡ mid + 1 → IsTally limit Q (h.count + 1)
+    → Adds limit Q old new
 adds_more limit P Q old mid new h e t = record { count = h.count + 1; is = omega (arith, h.is, e); tally = t }
 
 -- the same count, of another kind
@@ -237,10 +266,13 @@ pub adds_to : (limit : ℕ) (P : ℕ → Type 0) (old mid new : ℕ) (h : Adds l
 adds_to limit P old mid new h e = record { count = h.count; is = omega (arith, h.is, e); tally = h.tally }
 
 -- two counts one after the other
-pub adds_on : (limit : ℕ) (P Q R : ℕ → Type 0) (old mid new : ℕ) (h : Adds limit P old mid) (k : Adds limit Q mid new) → IsTally limit R (h.count + k.count) → Adds limit R old new
+pub adds_on : (limit : ℕ) (P Q R : ℕ → Type 0) (old mid new : ℕ) (h : Adds limit P old mid) (k : Adds limit Q mid new)
+    → IsTally limit R (h.count + k.count) → Adds limit R old new
 adds_on limit P Q R old mid new h k t = record { count = h.count + k.count; is = omega (arith, h.is, k.is); tally = t }
 
 -- what was passed before the end was passed as far as no answer
-pub passed_none : (way : Way) (test : ℕ → Bool) (start : ℤ) (count : ℕ) {limit : ℕ} → IsTally limit (IsPassedBefore way test start None) count → IsTally limit (IsPassedTo way test start None) count
+pub passed_none : (way : Way) (test : ℕ → Bool) (start : ℤ) (count : ℕ) {limit : ℕ} → IsTally limit (IsPassedBefore way test start None) count
+    → IsTally limit (IsPassedTo way test start None) count
 passed_none way test start count {limit} h =
-    kind_same limit _ _ count (λ k lt p. record { passes = p.passes; lies = p.lies; until = tt }) (λ k lt p. record { passes = p.passes; lies = p.lies; until = tt }) h
+    kind_same limit _ _ count (λ k lt p. record { passes = p.passes; lies = p.lies; until = tt })
+    (λ k lt p. record { passes = p.passes; lies = p.lies; until = tt }) h

@@ -69,7 +69,8 @@ member_to xs x h = Contains-from_any (λ a b e. eqb-true a b e) x xs h
 -- ---- times of day
 
 -- a time of day among these has its parts in their sets
-pub among_to : (s : Sets) (x : TimeOfDay) → Contains (times_of_day s) x → (contains s.hours x.hour ≡ true) × (contains s.minutes x.minute ≡ true) × (contains s.seconds x.second ≡ true)
+pub among_to : (s : Sets) (x : TimeOfDay) → Contains (times_of_day s) x
+    → (contains s.hours x.hour ≡ true) × (contains s.minutes x.minute ≡ true) × (contains s.seconds x.second ≡ true)
 unfolding times_of_day
 among_to s x k =
     let a = flat_to (λ h. flat_map (λ m. map (λ sec. record { hour = h; minute = m; second = sec }) s.seconds) s.minutes) s.hours x k in
@@ -77,11 +78,15 @@ among_to s x k =
     let c = mapped_to (λ sec. record { hour = a.0; minute = b.0; second = sec }) s.seconds x b.2 in
     let hour : a.0 ≡ x.hour = ap (λ (y : TimeOfDay). y.hour) c.2 in
     let minute : b.0 ≡ x.minute = ap (λ (y : TimeOfDay). y.minute) c.2 in
-    let second : c.0 ≡ x.second = ap (λ (y : TimeOfDay). y.second) c.2 in
-    (subst (λ n. contains s.hours n ≡ true) hour (member_from s.hours a.0 a.1), subst (λ n. contains s.minutes n ≡ true) minute (member_from s.minutes b.0 b.1), subst (λ n. contains s.seconds n ≡ true) second (member_from s.seconds c.0 c.1))
+    let second : c.0 ≡ x.second = ap (λ (y : TimeOfDay). y.second) c.2 in (
+      subst (λ n. contains s.hours n ≡ true) hour (member_from s.hours a.0 a.1),
+      subst (λ n. contains s.minutes n ≡ true) minute (member_from s.minutes b.0 b.1),
+      subst (λ n. contains s.seconds n ≡ true) second (member_from s.seconds c.0 c.1),
+    )
 
 -- the converse
-pub among_from : (s : Sets) (h m sec : ℕ) → contains s.hours h ≡ true → contains s.minutes m ≡ true → contains s.seconds sec ≡ true → Contains (times_of_day s) (record { hour = h; minute = m; second = sec })
+pub among_from : (s : Sets) (h m sec : ℕ) → contains s.hours h ≡ true → contains s.minutes m ≡ true → contains s.seconds sec ≡ true
+    → Contains (times_of_day s) (record { hour = h; minute = m; second = sec })
 unfolding times_of_day
 among_from s h m sec a b c =
     flat_from (λ h. flat_map (λ m. map (λ sec. record { hour = h; minute = m; second = sec }) s.seconds) s.minutes) s.hours h _ (member_to s.hours h a)
@@ -99,4 +104,5 @@ times_match s t = (matched, matching s t) where
   matched : Contains (times_of_day s) (time_of_day t) → matches_time s t ≡ true
   matched h =
       let parts = among_to s (time_of_day t) h in
-      and_from (contains s.hours t.hour && contains s.minutes t.minute) (contains s.seconds t.second) (and_from (contains s.hours t.hour) (contains s.minutes t.minute) parts.0 parts.1) parts.2
+      and_from (contains s.hours t.hour && contains s.minutes t.minute) (contains s.seconds t.second)
+      (and_from (contains s.hours t.hour) (contains s.minutes t.minute) parts.0 parts.1) parts.2

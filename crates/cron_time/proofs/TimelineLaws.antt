@@ -83,7 +83,8 @@ module _ (s : Sets) (z : TimeZone) (c : ℕ) where
   abbrev has_second : Reading → Bool
   has_second r = nat_eq r.second c
 
-  count_suc : (n : ℕ) → count_by has_second (joined (items_of s z) (suc n)) ≡ count_by has_second (joined (items_of s z) n) + count_by has_second (items_of s z n)
+  count_suc : (n : ℕ) → count_by has_second (joined (items_of s z) (suc n))
+      ≡ count_by has_second (joined (items_of s z) n) + count_by has_second (items_of s z n)
   count_suc n =
       ap (count_by has_second) (joined-suc (items_of s z) n) ∙ sum_by-append (λ r. cond (has_second r) 1 0) (joined (items_of s z) n) (items_of s z n)
 
@@ -141,19 +142,22 @@ places_by c (Fold b a) x i j e f = by_offsets (int_eq b.seconds a.seconds) refl 
     apart other same =
         let seconds : b.seconds ≡ a.seconds = ap (λ (r : Reading). r.offset.seconds) same in grind (arith, ints)
 
-    by_offsets : (same : Bool) → int_eq b.seconds a.seconds ≡ same → slice_get (cond same (reading c b ∷ []) (reading c b ∷ reading c a ∷ [])) i ≡ Some x → slice_get (cond same (reading c b ∷ []) (reading c b ∷ reading c a ∷ [])) j ≡ Some x → i ≡ j
+    by_offsets : (same : Bool) → int_eq b.seconds a.seconds ≡ same → slice_get (cond same (reading c b ∷ []) (reading c b ∷ reading c a ∷ [])) i ≡ Some x
+        → slice_get (cond same (reading c b ∷ []) (reading c b ∷ reading c a ∷ [])) j ≡ Some x → i ≡ j
     by_offsets true is g h = (only_place _ x i g).0 ∙ sym (only_place _ x j h).0
     by_offsets false is g h = places_of_two (reading c b) (reading c a) x i j (apart is) g h
 
 places_in : (s : Sets) (z : TimeZone) (c : ℕ) (x : Reading) (i j : ℕ) → slice_get (items_of s z c) i ≡ Some x → slice_get (items_of s z c) j ≡ Some x → i ≡ j
 unfolding items_of readings
 places_in s z c x i j =
-    elim (matches s (civil c)) as (λ m. slice_get (cond m (readings_by c (ambiguous_at z (civil c))) []) i ≡ Some x → slice_get (cond m (readings_by c (ambiguous_at z (civil c))) []) j ≡ Some x → i ≡ j) [
+    elim (matches s (civil c)) as (λ m. slice_get (cond m (readings_by c (ambiguous_at z (civil c))) []) i ≡ Some x
+    → slice_get (cond m (readings_by c (ambiguous_at z (civil c))) []) j ≡ Some x → i ≡ j) [
       | true ↦ places_by c (ambiguous_at z (civil c)) x i j
       | false ↦ λ e f. absurd (nothing_in_nil i x e)
     ]
 
-one_place : (s : Sets) (z : TimeZone) (c d : ℕ) (x : Reading) (u v i j : ℕ) → c ≡ d → slice_get (items_of s z c) u ≡ Some x → slice_get (items_of s z d) v ≡ Some x → i ≡ length (joined (items_of s z) c) + u → j ≡ length (joined (items_of s z) d) + v → i ≡ j
+one_place : (s : Sets) (z : TimeZone) (c d : ℕ) (x : Reading) (u v i j : ℕ) → c ≡ d → slice_get (items_of s z c) u ≡ Some x
+    → slice_get (items_of s z d) v ≡ Some x → i ≡ length (joined (items_of s z) c) + u → j ≡ length (joined (items_of s z) d) + v → i ≡ j
 one_place s z c d x u v i j same here there first second =
     let inner : u ≡ v = places_in s z d x u v (ap (λ n. slice_get (items_of s z n) u) (sym same) ∙ here) there in
     first ∙ ap (λ n. length (joined (items_of s z) n) + u) same ∙ ap (λ k. length (joined (items_of s z) d) + k) inner ∙ sym second

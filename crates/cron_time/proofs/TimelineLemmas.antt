@@ -83,7 +83,8 @@ before-next s z c =
     rw (before-joined s z (c + 1), before-joined s z c) (length-suc (items_of s z) c)
 
 -- the items of a civil second stand behind those of the civil seconds before it
-pub item_in : (s : Sets) (z : TimeZone) (c i : ℕ) → c < 4_133_980_800 → i < length (items_of s z c) → slice_get (timeline s z) (before s z c + i) ≡ slice_get (items_of s z c) i
+pub item_in : (s : Sets) (z : TimeZone) (c i : ℕ) → c < 4_133_980_800 → i < length (items_of s z c)
+    → slice_get (timeline s z) (before s z c + i) ≡ slice_get (items_of s z c) i
 item_in s z c i high inside =
     rw (timeline-joined s z, before-joined s z c) (get-joined (items_of s z) c 4_133_980_800 i high inside)
 
@@ -97,7 +98,8 @@ pub record IsIn (s : Sets) (z : TimeZone) (k : ℕ) (r : Reading) : Type 0 where
   pub high : k < before s z (r.second + 1)
   pub stands : stands s z r.second ≡ true
 
-is_in_by : (s : Sets) (z : TimeZone) (k : ℕ) (r : Reading) (c i : ℕ) → r.second ≡ c → c < 4_133_980_800 → slice_get (items_of s z c) i ≡ Some r → k ≡ before s z c + i → i < length (items_of s z c) → IsIn s z k r
+is_in_by : (s : Sets) (z : TimeZone) (k : ℕ) (r : Reading) (c i : ℕ) → r.second ≡ c → c < 4_133_980_800 → slice_get (items_of s z c) i ≡ Some r
+    → k ≡ before s z c + i → i < length (items_of s z c) → IsIn s z k r
 is_in_by s z k r c i second below here is inside =
     let next = before-next s z c in
     rw second (record {
@@ -109,7 +111,8 @@ is_in_by s z k r c i second below here is inside =
 pub is_in : (s : Sets) (z : TimeZone) (k : ℕ) (r : Reading) → slice_get (timeline s z) k ≡ Some r → IsIn s z k r
 is_in s z k r e =
     let own : Owner (items_of s z) 4_133_980_800 k r = owner (items_of s z) 4_133_980_800 k r (rw (timeline-joined s z) at e) in
-    is_in_by s z k r own.number own.place (items_of-second s z own.number own.place r own.here) own.below own.here (own.is ∙ ap (λ n. n + own.place) (sym (before-joined s z own.number))) (slice_get_within (items_of s z own.number) own.place r own.here)
+    is_in_by s z k r own.number own.place (items_of-second s z own.number own.place r own.here) own.below own.here (own.is
+    ∙ ap (λ n. n + own.place) (sym (before-joined s z own.number))) (slice_get_within (items_of s z own.number) own.place r own.here)
 
 pub before-up : (s : Sets) (z : TimeZone) (c d : ℕ) → c ≤ d → before s z c ≤ before s z d
 before-up s z c d h = rw (before-joined s z c, before-joined s z d) (length-up (items_of s z) c d h)

@@ -17,7 +17,10 @@ Dated n = (d : Date) × (epoch_day d ≡ n)
 
 first_date : Dated (pos 0)
 unfolding days_from_civil
-first_date = (record { year = pos 1970; month = 1; day = 1; year_in = search rules; month_in = search rules; day_in = search rules }, omega (arith, signed_arith))
+first_date = (
+  record { year = pos 1970; month = 1; day = 1; year_in = search rules; month_in = search rules; day_in = search rules },
+  omega (arith, signed_arith),
+)
 
 next_in_month : (d : Date) → d.day < days_in_month d.year d.month → Dated (epoch_day d +ℤ pos 1)
 next_in_month d h = (
@@ -38,7 +41,14 @@ next_after_year d last twelve h =
     let at_end : epoch_day d ≡ days_from_civil d.year 12 31 = rw (twelve, thirty_one) refl in
     by_lt_z d.year (pos 9999)
     (λ lt. (
-      record { year = d.year +ℤ pos 1; month = 1; day = 1; year_in = (omega (arith, signed_arith, d.year_in), omega (arith, signed_arith)); month_in = search rules; day_in = search rules },
+      record {
+        year = d.year +ℤ pos 1;
+        month = 1;
+        day = 1;
+        year_in = (omega (arith, signed_arith, d.year_in), omega (arith, signed_arith));
+        month_in = search rules;
+        day_in = search rules;
+      },
       days_from_civil-next_year d.year (d.year +ℤ pos 1) (omega (arith, signed_arith, d.year_in)) refl ∙ ap (λ z. z +ℤ pos 1) (sym at_end),
     ))
     (λ ge. let y : d.year ≡ pos 9999 = omega (arith, signed_arith, d.year_in) in

@@ -11,6 +11,7 @@ pub mod Surveys
 pub mod Times
 pub mod MomentText
 pub mod Found
+pub mod ZoneWords
 pub mod Ways
 pub mod Rest
 pub mod Resume

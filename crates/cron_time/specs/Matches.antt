@@ -1,11 +1,12 @@
 -- The civil datetimes that lie in the seven sets of a schedule.
-use Rattle.std.specs.Prelude.{ℕ, ◌+◌, ◌%◌, ℤ, pos, negsuc, Bool, false, ◌&&◌, List}
+use Rattle.std.specs.Prelude.{ℕ, ◌+◌, ◌%◌, ◌==◌, ℤ, pos, negsuc, Bool, false, ◌&&◌, ◌||◌, List}
 use Rattle.jiff_core.specs.declared.civil.date.Date.{Date}
 use Rattle.jiff_core.specs.declared.civil.time.Time.{Time}
 use Rattle.jiff_core.specs.declared.civil.datetime.DateTime.{DateTime}
+use Rattle.jiff_core.specs.Calendar.{days_in_month}
 use Rattle.jiff_core.specs.Date.{weekday_of}
 use Rattle.cron_units.specs.Sets.{Sets}
-use Rattle.cron_units.specs.Units.{contains}
+use Rattle.cron_units.specs.Units.{FieldSet, contains}
 
 -- no year before 0 is a member
 abbrev pub contains_year : List ℕ → ℤ → Bool
@@ -16,9 +17,13 @@ contains_year xs (negsuc y) = false
 abbrev pub weekday_number : Date → ℕ
 weekday_number d = (weekday_of d + 1) % 7 + 1
 
+-- a day of a month of this length lies in the set: by its number, or as the last day where that is marked
+abbrev pub has_day : FieldSet → ℕ → ℕ → Bool
+has_day days length day = contains days.ordinals day || (days.last_day && day == length)
+
 -- the day of the month lies in its set
 abbrev pub matches_day_of_month : Sets → Date → Bool
-matches_day_of_month s d = contains s.days_of_month d.day
+matches_day_of_month s d = has_day s.days_of_month (days_in_month d.year d.month) d.day
 
 -- a candidate: year, month and day of the month lie in their sets
 abbrev pub is_candidate : Sets → Date → Bool

@@ -43,3 +43,7 @@ offset_text o =
 unfoldable pub moment_text : Reading → List ℕ
 moment_text r =
     date_text (civil r.second).date ++ (codes " " ++ (time_text (civil r.second).time ++ (codes " " ++ offset_text r.offset.seconds)))
+
+-- the text of an item, and a line feed
+abbrev pub item_line : Reading → List ℕ
+item_line r = moment_text r ++ 10 ∷ []

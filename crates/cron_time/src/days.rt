@@ -1,17 +1,17 @@
 //! The nearest day whose year, month and day of the month lie in the sets.
-ghost use Rattle.std.specs.Prelude.{◌≡◌, ℕ, ◌+◌, ◌*◌, ◌/◌, ◌%◌, ◌^◌, ◌<◌, ◌≤◌, pos, IfSome, option_map, true, false};
+ghost use Rattle.std.specs.Prelude.{◌≡◌, ℕ, ◌+◌, ◌*◌, ◌/◌, ◌%◌, ◌^◌, ◌<◌, ◌≤◌, ◌||◌, ◌==◌, pos, Bool, IfSome, Option, option_map, true, false};
 ghost use Rattle.cron_units.specs.Units.{contains};
 ghost use Rattle.cron_units.specs.Nearest.{IsNearest};
 ghost use Rattle.cron_time.specs.Civil.{seconds_in_range};
 ghost use Rattle.cron_time.specs.CivilDates.{date_numbered};
-ghost use Rattle.cron_time.specs.Inner.Days.{day_place, IsInRange, capped, longest};
+ghost use Rattle.cron_time.specs.Inner.Days.{day_place, has_number, IsInRange, capped, longest};
 ghost use Rattle.cron_time.specs.Inner.Inquired.{LooksAlone};
-ghost use Rattle.cron_time.specs.Inner.Places.{beyond, length_of, matches_day, matches_month, matches_place, place_date};
+ghost use Rattle.cron_time.specs.Inner.Places.{beyond, length_of, matches_day, matches_month, matches_place, place_date, first_month, months_end};
 
 use crate::civil::date_of;
 use crate::inquiry::{Inquiry, Unit};
-use crate::neighbours::{Months, Neighbours};
-use crate::ways::{entry, past};
+use crate::neighbours::{Months, MonthsOfYear, Neighbours, Years, nearest_past, past_in_parts};
+use crate::ways::entry;
 use cron_units::way::Way;
 use jiff_core::civil::days_in_month;
 
@@ -26,8 +26,7 @@ pub(crate) struct Day {
 pub(crate) fn day_with(second: u32) -> Day
     requires { second < seconds_in_range }
     ensures place { day_place result ≡ place_date (date_numbered (second / 86_400)).0 }
-    ensures bound { result.day < 100 }
-    ensures month { result.month < 2 ^ 24 }
+    ensures range { IsInRange result }
 {
     let date = date_of(second / 86_400);
     Day {
@@ -44,11 +43,14 @@ fn longest_month(month: u32) -> u32
     days_in_month(2000, month as u8) as u32
 }
 
-/// Whether some month of the set has the least day of the set in some year.
+/// Whether some month of the set has the least day of the set in some year. Each month has a last day.
 pub(crate) fn some_month_has_a_day(inquiry: &mut Inquiry<'_>) -> bool
     ensures none { result ≡ false → (p : ℕ) → matches_place inquiry.old.sets p ≡ false }
     ensures same { LooksAlone inquiry.old inquiry.new }
 {
+    if inquiry.takes_last_day() {
+        return true;
+    }
     let Some(least) = inquiry.member(Unit::Day, Way::Ahead, 0) else {
         return false;
     };
@@ -65,15 +67,17 @@ pub(crate) fn some_month_has_a_day(inquiry: &mut Inquiry<'_>) -> bool
     false
 }
 
-// The nearest one past a month.
+// The nearest one past a month that lies in the sets: first in its own year, which isn't asked for.
 #[inline(always)]
 fn month_past(inquiry: &mut Inquiry<'_>, way: Way, month: u32) -> Option<u32>
-    requires { month < 25_212 }
+    requires range { (first_month ≤ month) × (month < months_end) }
+    requires matching { matches_month inquiry.old.sets month ≡ true }
     ensures nearest { IsNearest way (matches_month inquiry.old.sets) (beyond way month) result }
-    ensures bound { IfSome result (λ n. (23_640 ≤ n) × (n < 25_212)) }
+    ensures bound { IfSome result (λ n. (first_month ≤ n) × (n < months_end)) }
     ensures same { LooksAlone inquiry.old inquiry.new }
 {
-    Months::nearest(inquiry, way, past(way, month)?)
+    let rest = nearest_past::<MonthsOfYear>(inquiry, way, month % 12);
+    past_in_parts::<Years, MonthsOfYear>(inquiry, way, month, rest)
 }
 
 // Where a search in a month of this length starts.
@@ -87,15 +91,23 @@ fn start_in_month(way: Way, from: u32, last: u32) -> u32
     }
 }
 
-// The nearest day of the month that lies in its set.
+// The number of the last day of a month.
 #[inline(always)]
-fn day_of_month(inquiry: &mut Inquiry<'_>, way: Way, month: u32, from: u32) -> Option<u32>
-    requires { month < 25_212 }
-    ensures nearest { IsNearest way (matches_day inquiry.old.sets month) (pos from) result }
-    ensures bound { IfSome result (λ n. (1 ≤ n) × (n ≤ 31)) }
+fn last_of_month(month: u32) -> u32
+    requires { month < months_end }
+    ensures value { result ≡ length_of month }
+    ensures bound { (1 ≤ result) × (result ≤ 31) }
+{
+    days_in_month((month / 12) as i16, (month % 12 + 1) as u8) as u32
+}
+
+// The nearest day of a month of this length whose number lies in the set.
+#[inline(always)]
+fn numbered_day(inquiry: &mut Inquiry<'_>, way: Way, last: u32, from: u32) -> Option<u32>
+    ensures nearest { IsNearest way (has_number inquiry.old.sets.days_of_month.ordinals last) (pos from) result }
+    ensures bound { IfSome result (λ n. (1 ≤ n) × (n ≤ last)) }
     ensures same { LooksAlone inquiry.old inquiry.new }
 {
-    let last = days_in_month((month / 12) as i16, (month % 12 + 1) as u8) as u32;
     let day = inquiry.member(Unit::Day, way, start_in_month(way, from, last))?;
     if day > last {
         return None;
@@ -103,11 +115,53 @@ fn day_of_month(inquiry: &mut Inquiry<'_>, way: Way, month: u32, from: u32) -> O
     Some(day)
 }
 
-/// The nearest day whose year, month and day of the month lie in their sets.
+// The nearest day of a month of this length, of the nearest numbered one and the last one.
 #[inline(always)]
-pub(crate) fn nearest_day(inquiry: &mut Inquiry<'_>, way: Way, from: Day) -> Option<Day>
+fn with_last_day(way: Way, last: u32, from: u32, numbered: Option<u32>) -> Option<u32>
+    requires last { 1 ≤ last }
+    requires numbered { IfSome numbered (λ n. (1 ≤ n) × (n ≤ last)) }
+    ensures nearest { (test : ℕ → Bool) → ((day : ℕ) → last < day → test day ≡ false) → IsNearest way test (pos from) numbered
+        → IsNearest way (λ day. test day || day == last) (pos from) result }
+    ensures bound { IfSome result (λ n. (1 ≤ n) × (n ≤ last)) }
+{
+    match way {
+        Way::Ahead => match numbered {
+            Some(day) => Some(day),
+            None if from > last => None,
+            None => Some(last),
+        },
+        Way::Back if from < last => numbered,
+        Way::Back => Some(last),
+    }
+}
+
+// The nearest day of the month that lies in its set.
+#[inline(always)]
+fn day_of_month(inquiry: &mut Inquiry<'_>, way: Way, month: u32, from: u32) -> Option<u32>
+    requires { month < months_end }
+    ensures nearest { IsNearest way (matches_day inquiry.old.sets month) (pos from) result }
+    ensures bound { IfSome result (λ n. (1 ≤ n) × (n ≤ 31)) }
+    ensures same { LooksAlone inquiry.old inquiry.new }
+{
+    let last = last_of_month(month);
+    let numbered = numbered_day(inquiry, way, last, from);
+    if inquiry.takes_last_day() {
+        return with_last_day(way, last, from, numbered);
+    }
+    numbered
+}
+
+// The nearest day from one on, of the months from the first one that lies in the sets.
+#[inline(always)]
+fn nearest_in_months(
+    inquiry: &mut Inquiry<'_>,
+    way: Way,
+    from: Day,
+    first: Option<u32>,
+) -> Option<Day>
     requires day { from.day < 100 }
-    requires month { from.month < 2 ^ 24 }
+    requires first { IsNearest way (matches_month inquiry.old.sets) (pos from.month) first }
+    requires bound { IfSome first (λ n. (first_month ≤ n) × (n < months_end)) }
     ensures nearest { IsNearest way
         (matches_place inquiry.old.sets)
         (pos (day_place from))
@@ -115,7 +169,7 @@ pub(crate) fn nearest_day(inquiry: &mut Inquiry<'_>, way: Way, from: Day) -> Opt
     ensures range { IfSome result IsInRange }
     ensures same { LooksAlone inquiry.old inquiry.new }
 {
-    let mut next = Months::nearest(inquiry, way, from.month);
+    let mut next = first;
     while let Some(month) = next {
         let start = entry(way, 100, from.month, from.day, month);
         if let Some(day) = day_of_month(inquiry, way, month, start) {
@@ -126,12 +180,27 @@ pub(crate) fn nearest_day(inquiry: &mut Inquiry<'_>, way: Way, from: Day) -> Opt
     None
 }
 
+/// The nearest day whose year, month and day of the month lie in their sets.
+pub(crate) fn nearest_day(inquiry: &mut Inquiry<'_>, way: Way, from: Day) -> Option<Day>
+    requires { IsInRange from }
+    ensures nearest { IsNearest way
+        (matches_place inquiry.old.sets)
+        (pos (day_place from))
+        (option_map day_place result) }
+    ensures range { IfSome result IsInRange }
+    ensures same { LooksAlone inquiry.old inquiry.new }
+{
+    let first = Months::nearest(inquiry, way, from.month);
+    nearest_in_months(inquiry, way, from, first)
+}
+
 // The place past a day.
+#[inline(always)]
 fn place_past(way: Way, day: Day) -> Day
     requires { IsInRange day }
     ensures place { pos (day_place result) ≡ beyond way (day_place day) }
     ensures bound { result.day < 100 }
-    ensures month { result.month < 2 ^ 24 }
+    ensures month { result.month ≡ day.month }
 {
     let Day { month, day } = day;
     match way {
@@ -146,10 +215,11 @@ fn place_past(way: Way, day: Day) -> Day
     }
 }
 
-/// The nearest one past a day.
+/// The nearest one past a day whose year and month lie in their sets: they aren't asked for.
 #[inline(always)]
 pub(crate) fn day_past(inquiry: &mut Inquiry<'_>, way: Way, day: Day) -> Option<Day>
-    requires { IsInRange day }
+    requires range { IsInRange day }
+    requires matching { matches_month inquiry.old.sets day.month ≡ true }
     ensures nearest { IsNearest way
         (matches_place inquiry.old.sets)
         (beyond way (day_place day))
@@ -157,5 +227,5 @@ pub(crate) fn day_past(inquiry: &mut Inquiry<'_>, way: Way, day: Day) -> Option<
     ensures range { IfSome result IsInRange }
     ensures same { LooksAlone inquiry.old inquiry.new }
 {
-    nearest_day(inquiry, way, place_past(way, day))
+    nearest_in_months(inquiry, way, place_past(way, day), Some(day.month))
 }

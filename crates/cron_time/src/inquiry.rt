@@ -7,7 +7,7 @@ ghost use Rattle.cron_time.specs.Civil.{days_in_range};
 ghost use Rattle.cron_time.specs.CivilDates.{date_numbered};
 ghost use Rattle.cron_time.specs.Found.{found_items, items_if_any};
 ghost use Rattle.cron_time.specs.Inner.Inquired.{Inquired, unasked, one_day, one_conversion, one_question, members, unit_of};
-ghost use Rattle.cron_time.specs.Inner.Places.{day_number, length_of, month_of, year_of};
+ghost use Rattle.cron_time.specs.Inner.Places.{day_number, length_of, month_of, year_of, first_month, months_end};
 ghost use Rattle.cron_time.specs.Matches.{weekday_number};
 ghost use Rattle.cron_time.specs.Readings.{reading, readings};
 
@@ -31,8 +31,8 @@ pub(crate) enum Unit {
     Year,
 }
 
-/// The sets and the zone that a search asks, and how often it has asked. One is made for each public
-/// call and given up at its end. Its methods alone ask, and each raises its own count by one.
+/// The sets and the zone that a search asks, and how often it has asked. No two public calls share
+/// one. Its methods alone ask, and each raises its own count by one.
 #[derive(Drop)]
 pub(crate) struct Inquiry<'a> {
     fields: &'a ScheduleFields,
@@ -60,7 +60,7 @@ impl<'a> Model for Inquiry<'a> {
 // The date of a day of a month.
 #[inline(always)]
 fn date_made(month: u32, day: u32) -> Date
-    requires month { (23_640 ≤ month) × (month < 25_212) }
+    requires month { (first_month ≤ month) × (month < months_end) }
     requires day { (1 ≤ day) × (day ≤ length_of month) }
     ensures year { result.year ≡ pos (year_of month) }
     ensures month { result.month ≡ month_of month }
@@ -76,7 +76,7 @@ fn date_made(month: u32, day: u32) -> Date
 // Its day number.
 #[inline(always)]
 fn number_made(month: u32, day: u32) -> u32
-    requires month { (23_640 ≤ month) × (month < 25_212) }
+    requires month { (first_month ≤ month) × (month < months_end) }
     requires day { (1 ≤ day) × (day ≤ length_of month) }
     ensures number { result ≡ day_number month day }
     ensures bound { result < days_in_range }
@@ -189,10 +189,19 @@ impl<'a> Inquiry<'a> {
         }
     }
 
+    /// Tells whether the last day of each month is one of the days, besides the numbered ones.
+    #[inline(always)]
+    pub(crate) fn takes_last_day(&self) -> bool
+        ensures { result ≡ self.now.sets.days_of_month.last_day }
+    {
+        let fields = self.fields;
+        fields.days_of_month.last_day()
+    }
+
     /// Makes the date of a day of a month, and tests whether its weekday lies in its set: the number of the day.
     #[inline(always)]
     pub(crate) fn matching_day(&mut self, month: u32, day: u32) -> Option<u32>
-        requires month { (23_640 ≤ month) × (month < 25_212) }
+        requires month { (first_month ≤ month) × (month < months_end) }
         requires day { (1 ≤ day) × (day ≤ length_of month) }
         requires room { self.old.days < 2 ^ 63 }
         ensures matches { MatchOption result

@@ -3,12 +3,15 @@ ghost use Rattle.std.specs.Prelude.{◌≡◌, ℕ, ◌+◌, ◌*◌, ◌/◌, �
 ghost use Rattle.cron_units.specs.Nearest.{IsNearest};
 ghost use Rattle.cron_units.specs.Sets.{Sets, AreSets};
 ghost use Rattle.cron_units.specs.Units.{contains};
-ghost use Rattle.cron_time.specs.Inner.Inquired.{Inquired, LooksAlone, Asks, AsksFor, outermost};
-ghost use Rattle.cron_time.specs.Inner.Places.{matches_month, matches_rest, matches_second};
+ghost use Rattle.cron_time.specs.Inner.Inquired.{Inquired, LooksAlone, Asks, AsksFor, AsksPast, outermost};
+ghost use Rattle.cron_time.specs.Inner.Places.{beyond, beyond_block, matches_month, matches_month_of_year, matches_rest, matches_second, first_month, months_end};
 
 use crate::inquiry::{Inquiry, Unit};
 use crate::ways::{entry, extreme, past};
 use cron_units::way::Way;
+
+/// The end of the months of the range, counted from January of the year 0.
+const MONTHS_END: u32 = 2101 * 12;
 
 /// Numbers of which the nearest one that lies in the sets can be asked for.
 pub(crate) trait Neighbours {
@@ -39,6 +42,32 @@ pub(crate) trait Neighbours {
 
     /// Sets that were read have such a number.
     ghost filled: { (s : Sets) → AreSets s → (n : ℕ) × (n < LIMIT) × (passes s n ≡ true) };
+}
+
+/// The nearest number past the block of an outer number, in its parts.
+#[inline(always)]
+fn nearest_past_block<O: Neighbours, I: Neighbours>(
+    inquiry: &mut Inquiry<'_>,
+    way: Way,
+    outer: u32,
+) -> Option<u32>
+    requires unit { O.parts ≡ 1 }
+    requires positive { 0 < I.LIMIT }
+    requires fits { (O.LIMIT + 1) * I.LIMIT < 2 ^ 32 }
+    requires outer { outer < O.LIMIT }
+    ensures nearest { IsNearest way
+        (λ n. O.passes inquiry.old.sets (n / I.LIMIT) && I.passes inquiry.old.sets (n % I.LIMIT))
+        (beyond_block way I.LIMIT outer)
+        result }
+    ensures bound { IfSome result (λ n. (O.least * I.LIMIT ≤ n) × (n < O.LIMIT * I.LIMIT)) }
+    ensures same { LooksAlone inquiry.old inquiry.new }
+    ensures questions { AreSets inquiry.old.sets
+        → AsksPast I.parts result inquiry.old.questions inquiry.new.questions }
+{
+    let width = I::LIMIT;
+    let next = O::nearest(inquiry, way, past(way, outer)?)?;
+    let inner = I::nearest(inquiry, way, extreme(way, width))?;
+    Some(next * width + inner)
 }
 
 /// The nearest number whose quotient by the limit of the inner numbers is one of the outer unit, and
@@ -72,9 +101,53 @@ fn nearest_in_parts<O: Neighbours, I: Neighbours>(
     if let Some(inner) = I::nearest(inquiry, way, start) {
         return Some(outer * width + inner);
     }
-    let next = O::nearest(inquiry, way, past(way, outer)?)?;
-    let inner = I::nearest(inquiry, way, extreme(way, width))?;
-    Some(next * width + inner)
+    nearest_past_block::<O, I>(inquiry, way, outer)
+}
+
+/// The nearest one past a number.
+#[inline(always)]
+pub(crate) fn nearest_past<N: Neighbours>(
+    inquiry: &mut Inquiry<'_>,
+    way: Way,
+    n: u32,
+) -> Option<u32>
+    requires { n + 2 < 2 ^ 32 }
+    ensures nearest { IsNearest way (N.passes inquiry.old.sets) (beyond way n) result }
+    ensures bound { IfSome result (λ k. (N.least ≤ k) × (k < N.LIMIT)) }
+    ensures same { LooksAlone inquiry.old inquiry.new }
+{
+    N::nearest(inquiry, way, past(way, n)?)
+}
+
+/// The nearest number past one whose quotient is one of the outer unit: first in its own block, with
+/// the nearest inner number past its rest.
+#[inline(always)]
+pub(crate) fn past_in_parts<O: Neighbours, I: Neighbours>(
+    inquiry: &mut Inquiry<'_>,
+    way: Way,
+    from: u32,
+    inner: Option<u32>,
+) -> Option<u32>
+    requires unit { O.parts ≡ 1 }
+    requires positive { 0 < I.LIMIT }
+    requires fits { (O.LIMIT + 1) * I.LIMIT < 2 ^ 32 }
+    requires block { (O.least ≤ from / I.LIMIT) × (from / I.LIMIT < O.LIMIT) }
+    requires matching { O.passes inquiry.old.sets (from / I.LIMIT) ≡ true }
+    requires inner { IsNearest way (I.passes inquiry.old.sets) (beyond way (from % I.LIMIT)) inner }
+    requires inner_bound { IfSome inner (λ n. n < I.LIMIT) }
+    ensures nearest { IsNearest way
+        (λ n. O.passes inquiry.old.sets (n / I.LIMIT) && I.passes inquiry.old.sets (n % I.LIMIT))
+        (beyond way from)
+        result }
+    ensures bound { IfSome result (λ n. (O.least * I.LIMIT ≤ n) × (n < O.LIMIT * I.LIMIT)) }
+    ensures same { LooksAlone inquiry.old inquiry.new }
+{
+    let width = I::LIMIT;
+    let outer = from / width;
+    if let Some(rest) = inner {
+        return Some(outer * width + rest);
+    }
+    nearest_past_block::<O, I>(inquiry, way, outer)
 }
 
 /// The seconds of a minute.
@@ -197,13 +270,39 @@ impl Neighbours for TimesOfDay {
     ghost filled = { times_filled };
 }
 
+// The nearest second of the hour past one whose minute lies in its set.
+#[inline(always)]
+fn rest_past(inquiry: &mut Inquiry<'_>, way: Way, rest: u32) -> Option<u32>
+    requires fits { rest < 3600 }
+    requires matching { matches_rest inquiry.old.sets rest ≡ true }
+    ensures nearest { IsNearest way (matches_rest inquiry.old.sets) (beyond way rest) result }
+    ensures bound { IfSome result (λ n. n < 3600) }
+    ensures same { LooksAlone inquiry.old inquiry.new }
+{
+    let second = nearest_past::<Seconds>(inquiry, way, rest % 60);
+    past_in_parts::<Minutes, Seconds>(inquiry, way, rest, second)
+}
+
+/// The nearest time of day past one that lies in the sets: its hour and minute aren't asked for again.
+#[inline(always)]
+pub(crate) fn time_past(inquiry: &mut Inquiry<'_>, way: Way, time: u32) -> Option<u32>
+    requires fits { time < 86_400 }
+    requires matching { matches_second inquiry.old.sets time ≡ true }
+    ensures nearest { IsNearest way (matches_second inquiry.old.sets) (beyond way time) result }
+    ensures bound { IfSome result (λ n. n < 86_400) }
+    ensures same { LooksAlone inquiry.old inquiry.new }
+{
+    let rest = rest_past(inquiry, way, time % 3600);
+    past_in_parts::<Hours, SecondsOfHour>(inquiry, way, time, rest)
+}
+
 /// The months of a year, from 0 for January.
-struct MonthsOfYear;
+pub(crate) struct MonthsOfYear;
 
 impl Neighbours for MonthsOfYear {
     ghost use Rattle.cron_time.specs.Inner.Filled.{months_filled};
 
-    ghost passes = { λ s n. contains s.months (n + 1) };
+    ghost passes = { matches_month_of_year };
 
     ghost parts = { 1 };
 
@@ -223,7 +322,7 @@ impl Neighbours for MonthsOfYear {
 }
 
 /// The years.
-struct Years;
+pub(crate) struct Years;
 
 impl Neighbours for Years {
     ghost use Rattle.cron_time.specs.Inner.Filled.{years_filled};
@@ -256,11 +355,11 @@ impl Neighbours for Months {
 
     ghost parts = { 2 };
 
-    ghost least = { 23_640 };
+    ghost least = { first_month };
 
-    ghost LIMIT = { 25_212 };
+    ghost LIMIT = { months_end };
 
-    const LIMIT: u32 = 25_212;
+    const LIMIT: u32 = MONTHS_END;
 
     #[inline(always)]
     fn nearest(inquiry: &mut Inquiry<'_>, way: Way, from: u32) -> Option<u32> {

@@ -1,8 +1,8 @@
-//! A moment from its parts.
+//! A moment from its parts, and from an instant and an offset.
 
 ghost use Rattle.std.specs.Prelude.{◌≡◌, IfSome, Some};
 ghost use Rattle.cron_time.specs.Readings.{Reading};
-ghost use Rattle.cron_time.specs.Resume.{HasParts};
+ghost use Rattle.cron_time.specs.Resume.{HasParts, ShowsAt};
 
 use crate::civil::civil_number;
 use crate::moment::Moment;
@@ -31,4 +31,20 @@ impl Moment {
         }
         Some(Moment::new(second as u32, offset))
     }
+}
+
+/// The civil second that a clock at this offset shows at an instant, by its seconds since
+/// 1970-01-01T00:00:00Z. It is `None` where that lies outside 1970 to 2100.
+pub fn moment_at(second: i64, offset: Offset) -> Option<Moment>
+    ensures parts { IfSome result (ShowsAt second offset) }
+    ensures only { (m : Reading) → ShowsAt second offset m → result ≡ Some m }
+{
+    let shown = second as i128 + offset.seconds() as i128;
+    if shown < 0 {
+        return None;
+    }
+    if shown >= SECONDS as i128 {
+        return None;
+    }
+    Some(Moment::new(shown as u32, offset))
 }

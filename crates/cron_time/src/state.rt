@@ -45,34 +45,25 @@ impl State {
         }
     }
 
-    /// The state to which a search leads: the first of the readings found, in this direction.
+    /// A search led here: to the first of the readings found, in this direction, or to the end.
     #[inline(always)]
-    pub(crate) fn stopped(self, way: Way, found: Option<Found>) -> State
-        ensures { stand_of result ≡ stop_of way found }
+    pub(crate) fn stop(&mut self, way: Way, found: Option<Found>)
+        ensures { stand_of self.new ≡ stop_of way found }
     {
         let Some(Found { first, second }) = found else {
-            return State {
-                stage: Stage::Ended,
-                ..self
-            };
+            self.stage = Stage::Ended;
+            return;
         };
+        self.first = first;
         let Some(second) = second else {
-            return State {
-                stage: Stage::Single,
-                first,
-                ..self
-            };
+            self.stage = Stage::Single;
+            return;
         };
-        let stage = match way {
+        self.second = second;
+        self.stage = match way {
             Way::Ahead => Stage::Earlier,
             Way::Back => Stage::Later,
         };
-        State {
-            stage,
-            first,
-            second,
-            ..self
-        }
     }
 
     /// The state at the later or at the earlier of the readings found.

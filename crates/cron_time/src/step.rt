@@ -1,15 +1,16 @@
 //! One call of a walk in either direction.
-ghost use Rattle.std.specs.Prelude.{◌≡◌, ◌/◌, ◌<◌, true};
+ghost use Rattle.std.specs.Prelude.{◌≡◌, ◌/◌, ◌%◌, ◌<◌, true};
 ghost use Rattle.jiff.specs.Words.{plain_zone};
 ghost use Rattle.cron_time.specs.Civil.{seconds_in_range};
 ghost use Rattle.cron_time.specs.CivilDates.{date_numbered};
 ghost use Rattle.cron_time.specs.Cursor.{Start};
 ghost use Rattle.cron_time.specs.Inner.Placed.{cursor_of, stand_of, IsPlaced};
-ghost use Rattle.cron_time.specs.Inner.Places.{beyond};
+ghost use Rattle.cron_time.specs.Inner.Places.{beyond, matches_second};
 ghost use Rattle.cron_time.specs.Inner.Stop.{IsReached, IsStop};
 ghost use Rattle.cron_time.specs.Matches.{matches_date};
 
 use crate::bounds::bound;
+use crate::days::some_month_has_a_day;
 use crate::inquiry::Inquiry;
 use crate::search::{search_from, search_past};
 use crate::state::{Stage, State};
@@ -19,64 +20,77 @@ use jiff::Timestamp;
 use jiff::tz::TimeZone;
 
 // The walk goes to the first item from its bound on.
-fn from_start(fields: &ScheduleFields, zone: &TimeZone<'_>, way: Way, state: State) -> State
+fn from_bound(fields: &ScheduleFields, zone: &TimeZone<'_>, way: Way, state: &mut State)
     ensures { IsStop way
         fields.now
         (plain_zone zone.now)
-        (Start state.start.nanosecond)
-        (stand_of result) }
+        (Start state.old.start.nanosecond)
+        (stand_of state.new) }
 {
     match bound(way, Timestamp::from_plain(state.start), zone) {
         Some(from) => {
             let mut inquiry = Inquiry::new(fields, zone);
-            state.stopped(way, search_from(&mut inquiry, way, from))
+            state.stop(way, search_from(&mut inquiry, way, from))
         }
-        None => state.stopped(way, None),
+        None => state.stop(way, None),
     }
+}
+
+// The same. The bound isn't made where no month has a day of the set.
+#[inline(never)]
+fn from_start(fields: &ScheduleFields, zone: &TimeZone<'_>, way: Way, state: &mut State)
+    ensures { IsStop way
+        fields.now
+        (plain_zone zone.now)
+        (Start state.old.start.nanosecond)
+        (stand_of state.new) }
+{
+    let mut inquiry = Inquiry::new(fields, zone);
+    if !some_month_has_a_day(&mut inquiry) {
+        state.stop(way, None);
+        return;
+    }
+    from_bound(fields, zone, way, state)
 }
 
 // The walk goes to the first item past its civil second.
 #[inline(always)]
-fn past_item(fields: &ScheduleFields, zone: &TimeZone<'_>, way: Way, state: State) -> State
-    requires in_range { state.first.second < seconds_in_range }
-    requires matching { matches_date fields.now (date_numbered (state.first.second / 86_400)).0 ≡ true }
+fn past_item(fields: &ScheduleFields, zone: &TimeZone<'_>, way: Way, state: &mut State)
+    requires in_range { state.old.first.second < seconds_in_range }
+    requires matching { matches_date fields.now (date_numbered (state.old.first.second / 86_400)).0
+        ≡ true }
+    requires member { matches_second fields.now (state.old.first.second % 86_400) ≡ true }
     ensures { IsReached way
         fields.now
         (plain_zone zone.now)
-        (beyond way state.first.second)
-        (stand_of result) }
+        (beyond way state.old.first.second)
+        (stand_of state.new) }
 {
-    let mut inquiry = Inquiry::new(fields, zone);
-    state.stopped(way, search_past(&mut inquiry, way, state.first.second()))
+    let item = state.first;
+    state.stop(way, search_past(fields, zone, way, item.second()))
 }
 
-/// Where a call in this direction leads from a place where a walk stands.
+/// Takes a walk from where it stands to where a call in this direction leads.
 #[inline(always)]
-pub fn step(fields: &ScheduleFields, zone: &TimeZone<'_>, way: Way, state: State) -> State
-    requires { IsPlaced fields.now (plain_zone zone.now) (stand_of state) }
+pub fn step(fields: &ScheduleFields, zone: &TimeZone<'_>, way: Way, state: &mut State)
+    requires { IsPlaced fields.now (plain_zone zone.now) (stand_of state.old) }
     ensures { IsStop way
         fields.now
         (plain_zone zone.now)
-        (cursor_of fields.now (plain_zone zone.now) (stand_of state))
-        (stand_of result) }
+        (cursor_of fields.now (plain_zone zone.now) (stand_of state.old))
+        (stand_of state.new) }
 {
     match state.stage {
         Stage::Start => from_start(fields, zone, way, state),
         Stage::Single => past_item(fields, zone, way, state),
         Stage::Earlier => match way {
-            Way::Ahead => State {
-                stage: Stage::Later,
-                ..state
-            },
+            Way::Ahead => state.stage = Stage::Later,
             Way::Back => past_item(fields, zone, way, state),
         },
         Stage::Later => match way {
             Way::Ahead => past_item(fields, zone, way, state),
-            Way::Back => State {
-                stage: Stage::Earlier,
-                ..state
-            },
+            Way::Back => state.stage = Stage::Earlier,
         },
-        Stage::Ended => state,
+        Stage::Ended => {}
     }
 }

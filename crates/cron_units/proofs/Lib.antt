@@ -1,4 +1,7 @@
+mod Marks
 pub mod Words
 pub mod Laid
 pub mod Remaining
-pub mod Steps
+pub mod Progressions
+pub mod Multiples
+pub mod Cuts

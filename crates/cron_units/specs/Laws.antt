@@ -3,7 +3,7 @@ use Rattle.std.specs.Prelude.{◌≡◌, ◌≤◌, ℕ, Bool, true, ◌&&◌, L
 use Rattle.std.specs.List.{AllByRecursion}
 use Rattle.std.proofs.Common.{arith, refl}
 use Rattle.std.proofs.lemmas.Bool.{and_parts, leb-true}
-use Rattle.cron_units.specs.Units.{IsUnit, seconds, minutes, hours, days_of_month, months, month_names, days_of_week, day_names, years}
+use Rattle.cron_units.specs.Units.{IsUnit, without_last_day, seconds, minutes, hours, days_of_month, months, month_names, days_of_week, day_names, years}
 
 -- every name's ordinal is within the bounds, as a test
 abbrev names_fit : ℕ → ℕ → List (List ℕ × ℕ) → Bool
@@ -28,6 +28,10 @@ is_unit-hours = record { ordered = omega arith; countable = omega arith; names =
 
 pub is_unit-days_of_month : IsUnit days_of_month
 is_unit-days_of_month = record { ordered = omega arith; countable = omega arith; names = tt }
+
+-- the days of a month by their numbers alone
+pub is_unit-numbered_days : IsUnit (without_last_day days_of_month)
+is_unit-numbered_days = record { ordered = omega arith; countable = omega arith; names = tt }
 
 pub is_unit-months : IsUnit months
 is_unit-months = record { ordered = omega arith; countable = omega arith; names = fitting 1 12 month_names.ordinals refl }

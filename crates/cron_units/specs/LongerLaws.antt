@@ -25,10 +25,13 @@ then_within low rest size within k h = elim (cases_lt k 64) [
       omega (arith, within (k - 64) at, g)
 ]
 
-pub then_remade : {R : Type 0} (made : (ℕ → Bool) → R) (has : R → ℕ → Bool) (words : Longer R) (test : ℕ → Bool) → words.low < 2 ^ 64 → ((other : ℕ → Bool) → ((k : ℕ) → other k ≡ has words.rest k) → made other ≡ words.rest) → ((k : ℕ) → test k ≡ then_bits (has_bit words.low) (has words.rest) k) → record { low = word_of test; rest = made (λ k. test (k + 64)) } ≡ words
+pub then_remade : {R : Type 0} (made : (ℕ → Bool) → R) (has : R → ℕ → Bool) (words : Longer R) (test : ℕ → Bool) → words.low < 2 ^ 64
+    → ((other : ℕ → Bool) → ((k : ℕ) → other k ≡ has words.rest k) → made other ≡ words.rest)
+    → ((k : ℕ) → test k ≡ then_bits (has_bit words.low) (has words.rest) k) → record { low = word_of test; rest = made (λ k. test (k + 64)) } ≡ words
 then_remade made has words test fits rest same =
     let low_same : word_of test ≡ words.low = word_remade words.low test fits (λ k l. same k ∙ then_low (has_bit words.low) (has words.rest) k l) in
-    let rest_same : made (λ k. test (k + 64)) ≡ words.rest = rest (λ k. test (k + 64)) (λ k. same (k + 64) ∙ then_rest (has_bit words.low) (has words.rest) k) in
+    let rest_same : made (λ k. test (k + 64)) ≡ words.rest = rest (λ k. test (k + 64)) (λ k. same (k + 64)
+    ∙ then_rest (has_bit words.low) (has words.rest) k) in
     rw (low_same, rest_same) refl
 
 -- ---- how many bits are 1
@@ -41,7 +44,8 @@ counted : (p : ℕ → Bool) (a n : ℕ) → length (filter p (range_with_len a 
 counted p a n = length_of (p a) a (filter p (range_with_len (a + 1) n))
 
 -- Tests that agree place by place count alike.
-pub count_shift : (p r : ℕ → Bool) (a b n : ℕ) → ((k : ℕ) → k < n → p (a + k) ≡ r (b + k)) → length (filter p (range_with_len a n)) ≡ length (filter r (range_with_len b n))
+pub count_shift : (p r : ℕ → Bool) (a b n : ℕ) → ((k : ℕ) → k < n → p (a + k) ≡ r (b + k))
+    → length (filter p (range_with_len a n)) ≡ length (filter r (range_with_len b n))
 count_shift p r a b zero same = refl
 count_shift p r a b (suc n) same =
     let front : a + 0 ≡ a = omega arith in
@@ -54,7 +58,8 @@ count_shift p r a b (suc n) same =
     ap p on ∙ (same (k + 1) (omega arith) ∙ ap r other_on)) in
     counted p a n ∙ (rw (head, tail) (sym (counted r b n)))
 
-pub count_split : (p : ℕ → Bool) (a m n : ℕ) → length (filter p (range_with_len a (m + n))) ≡ length (filter p (range_with_len a m)) + length (filter p (range_with_len (a + m) n))
+pub count_split : (p : ℕ → Bool) (a m n : ℕ) → length (filter p (range_with_len a (m + n)))
+    ≡ length (filter p (range_with_len a m)) + length (filter p (range_with_len (a + m) n))
 count_split p a zero n =
     let front : a + 0 ≡ a = omega arith in
     let none : 0 + n ≡ n = omega arith in
@@ -66,7 +71,8 @@ count_split p a (suc m) n =
     ∙ (counted p a (m + n) ∙ (rw (counted p a m, count_split p (a + 1) m n, on) (omega arith)))
 
 -- The first bits are counted by one test, and those after them by another.
-count_both : (p low rest : ℕ → Bool) (first size : ℕ) → ((k : ℕ) → k < first → p k ≡ low k) → ((k : ℕ) → p (first + k) ≡ rest k) → count_below p (first + size) ≡ count_below low first + count_below rest size
+count_both : (p low rest : ℕ → Bool) (first size : ℕ) → ((k : ℕ) → k < first → p k ≡ low k) → ((k : ℕ) → p (first + k) ≡ rest k)
+    → count_below p (first + size) ≡ count_below low first + count_below rest size
 unfolding count_below
 count_both p low rest first size before after =
     let none : (k : ℕ) → 0 + k ≡ k = λ k. omega arith in
@@ -78,7 +84,8 @@ count_both p low rest first size before after =
 
 pub then_count : (low rest : ℕ → Bool) (size : ℕ) → count_below (then_bits low rest) (64 + size) ≡ count_below low 64 + count_below rest size
 then_count low rest size =
-    count_both (then_bits low rest) low rest 64 size (then_low low rest) (λ k. let turned : 64 + k ≡ k + 64 = omega arith in ap (then_bits low rest) turned ∙ then_rest low rest k)
+    count_both (then_bits low rest) low rest 64 size (then_low low rest) (λ k. let turned : 64 + k ≡ k + 64 = omega arith in
+    ap (then_bits low rest) turned ∙ then_rest low rest k)
 
 pub count_most : (p : ℕ → Bool) (n : ℕ) → count_below p n ≤ n
 unfolding count_below

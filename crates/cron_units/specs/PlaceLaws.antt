@@ -17,7 +17,8 @@ pub placed_none : (u : TimeUnit) (taken : ℕ → Bool) → ((k : ℕ) → taken
 placed_none u taken none = placed_is u taken ∙ filter_none (λ x. taken (x - u.least)) (whole u) (λ x. none (x - u.least))
 
 -- An ordinal is a member where its place is taken.
-pub placed_contains : (u : TimeUnit) (taken : ℕ → Bool) (x : ℕ) → u.least ≤ u.greatest → NonePast u taken → contains (placed u taken) x ≡ (nat_le u.least x && taken (x - u.least))
+pub placed_contains : (u : TimeUnit) (taken : ℕ → Bool) (x : ℕ) → u.least ≤ u.greatest → NonePast u taken
+    → contains (placed u taken) x ≡ (nat_le u.least x && taken (x - u.least))
 placed_contains u taken x ordered none =
     ap (λ (xs : List ℕ). contains xs x) (placed_is u taken) ∙ elim (cases_lt x u.least) [
       | inl l ↦ contains_before u (λ x. taken (x - u.least)) x l ∙ rw (lt-leb u.least x l) refl
@@ -33,17 +34,23 @@ placed_at u taken k ordered none =
     placed_contains u taken (u.least + k) ordered none ∙ rw (le-leb u.least (u.least + k) (omega arith)) (ap taken back)
 
 -- Further places are further members.
-pub placed_or : (u : TimeUnit) (taken more : ℕ → Bool) (test : ℕ → Bool) → ((x : ℕ) → u.least ≤ x → x ≤ u.greatest → more (x - u.least) ≡ (taken (x - u.least) || test x)) → placed u more ≡ set_of u (λ x. contains (placed u taken) x || test x)
+pub placed_or : (u : TimeUnit) (taken more : ℕ → Bool) (test : ℕ → Bool)
+    → ((x : ℕ) → u.least ≤ x → x ≤ u.greatest → more (x - u.least) ≡ (taken (x - u.least) || test x))
+    → placed u more ≡ set_of u (λ x. contains (placed u taken) x || test x)
 placed_or u taken more test same =
     placed_is u more ∙ set_same u (λ x. more (x - u.least)) (λ x. contains (placed u taken) x || test x) (λ x l g.
-    same x l g ∙ ap (λ (b : Bool). b || test x) (sym (ap (λ (xs : List ℕ). contains xs x) (placed_is u taken) ∙ contains_set u (λ x. taken (x - u.least)) x l g)))
+    same x l g ∙ ap (λ (b : Bool). b || test x) (sym (ap (λ (xs : List ℕ). contains xs x) (placed_is u taken)
+    ∙ contains_set u (λ x. taken (x - u.least)) x l g)))
 
 -- Sets with the same members have the same places.
-pub same_places : (u : TimeUnit) (taken other : ℕ → Bool) → u.least ≤ u.greatest → NonePast u taken → NonePast u other → placed u taken ≡ placed u other → (k : ℕ) → taken k ≡ other k
+pub same_places : (u : TimeUnit) (taken other : ℕ → Bool) → u.least ≤ u.greatest → NonePast u taken → NonePast u other → placed u taken ≡ placed u other
+    → (k : ℕ) → taken k ≡ other k
 same_places u taken other ordered none none_other same k =
     sym (placed_at u taken k ordered none) ∙ (ap (λ (xs : List ℕ). contains xs (u.least + k)) same ∙ placed_at u other k ordered none_other)
 
-pub laid_out : (u : TimeUnit) {W : Type 0} (IsFit : W → Type 0) (has : W → ℕ → Bool) (made : (ℕ → Bool) → W) (words : W) → u.least ≤ u.greatest → ((test : ℕ → Bool) → IsFit words → ((k : ℕ) → test k ≡ has words k) → made test ≡ words) → IsFit words → NonePast u (has words) → IsLaidOut u IsFit has made words
+pub laid_out : (u : TimeUnit) {W : Type 0} (IsFit : W → Type 0) (has : W → ℕ → Bool) (made : (ℕ → Bool) → W) (words : W) → u.least ≤ u.greatest
+    → ((test : ℕ → Bool) → IsFit words → ((k : ℕ) → test k ≡ has words k) → made test ≡ words) → IsFit words → NonePast u (has words)
+    → IsLaidOut u IsFit has made words
 laid_out u IsFit has made words ordered remade fit none = record {
   fit = fit;
   none_past = none;

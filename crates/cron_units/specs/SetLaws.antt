@@ -4,7 +4,7 @@ use Rattle.std.specs.Prelude.{filter, nat_eq}
 use Rattle.std.specs.List.{range_with_len}
 use Rattle.std.proofs.lemmas.Bool.{cases_eq, eq-eqb, ne_eqb, and_right}
 use Rattle.std.proofs.lemmas.List.FromFn.{length-range_with_len}
-use Rattle.cron_units.specs.Units.{TimeUnit, whole, contains, set_of, IsSet}
+use Rattle.cron_units.specs.Units.{TimeUnit, without_last_day, whole, contains, set_of, IsSet}
 
 -- ---- tests of numbers
 
@@ -19,6 +19,16 @@ pub or_false : (b : Bool) → (b || false) ≡ b
 or_false true = refl
 or_false false = refl
 
+-- ---- the ordinals of a unit
+
+-- A word for the last day of the month is no ordinal.
+pub whole_without : (u : TimeUnit) → whole (without_last_day u) ≡ whole u
+unfolding whole
+whole_without u = refl
+
+pub set_without : (u : TimeUnit) (p : ℕ → Bool) → set_of (without_last_day u) p ≡ set_of u p
+set_without u p = ap (filter p) (whole_without u)
+
 -- ---- tests that agree
 
 pub filter_same : (p r : ℕ → Bool) → ((x : ℕ) → p x ≡ r x) → (xs : List ℕ) → filter p xs ≡ filter r xs
@@ -29,7 +39,8 @@ pub filter_same_in : (p r : ℕ → Bool) (a n : ℕ) → ((x : ℕ) → a ≤ x
 filter_same_in p r a zero h = refl
 filter_same_in p r a (suc n) h =
     let here : p a ≡ r a = h a (omega arith) (omega arith) in
-    let rest : filter p (range_with_len (a + 1) n) ≡ filter r (range_with_len (a + 1) n) = filter_same_in p r (a + 1) n (λ x l g. h x (omega arith) (omega arith)) in
+    let rest : filter p (range_with_len (a + 1) n) ≡ filter r (range_with_len (a + 1) n) = filter_same_in p r (a + 1) n
+    (λ x l g. h x (omega arith) (omega arith)) in
     rw (here, rest) refl
 
 -- Tests that agree on the ordinals of a unit give one set.
@@ -46,7 +57,8 @@ contains_cond false a x xs = refl
 contains_below : (p : ℕ → Bool) (a n x : ℕ) → x < a → contains (filter p (range_with_len a n)) x ≡ false
 contains_below p a zero x l = refl
 contains_below p a (suc n) x l =
-    contains_cond (p a) a x (filter p (range_with_len (a + 1) n)) ∙ rw (contains_below p (a + 1) n x (omega arith), ne_eqb x a (λ e. omega arith), and_right (p a) false refl) refl
+    contains_cond (p a) a x (filter p (range_with_len (a + 1) n))
+    ∙ rw (contains_below p (a + 1) n x (omega arith), ne_eqb x a (λ e. omega arith), and_right (p a) false refl) refl
 
 contains_in : (p : ℕ → Bool) (a n x : ℕ) → a ≤ x → x < a + n → contains (filter p (range_with_len a n)) x ≡ p x
 contains_in p a zero x l g = absurd (omega arith)
@@ -68,7 +80,8 @@ set_is_set u p = set_same u p (contains (set_of u p)) (λ x l g. sym (contains_s
 contains_past : (p : ℕ → Bool) (a n x : ℕ) → a + n ≤ x → contains (filter p (range_with_len a n)) x ≡ false
 contains_past p a zero x l = refl
 contains_past p a (suc n) x l =
-    contains_cond (p a) a x (filter p (range_with_len (a + 1) n)) ∙ rw (contains_past p (a + 1) n x (omega arith), ne_eqb x a (λ e. omega arith), and_right (p a) false refl) refl
+    contains_cond (p a) a x (filter p (range_with_len (a + 1) n))
+    ∙ rw (contains_past p (a + 1) n x (omega arith), ne_eqb x a (λ e. omega arith), and_right (p a) false refl) refl
 
 -- No other number is a member.
 pub contains_before : (u : TimeUnit) (p : ℕ → Bool) (x : ℕ) → x < u.least → contains (set_of u p) x ≡ false
@@ -89,7 +102,8 @@ is_set_from u p xs h = subst (IsSet u) (sym h) (set_is_set u p)
 -- A set of what passes one test, with what passes another.
 pub set_or : (u : TimeUnit) (p r : ℕ → Bool) (xs : List ℕ) → xs ≡ set_of u p → set_of u (λ x. contains xs x || r x) ≡ set_of u (λ x. p x || r x)
 set_or u p r xs h =
-    set_same u (λ x. contains xs x || r x) (λ x. p x || r x) (λ x l g. ap (λ (b : Bool). b || r x) (ap (λ (ys : List ℕ). contains ys x) h ∙ contains_set u p x l g))
+    set_same u (λ x. contains xs x || r x) (λ x. p x || r x)
+    (λ x l g. ap (λ (b : Bool). b || r x) (ap (λ (ys : List ℕ). contains ys x) h ∙ contains_set u p x l g))
 
 pub empty_is_set : (u : TimeUnit) → IsSet u []
 empty_is_set u = sym (filter_none (contains []) (whole u) (λ x. refl))
@@ -115,7 +129,8 @@ pub length_filter : (p : ℕ → Bool) (xs : List ℕ) → length (filter p xs) 
 length_filter p [] = omega arith
 length_filter p (x ∷ xs) = omega (arith, length_cond (p x) x xs (filter p xs) (length_filter p xs))
 
-full_cond : (b : Bool) (x : ℕ) (xs ys : List ℕ) → length ys ≤ length xs → length xs + 1 ≤ length (cond b (x ∷ ys) ys) → (length xs ≤ length ys → ys ≡ xs) → cond b (x ∷ ys) ys ≡ x ∷ xs
+full_cond : (b : Bool) (x : ℕ) (xs ys : List ℕ) → length ys ≤ length xs → length xs + 1 ≤ length (cond b (x ∷ ys) ys) → (length xs ≤ length ys → ys ≡ xs)
+    → cond b (x ∷ ys) ys ≡ x ∷ xs
 full_cond true x xs ys l g h = ap (λ (zs : List ℕ). x ∷ zs) (h (omega arith))
 full_cond false x xs ys l g h = absurd (omega arith)
 

@@ -2,7 +2,7 @@
 use Rattle.std.specs.Prelude.{◌≡◌, ℕ, List, codes, Result, Ok, Err}
 use Rattle.std.specs.String.{string_bytes}
 use Rattle.cron_units.specs.Units.{TimeUnit}
-use Rattle.cron_units.specs.Denotation.{Steps, Refusal, message}
+use Rattle.cron_units.specs.Denotation.{Denoted, Refusal, message}
 use Rattle.cron_units.specs.declared.error.Error.{Error}
 use Rattle.cron_units.specs.declared.error.ErrorKind.{ErrorKind}
 use Rattle.cron_units.specs.declared.error.ErrorKind.TheVariants.{Expression, OutOfMemory}
@@ -32,6 +32,6 @@ abbrev pub IsMemory : Error → Type 0
 IsMemory e = IsMemoryKind e.kind
 
 -- an item isn't added: it is refused, and the error tells why, or memory ran out
-abbrev pub Fails : TimeUnit → Result Steps Refusal → Error → Type 0
+abbrev pub Fails : TimeUnit → Result Denoted Refusal → Error → Type 0
 Fails u (Err r) e = Tells (λ text. text ≡ message u r) e
-Fails u (Ok s) e = IsMemory e
+Fails u (Ok d) e = IsMemory e

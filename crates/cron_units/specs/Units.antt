@@ -8,13 +8,27 @@ pub record Names : Type 0 where
   pub noun : List ℕ
   pub ordinals : List (List ℕ × ℕ)
 
--- a unit: what messages call it, its bounds, its names if it has any, and whether `?` stands for the whole range
+-- a unit: what messages call it, its bounds, its names if it has any, whether `?` stands for the whole range, and the word
+-- that means the last day of the month, if it has one
 pub record TimeUnit : Type 0 where
   pub title : List ℕ
   pub least : ℕ
   pub greatest : ℕ
   pub names : Option Names
   pub question_mark : Bool
+  pub last_day : Option (List ℕ)
+
+-- the set of one field: its ordinals, in ascending order, and whether the last day of the month is one more
+pub record FieldSet : Type 0 where
+  pub ordinals : List ℕ
+  pub last_day : Bool
+
+abbrev pub with_mark : List ℕ → Bool → FieldSet
+with_mark xs mark = record { ordinals = xs; last_day = mark }
+
+-- ordinals alone
+abbrev pub unmarked : List ℕ → FieldSet
+unmarked xs = with_mark xs false
 
 -- the ordinals of a unit, in ascending order
 unfoldable pub whole : TimeUnit → List ℕ
@@ -31,6 +45,18 @@ named_by (Some names) word = named_in names.ordinals word
 
 abbrev pub ordinal_of : TimeUnit → List ℕ → Option ℕ
 ordinal_of u word = named_by u.names word
+
+abbrev pub is_word : Option (List ℕ) → List ℕ → Bool
+is_word None word = false
+is_word (Some last) word = str_eq_ignore_ascii_case last word
+
+-- the word means the last day of the month, in any case of its letters
+abbrev pub means_last_day : TimeUnit → List ℕ → Bool
+means_last_day u word = is_word u.last_day word
+
+-- the same unit without such a word
+abbrev pub without_last_day : TimeUnit → TimeUnit
+without_last_day u = record u { last_day = None }
 
 -- whether a number is a member
 abbrev pub contains : List ℕ → ℕ → Bool
@@ -56,16 +82,17 @@ pub record IsUnit (u : TimeUnit) : Type 0 where
   pub names : AllByRecursion (λ e. (u.least ≤ e.1) × (e.1 ≤ u.greatest)) (named_ordinals u.names)
 
 abbrev pub seconds : TimeUnit
-seconds = record { title = codes "Seconds"; least = 0; greatest = 59; names = None; question_mark = false }
+seconds = record { title = codes "Seconds"; least = 0; greatest = 59; names = None; question_mark = false; last_day = None }
 
 abbrev pub minutes : TimeUnit
-minutes = record { title = codes "Minutes"; least = 0; greatest = 59; names = None; question_mark = false }
+minutes = record { title = codes "Minutes"; least = 0; greatest = 59; names = None; question_mark = false; last_day = None }
 
 abbrev pub hours : TimeUnit
-hours = record { title = codes "Hours"; least = 0; greatest = 23; names = None; question_mark = false }
+hours = record { title = codes "Hours"; least = 0; greatest = 23; names = None; question_mark = false; last_day = None }
 
 abbrev pub days_of_month : TimeUnit
-days_of_month = record { title = codes "Days of Month"; least = 1; greatest = 31; names = None; question_mark = true }
+days_of_month =
+    record { title = codes "Days of Month"; least = 1; greatest = 31; names = None; question_mark = true; last_day = Some (codes "L") }
 
 abbrev pub month_names : Names
 month_names = record {
@@ -86,7 +113,7 @@ month_names = record {
 }
 
 abbrev pub months : TimeUnit
-months = record { title = codes "Months"; least = 1; greatest = 12; names = Some month_names; question_mark = false }
+months = record { title = codes "Months"; least = 1; greatest = 12; names = Some month_names; question_mark = false; last_day = None }
 
 -- Sunday is 1
 abbrev pub day_names : Names
@@ -103,7 +130,7 @@ day_names = record {
 }
 
 abbrev pub days_of_week : TimeUnit
-days_of_week = record { title = codes "Days of Week"; least = 1; greatest = 7; names = Some day_names; question_mark = true }
+days_of_week = record { title = codes "Days of Week"; least = 1; greatest = 7; names = Some day_names; question_mark = true; last_day = None }
 
 abbrev pub years : TimeUnit
-years = record { title = codes "Years"; least = 1970; greatest = 2100; names = None; question_mark = false }
+years = record { title = codes "Years"; least = 1970; greatest = 2100; names = None; question_mark = false; last_day = None }

@@ -9,7 +9,7 @@ use Rattle.cron_units.specs.declared.specifier.Item.{Item}
 use Rattle.cron_units.specs.declared.specifier.Item.TheVariants.{Plain, Stepped, Name}
 use Rattle.cron_units.specs.declared.specifier.Refusal.{Refusal}
 use Rattle.cron_units.specs.declared.specifier.Refusal.TheVariants.{UnknownName, TooSmall, TooLarge, BadRange, BadNameRange, ZeroStep, LargeStep}
-use Rattle.cron_units.specs.declared.specifier.Steps.{Steps}
+use Rattle.cron_units.specs.declared.specifier.Progression.{Progression}
 
 abbrev pub base_view : Base → items.Base
 base_view Every = every
@@ -32,5 +32,5 @@ refusal_view (BadNameRange v w) = bad_name_range v.now w.now
 refusal_view ZeroStep = zero_step
 refusal_view (LargeStep n) = large_step n
 
-abbrev pub steps_view : Steps → denotation.Steps
+abbrev pub steps_view : Progression → denotation.Progression
 steps_view s = record { first = s.first; last = s.last; every = s.every }

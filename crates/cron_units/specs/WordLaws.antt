@@ -164,7 +164,8 @@ bit_without_past n i k l = elim (cases_eq k i) [
 
 -- ---- the first and the last
 
-pub lowest_bit : (n : ℕ) → (n ≡ 0 → ⊥) → n < 2 ^ 64 → (trailing_zeros w64 n < 64) × (has_bit n (trailing_zeros w64 n) ≡ true) × ((k : ℕ) → k < trailing_zeros w64 n → has_bit n k ≡ false)
+pub lowest_bit : (n : ℕ) → (n ≡ 0 → ⊥) → n < 2 ^ 64 → (trailing_zeros w64 n < 64) × (has_bit n (trailing_zeros w64 n) ≡ true) × ((k : ℕ)
+    → k < trailing_zeros w64 n → has_bit n k ≡ false)
 lowest_bit n pos fits =
     let facts = bit_at-trailing_zeros w64 n (omega (arith, pos)) fits in
     let i : ℕ = trailing_zeros w64 n in
@@ -178,7 +179,8 @@ top_digit n j l g =
     let zero_apart : j - j ≡ 0 = omega arith in
     ap (λ (m : ℕ). bit_at m j) split ∙ (bit_at_cat_high 1 j (n - 2 ^ j) j rest (omega arith) ∙ ap (λ (k : ℕ). bit_at 1 k) zero_apart)
 
-pub highest_bit : (n i : ℕ) → (n ≡ 0 → ⊥) → n < 2 ^ 64 → i ≡ 63 - leading_zeros w64 n → (i < 64) × (has_bit n i ≡ true) × ((k : ℕ) → i < k → has_bit n k ≡ false)
+pub highest_bit : (n i : ℕ) → (n ≡ 0 → ⊥) → n < 2 ^ 64 → i ≡ 63 - leading_zeros w64 n
+    → (i < 64) × (has_bit n i ≡ true) × ((k : ℕ) → i < k → has_bit n k ≡ false)
 highest_bit n i pos fits e =
     let facts = leading_top 64 n (omega (arith, pos)) fits in
     let j : ℕ = facts.0 in
@@ -195,11 +197,14 @@ highest_bit n i pos fits e =
 pub word_remade : (n : ℕ) (test : ℕ → Bool) → n < 2 ^ 64 → ((k : ℕ) → k < 64 → test k ≡ has_bit n k) → word_of test ≡ n
 unfolding word_of
 word_remade n test fits same =
-    same_from_bits_below 64 (word_of test) n (subst (λ (w : ℕ). word_of test < 2 ^ w) (length-map-range_with_len test 0 64) (mask_l-lt (map test (range_with_len 0 64)))) fits
+    same_from_bits_below 64 (word_of test) n (subst (λ (w : ℕ). word_of test < 2 ^ w) (length-map-range_with_len test 0 64)
+    (mask_l-lt (map test (range_with_len 0 64)))) fits
     (λ k l. bit_mask_l (map test (range_with_len 0 64)) k
-    ∙ (ap (λ (b : Bool). cond b 1 0) (get_or-map-range_with_len test 0 64 k k false l (omega arith) ∙ (same k l ∙ here n k l)) ∙ sym (as_digit (bit_at n k) (bit_at-lt n k))))
+    ∙ (ap (λ (b : Bool). cond b 1 0) (get_or-map-range_with_len test 0 64 k k false l (omega arith) ∙ (same k l ∙ here n k l))
+    ∙ sym (as_digit (bit_at n k) (bit_at-lt n k))))
 
 pub bit_count : (n : ℕ) → n < 2 ^ 64 → count_ones n ≡ count_below (has_bit n) 64
 unfolding word_of count_below
 bit_count n fits =
-    ap count_ones (sym (word_remade n (has_bit n) fits (λ k (l : k < 64). refl))) ∙ (ones-mask_l (has_bit n) (range_with_len 0 64) ∙ sym (length-filter (has_bit n) (range_with_len 0 64)))
+    ap count_ones (sym (word_remade n (has_bit n) fits (λ k (l : k < 64). refl)))
+    ∙ (ones-mask_l (has_bit n) (range_with_len 0 64) ∙ sym (length-filter (has_bit n) (range_with_len 0 64)))

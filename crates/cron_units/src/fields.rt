@@ -74,9 +74,9 @@ impl ScheduleFields {
         self.hours.nearest(way, from)
     }
 
-    /// The nearest day of a month.
+    /// The nearest numbered day of a month.
     pub fn nearest_day(&self, way: Way, from: Ordinal) -> Option<Ordinal>
-        ensures nearest { IsNearest way (contains self.now.days_of_month) (pos from) result }
+        ensures nearest { IsNearest way (contains self.now.days_of_month.ordinals) (pos from) result }
         ensures bound { IfSome result (λ n. (1 ≤ n) × (n ≤ 31)) }
     {
         self.days_of_month.nearest(way, from)

@@ -1,7 +1,7 @@
 //! The items of a field, and what they denote.
 
 ghost use Rattle.std.specs.Prelude.{◌≡◌, ◌≤◌, ◌<◌, ◌||◌, IfOk, IfErr, MatchResult, OnOk, OnErr, Ok, Err};
-ghost use Rattle.cron_units.specs.Denotation.{in_steps, ordinal, span, steps_of};
+ghost use Rattle.cron_units.specs.Denotation.{denoted_by, in_denoted, is_last_day, names_last_day, ordinal, ends, steps_of};
 ghost use Rattle.cron_units.specs.Denotation as spec;
 ghost use Rattle.cron_units.specs.Items as items;
 ghost use Rattle.cron_units.specs.Units.{contains, set_of};
@@ -10,7 +10,7 @@ ghost use Rattle.cron_units.specs.Views.{base_view, item_view, refusal_view, ste
 mod messages;
 
 use crate::time_unit::{Ordinal, TimeUnitField, add_steps};
-pub use messages::{RefusedItem, refused, told};
+pub use messages::{RefusedItem, refused, text_error};
 
 /// What an item ranges over before its step.
 #[derive(Clone, Copy)]
@@ -46,7 +46,7 @@ pub enum Refusal<'a> {
 
 /// Every so many-th ordinal, from the first to the last.
 #[derive(Clone, Copy)]
-pub struct Steps {
+pub struct Progression {
     pub first: Ordinal,
     pub last: Ordinal,
     pub every: u32,
@@ -66,9 +66,9 @@ fn ordinal<'a, T: TimeUnitField>(name: &'a str) -> Result<Ordinal, Refusal<'a>>
 
 /// Finds the first and the last ordinal of a base.
 #[inline(always)]
-fn span<'a, T: TimeUnitField>(base: Base<'a>) -> Result<(Ordinal, Ordinal), Refusal<'a>>
+fn ends<'a, T: TimeUnitField>(base: Base<'a>) -> Result<(Ordinal, Ordinal), Refusal<'a>>
     ensures within { IfOk result (λ p. (T.unit.least ≤ p.0) × (p.1 ≤ T.unit.greatest)) }
-    ensures value { MatchResult result (λ p. span T.unit (base_view base.entry) ≡ Ok p) (λ r. span T.unit (base_view base.entry) ≡ Err (refusal_view r)) }
+    ensures value { MatchResult result (λ p. ends T.unit (base_view base.entry) ≡ Ok p) (λ r. ends T.unit (base_view base.entry) ≡ Err (refusal_view r)) }
 {
     let (least, greatest) = (T::inclusive_min(), T::inclusive_max());
     match base {
@@ -93,7 +93,7 @@ fn span<'a, T: TimeUnitField>(base: Base<'a>) -> Result<(Ordinal, Ordinal), Refu
 
 // Finds what a base with a step denotes. The step is tested before the base.
 #[inline(always)]
-fn stepped<'a, T: TimeUnitField>(base: Base<'a>, every: u32) -> Result<Steps, Refusal<'a>>
+fn stepped<'a, T: TimeUnitField>(base: Base<'a>, every: u32) -> Result<Progression, Refusal<'a>>
     ensures within { IfOk result (λ s. (T.unit.least ≤ s.first) × (s.last ≤ T.unit.greatest) × (0 < s.every)) }
     ensures value { MatchResult result (λ s. steps_of T.unit (items.stepped (base_view base.entry) every) ≡ Ok (steps_view s)) (λ r. steps_of T.unit (items.stepped (base_view base.entry) every) ≡ Err (refusal_view r)) }
 {
@@ -104,27 +104,27 @@ fn stepped<'a, T: TimeUnitField>(base: Base<'a>, every: u32) -> Result<Steps, Re
     if every > greatest {
         return Err(Refusal::LargeStep(every));
     }
-    let (first, last) = span::<T>(base)?;
+    let (first, last) = ends::<T>(base)?;
     match base {
-        Base::Single(_) => Ok(Steps {
+        Base::Single(_) => Ok(Progression {
             first,
             last: greatest,
             every,
         }),
-        _ => Ok(Steps { first, last, every }),
+        _ => Ok(Progression { first, last, every }),
     }
 }
 
-/// Finds what an item denotes.
+/// Finds the steps of an item.
 #[inline(always)]
-pub fn steps_of<'a, T: TimeUnitField>(item: Item<'a>) -> Result<Steps, Refusal<'a>>
+pub fn steps_of<'a, T: TimeUnitField>(item: Item<'a>) -> Result<Progression, Refusal<'a>>
     ensures within { IfOk result (λ s. (T.unit.least ≤ s.first) × (s.last ≤ T.unit.greatest) × (0 < s.every)) }
     ensures value { MatchResult result (λ s. steps_of T.unit (item_view item.entry) ≡ Ok (steps_view s)) (λ r. steps_of T.unit (item_view item.entry) ≡ Err (refusal_view r)) }
 {
     match item {
         Item::Plain(base) => {
-            let (first, last) = span::<T>(base)?;
-            Ok(Steps {
+            let (first, last) = ends::<T>(base)?;
+            Ok(Progression {
                 first,
                 last,
                 every: 1,
@@ -133,7 +133,7 @@ pub fn steps_of<'a, T: TimeUnitField>(item: Item<'a>) -> Result<Steps, Refusal<'
         Item::Stepped(base, every) => stepped::<T>(base, every),
         Item::Name(name) => {
             let only = ordinal::<T>(name)?;
-            Ok(Steps {
+            Ok(Progression {
                 first: only,
                 last: only,
                 every: 1,
@@ -142,14 +142,32 @@ pub fn steps_of<'a, T: TimeUnitField>(item: Item<'a>) -> Result<Steps, Refusal<'
     }
 }
 
+/// Tells whether an item is the unit's word for the last day of the month.
+#[inline(always)]
+fn names_last_day<T: TimeUnitField>(item: Item<'_>) -> bool
+    ensures { result ≡ names_last_day T.unit (item_view item.entry) }
+{
+    match item {
+        Item::Name(word) => T::means_last_day(word),
+        _ => false,
+    }
+}
+
 /// Adds what an item denotes to a set of the unit. A refused item leaves the set as it was.
 #[inline(always)]
 pub fn add_item<'a, T: TimeUnitField>(set: &mut T, item: Item<'a>) -> Result<(), Refusal<'a>>
-    ensures ok { OnOk result ((s : spec.Steps) × (steps_of T.unit (item_view item.entry) ≡ Ok s) × (T.members set.new ≡ set_of T.unit (λ x. contains (T.members set.old) x || in_steps s x))) }
-    ensures err { IfErr result (λ r. steps_of T.unit (item_view item.entry) ≡ Err (refusal_view r)) }
+    ensures ok { OnOk result ((d : spec.Denoted) × (denoted_by T.unit (item_view item.entry) ≡ Ok d)
+        × (T.members set.new ≡ set_of T.unit (λ x. contains (T.members set.old) x || in_denoted d x))
+        × (T.marked set.new ≡ (T.marked set.old || is_last_day d))) }
+    ensures err { IfErr result (λ r. denoted_by T.unit (item_view item.entry) ≡ Err (refusal_view r)) }
     ensures unchanged { OnErr result (set.new ≡ set.old) }
 {
-    let Steps { first, last, every } = steps_of::<T>(item)?;
+    if names_last_day::<T>(item) {
+        set.known();
+        set.mark();
+        return Ok(());
+    }
+    let Progression { first, last, every } = steps_of::<T>(item)?;
     add_steps(set, first, last, every);
     Ok(())
 }

@@ -1,15 +1,18 @@
 //! The seven units, their sets of ordinals, and what users see of them.
 
+mod days_of_month;
 mod definition;
 mod field;
 mod iterators;
 mod makers;
+mod multiples;
 mod names;
 mod ordinals;
 mod units;
 mod views;
 pub mod words;
 
+pub use days_of_month::DaysOfMonth;
 pub use definition::{Definition, Names};
 pub use field::TimeUnitField;
 pub use iterators::{OrdinalIter, OrdinalRangeIter};
@@ -17,8 +20,8 @@ pub(crate) use makers::add_steps;
 pub use makers::{empty, only, whole};
 pub use ordinals::{Ordinals, UnitTable};
 pub use units::{
-    DaysOfMonth, DaysOfMonthTable, DaysOfWeek, DaysOfWeekTable, Hours, HoursTable, Minutes,
-    MinutesTable, Months, MonthsTable, Seconds, SecondsTable, Years, YearsTable,
+    DaysOfWeek, DaysOfWeekTable, Hours, HoursTable, Minutes, MinutesTable, Months, MonthsTable,
+    NumberedDays, NumberedDaysTable, Seconds, SecondsTable, Years, YearsTable,
 };
 pub use views::TimeUnitSpec;
 

@@ -6,9 +6,13 @@ mod equalities;
 #[cfg(test)]
 mod json;
 #[cfg(test)]
+mod last_days;
+#[cfg(test)]
 mod laws;
 #[cfg(test)]
 mod moments;
+#[cfg(test)]
+mod month_lengths;
 #[cfg(test)]
 mod odd_zones;
 #[cfg(test)]
@@ -17,6 +21,8 @@ mod resumed;
 mod shown;
 #[cfg(test)]
 mod slow_twin;
+#[cfg(test)]
+mod spans;
 #[cfg(test)]
 mod support;
 #[cfg(test)]

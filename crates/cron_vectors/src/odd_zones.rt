@@ -3,7 +3,7 @@
 //! slow twin.
 
 use crate::slow_twin::check_day;
-use crate::support::cut;
+use crate::support::{cut, number, shown};
 use crate::zone_files::read_file;
 use cron::schedule::{Moment, Turn};
 use cron::{Schedule, laws};
@@ -49,11 +49,6 @@ fn past(stretch: Stretch) -> i64 {
     stretch.first.saturating_add(i64::from(stretch.length))
 }
 
-// The number of a civil second, by its instant at UTC.
-fn number(shown: DateTime) -> Result<i64, Fail> {
-    Ok(Offset::UTC.to_timestamp(shown)?.as_second())
-}
-
 // Whether a moment is the civil second with this number, at this offset.
 fn is_at(moment: Moment, second: i64, offset: i32) -> Result<bool, Fail> {
     let instant = second.saturating_sub(i64::from(offset));
@@ -74,11 +69,6 @@ fn check_is_at(
     let is_at = is_at(moment, second, offset)?;
     assert!(rt; is_at, "{moment} for {second}");
     Ok(())
-}
-
-// The civil second with this number.
-fn shown(second: i64) -> Result<DateTime, Fail> {
-    Ok(Offset::UTC.to_datetime(Timestamp::from_second(second)?))
 }
 
 // The searches pass each second of a gap, and count it.

@@ -1,7 +1,7 @@
-//! A slow twin of the walks: it asks the schedule about one civil second after another, and the zone for
-//! the readings of each that is included.
+//! A slow twin of the searches and of the walks: it asks the schedule about one civil second after
+//! another, and the zone for the readings of each that is included.
 
-use crate::support::chicago;
+use crate::support::{chicago, number, shown};
 use cron::Schedule;
 use cron::schedule::Moment;
 use jiff::civil::{Date, DateTime, Time};
@@ -10,6 +10,23 @@ use jiff::{Error, Timestamp};
 use std::alloc::{AllocError, Global};
 use std::process::Abort;
 use std::test::Fail;
+
+/// Civil seconds one after another, by their numbers.
+#[derive(Clone, Copy)]
+pub(crate) struct Span {
+    first: i64,
+    past: i64,
+}
+
+impl Span {
+    /// So many hours from a civil second on.
+    pub(crate) fn new(first: i64, hours: i64) -> Span {
+        Span {
+            first,
+            past: first.saturating_add(hours.saturating_mul(3600)),
+        }
+    }
+}
 
 // What a clock shows, and its offset.
 #[derive(Clone, Copy)]
@@ -43,48 +60,19 @@ fn push_readings(
     Ok(())
 }
 
-// The readings of the included civil seconds of the minute that starts here.
-fn push_minute(
-    readings: &mut Vec<Shown>,
-    schedule: &Schedule,
-    zone: &TimeZone<'_>,
-    start: DateTime,
-) -> Result<(), Fail> {
-    for second in 0..60 {
-        let time = Time::new(start.hour(), start.minute(), second, 0)?;
-        let datetime = start.date().to_datetime(time);
-        if schedule.includes(datetime) {
-            push_readings(readings, zone, datetime)?;
-        }
-    }
-    Ok(())
-}
-
-// The readings of an hour's included civil seconds.
-fn push_hour(
-    readings: &mut Vec<Shown>,
-    schedule: &Schedule,
-    zone: &TimeZone<'_>,
-    date: Date,
-    hour: i8,
-) -> Result<(), Fail> {
-    for minute in 0..60 {
-        let start = date.to_datetime(Time::new(hour, minute, 0, 0)?);
-        push_minute(readings, schedule, zone, start)?;
-    }
-    Ok(())
-}
-
-// The readings of a day's included civil seconds.
-fn day(
+// The readings of a span's included civil seconds.
+fn readings_in(
     alloc: Global,
     schedule: &Schedule,
     zone: &TimeZone<'_>,
-    date: Date,
+    span: Span,
 ) -> Result<Vec<Shown>, Fail> {
     let mut readings = Vec::new(alloc);
-    for hour in 0..24 {
-        push_hour(&mut readings, schedule, zone, date, hour)?;
+    for second in span.first..span.past {
+        let datetime = shown(second)?;
+        if schedule.includes(datetime) {
+            push_readings(&mut readings, zone, datetime)?;
+        }
     }
     Ok(readings)
 }
@@ -106,17 +94,19 @@ fn check_answer(rt: &impl Abort, answer: Option<Moment>, wanted: Shown) -> Resul
     Ok(())
 }
 
-fn check_beyond(rt: &impl Abort, beyond: Option<Moment>, date: Date) {
+fn check_beyond(rt: &impl Abort, beyond: Option<Moment>, span: Span) -> Result<(), Fail> {
     if let Some(moment) = beyond {
-        let is_beyond = moment.datetime().date() != date;
+        let second = number(moment.datetime())?;
+        let is_beyond = second < span.first || span.past <= second;
         assert!(rt; is_beyond, "{moment}");
     }
+    Ok(())
 }
 
-// The instant before a day's first second. Where the zone turns there, it goes by the offset after the
-// turn: the second that follows is then the first one of the day, and no earlier one comes again.
-fn before(zone: &TimeZone<'_>, date: Date) -> Result<Timestamp, Fail> {
-    let last = date.yesterday()?.to_datetime(Time::new(23, 59, 59, 0)?);
+// The instant before a span's first second. Where the zone turns there, it goes by the offset after the
+// turn: the second that follows is then the first one of the span, and no earlier one comes again.
+fn before(zone: &TimeZone<'_>, span: Span) -> Result<Timestamp, Fail> {
+    let last = shown(span.first.saturating_sub(1))?;
     let offset = match zone.to_ambiguous_timestamp(last).offset() {
         AmbiguousOffset::Unambiguous { offset } => offset,
         AmbiguousOffset::Gap { after, .. } => after,
@@ -125,27 +115,25 @@ fn before(zone: &TimeZone<'_>, date: Date) -> Result<Timestamp, Fail> {
     Ok(offset.to_timestamp(last)?)
 }
 
-// The instant after a day's last second. Where the zone turns there, it goes by the offset before it.
-fn after(zone: &TimeZone<'_>, date: Date) -> Result<Timestamp, Fail> {
-    let first = date.tomorrow()?.to_datetime(Time::new(0, 0, 0, 0)?);
-    Ok(zone.to_timestamp(first)?)
+// The instant after a span's last second. Where the zone turns there, it goes by the offset before it.
+fn after(zone: &TimeZone<'_>, span: Span) -> Result<Timestamp, Fail> {
+    Ok(zone.to_timestamp(shown(span.past)?)?)
 }
 
 // Makes one call ahead for each reading, which it has to answer, and one more, which it may not answer
-// on the same day.
+// in the same span.
 fn check_ahead(
     rt: &impl Abort,
     schedule: &Schedule,
     zone: &TimeZone<'_>,
-    date: Date,
+    span: Span,
     readings: &[Shown],
 ) -> Result<(), Fail> {
-    let mut walk = schedule.after(before(zone, date)?, zone);
+    let mut walk = schedule.after(before(zone, span)?, zone);
     for wanted in readings {
         check_answer(rt, walk.next(), *wanted)?;
     }
-    check_beyond(rt, walk.next(), date);
-    Ok(())
+    check_beyond(rt, walk.next(), span)
 }
 
 // The same back, from the last reading to the first.
@@ -153,28 +141,134 @@ fn check_back(
     rt: &impl Abort,
     schedule: &Schedule,
     zone: &TimeZone<'_>,
-    date: Date,
+    span: Span,
     readings: &[Shown],
 ) -> Result<(), Fail> {
-    let mut walk = schedule.after(after(zone, date)?, zone);
+    let mut walk = schedule.after(after(zone, span)?, zone);
     for wanted in readings.iter().rev() {
         check_answer(rt, walk.next_back(), *wanted)?;
     }
-    check_beyond(rt, walk.next_back(), date);
+    check_beyond(rt, walk.next_back(), span)
+}
+
+// The first index whose reading is at this civil second or later.
+fn index_from(readings: &[Shown], datetime: DateTime) -> usize {
+    let mut index: usize = 0;
+    for reading in readings {
+        if reading.datetime < datetime {
+            index = index.saturating_add(1);
+        }
+    }
+    index
+}
+
+// A search has found the readings of one civil second, of which the first has this index.
+fn check_found(
+    rt: &impl Abort,
+    first: Option<Moment>,
+    second: Option<Moment>,
+    readings: &[Shown],
+    index: usize,
+) -> Result<(), Fail> {
+    let wanted = *readings.get(index).ok_or("the search ends late")?;
+    check_answer(rt, first, wanted)?;
+    match readings.get(index.saturating_add(1)) {
+        Some(later) if later.datetime == wanted.datetime => check_answer(rt, second, *later),
+        _ => {
+            assert!(rt; second.is_none());
+            Ok(())
+        }
+    }
+}
+
+// The search ahead from a civil second of the span.
+fn check_first(
+    rt: &impl Abort,
+    schedule: &Schedule,
+    zone: &TimeZone<'_>,
+    span: Span,
+    readings: &[Shown],
+    from: i64,
+) -> Result<(), Fail> {
+    let datetime = shown(from)?;
+    let index = index_from(readings, datetime);
+    let (first, second) = match schedule.first_at_or_after(datetime, zone).found {
+        Some(found) => (Some(found.first), found.second),
+        None => (None, None),
+    };
+    if index == readings.len() {
+        return check_beyond(rt, first, span);
+    }
+    check_found(rt, first, second, readings, index)
+}
+
+// The search back from there.
+fn check_last(
+    rt: &impl Abort,
+    schedule: &Schedule,
+    zone: &TimeZone<'_>,
+    span: Span,
+    readings: &[Shown],
+    from: i64,
+) -> Result<(), Fail> {
+    let past = index_from(readings, shown(from.saturating_add(1))?);
+    let (first, second) = match schedule.last_at_or_before(shown(from)?, zone).found {
+        Some(found) => (Some(found.first), found.second),
+        None => (None, None),
+    };
+    match readings.get(past.wrapping_sub(1)) {
+        Some(last) => check_found(
+            rt,
+            first,
+            second,
+            readings,
+            index_from(readings, last.datetime),
+        ),
+        None => check_beyond(rt, first, span),
+    }
+}
+
+// Both searches from the ends of the span and from seven seconds between them.
+fn check_searches(
+    rt: &impl Abort,
+    schedule: &Schedule,
+    zone: &TimeZone<'_>,
+    span: Span,
+    readings: &[Shown],
+) -> Result<(), Fail> {
+    let last = span.past.saturating_sub(1);
+    let length = last.saturating_sub(span.first);
+    for eighth in 0..9 {
+        let from = span.first.saturating_add(length.saturating_mul(eighth) / 8);
+        check_first(rt, schedule, zone, span, readings, from)?;
+        check_last(rt, schedule, zone, span, readings, from)?;
+    }
     Ok(())
 }
 
-/// Compares a day's part of the walks in both directions.
+/// Compares a span's part of the walks in both directions, and both searches from some of its seconds.
+pub(crate) fn check_span(
+    rt: &(impl Abort + AllocGlobal),
+    text: &str,
+    zone: &TimeZone<'_>,
+    span: Span,
+) -> Result<(), Fail> {
+    let schedule = Schedule::from_str(rt.alloc(), text)?;
+    let readings = readings_in(rt.alloc(), &schedule, zone, span)?;
+    check_ahead(rt, &schedule, zone, span, readings.as_slice())?;
+    check_back(rt, &schedule, zone, span, readings.as_slice())?;
+    check_searches(rt, &schedule, zone, span, readings.as_slice())
+}
+
+/// The same for a day.
 pub(crate) fn check_day(
     rt: &(impl Abort + AllocGlobal),
     text: &str,
     zone: &TimeZone<'_>,
     date: Date,
 ) -> Result<(), Fail> {
-    let schedule = Schedule::from_str(rt.alloc(), text)?;
-    let readings = day(rt.alloc(), &schedule, zone, date)?;
-    check_ahead(rt, &schedule, zone, date, readings.as_slice())?;
-    check_back(rt, &schedule, zone, date, readings.as_slice())
+    let midnight = date.to_datetime(Time::new(0, 0, 0, 0)?);
+    check_span(rt, text, zone, Span::new(number(midnight)?, 24))
 }
 
 #[test]

@@ -1,6 +1,8 @@
 //! What the tests share.
 
-use jiff::tz::TimeZone;
+use jiff::Timestamp;
+use jiff::civil::DateTime;
+use jiff::tz::{Offset, TimeZone};
 use std::process::Abort;
 use std::test::Fail;
 
@@ -17,4 +19,14 @@ pub(crate) fn check_same(rt: &impl Abort, told: &str, wanted: &str, row: &str) {
 /// The zone of Chicago by its rule since 2007.
 pub(crate) fn chicago() -> Result<TimeZone<'static>, Fail> {
     Ok(TimeZone::posix("CST6CDT,M3.2.0,M11.1.0")?)
+}
+
+/// The number of a civil second, by its instant at UTC.
+pub(crate) fn number(shown: DateTime) -> Result<i64, Fail> {
+    Ok(Offset::UTC.to_timestamp(shown)?.as_second())
+}
+
+/// The civil second with this number.
+pub(crate) fn shown(second: i64) -> Result<DateTime, Fail> {
+    Ok(Offset::UTC.to_datetime(Timestamp::from_second(second)?))
 }

@@ -10,7 +10,7 @@ ghost use Rattle.serde_json.specs.View.{view};
 
 use super::Schedule;
 use cron_units::error::Error;
-use cron_units::specifier::told;
+use cron_units::specifier::text_error;
 use serde_json::Value;
 use std::alloc::Global;
 
@@ -18,7 +18,7 @@ use std::alloc::Global;
 fn invalid_type(alloc: Global) -> Error
     ensures { Tells (λ text. text ≡ codes "invalid type, expected a valid cron expression") result }
 {
-    told(alloc, "invalid type, expected a valid cron expression")
+    text_error(alloc, "invalid type, expected a valid cron expression")
 }
 
 impl Schedule {

@@ -2,7 +2,8 @@
 ghost use Rattle.std.specs.Prelude.{◌≡◌, IfOk, OnErr};
 
 use crate::schedule::Moment;
-use crate::schedule::walk::ScheduleIterator;
+use crate::schedule::course::Lent;
+use crate::schedule::walk::Walker;
 use std::alloc::{AllocError, Global};
 
 /// A call of a walk.
@@ -12,7 +13,7 @@ pub enum Turn {
     NextBack,
 }
 
-impl<'a> ScheduleIterator<'a> {
+impl<'a> Walker<Lent<'a>> {
     ghost use Rattle.cron.specs.Turns.{IsPlayed};
 
     /// The answers of these calls in order. Where room is refused the walk stays as it was.

@@ -1,85 +1,79 @@
-//! A walk over the timeline of a schedule in a zone, and the same walk reversed.
+//! A walk over the timeline of sets in a zone, and the same walk reversed.
+use super::course::{Course, Lent, Owned};
 use cron_time::moment::Moment;
 use cron_time::state::State;
 use cron_time::step::step;
-use cron_units::fields::ScheduleFields;
 use cron_units::way::Way;
 use jiff::Timestamp;
-use jiff::tz::TimeZone;
 use std::marker::Model;
 
-/// A walk over the timeline of a schedule in a zone.
+/// A walk over the timeline of a course. Contracts see its sets, its zone and its cursor.
 #[derive(Drop)]
-pub struct ScheduleIterator<'a> {
-    fields: &'a ScheduleFields,
-    zone: &'a TimeZone<'a>,
+pub struct Walker<C: Course> {
+    course: C,
     state: State,
 }
 
-impl<'a> Model for ScheduleIterator<'a> {
-    ghost use Rattle.jiff.specs.Words.{plain_zone};
+/// A walk over the timeline of a schedule in a zone, which both are lent to it.
+pub type ScheduleIterator<'a> = Walker<Lent<'a>>;
+
+/// A walk over the timeline of a schedule in a zone, which owns its sets and its zone.
+pub type OwnedScheduleIterator<'z> = Walker<Owned<'z>>;
+
+impl<C: Course> Model for Walker<C> {
     ghost use Rattle.cron_time.specs.Cursor.{Walk};
+    ghost use Rattle.cron_time.specs.Inner.Placed.{cursor_of, stand_of, IsPlaced};
 
     ghost Value = { Walk };
 
-    ghost use Rattle.cron_time.specs.Inner.Placed.{cursor_of, stand_of, IsPlaced};
-
     ghost view = { λ w. record {
-      sets = w.fields.now;
-      zone = plain_zone w.zone.now;
-      cursor = cursor_of w.fields.now (plain_zone w.zone.now) (stand_of w.state);
+      sets = C.sets w.course;
+      zone = C.zone w.course;
+      cursor = cursor_of (C.sets w.course) (C.zone w.course) (stand_of w.state);
     } };
 
-    ghost invariant = { λ w. IsPlaced w.fields.now (plain_zone w.zone.now) (stand_of w.state) };
+    ghost invariant = { λ w. IsPlaced (C.sets w.course) (C.zone w.course) (stand_of w.state) };
 }
 
-impl<'a> ScheduleIterator<'a> {
+impl<C: Course> Walker<C> {
     ghost use Rattle.std.specs.Prelude.{◌≡◌};
-    ghost use Rattle.jiff.specs.Words.{plain_zone};
     ghost use Rattle.cron_units.specs.declared.way.Way.TheVariants.{Back};
     ghost use Rattle.cron_time.specs.Cursor.{Start};
     ghost use Rattle.cron_time.specs.Inner.Placed.{cursor_of, stand_of, IsPlaced};
     ghost use Rattle.cron_time.specs.Rest.{Gives};
 
-    pub(crate) fn new(
-        fields: &'a ScheduleFields,
-        start: Timestamp,
-        zone: &'a TimeZone<'a>,
-    ) -> ScheduleIterator<'a>
-        ensures sets { result.sets ≡ fields.now }
-        ensures zone { result.zone ≡ plain_zone zone.now }
+    /// A walk whose cursor is at a start.
+    pub(crate) fn starting(course: C, start: Timestamp) -> Walker<C>
+        ensures sets { result.sets ≡ C.sets course }
+        ensures zone { result.zone ≡ C.zone course }
         ensures cursor { result.cursor ≡ Start start.nanosecond }
     {
-        ScheduleIterator {
-            fields,
-            zone,
+        Walker {
+            course,
             state: State::starting(start),
         }
     }
 
     /// A walk that stands at a place.
-    pub(crate) fn at(
-        fields: &'a ScheduleFields,
-        zone: &'a TimeZone<'a>,
-        state: State,
-    ) -> ScheduleIterator<'a>
-        requires { IsPlaced fields.now (plain_zone zone.now) (stand_of state) }
-        ensures sets { result.sets ≡ fields.now }
-        ensures zone { result.zone ≡ plain_zone zone.now }
-        ensures cursor { result.cursor ≡ cursor_of fields.now (plain_zone zone.now) (stand_of state) }
+    pub(crate) fn at(course: C, state: State) -> Walker<C>
+        requires { IsPlaced (C.sets course) (C.zone course) (stand_of state) }
+        ensures sets { result.sets ≡ C.sets course }
+        ensures zone { result.zone ≡ C.zone course }
+        ensures cursor { result.cursor ≡ cursor_of (C.sets course) (C.zone course) (stand_of state) }
     {
-        ScheduleIterator {
-            fields,
-            zone,
-            state,
-        }
+        Walker { course, state }
     }
 
     #[inline(always)]
     fn step(&mut self, way: Way) -> Option<Moment>
         ensures { Gives way self.old result self.new }
     {
-        self.state = step(self.fields, self.zone, way, self.state);
+        step(
+            self.course.fields(),
+            self.course.zone(),
+            way,
+            &mut self.state,
+        );
         self.state.answer()
     }
 
@@ -91,14 +85,14 @@ impl<'a> ScheduleIterator<'a> {
     }
 
     /// The same cursor, with the two directions exchanged.
-    pub fn rev(self) -> RevScheduleIterator<'a>
-        ensures { result ≡ self.entry }
+    pub fn rev(self) -> Reversed<C>
+        ensures { result ≡ self }
     {
-        RevScheduleIterator { walk: self }
+        Reversed { walk: self }
     }
 }
 
-impl<'a> Iterator for ScheduleIterator<'a> {
+impl<C: Course> Iterator for Walker<C> {
     ghost use Rattle.std.specs.Iterator.{item_count};
     ghost use Rattle.cron_units.specs.declared.way.Way.TheVariants.{Ahead};
     ghost use Rattle.cron_time.specs.Rest.{Gives, rest_ahead};
@@ -117,11 +111,17 @@ impl<'a> Iterator for ScheduleIterator<'a> {
 
 /// A walk with the two directions exchanged.
 #[derive(Drop)]
-pub struct RevScheduleIterator<'a> {
-    walk: ScheduleIterator<'a>,
+pub struct Reversed<C: Course> {
+    walk: Walker<C>,
 }
 
-impl<'a> Model for RevScheduleIterator<'a> {
+/// A [`ScheduleIterator`] with the two directions exchanged.
+pub type RevScheduleIterator<'a> = Reversed<Lent<'a>>;
+
+/// An [`OwnedScheduleIterator`] with the two directions exchanged.
+pub type OwnedRevScheduleIterator<'z> = Reversed<Owned<'z>>;
+
+impl<C: Course> Model for Reversed<C> {
     ghost use Rattle.cron_time.specs.Cursor.{Walk};
 
     ghost Value = { Walk };
@@ -129,7 +129,7 @@ impl<'a> Model for RevScheduleIterator<'a> {
     ghost view = { λ r. r.walk };
 }
 
-impl<'a> RevScheduleIterator<'a> {
+impl<C: Course> Reversed<C> {
     ghost use Rattle.cron_units.specs.declared.way.Way.TheVariants.{Ahead};
     ghost use Rattle.cron_time.specs.Rest.{Gives};
 
@@ -141,7 +141,7 @@ impl<'a> RevScheduleIterator<'a> {
     }
 }
 
-impl<'a> Iterator for RevScheduleIterator<'a> {
+impl<C: Course> Iterator for Reversed<C> {
     ghost use Rattle.std.specs.Iterator.{item_count};
     ghost use Rattle.cron_units.specs.declared.way.Way.TheVariants.{Back};
     ghost use Rattle.cron_time.specs.Rest.{Gives, rest_back};

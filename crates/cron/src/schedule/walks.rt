@@ -5,6 +5,8 @@ ghost use Rattle.jiff.specs.Words.{plain_zone};
 ghost use Rattle.cron_time.specs.Cursor.{Start};
 ghost use Rattle.cron_time.specs.Resume.{IsAbsent, IsResumed};
 
+use super::course::{Lent, Owned};
+use super::walk::Walker;
 use super::{Moment, OwnedScheduleIterator, Schedule, ScheduleIterator};
 use cron_time::resume::resumed;
 use jiff::Timestamp;
@@ -21,7 +23,8 @@ impl Schedule {
         ensures zone { result.zone ≡ plain_zone zone.now }
         ensures cursor { result.cursor ≡ Start start.nanosecond }
     {
-        ScheduleIterator::new(self.fields(), start, zone)
+        let fields = self.fields();
+        Walker::starting(Lent { fields, zone }, start)
     }
 
     /// The same as [`Schedule::after`], from the present instant. An item at that very second isn't
@@ -48,7 +51,8 @@ impl Schedule {
             (IsResumed self.now.sets (plain_zone zone.now) item.now) }
     {
         let state = resumed(self.fields(), zone, item)?;
-        Some(ScheduleIterator::at(self.fields(), zone, state))
+        let fields = self.fields();
+        Some(Walker::at(Lent { fields, zone }, state))
     }
 
     /// The same walk, over the schedule's sets and the zone itself. It takes no memory, so it never
@@ -63,7 +67,8 @@ impl Schedule {
         ensures cursor { IfOk result (λ walk. walk.cursor ≡ Start start.nanosecond) }
         ensures succeeds { IsOk result }
     {
-        Ok(OwnedScheduleIterator::from_fields(*self.fields(), start, zone))
+        let fields = *self.fields();
+        Ok(Walker::starting(Owned { fields, zone }, start))
     }
 
     /// The same as [`Schedule::after_owned`], from the present instant.
@@ -81,7 +86,7 @@ impl Schedule {
     }
 }
 
-impl<'z> OwnedScheduleIterator<'z> {
+impl<'z> Walker<Owned<'z>> {
     /// The walk over a schedule of its own, with its cursor at the start.
     pub fn new(
         schedule: Schedule,
@@ -92,6 +97,7 @@ impl<'z> OwnedScheduleIterator<'z> {
         ensures zone { result.zone ≡ plain_zone zone.entry }
         ensures cursor { result.cursor ≡ Start start.nanosecond }
     {
-        OwnedScheduleIterator::from_fields(schedule.into_fields(), start, zone)
+        let fields = schedule.into_fields();
+        Walker::starting(Owned { fields, zone }, start)
     }
 }

@@ -31,6 +31,11 @@ const LISTED: &str = "\
 2019-12-30 00:00:00 +00:00
 >@daily|2020-01-01T00:00:00Z|LMT5:50:36|1
 2020-01-01 00:00:00 -05:50:36
+>0 0 0 L * ?|2024-01-15T00:00:00Z|UTC|4
+2024-01-31 00:00:00 +00:00
+2024-02-29 00:00:00 +00:00
+2024-03-31 00:00:00 +00:00
+2024-04-30 00:00:00 +00:00
 >0 0 * * * * *|2022-11-06T04:30:00Z|CST6CDT,M3.2.0,M11.1.0|5
 2022-11-06 00:00:00 -05:00
 2022-11-06 01:00:00 -05:00
@@ -71,6 +76,7 @@ const REFUSED: &str = "\
 * * Jan-Feb * * *|The 'Hours' field does not support using names. 'Jan' specified.
 4294967295 * * * * *|Seconds must be less than 59. ('4294967295' specified.)
 1,4294967296 * * * * *|Invalid cron expression.
+0 0 0 L-L * ?|The 'Days of Month' field does not support using names. 'L' specified.
 0 0 0 0 1 ? 1969|Days of Month must be greater than or equal to 1. ('0' specified.)
 ";
 
@@ -100,7 +106,7 @@ fn lists_what_the_words_ask_for(rt: HostRuntime) -> Result<(), Fail> {
         assert_eq!(rt; out.into_inner().as_slice(), want.as_bytes(), "at {line}");
         blocks = blocks.saturating_add(1);
     }
-    assert_eq!(rt; blocks, 15);
+    assert_eq!(rt; blocks, 16);
     Ok(())
 }
 
@@ -129,7 +135,7 @@ fn tells_why_an_expression_is_refused(rt: HostRuntime) -> Result<(), Fail> {
         );
         rows = rows.saturating_add(1);
     }
-    assert_eq!(rt; rows, 13);
+    assert_eq!(rt; rows, 14);
     Ok(())
 }
 

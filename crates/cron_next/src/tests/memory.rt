@@ -3,6 +3,7 @@
 
 ghost use Rattle.std.specs.Prelude.{Some};
 
+use super::blocks::{LINES, seconds_listed};
 use crate::run::{Outcome, run};
 use crate::watched::Watched;
 use jiff::tz::TimeZone;
@@ -85,13 +86,15 @@ impl Write for Greedy {
 fn a_list_that_was_begun_takes_no_memory(rt: HostRuntime) -> Result<(), Fail> {
     let alloc = rt.alloc();
     let start = "2020-01-01T00:00:00Z".parse()?;
+    let text = seconds_listed(alloc)?;
     let mut out = Watched::new(Greedy {
-        held: Vec::with_capacity(alloc, 100)?,
+        held: Vec::with_capacity(alloc, text.len())?,
         blocks: Vec::with_capacity(alloc, MOST_BLOCKS)?,
         alloc,
         byte_left: false,
     });
-    let outcome = run(alloc, "@daily", start, &TimeZone::UTC, 2, false, &mut out);
+    let zone = TimeZone::UTC;
+    let outcome = run(alloc, "* * * * * *", start, &zone, LINES, false, &mut out);
     let Greedy {
         held,
         mut blocks,
@@ -102,9 +105,6 @@ fn a_list_that_was_begun_takes_no_memory(rt: HostRuntime) -> Result<(), Fail> {
     blocks.truncate(0);
     assert!(rt; !byte_left && taken < MOST_BLOCKS, "{taken} blocks");
     assert_eq!(rt; outcome, Outcome::Listed);
-    assert_eq!(rt;
-        held.as_slice(),
-        b"2020-01-02 00:00:00 +00:00\n2020-01-03 00:00:00 +00:00\n".as_slice()
-    );
+    assert!(rt; held.as_slice() == text.as_bytes());
     Ok(())
 }

@@ -6,8 +6,8 @@ use Rattle.cron_units.specs.declared.specifier.Item.{Item}
 use Rattle.cron_text.specs.Fields as field
 use Rattle.cron_text.specs.Fields.{is_connector, is_wildcard}
 use Rattle.cron_text.specs.Tokens as spec
-use Rattle.cron_text.specs.Tokens.{tokens, symbol_of, after_gap, BeginsNoSpace}
-use Rattle.cron_text.specs.Inner.FieldReading.{State, furthest}
+use Rattle.cron_text.specs.Tokens.{tokens, symbol_of, star, after_gap, BeginsNoSpace}
+use Rattle.cron_text.specs.Inner.FieldReading.{FieldState, furthest}
 use Rattle.cron_text.specs.Inner.Views.{symbol_view, connector_view, after_growth}
 use Rattle.cron_text.specs.declared.fields.Connector.{Connector}
 use Rattle.cron_text.specs.declared.fields.Growth.{Growth}
@@ -42,6 +42,13 @@ pub record IsRead (text : List ℕ) (p : Place) (kept : Token) (next : Place) : 
   pub symbol : symbol_view kept.symbol ≡ symbol_of token
   pub rest : tokens_from text p ≡ token ∷ tokens_from text next
 
+-- A star stands at the place, and no connector goes on with it: white space stands behind it, or nothing.
+pub record IsLoneStar (text : List ℕ) (p next : Place) : Type 0 where
+  pub token : spec.Token
+  pub symbol : symbol_of token ≡ star
+  pub rest : tokens_from text p ≡ token ∷ tokens_from text next
+  pub alone : (u : TimeUnit) (s : FieldState) → s.last ≡ token → furthest u s (tokens_from text next) ≡ (s, tokens_from text next)
+
 -- a connector stands at the place
 pub record IsConnector (text : List ℕ) (p : Place) (kept : Connector) : Type 0 where
   pub token : spec.Token
@@ -56,7 +63,8 @@ NoConnector (t ∷ ts) = is_connector (symbol_of t) ≡ false
 
 -- The field goes on: an item grows or is followed by another, at a token that is a wildcard or not, and reading goes on
 -- behind it.
-pub record GrowsOn (u : TimeUnit) (s : State) (ts : List spec.Token) (done : List field.Item) (item : Item) (growth : Growth) (wildcard : Bool) (rest : List spec.Token) : Type 0 where
+pub record GrowsOn (u : TimeUnit) (s : FieldState) (ts : List spec.Token) (done : List field.Item) (item : Item) (growth : Growth) (wildcard : Bool)
+    (rest : List spec.Token) : Type 0 where
   pub token : spec.Token
   pub seen : is_wildcard (symbol_of token) ≡ wildcard
   pub on : furthest u s ts ≡ furthest u (after_growth done item token growth) rest

@@ -11,7 +11,7 @@ use Rattle.cron_text.specs.declared.fields.Connector as connector
 use Rattle.cron_text.specs.declared.fields.Connector.TheVariants as connectors
 use Rattle.cron_text.specs.declared.fields.Growth.{Growth}
 use Rattle.cron_text.specs.declared.fields.Growth.TheVariants.{Grown, Next}
-use Rattle.cron_text.specs.Inner.FieldReading.{State}
+use Rattle.cron_text.specs.Inner.FieldReading.{FieldState}
 
 abbrev pub symbol_view : Symbol → spec.Symbol
 symbol_view (Number n) = number n
@@ -29,10 +29,10 @@ connector_view connectors.Dash = dash
 connector_view connectors.Slash = slash
 
 -- the state of a reading
-abbrev pub state_view : List field.Item → Item → spec.Token → State
+abbrev pub state_view : List field.Item → Item → spec.Token → FieldState
 state_view done item last = record { done = done; item = item_view item; last = last }
 
 -- the state after a step, at the token
-abbrev pub after_growth : List field.Item → Item → spec.Token → Growth → State
+abbrev pub after_growth : List field.Item → Item → spec.Token → Growth → FieldState
 after_growth done item token (Grown i) = state_view done i token
 after_growth done item token (Next i) = state_view (done ++ item_view item ∷ []) i token

@@ -11,7 +11,7 @@ use Rattle.cron_time.specs.Readings.{Reading}
 use Rattle.cron_time.specs.Search.{items_of, stands}
 use Rattle.cron_units.specs.Sets.{Sets}
 use Rattle.cron_time.specs.Matches.{is_candidate, matches}
-use Rattle.cron_time.specs.Inner.Tally.{Before, NotPast}
+use Rattle.cron_time.specs.Inner.Tally.{Before, NotPast, IsPassed}
 use Rattle.cron_time.specs.declared.found.Found.{Found}
 
 -- the second of the day that was found
@@ -53,23 +53,18 @@ abbrev pub Finds : Way → Sets → TimeZone → ℤ → ℕ → Option (List Re
 Finds way s z start day found =
     MatchOption found ((c : ℕ) → LiesFrom way start c → c / 86_400 ≡ day → stands s z c ≡ false) (FindsFrom way s z start day)
 
--- a matching civil second that lies from the start
-pub record IsMatch (way : Way) (s : Sets) (start : ℤ) (k : ℕ) : Type 0 where
-  pub is_match : matches s (civil k) ≡ true
-  pub lies : LiesFrom way start k
+-- a matching civil second from the start on, as far as the search asked for its readings
+abbrev pub IsMatch : Way → Sets → ℤ → (ℕ → Type 0) → ℕ → Type 0
+IsMatch way s = IsPassed way (λ k. matches s (civil k))
 
--- the matching civil seconds of a day, as far as the answer
-pub record IsAskedIn (way : Way) (s : Sets) (start : ℤ) (day : ℕ) (answer : Option ℕ) (k : ℕ) : Type 0 where
-  pub found : IsMatch way s start k
-  pub here : k / 86_400 ≡ day
-  pub until : NotPast way k answer
+-- those of a day, as far as the answer
+abbrev pub IsAskedIn : Way → Sets → ℤ → ℕ → Option ℕ → ℕ → Type 0
+IsAskedIn way s start day answer = IsMatch way s start (λ k. (k / 86_400 ≡ day) × NotPast way k answer)
 
 -- those of all days, as far as the answer
-pub record IsAsked (way : Way) (s : Sets) (start : ℤ) (answer : Option ℕ) (k : ℕ) : Type 0 where
-  pub found : IsMatch way s start k
-  pub until : NotPast way k answer
+abbrev pub IsAsked : Way → Sets → ℤ → Option ℕ → ℕ → Type 0
+IsAsked way s start answer = IsMatch way s start (λ k. NotPast way k answer)
 
 -- those of the days before one
-pub record IsAskedBefore (way : Way) (s : Sets) (start : ℤ) (next : Option ℕ) (k : ℕ) : Type 0 where
-  pub found : IsMatch way s start k
-  pub until : Before way (k / 86_400) next
+abbrev pub IsAskedBefore : Way → Sets → ℤ → Option ℕ → ℕ → Type 0
+IsAskedBefore way s start next = IsMatch way s start (λ k. Before way (k / 86_400) next)

@@ -1,9 +1,11 @@
 -- The days that a search goes by.
-use Rattle.std.specs.Prelude.{ℕ, ◌≤◌, ◌<◌, min, pos}
+use Rattle.std.specs.Prelude.{◌≡◌, true, ℕ, ◌≤◌, ◌<◌, min, pos, Bool, ◌&&◌, nat_le, List}
 use Rattle.jiff_core.specs.Calendar.{days_in_month}
+use Rattle.cron_units.specs.Units.{contains}
 use Rattle.cron_units.specs.declared.way.Way.{Way}
+use Rattle.cron_units.specs.Sets.{Sets}
 use Rattle.cron_units.specs.declared.way.Way.TheVariants.{Ahead, Back}
-use Rattle.cron_time.specs.Inner.Places.{place, day_number}
+use Rattle.cron_time.specs.Inner.Places.{place, day_number, matches_place, first_month, months_end}
 use Rattle.cron_time.specs.declared.days.Day.{Day}
 
 abbrev pub day_place : Day → ℕ
@@ -14,12 +16,20 @@ number_of d = day_number d.month d.day
 
 -- the month and the day within the bounds of the units
 abbrev pub IsInRange : Day → Type 0
-IsInRange d = (23_640 ≤ d.month) × (d.month < 25_212) × (1 ≤ d.day) × (d.day ≤ 31)
+IsInRange d = (first_month ≤ d.month) × (d.month < months_end) × (1 ≤ d.day) × (d.day ≤ 31)
+
+-- in range, and year, month and day of the month lie in their sets
+abbrev pub IsCandidate : Sets → Day → Type 0
+IsCandidate s d = IsInRange d × (matches_place s (day_place d) ≡ true)
 
 -- where a search in a month of this length starts
 abbrev pub capped : Way → ℕ → ℕ → ℕ
 capped Ahead from last = from
 capped Back from last = min from last
+
+-- a number of the set that a month of this length has
+abbrev pub has_number : List ℕ → ℕ → ℕ → Bool
+has_number numbers last day = contains numbers day && nat_le day last
 
 -- the length that a month of the year has in a leap year
 abbrev pub longest : ℕ → ℕ

@@ -5,13 +5,14 @@ use Rattle.std.proofs.Common.{arith, refl, sym, subst, inl, inr, eqb-true}
 use Rattle.std.proofs.lemmas.Bool.{and_from, or_cases, or_left, eq-eqb}
 use Rattle.cron_units.specs.Sets.{Sets, IsFilled, AreSets}
 use Rattle.cron_units.specs.Units.{TimeUnit, whole, contains}
-use Rattle.cron_time.specs.Inner.Places.{matches_month, matches_rest, matches_second}
+use Rattle.cron_time.specs.Inner.Places.{matches_month, matches_rest, matches_second, months_end}
 
 -- a member of a filtered stretch lies in the stretch
 within : (p : ℕ → Bool) (a n x : ℕ) → contains (filter p (range_with_len a n)) x ≡ true → (a ≤ x) × (x < a + n)
 within p a zero x h = cc
 within p a (suc n) x h =
-    elim (p a) as (λ b. contains (cond b (a ∷ filter p (range_with_len (a + 1) n)) (filter p (range_with_len (a + 1) n))) x ≡ true → (a ≤ x) × (x < a + suc n)) [
+    elim (p a) as (λ b. contains (cond b (a ∷ filter p (range_with_len (a + 1) n)) (filter p (range_with_len (a + 1) n))) x ≡ true
+    → (a ≤ x) × (x < a + suc n)) [
       | true ↦ λ k. elim (or_cases (nat_eq x a) (contains (filter p (range_with_len (a + 1) n)) x) k) [
         | inl e ↦ let same = eqb-true x a e in (omega arith, omega arith)
         | inr more ↦ let rest = within p (a + 1) n x more in (omega (arith, rest.0), omega (arith, rest.1))
@@ -68,14 +69,19 @@ months_filled s a =
     (m.number - 1, omega (arith, m.low, m.high), subst P (sym e) m.is_member)
 
 -- a number of two parts
-both_filled : (w : ℕ) (outer inner : ℕ → Bool) (m r : ℕ) → (m * w + r) / w ≡ m → (m * w + r) % w ≡ r → outer m ≡ true → inner r ≡ true → (outer ((m * w + r) / w) && inner ((m * w + r) % w)) ≡ true
+both_filled : (w : ℕ) (outer inner : ℕ → Bool) (m r : ℕ) → (m * w + r) / w ≡ m → (m * w + r) % w ≡ r → outer m ≡ true → inner r ≡ true
+    → (outer ((m * w + r) / w) && inner ((m * w + r) % w)) ≡ true
 both_filled w outer inner m r e f o i = rw (e, f) (and_from (outer m) (inner r) o i)
 
 pub rest_filled : (s : Sets) → AreSets s → HasOne 3600 (matches_rest s)
 rest_filled s a =
     let m = minutes_filled s a in
-    let r = seconds_filled s a in
-    (m.0 * 60 + r.0, omega (arith, m.1, r.1), both_filled 60 (contains s.minutes) (contains s.seconds) m.0 r.0 (omega (arith, r.1)) (omega (arith, r.1)) m.2 r.2)
+    let r = seconds_filled s a in (
+      m.0 * 60 + r.0,
+      omega (arith, m.1, r.1),
+      both_filled 60 (contains s.minutes) (contains s.seconds) m.0 r.0 (omega (arith, r.1)) (omega (arith, r.1))
+          m.2 r.2,
+    )
 
 pub times_filled : (s : Sets) → AreSets s → HasOne 86_400 (matches_second s)
 times_filled s a =
@@ -83,8 +89,12 @@ times_filled s a =
     let r = rest_filled s a in
     (m.0 * 3600 + r.0, omega (arith, m.1, r.1), both_filled 3600 (contains s.hours) (matches_rest s) m.0 r.0 (omega (arith, r.1)) (omega (arith, r.1)) m.2 r.2)
 
-pub all_months_filled : (s : Sets) → AreSets s → HasOne 25_212 (matches_month s)
+pub all_months_filled : (s : Sets) → AreSets s → HasOne months_end (matches_month s)
 all_months_filled s a =
     let m = years_filled s a in
-    let r = months_filled s a in
-    (m.0 * 12 + r.0, omega (arith, m.1, r.1), both_filled 12 (contains s.years) (λ n. contains s.months (n + 1)) m.0 r.0 (omega (arith, r.1)) (omega (arith, r.1)) m.2 r.2)
+    let r = months_filled s a in (
+      m.0 * 12 + r.0,
+      omega (arith, m.1, r.1),
+      both_filled 12 (contains s.years) (λ n. contains s.months (n + 1)) m.0 r.0 (omega (arith, r.1))
+          (omega (arith, r.1)) m.2 r.2,
+    )

@@ -1,5 +1,5 @@
 -- What a search asks, and how often.
-use Rattle.std.specs.Prelude.{◌≡◌, ℕ, ◌+◌, ◌*◌, ◌%◌, ◌^◌, ◌≤◌, ◌-◌, List, Option, Some, None}
+use Rattle.std.specs.Prelude.{◌≡◌, ℕ, ◌+◌, ◌*◌, ◌%◌, ◌^◌, ◌≤◌, ◌-◌, ◌⊎◌, List, Option, Some, None}
 use Rattle.jiff_tz.specs.declared.timezone.TimeZone.{TimeZone}
 use Rattle.cron_units.specs.declared.way.Way.{Way}
 use Rattle.cron_units.specs.declared.way.Way.TheVariants.{Ahead, Back}
@@ -32,12 +32,12 @@ abbrev pub one_question : Inquired → Inquired
 one_question q =
     record { sets = q.sets; zone = q.zone; days = q.days; conversions = q.conversions; questions = (q.questions + 1) % 2 ^ 64 }
 
--- the members of a unit's set
+-- the members of a unit's set; of the days of the month, the numbered ones
 abbrev pub members : Unit → Sets → List ℕ
 members Second s = s.seconds
 members Minute s = s.minutes
 members Hour s = s.hours
-members Day s = s.days_of_month
+members Day s = s.days_of_month.ordinals
 members Month s = s.months
 members Year s = s.years
 
@@ -74,6 +74,11 @@ pub record AsksFor (parts : ℕ) (found : Option ℕ) (old new : ℕ) : Type 0 w
   pub count : ℕ
   pub asks : Asks count old new
   pub is_count : IsCount parts found count
+
+-- the questions for the nearest number past a block: none or one where there is none, and else one for the block and one for each unit inside
+abbrev pub AsksPast : ℕ → Option ℕ → ℕ → ℕ → Type 0
+AsksPast parts None old new = (new ≡ old) ⊎ Asks 1 old new
+AsksPast parts (Some k) old new = Asks (1 + parts) old new
 
 -- the number below a limit that a search of all numbers starts at
 abbrev pub outermost : Way → ℕ → ℕ

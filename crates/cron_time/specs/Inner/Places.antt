@@ -6,6 +6,7 @@ use Rattle.jiff_tz.specs.declared.timezone.TimeZone.{TimeZone}
 use Rattle.cron_units.specs.declared.way.Way.{Way}
 use Rattle.cron_units.specs.declared.way.Way.TheVariants.{Ahead, Back}
 use Rattle.cron_units.specs.Units.{contains}
+use Rattle.cron_time.specs.Matches.{has_day}
 use Rattle.cron_time.specs.Search.{stands}
 use Rattle.cron_units.specs.Sets.{Sets}
 
@@ -13,6 +14,11 @@ use Rattle.cron_units.specs.Sets.{Sets}
 abbrev pub beyond : Way → ℕ → ℤ
 beyond Ahead n = pos n +ℤ pos 1
 beyond Back n = pos n -ℤ pos 1
+
+-- where the numbers past a block of w of them start
+abbrev pub beyond_block : Way → ℕ → ℕ → ℤ
+beyond_block Ahead w m = pos ((m + 1) * w)
+beyond_block Back w m = pos (m * w) -ℤ pos 1
 
 -- where the civil seconds past a day start
 abbrev pub beyond_day : Way → ℕ → ℤ
@@ -27,12 +33,22 @@ matches_rest s n = contains s.minutes (n / 60) && contains s.seconds (n % 60)
 abbrev pub matches_second : Sets → ℕ → Bool
 matches_second s n = contains s.hours (n / 3600) && matches_rest s (n % 3600)
 
--- months are numbered from January of the year 0 on
+-- months are numbered from January of the year 0 on: January 1970, and the end behind December 2100
+abbrev pub first_month : ℕ
+first_month = 23_640
+
+abbrev pub months_end : ℕ
+months_end = 25_212
+
 abbrev pub year_of : ℕ → ℕ
 year_of month = month / 12
 
 abbrev pub month_of : ℕ → ℕ
 month_of month = month % 12 + 1
+
+-- a month of a year, from 0 for January, lies in its set
+abbrev pub matches_month_of_year : Sets → ℕ → Bool
+matches_month_of_year s n = contains s.months (n + 1)
 
 -- year and month lie in their sets
 abbrev pub matches_month : Sets → ℕ → Bool
@@ -43,7 +59,7 @@ length_of month = days_in_month (pos (year_of month)) (month_of month)
 
 -- the day lies in its set and the month has it
 abbrev pub matches_day : Sets → ℕ → ℕ → Bool
-matches_day s month day = contains s.days_of_month day && nat_le day (length_of month)
+matches_day s month day = has_day s.days_of_month (length_of month) day && nat_le day (length_of month)
 
 -- the place of a day in the order of dates, with room for a hundred days in each month
 abbrev pub place : ℕ → ℕ → ℕ

@@ -26,14 +26,16 @@ abbrev pub NotPast : Way → ℕ → Option ℕ → Type 0
 NotPast way k None = Unit {0}
 NotPast way k (Some n) = Precedes way k n ⊎ (k ≡ n)
 
--- a number from the start on that passes, before the next one that a search comes to
-pub record IsPassedBefore (way : Way) (test : ℕ → Bool) (start : ℤ) (next : Option ℕ) (k : ℕ) : Type 0 where
+-- a number from the start on that passes, as far as the search came
+pub record IsPassed (way : Way) (test : ℕ → Bool) (start : ℤ) (Until : ℕ → Type 0) (k : ℕ) : Type 0 where
   pub passes : test k ≡ true
   pub lies : LiesFrom way start k
-  pub until : Before way k next
+  pub until : Until k
 
--- the same as far as the answer
-pub record IsPassedTo (way : Way) (test : ℕ → Bool) (start : ℤ) (answer : Option ℕ) (k : ℕ) : Type 0 where
-  pub passes : test k ≡ true
-  pub lies : LiesFrom way start k
-  pub until : NotPast way k answer
+-- before the next one that it comes to
+abbrev pub IsPassedBefore : Way → (ℕ → Bool) → ℤ → Option ℕ → ℕ → Type 0
+IsPassedBefore way test start next = IsPassed way test start (λ k. Before way k next)
+
+-- as far as the answer
+abbrev pub IsPassedTo : Way → (ℕ → Bool) → ℤ → Option ℕ → ℕ → Type 0
+IsPassedTo way test start answer = IsPassed way test start (λ k. NotPast way k answer)

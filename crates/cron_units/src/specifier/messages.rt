@@ -80,8 +80,8 @@ pub fn refused(alloc: Global, item: RefusedItem<'_>) -> Error
 }
 
 /// Makes the error that tells a text.
-pub fn told(alloc: Global, text: &str) -> Error
-    ensures { Tells (λ told. told ≡ text.now) result }
+pub fn text_error(alloc: Global, text: &str) -> Error
+    ensures { Tells (λ shown. shown ≡ text.now) result }
 {
     match String::from_str(alloc, text) {
         Ok(text) => Error::from(ErrorKind::Expression(text)),

@@ -1,10 +1,11 @@
 //! What every unit has, written once for all of them.
 
-ghost use Rattle.std.specs.Prelude.{◌≡◌, ◌≤◌, ◌&&◌, ◌||◌, [], List, ℕ, pos, length, nat_eq, nat_le, IfSome};
+ghost use Rattle.std.specs.Prelude.{◌≡◌, ◌≤◌, ◌<◌, ◌&&◌, ◌||◌, [], List, ℕ, Bool, true, false, None, pos, length, nat_eq, nat_le, IfSome};
 ghost use Rattle.std.specs.Option.{option_map};
+ghost use Rattle.cron_units.specs.Denotation.{in_steps};
 ghost use Rattle.cron_units.specs.Nearest.{IsNearest};
-ghost use Rattle.cron_units.specs.Tables.{definition_view};
-ghost use Rattle.cron_units.specs.Units.{TimeUnit, IsUnit, IsSet, contains, set_of, ordinal_of};
+ghost use Rattle.cron_units.specs.Tables.{definition_view, AreKeyed};
+ghost use Rattle.cron_units.specs.Units.{TimeUnit, IsUnit, IsSet, contains, set_of, ordinal_of, means_last_day};
 
 use super::definition::ordinal_named;
 use super::{Definition, Ordinal, OrdinalIter};
@@ -18,9 +19,13 @@ pub trait TimeUnitField: Copy {
     /// The members of a value, in ascending order.
     ghost members: { Self → List ℕ };
 
+    /// Whether a value has the mark of the last day of the month.
+    ghost marked: { Self → Bool };
+
     /// The table of the unit.
     fn definition() -> Definition
-        ensures { definition_view result ≡ unit };
+        ensures unit { definition_view result ≡ unit }
+        ensures keys { AreKeyed result.names };
 
     /// The set has ordinals of the unit alone, in ascending order.
     fn known(&self)
@@ -28,19 +33,36 @@ pub trait TimeUnitField: Copy {
 
     /// Makes the set without members.
     fn empty() -> Self
-        ensures { members result ≡ [] };
+        ensures members { members result ≡ [] }
+        ensures mark { marked result ≡ false };
 
     /// Adds an ordinal.
     fn insert(&mut self, ordinal: Ordinal)
         requires low { unit.least ≤ ordinal }
         requires high { ordinal ≤ unit.greatest }
-        ensures { members self.new ≡ set_of unit (λ x. contains (members self.old) x || nat_eq x ordinal) };
+        ensures members { members self.new ≡ set_of unit (λ x. contains (members self.old) x || nat_eq x ordinal) }
+        ensures mark { marked self.new ≡ marked self.old };
 
     /// Adds the ordinals from the first to the last.
     fn insert_range(&mut self, first: Ordinal, last: Ordinal)
         requires low { unit.least ≤ first }
         requires high { last ≤ unit.greatest }
-        ensures { members self.new ≡ set_of unit (λ x. contains (members self.old) x || nat_le first x && nat_le x last) };
+        ensures members { members self.new ≡ set_of unit (λ x. contains (members self.old) x || nat_le first x && nat_le x last) }
+        ensures mark { marked self.new ≡ marked self.old };
+
+    /// Adds the last day of the month, for which the unit has a word.
+    fn mark(&mut self)
+        requires { unit.last_day ≡ None → ⊥ }
+        ensures members { members self.new ≡ members self.old }
+        ensures mark { marked self.new ≡ true };
+
+    /// Adds every so many-th ordinal, from the first to the last.
+    fn insert_steps(&mut self, first: Ordinal, last: Ordinal, every: u32)
+        requires low { unit.least ≤ first }
+        requires high { last ≤ unit.greatest }
+        requires every { 0 < every }
+        ensures members { members self.new ≡ set_of unit (λ x. contains (members self.old) x || in_steps (record { first = first; last = last; every = every }) x) }
+        ensures mark { marked self.new ≡ marked self.old };
 
     /// Tells whether an ordinal is a member.
     fn contains(&self, ordinal: Ordinal) -> bool
@@ -105,5 +127,15 @@ pub trait TimeUnitField: Copy {
     {
         let names = Self::definition().names?;
         ordinal_named(names.ordinals, name)
+    }
+
+    /// Tells whether a word means the last day of the month, in any case of its letters.
+    final fn means_last_day(word: &str) -> bool
+        ensures { result ≡ means_last_day unit word.now }
+    {
+        match Self::definition().last_day {
+            Some(last) => last.eq_ignore_ascii_case(word),
+            None => false,
+        }
     }
 }

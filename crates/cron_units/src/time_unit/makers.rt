@@ -1,6 +1,6 @@
 //! What makes the sets of a unit.
 
-ghost use Rattle.std.specs.Prelude.{◌≡◌, ◌≤◌, ◌<◌, ◌||◌, [], ◌∷◌};
+ghost use Rattle.std.specs.Prelude.{◌≡◌, ◌≤◌, ◌<◌, ◌||◌, [], ◌∷◌, false};
 ghost use Rattle.cron_units.specs.Denotation.{in_steps};
 ghost use Rattle.cron_units.specs.Units.{contains, set_of, whole};
 
@@ -8,14 +8,16 @@ use super::{Ordinal, TimeUnitField};
 
 /// Makes the set without members.
 pub fn empty<T: TimeUnitField>() -> T
-    ensures { T.members result ≡ [] }
+    ensures members { T.members result ≡ [] }
+    ensures mark { T.marked result ≡ false }
 {
     T::empty()
 }
 
 /// Makes the set of all ordinals of a unit.
 pub fn whole<T: TimeUnitField>() -> T
-    ensures { T.members result ≡ whole T.unit }
+    ensures members { T.members result ≡ whole T.unit }
+    ensures mark { T.marked result ≡ false }
 {
     let mut set = T::empty();
     set.insert_range(T::inclusive_min(), T::inclusive_max());
@@ -26,7 +28,8 @@ pub fn whole<T: TimeUnitField>() -> T
 pub fn only<T: TimeUnitField>(ordinal: Ordinal) -> T
     requires low { T.unit.least ≤ ordinal }
     requires high { ordinal ≤ T.unit.greatest }
-    ensures { T.members result ≡ ordinal ∷ [] }
+    ensures members { T.members result ≡ ordinal ∷ [] }
+    ensures mark { T.marked result ≡ false }
 {
     let mut set = T::empty();
     set.insert(ordinal);
@@ -38,26 +41,12 @@ pub(crate) fn add_steps<T: TimeUnitField>(set: &mut T, first: Ordinal, last: Ord
     requires low { T.unit.least ≤ first }
     requires high { last ≤ T.unit.greatest }
     requires every { 0 < every }
-    ensures { T.members set.new ≡ set_of T.unit (λ x. contains (T.members set.old) x || in_steps (record { first = first; last = last; every = every }) x) }
+    ensures members { T.members set.new ≡ set_of T.unit (λ x. contains (T.members set.old) x || in_steps (record { first = first; last = last; every = every }) x) }
+    ensures mark { T.marked set.new ≡ T.marked set.old }
 {
     if every == 1 {
         set.insert_range(first, last);
     } else {
-        add_every_nth(set, first, last, every);
-    }
-}
-
-/// Adds steps one by one.
-fn add_every_nth<T: TimeUnitField>(set: &mut T, first: Ordinal, last: Ordinal, every: u32)
-    requires low { T.unit.least ≤ first }
-    requires high { last ≤ T.unit.greatest }
-    requires every { 0 < every }
-    ensures { T.members set.new ≡ set_of T.unit (λ x. contains (T.members set.old) x || in_steps (record { first = first; last = last; every = every }) x) }
-{
-    set.known();
-    let mut at = first;
-    while at <= last {
-        set.insert(at);
-        at = at.saturating_add(every);
+        set.insert_steps(first, last, every);
     }
 }

@@ -12,11 +12,13 @@ pub type Seconds = Ordinals<SecondsTable, u64>;
 pub struct SecondsTable;
 
 impl UnitTable<u64> for SecondsTable {
-    ghost use Rattle.std.proofs.Common.{rules};
+    ghost use Rattle.std.proofs.Common.{rules, refl};
     ghost use Rattle.cron_units.specs.Units.{seconds};
     ghost use Rattle.cron_units.specs.Laws.{is_unit-seconds};
 
     ghost unit = { seconds };
+
+    ghost unmarked = { refl };
 
     ghost is_unit = { is_unit-seconds };
 
@@ -31,6 +33,7 @@ impl UnitTable<u64> for SecondsTable {
             greatest: 59,
             names: None,
             question_mark: false,
+            last_day: None,
         }
     }
 }
@@ -43,11 +46,13 @@ pub type Minutes = Ordinals<MinutesTable, u64>;
 pub struct MinutesTable;
 
 impl UnitTable<u64> for MinutesTable {
-    ghost use Rattle.std.proofs.Common.{rules};
+    ghost use Rattle.std.proofs.Common.{rules, refl};
     ghost use Rattle.cron_units.specs.Units.{minutes};
     ghost use Rattle.cron_units.specs.Laws.{is_unit-minutes};
 
     ghost unit = { minutes };
+
+    ghost unmarked = { refl };
 
     ghost is_unit = { is_unit-minutes };
 
@@ -62,6 +67,7 @@ impl UnitTable<u64> for MinutesTable {
             greatest: 59,
             names: None,
             question_mark: false,
+            last_day: None,
         }
     }
 }
@@ -74,11 +80,13 @@ pub type Hours = Ordinals<HoursTable, u64>;
 pub struct HoursTable;
 
 impl UnitTable<u64> for HoursTable {
-    ghost use Rattle.std.proofs.Common.{rules};
+    ghost use Rattle.std.proofs.Common.{rules, refl};
     ghost use Rattle.cron_units.specs.Units.{hours};
     ghost use Rattle.cron_units.specs.Laws.{is_unit-hours};
 
     ghost unit = { hours };
+
+    ghost unmarked = { refl };
 
     ghost is_unit = { is_unit-hours };
 
@@ -93,25 +101,28 @@ impl UnitTable<u64> for HoursTable {
             greatest: 23,
             names: None,
             question_mark: false,
+            last_day: None,
         }
     }
 }
 
-/// The days of a month.
-pub type DaysOfMonth = Ordinals<DaysOfMonthTable, u64>;
+/// The days of a month by their numbers.
+pub type NumberedDays = Ordinals<NumberedDaysTable, u64>;
 
-/// The table of `DaysOfMonth`.
+/// The table of `NumberedDays`.
 #[derive(Clone, Copy, Debug)]
-pub struct DaysOfMonthTable;
+pub struct NumberedDaysTable;
 
-impl UnitTable<u64> for DaysOfMonthTable {
-    ghost use Rattle.std.proofs.Common.{rules};
-    ghost use Rattle.cron_units.specs.Units.{days_of_month};
-    ghost use Rattle.cron_units.specs.Laws.{is_unit-days_of_month};
+impl UnitTable<u64> for NumberedDaysTable {
+    ghost use Rattle.std.proofs.Common.{rules, refl};
+    ghost use Rattle.cron_units.specs.Units.{days_of_month, without_last_day};
+    ghost use Rattle.cron_units.specs.Laws.{is_unit-numbered_days};
 
-    ghost unit = { days_of_month };
+    ghost unit = { without_last_day days_of_month };
 
-    ghost is_unit = { is_unit-days_of_month };
+    ghost unmarked = { refl };
+
+    ghost is_unit = { is_unit-numbered_days };
 
     ghost fits = { Prim.search rules };
 
@@ -124,6 +135,7 @@ impl UnitTable<u64> for DaysOfMonthTable {
             greatest: 31,
             names: None,
             question_mark: true,
+            last_day: None,
         }
     }
 }
@@ -136,11 +148,13 @@ pub type Months = Ordinals<MonthsTable, u64>;
 pub struct MonthsTable;
 
 impl UnitTable<u64> for MonthsTable {
-    ghost use Rattle.std.proofs.Common.{rules};
+    ghost use Rattle.std.proofs.Common.{rules, refl};
     ghost use Rattle.cron_units.specs.Units.{months};
     ghost use Rattle.cron_units.specs.Laws.{is_unit-months};
 
     ghost unit = { months };
+
+    ghost unmarked = { refl };
 
     ghost is_unit = { is_unit-months };
 
@@ -158,6 +172,7 @@ impl UnitTable<u64> for MonthsTable {
                 ordinals: &MONTH_NAMES,
             }),
             question_mark: false,
+            last_day: None,
         }
     }
 }
@@ -170,11 +185,13 @@ pub type DaysOfWeek = Ordinals<DaysOfWeekTable, u64>;
 pub struct DaysOfWeekTable;
 
 impl UnitTable<u64> for DaysOfWeekTable {
-    ghost use Rattle.std.proofs.Common.{rules};
+    ghost use Rattle.std.proofs.Common.{rules, refl};
     ghost use Rattle.cron_units.specs.Units.{days_of_week};
     ghost use Rattle.cron_units.specs.Laws.{is_unit-days_of_week};
 
     ghost unit = { days_of_week };
+
+    ghost unmarked = { refl };
 
     ghost is_unit = { is_unit-days_of_week };
 
@@ -192,6 +209,7 @@ impl UnitTable<u64> for DaysOfWeekTable {
                 ordinals: &DAY_NAMES,
             }),
             question_mark: true,
+            last_day: None,
         }
     }
 }
@@ -204,11 +222,13 @@ pub type Years = Ordinals<YearsTable, Wide>;
 pub struct YearsTable;
 
 impl UnitTable<Wide> for YearsTable {
-    ghost use Rattle.std.proofs.Common.{rules};
+    ghost use Rattle.std.proofs.Common.{rules, refl};
     ghost use Rattle.cron_units.specs.Units.{years};
     ghost use Rattle.cron_units.specs.Laws.{is_unit-years};
 
     ghost unit = { years };
+
+    ghost unmarked = { refl };
 
     ghost is_unit = { is_unit-years };
 
@@ -223,6 +243,7 @@ impl UnitTable<Wide> for YearsTable {
             greatest: 2100,
             names: None,
             question_mark: false,
+            last_day: None,
         }
     }
 }

@@ -1,7 +1,9 @@
 //! Places that are taken or free, a bit for each.
 
-ghost use Rattle.std.specs.Prelude.{◌≡◌, ◌<◌, ◌≤◌, ◌+◌, ◌*◌, ℕ, Bool, true, false, ◌&&◌, ◌||◌, ◌↔◌, ◌^◌, not, IsTrue, MatchOption, nat_lt, nat_le, nat_eq};
-ghost use Rattle.cron_units.specs.Words.{count_below, has_bit};
+ghost use Rattle.std.specs.Prelude.{◌≡◌, ◌<◌, ◌≤◌, ◌+◌, ◌-◌, ◌*◌, ◌%◌, ℕ, Bool, true, false, ◌&&◌, ◌||◌, ◌↔◌, ◌^◌, not, IsTrue, MatchOption, nat_lt, nat_le, nat_eq};
+ghost use Rattle.cron_units.specs.Words.{bit_of_three, count_below, has_bit};
+
+use super::multiples::{multiples, place_in_rest};
 
 /// A row of bits, of which the first `size` can be 1.
 pub trait Words: Copy {
@@ -26,6 +28,12 @@ pub trait Words: Copy {
     fn full() -> Self
         ensures fit { IsFit result }
         ensures bits { (k : ℕ) → has result k ≡ nat_lt k size };
+
+    /// Every so many-th bit is 1, from a place on.
+    fn every_nth(first: u32, every: u32) -> Self
+        requires { 0 < every }
+        ensures fit { IsFit result }
+        ensures bits { (k : ℕ) → has result k ≡ (nat_lt k size && (nat_le first k && nat_eq ((k - first) % every) 0)) };
 
     /// Tells whether a bit is 1.
     fn contains(self, place: u32) -> bool
@@ -124,6 +132,14 @@ impl Words for u64 {
 
     fn full() -> u64 {
         u64::MAX
+    }
+
+    fn every_nth(first: u32, every: u32) -> u64 {
+        if first < 64 {
+            multiples(every) << first
+        } else {
+            0
+        }
     }
 
     fn contains(self, place: u32) -> bool {
@@ -242,6 +258,13 @@ impl<R: Extensible> Words for Longer<R> {
         }
     }
 
+    fn every_nth(first: u32, every: u32) -> Longer<R> {
+        Longer {
+            low: u64::every_nth(first, every),
+            rest: R::every_nth(place_in_rest(first, every), every),
+        }
+    }
+
     fn contains(self, place: u32) -> bool {
         if place < 64 {
             self.low.contains(place)
@@ -352,6 +375,20 @@ impl Extensible for Longer<u64> {
 
 /// The most bits that any unit takes.
 pub type Wide = Longer<Longer<u64>>;
+
+/// Joins three words.
+pub fn wide(first: u64, second: u64, third: u64) -> Wide
+    ensures fit { ⟦<Wide as Words>⟧.IsFit result }
+    ensures bits { (k : ℕ) → ⟦<Wide as Words>⟧.has result k ≡ bit_of_three first second third k }
+{
+    Longer {
+        low: first,
+        rest: Longer {
+            low: second,
+            rest: third,
+        },
+    }
+}
 
 /// Lays bits out in as many words as any unit takes.
 pub fn widened<W: Words>(words: W) -> Wide

@@ -9,7 +9,9 @@ use Rattle.cron_callers.proofs.fires.fires_of_day.Goals.{in-None, in-Some+then-t
 
 pub loop-fire-init : goal.loop-fire-init
 loop-fire-init c =
-    let start = ap rest_ahead c.into_iter-fire-iterator.ensures.into_iter_gives ∙ fires_after-walk c.after-fire-items.result _ _ _ c.after-fire-items.ensures.sets c.after-fire-items.ensures.zone c.after-fire-items.ensures.cursor in
+    let start = ap rest_ahead c.into_iter-fire-iterator.ensures.into_iter_gives
+    ∙ fires_after-walk c.after-fire-items.result _ _ _ c.after-fire-items.ensures.sets c.after-fire-items.ensures.zone
+    c.after-fire-items.ensures.cursor in
     rw c.new-fires.ensures.items (ap (take_while (is_through c.args.date)) (sym start))
 
 pub loop-fire-preserved : goal.loop-fire-preserved
@@ -25,7 +27,8 @@ returns c =
     elim c.match-next.branch [
       | in-None w ↦ taken-end (is_through c.args.date) _ c.loop-fire.fires.items _ c.loop-fire.invariant w.in-None.ensures.steps.items.0
       | in-Some+then-to_unix_epoch_day-last w ↦
-          let day = w.to_unix_epoch_day.ensures.value ∙ ap epoch_day (w.to_plain-in-loop-fire.ensures ∙ (w.date.ensures ∙ ap (λ d. d.date) w.datetime.ensures)) in
+          let day = w.to_unix_epoch_day.ensures.value ∙ ap epoch_day (w.to_plain-in-loop-fire.ensures
+          ∙ (w.date.ensures ∙ ap (λ d. d.date) w.datetime.ensures)) in
           let last = c.to_unix_epoch_day-last.ensures.value ∙ ap epoch_day c.to_plain.ensures in
           let past : c.to_unix_epoch_day-last.result <ℤ w.to_unix_epoch_day.result = search rules in
           taken-all (is_through c.args.date) w.in-Some.fire _ c.loop-fire.fires.items _ _ c.loop-fire.invariant w.in-Some.ensures.steps.items

@@ -7,4 +7,5 @@ use Rattle.cron_callers.proofs.fires.fires_of_day.Given as goal
 
 abbrev pub invariant-loop-fire : goal.invariant-loop-fire
 invariant-loop-fire l =
-    take_while (is_through l.fn.date) (fires_after l.fn.schedule.sets (plain_zone l.fn.zone) l.fn.eve.nanosecond) ≡ l.fires.items ++ take_while (is_through l.fn.date) (rest_ahead l.fire-iterator)
+    take_while (is_through l.fn.date) (fires_after l.fn.schedule.sets (plain_zone l.fn.zone) l.fn.eve.nanosecond) ≡ l.fires.items
+    ++ take_while (is_through l.fn.date) (rest_ahead l.fire-iterator)

@@ -7,7 +7,8 @@ use Rattle.cron_next.specs.declared.run.Outcome.{Outcome}
 use Rattle.cron_next.specs.declared.run.Outcome.TheVariants.{Listed, Refused, WriteFailed}
 use Rattle.cron_next.proofs.page.page.Goals as goal
 
-went_out : (text : List ℕ) (old new : Option (List ℕ)) (o : Outcome) → (o ≡ WriteFailed → ⊥) → Ends Listed text old new o → (is_write_failure o ≡ false) × Appends old new text
+went_out : (text : List ℕ) (old new : Option (List ℕ)) (o : Outcome) → (o ≡ WriteFailed → ⊥) → Ends Listed text old new o
+    → (is_write_failure o ≡ false) × Appends old new text
 went_out text old new Listed n e = (refl, e.1)
 went_out text old new Refused n e = (refl, e.1)
 went_out text old new WriteFailed n e = absurd (n refl)

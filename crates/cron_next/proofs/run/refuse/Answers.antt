@@ -8,4 +8,5 @@ same_text old new failed text same e s = subst (λ (t : List ℕ). IsSent old ne
 
 pub returns-clause-ends : goal.returns-clause-ends
 returns-clause-ends g c =
-    c.finish.ensures.ends _ c.args.line.now (same_text _ _ _ c.as_bytes.result.now c.args.line.now c.as_bytes.ensures.value (c.send.ensures _ [] (nothing_sent _ _)))
+    c.finish.ensures.ends _ c.args.line.now (same_text _ _ _ c.as_bytes.result.now c.args.line.now c.as_bytes.ensures.value
+    (c.send.ensures.sent _ [] (nothing_sent _ _)))

@@ -7,7 +7,8 @@ use Rattle.cron_next.proofs.watched.send_whole.Goals as goal
 
 moves_front : (all done rest : List ℕ) (n : ℕ) → all ≡ done ++ rest → all ≡ (done ++ take n rest) ++ take (length rest - n) (drop n rest)
 moves_front all done rest n e =
-    e ∙ ap (λ l. done ++ l) (sym (take-append-drop n rest)) ∙ sym (append_assoc done (take n rest) (drop n rest)) ∙ ap (λ l. (done ++ take n rest) ++ l) (sym (take_rest rest n))
+    e ∙ ap (λ l. done ++ l) (sym (take-append-drop n rest)) ∙ sym (append_assoc done (take n rest) (drop n rest))
+    ∙ ap (λ l. (done ++ take n rest) ++ l) (sym (take_rest rest n))
 
 -- a write that takes a byte is no failure
 no_failure : (n : ℕ) (old new : Bool) (rest : List ℕ) → 0 < n → old ≡ false → new ≡ (old || (n == 0 && not (is_empty rest))) → new ≡ false
@@ -17,5 +18,9 @@ pub loop-rest-preserved : goal.loop-rest-preserved
 loop-rest-preserved g c =
     let (done, split, appended, fresh) = c.loop-rest.invariant in
     let rest = c.loop-rest.rest.now in
-    let n = c.in-Ok.count in
-    (done ++ take n rest, moves_front _ done rest n split, Appends-trans _ _ _ _ _ appended c.in-Ok.ensures.bytes, no_failure n c.loop-rest.out.failed c.write.new.self.failed rest c.if-count-gt0.true fresh c.in-Ok.ensures.mark)
+    let n = c.in-Ok.count in (
+      done ++ take n rest,
+      moves_front _ done rest n split,
+      Appends-trans _ _ _ _ _ appended c.in-Ok.ensures.bytes,
+      no_failure n c.loop-rest.out.failed c.write.new.self.failed rest c.if-count-gt0.true fresh c.in-Ok.ensures.mark,
+    )

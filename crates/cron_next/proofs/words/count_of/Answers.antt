@@ -18,4 +18,5 @@ kept (Err x) o P v e h = rw e h
 
 pub returns : goal.returns
 returns c =
-    kept c.parse.result c.ok.result _ _ c.ok.ensures.value (parse_plain digits 32 c.args.word.now c.parse.result c.parse.ensures.value.0 (no_plus c.args.word.now c.starts_with.result (search rules) c.if-starts_with.false))
+    kept c.parse.result c.ok.result _ _ c.ok.ensures.value (parse_plain digits 32 c.args.word.now c.parse.result c.parse.ensures.value.0
+    (no_plus c.args.word.now c.starts_with.result (search rules) c.if-starts_with.false))

@@ -19,5 +19,6 @@ returns-clause-connector c =
     let text = c.args.text.now in
     let p = c.args.place in
     let front = place_front text p c.requires (omega arith) in
-    matched c.connector_of.result (is_connector (sign_of (get_or text p.at 0)) ≡ false) (NoConnector (tokens_from text p)) (λ k. connector_view k ≡ sign_of (get_or text p.at 0)) (IsConnector text p)
+    matched c.connector_of.result (is_connector (sign_of (get_or text p.at 0)) ≡ false) (NoConnector (tokens_from text p))
+    (λ k. connector_view k ≡ sign_of (get_or text p.at 0)) (IsConnector text p)
     (no_connector_here text p.at p.spaced (omega arith) front) (λ k h. connector_here text p k (omega arith) front h) c.connector_of.ensures

@@ -1,7 +1,7 @@
 use Rattle.std.proofs.Common.{◌≡◌, Bool, true, false, ◌&&◌, List, ◌∷◌, refl, sym, ap, ◌∙◌}
 use Rattle.cron_units.specs.Units.{TimeUnit}
 use Rattle.cron_text.specs.Fields.{is_wildcard}
-use Rattle.cron_text.specs.Inner.FieldReading.{State, furthest}
+use Rattle.cron_text.specs.Inner.FieldReading.{FieldState, furthest}
 use Rattle.cron_text.specs.Inner.Places.{tokens_from}
 use Rattle.cron_text.specs.Inner.Views.{state_view}
 use Rattle.cron_text.specs.Tokens.{Token, symbol_of}
@@ -17,7 +17,7 @@ not_first : (a b : Bool) → a ≡ false → (a && b) ≡ false
 not_first a b h = rw h refl
 
 -- what is read nowhere stays where it is
-stays : (u : TimeUnit) (s : State) (ts all : List Token) → all ≡ ts → furthest u s ts ≡ (s, ts) → furthest u s all ≡ (s, all)
+stays : (u : TimeUnit) (s : FieldState) (ts all : List Token) → all ≡ ts → furthest u s ts ≡ (s, ts) → furthest u s all ≡ (s, all)
 stays u s ts all e h = ap (furthest u s) e ∙ (h ∙ ap (λ (zs : List Token). (s, zs)) (sym e))
 
 pub returns-in_err-growth-clause-more : goal.returns-in_err-growth-clause-more
@@ -29,7 +29,9 @@ returns-in_err-growth-clause-more g c = λ done last e.
     let next = rw c.as_bytes-bytes.ensures.value at c.skip_space.ensures.same in
     let read = c.in_ok-token.ensures.token in
     let all = con.rest ∙ ap (λ (ts : List Token). con.token ∷ ts) (sym next ∙ read.rest) in
-    rw c.from_residual-in_err-growth.ensures (stays u s _ _ all (stuck_at_token u s con.token read.token (tokens_from text c.in_ok-token.after) c.in_ok-connector.connector con.symbol (c.in_err-growth.ensures done last read.token read.symbol)))
+    rw c.from_residual-in_err-growth.ensures (stays u s _ _ all
+    (stuck_at_token u s con.token read.token (tokens_from text c.in_ok-token.after) c.in_ok-connector.connector con.symbol
+    (c.in_err-growth.ensures done last read.token read.symbol)))
 
 pub returns-clause-more : goal.returns-clause-more
 returns-clause-more g c = λ done last e.
@@ -52,5 +54,6 @@ returns-clause-more g c = λ done last e.
     record {
       token = read.token;
       seen = seen;
-      on = ap (furthest u s) all ∙ grows_on u s _ con.token read.token (tokens_from text c.in_ok-token.after) c.in_ok-connector.connector con.symbol before behind (c.in_ok-growth.ensures done last read.token read.symbol);
+      on = ap (furthest u s) all ∙ grows_on u s _ con.token read.token (tokens_from text c.in_ok-token.after) c.in_ok-connector.connector con.symbol
+          before behind (c.in_ok-growth.ensures done last read.token read.symbol);
     }

@@ -15,5 +15,6 @@ returns-clause-token c =
       token = record t { spaced = c.args.place.spaced };
       spaced = refl;
       symbol = c.symbol_at-end.ensures.seen ∙ sym (symbol_spaced c.args.place.spaced t);
-      rest = gap_token c.args.place.spaced t _ _ refl c.symbol_at-end.ensures.rest ∙ ap (λ (ts : List Token). record t { spaced = c.args.place.spaced } ∷ ts) (sym next);
+      rest = gap_token c.args.place.spaced t _ _ refl c.symbol_at-end.ensures.rest
+          ∙ ap (λ (ts : List Token). record t { spaced = c.args.place.spaced } ∷ ts) (sym next);
     }

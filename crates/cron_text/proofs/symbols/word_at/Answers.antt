@@ -14,6 +14,7 @@ returns c =
     record {
       further = omega (arith, e.further);
       within = e.within;
-      seen = ap word c.range.ensures.value ∙ word_symbol c.args.text.now c.args.at c.letters_end-end.result c.requires.within c.requires.letter e.within e.further e.before;
+      seen = ap word c.range.ensures.value ∙ word_symbol c.args.text.now c.args.at c.letters_end-end.result c.requires.within c.requires.letter e.within
+          e.further e.before;
       rest = letters_token c.args.text.now c.args.at c.letters_end-end.result c.requires.within c.requires.letter e.within e.further e.before e.end;
     }

@@ -1,6 +1,7 @@
 use Rattle.std.proofs.Common.{[], ◌∷◌}
 use Rattle.std.proofs.lemmas.Result.{err_from_is_err_and}
 use Rattle.cron_units.specs.Units as units
+use Rattle.cron_units.specs.Units.{unmarked}
 use Rattle.cron_text.proofs.Prefixes.{start, next, refused_by, unread_by, denoted_by}
 use Rattle.cron_text.proofs.texts.longhand.Goals as goal
 
@@ -29,32 +30,50 @@ pub returns-in_err-read_field-4-clause-refused : goal.returns-in_err-read_field-
 returns-in_err-read_field-4-clause-refused c =
     let told = err_from_is_err_and c.from_residual-in_err-read_field-4.result c.from_residual-in_err-read_field-4.ensures.1 in
     rw (told.1, told.2) (unread_by (units.seconds ∷ units.minutes ∷ units.hours ∷ []) (units.months ∷ units.days_of_week ∷ []) units.days_of_month _ _ _ _
-    (next units.seconds _ _ _ _ _ _ c.in_ok-read_field.ensures.taken (next units.minutes _ _ _ _ _ _ c.in_ok-read_field-2.ensures.taken (next units.hours _ _ _ _ _ _ c.in_ok-read_field-3.ensures.taken (start _))))
+    (next units.seconds _ _ _ _ _ _ c.in_ok-read_field.ensures.taken
+    (next units.minutes _ _ _ _ _ _ c.in_ok-read_field-2.ensures.taken (next units.hours _ _ _ _ _ _ c.in_ok-read_field-3.ensures.taken (start _))))
     c.in_err-read_field-4.ensures.refused)
 
 pub returns-in_err-read_field-5-clause-refused : goal.returns-in_err-read_field-5-clause-refused
 returns-in_err-read_field-5-clause-refused c =
     let told = err_from_is_err_and c.from_residual-in_err-read_field-5.result c.from_residual-in_err-read_field-5.ensures.1 in
     rw (told.1, told.2) (unread_by (units.seconds ∷ units.minutes ∷ units.hours ∷ units.days_of_month ∷ []) (units.days_of_week ∷ []) units.months _ _ _ _
-    (next units.seconds _ _ _ _ _ _ c.in_ok-read_field.ensures.taken (next units.minutes _ _ _ _ _ _ c.in_ok-read_field-2.ensures.taken (next units.hours _ _ _ _ _ _ c.in_ok-read_field-3.ensures.taken (next units.days_of_month _ _ _ _ _ _ c.in_ok-read_field-4.ensures.taken (start _)))))
+    (next units.seconds _ _ _ _ _ _ c.in_ok-read_field.ensures.taken
+    (next units.minutes _ _ _ _ _ _ c.in_ok-read_field-2.ensures.taken
+    (next units.hours _ _ _ _ _ _ c.in_ok-read_field-3.ensures.taken
+    (next units.days_of_month _ _ _ _ _ _ c.in_ok-read_field-4.ensures.taken (start _)))))
     c.in_err-read_field-5.ensures.refused)
 
 pub returns-in_err-read_field-6-clause-refused : goal.returns-in_err-read_field-6-clause-refused
 returns-in_err-read_field-6-clause-refused c =
     let told = err_from_is_err_and c.from_residual-in_err-read_field-6.result c.from_residual-in_err-read_field-6.ensures.1 in
     rw (told.1, told.2) (unread_by (units.seconds ∷ units.minutes ∷ units.hours ∷ units.days_of_month ∷ units.months ∷ []) ([]) units.days_of_week _ _ _ _
-    (next units.seconds _ _ _ _ _ _ c.in_ok-read_field.ensures.taken (next units.minutes _ _ _ _ _ _ c.in_ok-read_field-2.ensures.taken (next units.hours _ _ _ _ _ _ c.in_ok-read_field-3.ensures.taken (next units.days_of_month _ _ _ _ _ _ c.in_ok-read_field-4.ensures.taken (next units.months _ _ _ _ _ _ c.in_ok-read_field-5.ensures.taken (start _))))))
+    (next units.seconds _ _ _ _ _ _ c.in_ok-read_field.ensures.taken
+    (next units.minutes _ _ _ _ _ _ c.in_ok-read_field-2.ensures.taken
+    (next units.hours _ _ _ _ _ _ c.in_ok-read_field-3.ensures.taken
+    (next units.days_of_month _ _ _ _ _ _ c.in_ok-read_field-4.ensures.taken
+    (next units.months _ _ _ _ _ _ c.in_ok-read_field-5.ensures.taken (start _))))))
     c.in_err-read_field-6.ensures.refused)
 
 pub returns-in_err-read_years-clause-refused : goal.returns-in_err-read_years-clause-refused
 returns-in_err-read_years-clause-refused c =
     let told = err_from_is_err_and c.from_residual-in_err-read_years.result c.from_residual-in_err-read_years.ensures.1 in
     rw (told.1, told.2) (refused_by (units.seconds ∷ units.minutes ∷ units.hours ∷ units.days_of_month ∷ units.months ∷ units.days_of_week ∷ []) [] _ _ _ _
-    (next units.seconds _ _ _ _ _ _ c.in_ok-read_field.ensures.taken (next units.minutes _ _ _ _ _ _ c.in_ok-read_field-2.ensures.taken (next units.hours _ _ _ _ _ _ c.in_ok-read_field-3.ensures.taken (next units.days_of_month _ _ _ _ _ _ c.in_ok-read_field-4.ensures.taken (next units.months _ _ _ _ _ _ c.in_ok-read_field-5.ensures.taken (next units.days_of_week _ _ _ _ _ _ c.in_ok-read_field-6.ensures.taken (start _)))))))
+    (next units.seconds _ _ _ _ _ _ c.in_ok-read_field.ensures.taken
+    (next units.minutes _ _ _ _ _ _ c.in_ok-read_field-2.ensures.taken
+    (next units.hours _ _ _ _ _ _ c.in_ok-read_field-3.ensures.taken
+    (next units.days_of_month _ _ _ _ _ _ c.in_ok-read_field-4.ensures.taken
+    (next units.months _ _ _ _ _ _ c.in_ok-read_field-5.ensures.taken
+    (next units.days_of_week _ _ _ _ _ _ c.in_ok-read_field-6.ensures.taken (start _)))))))
     c.in_err-read_years.ensures.refused)
 
 pub returns-clause-sets : goal.returns-clause-sets
 returns-clause-sets c =
-    denoted_by _ [] _ (c.read_years.new.years ∷ []) _ _
-    (next units.seconds _ _ _ _ _ _ c.in_ok-read_field.ensures.taken (next units.minutes _ _ _ _ _ _ c.in_ok-read_field-2.ensures.taken (next units.hours _ _ _ _ _ _ c.in_ok-read_field-3.ensures.taken (next units.days_of_month _ _ _ _ _ _ c.in_ok-read_field-4.ensures.taken (next units.months _ _ _ _ _ _ c.in_ok-read_field-5.ensures.taken (next units.days_of_week _ _ _ _ _ _ c.in_ok-read_field-6.ensures.taken (start _)))))))
+    denoted_by _ [] _ (unmarked c.read_years.new.years ∷ []) _ _
+    (next units.seconds _ _ _ _ _ _ c.in_ok-read_field.ensures.taken
+    (next units.minutes _ _ _ _ _ _ c.in_ok-read_field-2.ensures.taken
+    (next units.hours _ _ _ _ _ _ c.in_ok-read_field-3.ensures.taken
+    (next units.days_of_month _ _ _ _ _ _ c.in_ok-read_field-4.ensures.taken
+    (next units.months _ _ _ _ _ _ c.in_ok-read_field-5.ensures.taken
+    (next units.days_of_week _ _ _ _ _ _ c.in_ok-read_field-6.ensures.taken (start _)))))))
     c.in_ok-read_years.ensures.years

@@ -16,4 +16,5 @@ returns-then-at-text c =
 pub returns-then-text-at-ne64 : goal.returns-then-text-at-ne64
 returns-then-text-at-ne64 c =
     let text = c.args.text.now in
-    sym (no_shorthand (drop c.args.at text) (λ cs e. c.if-text-at-ne64.true (first_is _ cs (get_or text c.args.at 0) 64 _ (drop_more text c.args.at 0 c.if-at-text.false) e)))
+    sym (no_shorthand (drop c.args.at text) (λ cs e. c.if-text-at-ne64.true
+    (first_is _ cs (get_or text c.args.at 0) 64 _ (drop_more text c.args.at 0 c.if-at-text.false) e)))

@@ -17,7 +17,10 @@ returns-then-not-is_space-clause-trims c =
     front_here c.args.text.now c.loop-at.at _ c.loop-at-test.true space c.loop-at.invariant.1
 
 -- where the loop ended, at the end of the text
-rest_of : (c : goal.After-loop-at) → (tokens (drop c.args.from c.args.text.now) ≡ after_gap (nat_lt c.args.from (length c.args.text.now)) (tokens (drop (length c.args.text.now) c.args.text.now))) × (trimmed_front (drop c.args.from c.args.text.now) ≡ trimmed_front (drop (length c.args.text.now) c.args.text.now))
+rest_of : (c : goal.After-loop-at)
+    → (tokens (drop c.args.from c.args.text.now) ≡ after_gap (nat_lt c.args.from (length c.args.text.now))
+    (tokens (drop (length c.args.text.now) c.args.text.now)))
+    × (trimmed_front (drop c.args.from c.args.text.now) ≡ trimmed_front (drop (length c.args.text.now) c.args.text.now))
 rest_of c =
     let end : c.loop-at.at ≡ length c.args.text.now = omega (arith, c.loop-at-test.false, c.loop-at.auto.at-end, c.requires) in
     rw end at c.loop-at.invariant

@@ -6,4 +6,5 @@ use Rattle.cron_text.proofs.tokens.skip_space.Given as goal
 -- the bytes before the index are white space
 abbrev pub invariant-loop-at : goal.invariant-loop-at
 invariant-loop-at l =
-    (tokens (drop l.from l.text) ≡ after_gap (nat_lt l.from l.at) (tokens (drop l.at l.text))) × (trimmed_front (drop l.from l.text) ≡ trimmed_front (drop l.at l.text))
+    (tokens (drop l.from l.text) ≡ after_gap (nat_lt l.from l.at) (tokens (drop l.at l.text)))
+    × (trimmed_front (drop l.from l.text) ≡ trimmed_front (drop l.at l.text))

@@ -16,5 +16,6 @@ returns-in-UTC c =
 
 pub returns-in-Fixed : goal.returns-in-Fixed
 returns-in-Fixed c =
-    let at : ambiguous_at (plain_zone c.args.zone.now) (civil c.args.second) ≡ Unambiguous c.in-Fixed.offset = fixed_once _ _ c.in-Fixed.offset (civil c.args.second) c.to_plain.ensures c.in-Fixed.is in
+    let at : ambiguous_at (plain_zone c.args.zone.now) (civil c.args.second)
+    ≡ Unambiguous c.in-Fixed.offset = fixed_once _ _ c.in-Fixed.offset (civil c.args.second) c.to_plain.ensures c.in-Fixed.is in
     rw c.from_plain.ensures at (c.single-in-Fixed.ensures) ∙ sym (readings-by _ _ _ at)

@@ -8,7 +8,8 @@ overflow_cast-result c =
     let fits : FitsSigned w64 c.args.from = search rules in
     let asked = c.new-inquiry.result in
     let found = rw (to_z-of_z fits) at c.search_from-found.ensures.found in
-    let few = days_at_most c.args.way asked.sets c.args.from (second_of c.search_from-found.result) (found_in c.args.way asked.sets asked.zone c.args.from c.search_from-found.result found) in
+    let few = days_at_most c.args.way asked.sets c.args.from (second_of c.search_from-found.result)
+    (found_in c.args.way asked.sets asked.zone c.args.from c.search_from-found.result found) in
     let days = rw (to_z-of_z fits) at c.search_from-found.ensures.days in
     let none = ap (λ q. q.days) c.new-inquiry.ensures in
     omega (arith, c.days.ensures, days, few, none)

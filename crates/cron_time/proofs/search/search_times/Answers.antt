@@ -1,4 +1,6 @@
-use Rattle.std.proofs.Common.{sym, arith, ◌∙◌}
+use Rattle.std.proofs.Common.{pos, refl, sym, arith, ◌∙◌}
+use Rattle.cron_time.specs.Inner.Blocks.{Reaches}
+use Rattle.cron_time.specs.Inner.Places.{matches_second, stands_at}
 use Rattle.cron_time.proofs.AskedLemmas.{looks_same, same_on, converted}
 use Rattle.cron_time.proofs.TallyLemmas.{kind_bound, adds_none, adds_more, passed_start, passed_next}
 use Rattle.cron_time.proofs.TimesLemmas.{AtTime, time_found, time_counted, time_silent, times_start, times_next, time_low}
@@ -6,12 +8,19 @@ use Rattle.cron_time.proofs.search.search_times.Goals as goal
 
 pub loop-next-init : goal.loop-next-init
 loop-next-init c = record {
-  same = looks_same _ _ c.nearest-next.ensures.same;
-  days = c.nearest-next.ensures.same.days;
-  reached = times_start _ _ _ _ _ _ c.nearest-next.ensures.nearest;
-  bound = c.nearest-next.ensures.bound;
-  conversions = adds_none _ _ _ _ c.nearest-next.ensures.same.conversions (passed_start _ _ _ _ _ c.nearest-next.ensures.nearest);
+  same = record { sets = refl; zone = refl };
+  days = refl;
+  reached = times_start _ _ _ _ _ _ c.requires.first;
+  bound = time_low c.args.first c.requires.bound;
+  conversions = adds_none _ _ _ _ refl (passed_start _ _ _ _ _ c.requires.first);
 }
+
+pub time_past-next-requires-clause-matching : goal.time_past-next-requires-clause-matching
+time_past-next-requires-clause-matching c =
+    let s = c.args.inquiry.now.sets in
+    let reached : Reaches c.args.way 1 (matches_second s) (stands_at s c.args.inquiry.now.zone c.args.day) (pos c.args.from) (pos c.args.from)
+    c.in-Some.time = rw c.in-Some.is at c.loop-next.invariant.reached in
+    rw ((converted _ _ c.readings-found.ensures.counted).same.sets ∙ c.loop-next.invariant.same.sets) reached.block
 
 pub readings-found-requires : goal.readings-found-requires
 readings-found-requires c =
@@ -65,5 +74,6 @@ loop-next-preserved c =
       days = looked.days ∙ asked.days ∙ c.loop-next.invariant.days;
       reached = times_next _ _ _ _ _ _ _ at (time_silent _ _ _ _ _ _ _ at readings (sym c.if-is_some.ensures)) next;
       bound = time_low c.time_past-next.result c.time_past-next.ensures.bound;
-      conversions = adds_more 86_400 _ _ _ _ _ early (looked.conversions ∙ asked.more) (passed_next _ _ _ _ _ _ _ at.time_in at.reached.block at.reached.lies next early.tally);
+      conversions = adds_more 86_400 _ _ _ _ _ early (looked.conversions ∙ asked.more)
+          (passed_next _ _ _ _ _ _ _ at.time_in at.reached.block at.reached.lies next early.tally);
     }

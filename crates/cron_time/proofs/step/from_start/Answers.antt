@@ -1,21 +1,11 @@
-use Rattle.std.proofs.Common.{FitsSigned, w64, to_z-of_z, rules, sym, ap, ◌∙◌}
+use Rattle.std.proofs.Common.{ap, refl}
 use Rattle.jiff.specs.Words.{plain_zone}
-use Rattle.cron_time.proofs.RestLemmas.{start_stop, start_ends}
-use Rattle.cron_time.proofs.StepLemmas.{reached}
+use Rattle.cron_time.proofs.RestLemmas.{nowhere, start_nowhere}
 use Rattle.cron_time.proofs.step.from_start.Goals as goal
 
-pub returns-in-Some : goal.returns-in-Some
-returns-in-Some c =
+pub returns-then-not-some_month_has_a_day : goal.returns-then-not-some_month_has_a_day
+returns-then-not-some_month_has_a_day c =
     let s = c.args.fields.now in
     let z = plain_zone c.args.zone.now in
-    let fits : FitsSigned w64 c.in-Some.from = search rules in
-    let found = rw (to_z-of_z fits, ap (λ q. q.sets) c.new-inquiry.ensures, ap (λ q. q.zone) c.new-inquiry.ensures) at c.search_from.ensures.found in
-    let at = sym c.bound.ensures ∙ c.in-Some.is in
-    rw c.stopped.ensures (start_stop c.args.way s z _ c.in-Some.from _ (rw c.from_plain.ensures at at) (reached c.args.way s z c.in-Some.from c.search_from.result found))
-
-pub returns-in-None : goal.returns-in-None
-returns-in-None c =
-    let s = c.args.fields.now in
-    let z = plain_zone c.args.zone.now in
-    let at = sym c.bound.ensures ∙ c.in-None.is in
-    rw c.stopped-in-None.ensures (start_ends c.args.way s z _ (rw c.from_plain.ensures at at))
+    let none = rw (ap (λ q. q.sets) c.new-inquiry.ensures) at (c.if-not-some_month_has_a_day.ensures.none refl) in
+    rw c.stop.ensures (start_nowhere c.args.way s z _ (nowhere s z none))

@@ -38,8 +38,10 @@ loop-seconds-preserved c =
     let fits : FitsSigned w64 c.args.from = search rules in
     let so = rw (to_z-of_z fits, c.loop-seconds.next-is) at kept.so_far in
     let found = rw (kept.same.sets, kept.same.zone, c.loop-seconds.next-is) at c.in-Some.ensures.found in
-    let nearest : IsNearestAt Ahead (stands s z) c.loop-seconds.next c.in-Some.found.first.second = answer_second Ahead s z c.loop-seconds.next c.in-Some.found found in
-    let more = survey_more s z c.args.from c.loop-seconds.next c.loop-seconds.seconds c.loop-seconds.inquiry.days c.loop-seconds.inquiry.conversions c.in-Some.found.first.second so nearest in
+    let nearest : IsNearestAt Ahead (stands s z) c.loop-seconds.next c.in-Some.found.first.second = answer_second Ahead s z c.loop-seconds.next
+    c.in-Some.found found in
+    let more = survey_more s z c.args.from c.loop-seconds.next c.loop-seconds.seconds c.loop-seconds.inquiry.days c.loop-seconds.inquiry.conversions
+    c.in-Some.found.first.second so nearest in
     let days = rw (kept.same.sets, c.loop-seconds.next-is, c.in-Some.is) at searched.days in
     let asked = rw (kept.same.sets, kept.same.zone, c.loop-seconds.next-is, c.in-Some.is) at searched.conversions in
     let past : FitsSigned w64 c.beyond-next.result = search rules in
@@ -62,8 +64,14 @@ returns-in-None c =
     let none = rw (kept.same.sets, kept.same.zone, c.loop-seconds.next-is) at c.in-None.ensures.found in
     let days = rw (kept.same.sets, c.loop-seconds.next-is, c.in-None.is) at searched.days in
     let asked = rw (kept.same.sets, kept.same.zone, c.loop-seconds.next-is, c.in-None.is) at searched.conversions in
-    let end = survey_end s z c.args.from c.loop-seconds.next c.args.count c.loop-seconds.seconds c.loop-seconds.inquiry.days c.loop-seconds.inquiry.conversions c.loop-seconds-test.true so none in
-    rw (c.counted.ensures, days, asked) (record { seconds = end.seconds; conversions = end.conversions; least_days = end.least_days; most_days = end.most_days })
+    let end = survey_end s z c.args.from c.loop-seconds.next c.args.count c.loop-seconds.seconds c.loop-seconds.inquiry.days
+    c.loop-seconds.inquiry.conversions c.loop-seconds-test.true so none in
+    rw (c.counted.ensures, days, asked) (record {
+      seconds = end.seconds;
+      conversions = end.conversions;
+      least_days = end.least_days;
+      most_days = end.most_days;
+    })
 
 pub returns : goal.returns
 returns c =
@@ -71,5 +79,6 @@ returns c =
     let fits : FitsSigned w64 c.args.from = search rules in
     let so = rw (to_z-of_z fits, c.loop-seconds.next-is) at kept.so_far in
     let all : c.loop-seconds.seconds ≡ c.args.count = omega (arith, c.loop-seconds-test.false, kept.few) in
-    let end = survey_full c.args.fields.now (plain_zone c.args.zone.now) c.args.from c.loop-seconds.next c.args.count c.loop-seconds.seconds c.loop-seconds.inquiry.days c.loop-seconds.inquiry.conversions all so in
+    let end = survey_full c.args.fields.now (plain_zone c.args.zone.now) c.args.from c.loop-seconds.next c.args.count c.loop-seconds.seconds
+    c.loop-seconds.inquiry.days c.loop-seconds.inquiry.conversions all so in
     rw c.counted-2.ensures (record { seconds = end.seconds; conversions = end.conversions; least_days = end.least_days; most_days = end.most_days })

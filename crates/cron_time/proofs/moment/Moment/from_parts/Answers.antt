@@ -7,15 +7,18 @@ use Rattle.cron_time.proofs.moment.Moment.from_parts.Goals as goal
 
 pub returns-then-subsec_nanosecond-ne0-clause-only : goal.returns-then-subsec_nanosecond-ne0-clause-only
 returns-then-subsec_nanosecond-ne0-clause-only c = λ m parts.
-    absurd (no_fraction_parts c.args.date_time c.args.offset m parts (λ none. c.if-subsec_nanosecond-ne0.true (ap (of_z w32) (c.subsec_nanosecond.ensures ∙ ap pos none))))
+    absurd (no_fraction_parts c.args.date_time c.args.offset m parts
+    (λ none. c.if-subsec_nanosecond-ne0.true (ap (of_z w32) (c.subsec_nanosecond.ensures ∙ ap pos none))))
 
 pub returns-then-second-lt0-clause-only : goal.returns-then-second-lt0-clause-only
 returns-then-second-lt0-clause-only c = λ m parts.
-    absurd (let same = parts_number c.args.date_time c.args.offset m parts in omega (arith, ints, signed_arith, c.civil_number-second.ensures, c.if-second-lt0.true))
+    absurd (let same = parts_number c.args.date_time c.args.offset m parts in
+    omega (arith, ints, signed_arith, c.civil_number-second.ensures, c.if-second-lt0.true))
 
 pub returns-then-second-ge-SECONDS-clause-only : goal.returns-then-second-ge-SECONDS-clause-only
 returns-then-second-ge-SECONDS-clause-only c = λ m parts.
-    absurd (let same = parts_number c.args.date_time c.args.offset m parts in omega (arith, ints, signed_arith, c.civil_number-second.ensures, c.if-second-ge-SECONDS.true, parts.in_range))
+    absurd (let same = parts_number c.args.date_time c.args.offset m parts in
+    omega (arith, ints, signed_arith, c.civil_number-second.ensures, c.if-second-ge-SECONDS.true, parts.in_range))
 
 pub returns-clause-parts : goal.returns-clause-parts
 returns-clause-parts c =

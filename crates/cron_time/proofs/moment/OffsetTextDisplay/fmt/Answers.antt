@@ -41,5 +41,9 @@ returns-else-seconds-eq0-clause-writes g c = λ plain ok.
           let above = rw same at w.if-offset-lt0.false in
           rw w.sign-is (sym (sign_above o (λ below. grind (arith, ints))))
     ] in
-    let wrote = rw (c.laid_out-else-seconds-eq0.ensures, c.laid_out-else-seconds-eq0-2.ensures, c.laid_out-else-seconds-eq0-3.ensures) at (c.write-else-seconds-eq0.ensures.writes plain ok) in
+    let wrote = rw (
+      c.laid_out-else-seconds-eq0.ensures,
+      c.laid_out-else-seconds-eq0-2.ensures,
+      c.laid_out-else-seconds-eq0-3.ensures,
+    ) at (c.write-else-seconds-eq0.ensures.writes plain ok) in
     rw (← offset_is-long o c.unsigned_abs-size.result c.if-offset-lt0.sign.now size small sign c.if-seconds-eq0.false) wrote

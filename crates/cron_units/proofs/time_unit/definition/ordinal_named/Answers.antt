@@ -1,11 +1,27 @@
-use Rattle.std.proofs.Common.{true, false, sym, ◌∙◌}
-use Rattle.cron_units.proofs.Words.{at_word}
+use Rattle.std.proofs.Common.{true, false, sym, ap, ◌∙◌}
+use Rattle.cron_units.specs.Tables.{key_of}
+use Rattle.cron_units.proofs.Words.{at_word, past_key}
 use Rattle.cron_units.proofs.time_unit.definition.ordinal_named.Goals as goal
+use Rattle.cron_units.proofs.time_unit.definition.ordinal_named.Goals.{else-key-sought-via-then-key-sought+else-eq_ignore_ascii_case, else-key-sought-via-else-key-sought}
 
 pub loop-name-preserved : goal.loop-name-preserved
 loop-name-preserved c =
-    sym (at_word c.args.names.now c.args.word.now c.loop-name.name-index _ c.eq_ignore_ascii_case.result false c.loop-name-test.true c.if-eq_ignore_ascii_case.false c.eq_ignore_ascii_case.ensures.test) ∙ c.loop-name.invariant
+    let names = c.args.names.now in
+    let word = c.args.word.now in
+    let index = c.loop-name.name-index in
+    let sought = sym c.key_of-sought.ensures in
+    elim c.else-key-sought.branch [
+      | else-key-sought-via-then-key-sought+else-eq_ignore_ascii_case w ↦
+          sym (at_word names word index _ w.eq_ignore_ascii_case.result false c.loop-name-test.true w.if-eq_ignore_ascii_case.false
+          w.eq_ignore_ascii_case.ensures.test)
+          ∙ c.loop-name.invariant
+      | else-key-sought-via-else-key-sought w ↦
+          sym (past_key names word index _ c.loop-name-test.true c.requires
+          (λ same. w.if-key-sought.false (same ∙ (ap key_of (sym c.as_bytes.ensures.value) ∙ sought))))
+          ∙ c.loop-name.invariant
+    ]
 
 pub returns-then-eq_ignore_ascii_case : goal.returns-then-eq_ignore_ascii_case
 returns-then-eq_ignore_ascii_case c =
-    sym (at_word c.args.names.now c.args.word.now c.loop-name.name-index _ c.eq_ignore_ascii_case.result true c.loop-name-test.true c.if-eq_ignore_ascii_case.true c.eq_ignore_ascii_case.ensures.test) ∙ c.loop-name.invariant
+    sym (at_word c.args.names.now c.args.word.now c.loop-name.name-index _ c.eq_ignore_ascii_case.result true c.loop-name-test.true
+    c.if-eq_ignore_ascii_case.true c.eq_ignore_ascii_case.ensures.test) ∙ c.loop-name.invariant

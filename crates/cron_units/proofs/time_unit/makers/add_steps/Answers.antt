@@ -1,6 +1,7 @@
-use Rattle.cron_units.proofs.Steps.{range_steps}
+use Rattle.cron_units.proofs.Progressions.{range_steps}
 use Rattle.cron_units.proofs.time_unit.makers.add_steps.Goals as goal
 
-pub returns-then-every-eq1 : goal.returns-then-every-eq1
-returns-then-every-eq1 g c =
-    range_steps g.T.TimeUnitField.unit (g.T.TimeUnitField.members c.args.set.now) (g.T.TimeUnitField.members c.insert_range.new.self) c.args.first c.args.last c.args.every c.if-every-eq1.true c.insert_range.ensures
+pub returns-then-every-eq1-clause-members : goal.returns-then-every-eq1-clause-members
+returns-then-every-eq1-clause-members g c =
+    range_steps g.T.TimeUnitField.unit (g.T.TimeUnitField.members c.args.set.now) (g.T.TimeUnitField.members c.insert_range.new.self) c.args.first
+    c.args.last c.args.every c.if-every-eq1.true c.insert_range.ensures.members

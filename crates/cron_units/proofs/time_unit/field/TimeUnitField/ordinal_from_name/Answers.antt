@@ -12,5 +12,6 @@ returns-clause-within g c =
     let u = g.Self.TimeUnitField.unit in
     let word = c.args.name.now in
     let same : c.ordinal_named.result ≡ ordinal_of u word =
-    c.ordinal_named.ensures ∙ (sym (ap (λ (names : Option Names). named_by (option_map names_view names) word) c.in_ok-names.was) ∙ ap (λ (v : TimeUnit). ordinal_of v word) c.definition.ensures) in
+    c.ordinal_named.ensures ∙ (sym (ap (λ (names : Option Names). named_by (option_map names_view names) word) c.in_ok-names.was)
+    ∙ ap (λ (v : TimeUnit). ordinal_of v word) c.definition.ensures.unit) in
     subst (λ (o : Option ℕ). IfSome o (λ n. (u.least ≤ n) × (n ≤ u.greatest))) (sym same) (ordinal_within u word g.met.Self.TimeUnitField.is_unit)

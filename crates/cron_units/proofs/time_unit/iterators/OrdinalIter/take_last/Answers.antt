@@ -12,4 +12,5 @@ returns-in_err-place c =
 
 pub returns : goal.returns
 returns c =
-    listed_last c.self.inside.least 192 _ _ c.args.self.now c.in_ok-place.place c.self.view_is c.in_ok-place.ensures.0 c.in_ok-place.ensures.1 c.in_ok-place.ensures.2 c.without-self-inside.ensures.bits
+    listed_last c.self.inside.least 192 _ _ c.args.self.now c.in_ok-place.place c.self.view_is c.in_ok-place.ensures.0 c.in_ok-place.ensures.1
+    c.in_ok-place.ensures.2 c.without-self-inside.ensures.bits

@@ -3,4 +3,5 @@ use Rattle.cron_units.proofs.time_unit.ordinals.Ordinals.laid.Goals as goal
 
 pub invariant_of-result : goal.invariant_of-result
 invariant_of-result g c =
-    laid_out g.U.UnitTable.unit g.W.Words.IsFit g.W.Words.has g.W.Words.made c.args.words g.met.U.UnitTable.is_unit.ordered (g.met.W.Words.remade c.args.words) c.requires.fit c.requires.none_past
+    laid_out g.U.UnitTable.unit g.W.Words.IsFit g.W.Words.has g.W.Words.made c.args.words g.met.U.UnitTable.is_unit.ordered
+    (g.met.W.Words.remade c.args.words) c.requires.fit c.requires.none_past

@@ -1,0 +1,142 @@
+/*
+ * Cron expressions from C: what a text means, and the items of its timeline in a zone.
+ *
+ * C11 or later, and C++11 or later. Link `libcron_c.a`; it needs no other library, takes no memory,
+ * keeps nothing between calls, and starts no thread. Each call reads and writes what its arguments
+ * point to and nothing else, so calls over different structs may run at the same time.
+ *
+ * Rules for every call, which no proof of the library can see:
+ *   - No pointer may be null, also where its length is 0.
+ *   - A pointer with a length points to so many bytes. A text or a message has no byte 0 at its end.
+ *   - What a call writes to overlaps nothing else that it is given.
+ */
+#ifndef CRON_H
+#define CRON_H
+
+#include <stddef.h>
+#include <stdint.h>
+
+#ifdef __cplusplus
+extern "C" {
+#endif
+
+/* What a call answers. Where it isn't CRON_OK, the struct that the call writes to is as it was. */
+enum {
+    CRON_OK = 0,          /* What was asked for was written. */
+    CRON_NO_ITEM = 1,     /* The timeline has no item there. */
+    CRON_REFUSED = 2,     /* The text means nothing, and the message says why. */
+    CRON_NOT_UTF8 = 3,    /* The text isn't UTF-8. */
+    CRON_BAD_ZONE = 4,    /* The zone is neither `UTC` nor a rule text. */
+    CRON_BAD_INSTANT = 5, /* The instant is outside -377705023201 to 253402207200. */
+    CRON_NOT_AN_ITEM = 6, /* The given item isn't one of this schedule in this zone. */
+    CRON_UNTOLD = 7       /* As CRON_REFUSED, but the message's length doesn't fit size_t. */
+};
+
+/*
+ * A schedule: seven sets, a bit for each ordinal. Copy it and keep it as you like.
+ *
+ *   word            unit                        bits
+ *   seconds         0 to 59                     bit i is second i
+ *   minutes         0 to 59                     bit i is minute i
+ *   hours           0 to 23                     bit i is hour i
+ *   days_of_month   1 to 31                     bit i is day i + 1
+ *   last_day        0 or 1                      any number but 0: the last day of each month is one more
+ *   months          1 to 12                     bit i is month i + 1
+ *   days_of_week    1 to 7, from Sunday on      bit i is day i + 1
+ *   years_from_N    1970 to 2100                bit i is year N + i
+ *
+ * Every pattern of bits is a schedule. A bit outside the unit means nothing. A unit without a bit
+ * has no ordinal, and the timeline then no item, but for days of the month with a `last_day`.
+ */
+typedef struct cron_schedule {
+    uint64_t seconds;
+    uint64_t minutes;
+    uint64_t hours;
+    uint64_t days_of_month;
+    uint64_t last_day;
+    uint64_t months;
+    uint64_t days_of_week;
+    uint64_t years_from_1970;
+    uint64_t years_from_2034;
+    uint64_t years_from_2098;
+} cron_schedule;
+
+/*
+ * An item of a timeline: an instant, in seconds since 1970-01-01T00:00:00Z, and how far the clock of
+ * the zone is ahead of UTC at it, in seconds. What the clock shows is the sum of both. In a fold the
+ * clock shows the same twice, and the two items differ in both numbers.
+ */
+typedef struct cron_item {
+    int64_t instant;
+    int32_t offset;
+} cron_item;
+
+/*
+ * Reads a text, as `0 0,30 9 * * Mon-Fri` or `@daily`, into `schedule`.
+ *
+ * CRON_OK, CRON_REFUSED, CRON_NOT_UTF8 or CRON_UNTOLD. With CRON_REFUSED the front of the message is
+ * written to `message`, as far as it fits, and the length of the whole message to `*message_needed`,
+ * which is 0 with each other status. A message is shorter than twice the text and 100 bytes.
+ */
+uint32_t cron_parse(const uint8_t *text, size_t text_length,
+                    cron_schedule *schedule,
+                    uint8_t *message, size_t message_length, size_t *message_needed);
+
+/*
+ * Writes to `item` the first item from the civil second on that a clock in the zone shows one second
+ * after the instant; or, `cron_before`, the last one up to the civil second that it shows one second
+ * before. An item at the very instant is answered by neither. For an instant with a part of a second
+ * give `cron_after` the second that has begun, and `cron_before` the one after it.
+ *
+ * `zone` is `UTC`, or a rule text as POSIX has it, as `CST6CDT,M3.2.0,M11.1.0`.
+ *
+ * CRON_OK, CRON_NO_ITEM, CRON_BAD_ZONE or CRON_BAD_INSTANT.
+ */
+uint32_t cron_after(const cron_schedule *schedule,
+                    const uint8_t *zone, size_t zone_length,
+                    int64_t instant, cron_item *item);
+uint32_t cron_before(const cron_schedule *schedule,
+                     const uint8_t *zone, size_t zone_length,
+                     int64_t instant, cron_item *item);
+
+/*
+ * Puts the item after `*item`, or before it, in its place. Both items of a fold are told apart.
+ *
+ * CRON_OK, CRON_NO_ITEM, CRON_BAD_ZONE or CRON_NOT_AN_ITEM.
+ */
+uint32_t cron_next(const cron_schedule *schedule,
+                   const uint8_t *zone, size_t zone_length, cron_item *item);
+uint32_t cron_prev(const cron_schedule *schedule,
+                   const uint8_t *zone, size_t zone_length, cron_item *item);
+
+/*
+ * Writes to `items` the first items after the instant, in order; or, `cron_list_before`, the last ones
+ * before it, the latest first: as many as fit, and fewer only where the timeline ends. The instant is
+ * meant as by `cron_after` and `cron_before`. `*count` tells how many were written.
+ *
+ * CRON_OK, also where there is none; CRON_BAD_ZONE or CRON_BAD_INSTANT, and `*count` is then 0.
+ */
+uint32_t cron_list_after(const cron_schedule *schedule,
+                         const uint8_t *zone, size_t zone_length,
+                         int64_t instant,
+                         cron_item *items, size_t items_length, size_t *count);
+uint32_t cron_list_before(const cron_schedule *schedule,
+                          const uint8_t *zone, size_t zone_length,
+                          int64_t instant,
+                          cron_item *items, size_t items_length, size_t *count);
+
+/*
+ * Writes the text of an item, as `2022-11-06 01:00:00 -05:00`, to `text`, as far as it fits, and its
+ * whole length to `*text_needed`: 26, or 29 where the offset has seconds.
+ *
+ * CRON_OK; or CRON_NOT_AN_ITEM where the clock shows a year outside 1970 to 2100 or the offset is
+ * longer than 25:59:59, and `*text_needed` is then 0.
+ */
+uint32_t cron_format(const cron_item *item,
+                     uint8_t *text, size_t text_length, size_t *text_needed);
+
+#ifdef __cplusplus
+}
+#endif
+
+#endif

@@ -1,0 +1,76 @@
+-- Items written one after the other.
+use Rattle.std.proofs.Common.{◌≡◌, ℕ, ◌+◌, ◌<◌, ℤ, List, [], ◌∷◌, ◌++◌, Some, None, refl, sym, ap, subst, ◌∙◌, arith, append_assoc, slice_set, length-append, inl, inr}
+use Rattle.std.specs.Prelude.{length}
+use Rattle.jiff_tz.specs.declared.timezone.TimeZone.{TimeZone}
+use Rattle.cron_units.specs.Sets.{Sets}
+use Rattle.cron_units.specs.declared.way.Way.{Way}
+use Rattle.cron_time.specs.Cursor.{Walk}
+use Rattle.cron_time.specs.Inner.Placed.{IsPlaced, answer_of, cursor_of}
+use Rattle.cron_time.specs.Inner.Stand.{Stand}
+use Rattle.cron_time.specs.Inner.Stand as Kept
+use Rattle.cron_time.specs.Inner.Stop.{IsStop}
+use Rattle.cron_time.specs.Readings.{Reading}
+use Rattle.cron_time.specs.Rest.{rest}
+use Rattle.cron_time.proofs.RestLemmas.{gives}
+use Rattle.cron_c.specs.Listings.{IsFront, IsListed}
+use Rattle.cron_c.specs.Structs.{IsItem}
+use Rattle.cron_c.specs.declared.item.CronItem.{CronItem}
+
+-- one item more behind those that are written
+front_more : (rs : List Reading) (old now : List CronItem) (r : Reading) (x : CronItem) → IsFront rs old now → length rs < length old → IsItem r x
+    → IsFront (rs ++ r ∷ []) old (slice_set now (length rs) x)
+unfolding IsFront
+front_more [] [] now r x e l i = absurd (omega arith)
+front_more [] (a ∷ old) now r x e l i = subst (λ (n : List CronItem). IsFront (r ∷ []) (a ∷ old) (slice_set n 0 x)) (sym e) (i, refl)
+front_more (q ∷ rs) [] now r x p l i = absurd p
+front_more (q ∷ rs) (a ∷ old) [] r x p l i = absurd p
+front_more (q ∷ rs) (a ∷ old) (b ∷ now) r x p l i = (p.0, front_more rs old now r x p.1 (omega arith) i)
+
+front_none : (old : List CronItem) → IsFront [] old old
+unfolding IsFront
+front_none old = refl
+
+-- the walk that stands so
+abbrev pub walk_of : Sets → TimeZone → Stand → Walk
+walk_of s z stand = record { sets = s; zone = z; cursor = cursor_of s z stand }
+
+-- so many items of a walk are written, and it stands at the last of them
+pub record IsFilling (way : Way) (s : Sets) (z : TimeZone) (start : Stand) (old now : List CronItem) (stand : Stand) (count : ℕ) : Type 0 where
+  pub written : List Reading
+  pub cut : rest way (walk_of s z start) ≡ written ++ rest way (walk_of s z stand)
+  pub items : IsFront written old now
+  pub counted : count ≡ length written
+  pub placed : IsPlaced s z stand
+
+pub start_is_placed : (s : Sets) (z : TimeZone) (t : ℤ) (stand : Stand) → stand ≡ Kept.Start t → IsPlaced s z stand
+start_is_placed s z t stand e = subst (IsPlaced s z) (sym e) tt
+
+pub filling_begins : (way : Way) (s : Sets) (z : TimeZone) (start : Stand) (old : List CronItem) → IsPlaced s z start → IsFilling way s z start old old start 0
+filling_begins way s z start old placed = record { written = []; cut = refl; items = front_none old; counted = refl; placed = placed }
+
+pub filling_goes_on : (way : Way) (s : Sets) (z : TimeZone) (start from to : Stand) (old now : List CronItem) (count : ℕ) (r : Reading) (x : CronItem)
+    → IsFilling way s z start old now from count → count < length old
+    → IsStop way s z (cursor_of s z from) to → Some r ≡ answer_of to → IsItem r x → IsFilling way s z start old (slice_set now count x) to (count + 1)
+filling_goes_on way s z start from to old now count r x f room stop answer item =
+    let first = (gives way s z from to (walk_of s z from) (Some r) f.placed refl stop answer).items in
+    let more : count + 1 ≡ length (f.written ++ r ∷ []) = omega (arith, f.counted, length-append f.written (r ∷ [])) in
+    let within : length f.written < length old = omega (arith, f.counted) in
+    record {
+      written = f.written ++ r ∷ [];
+      cut = f.cut ∙ (ap (λ (l : List Reading). f.written ++ l) first ∙ sym (append_assoc f.written (r ∷ []) (rest way (walk_of s z to))));
+      items = subst (λ (n : ℕ). IsFront (f.written ++ r ∷ []) old (slice_set now n x)) (sym f.counted) (front_more f.written old now r x f.items within item);
+      counted = more;
+      placed = stop.placed;
+    }
+
+pub filling_ends : (way : Way) (s : Sets) (z : TimeZone) (start from to : Stand) (old now : List CronItem) (count : ℕ)
+    → IsFilling way s z start old now from count
+    → IsStop way s z (cursor_of s z from) to → None ≡ answer_of to → IsListed (rest way (walk_of s z start)) old now count
+filling_ends way s z start from to old now count f stop answer =
+    let nothing = (gives way s z from to (walk_of s z from) None f.placed refl stop answer).items in
+    record { written = f.written; left = rest way (walk_of s z from); cut = f.cut; items = f.items; counted = f.counted; most = inl nothing.0 }
+
+pub filling_is_full : (way : Way) (s : Sets) (z : TimeZone) (start from : Stand) (old now : List CronItem) (count : ℕ)
+    → IsFilling way s z start old now from count → count ≡ length old → IsListed (rest way (walk_of s z start)) old now count
+filling_is_full way s z start from old now count f full =
+    record { written = f.written; left = rest way (walk_of s z from); cut = f.cut; items = f.items; counted = f.counted; most = inr full }

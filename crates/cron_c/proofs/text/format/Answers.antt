@@ -1,0 +1,10 @@
+use Rattle.std.proofs.Common.{◌≡◌, ℕ, List, ap, ◌∙◌}
+use Rattle.std.specs.Prelude.{length}
+use Rattle.cron_time.specs.MomentText.{moment_text}
+use Rattle.cron_c.specs.Buffers.{laid_over}
+use Rattle.cron_c.proofs.text.format.Goals as goal
+
+pub returns : goal.returns
+returns c =
+    let same : c.as_slice-bytes.result.now ≡ moment_text c.in-Some.moment = c.as_slice-bytes.ensures.value ∙ c.text_of-shown.ensures.text in
+    (c.in-Some.moment, c.in-Some.ensures.0, c.put.ensures ∙ ap (λ (l : List ℕ). laid_over 0 l c.args.text.now) same, ap length same)

@@ -1,0 +1,16 @@
+-- What is written into a buffer that may be too short.
+use Rattle.std.specs.Prelude.{◌≡◌, ℕ, zero, suc, ◌+◌, List, [], ◌∷◌, length}
+use Rattle.cron_c.specs.declared.buffer.Sink.{Sink}
+
+-- a buffer after bytes were laid over it from a place on, as far as they fit
+unfoldable pub laid_over : ℕ → List ℕ → List ℕ → List ℕ
+laid_over at bytes [] = []
+laid_over (suc at) bytes (x ∷ xs) = x ∷ laid_over at bytes xs
+laid_over zero [] (x ∷ xs) = x ∷ xs
+laid_over zero (b ∷ bs) (x ∷ xs) = b ∷ laid_over zero bs xs
+
+-- a sink takes a text: it counts its bytes, and lays over its buffer what fits of them
+pub record Takes (old : Sink) (text : List ℕ) (new : Sink) : Type 0 where
+  pub counted : new.length ≡ old.length + length text
+  pub laid : new.buffer.now ≡ laid_over old.length text old.buffer.now
+  pub lent : new.buffer.ghost_name ≡ old.buffer.ghost_name

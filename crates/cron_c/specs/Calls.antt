@@ -1,0 +1,80 @@
+-- What each status of a call says.
+use Rattle.std.specs.Prelude.{◌≡◌, ◌<◌, ℕ, ℤ, pos, ◌*ℤ◌, List, Some, None, length}
+use Rattle.std.specs.Str.{IsUtf8}
+use Rattle.jiff_core.specs.Timestamp.{IsTimestampNanos}
+use Rattle.jiff_tz.specs.declared.timezone.TimeZone.{TimeZone}
+use Rattle.cron_units.specs.declared.way.Way.{Way}
+use Rattle.cron_units.specs.Sets.{Sets}
+use Rattle.cron_text.specs.Fault.{IsRefusal}
+use Rattle.cron_text.specs.Meaning.{Means}
+use Rattle.cron_time.specs.Civil.{seconds_in_range}
+use Rattle.cron_time.specs.Cursor.{Start, Walk, step}
+use Rattle.cron_time.specs.MomentText.{moment_text}
+use Rattle.cron_time.specs.Readings.{Reading}
+use Rattle.cron_time.specs.Resume.{IsAbsent, IsResumed}
+use Rattle.cron_time.specs.ZoneWords.{IsZoneWord, IsZoneOf}
+use Rattle.cron_c.specs.Buffers.{laid_over}
+use Rattle.cron_c.specs.Statuses.{code_of}
+use Rattle.cron_c.specs.Structs.{IsItem, sets_of}
+use Rattle.cron_c.specs.declared.item.CronItem.{CronItem}
+use Rattle.cron_c.specs.declared.schedule.CronSchedule.{CronSchedule}
+use Rattle.cron_c.specs.declared.status.Status.{Status}
+use Rattle.cron_c.specs.declared.status.Status.TheVariants.{Done, NoItem, Refused, NotUtf8, BadZone, BadInstant, NotAnItem, Untold}
+
+-- the number is that of a status, and what the status says is so
+abbrev pub Answers : (Status → Type 0) → ℕ → Type 0
+Answers says number = (status : Status) × says status × (number ≡ code_of status)
+
+-- the bytes are a text that names a zone
+abbrev pub IsZoneText : List ℕ → Type 0
+IsZoneText bytes = IsUtf8 bytes × IsZoneWord bytes
+
+-- the instant, by its seconds since 1970-01-01T00:00:00Z, is in range
+abbrev pub IsInstant : ℤ → Type 0
+IsInstant second = IsTimestampNanos (second *ℤ pos 1_000_000_000)
+
+-- the walk over sets in a zone that starts at an instant
+abbrev pub start_at : Sets → TimeZone → ℤ → Walk
+start_at s z second = record { sets = s; zone = z; cursor = Start (second *ℤ pos 1_000_000_000) }
+
+-- A text is read into a struct; or the message that refuses it is laid over a buffer, and its whole length told.
+abbrev pub Parses : List ℕ → CronSchedule → CronSchedule → List ℕ → List ℕ → ℕ → Status → Type 0
+Parses text old new before after size Done = IsUtf8 text × Means text (sets_of new) × (after ≡ before) × (size ≡ 0)
+Parses text old new before after size Refused =
+    IsUtf8 text × (told : List ℕ) × IsRefusal text told × (new ≡ old) × (after ≡ laid_over 0 told before) × (size ≡ length told)
+Parses text old new before after size NotUtf8 = (IsUtf8 text → ⊥) × (new ≡ old) × (after ≡ before) × (size ≡ 0)
+Parses text old new before after size Untold = IsUtf8 text × (told : List ℕ) × IsRefusal text told × (new ≡ old) × (size ≡ 0)
+Parses text old new before after size _ = ⊥
+
+-- The first item after an instant, or before it, is written; or there is none; or nothing is looked for.
+abbrev pub Searches : Way → Sets → List ℕ → ℤ → CronItem → CronItem → Status → Type 0
+Searches way s zone second old new Done =
+    (z : TimeZone) × (r : Reading) × IsZoneOf zone z × IsInstant second × ((step way (start_at s z second)).answer ≡ Some r) × IsItem r new
+Searches way s zone second old new NoItem =
+    (z : TimeZone) × IsZoneOf zone z × IsInstant second × ((step way (start_at s z second)).answer ≡ None) × (new ≡ old)
+Searches way s zone second old new BadZone = (IsZoneText zone → ⊥) × (new ≡ old)
+Searches way s zone second old new BadInstant = IsZoneText zone × (IsInstant second → ⊥) × (new ≡ old)
+Searches way s zone second old new _ = ⊥
+
+-- the walk goes on from the item of a struct
+abbrev pub IsResumedAt : Sets → TimeZone → CronItem → Walk → Type 0
+IsResumedAt s z item w = (r : Reading) × IsItem r item × IsResumed s z r w
+
+-- The item after an item, or before it, takes its place; or there is none; or the given one is none.
+abbrev pub Follows : Way → Sets → List ℕ → CronItem → CronItem → Status → Type 0
+Follows way s zone old new Done =
+    (z : TimeZone) × (w : Walk) × (r : Reading) × IsZoneOf zone z × IsResumedAt s z old w × ((step way w).answer ≡ Some r) × IsItem r new
+Follows way s zone old new NoItem =
+    (z : TimeZone) × (w : Walk) × IsZoneOf zone z × IsResumedAt s z old w × ((step way w).answer ≡ None) × (new ≡ old)
+Follows way s zone old new BadZone = (IsZoneText zone → ⊥) × (new ≡ old)
+Follows way s zone old new NotAnItem =
+    (z : TimeZone) × IsZoneOf zone z × ((r : Reading) → IsItem r old → IsAbsent s z r) × (new ≡ old)
+Follows way s zone old new _ = ⊥
+
+-- The text of an item is laid over a buffer, and its whole length told.
+abbrev pub Formats : CronItem → List ℕ → List ℕ → ℕ → Status → Type 0
+Formats item before after size Done =
+    (r : Reading) × IsItem r item × (after ≡ laid_over 0 (moment_text r) before) × (size ≡ length (moment_text r))
+Formats item before after size NotAnItem =
+    ((r : Reading) → IsItem r item → r.second < seconds_in_range → ⊥) × (after ≡ before) × (size ≡ 0)
+Formats item before after size _ = ⊥

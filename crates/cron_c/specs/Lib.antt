@@ -1,0 +1,5 @@
+pub mod Statuses
+pub mod Structs
+pub mod Buffers
+pub mod Calls
+pub mod Listings

@@ -1,0 +1,36 @@
+-- Many items at once.
+use Rattle.std.specs.Prelude.{◌≡◌, ◌⊎◌, ℕ, ℤ, List, [], ◌∷◌, ◌++◌, length}
+use Rattle.jiff_tz.specs.declared.timezone.TimeZone.{TimeZone}
+use Rattle.cron_units.specs.declared.way.Way.{Way}
+use Rattle.cron_units.specs.Sets.{Sets}
+use Rattle.cron_time.specs.Readings.{Reading}
+use Rattle.cron_time.specs.Rest.{rest}
+use Rattle.cron_time.specs.ZoneWords.{IsZoneOf}
+use Rattle.cron_c.specs.Calls.{IsZoneText, IsInstant, start_at}
+use Rattle.cron_c.specs.Structs.{IsItem}
+use Rattle.cron_c.specs.declared.item.CronItem.{CronItem}
+use Rattle.cron_c.specs.declared.status.Status.{Status}
+use Rattle.cron_c.specs.declared.status.Status.TheVariants.{Done, BadZone, BadInstant}
+
+-- the first places of an array hold these items, and the others what they held
+unfoldable pub IsFront : List Reading → List CronItem → List CronItem → Type 0
+IsFront [] old new = new ≡ old
+IsFront (r ∷ rs) (x ∷ xs) (y ∷ ys) = IsItem r y × IsFront rs xs ys
+IsFront _ _ _ = ⊥
+
+-- Of all the items the first so many are in the array: as many as fit, or all.
+pub record IsListed (all : List Reading) (old new : List CronItem) (count : ℕ) : Type 0 where
+  pub written : List Reading
+  pub left : List Reading
+  pub cut : all ≡ written ++ left
+  pub items : IsFront written old new
+  pub counted : count ≡ length written
+  pub most : (left ≡ []) ⊎ (count ≡ length old)
+
+-- The items that are still to come from an instant on are written as far as they fit; or nothing is looked for.
+abbrev pub Lists : Way → Sets → List ℕ → ℤ → List CronItem → List CronItem → ℕ → Status → Type 0
+Lists way s zone second old new count Done =
+    (z : TimeZone) × IsZoneOf zone z × IsInstant second × IsListed (rest way (start_at s z second)) old new count
+Lists way s zone second old new count BadZone = (IsZoneText zone → ⊥) × (new ≡ old) × (count ≡ 0)
+Lists way s zone second old new count BadInstant = IsZoneText zone × (IsInstant second → ⊥) × (new ≡ old) × (count ≡ 0)
+Lists way s zone second old new count _ = ⊥

@@ -1,0 +1,30 @@
+-- What the structs of numbers say.
+use Rattle.std.specs.Prelude.{not, ◌==◌, ◌≡◌, ℕ, ◌-◌, List}
+use Rattle.cron_units.specs.Sets.{Sets}
+use Rattle.cron_units.specs.Units.{TimeUnit, set_of, with_mark}
+use Rattle.cron_units.specs.Units as units
+use Rattle.cron_units.specs.Words.{has_bit, bit_of_three}
+use Rattle.cron_time.specs.Readings.{Reading, instant}
+use Rattle.cron_c.specs.declared.schedule.CronSchedule.{CronSchedule}
+use Rattle.cron_c.specs.declared.item.CronItem.{CronItem}
+
+-- the ordinals of a unit whose bits are 1: bit i stands for the least ordinal plus i, and no other bit means anything
+abbrev pub set_in : TimeUnit → ℕ → List ℕ
+set_in u word = set_of u (λ x. has_bit word (x - u.least))
+
+-- the sets that a struct says; the last day of the month is marked by any number but 0
+abbrev pub sets_of : CronSchedule → Sets
+sets_of s = record {
+  seconds = set_in units.seconds s.seconds;
+  minutes = set_in units.minutes s.minutes;
+  hours = set_in units.hours s.hours;
+  days_of_month = with_mark (set_in units.days_of_month s.days_of_month) (not (s.last_day == 0));
+  months = set_in units.months s.months;
+  days_of_week = set_in units.days_of_week s.days_of_week;
+  years = set_of units.years (λ x. bit_of_three s.years_from_1970 s.years_from_2034 s.years_from_2098 (x - units.years.least));
+}
+
+-- the struct is that of the reading: its instant in seconds since 1970-01-01T00:00:00Z, and how far its clock is ahead of UTC
+pub record IsItem (r : Reading) (item : CronItem) : Type 0 where
+  pub instant_is : item.instant ≡ instant r
+  pub offset_is : item.offset ≡ r.offset.seconds

@@ -1,0 +1,47 @@
+//! A caller's buffer, which may be too short.
+
+ghost use Rattle.std.specs.Prelude.{◌≡◌, ◌+◌, length};
+ghost use Rattle.cron_c.specs.Buffers.{laid_over};
+
+use std::fmt;
+
+// Writes bytes to the front of a buffer as far as they fit.
+fn put_first(buffer: &mut [u8], bytes: &[u8])
+    ensures { buffer.new ≡ laid_over 0 bytes.now buffer.old }
+{
+    let count = buffer.len().min(bytes.len());
+    let (front, _) = buffer.split_at_mut(count);
+    front.copy_from_slice(&bytes[..count]);
+}
+
+/// Writes bytes over a buffer from a place on as far as they fit.
+pub fn put(buffer: &mut [u8], at: usize, bytes: &[u8])
+    ensures { buffer.new ≡ laid_over at bytes.now buffer.old }
+{
+    if at < buffer.len() {
+        let (_, rest) = buffer.split_at_mut(at);
+        put_first(rest, bytes);
+    }
+}
+
+/// A buffer that takes the front of a text as far as it fits, and counts the whole.
+#[derive(Drop)]
+pub struct Sink<'a> {
+    pub buffer: &'a mut [u8],
+    pub length: usize,
+}
+
+impl<'a> fmt::Write for Sink<'a> {
+    ghost use Rattle.cron_c.specs.Buffers.{Takes};
+
+    ghost write_str_gives = { Takes };
+
+    fn write_str(&mut self, s: &str) -> fmt::Result {
+        let Some(length) = self.length.checked_add(s.len()) else {
+            return Err(fmt::Error);
+        };
+        put(self.buffer, self.length, s.as_bytes());
+        self.length = length;
+        Ok(())
+    }
+}

@@ -1,0 +1,42 @@
+//! An item as plain numbers.
+
+ghost use Rattle.std.specs.Prelude.{◌≡◌, ◌<◌, MatchOption};
+ghost use Rattle.cron_time.specs.Civil.{seconds_in_range};
+ghost use Rattle.cron_time.specs.Readings.{Reading};
+ghost use Rattle.cron_c.specs.Structs.{IsItem};
+
+use cron_time::moment::Moment;
+use cron_time::parts::moment_at;
+use jiff::tz::Offset;
+
+/// The instant of an item in seconds since 1970-01-01T00:00:00Z, and how far its clock is ahead of
+/// UTC in seconds. What the clock shows is their sum.
+#[repr(C)]
+#[derive(Clone, Copy)]
+pub struct CronItem {
+    pub instant: i64,
+    pub offset: i32,
+}
+
+/// The struct of a moment.
+pub fn item_of(moment: &Moment) -> CronItem
+    ensures { IsItem moment.now result }
+{
+    CronItem {
+        instant: moment.timestamp().as_second(),
+        offset: moment.offset().seconds(),
+    }
+}
+
+/// The moment of a struct; `None` where the offset is longer than 25:59:59, or the clock shows a
+/// civil second outside 1970 to 2100.
+pub fn moment_of(item: CronItem) -> Option<Moment>
+    ensures { MatchOption result
+        ((r : Reading) → IsItem r item → r.second < seconds_in_range → ⊥)
+        (λ r. IsItem r item × (r.second < seconds_in_range)) }
+{
+    let Ok(offset) = Offset::from_seconds(item.offset) else {
+        return None;
+    };
+    moment_at(item.instant, offset)
+}

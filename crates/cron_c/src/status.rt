@@ -1,0 +1,43 @@
+//! What a call answers.
+
+ghost use Rattle.std.specs.Prelude.{◌≡◌};
+ghost use Rattle.cron_c.specs.Statuses.{code_of};
+
+/// How a call ended.
+#[derive(Clone, Copy, Debug, PartialEq, Eq)]
+pub enum Status {
+    /// What was asked for was written.
+    Done,
+    /// The timeline has no item there.
+    NoItem,
+    /// The text means nothing, and the message says why.
+    Refused,
+    /// The text isn't UTF-8.
+    NotUtf8,
+    /// The zone is neither `UTC` nor a rule text.
+    BadZone,
+    /// The instant is out of range.
+    BadInstant,
+    /// The given item isn't one of the timeline, or none at all.
+    NotAnItem,
+    /// The text means nothing, and the message couldn't be written.
+    Untold,
+}
+
+impl Status {
+    /// The number, as the header names it: 0 to 7, in the order above.
+    pub fn code(self) -> u32
+        ensures { result ≡ code_of self }
+    {
+        match self {
+            Status::Done => 0,
+            Status::NoItem => 1,
+            Status::Refused => 2,
+            Status::NotUtf8 => 3,
+            Status::BadZone => 4,
+            Status::BadInstant => 5,
+            Status::NotAnItem => 6,
+            Status::Untold => 7,
+        }
+    }
+}

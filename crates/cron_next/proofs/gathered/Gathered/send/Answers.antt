@@ -1,0 +1,11 @@
+use Rattle.std.proofs.Common.{◌∙◌, ap}
+use Rattle.cron_next.specs.Watching.{has_failed, writer_of}
+use Rattle.cron_next.proofs.Gathering.{rest_sent}
+use Rattle.cron_next.proofs.gathered.Gathered.send.Goals as goal
+
+pub returns-clause-sent : goal.returns-clause-sent
+returns-clause-sent g c =
+    λ origin text gathered.
+    rest_sent origin _ _ _ _ _ _ text c.as_slice.ensures.value gathered
+    (λ off. (ap (λ w. g.W.Write.contents (writer_of w)) (c.send.ensures.untouched off), ap has_failed (c.send.ensures.untouched off) ∙ off))
+    (c.send.ensures.sent origin)

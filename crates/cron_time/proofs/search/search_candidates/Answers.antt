@@ -1,0 +1,127 @@
+use Rattle.std.proofs.Common.{◌/◌, pos, refl, sym, arith, ◌∙◌}
+use Rattle.cron_time.specs.Inner.Blocks.{Reaches}
+use Rattle.cron_time.specs.Inner.DaySearch.{candidate_day}
+use Rattle.cron_time.specs.Inner.Days.{number_of}
+use Rattle.cron_time.specs.Search.{stands}
+use Rattle.cron_time.proofs.AskedLemmas.{looks_same, same_on}
+use Rattle.cron_time.proofs.DayLemmas.{month_passes}
+use Rattle.cron_time.proofs.FoundLemmas.{none_found}
+use Rattle.cron_time.proofs.TallyLemmas.{kind_bound, adds_none, adds_more, adds_on, adds_to, passed_start, passed_next}
+use Rattle.cron_time.proofs.SearchLemmas.{next_number, found_passes, days_start, days_next, day_found, days_found, asked_start, asked_next, asked_found, candidate_in, fewer_days}
+use Rattle.cron_time.proofs.search.search_candidates.Goals as goal
+
+pub loop-next-init : goal.loop-next-init
+loop-next-init c =
+    let s = c.args.inquiry.now.sets in
+    let z = c.args.inquiry.now.zone in
+    record {
+      same = record { sets = refl; zone = refl };
+      reached = days_start c.args.way s z c.args.start _ c.requires.first;
+      range = c.requires.passes;
+      days = adds_none _ _ _ _ refl (passed_start _ _ _ _ _ c.requires.first);
+      conversions = adds_none _ _ _ _ refl (asked_start c.args.way s c.args.start _ c.requires.first);
+    }
+
+pub search_day-found-requires : goal.search_day-found-requires
+search_day-found-requires c =
+    let s = c.args.inquiry.now.sets in
+    let z = c.args.inquiry.now.zone in
+    let kept = c.loop-next.invariant in
+    let reached : Reaches c.args.way 86_400 (candidate_day s) (stands s z) (pos c.args.start) (pos (c.args.start / 86_400))
+    (number_of c.in-Some.day) = rw c.in-Some.is at kept.reached in
+    let range = rw c.in-Some.is at kept.range in
+    let day = kept.days in
+    let asked = kept.conversions in
+    record {
+      range = range.0;
+      candidate = rw kept.same.sets range.1;
+      lies = reached.lies;
+      days_room = omega (arith, day.is, kind_bound 47_847 _ _ day.tally, c.requires.days_room);
+      room = omega (arith, asked.is, kind_bound 4_133_980_800 _ _ asked.tally, c.requires.room);
+    }
+
+pub day_past-next-requires-clause-matching : goal.day_past-next-requires-clause-matching
+day_past-next-requires-clause-matching c =
+    let range = rw c.in-Some.is at c.loop-next.invariant.range in
+    rw (c.search_day-found.ensures.same.sets ∙ c.loop-next.invariant.same.sets) (month_passes c.args.inquiry.now.sets c.in-Some.day range.0 range.1)
+
+pub returns-then-is_some-clause-found : goal.returns-then-is_some-clause-found
+returns-then-is_some-clause-found c =
+    let s = c.args.inquiry.now.sets in
+    let z = c.args.inquiry.now.zone in
+    let kept = c.loop-next.invariant in
+    let reached : Reaches c.args.way 86_400 (candidate_day s) (stands s z) (pos c.args.start) (pos (c.args.start / 86_400))
+    (number_of c.in-Some.day) = rw c.in-Some.is at kept.reached in
+    let range = rw c.in-Some.is at kept.range in
+    let found = rw (kept.same.sets, kept.same.zone) at c.search_day-found.ensures.found in
+    day_found c.args.way s z c.args.start (number_of c.in-Some.day) _ reached (sym c.if-is_some.ensures) found
+
+pub returns-then-is_some-clause-days : goal.returns-then-is_some-clause-days
+returns-then-is_some-clause-days c =
+    let s = c.args.inquiry.now.sets in
+    let z = c.args.inquiry.now.zone in
+    let kept = c.loop-next.invariant in
+    let reached : Reaches c.args.way 86_400 (candidate_day s) (stands s z) (pos c.args.start) (pos (c.args.start / 86_400))
+    (number_of c.in-Some.day) = rw c.in-Some.is at kept.reached in
+    let range = rw c.in-Some.is at kept.range in
+    let found = rw (kept.same.sets, kept.same.zone) at c.search_day-found.ensures.found in
+    let early = rw c.in-Some.is at kept.days in
+    adds_more 47_847 _ _ _ _ _ early c.search_day-found.ensures.days
+    (days_found c.args.way s z c.args.start (number_of c.in-Some.day) _ _ reached (sym c.if-is_some.ensures) found early.tally)
+
+pub returns-then-is_some-clause-conversions : goal.returns-then-is_some-clause-conversions
+returns-then-is_some-clause-conversions c =
+    let s = c.args.inquiry.now.sets in
+    let z = c.args.inquiry.now.zone in
+    let kept = c.loop-next.invariant in
+    let reached : Reaches c.args.way 86_400 (candidate_day s) (stands s z) (pos c.args.start) (pos (c.args.start / 86_400))
+    (number_of c.in-Some.day) = rw c.in-Some.is at kept.reached in
+    let range = rw c.in-Some.is at kept.range in
+    let found = rw (kept.same.sets, kept.same.zone) at c.search_day-found.ensures.found in
+    let early = rw c.in-Some.is at kept.conversions in
+    let here = rw kept.same.sets at c.search_day-found.ensures.conversions in
+    adds_on 4_133_980_800 _ _ _ _ _ _ early here (asked_found c.args.way s z c.args.start (number_of c.in-Some.day) _ _ _ (sym c.if-is_some.ensures) found
+    early.tally here.tally)
+
+pub loop-next-preserved : goal.loop-next-preserved
+loop-next-preserved c =
+    let s = c.args.inquiry.now.sets in
+    let z = c.args.inquiry.now.zone in
+    let kept = c.loop-next.invariant in
+    let reached : Reaches c.args.way 86_400 (candidate_day s) (stands s z) (pos c.args.start) (pos (c.args.start / 86_400))
+    (number_of c.in-Some.day) = rw c.in-Some.is at kept.reached in
+    let range = rw c.in-Some.is at kept.range in
+    let found = rw (kept.same.sets, kept.same.zone) at c.search_day-found.ensures.found in
+    let searched = c.search_day-found.ensures in
+    let sets = searched.same.sets ∙ kept.same.sets in
+    let looked = c.day_past-next.ensures.same in
+    let nearest = rw sets at c.day_past-next.ensures.nearest in
+    let next = next_number c.args.way s c.in-Some.day c.day_past-next.result range.0 range.1 c.day_past-next.ensures.range nearest in
+    let none = none_found c.search_day-found.result (sym c.if-is_some.ensures) in
+    let day = rw c.in-Some.is at kept.days in
+    let asked = rw c.in-Some.is at kept.conversions in
+    let here = rw (kept.same.sets, none) at searched.conversions in
+    let more = adds_to _ _ _ _ _ here looked.conversions in
+    record {
+      same = same_on _ _ _ (same_on _ _ _ kept.same searched.same) (looks_same _ _ looked);
+      reached = days_next c.args.way s z c.args.start _ _ reached (rw none at found) next;
+      range = found_passes c.args.way s _ _ c.day_past-next.ensures.range nearest;
+      days = adds_more 47_847 _ _ _ _ _ day (looked.days ∙ searched.days)
+          (passed_next _ _ _ _ (number_of c.in-Some.day) _ _ (candidate_in s (number_of c.in-Some.day) reached.block) reached.block reached.lies next
+          day.tally);
+      conversions = adds_on 4_133_980_800 _ _ _ _ _ _ asked more
+          (asked_next c.args.way s c.args.start (number_of c.in-Some.day) _ _ _ next asked.tally more.tally);
+    }
+
+pub loop-next-smaller : goal.loop-next-smaller
+loop-next-smaller c =
+    let s = c.args.inquiry.now.sets in
+    let z = c.args.inquiry.now.zone in
+    let kept = c.loop-next.invariant in
+    let reached : Reaches c.args.way 86_400 (candidate_day s) (stands s z) (pos c.args.start) (pos (c.args.start / 86_400))
+    (number_of c.in-Some.day) = rw c.in-Some.is at kept.reached in
+    let range = rw c.in-Some.is at kept.range in
+    let sets = c.search_day-found.ensures.same.sets ∙ kept.same.sets in
+    let nearest = rw sets at c.day_past-next.ensures.nearest in
+    let next = next_number c.args.way s c.in-Some.day c.day_past-next.result range.0 range.1 c.day_past-next.ensures.range nearest in
+    rw c.in-Some.is (fewer_days c.args.way s (number_of c.in-Some.day) _ reached.block next)

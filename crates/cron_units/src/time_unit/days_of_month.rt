@@ -1,0 +1,122 @@
+//! The days of a month: numbered ones, and the last one.
+
+ghost use Rattle.std.specs.Prelude.{◌≡◌};
+
+use super::{
+    Definition, NumberedDays, NumberedDaysTable, Ordinal, OrdinalIter, TimeUnitField, UnitTable,
+};
+use crate::way::Way;
+use std::marker::Model;
+
+/// The days of a month: the numbered ones, and whether the last day of the month is one more. What
+/// `TimeUnitSpec` tells is of the numbered days alone.
+#[derive(Debug, Clone, Copy, PartialEq, Eq)]
+pub struct DaysOfMonth {
+    numbered: NumberedDays,
+    last_day: bool,
+}
+
+impl Model for DaysOfMonth {
+    ghost use Rattle.cron_units.specs.Units.{FieldSet};
+
+    ghost Value = { FieldSet };
+
+    ghost view = { λ days. record { ordinals = days.numbered; last_day = days.last_day } };
+
+    ghost inverse = { λ set. record { numbered = set.ordinals; last_day = set.last_day } };
+}
+
+impl DaysOfMonth {
+    ghost use Rattle.std.specs.Prelude.{◌-◌, ◌^◌, ◌<◌};
+    ghost use Rattle.cron_units.specs.Units.{days_of_month, set_of, with_mark};
+    ghost use Rattle.cron_units.specs.Words.{has_bit};
+
+    /// Makes the set of the numbered days whose bits are 1, where bit i stands for day i + 1, and of the
+    /// last day of the month where it is marked. A bit past that of day 31 means nothing.
+    pub fn from_bits(bits: u64, last_day: bool) -> DaysOfMonth
+        ensures { result ≡ with_mark (set_of days_of_month (λ x. has_bit bits (x - days_of_month.least))) last_day }
+    {
+        DaysOfMonth {
+            numbered: NumberedDays::from_bits(bits),
+            last_day,
+        }
+    }
+
+    /// The word of the numbered days, in which bit i stands for day i + 1.
+    pub fn bits(&self) -> u64
+        ensures within { result < 2 ^ 64 }
+        ensures set { set_of days_of_month (λ x. has_bit result (x - days_of_month.least)) ≡ self.now.ordinals }
+    {
+        self.numbered.bits()
+    }
+
+    /// Tells whether the last day of the month, whatever its number, is a member.
+    pub fn last_day(&self) -> bool
+        ensures { result ≡ self.now.last_day }
+    {
+        self.last_day
+    }
+}
+
+impl TimeUnitField for DaysOfMonth {
+    ghost use Rattle.cron_units.specs.Units.{days_of_month};
+    ghost use Rattle.cron_units.specs.Laws.{is_unit-days_of_month};
+
+    ghost unit = { days_of_month };
+
+    ghost members = { λ set. set.ordinals };
+
+    ghost marked = { λ set. set.last_day };
+
+    ghost is_unit = { is_unit-days_of_month };
+
+    fn definition() -> Definition {
+        Definition {
+            last_day: Some("L"),
+            ..<NumberedDaysTable as UnitTable<u64>>::definition()
+        }
+    }
+
+    fn known(&self) {
+        self.numbered.known();
+    }
+
+    fn empty() -> DaysOfMonth {
+        DaysOfMonth {
+            numbered: NumberedDays::empty(),
+            last_day: false,
+        }
+    }
+
+    fn insert(&mut self, ordinal: Ordinal) {
+        self.numbered.insert(ordinal);
+    }
+
+    fn insert_range(&mut self, first: Ordinal, last: Ordinal) {
+        self.numbered.insert_range(first, last);
+    }
+
+    fn mark(&mut self) {
+        self.last_day = true;
+    }
+
+    fn insert_steps(&mut self, first: Ordinal, last: Ordinal, every: u32) {
+        self.numbered.insert_steps(first, last, every);
+    }
+
+    fn contains(&self, ordinal: Ordinal) -> bool {
+        self.numbered.contains(ordinal)
+    }
+
+    fn len(&self) -> u32 {
+        self.numbered.len()
+    }
+
+    fn ascending(&self) -> OrdinalIter<'_> {
+        self.numbered.ascending()
+    }
+
+    fn nearest(&self, way: Way, from: Ordinal) -> Option<Ordinal> {
+        self.numbered.nearest(way, from)
+    }
+}

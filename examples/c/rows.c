@@ -1,0 +1,227 @@
+/* Rows that the calls must answer. It prints how many held, and fails at the first that doesn't. */
+#include "cron.h"
+
+#include <stdio.h>
+#include <stdlib.h>
+#include <string.h>
+
+static int held;
+
+static void check(int is, const char *what, int line)
+{
+    if (!is) {
+        printf("rows: line %d: %s doesn't hold\n", line, what);
+        exit(1);
+    }
+    held++;
+}
+
+#define CHECK(what) check((what), #what, __LINE__)
+
+static const uint8_t *bytes_of(const char *text)
+{
+    return (const uint8_t *)text;
+}
+
+static const char *const CHICAGO = "CST6CDT,M3.2.0,M11.1.0";
+
+/* Reads a text that is accepted. */
+static cron_schedule parsed(const char *text)
+{
+    cron_schedule schedule;
+    uint8_t message[1];
+    size_t needed = 1;
+    memset(&schedule, 0, sizeof schedule);
+    CHECK(cron_parse(bytes_of(text), strlen(text), &schedule, message, sizeof message, &needed) == CRON_OK);
+    CHECK(needed == 0);
+    return schedule;
+}
+
+/* Whether the text of the item is this. */
+static int shows(const cron_item *item, const char *text)
+{
+    uint8_t shown[32];
+    size_t length = 0;
+    return cron_format(item, shown, sizeof shown, &length) == CRON_OK && length == strlen(text) &&
+           memcmp(shown, text, length) == 0;
+}
+
+static uint32_t after(const cron_schedule *schedule, const char *zone, int64_t instant, cron_item *item)
+{
+    return cron_after(schedule, bytes_of(zone), strlen(zone), instant, item);
+}
+
+static uint32_t before(const cron_schedule *schedule, const char *zone, int64_t instant, cron_item *item)
+{
+    return cron_before(schedule, bytes_of(zone), strlen(zone), instant, item);
+}
+
+static uint32_t next(const cron_schedule *schedule, const char *zone, cron_item *item)
+{
+    return cron_next(schedule, bytes_of(zone), strlen(zone), item);
+}
+
+static uint32_t prev(const cron_schedule *schedule, const char *zone, cron_item *item)
+{
+    return cron_prev(schedule, bytes_of(zone), strlen(zone), item);
+}
+
+/* The first run, ahead and back. */
+static void first_run(void)
+{
+    cron_schedule schedule = parsed("0 0,30 9 * * 2");
+    cron_item item = {0, 0};
+    CHECK(schedule.minutes == (UINT64_C(1) | UINT64_C(1) << 30));
+    CHECK(schedule.days_of_week == UINT64_C(1) << 1);
+    CHECK(after(&schedule, "UTC", 1704067200, &item) == CRON_OK);
+    CHECK(shows(&item, "2024-01-01 09:00:00 +00:00"));
+    CHECK(next(&schedule, "UTC", &item) == CRON_OK);
+    CHECK(shows(&item, "2024-01-01 09:30:00 +00:00"));
+    CHECK(next(&schedule, "UTC", &item) == CRON_OK);
+    CHECK(shows(&item, "2024-01-08 09:00:00 +00:00"));
+    CHECK(prev(&schedule, "UTC", &item) == CRON_OK);
+    CHECK(shows(&item, "2024-01-01 09:30:00 +00:00"));
+    CHECK(before(&schedule, "UTC", 1704067200, &item) == CRON_OK);
+    CHECK(shows(&item, "2023-12-25 09:30:00 +00:00"));
+}
+
+/* The last day of each month, as it is read and as any number but 0 says it. */
+static void last_days(void)
+{
+    cron_schedule schedule = parsed("0 0 0 L * ?");
+    cron_schedule daily = parsed("@daily");
+    cron_item item = {0, 0};
+    CHECK(schedule.last_day == 1 && schedule.days_of_month == 0 && daily.last_day == 0);
+    schedule.last_day = 512;
+    CHECK(after(&schedule, "UTC", 1705276800, &item) == CRON_OK);
+    CHECK(shows(&item, "2024-01-31 00:00:00 +00:00"));
+    CHECK(next(&schedule, "UTC", &item) == CRON_OK);
+    CHECK(shows(&item, "2024-02-29 00:00:00 +00:00"));
+    schedule.last_day = 0;
+    CHECK(after(&schedule, "UTC", 1705276800, &item) == CRON_NO_ITEM);
+}
+
+/* A message that doesn't fit, and texts that aren't read. */
+static void refusals(void)
+{
+    const char *told = "Hours must be less than 23. ('25' specified.)";
+    const char *text = "0 0 25 * * *";
+    const uint8_t not_utf8[] = {'*', 0xff};
+    cron_schedule schedule;
+    uint8_t message[64];
+    size_t needed = 0;
+    memset(&schedule, 7, sizeof schedule);
+    memset(message, '.', sizeof message);
+    CHECK(cron_parse(bytes_of(text), strlen(text), &schedule, message, 5, &needed) == CRON_REFUSED);
+    CHECK(needed == strlen(told));
+    CHECK(memcmp(message, "Hours.", 6) == 0);
+    CHECK(schedule.seconds == UINT64_C(0x0707070707070707));
+    CHECK(cron_parse(bytes_of(text), strlen(text), &schedule, message, 0, &needed) == CRON_REFUSED);
+    CHECK(needed == strlen(told));
+    CHECK(cron_parse(bytes_of(text), strlen(text), &schedule, message, sizeof message, &needed) == CRON_REFUSED);
+    CHECK(memcmp(message, told, needed) == 0);
+    CHECK(message[needed] == '.');
+    CHECK(cron_parse(not_utf8, sizeof not_utf8, &schedule, message, sizeof message, &needed) == CRON_NOT_UTF8);
+    CHECK(needed == 0);
+}
+
+/* Zones, instants and items that aren't any. */
+static void arguments(void)
+{
+    cron_schedule schedule = parsed("0 0 9 * * *");
+    cron_item item = {7, 7};
+    uint8_t text[32];
+    size_t needed = 1;
+    CHECK(after(&schedule, "Mars", 0, &item) == CRON_BAD_ZONE);
+    CHECK(next(&schedule, "\xff", &item) == CRON_BAD_ZONE);
+    CHECK(after(&schedule, "UTC", INT64_MAX, &item) == CRON_BAD_INSTANT);
+    CHECK(before(&schedule, "UTC", INT64_MIN, &item) == CRON_BAD_INSTANT);
+    CHECK(item.instant == 7 && item.offset == 7);
+    CHECK(next(&schedule, "UTC", &item) == CRON_NOT_AN_ITEM);
+    item.instant = INT64_MAX;
+    item.offset = INT32_MAX;
+    CHECK(prev(&schedule, "UTC", &item) == CRON_NOT_AN_ITEM);
+    CHECK(cron_format(&item, text, sizeof text, &needed) == CRON_NOT_AN_ITEM);
+    CHECK(needed == 0);
+    item.offset = 0;
+    CHECK(next(&schedule, "UTC", &item) == CRON_NOT_AN_ITEM);
+    CHECK(after(&schedule, "UTC", INT64_C(4133980800), &item) == CRON_NO_ITEM);
+    CHECK(before(&schedule, "UTC", 0, &item) == CRON_NO_ITEM);
+    CHECK(before(&schedule, "UTC", INT64_C(253402207200), &item) == CRON_OK);
+    CHECK(shows(&item, "2100-12-31 09:00:00 +00:00"));
+    CHECK(next(&schedule, "UTC", &item) == CRON_NO_ITEM);
+    CHECK(shows(&item, "2100-12-31 09:00:00 +00:00"));
+}
+
+/* Both items of a fold, both ways. */
+static void fold(void)
+{
+    cron_schedule schedule = parsed("0 0 * * * *");
+    cron_item item;
+    CHECK(after(&schedule, CHICAGO, 1667712600, &item) == CRON_OK);
+    CHECK(item.instant == 1667714400 && item.offset == -5 * 3600);
+    CHECK(next(&schedule, CHICAGO, &item) == CRON_OK);
+    CHECK(shows(&item, "2022-11-06 01:00:00 -06:00"));
+    CHECK(item.instant == 1667718000);
+    CHECK(next(&schedule, CHICAGO, &item) == CRON_OK);
+    CHECK(shows(&item, "2022-11-06 02:00:00 -06:00"));
+    CHECK(prev(&schedule, CHICAGO, &item) == CRON_OK);
+    CHECK(prev(&schedule, CHICAGO, &item) == CRON_OK);
+    CHECK(shows(&item, "2022-11-06 01:00:00 -05:00"));
+    item.offset = -6 * 3600;
+    CHECK(next(&schedule, CHICAGO, &item) == CRON_NOT_AN_ITEM);
+}
+
+/* Items at once, as those one by one, and where the timeline ends. */
+static void lists(void)
+{
+    cron_schedule schedule = parsed("0 0 * * * *"), last = parsed("0 0 0 31 12 * 2099-2100");
+    cron_item items[4], item;
+    size_t count = 7;
+    memset(items, 0, sizeof items);
+    CHECK(cron_list_after(&schedule, bytes_of(CHICAGO), strlen(CHICAGO), 1667712600, items, 3, &count) == CRON_OK);
+    CHECK(count == 3);
+    CHECK(after(&schedule, CHICAGO, 1667712600, &item) == CRON_OK);
+    for (size_t place = 0; place < count; place++) {
+        CHECK(items[place].instant == item.instant && items[place].offset == item.offset);
+        CHECK(next(&schedule, CHICAGO, &item) == CRON_OK);
+    }
+    CHECK(items[3].instant == 0);
+    CHECK(cron_list_before(&last, bytes_of("UTC"), 3, INT64_C(253402207200), items, 4, &count) == CRON_OK);
+    CHECK(count == 2);
+    CHECK(shows(&items[0], "2100-12-31 00:00:00 +00:00"));
+    CHECK(shows(&items[1], "2099-12-31 00:00:00 +00:00"));
+    CHECK(cron_list_after(&last, bytes_of("Mars"), 4, 0, items, 4, &count) == CRON_BAD_ZONE);
+    CHECK(count == 0);
+    CHECK(cron_list_after(&last, bytes_of("UTC"), 3, INT64_MAX, items, 4, &count) == CRON_BAD_INSTANT);
+    CHECK(cron_list_after(&last, bytes_of("UTC"), 3, 0, items, 0, &count) == CRON_OK);
+    CHECK(count == 0);
+}
+
+/* Bits outside a unit mean nothing. */
+static void bits(void)
+{
+    cron_schedule schedule, every = parsed("* * * * * *");
+    cron_item item, other;
+    memset(&schedule, 0xff, sizeof schedule);
+    CHECK(after(&schedule, "UTC", 1704067200, &item) == CRON_OK);
+    CHECK(after(&every, "UTC", 1704067200, &other) == CRON_OK);
+    CHECK(item.instant == 1704067201 && other.instant == 1704067201);
+    schedule.months = ~UINT64_C(0xfff);
+    CHECK(after(&schedule, "UTC", 1704067200, &item) == CRON_NO_ITEM);
+    memset(&schedule, 0, sizeof schedule);
+    CHECK(before(&schedule, "UTC", 1704067200, &item) == CRON_NO_ITEM);
+}
+
+int main(void)
+{
+    first_run();
+    last_days();
+    refusals();
+    arguments();
+    fold();
+    lists();
+    bits();
+    printf("examples: %d rows hold\n", held);
+    return 0;
+}

@@ -1,0 +1,136 @@
+//! A safe wrapper of the C interface.
+
+use std::fmt;
+
+const OK: u32 = 0;
+const REFUSED: u32 = 2;
+
+#[repr(C)]
+#[derive(Clone, Copy, Default)]
+struct Sets {
+    words: [u64; 10],
+}
+
+/// An item of a timeline: an instant in seconds, and how far the clock is ahead of UTC.
+#[repr(C)]
+#[derive(Clone, Copy, Debug, Default, PartialEq, Eq)]
+pub struct Item {
+    pub instant: i64,
+    pub offset: i32,
+}
+
+#[link(name = "cron_c", kind = "static")]
+unsafe extern "C" {
+    fn cron_parse(
+        text: *const u8,
+        text_length: usize,
+        schedule: *mut Sets,
+        message: *mut u8,
+        message_length: usize,
+        message_needed: *mut usize,
+    ) -> u32;
+    fn cron_after(
+        schedule: *const Sets,
+        zone: *const u8,
+        zone_length: usize,
+        instant: i64,
+        item: *mut Item,
+    ) -> u32;
+    fn cron_next(
+        schedule: *const Sets,
+        zone: *const u8,
+        zone_length: usize,
+        item: *mut Item,
+    ) -> u32;
+    fn cron_format(item: *const Item, text: *mut u8, text_length: usize, needed: *mut usize)
+    -> u32;
+}
+
+/// What an expression means.
+#[derive(Clone, Copy)]
+pub struct Schedule(Sets);
+
+impl Schedule {
+    /// Reads an expression, or tells why it means nothing.
+    pub fn parse(text: &str) -> Result<Schedule, String> {
+        let mut sets = Sets::default();
+        let mut message = vec![0; 2 * text.len() + 100];
+        let mut needed = 0;
+        // SAFETY: the pointers are those of live values that don't overlap, with their lengths.
+        let status = unsafe {
+            cron_parse(
+                text.as_ptr(),
+                text.len(),
+                &mut sets,
+                message.as_mut_ptr(),
+                message.len(),
+                &mut needed,
+            )
+        };
+        match status {
+            OK => Ok(Schedule(sets)),
+            REFUSED => {
+                message.truncate(needed);
+                Err(String::from_utf8_lossy(&message).into_owned())
+            }
+            other => Err(format!("status {other}")),
+        }
+    }
+
+    /// The items after an instant. `Err` holds the status where the zone or the instant is refused.
+    pub fn after<'a>(&self, zone: &'a str, instant: i64) -> Result<Items<'a>, u32> {
+        let mut item = Item::default();
+        // SAFETY: as above.
+        let status = unsafe { cron_after(&self.0, zone.as_ptr(), zone.len(), instant, &mut item) };
+        let next = match status {
+            0 => Some(item),
+            1 => None,
+            other => return Err(other),
+        };
+        Ok(Items {
+            schedule: *self,
+            zone,
+            next,
+        })
+    }
+}
+
+/// The items of a timeline, from one on.
+pub struct Items<'a> {
+    schedule: Schedule,
+    zone: &'a str,
+    next: Option<Item>,
+}
+
+impl Iterator for Items<'_> {
+    type Item = Item;
+
+    fn next(&mut self) -> Option<Item> {
+        let answer = self.next?;
+        let mut item = answer;
+        // SAFETY: as above.
+        let status = unsafe {
+            cron_next(
+                &self.schedule.0,
+                self.zone.as_ptr(),
+                self.zone.len(),
+                &mut item,
+            )
+        };
+        self.next = (status == OK).then_some(item);
+        Some(answer)
+    }
+}
+
+impl fmt::Display for Item {
+    fn fmt(&self, f: &mut fmt::Formatter<'_>) -> fmt::Result {
+        let mut text = [0; 32];
+        let mut needed = 0;
+        // SAFETY: as above.
+        let status = unsafe { cron_format(self, text.as_mut_ptr(), text.len(), &mut needed) };
+        if status != OK {
+            return Err(fmt::Error);
+        }
+        f.write_str(&String::from_utf8_lossy(&text[..needed]))
+    }
+}
