@@ -2,7 +2,7 @@
 use Rattle.std.proofs.Common.{◌≡◌, List, [], ◌∷◌, drop, inl, refl, take}
 use Rattle.std.specs.Prelude.{codes}
 use Rattle.cron.specs.Words.{Means}
-use Rattle.cron.proofs.Callers.{cron_on_literals, every, question_mark, single, name_range, plain, Token, tokens}
+use Rattle.cron.proofs.Callers.{cron_on_literals, every, single, name_range, plain, Token, tokens}
 use Rattle.cron_callers.specs.Literals.{work_days, work_days_text}
 
 -- six fields, each cut from the front of what is left, and no years
@@ -34,7 +34,7 @@ work_days_meant =
           (
             take 1 (drop 3 ts),
             drop 4 ts,
-            plain question_mark ∷ [],
+            plain every ∷ [],
             refl,
             record { written = refl; nonempty = λ h. (cc); spaced = refl; wildcards_allowed = refl },
             record { unrefused = refl; union = refl },

@@ -3,7 +3,7 @@ use Rattle.std.specs.Prelude.{ℕ, List, [], ◌∷◌, codes}
 use Rattle.cron.specs.Words.{Sets, days_of_month, months, unmarked, whole, years}
 
 abbrev pub work_days_text : List ℕ
-work_days_text = codes "0 30 9 ? * Mon-Fri"
+work_days_text = codes "0 30 9 * * Mon-Fri"
 
 -- half past nine from Monday to Friday
 abbrev pub work_days : Sets

@@ -14,5 +14,5 @@ pub fn work_days(alloc: Global) -> Result<Schedule, Error>
     ensures sets { IfOk result (λ schedule. schedule.sets ≡ work_days) }
     ensures refused { IfErr result IsMemory }
 {
-    Schedule::from_str(alloc, "0 30 9 ? * Mon-Fri")
+    Schedule::from_str(alloc, "0 30 9 * * Mon-Fri")
 }

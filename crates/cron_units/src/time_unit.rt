@@ -10,6 +10,7 @@ mod names;
 mod ordinals;
 mod units;
 mod views;
+pub mod wide;
 pub mod words;
 
 pub use days_of_month::DaysOfMonth;

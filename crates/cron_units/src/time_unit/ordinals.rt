@@ -6,7 +6,8 @@ ghost use Rattle.cron_units.specs.Words.{bit_of_three, has_bit};
 ghost use Rattle.cron_units.specs.Places.{placed, NonePast};
 ghost use Rattle.cron_units.specs.Tables.{definition_view, AreKeyed};
 
-use super::words::{Wide, Words, wide, widened};
+use super::wide::{Wide, wide, widened};
+use super::words::Words;
 use super::{Definition, Ordinal, OrdinalIter, TimeUnitField};
 use crate::way::Way;
 use std::alloc::AllocError;

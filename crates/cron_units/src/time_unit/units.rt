@@ -1,7 +1,7 @@
 //! The seven units.
 
 use super::names::{DAY_NAMES, MONTH_NAMES};
-use super::words::Wide;
+use super::wide::Wide;
 use super::{Definition, Names, Ordinals, UnitTable};
 
 /// The seconds of a minute.

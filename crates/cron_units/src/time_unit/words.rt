@@ -1,7 +1,7 @@
 //! Places that are taken or free, a bit for each.
 
 ghost use Rattle.std.specs.Prelude.{◌≡◌, ◌<◌, ◌≤◌, ◌+◌, ◌-◌, ◌*◌, ◌%◌, ℕ, Bool, true, false, ◌&&◌, ◌||◌, ◌↔◌, ◌^◌, not, IsTrue, MatchOption, nat_lt, nat_le, nat_eq};
-ghost use Rattle.cron_units.specs.Words.{bit_of_three, count_below, has_bit};
+ghost use Rattle.cron_units.specs.Words.{count_below, has_bit};
 
 use super::multiples::{multiples, place_in_rest};
 
@@ -222,8 +222,8 @@ impl Extensible for u64 {
 /// A word with further bits after it.
 #[derive(Clone, Copy, Debug)]
 pub struct Longer<R> {
-    low: u64,
-    rest: R,
+    pub(super) low: u64,
+    pub(super) rest: R,
 }
 
 impl<R: Extensible> Words for Longer<R> {
@@ -371,36 +371,4 @@ impl Extensible for Longer<u64> {
     ghost use Rattle.std.proofs.Common.{rules};
 
     ghost extensible = { Prim.search rules };
-}
-
-/// The most bits that any unit takes.
-pub type Wide = Longer<Longer<u64>>;
-
-/// Joins three words.
-pub fn wide(first: u64, second: u64, third: u64) -> Wide
-    ensures fit { ⟦<Wide as Words>⟧.IsFit result }
-    ensures bits { (k : ℕ) → ⟦<Wide as Words>⟧.has result k ≡ bit_of_three first second third k }
-{
-    Longer {
-        low: first,
-        rest: Longer {
-            low: second,
-            rest: third,
-        },
-    }
-}
-
-/// Lays bits out in as many words as any unit takes.
-pub fn widened<W: Words>(words: W) -> Wide
-    requires { W.IsFit words }
-    ensures fit { ⟦<Wide as Words>⟧.IsFit result }
-    ensures bits { (k : ℕ) → k < 192 → ⟦<Wide as Words>⟧.has result k ≡ W.has words k }
-{
-    Longer {
-        low: words.word(0),
-        rest: Longer {
-            low: words.word(1),
-            rest: words.word(2),
-        },
-    }
 }
