@@ -8,7 +8,7 @@ ghost use Rattle.cron_units.specs.Texts.{Tells};
 ghost use Rattle.cron_text.specs.Fault.{IsRefusal};
 
 use crate::schedule::Schedule;
-use cron_text::{fault_error, read_text};
+use cron_text::{fault_error, fault_of, no_ordinals, read_into};
 use cron_units::error::Error;
 use std::alloc::Global;
 use std::borrow::CowStr;
@@ -18,19 +18,29 @@ use std::borrow::CowStr;
 /// was refused, `out of memory`. Memory is taken for the copy of a borrowed text and for a message
 /// alone, so an owned text of the grammar is always read.
 impl Schedule {
+    // The error that tells the fault of a text. Few texts have one, and none of the others pays for its
+    // room.
+    #[cold]
+    #[inline(never)]
+    fn refusal(alloc: Global, text: &str) -> Error
+        requires { MeansNothing text.now }
+        ensures { Tells (IsRefusal text.now) result }
+    {
+        fault_error(alloc, fault_of(text))
+    }
+
     /// Reads an expression, as `0 0,30 9 * * Mon-Fri`, and keeps a copy of it.
     pub fn from_str(alloc: Global, text: &str) -> Result<Schedule, Error>
         ensures means { IfOk result (λ s. Means text.now s.sets) }
         ensures source { IfOk result (λ s. s.source ≡ text.now) }
         ensures refused { IfErr result (Tells (IsRefusal text.now)) }
     {
-        match read_text(text) {
-            Ok(fields) => {
-                let source = String::from_str(alloc, text)?;
-                Ok(Schedule::new(source, fields))
-            }
-            Err(fault) => Err(fault_error(alloc, fault)),
+        let mut fields = no_ordinals();
+        if !read_into(text, &mut fields) {
+            return Err(Schedule::refusal(alloc, text));
         }
+        let source = String::from_str(alloc, text)?;
+        Ok(Schedule::new(source, fields))
     }
 
     /// The same as [`Schedule::from_str`].
@@ -49,10 +59,11 @@ impl Schedule {
         ensures refused { IfErr result (Tells (IsRefusal (string_bytes text))) }
         ensures accepted { IfErr result (λ _. MeansNothing (string_bytes text)) }
     {
-        match read_text(text.as_str()) {
-            Ok(fields) => Ok(Schedule::new(text, fields)),
-            Err(fault) => Err(fault_error(alloc, fault)),
+        let mut fields = no_ordinals();
+        if !read_into(text.as_str(), &mut fields) {
+            return Err(Schedule::refusal(alloc, text.as_str()));
         }
+        Ok(Schedule::new(text, fields))
     }
 
     /// Reads an expression that is borrowed, as [`Schedule::from_str`], or owned, as

@@ -8,7 +8,7 @@ ghost use Rattle.cron_text.specs.FaultText.{fault_text};
 use crate::buffer::Sink;
 use crate::schedule::{CronSchedule, schedule_of};
 use crate::status::Status;
-use cron_text::{Fault, read_text};
+use cron_text::{Fault, fault_of, no_ordinals, read_into};
 use std::fmt::Write;
 
 // Writes the message of a fault to a buffer as far as it fits, and answers its whole length.
@@ -42,18 +42,17 @@ fn parse(
     let Ok(text) = str::from_utf8(text) else {
         return Status::NotUtf8;
     };
-    match read_text(text) {
-        Ok(fields) => {
-            *schedule = schedule_of(&fields);
-            Status::Done
+    let mut fields = no_ordinals();
+    if read_into(text, &mut fields) {
+        *schedule = schedule_of(&fields);
+        return Status::Done;
+    }
+    match tell(fault_of(text), message) {
+        Some(length) => {
+            *message_length = length;
+            Status::Refused
         }
-        Err(fault) => match tell(fault, message) {
-            Some(length) => {
-                *message_length = length;
-                Status::Refused
-            }
-            None => Status::Untold,
-        },
+        None => Status::Untold,
     }
 }
 

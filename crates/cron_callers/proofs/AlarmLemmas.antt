@@ -1,5 +1,5 @@
 -- The instants of the first two items at one offset.
-use Rattle.std.proofs.Common.{◌≡◌, ℤ, pos, ◌<ℤ◌, ◌≤ℤ◌, ◌*ℤ◌, Option, Some, None, IfSome, MatchOption, refl, sym, arith}
+use Rattle.std.proofs.Common.{◌≡◌, ℤ, pos, ◌<ℤ◌, ◌≤ℤ◌, ◌*ℤ◌, Option, Some, None, IfSome, MatchOption, arith}
 use Rattle.std.specs.Option.{option_map}
 use Rattle.jiff_core.proofs.SignedLemmas.{signed_arith}
 use Rattle.cron.specs.Words.{Sets, Reading, instant, IsAfter, Shows, IsLeastIfAny, IsLaterIfAny}

@@ -1,5 +1,5 @@
 -- What a written expression means, by computation.
-use Rattle.std.proofs.Common.{◌≡◌, List, [], ◌∷◌, drop, inl, refl, take}
+use Rattle.std.proofs.Common.{List, [], ◌∷◌, drop, inl, refl, take}
 use Rattle.std.specs.Prelude.{codes}
 use Rattle.cron.specs.Words.{Means}
 use Rattle.cron.proofs.Callers.{cron_on_literals, every, single, name_range, plain, Token, tokens}

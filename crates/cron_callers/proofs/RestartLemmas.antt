@@ -1,9 +1,9 @@
 -- The item after a noted one.
-use Rattle.std.proofs.Common.{◌≡◌, ℕ, ◌+◌, List, Option, Some, None, refl, sym, ap, ◌∙◌, slice_get}
+use Rattle.std.proofs.Common.{◌≡◌, ℕ, ◌+◌, Option, Some, None, refl, ap, ◌∙◌, slice_get}
 use Rattle.jiff_core.specs.declared.Offset.{Offset}
 use Rattle.jiff_core.specs.declared.civil.datetime.DateTime.{DateTime}
 use Rattle.jiff_tz.specs.declared.timezone.TimeZone.{TimeZone}
-use Rattle.cron.specs.Words.{Sets, Reading, Walk, Cursor, Place, Step, Steps, Ahead, timeline, step_on, go_to, item_at, civil, HasParts, IsAbsent, IsResumed, ItemsAreInRange, ItemsStandOnce}
+use Rattle.cron.specs.Words.{Sets, Reading, Walk, Step, Steps, Ahead, timeline, step_on, go_to, item_at, civil, HasParts, IsResumed, ItemsAreInRange, ItemsStandOnce}
 
 -- what a call ahead of a place answers is the item there
 answer_at : (i : ℕ) (o : Option Reading) → (item_at i o).answer ≡ o

@@ -8,6 +8,8 @@ pub mod Trims
 pub mod TextLemmas
 pub mod FieldSets
 pub mod Stars
+pub mod Results
+pub mod TextRefusals
 pub mod Prefixes
 pub mod MeaningLemmas
 pub mod FilledLemmas

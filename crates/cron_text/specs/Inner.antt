@@ -3,3 +3,4 @@ pub mod TextReading
 pub mod Views
 pub mod Places
 pub mod Faults
+pub mod Numbers

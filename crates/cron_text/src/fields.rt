@@ -1,6 +1,6 @@
 //! One field, read once from the left and joined into its set on the way.
 
-ghost use Rattle.std.specs.Prelude.{◌≡◌, ◌<◌, ◌||◌, length, MatchOption, IfSome, IfErr, OnOk, Some, None, Ok, List, false};
+ghost use Rattle.std.specs.Prelude.{◌≡◌, ◌<◌, ◌||◌, length, MatchOption, IfSome, OnErr, OnOk, Some, None, Ok, List, false};
 ghost use Rattle.cron_units.specs.Views.{item_view};
 ghost use Rattle.cron_text.specs.Fault.{TakesField};
 ghost use Rattle.cron_text.specs.Inner.FieldReading.{joined, furthest};
@@ -119,20 +119,32 @@ fn more_at<'a, T: TimeUnitField>(
     Some((growth, wildcard, after))
 }
 
+/// That a field isn't read. Its fault is written where the caller has room for it: as a result it would be
+/// moved through memory after each field, read ones too.
+#[derive(Clone, Copy)]
+pub struct Unread;
+
 /// Adds what an item denotes to the set of a field.
 #[inline(always)]
-fn add_to<'a, T: TimeUnitField>(set: &mut T, item: Item<'a>) -> Result<(), Fault<'a>>
+fn add_to<'a, T: TimeUnitField>(
+    set: &mut T,
+    item: Item<'a>,
+    fault: &mut Fault<'a>,
+) -> Result<(), Unread>
     ensures ok { OnOk result ((d : denotation.Denoted) × (denoted_by T.unit (item_view item.entry) ≡ Ok d)
         × (T.members set.new ≡ set_of T.unit (λ x. contains (T.members set.old) x || in_denoted d x))
         × (T.marked set.new ≡ (T.marked set.old || is_last_day d))) }
-    ensures err { IfErr result (TellsItem T.unit (denoted_by T.unit (item_view item.entry))) }
+    ensures err { OnErr result (TellsItem T.unit (denoted_by T.unit (item_view item.entry)) fault.new) }
 {
     match add_item::<T>(set, item) {
         Ok(()) => Ok(()),
-        Err(refusal) => Err(Fault::Refused(RefusedItem {
-            definition: T::definition(),
-            refusal,
-        })),
+        Err(refusal) => {
+            *fault = Fault::Refused(RefusedItem {
+                definition: T::definition(),
+                refusal,
+            });
+            Err(Unread)
+        }
     }
 }
 
@@ -161,17 +173,20 @@ fn read_items<'a, T: TimeUnitField>(
     text: &'a str,
     place: &mut Place,
     set: &mut T,
-) -> Result<(), Fault<'a>>
+    fault: &mut Fault<'a>,
+) -> Result<(), Unread>
     requires { IsPlace text.now place.old }
     ensures taken { OnOk result (TakesField T.unit (tokens_from text.now place.old) (with_mark (T.members set.new) (T.marked set.new)) (tokens_from text.now place.new)) }
     ensures place { OnOk result (IsPlace text.now place.new) }
-    ensures refused { IfErr result (IsUnread T.unit (tokens_from text.now place.old)) }
+    ensures refused { OnErr result (IsUnread T.unit (tokens_from text.now place.old) fault.new) }
 {
     let Some((first, after)) = token_at(text, *place) else {
-        return Err(Fault::Syntax);
+        *fault = Fault::Syntax;
+        return Err(Unread);
     };
     let Some(lone) = lone_item::<T>(first.symbol) else {
-        return Err(Fault::Syntax);
+        *fault = Fault::Syntax;
+        return Err(Unread);
     };
     let mut joined: T = empty();
     let mut item = lone;
@@ -181,15 +196,16 @@ fn read_items<'a, T: TimeUnitField>(
         match growth {
             Growth::Grown(grown) => item = grown,
             Growth::Next(other) => {
-                add_to(&mut joined, item)?;
+                add_to(&mut joined, item, fault)?;
                 item = other;
             }
         }
         wildcard = last;
         next = after;
     }
-    add_to(&mut joined, item)?;
-    *place = next;
+    add_to(&mut joined, item, fault)?;
+    place.at = next.at;
+    place.spaced = next.spaced;
     *set = joined;
     Ok(())
 }
@@ -200,15 +216,17 @@ pub fn read_field<'a, T: TimeUnitField>(
     text: &'a str,
     place: &mut Place,
     set: &mut T,
-) -> Result<(), Fault<'a>>
+    fault: &mut Fault<'a>,
+) -> Result<(), Unread>
     requires { IsPlace text.now place.old }
     ensures taken { OnOk result (TakesField T.unit (tokens_from text.now place.old) (with_mark (T.members set.new) (T.marked set.new)) (tokens_from text.now place.new)) }
     ensures place { OnOk result (IsPlace text.now place.new) }
-    ensures refused { IfErr result (IsUnread T.unit (tokens_from text.now place.old)) }
+    ensures refused { OnErr result (IsUnread T.unit (tokens_from text.now place.old) fault.new) }
 {
     if let Some(behind) = read_star(text, *place, set) {
-        *place = behind;
+        place.at = behind.at;
+        place.spaced = behind.spaced;
         return Ok(());
     }
-    read_items(text, place, set)
+    read_items(text, place, set, fault)
 }

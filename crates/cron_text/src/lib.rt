@@ -10,4 +10,4 @@ mod texts;
 mod tokens;
 
 pub use faults::{Fault, fault_error};
-pub use texts::read_text;
+pub use texts::{fault_of, no_ordinals, read_into};

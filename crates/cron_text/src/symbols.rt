@@ -1,14 +1,13 @@
 //! What the grammar sees in a token.
 
-ghost use Rattle.std.specs.Prelude.{◌≡◌, ◌<◌, [], length, slice_index, MatchOption, IfSome, true, false};
-ghost use Rattle.std.specs.List.{list_all};
-ghost use Rattle.std.specs.Option.{SomeIff};
-ghost use Rattle.std.specs.Str.Parse.{digits_value};
+ghost use Rattle.std.specs.Prelude.{◌≡◌, ◌<◌, ◌+◌, ◌*◌, [], ℕ, length, slice_index, MatchOption, IfSome, true, false};
+ghost use Rattle.std.specs.Char.{digit_value};
 ghost use Rattle.cron_text.specs.Tokens.{is_digit, is_letter, is_space, sign_of};
+ghost use Rattle.cron_text.specs.Inner.Numbers.{IsCapped, number_symbol};
 ghost use Rattle.cron_text.specs.Inner.Places.{IsPlace, tokens_from, IsTokenAt, IsRead, IsLoneStar};
 ghost use Rattle.cron_text.specs.Inner.Views.{symbol_view};
 
-use super::tokens::{Place, digits_end, is_digit, is_letter, letters_end, skip_space};
+use super::tokens::{Place, is_digit, is_letter, letters_end, skip_space};
 
 #[derive(Clone, Copy)]
 pub enum Symbol<'a> {
@@ -38,31 +37,46 @@ fn sign(byte: u8) -> Symbol<'static>
     }
 }
 
+/// The number that digits spell with one more of them, or one that 32 bits don't hold.
+#[inline(always)]
+fn with_digit(value: u64, digit: u8) -> u64
+    requires digit { is_digit digit ≡ true }
+    requires within { value < 42949672960 }
+    ensures { (n : ℕ) → IsCapped n value → IsCapped (n * 10 + digit_value digit) result }
+{
+    if value > u64::from(u32::MAX) {
+        return value;
+    }
+    value * 10 + u64::from(digit - b'0')
+}
+
 /// The number that digits spell, if it fits.
 #[inline(always)]
-fn number(digits: &str) -> Option<u32>
-    requires some { 0 < length digits.now }
-    requires digits { list_all is_digit digits.now ≡ true }
-    ensures { SomeIff result (digits_value 10 digits.now < 4294967296) (digits_value 10 digits.now) }
+fn number(value: u64) -> Symbol<'static>
+    ensures { (n : ℕ) → IsCapped n value → symbol_view result ≡ number_symbol n }
 {
-    match digits.parse::<u32>() {
-        Ok(value) => Some(value),
-        Err(_) => None,
+    match u32::try_from(value) {
+        Ok(value) => Symbol::Number(value),
+        Err(_) => Symbol::Foreign,
     }
 }
 
-/// The number that begins at an index, and where it ends.
+/// The number that begins at an index, and where it ends. Each digit is looked at once.
 #[inline(always)]
 fn number_at(text: &str, at: usize) -> (Symbol<'_>, usize)
     requires within { at < length text.now }
     requires digit { is_digit (slice_index text.now at) ≡ true }
     ensures { IsTokenAt text.now at result.0 result.1 }
 {
-    let end = digits_end(text.as_bytes(), at + 1);
-    match number(&text[at..end]) {
-        Some(value) => (Symbol::Number(value), end),
-        None => (Symbol::Foreign, end),
+    let bytes = text.as_bytes();
+    let mut value = u64::from(bytes[at] - b'0');
+    for end in at + 1..bytes.len() {
+        if !is_digit(bytes[end]) {
+            return (number(value), end);
+        }
+        value = with_digit(value, bytes[end]);
     }
+    (number(value), bytes.len())
 }
 
 /// The word that begins at an index, and where it ends.

@@ -1,21 +1,22 @@
 //! Whole texts: a shorthand, or six fields and years or none.
 
-ghost use Rattle.std.specs.Prelude.{◌≡◌, ◌≤◌, [], length, drop, IfOk, IfErr, OnOk};
+ghost use Rattle.std.specs.Prelude.{◌≡◌, ◌≤◌, [], List, false, length, drop, IsTrue, IfOk, IfErr, OnErr, OnOk};
 ghost use Rattle.cron_text.specs.Fault.{IsRefusal};
 ghost use Rattle.cron_text.specs.FaultText.{fault_text};
 ghost use Rattle.cron_text.specs.Inner.Places.{IsPlace, tokens_from};
 ghost use Rattle.cron_text.specs.Inner.TextReading.{IsRefusalOf};
-ghost use Rattle.cron_units.specs.Units.{unmarked};
-ghost use Rattle.cron_text.specs.Meaning.{DenoteYears, DenoteSets, Means, six_units, field_sets, shorthand_of, trimmed_end};
+ghost use Rattle.cron_units.specs.Units.{FieldSet, unmarked};
+ghost use Rattle.cron_text.specs.Meaning.{DenoteYears, DenoteSets, Means, MeansNothing, six_units, field_sets, shorthand_of, trimmed_end};
 
 use super::faults::Fault;
-use super::fields::read_field;
+use super::fields::{Unread, read_field};
 use super::shorthands::shorthand_named;
 use super::tokens::{Place, skip_space, trimmed_end};
 use cron_units::fields::ScheduleFields;
 use cron_units::time_unit::{Years, empty, whole};
 
 /// The sets of the shorthand from an index on, behind which white space may stand.
+#[inline(always)]
 fn shorthand_at(text: &[u8], at: usize) -> Option<ScheduleFields>
     requires { at ≤ length text.now }
     ensures { result ≡ shorthand_of (trimmed_end (drop at text.now)) }
@@ -31,28 +32,39 @@ fn shorthand_at(text: &[u8], at: usize) -> Option<ScheduleFields>
 
 /// Reads the years after the six fields, all of them where nothing is left. A refused field of years
 /// has no message of its own.
-fn read_years<'a>(text: &'a str, start: Place, years: &mut Years) -> Result<(), Fault<'a>>
+fn read_years<'a>(
+    text: &'a str,
+    start: Place,
+    years: &mut Years,
+    fault: &mut Fault<'a>,
+) -> Result<(), Unread>
     requires { IsPlace text.now start }
     ensures years { OnOk result (DenoteYears (tokens_from text.now start) (unmarked years.new)) }
-    ensures refused { IfErr result (λ fault. IsRefusalOf [] (tokens_from text.now start) (fault_text fault)) }
+    ensures refused { OnErr result (IsRefusalOf [] (tokens_from text.now start) (fault_text fault.new)) }
 {
     if start.at >= text.len() {
         *years = whole();
         return Ok(());
     }
     let mut place = start;
-    match read_field(text, &mut place, years) {
+    match read_field(text, &mut place, years, fault) {
         Ok(()) => {}
-        Err(_) => return Err(Fault::Syntax),
+        Err(Unread) => {
+            *fault = Fault::Syntax;
+            return Err(Unread);
+        }
     }
     if place.at < text.len() {
-        return Err(Fault::Syntax);
+        *fault = Fault::Syntax;
+        return Err(Unread);
     }
     Ok(())
 }
 
 /// Seven empty sets.
-fn no_ordinals() -> ScheduleFields {
+pub fn no_ordinals() -> ScheduleFields
+    ensures { result ≡ record { seconds = []; minutes = []; hours = []; days_of_month = unmarked []; months = []; days_of_week = []; years = [] } }
+{
     ScheduleFields {
         seconds: empty(),
         minutes: empty(),
@@ -65,32 +77,67 @@ fn no_ordinals() -> ScheduleFields {
 }
 
 /// Reads six fields, and years or none.
-fn longhand(text: &str, start: Place) -> Result<ScheduleFields, Fault<'_>>
+#[inline(never)]
+fn read_fields<'a>(
+    text: &'a str,
+    start: Place,
+    fields: &mut ScheduleFields,
+    fault: &mut Fault<'a>,
+) -> Result<(), Unread>
     requires { IsPlace text.now start }
-    ensures sets { IfOk result (λ fields. DenoteSets six_units (tokens_from text.now start) (field_sets fields)) }
-    ensures refused { IfErr result (λ fault. IsRefusalOf six_units (tokens_from text.now start) (fault_text fault)) }
+    ensures sets { OnOk result (DenoteSets six_units (tokens_from text.now start) (field_sets fields.new)) }
+    ensures refused { OnErr result (IsRefusalOf six_units (tokens_from text.now start) (fault_text fault.new)) }
 {
     let mut place = start;
-    let mut fields = no_ordinals();
-    read_field(text, &mut place, &mut fields.seconds)?;
-    read_field(text, &mut place, &mut fields.minutes)?;
-    read_field(text, &mut place, &mut fields.hours)?;
-    read_field(text, &mut place, &mut fields.days_of_month)?;
-    read_field(text, &mut place, &mut fields.months)?;
-    read_field(text, &mut place, &mut fields.days_of_week)?;
-    read_years(text, place, &mut fields.years)?;
-    Ok(fields)
+    read_field(text, &mut place, &mut fields.seconds, fault)?;
+    read_field(text, &mut place, &mut fields.minutes, fault)?;
+    read_field(text, &mut place, &mut fields.hours, fault)?;
+    read_field(text, &mut place, &mut fields.days_of_month, fault)?;
+    read_field(text, &mut place, &mut fields.months, fault)?;
+    read_field(text, &mut place, &mut fields.days_of_week, fault)?;
+    read_years(text, place, &mut fields.years, fault)?;
+    Ok(())
 }
 
-/// The seven sets that a text means, or why it means nothing. No memory is taken.
-pub fn read_text(text: &str) -> Result<ScheduleFields, Fault<'_>>
-    ensures sets { IfOk result (λ fields. Means text.now fields) }
-    ensures refused { IfErr result (λ fault. IsRefusal text.now (fault_text fault)) }
+/// Reads six fields, and years or none. It stands alone, so that a shorthand doesn't pay for the room that
+/// a fault takes. The fault isn't handed out: most texts have none, and whoever wants it asks for it.
+#[inline(never)]
+fn longhand(text: &str, start: Place, fields: &mut ScheduleFields) -> bool
+    requires { IsPlace text.now start }
+    ensures sets { IsTrue result → DenoteSets six_units (tokens_from text.now start) (field_sets fields.new) }
+    ensures nothing { result ≡ false → (xss : List FieldSet) → DenoteSets six_units (tokens_from text.now start) xss → ⊥ }
+{
+    let mut fault = Fault::Syntax;
+    match read_fields(text, start, fields, &mut fault) {
+        Ok(()) => true,
+        Err(Unread) => false,
+    }
+}
+
+/// Reads a text into seven sets, and tells whether it means any. No memory is taken.
+pub fn read_into(text: &str, fields: &mut ScheduleFields) -> bool
+    ensures sets { IsTrue result → Means text.now fields.new }
+    ensures nothing { result ≡ false → MeansNothing text.now }
 {
     let bytes = text.as_bytes();
     let start = skip_space(bytes, 0);
     match shorthand_at(bytes, start.at) {
-        Some(fields) => Ok(fields),
-        None => longhand(text, start),
+        Some(named) => {
+            *fields = named;
+            true
+        }
+        None => longhand(text, start, fields),
     }
+}
+
+/// Why a text means nothing. No memory is taken.
+pub fn fault_of(text: &str) -> Fault<'_>
+    requires { MeansNothing text.now }
+    ensures { IsRefusal text.now (fault_text result) }
+{
+    let start = skip_space(text.as_bytes(), 0);
+    let mut fields = no_ordinals();
+    let mut fault = Fault::Syntax;
+    let _unread = read_fields(text, start, &mut fields, &mut fault);
+    fault
 }

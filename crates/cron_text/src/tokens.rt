@@ -5,11 +5,14 @@ ghost use Rattle.cron_text.specs.Tokens.{tokens, is_space, is_digit, is_letter};
 ghost use Rattle.cron_text.specs.Meaning.{trimmed_front, trimmed_end};
 ghost use Rattle.cron_text.specs.Inner.Places.{IsPlace, tokens_from};
 
-/// White space is space, tab, carriage return and line feed.
+/// White space is space, tab, carriage return and line feed. Most bytes that are asked for are greater.
 #[inline(always)]
 fn is_space(byte: u8) -> bool
     ensures { result ≡ is_space byte }
 {
+    if byte > b' ' {
+        return false;
+    }
     matches!(byte, b' ' | b'\t' | b'\r' | b'\n')
 }
 
@@ -54,23 +57,6 @@ pub fn skip_space(text: &[u8], from: usize) -> Place
         at: text.len(),
         spaced: false,
     }
-}
-
-/// The end of the digits from an index on.
-#[inline(always)]
-pub fn digits_end(text: &[u8], from: usize) -> usize
-    requires { from ≤ length text.now }
-    ensures within { result ≤ length text.now }
-    ensures further { from ≤ result }
-    ensures before { (k : ℕ) → from ≤ k → k < result → is_digit (slice_index text.now k) ≡ true }
-    ensures end { result < length text.now → is_digit (slice_index text.now result) ≡ false }
-{
-    for at in from..text.len() {
-        if !is_digit(text[at]) {
-            return at;
-        }
-    }
-    text.len()
 }
 
 /// The end of the letters from an index on.

@@ -1,5 +1,5 @@
 -- Dates of the range: their day numbers, and their places in the order of dates.
-use Rattle.std.proofs.Common.{◌≡◌, ℕ, ◌+◌, ◌-◌, ◌*◌, ◌/◌, ◌%◌, ◌<◌, ◌≤◌, Bool, true, false, ◌&&◌, ℤ, pos, negsuc, ◌<ℤ◌, ◌≤ℤ◌, refl, sym, ap, ◌∙◌, inl, inr, subst, arith, rules, unsigned_abs}
+use Rattle.std.proofs.Common.{◌≡◌, ℕ, ◌+◌, ◌/◌, ◌%◌, ◌<◌, ◌≤◌, Bool, true, false, ◌&&◌, ℤ, pos, negsuc, ◌<ℤ◌, ◌≤ℤ◌, refl, inl, inr, subst, arith, rules, unsigned_abs}
 use Rattle.std.proofs.lemmas.Int.{by_lt_z}
 use Rattle.std.proofs.lemmas.Bool.{le-leb}
 use Rattle.jiff_core.specs.declared.civil.date.Date.{Date}
@@ -10,7 +10,7 @@ use Rattle.jiff_core.proofs.CalendarLemmas.{days_from_civil-day_count, day_count
 use Rattle.jiff_core.proofs.MarchLemmas.{day_count-early}
 use Rattle.jiff_core.proofs.DateLemmas.{IsEarlier, days_from_civil-next_year, epoch_day-lt, epoch_day_same, cases_date}
 use Rattle.cron_time.specs.CivilDates.{date_numbered}
-use Rattle.cron_time.specs.Inner.Places.{month_number, place, place_date, first_month, months_end}
+use Rattle.cron_time.specs.Inner.Places.{place_date}
 use Rattle.cron_units.specs.Sets.{Sets}
 use Rattle.cron_time.specs.Matches.{has_day, is_candidate}
 use Rattle.cron_time.specs.Inner.Places.{matches_place}
@@ -73,11 +73,6 @@ unfolding first_date
 low_year d h =
     by_lt_z d.year (pos 1970) (λ lt. absurd (omega (arith, signed_arith, first_epoch, epoch_day-lt d first_date (inl lt)))) (λ ge. ge)
 
-high_year : (d : Date) → epoch_day d <ℤ pos 47_847 → d.year ≤ℤ pos 2100
-unfolding last_date
-high_year d h =
-    by_lt_z (pos 2100) d.year (λ lt. absurd (omega (arith, signed_arith, last_epoch, epoch_day-lt last_date d (inl lt)))) (λ ge. ge)
-
 year_is : (y : ℤ) → pos 1970 ≤ℤ y → y ≡ pos (unsigned_abs y)
 year_is (pos n) h = refl
 year_is (negsuc n) h = absurd (omega (arith, signed_arith))
@@ -136,21 +131,3 @@ place_candidate s d low =
     let m = d.month_in in
     let parts = matches_parts s (place_date d) (unsigned_abs d.year) d.month d.day (omega arith) (omega arith) (omega arith) fits in
     rw parts (rw e refl)
-
-pub place_with : (d : Date) (n : ℕ) → d ≡ (date_numbered n).0 → place (unsigned_abs d.year * 12 + d.month - 1) d.day ≡ place_date (date_numbered n).0
-place_with d n e =
-    let here : place (unsigned_abs d.year * 12 + d.month - 1) d.day ≡ place_date d = omega (arith, d.month_in) in
-    here ∙ ap (λ x. place_date x) e
-
-pub year_with : (d : Date) (n : ℕ) → n < 47_847 → d ≡ (date_numbered n).0 → (pos 1970 ≤ℤ d.year) × (d.year ≤ℤ pos 2100)
-year_with d n h e =
-    let P : Date → Type 0 = λ x. (pos 1970 ≤ℤ x.year) × (x.year ≤ℤ pos 2100) in
-    subst P (sym e) (low_at n h, high_year (date_numbered n).0 (omega (arith, signed_arith, epoch_at n h)))
-
--- month and day of a date of these years lie within their bounds
-pub date_range : (d : Date) → (pos 1970 ≤ℤ d.year) × (d.year ≤ℤ pos 2100)
-    → (first_month ≤ month_number d) × (month_number d < months_end) × (1 ≤ d.day) × (d.day ≤ 31)
-date_range d years =
-    let e = year_is d.year years.0 in
-    let m = d.month_in in
-    (omega (arith, signed_arith, e, years, m), omega (arith, signed_arith, e, years, m), d.day_in.0, day_low d)

@@ -121,15 +121,6 @@ same_day s m d a b e f h =
     let Q : ℕ → Type 0 = λ y. matches_day s a y ≡ true in
     subst Q f (subst P e h)
 
--- the date of a day of a month, made from its parts
-pub record IsMade (month day : ℕ) (date : Date) : Type 0 where
-  pub in_range : day_number month day < 47_847
-  pub is : date ≡ (date_numbered (day_number month day)).0
-  pub epoch : epoch_day date ≡ pos (day_number month day)
-
-same_parts : (date : Date) (y : ℤ) (m k : ℕ) → date.year ≡ y → date.month ≡ m → date.day ≡ k → epoch_day date ≡ days_from_civil y m k
-same_parts date y m k ey em ek = rw (ey, em, ek) refl
-
 pub day_fits : (s : Sets) (d : Day) → IsInRange d → matches_place s (day_place d) ≡ true → d.day ≤ length_of d.month
 day_fits s d range h =
     let parts = and_parts (matches_month s (day_place d / 100)) (matches_day s (day_place d / 100) (day_place d % 100)) h in
@@ -157,17 +148,6 @@ own_month s day d small range e h =
 -- the number of a day whose place passes
 pub number_of_place : (s : Sets) (d : Day) → IsInRange d → matches_place s (day_place d) ≡ true → IsNumber d.month d.day (number_of d)
 number_of_place s d range h = number_is d.month d.day range.0 range.1 range.2 (day_fits s d range h)
-
-pub is_made : (month day : ℕ) (date : Date) → first_month ≤ month → month < months_end → 1 ≤ day → day ≤ length_of month → date.year ≡ pos (year_of month)
-    → date.month ≡ month_of month → date.day ≡ day → IsMade month day date
-is_made month day date low high first last ey em ek =
-    let n = number_is month day low high first last in
-    let epoch : epoch_day date ≡ pos (day_number month day) = same_parts date (pos (year_of month)) (month_of month) day ey em ek ∙ n.epoch in
-    record {
-      in_range = n.in_range;
-      is = is_date_numbered date (day_number month day) (omega (arith, n.in_range)) epoch;
-      epoch = epoch;
-    }
 
 -- the day of the week by the day number, from 1 for Sunday
 pub weekday_by_number : (date : Date) (n : ℕ) → epoch_day date ≡ pos n → (n + 4) % 7 + 1 ≡ weekday_number date

@@ -8,7 +8,8 @@ pub mod BoundLemmas
 pub mod TimelineLemmas
 pub mod StepLemmas
 pub mod RestLemmas
-pub mod MomentTextLemmas
+pub mod MarchLemmas
+mod MomentTextLemmas
 pub mod TimelineLaws
 pub mod FixedLemmas
 pub mod WayLemmas

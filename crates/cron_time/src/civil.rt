@@ -8,7 +8,7 @@ use jiff::civil::DateTime;
 use jiff_core::civil::{Date, Time};
 
 /// The days from the first date of `jiff` to 1970-01-01.
-pub(crate) const DAYS_BEFORE_EPOCH: u32 = 4_371_587;
+const DAYS_BEFORE_EPOCH: u32 = 4_371_587;
 
 /// The number of a civil second, negative before 1970. A part of a second is cut.
 pub fn civil_number(dt: DateTime) -> i64

@@ -4,11 +4,11 @@ ghost use Rattle.cron_units.specs.Units.{contains};
 ghost use Rattle.cron_units.specs.Nearest.{IsNearest};
 ghost use Rattle.cron_time.specs.Civil.{seconds_in_range};
 ghost use Rattle.cron_time.specs.CivilDates.{date_numbered};
-ghost use Rattle.cron_time.specs.Inner.Days.{day_place, has_number, IsInRange, capped, longest};
+ghost use Rattle.cron_time.specs.Inner.Days.{day_place, has_number, IsInRange, longest};
 ghost use Rattle.cron_time.specs.Inner.Inquired.{LooksAlone};
 ghost use Rattle.cron_time.specs.Inner.Places.{beyond, length_of, matches_day, matches_month, matches_place, place_date, first_month, months_end};
 
-use crate::civil::date_of;
+use crate::calendar::{KnownMonth, SHORTEST, length_of};
 use crate::inquiry::{Inquiry, Unit};
 use crate::neighbours::{Months, MonthsOfYear, Neighbours, Years, nearest_past, past_in_parts};
 use crate::ways::entry;
@@ -22,17 +22,16 @@ pub(crate) struct Day {
     pub(crate) day: u32,
 }
 
-/// The day of a civil second. It is read, and neither made from the sets nor tested.
-pub(crate) fn day_with(second: u32) -> Day
+/// The day of a civil second. It is read, by the help of a month, and neither made from the sets nor
+/// tested.
+#[inline(always)]
+pub(crate) fn day_with(known: KnownMonth, second: u32) -> Day
     requires { second < seconds_in_range }
     ensures place { day_place result ≡ place_date (date_numbered (second / 86_400)).0 }
     ensures range { IsInRange result }
 {
-    let date = date_of(second / 86_400);
-    Day {
-        month: date.year as u32 * 12 + date.month as u32 - 1,
-        day: date.day as u32,
-    }
+    let (month, day) = known.month_and_day(second / 86_400);
+    Day { month, day }
 }
 
 // The length that a month of the year has in a leap year.
@@ -80,39 +79,27 @@ fn month_past(inquiry: &mut Inquiry<'_>, way: Way, month: u32) -> Option<u32>
     past_in_parts::<Years, MonthsOfYear>(inquiry, way, month, rest)
 }
 
-// Where a search in a month of this length starts.
+// The nearest day of a month whose number lies in the set. The length of the month matters for the
+// last numbers alone.
 #[inline(always)]
-fn start_in_month(way: Way, from: u32, last: u32) -> u32
-    ensures { result ≡ capped way from last }
-{
-    match way {
-        Way::Ahead => from,
-        Way::Back => from.min(last),
-    }
-}
-
-// The number of the last day of a month.
-#[inline(always)]
-fn last_of_month(month: u32) -> u32
+fn numbered_day(inquiry: &mut Inquiry<'_>, way: Way, month: u32, from: u32) -> Option<u32>
     requires { month < months_end }
-    ensures value { result ≡ length_of month }
-    ensures bound { (1 ≤ result) × (result ≤ 31) }
-{
-    days_in_month((month / 12) as i16, (month % 12 + 1) as u8) as u32
-}
-
-// The nearest day of a month of this length whose number lies in the set.
-#[inline(always)]
-fn numbered_day(inquiry: &mut Inquiry<'_>, way: Way, last: u32, from: u32) -> Option<u32>
-    ensures nearest { IsNearest way (has_number inquiry.old.sets.days_of_month.ordinals last) (pos from) result }
-    ensures bound { IfSome result (λ n. (1 ≤ n) × (n ≤ last)) }
+    ensures nearest { IsNearest way (has_number inquiry.old.sets.days_of_month.ordinals (length_of month)) (pos from) result }
+    ensures bound { IfSome result (λ n. (1 ≤ n) × (n ≤ length_of month)) }
     ensures same { LooksAlone inquiry.old inquiry.new }
 {
-    let day = inquiry.member(Unit::Day, way, start_in_month(way, from, last))?;
-    if day > last {
-        return None;
+    let day = inquiry.member(Unit::Day, way, from)?;
+    if day <= SHORTEST {
+        return Some(day);
     }
-    Some(day)
+    let last = length_of(month);
+    if day <= last {
+        return Some(day);
+    }
+    match way {
+        Way::Ahead => None,
+        Way::Back => inquiry.member(Unit::Day, way, last),
+    }
 }
 
 // The nearest day of a month of this length, of the nearest numbered one and the last one.
@@ -143,10 +130,9 @@ fn day_of_month(inquiry: &mut Inquiry<'_>, way: Way, month: u32, from: u32) -> O
     ensures bound { IfSome result (λ n. (1 ≤ n) × (n ≤ 31)) }
     ensures same { LooksAlone inquiry.old inquiry.new }
 {
-    let last = last_of_month(month);
-    let numbered = numbered_day(inquiry, way, last, from);
+    let numbered = numbered_day(inquiry, way, month, from);
     if inquiry.takes_last_day() {
-        return with_last_day(way, last, from, numbered);
+        return with_last_day(way, length_of(month), from, numbered);
     }
     numbered
 }

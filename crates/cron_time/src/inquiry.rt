@@ -7,17 +7,17 @@ ghost use Rattle.cron_time.specs.Civil.{days_in_range};
 ghost use Rattle.cron_time.specs.CivilDates.{date_numbered};
 ghost use Rattle.cron_time.specs.Found.{found_items, items_if_any};
 ghost use Rattle.cron_time.specs.Inner.Inquired.{Inquired, unasked, one_day, one_conversion, one_question, members, unit_of};
-ghost use Rattle.cron_time.specs.Inner.Places.{day_number, length_of, month_of, year_of, first_month, months_end};
+ghost use Rattle.cron_time.specs.Inner.Places.{day_number, length_of, first_month, months_end};
 ghost use Rattle.cron_time.specs.Matches.{weekday_number};
 ghost use Rattle.cron_time.specs.Readings.{reading, readings};
 
-use crate::civil::{DAYS_BEFORE_EPOCH, civil_of};
+use crate::calendar::KnownMonth;
+use crate::civil::civil_of;
 use crate::found::Found;
 use crate::moment::Moment;
 use cron_units::fields::ScheduleFields;
 use cron_units::way::Way;
 use jiff::tz::{AmbiguousOffset, Offset, TimeZone};
-use jiff_core::civil::Date;
 use std::marker::Model;
 
 /// The units that a search looks for members of.
@@ -37,6 +37,7 @@ pub(crate) enum Unit {
 pub(crate) struct Inquiry<'a> {
     fields: &'a ScheduleFields,
     zone: &'a TimeZone<'a>,
+    month: KnownMonth,
     days: u64,
     conversions: u64,
     questions: u64,
@@ -55,33 +56,6 @@ impl<'a> Model for Inquiry<'a> {
       conversions = i.conversions;
       questions = i.questions;
     } };
-}
-
-// The date of a day of a month.
-#[inline(always)]
-fn date_made(month: u32, day: u32) -> Date
-    requires month { (first_month ≤ month) × (month < months_end) }
-    requires day { (1 ≤ day) × (day ≤ length_of month) }
-    ensures year { result.year ≡ pos (year_of month) }
-    ensures month { result.month ≡ month_of month }
-    ensures day { result.day ≡ day }
-{
-    Date {
-        year: (month / 12) as i16,
-        month: (month % 12 + 1) as u8,
-        day: day as u8,
-    }
-}
-
-// Its day number.
-#[inline(always)]
-fn number_made(month: u32, day: u32) -> u32
-    requires month { (first_month ≤ month) × (month < months_end) }
-    requires day { (1 ≤ day) × (day ≤ length_of month) }
-    ensures number { result ≡ day_number month day }
-    ensures bound { result < days_in_range }
-{
-    date_made(month, day).days_since_min() - DAYS_BEFORE_EPOCH
 }
 
 // The day of the week of a day number, from 1 for Sunday: day 0 was a Thursday.
@@ -141,13 +115,32 @@ impl<'a> Inquiry<'a> {
     pub(crate) fn new(fields: &'a ScheduleFields, zone: &'a TimeZone<'a>) -> Inquiry<'a>
         ensures { result ≡ unasked fields.now (plain_zone zone.now) }
     {
+        Inquiry::knowing(fields, zone, KnownMonth::january_1970())
+    }
+
+    /// The same, with a month that is known from earlier.
+    #[inline(always)]
+    pub(crate) fn knowing(
+        fields: &'a ScheduleFields,
+        zone: &'a TimeZone<'a>,
+        month: KnownMonth,
+    ) -> Inquiry<'a>
+        ensures { result ≡ unasked fields.now (plain_zone zone.now) }
+    {
         Inquiry {
             fields,
             zone,
+            month,
             days: 0,
             conversions: 0,
             questions: 0,
         }
+    }
+
+    /// The month of the date that was made last.
+    #[inline(always)]
+    pub(crate) fn month(&self) -> KnownMonth {
+        self.month
     }
 
     /// The dates that were made and tested.
@@ -211,7 +204,8 @@ impl<'a> Inquiry<'a> {
         ensures counted { self.new ≡ one_day self.old }
     {
         self.days += 1;
-        let number = number_made(month, day);
+        self.month = self.month.or_numbered(month);
+        let number = self.month.number_of(day);
         if !self.fields.includes_weekday(weekday_of(number)) {
             return None;
         }

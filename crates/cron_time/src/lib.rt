@@ -3,6 +3,7 @@
 #![tactic(auto)]
 
 mod bounds;
+mod calendar;
 mod civil;
 mod days;
 pub mod found;
@@ -11,6 +12,7 @@ pub mod line;
 pub mod matching;
 pub mod moment;
 mod neighbours;
+mod onward;
 pub mod parts;
 pub mod resume;
 pub mod search;

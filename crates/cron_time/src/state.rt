@@ -4,6 +4,7 @@ ghost use Rattle.cron_time.specs.Inner.Placed.{answer_of, reading_of, stand_of, 
 ghost use Rattle.cron_time.specs.Inner.Stand as kept;
 ghost use Rattle.cron_time.specs.Readings.{Reading};
 
+use crate::calendar::KnownMonth;
 use crate::found::Found;
 use crate::moment::Moment;
 use cron_units::way::Way;
@@ -22,13 +23,14 @@ pub(crate) enum Stage {
 }
 
 /// The stage of a walk, the readings of its civil second, and the instant that it started from. What
-/// the stage doesn't speak of means nothing.
+/// the stage doesn't speak of means nothing. The month is the one that was looked up last.
 #[derive(Clone, Copy)]
 pub struct State {
     pub(crate) stage: Stage,
     pub(crate) first: Moment,
     pub(crate) second: Moment,
     pub(crate) start: jiff_core::Timestamp,
+    pub(crate) month: KnownMonth,
 }
 
 impl State {
@@ -42,6 +44,7 @@ impl State {
             first: none,
             second: none,
             start: start.to_plain(),
+            month: KnownMonth::january_1970(),
         }
     }
 

@@ -12,7 +12,8 @@ ghost use Rattle.cron_time.specs.Matches.{matches_date};
 use crate::bounds::bound;
 use crate::days::some_month_has_a_day;
 use crate::inquiry::Inquiry;
-use crate::search::{search_from, search_past};
+use crate::onward::search_past;
+use crate::search::search_from;
 use crate::state::{Stage, State};
 use cron_units::fields::ScheduleFields;
 use cron_units::way::Way;
@@ -30,7 +31,9 @@ fn from_bound(fields: &ScheduleFields, zone: &TimeZone<'_>, way: Way, state: &mu
     match bound(way, Timestamp::from_plain(state.start), zone) {
         Some(from) => {
             let mut inquiry = Inquiry::new(fields, zone);
-            state.stop(way, search_from(&mut inquiry, way, from))
+            let found = search_from(&mut inquiry, way, from);
+            state.month = inquiry.month();
+            state.stop(way, found)
         }
         None => state.stop(way, None),
     }
@@ -67,12 +70,18 @@ fn past_item(fields: &ScheduleFields, zone: &TimeZone<'_>, way: Way, state: &mut
         (stand_of state.new) }
 {
     let item = state.first;
-    state.stop(way, search_past(fields, zone, way, item.second()))
+    let found = search_past(fields, zone, way, item.second(), &mut state.month);
+    state.stop(way, found)
 }
 
-/// Takes a walk from where it stands to where a call in this direction leads.
-#[inline(always)]
-pub fn step(fields: &ScheduleFields, zone: &TimeZone<'_>, way: Way, state: &mut State)
+// Takes a walk from where it stands to where a call in this direction leads. `BACK` gives each direction
+// code of its own.
+fn step_one_way<const BACK: bool>(
+    fields: &ScheduleFields,
+    zone: &TimeZone<'_>,
+    way: Way,
+    state: &mut State,
+)
     requires { IsPlaced fields.now (plain_zone zone.now) (stand_of state.old) }
     ensures { IsStop way
         fields.now
@@ -92,5 +101,21 @@ pub fn step(fields: &ScheduleFields, zone: &TimeZone<'_>, way: Way, state: &mut 
             Way::Back => state.stage = Stage::Earlier,
         },
         Stage::Ended => {}
+    }
+}
+
+/// Takes a walk from where it stands to where a call in this direction leads.
+#[inline(always)]
+pub fn step(fields: &ScheduleFields, zone: &TimeZone<'_>, way: Way, state: &mut State)
+    requires { IsPlaced fields.now (plain_zone zone.now) (stand_of state.old) }
+    ensures { IsStop way
+        fields.now
+        (plain_zone zone.now)
+        (cursor_of fields.now (plain_zone zone.now) (stand_of state.old))
+        (stand_of state.new) }
+{
+    match way {
+        Way::Ahead => step_one_way::<false>(fields, zone, Way::Ahead, state),
+        Way::Back => step_one_way::<true>(fields, zone, Way::Back, state),
     }
 }

@@ -1,10 +1,8 @@
 -- The days that a search goes by.
-use Rattle.std.specs.Prelude.{◌≡◌, true, ℕ, ◌≤◌, ◌<◌, min, pos, Bool, ◌&&◌, nat_le, List}
+use Rattle.std.specs.Prelude.{◌≡◌, true, ℕ, ◌≤◌, ◌<◌, pos, Bool, ◌&&◌, nat_le, List}
 use Rattle.jiff_core.specs.Calendar.{days_in_month}
 use Rattle.cron_units.specs.Units.{contains}
-use Rattle.cron_units.specs.declared.way.Way.{Way}
 use Rattle.cron_units.specs.Sets.{Sets}
-use Rattle.cron_units.specs.declared.way.Way.TheVariants.{Ahead, Back}
 use Rattle.cron_time.specs.Inner.Places.{place, day_number, matches_place, first_month, months_end}
 use Rattle.cron_time.specs.declared.days.Day.{Day}
 
@@ -21,11 +19,6 @@ IsInRange d = (first_month ≤ d.month) × (d.month < months_end) × (1 ≤ d.da
 -- in range, and year, month and day of the month lie in their sets
 abbrev pub IsCandidate : Sets → Day → Type 0
 IsCandidate s d = IsInRange d × (matches_place s (day_place d) ≡ true)
-
--- where a search in a month of this length starts
-abbrev pub capped : Way → ℕ → ℕ → ℕ
-capped Ahead from last = from
-capped Back from last = min from last
 
 -- a number of the set that a month of this length has
 abbrev pub has_number : List ℕ → ℕ → ℕ → Bool

@@ -1,7 +1,8 @@
 //! The messages of refusals.
 
-ghost use Rattle.std.specs.Prelude.{◌≡◌};
-ghost use Rattle.cron_units.specs.Denotation.{message};
+ghost use Rattle.std.specs.Prelude.{◌≡◌, Some};
+ghost use Rattle.std.specs.Fmt.{DisplaysOnOk};
+ghost use Rattle.cron_units.specs.Denotation.{message, unknown_name};
 ghost use Rattle.cron_units.specs.Tables.{definition_view};
 ghost use Rattle.cron_units.specs.Texts.{Tells};
 ghost use Rattle.cron_units.specs.Views.{refusal_view};
@@ -19,6 +20,26 @@ pub struct RefusedItem<'a> {
     pub refusal: Refusal<'a>,
 }
 
+// Writes that a name is none of the unit's, or that the unit has none.
+fn write_unknown<W: fmt::Write>(
+    f: &mut fmt::Formatter<W>,
+    unit: Definition,
+    name: &str,
+) -> fmt::Result
+    ensures { DisplaysOnOk W.write_str_gives f.old result (Some (message (definition_view unit) (unknown_name name.now))) f.new }
+{
+    match unit.names {
+        None => {
+            let title = unit.title;
+            write!(
+                f,
+                "The '{title}' field does not support using names. '{name}' specified."
+            )
+        }
+        Some(Names { noun, .. }) => write!(f, "'{name}' is not a valid {noun}."),
+    }
+}
+
 impl<'a> fmt::Display for RefusedItem<'a> {
     ghost use Rattle.std.specs.Prelude.{Some};
     ghost use Rattle.cron_units.specs.Denotation.{message};
@@ -31,15 +52,7 @@ impl<'a> fmt::Display for RefusedItem<'a> {
         let unit = self.definition;
         let (title, least, greatest) = (unit.title, unit.least, unit.greatest);
         match self.refusal {
-            Refusal::UnknownName(name) => match unit.names {
-                None => {
-                    write!(
-                        f,
-                        "The '{title}' field does not support using names. '{name}' specified."
-                    )
-                }
-                Some(Names { noun, .. }) => write!(f, "'{name}' is not a valid {noun}."),
-            },
+            Refusal::UnknownName(name) => write_unknown(f, unit, name),
             Refusal::TooSmall(n) => {
                 write!(
                     f,

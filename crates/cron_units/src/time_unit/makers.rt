@@ -37,6 +37,7 @@ pub fn only<T: TimeUnitField>(ordinal: Ordinal) -> T
 }
 
 /// Adds every so many-th ordinal of a unit to a set of it, from the first to the last.
+#[inline(always)]
 pub(crate) fn add_steps<T: TimeUnitField>(set: &mut T, first: Ordinal, last: Ordinal, every: u32)
     requires low { T.unit.least ≤ first }
     requires high { last ≤ T.unit.greatest }

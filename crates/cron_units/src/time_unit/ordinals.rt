@@ -176,6 +176,7 @@ impl<U: UnitTable<W>, W: Words> TimeUnitField for Ordinals<U, W> {
         *self = Ordinals::laid(self.words.with(ordinal - U::least()));
     }
 
+    #[inline(always)]
     fn insert_range(&mut self, first: Ordinal, last: Ordinal) {
         if first <= last {
             let least = U::least();
@@ -186,6 +187,7 @@ impl<U: UnitTable<W>, W: Words> TimeUnitField for Ordinals<U, W> {
 
     fn mark(&mut self) {}
 
+    #[inline(never)]
     fn insert_steps(&mut self, first: Ordinal, last: Ordinal, every: u32) {
         if first <= last {
             let least = U::least();

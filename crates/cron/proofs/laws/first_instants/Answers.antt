@@ -1,4 +1,3 @@
-use Rattle.std.proofs.Common.{refl}
 use Rattle.cron.proofs.InstantLemmas.{least_first, later_next}
 use Rattle.cron.proofs.laws.first_instants.Goals as goal
 

@@ -1,4 +1,4 @@
-use Rattle.std.proofs.Common.{◌≡◌, Some, sym, ◌∙◌}
+use Rattle.std.proofs.Common.{sym, ◌∙◌}
 use Rattle.jiff.specs.Words.{plain_zone}
 use Rattle.cron_callers.proofs.RestartLemmas.{made_again, next_of, not_none}
 use Rattle.cron_callers.proofs.restarts.fire_after.Goals as goal

@@ -1,7 +1,6 @@
-use Rattle.std.proofs.Common.{◌≡◌, ℕ, Bool, false, List, Option, ◌∙◌, sym, ap, inr, refl}
+use Rattle.std.proofs.Common.{◌≡◌, ℕ, false, List, Option, ◌∙◌, ap, inr, refl}
 use Rattle.std.specs.Io.KnownBytes.{Appends}
-use Rattle.cron_time.specs.Readings.{Reading}
-use Rattle.cron_next.specs.Output.{Ends, answers_of, last_item, lines_of, is_write_failure}
+use Rattle.cron_next.specs.Output.{Ends, lines_of, is_write_failure}
 use Rattle.cron_next.specs.Pages.{item_or}
 use Rattle.cron_next.specs.declared.run.Outcome.{Outcome}
 use Rattle.cron_next.specs.declared.run.Outcome.TheVariants.{Listed, Refused, WriteFailed}
@@ -19,3 +18,8 @@ returns-in_default-finish g c =
     let (went, appended) = went_out lines _ _ c.finish.result c.in_default-finish.not-WriteFailed (c.finish.ensures.ends _ lines c.send_items.ensures.lines) in
     let last = c.item_or-listed.ensures ∙ ap (item_or c.args.last.now) (c.send_items.ensures.last (c.finish.ensures.whole went)) in
     record { writes = inr (c.in-Some.walk, c.in-Some.ensures, (last, appended)); mark = c.finish.ensures.mark ∙ went; untouched = λ listed. absurd (cc) }
+
+pub returns-in-WriteFailed-clause-writes : goal.returns-in-WriteFailed-clause-writes
+returns-in-WriteFailed-clause-writes g c =
+    let lines = lines_of c.args.back c.in-Some.walk c.args.size in
+    inr (c.in-Some.walk, c.in-Some.ensures, c.in-WriteFailed.ensures.ends _ lines c.send_items.ensures.lines)

@@ -4,7 +4,7 @@ use Rattle.cron_time.specs.Readings.{Reading}
 use Rattle.cron_next.specs.Output.{direction, answer_line, answers_of, first_there, last_item, lines_of}
 use Rattle.cron_next.specs.Watching.{IsGathered}
 use Rattle.cron_next.proofs.Lines.{lines_none, lines_step, lines_stop, last_done, last_more, last_stop}
-use Rattle.cron_next.proofs.Gathering.{gathered_part, nothing_gathered}
+use Rattle.cron_next.proofs.Gathering.{gathered_part}
 use Rattle.cron_next.proofs.run.gather_items.Goals as goal
 
 one_less : (count i : ℕ) → i < count → count - i ≡ count - (i + 1) + 1

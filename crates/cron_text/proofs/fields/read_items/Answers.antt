@@ -1,6 +1,5 @@
 use Rattle.std.proofs.Common.{◌≡◌, [], ◌∷◌, ◌++◌, Some, None, refl, sym, ap, ◌∙◌}
 use Rattle.std.specs.Option.{option_map}
-use Rattle.std.proofs.lemmas.Result.{err_from_is_err_and}
 use Rattle.cron_units.specs.Views.{item_view}
 use Rattle.cron_text.specs.Fields.{is_wildcard}
 use Rattle.cron_text.specs.Inner.FieldReading.{field_at, furthest, lone_item}
@@ -10,6 +9,7 @@ use Rattle.cron_text.specs.Tokens.{symbol_of}
 use Rattle.cron_text.specs.declared.fields.Growth.{Growth}
 use Rattle.cron_text.proofs.FieldSets.{unread_first, read_first, unrefused_push, empty_union, set_push, field_taken, unread_inside, unread_last}
 use Rattle.cron_text.proofs.Longest.{read_none}
+use Rattle.cron_text.proofs.Results.{on_err}
 use Rattle.cron_text.proofs.fields.read_items.Goals as goal
 
 pub returns-in_default-clause-refused : goal.returns-in_default-clause-refused
@@ -76,8 +76,7 @@ returns-in_err-add_to-in-Next-clause-refused g c =
     let more = c.in-Some-more_at.ensures.more done last seen in
     let on = more.on ∙ ap (λ (x : Growth). furthest u (after_growth done c.loop-growth.item more.token x)
     (tokens_from c.args.text.now c.in-Some-more_at.after)) c.in-Next.is in
-    let told = err_from_is_err_and c.from_residual.result c.from_residual.ensures.1 in
-    rw (told.1, told.2) (unread_inside u (tokens_from c.args.text.now c.args.place.now) (tokens_from c.args.text.now c.in-Some-more_at.after) done item
+    on_err c.from_residual.result (unread_inside u (tokens_from c.args.text.now c.args.place.now) (tokens_from c.args.text.now c.in-Some-more_at.after) done item
     (state_view (done ++ item ∷ []) c.in-Next.other more.token) _ (read ∙ ap Some on) refl none c.in_err-add_to-in-Next.ensures.err)
 
 pub returns-in_err-add_to-clause-refused : goal.returns-in_err-add_to-clause-refused
@@ -85,8 +84,7 @@ returns-in_err-add_to-clause-refused g c =
     let u = g.T.TimeUnitField.unit in
     let (done, last, read, none, joined, seen, here) = c.loop-growth.invariant in
     let state = state_view done c.loop-growth.item last in
-    let told = err_from_is_err_and c.from_residual-in_err-add_to.result c.from_residual-in_err-add_to.ensures.1 in
-    rw (told.1, told.2) (unread_last u (tokens_from c.args.text.now c.args.place.now) (tokens_from c.args.text.now c.loop-growth.next) state _ (read
+    on_err c.from_residual-in_err-add_to.result (unread_last u (tokens_from c.args.text.now c.args.place.now) (tokens_from c.args.text.now c.loop-growth.next) state _ (read
     ∙ ap Some (c.in_default-more_at.ensures.more done last seen)) none c.in_err-add_to.ensures.err)
 
 pub returns-clause-taken : goal.returns-clause-taken

@@ -8,11 +8,12 @@ use Rattle.cron_time.proofs.days.day_of_month.Goals as goal
 pub returns-then-takes_last_day-clause-nearest : goal.returns-then-takes_last_day-clause-nearest
 returns-then-takes_last_day-clause-nearest c =
     let sets = c.args.inquiry.now.sets in
-    let last = c.last_of_month-last.result in
+    let last = c.length_of.result in
     let has = has_number sets.days_of_month.ordinals last in
     let same = c.numbered_day-numbered.ensures.same.sets in
     let marked : sets.days_of_month.last_day ≡ true = sym (c.takes_last_day.ensures ∙ ap (λ (s : Sets). s.days_of_month.last_day) same)
     ∙ c.if-takes_last_day.true in
     same_nearest c.args.way (λ day. has day || day == last) (matches_day sets c.args.month) (pos c.args.from) c.with_last_day.result
-    (λ day. marked_day sets c.args.month last day c.last_of_month-last.ensures.value marked)
-    (c.with_last_day.ensures.nearest has (none_past sets.days_of_month.ordinals last) c.numbered_day-numbered.ensures.nearest)
+    (λ day. marked_day sets c.args.month last day c.length_of.ensures.value marked)
+    (c.with_last_day.ensures.nearest has (none_past sets.days_of_month.ordinals last)
+    (rw c.length_of.ensures.value c.numbered_day-numbered.ensures.nearest))

@@ -1,6 +1,5 @@
-use Rattle.std.proofs.Common.{◌≡◌, ℕ, ◌/◌, ◌%◌, ◌&&◌, Bool, refl, arith}
+use Rattle.std.proofs.Common.{◌≡◌, ◌/◌, arith}
 use Rattle.cron_units.specs.Sets.{AreSets}
-use Rattle.cron_time.specs.Inner.Blocks.{IsSplit}
 use Rattle.cron_time.specs.Inner.Inquired.{outermost}
 use Rattle.cron_time.proofs.CarryLemmas.{Carried, both, both_parts, carry_none, carry_first, carry_past}
 use Rattle.cron_time.proofs.AskedLemmas.{one_asked, asked_first, asked_past, outermost_finds, outermost_parts, start_outermost}

@@ -1,8 +1,4 @@
-use Rattle.std.proofs.Common.{ℕ, inl, inr, ap, ◌∙◌, ◌≡◌}
-use Rattle.cron_units.specs.Sets.{AreSets}
-use Rattle.cron_time.specs.Inner.Inquired.{outermost}
-use Rattle.cron_time.proofs.CarryLemmas.{both, both_parts, past_none, past_empty, past_next}
-use Rattle.cron_time.proofs.AskedLemmas.{one_asked, asks_on, outermost_finds}
+use Rattle.cron_time.proofs.CarryLemmas.{both, both_parts, past_none, past_next}
 use Rattle.cron_time.proofs.neighbours.nearest_past_block.Goals as goal
 
 pub returns-in_err-past-clause-nearest : goal.returns-in_err-past-clause-nearest

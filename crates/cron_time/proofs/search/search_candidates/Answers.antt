@@ -11,7 +11,7 @@ use Rattle.cron_time.proofs.SearchLemmas.{next_number, found_passes, days_start,
 use Rattle.cron_time.proofs.search.search_candidates.Goals as goal
 
 pub loop-next-init : goal.loop-next-init
-loop-next-init c =
+loop-next-init g c =
     let s = c.args.inquiry.now.sets in
     let z = c.args.inquiry.now.zone in
     record {
@@ -23,7 +23,7 @@ loop-next-init c =
     }
 
 pub search_day-found-requires : goal.search_day-found-requires
-search_day-found-requires c =
+search_day-found-requires g c =
     let s = c.args.inquiry.now.sets in
     let z = c.args.inquiry.now.zone in
     let kept = c.loop-next.invariant in
@@ -41,12 +41,12 @@ search_day-found-requires c =
     }
 
 pub day_past-next-requires-clause-matching : goal.day_past-next-requires-clause-matching
-day_past-next-requires-clause-matching c =
+day_past-next-requires-clause-matching g c =
     let range = rw c.in-Some.is at c.loop-next.invariant.range in
     rw (c.search_day-found.ensures.same.sets ∙ c.loop-next.invariant.same.sets) (month_passes c.args.inquiry.now.sets c.in-Some.day range.0 range.1)
 
 pub returns-then-is_some-clause-found : goal.returns-then-is_some-clause-found
-returns-then-is_some-clause-found c =
+returns-then-is_some-clause-found g c =
     let s = c.args.inquiry.now.sets in
     let z = c.args.inquiry.now.zone in
     let kept = c.loop-next.invariant in
@@ -57,7 +57,7 @@ returns-then-is_some-clause-found c =
     day_found c.args.way s z c.args.start (number_of c.in-Some.day) _ reached (sym c.if-is_some.ensures) found
 
 pub returns-then-is_some-clause-days : goal.returns-then-is_some-clause-days
-returns-then-is_some-clause-days c =
+returns-then-is_some-clause-days g c =
     let s = c.args.inquiry.now.sets in
     let z = c.args.inquiry.now.zone in
     let kept = c.loop-next.invariant in
@@ -70,7 +70,7 @@ returns-then-is_some-clause-days c =
     (days_found c.args.way s z c.args.start (number_of c.in-Some.day) _ _ reached (sym c.if-is_some.ensures) found early.tally)
 
 pub returns-then-is_some-clause-conversions : goal.returns-then-is_some-clause-conversions
-returns-then-is_some-clause-conversions c =
+returns-then-is_some-clause-conversions g c =
     let s = c.args.inquiry.now.sets in
     let z = c.args.inquiry.now.zone in
     let kept = c.loop-next.invariant in
@@ -84,7 +84,7 @@ returns-then-is_some-clause-conversions c =
     early.tally here.tally)
 
 pub loop-next-preserved : goal.loop-next-preserved
-loop-next-preserved c =
+loop-next-preserved g c =
     let s = c.args.inquiry.now.sets in
     let z = c.args.inquiry.now.zone in
     let kept = c.loop-next.invariant in
@@ -114,7 +114,7 @@ loop-next-preserved c =
     }
 
 pub loop-next-smaller : goal.loop-next-smaller
-loop-next-smaller c =
+loop-next-smaller g c =
     let s = c.args.inquiry.now.sets in
     let z = c.args.inquiry.now.zone in
     let kept = c.loop-next.invariant in

@@ -9,7 +9,7 @@ use Rattle.cron_time.specs.Inner.Tally.{Adds, IsPassedBefore}
 use Rattle.cron_time.proofs.search.search_candidates.Given as goal
 
 abbrev pub invariant-loop-next : goal.invariant-loop-next
-invariant-loop-next l = record {
+invariant-loop-next g l = record {
   same : IsSame l.fn.inquiry l.inquiry;
   reached : ReachesIfAny l.way 86_400 (candidate_day l.fn.inquiry.sets) (stands l.fn.inquiry.sets l.fn.inquiry.zone) (pos l.start)
       (pos (l.start / 86_400)) (option_map number_of l.next);
@@ -21,4 +21,4 @@ invariant-loop-next l = record {
 }
 
 abbrev pub decreases-loop-next : goal.decreases-loop-next
-decreases-loop-next l = left_to_reach l.way 47_847 (option_map number_of l.next)
+decreases-loop-next g l = left_to_reach l.way 47_847 (option_map number_of l.next)

@@ -3,10 +3,15 @@ use Rattle.std.specs.String.{string_bytes}
 use Rattle.cron_text.specs.Meaning.{Means, MeansNothing}
 use Rattle.cron.proofs.schedule.expression.Schedule.try_from_string.Goals as goal
 
-pub returns-in-Ok-clause-means : goal.returns-in-Ok-clause-means
-returns-in-Ok-clause-means c =
-    subst (Means (string_bytes c.args.text)) (sym c.new.ensures.sets)
-    (subst (λ (t : List ℕ). Means t c.in-Ok.fields) c.as_str.ensures.value c.in-Ok.ensures.sets)
+pub refusal-requires : goal.refusal-requires
+refusal-requires c =
+    let nothing = subst MeansNothing c.as_str.ensures.value (c.read_into.ensures.nothing c.if-not-read_into.true) in
+    subst MeansNothing (sym c.as_str-then-not-read_into.ensures.value) nothing
 
-pub returns-in-Err-clause-accepted : goal.returns-in-Err-clause-accepted
-returns-in-Err-clause-accepted c = subst MeansNothing c.as_str.ensures.value c.in-Err.ensures.refused.nothing
+pub returns-then-not-read_into-clause-accepted : goal.returns-then-not-read_into-clause-accepted
+returns-then-not-read_into-clause-accepted c = subst MeansNothing c.as_str.ensures.value (c.read_into.ensures.nothing c.if-not-read_into.true)
+
+pub returns-clause-means : goal.returns-clause-means
+returns-clause-means c =
+    subst (Means (string_bytes c.args.text)) (sym c.new.ensures.sets)
+    (subst (λ (t : List ℕ). Means t c.read_into.new.fields) c.as_str.ensures.value (c.read_into.ensures.sets c.if-not-read_into.false))

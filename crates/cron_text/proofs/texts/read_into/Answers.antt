@@ -1,0 +1,14 @@
+use Rattle.std.proofs.Common.{◌≡◌, None, List, ℕ, sym, ap, ◌∙◌}
+use Rattle.cron_text.specs.Meaning.{shorthand_of, trimmed_front, trimmed_end}
+use Rattle.cron_text.specs.Inner.Places.{tokens_from}
+use Rattle.cron_text.proofs.TextRefusals.{nothing_meant}
+use Rattle.cron_text.proofs.texts.read_into.Goals as goal
+
+pub returns-in-None-clause-nothing : goal.returns-in-None-clause-nothing
+returns-in-None-clause-nothing c = λ no.
+    let text = c.args.text.now in
+    let skipped = rw c.as_bytes-bytes.ensures.value at c.skip_space-start.ensures in
+    let named = rw c.as_bytes-bytes.ensures.value at c.shorthand_at.ensures in
+    let none : shorthand_of (trimmed_end (trimmed_front text)) ≡ None = ap (λ (bs : List ℕ). shorthand_of (trimmed_end bs)) (sym skipped.trims)
+    ∙ (sym named ∙ c.in-None.is) in
+    nothing_meant text (tokens_from text c.skip_space-start.result) skipped.same none (c.longhand.ensures.nothing no)
