@@ -2,21 +2,17 @@
 //! those before.
 #![tactic(auto)]
 
-mod answer;
-mod gathered;
-pub mod page;
-pub mod run;
 #[cfg(test)]
 mod tests;
-pub mod watched;
-mod words;
 
-use answer::{Status, answer, usage};
-use run::refuse;
+use cron_listing::answer::{Status, answer, usage};
+use cron_listing::run::refuse;
+pub use cron_listing::{page, run};
+pub use cron_writer::watched;
+use cron_writer::watched::Watched;
 use std::env;
 use std::io::{self, ErrorKind};
 use std::process::ExitCode;
-use watched::Watched;
 
 // The words, with the program's name before them.
 fn words_of(rt: &HostRuntime) -> io::Result<Vec<String>> {

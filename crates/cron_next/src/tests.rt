@@ -7,7 +7,6 @@ mod memory;
 mod owned;
 mod pages;
 mod wanting;
-mod watching;
 mod words_read;
 mod writers;
 

@@ -50,7 +50,7 @@ fn with_digit(value: u64, digit: u8) -> u64
     value * 10 + u64::from(digit - b'0')
 }
 
-/// The number that digits spell, if it fits.
+/// The number with this value, if it fits.
 #[inline(always)]
 fn number(value: u64) -> Symbol<'static>
     ensures { (n : ℕ) → IsCapped n value → symbol_view result ≡ number_symbol n }

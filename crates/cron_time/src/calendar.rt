@@ -118,7 +118,7 @@ impl Model for KnownMonth {
 }
 
 impl KnownMonth {
-    ghost use Rattle.std.specs.Prelude.{◌≡◌, ◌<◌, ◌≤◌, true};
+    ghost use Rattle.std.specs.Prelude.{◌≡◌, ◌<◌, ◌≤◌, true, false};
     ghost use Rattle.cron_time.specs.Civil.{days_in_range};
     ghost use Rattle.cron_time.specs.CivilDates.{date_numbered};
     ghost use Rattle.cron_time.specs.Inner.Places.{day_number, first_month, length_of, months_end, place, place_date};
@@ -165,7 +165,8 @@ impl KnownMonth {
     // Each month has the shortest one's days: its own length is seldom asked for.
     #[inline(always)]
     fn is_longer_than(self, days: u32) -> bool
-        ensures { result ≡ true → days < length_of self }
+        ensures longer { result ≡ true → days < length_of self }
+        ensures covered { result ≡ false → length_of self ≤ days }
     {
         days < SHORTEST || days < length_of(self.month)
     }

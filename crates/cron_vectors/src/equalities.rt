@@ -1,10 +1,8 @@
 //! Sources, clones and equalities of schedules, and what a schedule includes.
 
-use crate::support::{check_same, cut};
+use crate::support::{check_same, check_text, cut};
 use cron::Schedule;
-use cron::error::Error;
 use jiff::civil::DateTime;
-use std::alloc::Global;
 use std::process::Abort;
 use std::test::Fail;
 
@@ -14,22 +12,26 @@ const PAIRS: &str = "\
 0 0 0 * * 1-7 * | 0 0 0 * * * * | false true true true
 @daily | @weekly | false false false true";
 
-fn equal_parts(alloc: Global, one: &Schedule, other: &Schedule) -> Result<String, Error> {
-    let source = one == other;
-    let sets = one.timeunitspec_eq(other);
+fn check_equal_parts(
+    rt: &(impl Abort + AllocGlobal),
+    one: &Schedule,
+    rest: &str,
+    row: &str,
+) -> Result<(), Fail> {
+    let (other, wanted) = cut(rest)?;
+    let other = Schedule::from_str(rt.alloc(), other)?;
+    let source = *one == other;
+    let sets = one.timeunitspec_eq(&other);
     let days = one.days_of_week() == other.days_of_week();
     let years = one.years() == other.years();
-    Ok(format!(in alloc; "{source} {sets} {days} {years}")?)
+    let told = format_args!("{source} {sets} {days} {years}");
+    check_text(rt, &told, wanted, row)
 }
 
 fn check_pair(rt: &(impl Abort + AllocGlobal), row: &str) -> Result<(), Fail> {
     let (one, rest) = cut(row)?;
-    let (other, wanted) = cut(rest)?;
     let one = Schedule::from_str(rt.alloc(), one)?;
-    let other = Schedule::from_str(rt.alloc(), other)?;
-    let told = equal_parts(rt.alloc(), &one, &other)?;
-    check_same(rt, told.as_str(), wanted, row);
-    Ok(())
+    check_equal_parts(rt, &one, rest, row)
 }
 
 #[test]
@@ -43,24 +45,32 @@ fn equalities(rt: HostRuntime) -> Result<(), Fail> {
 
 const SOURCES: [&str; 3] = ["@monthly", "* 1,2,3 * * * *", " @hourly "];
 
-// Whether a schedule prints its source, and gives it up.
-fn keeps_source(alloc: Global, schedule: Schedule, text: &str) -> Result<bool, Error> {
-    let shown = schedule.to_string(alloc)?;
-    Ok(shown.as_str() == text && String::from(schedule).as_str() == text)
+// A schedule gives up its source.
+fn check_given_up(rt: &impl Abort, schedule: Schedule, text: &str, row: &str) {
+    let source = String::from(schedule);
+    check_same(rt, source.as_str(), text, row);
+}
+
+fn check_clone(
+    rt: &(impl Abort + AllocGlobal),
+    schedule: &Schedule,
+    text: &str,
+) -> Result<(), Fail> {
+    let copy = schedule.clone()?;
+    assert!(rt;
+        copy == *schedule && copy.timeunitspec_eq(schedule),
+        "{text}"
+    );
+    check_text(rt, &copy, text, "of a clone")?;
+    check_given_up(rt, copy, text, "of a clone");
+    Ok(())
 }
 
 fn check_source(rt: &(impl Abort + AllocGlobal), text: &str) -> Result<(), Fail> {
     let schedule = Schedule::from_str(rt.alloc(), text)?;
-    let copy = schedule.clone()?;
-    assert!(rt;
-        copy == schedule && copy.timeunitspec_eq(&schedule),
-        "{text}"
-    );
-    assert!(rt; keeps_source(rt.alloc(), schedule, text)?, "{text}");
-    assert!(rt;
-        keeps_source(rt.alloc(), copy, text)?,
-        "the clone of {text}"
-    );
+    check_clone(rt, &schedule, text)?;
+    check_text(rt, &schedule, text, text)?;
+    check_given_up(rt, schedule, text, text);
     Ok(())
 }
 

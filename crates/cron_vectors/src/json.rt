@@ -1,10 +1,8 @@
 //! Schedules as JSON strings.
 
-use crate::support::{check_same, cut};
+use crate::support::{check_text, cut};
 use cron::Schedule;
-use cron::error::Error;
 use serde_json::Value;
-use std::alloc::{AllocError, Global};
 use std::process::Abort;
 use std::test::Fail;
 
@@ -21,19 +19,35 @@ const KEPT: &str = "\
 @hourly | \"@hourly\"
  @hourly  | \" @hourly \"";
 
-// Whether a schedule becomes this JSON, which is read as an equal schedule.
-fn is_kept(alloc: Global, schedule: &Schedule, json: &str) -> Result<bool, Error> {
-    let value = schedule.to_value(alloc)?;
-    let read = Schedule::from_value(alloc, &value)?;
+// A value is read as an equal schedule.
+fn check_read(
+    rt: &(impl Abort + AllocGlobal),
+    value: &Value,
+    schedule: &Schedule,
+    row: &str,
+) -> Result<(), Fail> {
+    let read = Schedule::from_value(rt.alloc(), value)?;
     let is_equal = read == *schedule && read.timeunitspec_eq(schedule);
-    Ok(is_equal && value.to_string(alloc)?.as_str() == json)
+    assert!(rt; is_equal, "row {row}");
+    Ok(())
+}
+
+// A schedule becomes this JSON, which is read as an equal schedule.
+fn check_json(
+    rt: &(impl Abort + AllocGlobal),
+    schedule: &Schedule,
+    json: &str,
+    row: &str,
+) -> Result<(), Fail> {
+    let value = schedule.to_value(rt.alloc())?;
+    check_text(rt, &value, json, row)?;
+    check_read(rt, &value, schedule, row)
 }
 
 fn check_kept(rt: &(impl Abort + AllocGlobal), row: &str) -> Result<(), Fail> {
     let (text, json) = cut(row)?;
     let schedule = Schedule::from_str(rt.alloc(), text)?;
-    assert!(rt; is_kept(rt.alloc(), &schedule, json)?, "row {row}");
-    Ok(())
+    check_json(rt, &schedule, json, row)
 }
 
 #[test]
@@ -46,19 +60,22 @@ fn a_schedule_is_its_source(rt: HostRuntime) -> Result<(), Fail> {
 }
 
 // The message of a refusal, or the source that is read.
-fn told(alloc: Global, read: &Result<Schedule, Error>) -> Result<String, AllocError> {
-    match read {
-        Ok(schedule) => schedule.to_string(alloc),
-        Err(error) => error.to_string(alloc),
+fn check_told(
+    rt: &(impl Abort + AllocGlobal),
+    value: &Value,
+    wanted: &str,
+    row: &str,
+) -> Result<(), Fail> {
+    match Schedule::from_value(rt.alloc(), value) {
+        Ok(schedule) => check_text(rt, &schedule, wanted, row),
+        Err(error) => check_text(rt, &error, wanted, row),
     }
 }
 
 fn check_refused(rt: &(impl Abort + AllocGlobal), row: &str) -> Result<(), Fail> {
     let (json, wanted) = cut(row)?;
     let value = Value::from_str(rt.alloc(), json)?;
-    let told = told(rt.alloc(), &Schedule::from_value(rt.alloc(), &value))?;
-    check_same(rt, told.as_str(), wanted, row);
-    Ok(())
+    check_told(rt, &value, wanted, row)
 }
 
 #[test]

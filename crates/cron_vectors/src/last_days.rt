@@ -1,13 +1,15 @@
 //! The last day of a month, and the shorthands `@annually` and `@midnight`.
 
-use crate::month_lengths::PAST_THE_28TH;
+use crate::month_lengths::last_days;
 use crate::slow_twin::check_day;
-use crate::support::{check_same, chicago, cut};
+use crate::support::{check_same, check_text, chicago, cut};
 use cron::queries::Survey;
 use cron::schedule::{Moment, Turn};
-use cron::{Schedule, TimeUnitSpec};
+use cron::time_unit::DaysOfMonth;
+use cron::{Schedule, ScheduleIterator, TimeUnitSpec};
 use jiff::Timestamp;
-use jiff::tz::TimeZone;
+use jiff::civil::Time;
+use jiff::tz::{Offset, TimeZone};
 use std::alloc::{AllocError, Global};
 use std::fmt::Write;
 use std::process::Abort;
@@ -26,44 +28,74 @@ const WALKS: &str = "\
 @annually | 2024-01-15T00:00:00Z | next | 2025-01-01 2026-01-01
 @midnight | 2024-01-15T00:00:00Z | next | 2024-01-16 2024-01-17";
 
-// The dates of the answers, each at midnight in UTC.
-fn dates(alloc: Global, answers: &[Option<Moment>]) -> Result<String, Fail> {
-    let mut text = String::new(alloc);
-    for answer in answers {
-        if !text.is_empty() {
-            text.push(' ')?;
-        }
-        match answer {
-            Some(moment) => {
-                let shown = moment.to_string(alloc)?;
-                let date = shown.as_str().strip_suffix(" 00:00:00 +00:00");
-                text.push_str(date.ok_or("an answer isn't at midnight")?)?;
-            }
-            None => text.push_str("None")?,
-        }
+// A moment at midnight in UTC, by its date.
+fn check_midnight(
+    rt: &(impl Abort + AllocGlobal),
+    moment: Moment,
+    wanted: &str,
+    row: &str,
+) -> Result<(), Fail> {
+    assert_eq!(rt; moment.datetime().time(), Time::midnight(), "row {row}");
+    assert_eq!(rt; moment.offset(), Offset::UTC, "row {row}");
+    check_text(rt, &moment.datetime().date(), wanted, row)
+}
+
+fn check_date(
+    rt: &(impl Abort + AllocGlobal),
+    answer: Option<Moment>,
+    wanted: &str,
+    row: &str,
+) -> Result<(), Fail> {
+    if let Some(moment) = answer {
+        return check_midnight(rt, moment, wanted, row);
     }
-    Ok(text)
+    check_same(rt, "None", wanted, row);
+    Ok(())
+}
+
+fn check_dates(
+    rt: &(impl Abort + AllocGlobal),
+    answers: &[Option<Moment>],
+    wanted: &str,
+    row: &str,
+) -> Result<(), Fail> {
+    for (answer, date) in answers.iter().zip(wanted.split(' ')) {
+        check_date(rt, *answer, date, row)?;
+    }
+    Ok(())
+}
+
+// Makes a call for each answer that is wanted, at most four.
+fn check_answers(
+    rt: &(impl Abort + AllocGlobal),
+    walk: &mut ScheduleIterator<'_>,
+    turn: Turn,
+    wanted: &str,
+    row: &str,
+) -> Result<(), Fail> {
+    let turns = [turn; 4];
+    let turns = turns.get(..wanted.split(' ').count());
+    let turns = turns.ok_or("a row has more than four answers")?;
+    let answers = walk.play(rt.alloc(), turns)?;
+    assert_eq!(rt; answers.len(), turns.len(), "row {row}");
+    check_dates(rt, answers.as_slice(), wanted, row)
+}
+
+fn turn_of(way: &str) -> Turn {
+    match way {
+        "next" => Turn::Next,
+        _ => Turn::NextBack,
+    }
 }
 
 fn check_walk(rt: &(impl Abort + AllocGlobal), row: &str) -> Result<(), Fail> {
     let (text, rest) = cut(row)?;
     let (start, rest) = cut(rest)?;
     let (way, wanted) = cut(rest)?;
-    let turn = if way == "next" {
-        Turn::Next
-    } else {
-        Turn::NextBack
-    };
-    let mut turns = Vec::new(rt.alloc());
-    for _ in wanted.split(' ') {
-        turns.push(turn)?;
-    }
+    let start = start.parse::<Timestamp>()?;
     let schedule = Schedule::from_str(rt.alloc(), text)?;
-    let mut walk = schedule.after(start.parse::<Timestamp>()?, &TimeZone::UTC);
-    let answers = walk.play(rt.alloc(), turns.as_slice())?;
-    let told = dates(rt.alloc(), answers.as_slice())?;
-    check_same(rt, told.as_str(), wanted, row);
-    Ok(())
+    let mut walk = schedule.after(start, &TimeZone::UTC);
+    check_answers(rt, &mut walk, turn_of(way), wanted, row)
 }
 
 #[test]
@@ -90,30 +122,36 @@ const REFUSED: &str = "\
 0 0 0 L,32 * ? | Days of Month must be less than 31. ('32' specified.)
 * * * * * * L | Invalid cron expression.";
 
+fn check_refused(rt: &(impl Abort + AllocGlobal), row: &str) -> Result<(), Fail> {
+    let (text, wanted) = cut(row)?;
+    match Schedule::from_str(rt.alloc(), text) {
+        Ok(schedule) => check_text(rt, &schedule, wanted, row),
+        Err(error) => check_text(rt, &error, wanted, row),
+    }
+}
+
 #[test]
 fn no_other_use_of_the_word(rt: HostRuntime) -> Result<(), Fail> {
     assert_eq!(rt; REFUSED.lines().count(), 12);
     for row in REFUSED.lines() {
-        let (text, wanted) = cut(row)?;
-        let told = match Schedule::from_str(rt.alloc(), text) {
-            Ok(schedule) => schedule.to_string(rt.alloc())?,
-            Err(error) => error.to_string(rt.alloc())?,
-        };
-        check_same(&rt, told.as_str(), wanted, row);
+        check_refused(&rt, row)?;
     }
     Ok(())
 }
 
-// What the days of a text are: whether the last one is marked, how many are numbered, whether they are
-// all, and the numbers.
-fn days_shown(alloc: Global, text: &str) -> Result<String, Fail> {
-    let schedule = Schedule::from_str(alloc, text)?;
-    let days = schedule.days_of_month();
+fn push_days(text: &mut String, days: &DaysOfMonth) -> Result<(), AllocError> {
+    for day in days.iter() {
+        write!(text, " {day}")?;
+    }
+    Ok(())
+}
+
+// What days are: whether the last one is marked, how many are numbered, whether they are all, and the
+// numbers.
+fn days_shown(alloc: Global, days: &DaysOfMonth) -> Result<String, AllocError> {
     let (last, count, all) = (days.last_day(), days.count(), days.is_all());
     let mut shown = format!(in alloc; "{last} {count} {all}")?;
-    for day in days.iter() {
-        write!(shown, " {day}")?;
-    }
+    push_days(&mut shown, days)?;
     Ok(shown)
 }
 
@@ -126,30 +164,66 @@ const DAYS: &str = "\
 @monthly | false 1 false 1
 @annually | false 1 false 1";
 
+fn check_shown_days(
+    rt: &(impl Abort + AllocGlobal),
+    days: &DaysOfMonth,
+    wanted: &str,
+    row: &str,
+) -> Result<(), Fail> {
+    let told = days_shown(rt.alloc(), days)?;
+    check_same(rt, told.as_str(), wanted, row);
+    Ok(())
+}
+
+fn check_days_of(rt: &(impl Abort + AllocGlobal), row: &str) -> Result<(), Fail> {
+    let (text, wanted) = cut(row)?;
+    let schedule = Schedule::from_str(rt.alloc(), text)?;
+    check_shown_days(rt, schedule.days_of_month(), wanted, row)
+}
+
+// All days are numbered, and the last one isn't marked.
+fn check_all_days_of(rt: &(impl Abort + AllocGlobal), text: &str) -> Result<(), Fail> {
+    let schedule = Schedule::from_str(rt.alloc(), text)?;
+    assert!(rt; !schedule.days_of_month().last_day(), "{text}");
+    assert!(rt; schedule.days_of_month().is_all(), "{text}");
+    Ok(())
+}
+
 #[test]
 fn views_are_of_numbered_days(rt: HostRuntime) -> Result<(), Fail> {
     assert_eq!(rt; DAYS.lines().count(), 7);
     for row in DAYS.lines() {
-        let (text, wanted) = cut(row)?;
-        check_same(&rt, days_shown(rt.alloc(), text)?.as_str(), wanted, row);
+        check_days_of(&rt, row)?;
     }
-    for text in ["* * * * * *", "@midnight", "0 0 0 ? * Mon"] {
-        let schedule = Schedule::from_str(rt.alloc(), text)?;
-        assert!(rt; !schedule.days_of_month().last_day(), "{text}");
-        assert!(rt; schedule.days_of_month().is_all(), "{text}");
-    }
+    check_all_days_of(&rt, "* * * * * *")?;
+    check_all_days_of(&rt, "@midnight")?;
+    check_all_days_of(&rt, "0 0 0 ? * Mon")
+}
+
+fn check_included(
+    rt: &impl Abort,
+    schedule: &Schedule,
+    shown: &str,
+    wanted: bool,
+) -> Result<(), Fail> {
+    let datetime = shown.parse()?;
+    assert!(rt; schedule.includes(datetime) == wanted, "{shown}");
     Ok(())
+}
+
+// The midnight of the last day of January.
+fn check_january(rt: &impl Abort, schedule: &Schedule) -> Result<(), Fail> {
+    assert!(rt; schedule.hours().includes(0) && schedule.hours().count() == 1);
+    assert!(rt; schedule.months().includes(1) && schedule.months().count() == 1);
+    assert!(rt; schedule.days_of_week().is_all());
+    check_included(rt, schedule, "2024-01-31T00:00:00", true)?;
+    check_included(rt, schedule, "2024-01-30T00:00:00", false)
 }
 
 #[test]
 fn a_text_without_spaces_around_the_word(rt: HostRuntime) -> Result<(), Fail> {
     let schedule = Schedule::from_str(rt.alloc(), "0 0 0L1?")?;
-    assert!(rt; schedule.hours().includes(0) && schedule.hours().count() == 1);
-    assert!(rt; schedule.months().includes(1) && schedule.months().count() == 1);
-    assert!(rt; schedule.days_of_week().is_all());
-    assert!(rt; schedule.includes("2024-01-31T00:00:00".parse()?));
-    assert!(rt; !schedule.includes("2024-01-30T00:00:00".parse()?));
-    Ok(())
+    check_january(&rt, &schedule)
 }
 
 // Pairs of texts, and whether their sets are equal and whether their days are.
@@ -161,91 +235,114 @@ const PAIRS: &str = "\
 @midnight | @daily | true true
 @midnight | @hourly | false true";
 
+// Compares the sets of two schedules, and their days.
+fn check_marks(
+    rt: &(impl Abort + AllocGlobal),
+    one: &Schedule,
+    rest: &str,
+    row: &str,
+) -> Result<(), Fail> {
+    let (other, wanted) = cut(rest)?;
+    let other = Schedule::from_str(rt.alloc(), other)?;
+    let sets = one.timeunitspec_eq(&other);
+    let days = one.days_of_month() == other.days_of_month();
+    check_text(rt, &format_args!("{sets} {days}"), wanted, row)
+}
+
+fn check_pair(rt: &(impl Abort + AllocGlobal), row: &str) -> Result<(), Fail> {
+    let (one, rest) = cut(row)?;
+    let one = Schedule::from_str(rt.alloc(), one)?;
+    check_marks(rt, &one, rest, row)
+}
+
 #[test]
 fn equal_days_have_equal_marks(rt: HostRuntime) -> Result<(), Fail> {
     assert_eq!(rt; PAIRS.lines().count(), 6);
     for row in PAIRS.lines() {
-        let (one, rest) = cut(row)?;
-        let (other, wanted) = cut(rest)?;
-        let one = Schedule::from_str(rt.alloc(), one)?;
-        let other = Schedule::from_str(rt.alloc(), other)?;
-        let sets = one.timeunitspec_eq(&other);
-        let days = one.days_of_month() == other.days_of_month();
-        let told = format!(in rt.alloc(); "{sets} {days}")?;
-        check_same(&rt, told.as_str(), wanted, row);
+        check_pair(&rt, row)?;
     }
     Ok(())
+}
+
+fn check_alike_ahead(
+    rt: &impl Abort,
+    walk: &mut ScheduleIterator<'_>,
+    marked: &mut ScheduleIterator<'_>,
+) {
+    for _ in 0..400 {
+        assert!(rt; walk.next() == marked.next());
+    }
+}
+
+fn check_alike_back(
+    rt: &impl Abort,
+    walk: &mut ScheduleIterator<'_>,
+    marked: &mut ScheduleIterator<'_>,
+) {
+    for _ in 0..800 {
+        assert!(rt; walk.next_back() == marked.next_back());
+    }
 }
 
 // The walks over every day go alike, with the last one marked besides or not.
 #[test]
 fn a_mark_besides_all_days_changes_no_walk(rt: HostRuntime) -> Result<(), Fail> {
+    let start = "2023-12-30T12:00:00Z".parse::<Timestamp>()?;
     let one = Schedule::from_str(rt.alloc(), "0 0 0 * * ?")?;
     let other = Schedule::from_str(rt.alloc(), "0 0 0 *,L * ?")?;
-    let start = "2023-12-30T12:00:00Z".parse::<Timestamp>()?;
-    let (mut walk, mut marked) = (
-        one.after(start, &TimeZone::UTC),
-        other.after(start, &TimeZone::UTC),
-    );
-    for _ in 0..400 {
-        assert!(rt; walk.next() == marked.next());
-    }
-    for _ in 0..800 {
-        assert!(rt; walk.next_back() == marked.next_back());
-    }
+    let mut walk = one.after(start, &TimeZone::UTC);
+    let mut marked = other.after(start, &TimeZone::UTC);
+    check_alike_ahead(&rt, &mut walk, &mut marked);
+    check_alike_back(&rt, &mut walk, &mut marked);
     Ok(())
 }
 
-// Every last day of the range, in their order.
-fn last_days(alloc: Global) -> Result<Vec<String>, AllocError> {
-    let mut days = Vec::new(alloc);
-    for line in PAST_THE_28TH.lines() {
-        let Some((year, months)) = line.split_once(' ') else {
-            continue;
-        };
-        let mut month = 0_u32;
-        for past in months.chars() {
-            month = month.saturating_add(1);
-            let filler = if month < 10 { "0" } else { "" };
-            let day = match past {
-                '0' => "28",
-                '1' => "29",
-                '2' => "30",
-                _ => "31",
-            };
-            days.push(format!(in alloc; "{year}-{filler}{month}-{day} 00:00:00 +00:00")?)?;
-        }
-    }
-    Ok(days)
-}
-
-fn check_shown(
+fn check_answer(
     rt: &(impl Abort + AllocGlobal),
     answer: Option<Moment>,
     wanted: &str,
 ) -> Result<(), Fail> {
     let moment = answer.ok_or("the walk ends early")?;
-    let shown = moment.to_string(rt.alloc())?;
-    check_same(rt, shown.as_str(), wanted, wanted);
+    check_text(rt, &moment, wanted, wanted)
+}
+
+fn check_last_days_ahead(
+    rt: &(impl Abort + AllocGlobal),
+    walk: &mut ScheduleIterator<'_>,
+    days: &[String],
+) -> Result<(), Fail> {
+    for day in days {
+        check_answer(rt, walk.next(), day.as_str())?;
+    }
+    assert!(rt; walk.next().is_none());
     Ok(())
+}
+
+fn check_last_days_back(
+    rt: &(impl Abort + AllocGlobal),
+    walk: &mut ScheduleIterator<'_>,
+    days: &[String],
+) -> Result<(), Fail> {
+    for day in days.iter().rev() {
+        check_answer(rt, walk.next_back(), day.as_str())?;
+    }
+    assert!(rt; walk.next_back().is_none());
+    Ok(())
+}
+
+fn check_last_days(rt: &(impl Abort + AllocGlobal), days: &[String]) -> Result<(), Fail> {
+    let first = "1969-12-31T00:00:00Z".parse::<Timestamp>()?;
+    let past = "2101-01-01T00:00:00Z".parse::<Timestamp>()?;
+    let schedule = Schedule::from_str(rt.alloc(), "0 0 0 L * ?")?;
+    check_last_days_ahead(rt, &mut schedule.after(first, &TimeZone::UTC), days)?;
+    check_last_days_back(rt, &mut schedule.after(past, &TimeZone::UTC), days)
 }
 
 #[test]
 fn the_last_day_of_each_month(rt: HostRuntime) -> Result<(), Fail> {
-    let schedule = Schedule::from_str(rt.alloc(), "0 0 0 L * ?")?;
     let days = last_days(rt.alloc())?;
     assert_eq!(rt; days.len(), 1_572);
-    let mut walk = schedule.after("1969-12-31T00:00:00Z".parse()?, &TimeZone::UTC);
-    for day in &days {
-        check_shown(&rt, walk.next(), day.as_str())?;
-    }
-    assert!(rt; walk.next().is_none());
-    let mut walk = schedule.after("2101-01-01T00:00:00Z".parse()?, &TimeZone::UTC);
-    for day in days.iter().rev() {
-        check_shown(&rt, walk.next_back(), day.as_str())?;
-    }
-    assert!(rt; walk.next_back().is_none());
-    Ok(())
+    check_last_days(&rt, days.as_slice())
 }
 
 #[test]

@@ -1,7 +1,6 @@
 //! The laws that a program can call.
 
-use crate::support::{check_same, chicago, cut};
-use cron::error::Error;
+use crate::support::{check_same, check_text, chicago, cut};
 use cron::schedule::{Moment, Turn};
 use cron::{Schedule, laws};
 use jiff::Timestamp;
@@ -22,8 +21,19 @@ fn listed(alloc: Global, answers: &[Option<Moment>]) -> Result<String, AllocErro
     Ok(text)
 }
 
+fn check_listed(
+    rt: &(impl Abort + AllocGlobal),
+    answers: &[Option<Moment>],
+    wanted: &str,
+    row: &str,
+) -> Result<(), Fail> {
+    let told = listed(rt.alloc(), answers)?;
+    check_same(rt, told.as_str(), wanted, row);
+    Ok(())
+}
+
 // What these calls on a walk over a text answer, or its refusal.
-fn told(alloc: Global, text: &str) -> Result<String, Fail> {
+fn check_headline(rt: &(impl Abort + AllocGlobal), text: &str, wanted: &str) -> Result<(), Fail> {
     let start = "2022-11-06T04:30:00Z".parse()?;
     let turns = [
         Turn::Next,
@@ -35,9 +45,9 @@ fn told(alloc: Global, text: &str) -> Result<String, Fail> {
         Turn::Next,
         Turn::NextBack,
     ];
-    match laws::headline(alloc, text, start, &chicago()?, &turns) {
-        Ok(answers) => Ok(listed(alloc, answers.as_slice())?),
-        Err(error) => Ok(error.to_string(alloc)?),
+    match laws::headline(rt.alloc(), text, start, &chicago()?, &turns) {
+        Ok(answers) => check_listed(rt, answers.as_slice(), wanted, text),
+        Err(error) => check_text(rt, &error, wanted, text),
     }
 }
 
@@ -55,23 +65,35 @@ fn the_headline(rt: HostRuntime) -> Result<(), Fail> {
         ),
         ("* * * *", "Invalid cron expression."),
     ] {
-        check_same(&rt, told(rt.alloc(), text)?.as_str(), wanted, text);
+        check_headline(&rt, text, wanted)?;
     }
     Ok(())
 }
 
-// Whether reading a schedule's source again gives an equal schedule.
-fn is_read_again(alloc: Global, schedule: &Schedule) -> Result<bool, Error> {
-    let again = laws::reread(alloc, schedule)?;
+// Reading a schedule's source again gives an equal schedule.
+fn check_reread(
+    rt: &(impl Abort + AllocGlobal),
+    schedule: &Schedule,
+    text: &str,
+) -> Result<(), Fail> {
+    let again = laws::reread(rt.alloc(), schedule)?;
     laws::equal_sets(schedule, &again);
-    Ok(again == *schedule && again.timeunitspec_eq(schedule))
+    assert!(rt;
+        again == *schedule && again.timeunitspec_eq(schedule),
+        "{text}"
+    );
+    Ok(())
+}
+
+fn check_source(rt: &(impl Abort + AllocGlobal), text: &str) -> Result<(), Fail> {
+    let schedule = Schedule::from_str(rt.alloc(), text)?;
+    check_reread(rt, &schedule, text)
 }
 
 #[test]
 fn a_source_is_read_again(rt: HostRuntime) -> Result<(), Fail> {
     for text in [" @hourly ", "* 1,2,3 * * * *", "0 0 0 1 1 ? 2020-2040/10"] {
-        let schedule = Schedule::from_str(rt.alloc(), text)?;
-        assert!(rt; is_read_again(rt.alloc(), &schedule)?, "{text}");
+        check_source(&rt, text)?;
     }
     Ok(())
 }
@@ -84,14 +106,16 @@ const FIRST: &str = "\
 0 0 0 30 2 * | 19800 | 2020-01-01T00:00:00Z | None, None, ";
 
 // The first two answers in a zone with one offset.
-fn first_two(
+fn check_first_two(
+    rt: &(impl Abort + AllocGlobal),
     schedule: &Schedule,
     start: Timestamp,
     zone: &TimeZone<'_>,
-) -> Result<[Option<Moment>; 2], Fail> {
+    wanted: &str,
+) -> Result<(), Fail> {
     zone.to_fixed_offset()?;
     let (first, second) = laws::first_instants(schedule, start, zone);
-    Ok([first, second])
+    check_listed(rt, &[first, second], wanted, wanted)
 }
 
 fn check_first(rt: &(impl Abort + AllocGlobal), row: &str) -> Result<(), Fail> {
@@ -99,10 +123,9 @@ fn check_first(rt: &(impl Abort + AllocGlobal), row: &str) -> Result<(), Fail> {
     let (ahead, rest) = cut(rest)?;
     let (start, wanted) = cut(rest)?;
     let zone = TimeZone::fixed(Offset::from_seconds(ahead.parse()?)?);
+    let start = start.parse()?;
     let schedule = Schedule::from_str(rt.alloc(), text)?;
-    let answers = first_two(&schedule, start.parse()?, &zone)?;
-    check_same(rt, listed(rt.alloc(), &answers)?.as_str(), wanted, row);
-    Ok(())
+    check_first_two(rt, &schedule, start, &zone, wanted)
 }
 
 #[test]

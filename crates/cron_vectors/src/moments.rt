@@ -1,6 +1,6 @@
 //! The parts of a moment, and its text.
 
-use crate::support::{check_same, chicago};
+use crate::support::{check_text, chicago};
 use cron::Schedule;
 use cron::schedule::Moment;
 use jiff::Timestamp;
@@ -10,28 +10,22 @@ use std::alloc::Global;
 use std::process::Abort;
 use std::test::Fail;
 
+fn answered(answer: Option<Moment>) -> Result<Moment, Fail> {
+    Ok(answer.ok_or("the walk is empty")?)
+}
+
 // The first answer of a walk ahead.
 fn next(alloc: Global, text: &str, zone: &TimeZone<'_>, start: &str) -> Result<Moment, Fail> {
     let start = start.parse::<Timestamp>()?;
     let schedule = Schedule::from_str(alloc, text)?;
-    Ok(
-        schedule
-            .after(start, zone)
-            .next()
-            .ok_or("the walk is empty")?,
-    )
+    answered(schedule.after(start, zone).next())
 }
 
 // The first answer of a walk back.
 fn next_back(alloc: Global, text: &str, zone: &TimeZone<'_>, start: &str) -> Result<Moment, Fail> {
     let start = start.parse::<Timestamp>()?;
     let schedule = Schedule::from_str(alloc, text)?;
-    Ok(
-        schedule
-            .after(start, zone)
-            .next_back()
-            .ok_or("the walk is empty")?,
-    )
+    answered(schedule.after(start, zone).next_back())
 }
 
 fn check_parts(
@@ -81,6 +75,15 @@ fn two_readings(alloc: Global, zone: &TimeZone<'_>) -> Result<(Moment, Moment), 
     Ok((earlier, later))
 }
 
+// The same instant by another clock.
+fn check_elsewhere(rt: &(impl Abort + AllocGlobal), earlier: Moment) -> Result<(), Fail> {
+    let start = "2022-11-06T05:30:00Z";
+    let elsewhere = next(rt.alloc(), "0 0 6 6 11 ? 2022", &TimeZone::UTC, start)?;
+    assert_eq!(rt; elsewhere.timestamp(), earlier.timestamp());
+    assert_ne!(rt; elsewhere, earlier);
+    Ok(())
+}
+
 #[test]
 fn moments_are_equal_by_every_part(rt: HostRuntime) -> Result<(), Fail> {
     let zone = chicago()?;
@@ -89,28 +92,21 @@ fn moments_are_equal_by_every_part(rt: HostRuntime) -> Result<(), Fail> {
     assert_eq!(rt; earlier.datetime(), later.datetime());
     let (again, _) = two_readings(rt.alloc(), &zone)?;
     assert_eq!(rt; earlier, again);
-    // The same instant by another clock.
-    let start = "2022-11-06T05:30:00Z";
-    let elsewhere = next(rt.alloc(), "0 0 6 6 11 ? 2022", &TimeZone::UTC, start)?;
-    assert_eq!(rt; elsewhere.timestamp(), earlier.timestamp());
-    assert_ne!(rt; elsewhere, earlier);
-    Ok(())
+    check_elsewhere(&rt, earlier)
 }
 
-fn check_text(
+fn check_next_day(
     rt: &(impl Abort + AllocGlobal),
     zone: &TimeZone<'_>,
     wanted: &str,
 ) -> Result<(), Fail> {
     let moment = next(rt.alloc(), "@daily", zone, "2020-01-01T00:00:00Z")?;
-    let text = moment.to_string(rt.alloc())?;
-    check_same(rt, text.as_str(), wanted, wanted);
-    Ok(())
+    check_text(rt, &moment, wanted, wanted)
 }
 
 #[test]
 fn texts_of_moments(rt: HostRuntime) -> Result<(), Fail> {
-    check_text(&rt, &TimeZone::UTC, "2020-01-02 00:00:00 +00:00")?;
+    check_next_day(&rt, &TimeZone::UTC, "2020-01-02 00:00:00 +00:00")?;
     let zone = TimeZone::posix("LMT5:50:36")?;
-    check_text(&rt, &zone, "2020-01-01 00:00:00 -05:50:36")
+    check_next_day(&rt, &zone, "2020-01-01 00:00:00 -05:50:36")
 }

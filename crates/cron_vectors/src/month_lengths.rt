@@ -1,7 +1,9 @@
 //! The last days of the months of 1970 to 2100, as the calendar of Python has them.
 
-/// A line for each year: how many days its twelve months have past the 28th.
-pub(crate) const PAST_THE_28TH: &str = "\
+use std::alloc::{AllocError, Global};
+
+// A line for each year: how many days its twelve months have past the 28th.
+const PAST_THE_28TH: &str = "\
 1970 303232332323
 1971 303232332323
 1972 313232332323
@@ -133,3 +135,41 @@ pub(crate) const PAST_THE_28TH: &str = "\
 2098 303232332323
 2099 303232332323
 2100 303232332323";
+
+// The last day of a month, by how many days it has past the 28th.
+fn last_day(past: char) -> &'static str {
+    match past {
+        '0' => "28",
+        '1' => "29",
+        '2' => "30",
+        _ => "31",
+    }
+}
+
+// The last days of the months of a year.
+fn push_last_days(
+    alloc: Global,
+    days: &mut Vec<String>,
+    year: &str,
+    months: &str,
+) -> Result<(), AllocError> {
+    let mut month = 0_u32;
+    for past in months.chars() {
+        month = month.saturating_add(1);
+        let filler = if month < 10 { "0" } else { "" };
+        let day = last_day(past);
+        days.push(format!(in alloc; "{year}-{filler}{month}-{day} 00:00:00 +00:00")?)?;
+    }
+    Ok(())
+}
+
+/// Every last day of the range, in their order.
+pub(crate) fn last_days(alloc: Global) -> Result<Vec<String>, AllocError> {
+    let mut days = Vec::new(alloc);
+    for line in PAST_THE_28TH.lines() {
+        if let Some((year, months)) = line.split_once(' ') {
+            push_last_days(alloc, &mut days, year, months)?;
+        }
+    }
+    Ok(days)
+}

@@ -5,6 +5,8 @@
 use crate::slow_twin::check_day;
 use crate::support::{cut, number, shown};
 use crate::zone_files::read_file;
+use cron::error::Error;
+use cron::queries::Search;
 use cron::schedule::{Moment, Turn};
 use cron::{Schedule, laws};
 use jiff::Timestamp;
@@ -71,26 +73,27 @@ fn check_is_at(
     Ok(())
 }
 
+fn check_found(rt: &impl Abort, search: Search, wanted: Reading) -> Result<(), Fail> {
+    let found = search.found.ok_or("nothing is found")?;
+    check_is_at(rt, Some(found.first), wanted.second, wanted.offset)
+}
+
 // The searches pass each second of a gap, and count it.
 fn check_gap(
     rt: &(impl Abort + AllocGlobal),
     zone: &TimeZone<'_>,
     gap: Stretch,
 ) -> Result<(), Fail> {
-    let every = Schedule::from_str(rt.alloc(), "* * * * * *")?;
-    let (first, past) = (gap.first, past(gap));
+    let (past, before) = (past(gap), gap.first.saturating_sub(1));
+    let (first, last) = (shown(gap.first)?, shown(past.saturating_sub(1))?);
     let asked = u64::from(gap.length) + 1;
-    let ahead = every.first_at_or_after(shown(first)?, zone);
+    let every = Schedule::from_str(rt.alloc(), "* * * * * *")?;
+    let ahead = every.first_at_or_after(first, zone);
+    let back = every.last_at_or_before(last, zone);
     assert_eq!(rt; ahead.conversions, asked);
-    let back = every.last_at_or_before(shown(past.saturating_sub(1))?, zone);
     assert_eq!(rt; back.conversions, asked);
-    check_is_at(rt, ahead.found.map(|found| found.first), past, gap.after)?;
-    check_is_at(
-        rt,
-        back.found.map(|found| found.first),
-        first.saturating_sub(1),
-        gap.before,
-    )
+    check_found(rt, ahead, Reading::new(past, gap.after))?;
+    check_found(rt, back, Reading::new(before, gap.before))
 }
 
 // A civil second by its number, and an offset.
@@ -120,11 +123,10 @@ fn readings_ahead(alloc: Global, fold: Stretch) -> Result<Vec<Reading>, Fail> {
 
 // The answers of so many calls ahead that end after a fold, and of as many back.
 fn readings_both_ways(alloc: Global, fold: Stretch) -> Result<Vec<Reading>, Fail> {
-    let ahead = readings_ahead(alloc, fold)?;
-    let mut readings = Vec::new(alloc);
-    readings.extend_from_slice(ahead.as_slice())?;
-    for reading in ahead.iter().rev().skip(1) {
-        readings.push(*reading)?;
+    let mut readings = readings_ahead(alloc, fold)?;
+    for second in (fold.first..past(fold)).rev() {
+        readings.push(Reading::new(second, fold.after))?;
+        readings.push(Reading::new(second, fold.before))?;
     }
     let last = fold.first.saturating_sub(1);
     readings.push(Reading::new(last, fold.before))?;
@@ -141,22 +143,48 @@ fn turns_both_ways(alloc: Global, count: usize) -> Result<Vec<Turn>, AllocError>
     Ok(turns)
 }
 
+fn answers_both_ways(
+    alloc: Global,
+    zone: &TimeZone<'_>,
+    start: Timestamp,
+    count: usize,
+) -> Result<Vec<Option<Moment>>, Error> {
+    let turns = turns_both_ways(alloc, count)?;
+    laws::headline(alloc, "* * * * * *", start, zone, turns.as_slice())
+}
+
+fn check_answers(
+    rt: &impl Abort,
+    answers: &[Option<Moment>],
+    readings: &[Reading],
+) -> Result<(), Fail> {
+    assert_eq!(rt; answers.len(), readings.len());
+    for (answer, reading) in answers.iter().zip(readings.iter()) {
+        check_is_at(rt, *answer, reading.second, reading.offset)?;
+    }
+    Ok(())
+}
+
+fn check_walk(
+    rt: &(impl Abort + AllocGlobal),
+    zone: &TimeZone<'_>,
+    start: Timestamp,
+    readings: &[Reading],
+) -> Result<(), Fail> {
+    let answers = answers_both_ways(rt.alloc(), zone, start, readings.len())?;
+    check_answers(rt, answers.as_slice(), readings)
+}
+
 // A walk answers each second of a fold twice, ahead and then back, and the seconds beside it once.
 fn check_fold(
     rt: &(impl Abort + AllocGlobal),
     zone: &TimeZone<'_>,
     fold: Stretch,
 ) -> Result<(), Fail> {
-    let readings = readings_both_ways(rt.alloc(), fold)?;
-    let turns = turns_both_ways(rt.alloc(), readings.len())?;
     let start = fold.first.saturating_sub(1);
     let start = Timestamp::from_second(start.saturating_sub(i64::from(fold.before)))?;
-    let answers = laws::headline(rt.alloc(), "* * * * * *", start, zone, turns.as_slice())?;
-    assert_eq!(rt; answers.len(), readings.len());
-    for (answer, reading) in answers.iter().zip(readings.iter()) {
-        check_is_at(rt, *answer, reading.second, reading.offset)?;
-    }
-    Ok(())
+    let readings = readings_both_ways(rt.alloc(), fold)?;
+    check_walk(rt, zone, start, readings.as_slice())
 }
 
 // The days around a turn, both ways, through the slow twin.

@@ -1,11 +1,18 @@
 //! Walks that are resumed from an item.
 
-use crate::support::{check_same, chicago};
+use crate::support::{check_same, check_text, chicago};
 use cron::Schedule;
 use cron::schedule::Moment;
 use jiff::tz::{Offset, TimeZone};
-use std::alloc::Global;
+use std::process::Abort;
 use std::test::Fail;
+
+// What a walk answers that is resumed, where the moment is an item of the walk.
+#[derive(Clone, Copy)]
+enum Answer {
+    NoItem,
+    Item(Option<Moment>),
+}
 
 // The moment at which a clock so many seconds ahead of UTC shows this.
 fn moment(shown: &str, ahead: i32) -> Result<Moment, Fail> {
@@ -14,22 +21,39 @@ fn moment(shown: &str, ahead: i32) -> Result<Moment, Fail> {
 }
 
 // What the walk answers that is resumed from an item: by `next`, or by `next_back`.
-fn answer(
-    alloc: Global,
+fn first_answer(schedule: &Schedule, item: Moment, zone: &TimeZone<'_>, back: bool) -> Answer {
+    match schedule.resume(&item, zone) {
+        Some(mut walk) if back => Answer::Item(walk.next_back()),
+        Some(mut walk) => Answer::Item(walk.next()),
+        None => Answer::NoItem,
+    }
+}
+
+fn check_answer(
+    rt: &(impl Abort + AllocGlobal),
+    answer: Answer,
+    wanted: &str,
+    text: &str,
+) -> Result<(), Fail> {
+    match answer {
+        Answer::Item(Some(moment)) => return check_text(rt, &moment, wanted, text),
+        Answer::Item(None) => check_same(rt, "None", wanted, text),
+        Answer::NoItem => check_same(rt, "no item", wanted, text),
+    }
+    Ok(())
+}
+
+fn check_resumed(
+    rt: &(impl Abort + AllocGlobal),
     text: &str,
     item: Moment,
     zone: &TimeZone<'_>,
     back: bool,
-) -> Result<String, Fail> {
-    let schedule = Schedule::from_str(alloc, text)?;
-    let Some(mut walk) = schedule.resume(&item, zone) else {
-        return Ok(String::from_str(alloc, "no item")?);
-    };
-    let answer = if back { walk.next_back() } else { walk.next() };
-    Ok(match answer {
-        Some(moment) => moment.to_string(alloc)?,
-        None => String::from_str(alloc, "None")?,
-    })
+    wanted: &str,
+) -> Result<(), Fail> {
+    let schedule = Schedule::from_str(rt.alloc(), text)?;
+    let answer = first_answer(&schedule, item, zone, back);
+    check_answer(rt, answer, wanted, text)
 }
 
 #[test]
@@ -59,8 +83,8 @@ fn a_walk_goes_on_from_an_item_of_a_fold(rt: HostRuntime) -> Result<(), Fail> {
             "2022-11-06 01:00:00 -06:00",
         ),
     ] {
-        let told = answer(rt.alloc(), text, moment(shown, ahead)?, &chicago()?, back)?;
-        check_same(&rt, told.as_str(), wanted, text);
+        let item = moment(shown, ahead)?;
+        check_resumed(&rt, text, item, &chicago()?, back, wanted)?;
     }
     Ok(())
 }
@@ -68,13 +92,10 @@ fn a_walk_goes_on_from_an_item_of_a_fold(rt: HostRuntime) -> Result<(), Fail> {
 #[test]
 fn an_item_of_another_schedule_or_zone_is_none_here(rt: HostRuntime) -> Result<(), Fail> {
     let hour = moment("2020-01-01T02:00:00", 0)?;
-    let told = answer(rt.alloc(), "@daily", hour, &TimeZone::UTC, false)?;
-    check_same(&rt, told.as_str(), "no item", "@daily");
+    check_resumed(&rt, "@daily", hour, &TimeZone::UTC, false, "no item")?;
     let london = TimeZone::posix("GMT0BST,M3.5.0/1,M10.5.0")?;
     let item = moment("2022-11-06T01:00:00", -21_600)?;
-    let told = answer(rt.alloc(), "0 0,30 1 6 11 ? 2022", item, &london, false)?;
-    check_same(&rt, told.as_str(), "no item", "London");
-    Ok(())
+    check_resumed(&rt, "0 0,30 1 6 11 ? 2022", item, &london, false, "no item")
 }
 
 #[test]

@@ -246,6 +246,28 @@ fn check_searches(
     Ok(())
 }
 
+fn check_readings(
+    rt: &impl Abort,
+    schedule: &Schedule,
+    zone: &TimeZone<'_>,
+    span: Span,
+    readings: &[Shown],
+) -> Result<(), Fail> {
+    check_ahead(rt, schedule, zone, span, readings)?;
+    check_back(rt, schedule, zone, span, readings)?;
+    check_searches(rt, schedule, zone, span, readings)
+}
+
+fn check_schedule(
+    rt: &(impl Abort + AllocGlobal),
+    schedule: &Schedule,
+    zone: &TimeZone<'_>,
+    span: Span,
+) -> Result<(), Fail> {
+    let readings = readings_in(rt.alloc(), schedule, zone, span)?;
+    check_readings(rt, schedule, zone, span, readings.as_slice())
+}
+
 /// Compares a span's part of the walks in both directions, and both searches from some of its seconds.
 pub(crate) fn check_span(
     rt: &(impl Abort + AllocGlobal),
@@ -254,10 +276,12 @@ pub(crate) fn check_span(
     span: Span,
 ) -> Result<(), Fail> {
     let schedule = Schedule::from_str(rt.alloc(), text)?;
-    let readings = readings_in(rt.alloc(), &schedule, zone, span)?;
-    check_ahead(rt, &schedule, zone, span, readings.as_slice())?;
-    check_back(rt, &schedule, zone, span, readings.as_slice())?;
-    check_searches(rt, &schedule, zone, span, readings.as_slice())
+    check_schedule(rt, &schedule, zone, span)
+}
+
+/// The number of a date's first civil second.
+pub(crate) fn midnight(date: Date) -> Result<i64, Fail> {
+    number(date.to_datetime(Time::midnight()))
 }
 
 /// The same for a day.
@@ -267,8 +291,7 @@ pub(crate) fn check_day(
     zone: &TimeZone<'_>,
     date: Date,
 ) -> Result<(), Fail> {
-    let midnight = date.to_datetime(Time::new(0, 0, 0, 0)?);
-    check_span(rt, text, zone, Span::new(number(midnight)?, 24))
+    check_span(rt, text, zone, Span::new(midnight(date)?, 24))
 }
 
 #[test]

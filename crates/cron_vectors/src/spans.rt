@@ -1,9 +1,8 @@
 //! 250 spans of 8 to 72 hours through the slow twin: 50 in each of five zones, 655,200 civil seconds
 //! around each of ten dates, 32,760,000 in all.
 
-use crate::slow_twin::{Span, check_span};
-use crate::support::{chicago, number};
-use jiff::civil::{Date, Time};
+use crate::slow_twin::{Span, check_span, midnight};
+use crate::support::chicago;
 use jiff::tz::{Offset, TimeZone};
 use std::process::Abort;
 use std::test::Fail;
@@ -64,7 +63,7 @@ fn check_around(
     zone: &TimeZone<'_>,
     date: &str,
 ) -> Result<(), Fail> {
-    let midnight = number(date.parse::<Date>()?.to_datetime(Time::new(0, 0, 0, 0)?))?;
+    let midnight = midnight(date.parse()?)?;
     for (text, lead, hours) in SPANS {
         let first = midnight.saturating_sub(lead.saturating_mul(3600));
         check_span(rt, text, zone, Span::new(first, hours))?;

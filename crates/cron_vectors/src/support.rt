@@ -3,6 +3,7 @@
 use jiff::Timestamp;
 use jiff::civil::DateTime;
 use jiff::tz::{Offset, TimeZone};
+use std::fmt::Display;
 use std::process::Abort;
 use std::test::Fail;
 
@@ -14,6 +15,18 @@ pub(crate) fn cut(row: &str) -> Result<(&str, &str), Fail> {
 /// Compares two texts.
 pub(crate) fn check_same(rt: &impl Abort, told: &str, wanted: &str, row: &str) {
     assert_eq!(rt; told, wanted, "row {row}");
+}
+
+/// Compares what a value shows with a text.
+pub(crate) fn check_text(
+    rt: &(impl Abort + AllocGlobal),
+    value: &impl Display,
+    wanted: &str,
+    row: &str,
+) -> Result<(), Fail> {
+    let told = value.to_string(rt.alloc())?;
+    check_same(rt, told.as_str(), wanted, row);
+    Ok(())
 }
 
 /// The zone of Chicago by its rule since 2007.

@@ -20,9 +20,7 @@ fn check_questions(rt: &impl Abort, found: TimeFound) {
     );
 }
 
-#[test]
-fn the_first_time_of_day_from_a_time(rt: HostRuntime) -> Result<(), Fail> {
-    let schedule = Schedule::from_str(rt.alloc(), "30 30 9,17 * * *")?;
+fn check_first_times(rt: &impl Abort, schedule: &Schedule) {
     let rows: [(Time, Option<Time>); 4] = [
         ((0, 0, 0), Some((9, 30, 30))),
         ((9, 30, 30), Some((9, 30, 30))),
@@ -32,14 +30,18 @@ fn the_first_time_of_day_from_a_time(rt: HostRuntime) -> Result<(), Fail> {
     for ((hour, minute, second), wanted) in rows {
         let found = schedule.first_time(hour, minute, second);
         assert_eq!(rt; found.time, wanted);
-        check_questions(&rt, found);
+        check_questions(rt, found);
     }
-    Ok(())
 }
 
 #[test]
-fn the_last_time_of_day_up_to_a_time(rt: HostRuntime) -> Result<(), Fail> {
+fn the_first_time_of_day_from_a_time(rt: HostRuntime) -> Result<(), Fail> {
     let schedule = Schedule::from_str(rt.alloc(), "30 30 9,17 * * *")?;
+    check_first_times(&rt, &schedule);
+    Ok(())
+}
+
+fn check_last_times(rt: &impl Abort, schedule: &Schedule) {
     let rows: [(Time, Option<Time>); 3] = [
         ((9, 30, 29), None),
         ((17, 30, 29), Some((9, 30, 30))),
@@ -48,8 +50,14 @@ fn the_last_time_of_day_up_to_a_time(rt: HostRuntime) -> Result<(), Fail> {
     for ((hour, minute, second), wanted) in rows {
         let found = schedule.last_time(hour, minute, second);
         assert_eq!(rt; found.time, wanted);
-        check_questions(&rt, found);
+        check_questions(rt, found);
     }
+}
+
+#[test]
+fn the_last_time_of_day_up_to_a_time(rt: HostRuntime) -> Result<(), Fail> {
+    let schedule = Schedule::from_str(rt.alloc(), "30 30 9,17 * * *")?;
+    check_last_times(&rt, &schedule);
     Ok(())
 }
 
@@ -61,12 +69,9 @@ fn check_survey(
     count: u32,
     wanted: Survey,
 ) -> Result<(), Fail> {
+    let from = from.parse()?;
     let schedule = Schedule::from_str(rt.alloc(), text)?;
-    assert_eq!(rt;
-        schedule.survey(from.parse()?, zone, count),
-        wanted,
-        "{text}"
-    );
+    assert_eq!(rt; schedule.survey(from, zone, count), wanted, "{text}");
     Ok(())
 }
 

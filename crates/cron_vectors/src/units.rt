@@ -2,7 +2,7 @@
 
 use crate::support::check_same;
 use cron::error::Error;
-use cron::time_unit::{DaysOfMonth, Months, OrdinalRangeIter, Years};
+use cron::time_unit::{DaysOfMonth, Months, Ordinal, OrdinalRangeIter, Years};
 use cron::{Schedule, TimeUnitSpec};
 use std::alloc::{AllocError, Global};
 use std::fmt::Write;
@@ -48,56 +48,73 @@ fn check_back(
     Ok(())
 }
 
-fn check_summer(rt: &(impl Abort + AllocGlobal), months: &Months) -> Result<(), Fail> {
+// One of the calls that answer these ordinals.
+fn check_answer(
+    rt: &impl Abort,
+    answer: Option<Ordinal>,
+    wanted: Option<Ordinal>,
+    ordinals: &[Ordinal],
+) {
+    assert_eq!(rt; answer, wanted, "of {ordinals:?}");
+}
+
+// Single calls to the front, up to the first `None`.
+fn check_next(rt: &impl Abort, ordinals: &mut OrdinalRangeIter<'_>, wanted: &[Ordinal]) {
+    for ordinal in wanted {
+        check_answer(rt, ordinals.next(), Some(*ordinal), wanted);
+    }
+    check_answer(rt, ordinals.next(), None, wanted);
+}
+
+// Single calls to the back, up to the first `None`.
+fn check_next_back(rt: &impl Abort, ordinals: &mut OrdinalRangeIter<'_>, wanted: &[Ordinal]) {
+    for ordinal in wanted {
+        check_answer(rt, ordinals.next_back(), Some(*ordinal), wanted);
+    }
+    check_answer(rt, ordinals.next_back(), None, wanted);
+}
+
+fn check_summer(rt: &impl Abort, months: &Months) {
     assert!(rt; months.includes(6));
     assert!(rt; !months.includes(4));
     assert!(rt; !months.includes(4_294_967_295));
     assert_eq!(rt; months.count(), 4);
     assert!(rt; !months.is_all());
     let mut members = months.iter();
-    assert_eq!(rt; members.next(), Some(5));
-    assert_eq!(rt; members.next(), Some(6));
-    assert_eq!(rt; members.next(), Some(7));
-    assert_eq!(rt; members.next(), Some(8));
-    assert_eq!(rt; members.next(), None);
-    Ok(())
+    for wanted in [Some(5), Some(6), Some(7), Some(8), None] {
+        assert_eq!(rt; members.next(), wanted);
+    }
 }
 
 #[test]
 fn months_in_summer(rt: HostRuntime) -> Result<(), Fail> {
     let schedule = Schedule::from_str(rt.alloc(), "* * * * 5-8 * *")?;
-    check_summer(&rt, schedule.months())
+    check_summer(&rt, schedule.months());
+    Ok(())
 }
 
-fn check_ends(rt: &(impl Abort + AllocGlobal), months: &Months) -> Result<(), Fail> {
+// Calls to both ends in turn.
+fn check_ends(rt: &impl Abort, months: &Months) {
     let mut members = months.iter();
-    assert_eq!(rt; members.next(), Some(5));
-    assert_eq!(rt; members.next_back(), Some(8));
-    assert_eq!(rt; members.next(), Some(6));
-    assert_eq!(rt; members.next_back(), Some(7));
-    assert_eq!(rt; members.next(), None);
-    assert_eq!(rt; members.next_back(), None);
-    Ok(())
+    for (first, last) in [(Some(5), Some(8)), (Some(6), Some(7)), (None, None)] {
+        assert_eq!(rt; members.next(), first);
+        assert_eq!(rt; members.next_back(), last);
+    }
 }
 
 #[test]
 fn the_ends_of_a_set_meet(rt: HostRuntime) -> Result<(), Fail> {
     let schedule = Schedule::from_str(rt.alloc(), "* * * * 5-8 * *")?;
-    check_ends(&rt, schedule.months())
+    check_ends(&rt, schedule.months());
+    Ok(())
 }
 
 // Ranges of months, by single calls to their ends.
 fn check_months_one_by_one(rt: &impl Abort, months: &Months) {
-    let mut all = months.range((Unbounded, Unbounded));
-    assert_eq!(rt; all.next(), Some(5));
-    assert_eq!(rt; all.next(), Some(6));
-    assert_eq!(rt; all.next(), Some(7));
-    assert_eq!(rt; all.next(), Some(8));
-    assert_eq!(rt; all.next(), None);
-    let mut between_neighbours = months.range((Excluded(5), Excluded(6)));
-    assert_eq!(rt; between_neighbours.next(), None);
-    let mut past_the_greatest = months.range((Excluded(8), Unbounded));
-    assert_eq!(rt; past_the_greatest.next(), None);
+    check_next(rt, &mut months.range((Unbounded, Unbounded)), &[5, 6, 7, 8]);
+    // Between neighbours, and past the greatest.
+    check_next(rt, &mut months.range((Excluded(5), Excluded(6))), &[]);
+    check_next(rt, &mut months.range((Excluded(8), Unbounded)), &[]);
 }
 
 fn check_ranges_of_months(rt: &(impl Abort + AllocGlobal), months: &Months) -> Result<(), Fail> {
@@ -126,12 +143,11 @@ fn check_two_days(rt: &(impl Abort + AllocGlobal), days: &DaysOfMonth) -> Result
     assert_eq!(rt; days.count(), 2);
     assert!(rt; !days.is_all());
     let mut members = days.iter();
-    assert_eq!(rt; members.next(), Some(1));
-    assert_eq!(rt; members.next(), Some(15));
-    assert_eq!(rt; members.next(), None);
+    for wanted in [Some(1), Some(15), None] {
+        assert_eq!(rt; members.next(), wanted);
+    }
     check_ahead(rt, days.range((Included(5), Included(25))), "15 ")?;
-    check_ahead(rt, days.range((Included(10), Included(20))), "15 ")?;
-    Ok(())
+    check_ahead(rt, days.range((Included(10), Included(20))), "15 ")
 }
 
 #[test]
@@ -143,24 +159,10 @@ fn two_days_of_a_month(rt: HostRuntime) -> Result<(), Fail> {
 // Ranges of years, by single calls to their ends.
 fn check_years_one_by_one(rt: &impl Abort, years: &Years) {
     let mut ahead = years.range((Included(2017), Excluded(2022)));
-    assert_eq!(rt; ahead.next(), Some(2017));
-    assert_eq!(rt; ahead.next(), Some(2018));
-    assert_eq!(rt; ahead.next(), Some(2019));
-    assert_eq!(rt; ahead.next(), Some(2020));
-    assert_eq!(rt; ahead.next(), Some(2021));
-    assert_eq!(rt; ahead.next(), None);
-    let mut none = years.range((Excluded(2017), Included(2017)));
-    assert_eq!(rt; none.next(), None);
-}
-
-fn check_years_one_by_one_from_the_back(rt: &impl Abort, years: &Years) {
+    check_next(rt, &mut ahead, &[2017, 2018, 2019, 2020, 2021]);
     let mut back = years.range((Included(2017), Excluded(2022)));
-    assert_eq!(rt; back.next_back(), Some(2021));
-    assert_eq!(rt; back.next_back(), Some(2020));
-    assert_eq!(rt; back.next_back(), Some(2019));
-    assert_eq!(rt; back.next_back(), Some(2018));
-    assert_eq!(rt; back.next_back(), Some(2017));
-    assert_eq!(rt; back.next_back(), None);
+    check_next_back(rt, &mut back, &[2021, 2020, 2019, 2018, 2017]);
+    check_next(rt, &mut years.range((Excluded(2017), Included(2017))), &[]);
 }
 
 fn check_ranges_of_years(rt: &(impl Abort + AllocGlobal), years: &Years) -> Result<(), Fail> {
@@ -179,7 +181,6 @@ fn check_ranges_of_years(rt: &(impl Abort + AllocGlobal), years: &Years) -> Resu
     )?;
     check_ahead(rt, years.range((Excluded(2017), Included(2017))), "")?;
     check_years_one_by_one(rt, years);
-    check_years_one_by_one_from_the_back(rt, years);
     Ok(())
 }
 
@@ -212,9 +213,8 @@ fn years_far_apart(rt: HostRuntime) -> Result<(), Fail> {
 }
 
 // Which sets are whole, from seconds to years.
-fn whole_sets(alloc: Global, text: &str) -> Result<[bool; 7], Error> {
-    let schedule = Schedule::from_str(alloc, text)?;
-    Ok([
+fn whole_sets(schedule: &Schedule) -> [bool; 7] {
+    [
         schedule.seconds().is_all(),
         schedule.minutes().is_all(),
         schedule.hours().is_all(),
@@ -222,16 +222,25 @@ fn whole_sets(alloc: Global, text: &str) -> Result<[bool; 7], Error> {
         schedule.months().is_all(),
         schedule.days_of_week().is_all(),
         schedule.years().is_all(),
-    ])
+    ]
+}
+
+fn check_whole_sets(
+    rt: &(impl Abort + AllocGlobal),
+    text: &str,
+    wanted: [bool; 7],
+) -> Result<(), Fail> {
+    let schedule = Schedule::from_str(rt.alloc(), text)?;
+    assert_eq!(rt; whole_sets(&schedule), wanted, "{text}");
+    Ok(())
 }
 
 #[test]
 fn a_whole_range_however_written(rt: HostRuntime) -> Result<(), Fail> {
-    let whole = whole_sets(rt.alloc(), "0-59 * 0-23 ?/2 1,2-4 ? *")?;
-    assert_eq!(rt; whole, [true, true, true, false, false, true, true]);
-    let whole = whole_sets(rt.alloc(), "* * * 1,15 * * *")?;
-    assert_eq!(rt; whole, [true, true, true, false, true, true, true]);
-    Ok(())
+    let wanted = [true, true, true, false, false, true, true];
+    check_whole_sets(&rt, "0-59 * 0-23 ?/2 1,2-4 ? *", wanted)?;
+    let wanted = [true, true, true, false, true, true, true];
+    check_whole_sets(&rt, "* * * 1,15 * * *", wanted)
 }
 
 fn seconds(alloc: Global, text: &str) -> Result<u32, Error> {

@@ -1,9 +1,8 @@
 //! Zones that are read from the bytes of a zone file.
 
 use crate::slow_twin::check_day;
-use crate::support::check_same;
-use cron::Schedule;
-use cron::schedule::Moment;
+use crate::support::{check_same, check_text};
+use cron::{Schedule, ScheduleIterator};
 use jiff::Timestamp;
 use jiff::civil::DateTime;
 use jiff::tz::{TimeZone, Tzif};
@@ -57,19 +56,25 @@ pub(crate) fn read_file(
 }
 
 // The answers of a walk ahead, up to the first `None`.
-fn answers(alloc: Global, schedule: &Schedule, zone: &TimeZone<'_>) -> Result<String, Fail> {
-    let start = "2020-01-01T00:00:00Z".parse::<Timestamp>()?;
+fn answers(alloc: Global, walk: ScheduleIterator<'_>) -> Result<String, AllocError> {
     let mut text = String::new(alloc);
-    for moment in schedule.after(start, zone) {
+    for moment in walk {
         write!(text, "{moment}, ")?;
     }
     Ok(text)
 }
 
-// The readings that a search finds.
-fn found(alloc: Global, first: Moment, second: Option<Moment>) -> Result<String, Fail> {
-    let second = second.ok_or("the search finds one reading")?;
-    Ok(format!(in alloc; "{first}, {second}")?)
+fn check_walk(
+    rt: &(impl Abort + AllocGlobal),
+    schedule: &Schedule,
+    zone: &TimeZone<'_>,
+) -> Result<(), Fail> {
+    let start = "2020-01-01T00:00:00Z".parse::<Timestamp>()?;
+    let told = answers(rt.alloc(), schedule.after(start, zone))?;
+    let wanted =
+        "2020-06-01 12:00:00 +01:00, 2020-06-01 12:00:00 +00:00, 2020-06-01 12:30:00 +01:00, 2020-06-01 12:30:00 +00:00, ";
+    check_same(rt, told.as_str(), wanted, "a zone file");
+    Ok(())
 }
 
 fn check_search(
@@ -81,18 +86,15 @@ fn check_search(
     let search = schedule.first_at_or_after(from, zone);
     assert_eq!(rt; search.conversions, 3);
     let readings = search.found.ok_or("the search finds nothing")?;
-    let told = found(rt.alloc(), readings.first, readings.second)?;
+    let second = readings.second.ok_or("the search finds one reading")?;
+    let told = format_args!("{}, {second}", readings.first);
     let wanted = "2020-06-01 12:00:00 +01:00, 2020-06-01 12:00:00 +00:00";
-    check_same(rt, told.as_str(), wanted, "a zone file");
-    Ok(())
+    check_text(rt, &told, wanted, "a zone file")
 }
 
 fn check_months_apart(rt: &(impl Abort + AllocGlobal), zone: &TimeZone<'_>) -> Result<(), Fail> {
     let schedule = Schedule::from_str(rt.alloc(), "0 0,30 12 1 3,6 ? 2020")?;
-    let told = answers(rt.alloc(), &schedule, zone)?;
-    let wanted =
-        "2020-06-01 12:00:00 +01:00, 2020-06-01 12:00:00 +00:00, 2020-06-01 12:30:00 +01:00, 2020-06-01 12:30:00 +00:00, ";
-    check_same(rt, told.as_str(), wanted, "a zone file");
+    check_walk(rt, &schedule, zone)?;
     check_search(rt, &schedule, zone)
 }
 
@@ -103,14 +105,17 @@ fn a_gap_and_a_fold_months_apart(rt: HostRuntime) -> Result<(), Fail> {
     check_months_apart(&rt, &TimeZone::tzif(&file))
 }
 
+fn check_first_of_march(rt: &(impl Abort + AllocGlobal), zone: &TimeZone<'_>) -> Result<(), Fail> {
+    let date = "2020-03-01".parse()?;
+    check_day(rt, "0 */5 11-14 * * *", zone, date)?;
+    check_day(rt, "59 */7 * 1 3 ?", zone, date)
+}
+
 // Two transitions half an hour apart, so that a gap and a fold touch.
 fn check_half_an_hour(rt: &(impl Abort + AllocGlobal), offset: i32) -> Result<(), Fail> {
     let (first, second) = ("2020-03-01T12:00:00Z", "2020-03-01T12:30:00Z");
     let file = read_file(rt.alloc(), offset, first, second)?;
-    let zone = TimeZone::tzif(&file);
-    let date = "2020-03-01".parse()?;
-    check_day(rt, "0 */5 11-14 * * *", &zone, date)?;
-    check_day(rt, "59 */7 * 1 3 ?", &zone, date)
+    check_first_of_march(rt, &TimeZone::tzif(&file))
 }
 
 #[test]

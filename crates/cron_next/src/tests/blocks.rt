@@ -1,7 +1,7 @@
 //! Listings of more lines than are gathered at once, over writers that take all, a part or nothing.
 
 ghost use Rattle.std.specs.Prelude.{◌≡◌, false};
-ghost use Rattle.cron_next.specs.Watching.{has_failed};
+ghost use Rattle.cron_writer.specs.Watching.{has_failed};
 
 use super::limited::Limited;
 use crate::page::page;
@@ -54,24 +54,44 @@ fn moment(shown: &str) -> Result<Moment, Fail> {
     Ok(Moment::from_parts(shown.parse()?, offset).ok_or("no civil second of the range")?)
 }
 
+// A writer that takes all, so many bytes a call, holds the whole list.
+fn check_listed(rt: &(impl Abort + AllocGlobal), text: &str, step: usize) -> Result<(), Fail> {
+    let mut out = Watched::new(Limited::new(rt.alloc(), usize::MAX, step));
+    let told = list_seconds(rt.alloc(), &mut out)?;
+    assert_eq!(rt; told, Outcome::Listed, "{step} bytes a call");
+    let held = out.into_inner().held;
+    assert!(rt; held.as_slice() == text.as_bytes(), "{step} bytes a call");
+    Ok(())
+}
+
+// So does one that the page is written to.
+fn check_paged(
+    rt: &(impl Abort + AllocGlobal),
+    text: &str,
+    last: Moment,
+    step: usize,
+) -> Result<(), Fail> {
+    let mut out = Watched::new(Limited::new(rt.alloc(), usize::MAX, step));
+    let told = page_of_seconds(rt.alloc(), &mut out)?;
+    assert_eq!(rt; told, Page::Listed(last), "{step} bytes a call");
+    let held = out.into_inner().held;
+    assert!(rt; held.as_slice() == text.as_bytes(), "{step} bytes a call");
+    Ok(())
+}
+
+fn check_written(rt: &(impl Abort + AllocGlobal), text: &str) -> Result<(), Fail> {
+    let last = moment("2020-01-01T00:06:40")?;
+    for step in [1, LINE - 1, 1000, BLOCK - 1, BLOCK, usize::MAX] {
+        check_listed(rt, text, step)?;
+        check_paged(rt, text, last, step)?;
+    }
+    Ok(())
+}
+
 #[test]
 fn many_lines_are_written_whole(rt: HostRuntime) -> Result<(), Fail> {
     let text = seconds_listed(rt.alloc())?;
-    let last = moment("2020-01-01T00:06:40")?;
-    for step in [1, LINE - 1, 1000, BLOCK - 1, BLOCK, usize::MAX] {
-        let mut out = Watched::new(Limited::new(rt.alloc(), usize::MAX, step));
-        let told = list_seconds(rt.alloc(), &mut out)?;
-        assert_eq!(rt; told, Outcome::Listed, "{step} bytes a call");
-        let held = out.into_inner().held;
-        assert!(rt; held.as_slice() == text.as_bytes(), "{step} bytes a call");
-
-        let mut out = Watched::new(Limited::new(rt.alloc(), usize::MAX, step));
-        let told = page_of_seconds(rt.alloc(), &mut out)?;
-        assert_eq!(rt; told, Page::Listed(last), "{step} bytes a call");
-        let held = out.into_inner().held;
-        assert!(rt; held.as_slice() == text.as_bytes(), "{step} bytes a call");
-    }
-    Ok(())
+    check_written(&rt, text.as_str())
 }
 
 // A writer that failed once, and holds the first bytes of the text.
@@ -84,38 +104,89 @@ fn check_held(rt: &impl Abort, writer: &Limited, text: &str, room: usize) {
     assert_eq!(rt; writer.failures, 1, "at {room}");
 }
 
-fn check_failed(
+fn check_failed_list(
     rt: &(impl Abort + AllocGlobal),
     text: &str,
-    room: usize,
-    step: usize,
+    writer: Limited,
 ) -> Result<(), Fail> {
-    let mut out = Watched::new(Limited::new(rt.alloc(), room, step));
+    let room = writer.room;
+    let mut out = Watched::new(writer);
     let told = list_seconds(rt.alloc(), &mut out)?;
     assert_eq!(rt; told, Outcome::WriteFailed, "at {room}");
     check_held(rt, &out.into_inner(), text, room);
+    Ok(())
+}
 
-    let mut out = Watched::new(Limited::new(rt.alloc(), room, step));
+fn check_failed_page(
+    rt: &(impl Abort + AllocGlobal),
+    text: &str,
+    writer: Limited,
+) -> Result<(), Fail> {
+    let room = writer.room;
+    let mut out = Watched::new(writer);
     let told = page_of_seconds(rt.alloc(), &mut out)?;
     assert_eq!(rt; told, Page::WriteFailed, "at {room}");
     check_held(rt, &out.into_inner(), text, room);
     Ok(())
 }
 
+fn check_failed(
+    rt: &(impl Abort + AllocGlobal),
+    text: &str,
+    room: usize,
+    step: usize,
+) -> Result<(), Fail> {
+    check_failed_list(rt, text, Limited::new(rt.alloc(), room, step))?;
+    check_failed_page(rt, text, Limited::new(rt.alloc(), room, step))
+}
+
+// Within each of three blocks: before its first byte, after that, after its first line and further on.
+const ROOMS: [usize; 12] = [
+    0,
+    1,
+    LINE,
+    2000,
+    BLOCK,
+    BLOCK + 1,
+    BLOCK + LINE,
+    BLOCK + 2000,
+    2 * BLOCK,
+    2 * BLOCK + 1,
+    2 * BLOCK + LINE,
+    2 * BLOCK + 2000,
+];
+
+fn check_failed_steps(
+    rt: &(impl Abort + AllocGlobal),
+    text: &str,
+    room: usize,
+) -> Result<(), Fail> {
+    for step in [7, 1000, usize::MAX] {
+        check_failed(rt, text, room, step)?;
+    }
+    Ok(())
+}
+
+fn check_failed_rooms(rt: &(impl Abort + AllocGlobal), text: &str) -> Result<(), Fail> {
+    for room in ROOMS {
+        check_failed_steps(rt, text, room)?;
+    }
+    Ok(())
+}
+
+// At the last byte of a block, of what is gathered at once, and of the list.
+fn check_failed_ends(rt: &(impl Abort + AllocGlobal), text: &str) -> Result<(), Fail> {
+    for room in [BLOCK - 1, 4095, 4096, 4097, text.len().saturating_sub(1)] {
+        check_failed(rt, text, room, usize::MAX)?;
+    }
+    Ok(())
+}
+
 #[test]
 fn a_failed_write_among_many_lines_is_the_last(rt: HostRuntime) -> Result<(), Fail> {
     let text = seconds_listed(rt.alloc())?;
-    for block in [0, BLOCK, 2 * BLOCK] {
-        for more in [0, 1, LINE, 2000] {
-            for step in [7, 1000, usize::MAX] {
-                check_failed(&rt, text.as_str(), block + more, step)?;
-            }
-        }
-    }
-    for room in [BLOCK - 1, 4095, 4096, 4097, text.len().saturating_sub(1)] {
-        check_failed(&rt, text.as_str(), room, usize::MAX)?;
-    }
-    Ok(())
+    check_failed_rooms(&rt, text.as_str())?;
+    check_failed_ends(&rt, text.as_str())
 }
 
 // Counts its calls, and those whose piece ends within a line.
@@ -153,13 +224,25 @@ fn writes_for(alloc: Global, count: u32) -> Result<Counting, Fail> {
     Ok(out.into_inner())
 }
 
+fn check_writes(rt: &(impl Abort + AllocGlobal), count: u32, writes: u32) -> Result<(), Fail> {
+    let writer = writes_for(rt.alloc(), count)?;
+    assert_eq!(rt; writer.writes, writes, "{count} lines");
+    assert_eq!(rt; writer.cut_lines, 0, "{count} lines");
+    assert_eq!(rt; writer.flushes, 1, "{count} lines");
+    Ok(())
+}
+
 #[test]
 fn lines_are_written_whole_and_many_at_a_time(rt: HostRuntime) -> Result<(), Fail> {
     for (count, writes) in [(0, 0), (1, 1), (151, 1), (152, 2), (302, 2), (303, 3)] {
-        let writer = writes_for(rt.alloc(), count)?;
-        assert_eq!(rt; writer.writes, writes, "{count} lines");
-        assert_eq!(rt; writer.cut_lines, 0, "{count} lines");
-        assert_eq!(rt; writer.flushes, 1, "{count} lines");
+        check_writes(&rt, count, writes)?;
+    }
+    Ok(())
+}
+
+fn check_asked_again(rt: &(impl Abort + AllocGlobal), text: &str) -> Result<(), Fail> {
+    for kind in [ErrorKind::Interrupted, ErrorKind::WouldBlock] {
+        check_failed_list(rt, text, Limited::failing(rt.alloc(), BLOCK + 1, kind))?;
     }
     Ok(())
 }
@@ -167,11 +250,5 @@ fn lines_are_written_whole_and_many_at_a_time(rt: HostRuntime) -> Result<(), Fai
 #[test]
 fn a_call_that_asks_to_be_tried_again_ends_many_lines_too(rt: HostRuntime) -> Result<(), Fail> {
     let text = seconds_listed(rt.alloc())?;
-    for kind in [ErrorKind::Interrupted, ErrorKind::WouldBlock] {
-        let mut out = Watched::new(Limited::failing(rt.alloc(), BLOCK + 1, kind));
-        let told = list_seconds(rt.alloc(), &mut out)?;
-        assert_eq!(rt; told, Outcome::WriteFailed);
-        check_held(&rt, &out.into_inner(), text.as_str(), BLOCK + 1);
-    }
-    Ok(())
+    check_asked_again(&rt, text.as_str())
 }

@@ -1,11 +1,13 @@
 //! What a run writes where the writer takes every byte.
 
 use super::words_in;
-use crate::answer::answer;
 use crate::run::{Outcome, run};
 use crate::watched::Watched;
-use crate::words::request_of;
+use cron_listing::answer::answer;
+use cron_listing::words::{Request, request_of};
+use jiff::Timestamp;
 use jiff::tz::TimeZone;
+use std::process::Abort;
 use std::test::Fail;
 
 // Each block is the words after a `>`, and then the lines that are listed.
@@ -80,33 +82,77 @@ const REFUSED: &str = "\
 0 0 0 0 1 ? 1969|Days of Month must be greater than or equal to 1. ('0' specified.)
 ";
 
+// A run ends so, and has written this.
+fn check_run(
+    rt: &(impl Abort + AllocGlobal),
+    line: &str,
+    asked: &Request<'_>,
+    done: Outcome,
+    want: &str,
+) {
+    let mut out = Watched::new(Vec::new(rt.alloc()));
+    let outcome = run(
+        rt.alloc(),
+        asked.expression,
+        asked.start,
+        &asked.zone,
+        asked.count,
+        asked.back,
+        &mut out,
+    );
+    assert_eq!(rt; outcome, done, "at {line}");
+    assert!(rt; !out.failed(), "at {line}");
+    assert_eq!(rt; out.into_inner().as_slice(), want.as_bytes(), "at {line}");
+}
+
+fn check_words(
+    rt: &(impl Abort + AllocGlobal),
+    line: &str,
+    words: &[String],
+    want: &str,
+) -> Result<(), Fail> {
+    let Some(asked) = request_of(words) else {
+        return Err("the words can't be read".into());
+    };
+    check_run(rt, line, &asked, Outcome::Listed, want);
+    Ok(())
+}
+
+fn check_block(rt: &(impl Abort + AllocGlobal), line: &str, want: &str) -> Result<(), Fail> {
+    let words = words_in(rt.alloc(), line)?;
+    check_words(rt, line, words.as_slice(), want)
+}
+
 #[test]
 fn lists_what_the_words_ask_for(rt: HostRuntime) -> Result<(), Fail> {
     let mut blocks = 0u32;
     for block in LISTED.split('>') {
-        let Some((line, want)) = block.split_once('\n') else {
-            continue;
-        };
-        let words = words_in(rt.alloc(), line)?;
-        let Some(asked) = request_of(words.as_slice()) else {
-            return Err("the words can't be read".into());
-        };
-        let mut out = Watched::new(Vec::new(rt.alloc()));
-        let outcome = run(
-            rt.alloc(),
-            asked.expression,
-            asked.start,
-            &asked.zone,
-            asked.count,
-            asked.back,
-            &mut out,
-        );
-        assert_eq!(rt; outcome, Outcome::Listed, "at {line}");
-        assert!(rt; !out.failed(), "at {line}");
-        assert_eq!(rt; out.into_inner().as_slice(), want.as_bytes(), "at {line}");
-        blocks = blocks.saturating_add(1);
+        if let Some((line, want)) = block.split_once('\n') {
+            check_block(&rt, line, want)?;
+            blocks = blocks.saturating_add(1);
+        }
     }
     assert_eq!(rt; blocks, 16);
+    Ok(())
+}
+
+// The one line that is written for a refused expression.
+fn check_refused(rt: &(impl Abort + AllocGlobal), start: Timestamp, expression: &str, want: &str) {
+    let asked = Request {
+        expression,
+        start,
+        zone: TimeZone::UTC,
+        count: 3,
+        back: false,
+    };
+    check_run(rt, expression, &asked, Outcome::Refused, want);
+}
+
+fn check_told(rt: &(impl Abort + AllocGlobal), row: &str) -> Result<(), Fail> {
+    let start = "2020-01-01T00:00:00Z".parse()?;
+    let (expression, told) = row.split_once('|').ok_or("no message")?;
+    let want = format!(in rt.alloc(); "error: {told}\n")?;
+    check_refused(rt, start, expression, want.as_str());
     Ok(())
 }
 
@@ -114,59 +160,59 @@ fn lists_what_the_words_ask_for(rt: HostRuntime) -> Result<(), Fail> {
 fn tells_why_an_expression_is_refused(rt: HostRuntime) -> Result<(), Fail> {
     let mut rows = 0u32;
     for row in REFUSED.lines() {
-        let (expression, told) = row.split_once('|').ok_or("no message")?;
-        let want = format!(in rt.alloc(); "error: {told}\n")?;
-        let mut out = Watched::new(Vec::new(rt.alloc()));
-        let outcome = run(
-            rt.alloc(),
-            expression,
-            "2020-01-01T00:00:00Z".parse()?,
-            &TimeZone::UTC,
-            3,
-            false,
-            &mut out,
-        );
-        assert_eq!(rt; outcome, Outcome::Refused, "at {expression}");
-        assert!(rt; !out.failed(), "at {expression}");
-        assert_eq!(rt;
-            out.into_inner().as_slice(),
-            want.as_bytes(),
-            "at {expression}"
-        );
+        check_told(&rt, row)?;
         rows = rows.saturating_add(1);
     }
     assert_eq!(rt; rows, 14);
     Ok(())
 }
 
+fn check_answer(
+    rt: &(impl Abort + AllocGlobal),
+    line: &str,
+    words: &[String],
+    status: u8,
+    want: &str,
+) {
+    let mut out = Watched::new(Vec::new(rt.alloc()));
+    assert_eq!(rt;
+        answer(rt.alloc(), words, &mut out).code(),
+        status,
+        "at {line}"
+    );
+    assert_eq!(rt; out.into_inner().as_slice(), want.as_bytes(), "at {line}");
+}
+
+fn check_status(
+    rt: &(impl Abort + AllocGlobal),
+    line: &str,
+    status: u8,
+    want: &str,
+) -> Result<(), Fail> {
+    let words = words_in(rt.alloc(), line)?;
+    check_answer(rt, line, words.as_slice(), status, want);
+    Ok(())
+}
+
 #[test]
 fn the_status_tells_how_a_run_ended(rt: HostRuntime) -> Result<(), Fail> {
-    for (line, status, want) in [
-        (
-            "@daily|2020-01-01T00:00:00Z|UTC|1",
-            0,
-            "2020-01-02 00:00:00 +00:00\n",
-        ),
-        ("@daily|2020-01-01T00:00:00Z|UTC|0", 0, ""),
-        (
-            "@dally|2020-01-01T00:00:00Z|UTC|1",
-            1,
-            "error: Invalid cron expression.\n",
-        ),
-        (
-            "@dally|2020-01-01T00:00:00Z|utc|1",
-            2,
-            "usage: cron_next EXPRESSION START ZONE COUNT [back]\n",
-        ),
-    ] {
-        let words = words_in(rt.alloc(), line)?;
-        let mut out = Watched::new(Vec::new(rt.alloc()));
-        assert_eq!(rt;
-            answer(rt.alloc(), words.as_slice(), &mut out).code(),
-            status,
-            "at {line}"
-        );
-        assert_eq!(rt; out.into_inner().as_slice(), want.as_bytes(), "at {line}");
-    }
-    Ok(())
+    check_status(
+        &rt,
+        "@daily|2020-01-01T00:00:00Z|UTC|1",
+        0,
+        "2020-01-02 00:00:00 +00:00\n",
+    )?;
+    check_status(&rt, "@daily|2020-01-01T00:00:00Z|UTC|0", 0, "")?;
+    check_status(
+        &rt,
+        "@dally|2020-01-01T00:00:00Z|UTC|1",
+        1,
+        "error: Invalid cron expression.\n",
+    )?;
+    check_status(
+        &rt,
+        "@dally|2020-01-01T00:00:00Z|utc|1",
+        2,
+        "usage: cron_next EXPRESSION START ZONE COUNT [back]\n",
+    )
 }

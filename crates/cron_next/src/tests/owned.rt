@@ -1,9 +1,10 @@
-//! Calls that take no memory, where none is left: the readers of an owned text that is accepted, and the
-//! ways to an owned walk. Like the tests of `memory`, these take all of it.
+//! Calls that take no memory, where none is left: the readers of an owned text that is accepted, and
+//! the ways to an owned walk. Like the tests of `memory`, these take all of it.
 
-use super::memory::{MOST_BLOCKS, take_all_memory};
-use cron::Schedule;
+use super::memory::{MOST_BLOCKS, give_back, take_all_memory};
 use cron::error::Error;
+use cron::schedule::Moment;
+use cron::{OwnedScheduleIterator, Schedule};
 use jiff::Timestamp;
 use jiff::tz::TimeZone;
 use std::alloc::{AllocError, Global};
@@ -57,27 +58,65 @@ fn texts(alloc: Global) -> Result<Vec<String>, AllocError> {
     Ok(texts)
 }
 
-// The list of the texts stays, so that no room comes free.
-fn read_strings(
-    alloc: Global,
-    texts: &mut Vec<String>,
-    read: &mut Vec<Result<Schedule, Error>>,
-) -> Result<(), AllocError> {
-    for text in texts.iter_mut() {
-        let text = mem::replace(text, String::new(alloc));
-        read.push(Schedule::try_from_string(alloc, text))?;
+// Texts, and what they are read as. The list of the texts stays, so that no room comes free.
+#[derive(Drop)]
+struct Reading {
+    texts: Vec<String>,
+    read: Vec<Result<Schedule, Error>>,
+}
+
+impl Reading {
+    fn new(alloc: Global) -> Result<Reading, AllocError> {
+        Ok(Reading {
+            texts: texts(alloc)?,
+            read: Vec::with_capacity(alloc, COUNT)?,
+        })
     }
+
+    fn read_strings(&mut self, alloc: Global) -> Result<(), AllocError> {
+        for text in self.texts.iter_mut() {
+            let text = mem::replace(text, String::new(alloc));
+            self.read.push(Schedule::try_from_string(alloc, text))?;
+        }
+        Ok(())
+    }
+
+    fn read_cows(&mut self, alloc: Global) -> Result<(), AllocError> {
+        for text in self.texts.iter_mut() {
+            let text = CowStr::Owned(mem::replace(text, String::new(alloc)));
+            self.read.push(Schedule::try_from_cow(alloc, text))?;
+        }
+        Ok(())
+    }
+}
+
+fn read_without_memory(
+    rt: &(impl Abort + AllocGlobal),
+    strings: &mut Reading,
+    cows: &mut Reading,
+) -> Result<(), Fail> {
+    let alloc = rt.alloc();
+    let mut blocks = Vec::with_capacity(alloc, MOST_BLOCKS)?;
+    take_all_memory(&mut blocks, alloc);
+    let strings = strings.read_strings(alloc);
+    let cows = cows.read_cows(alloc);
+    give_back(rt, &mut blocks);
+    assert!(rt; strings.is_ok() && cows.is_ok());
     Ok(())
 }
 
-fn read_cows(
-    alloc: Global,
-    texts: &mut Vec<String>,
-    read: &mut Vec<Result<Schedule, Error>>,
-) -> Result<(), AllocError> {
-    for text in texts.iter_mut() {
-        let text = CowStr::Owned(mem::replace(text, String::new(alloc)));
-        read.push(Schedule::try_from_cow(alloc, text))?;
+fn check_same(
+    rt: &(impl Abort + AllocGlobal),
+    text: &str,
+    read: &Result<Schedule, Error>,
+) -> Result<(), Fail> {
+    let same = Schedule::from_str(rt.alloc(), text)?;
+    match read {
+        Ok(schedule) => assert!(rt;
+            *schedule == same && schedule.timeunitspec_eq(&same),
+            "{text}"
+        ),
+        Err(error) => assert!(rt; false, "{text}: {error}"),
     }
     Ok(())
 }
@@ -88,51 +127,64 @@ fn check_read(
 ) -> Result<(), Fail> {
     assert_eq!(rt; read.len(), COUNT);
     for (text, read) in ACCEPTED.lines().zip(read) {
-        let same = Schedule::from_str(rt.alloc(), text)?;
-        match read {
-            Ok(schedule) => assert!(rt;
-                *schedule == same && schedule.timeunitspec_eq(&same),
-                "{text}"
-            ),
-            Err(error) => assert!(rt; false, "{text}: {error}"),
-        }
+        check_same(rt, text, read)?;
     }
     Ok(())
 }
 
 #[test]
 fn owned_texts_are_read_without_memory(rt: HostRuntime) -> Result<(), Fail> {
-    let alloc = rt.alloc();
-    let (mut strings, mut cows) = (texts(alloc)?, texts(alloc)?);
-    let mut by_string = Vec::with_capacity(alloc, COUNT)?;
-    let mut by_cow = Vec::with_capacity(alloc, COUNT)?;
-    let mut blocks = Vec::with_capacity(alloc, MOST_BLOCKS)?;
-    take_all_memory(&mut blocks, alloc);
-    let strings = read_strings(alloc, &mut strings, &mut by_string);
-    let cows = read_cows(alloc, &mut cows, &mut by_cow);
-    let taken = blocks.len();
-    blocks.truncate(0);
-    assert!(rt; taken < MOST_BLOCKS, "{taken} blocks");
-    assert!(rt; strings.is_ok() && cows.is_ok());
-    check_read(&rt, by_string.as_slice())?;
-    check_read(&rt, by_cow.as_slice())
+    let mut strings = Reading::new(rt.alloc())?;
+    let mut cows = Reading::new(rt.alloc())?;
+    read_without_memory(&rt, &mut strings, &mut cows)?;
+    check_read(&rt, strings.read.as_slice())?;
+    check_read(&rt, cows.read.as_slice())
 }
 
-#[test]
-fn owned_walks_are_made_without_memory(rt: HostRuntime) -> Result<(), Fail> {
+type Walk = Result<OwnedScheduleIterator<'static>, AllocError>;
+
+// Both walks after the start, made while no memory is left.
+fn walks_without_memory(
+    rt: &(impl Abort + AllocGlobal),
+    schedule: &Schedule,
+    start: Timestamp,
+) -> Result<(Walk, Walk), Fail> {
     let alloc = rt.alloc();
-    let schedule = Schedule::from_str(alloc, "@daily")?;
-    let start = "2020-01-01T00:00:00Z".parse::<Timestamp>()?;
     let mut blocks = Vec::with_capacity(alloc, MOST_BLOCKS)?;
     take_all_memory(&mut blocks, alloc);
     let after = schedule.after_owned(start, TimeZone::UTC);
     let upcoming = schedule.upcoming_owned(start, TimeZone::UTC);
-    let taken = blocks.len();
-    blocks.truncate(0);
-    assert!(rt; taken < MOST_BLOCKS, "{taken} blocks");
-    let (first, same) = (after?.next(), upcoming?.next());
-    let text = first.ok_or("the walk is empty")?.to_string(alloc)?;
+    give_back(rt, &mut blocks);
+    Ok((after, upcoming))
+}
+
+fn first_of(walk: Walk) -> Result<Option<Moment>, Fail> {
+    Ok(walk?.next())
+}
+
+fn check_firsts(
+    rt: &(impl Abort + AllocGlobal),
+    first: Option<Moment>,
+    same: Option<Moment>,
+) -> Result<(), Fail> {
+    let text = first.ok_or("the walk is empty")?.to_string(rt.alloc())?;
     assert_eq!(rt; text.as_str(), "2020-01-02 00:00:00 +00:00");
     assert_eq!(rt; first, same);
     Ok(())
+}
+
+fn check_walks(
+    rt: &(impl Abort + AllocGlobal),
+    schedule: &Schedule,
+    start: Timestamp,
+) -> Result<(), Fail> {
+    let (after, upcoming) = walks_without_memory(rt, schedule, start)?;
+    check_firsts(rt, first_of(after)?, first_of(upcoming)?)
+}
+
+#[test]
+fn owned_walks_are_made_without_memory(rt: HostRuntime) -> Result<(), Fail> {
+    let start = "2020-01-01T00:00:00Z".parse::<Timestamp>()?;
+    let schedule = Schedule::from_str(rt.alloc(), "@daily")?;
+    check_walks(&rt, &schedule, start)
 }

@@ -1,7 +1,7 @@
 //! Pages after an item and before it, also over writers that fail on the way.
 
 ghost use Rattle.std.specs.Prelude.{◌≡◌, false};
-ghost use Rattle.cron_next.specs.Watching.{has_failed};
+ghost use Rattle.cron_writer.specs.Watching.{has_failed};
 
 use super::limited::Limited;
 use crate::page::page;
@@ -10,6 +10,7 @@ use crate::watched::Watched;
 use cron::Schedule;
 use cron::schedule::Moment;
 use jiff::tz::{Offset, TimeZone};
+use std::alloc::Global;
 use std::io::ErrorKind;
 use std::process::Abort;
 use std::test::Fail;
@@ -52,6 +53,20 @@ fn page_in_chicago(
     Ok(page(schedule, &last, &zone, size, back, out))
 }
 
+// A page of the items of the fold beside one of them.
+fn page_of_fold(
+    alloc: Global,
+    last: Moment,
+    size: u32,
+    back: bool,
+    out: &mut Watched<Limited>,
+) -> Result<Page, Fail>
+    requires { has_failed out.old ≡ false }
+{
+    let schedule = Schedule::from_str(alloc, FOLD)?;
+    page_in_chicago(&schedule, last, size, back, out)
+}
+
 fn check_page(
     rt: &(impl Abort + AllocGlobal),
     last: Moment,
@@ -60,9 +75,8 @@ fn check_page(
     text: &str,
     listed: Moment,
 ) -> Result<(), Fail> {
-    let schedule = Schedule::from_str(rt.alloc(), FOLD)?;
     let mut out = Watched::new(Limited::new(rt.alloc(), usize::MAX, usize::MAX));
-    let told = page_in_chicago(&schedule, last, size, back, &mut out)?;
+    let told = page_of_fold(rt.alloc(), last, size, back, &mut out)?;
     assert_eq!(rt; told, Page::Listed(listed));
     assert_eq!(rt; out.into_inner().held.as_slice(), text.as_bytes());
     Ok(())
@@ -104,30 +118,43 @@ fn pages_of_one_item_follow_one_another(rt: HostRuntime) -> Result<(), Fail> {
     check_page(&rt, last()?, 1, false, "", last()?)
 }
 
+fn page_after_first(alloc: Global, out: &mut Watched<Limited>) -> Result<Page, Fail>
+    requires { has_failed out.old ≡ false }
+{
+    page_of_fold(alloc, first()?, 9, false, out)
+}
+
+// A writer that failed once, and holds this.
+fn check_held(rt: &impl Abort, writer: &Limited, text: &str) {
+    assert_eq!(rt; writer.held.as_slice(), text.as_bytes(), "at {text}");
+    assert_eq!(rt; writer.failures, 1, "at {text}");
+}
+
 // A page that fails, over a writer that then holds this.
 fn check_failed_page(
     rt: &(impl Abort + AllocGlobal),
     writer: Limited,
     text: &str,
 ) -> Result<(), Fail> {
-    let schedule = Schedule::from_str(rt.alloc(), FOLD)?;
     let mut out = Watched::new(writer);
-    let told = page_in_chicago(&schedule, first()?, 9, false, &mut out)?;
+    let told = page_after_first(rt.alloc(), &mut out)?;
     assert_eq!(rt; told, Page::WriteFailed, "at {text}");
-    let writer = out.into_inner();
-    assert_eq!(rt; writer.held.as_slice(), text.as_bytes(), "at {text}");
-    assert_eq!(rt; writer.failures, 1, "at {text}");
+    check_held(rt, &out.into_inner(), text);
+    Ok(())
+}
+
+fn check_failed_room(rt: &(impl Abort + AllocGlobal), room: usize) -> Result<(), Fail> {
+    let text = LATER_THREE.get(..room).ok_or("a letter begins here")?;
+    for kind in [ErrorKind::BrokenPipe, ErrorKind::Interrupted] {
+        check_failed_page(rt, Limited::failing(rt.alloc(), room, kind), text)?;
+    }
     Ok(())
 }
 
 #[test]
 fn a_failed_write_ends_a_page_where_it_stands(rt: HostRuntime) -> Result<(), Fail> {
     for (room, _) in LATER_THREE.char_indices() {
-        let text = LATER_THREE.get(..room).ok_or("a letter begins here")?;
-        let broken = Limited::failing(rt.alloc(), room, ErrorKind::BrokenPipe);
-        check_failed_page(&rt, broken, text)?;
-        let interrupted = Limited::failing(rt.alloc(), room, ErrorKind::Interrupted);
-        check_failed_page(&rt, interrupted, text)?;
+        check_failed_room(&rt, room)?;
     }
     Ok(())
 }
@@ -137,12 +164,19 @@ fn a_failed_flush_fails_a_page(rt: HostRuntime) -> Result<(), Fail> {
     check_failed_page(&rt, Limited::unflushed(rt.alloc()), LATER_THREE)
 }
 
+// A page of the midnights after a moment.
+fn page_of_midnights(alloc: Global, last: Moment, out: &mut Watched<Limited>) -> Result<Page, Fail>
+    requires { has_failed out.old ≡ false }
+{
+    let schedule = Schedule::from_str(alloc, "@daily")?;
+    Ok(page(&schedule, &last, &TimeZone::UTC, 9, false, out))
+}
+
 #[test]
 fn a_moment_of_another_schedule_is_no_item(rt: HostRuntime) -> Result<(), Fail> {
-    let schedule = Schedule::from_str(rt.alloc(), "@daily")?;
     let other = moment("2020-01-01T02:00:00", 0)?;
     let mut out = Watched::new(Limited::unflushed(rt.alloc()));
-    let told = page(&schedule, &other, &TimeZone::UTC, 9, false, &mut out);
+    let told = page_of_midnights(rt.alloc(), other, &mut out)?;
     assert_eq!(rt; told, Page::NotAnItem);
     let writer = out.into_inner();
     assert_eq!(rt; writer.held.len(), 0);

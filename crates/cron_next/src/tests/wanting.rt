@@ -1,10 +1,10 @@
 //! Calls of the library where no memory is left: they say so and change nothing. Like the tests of
 //! `memory`, these take all of it.
 
-use super::memory::{MOST_BLOCKS, take_all_memory};
-use cron::Schedule;
+use super::memory::{MOST_BLOCKS, give_back, take_all_memory};
 use cron::error::{Error, ErrorKind};
 use cron::schedule::{Moment, Turn};
+use cron::{Schedule, ScheduleIterator};
 use jiff::Timestamp;
 use jiff::tz::TimeZone;
 use std::alloc::Global;
@@ -53,19 +53,22 @@ fn check_again(rt: &(impl Abort + AllocGlobal), schedule: &Schedule) -> Result<(
     Ok(())
 }
 
-#[test]
-fn calls_without_memory_say_so_and_change_nothing(rt: HostRuntime) -> Result<(), Fail> {
+fn check_wanting_calls(rt: &(impl Abort + AllocGlobal), schedule: &Schedule) -> Result<(), Fail> {
     let alloc = rt.alloc();
-    let schedule = Schedule::from_str(alloc, "@daily")?;
     let mut blocks = Vec::with_capacity(alloc, MOST_BLOCKS)?;
     take_all_memory(&mut blocks, alloc);
     let texts = wanting_texts(alloc);
     let is_cloned = schedule.clone().is_ok();
-    let taken = blocks.len();
-    blocks.truncate(0);
-    assert!(rt; taken < MOST_BLOCKS, "{taken} blocks");
+    give_back(rt, &mut blocks);
     assert_eq!(rt; texts, 4);
     assert!(rt; !is_cloned);
+    Ok(())
+}
+
+#[test]
+fn calls_without_memory_say_so_and_change_nothing(rt: HostRuntime) -> Result<(), Fail> {
+    let schedule = Schedule::from_str(rt.alloc(), "@daily")?;
+    check_wanting_calls(&rt, &schedule)?;
     check_again(&rt, &schedule)
 }
 
@@ -79,20 +82,38 @@ fn told(alloc: Global, answers: &[Option<Moment>]) -> Result<String, Fail> {
     Ok(text)
 }
 
-#[test]
-fn a_list_of_calls_without_memory_leaves_the_walk(rt: HostRuntime) -> Result<(), Fail> {
+fn check_wanting_play(
+    rt: &(impl Abort + AllocGlobal),
+    walk: &mut ScheduleIterator<'_>,
+) -> Result<(), Fail> {
     let alloc = rt.alloc();
-    let schedule = Schedule::from_str(alloc, "@daily")?;
-    let start = "2020-01-01T00:00:00Z".parse::<Timestamp>()?;
-    let mut walk = schedule.after(start, &TimeZone::UTC);
     let mut blocks = Vec::with_capacity(alloc, MOST_BLOCKS)?;
     take_all_memory(&mut blocks, alloc);
     let is_played = walk.play(alloc, &[Turn::Next, Turn::Next]).is_ok();
-    let taken = blocks.len();
-    blocks.truncate(0);
-    assert!(rt; taken < MOST_BLOCKS && !is_played, "{taken} blocks");
-    let answers = walk.play(alloc, &[Turn::Next, Turn::NextBack])?;
-    let wanted = "2020-01-02 00:00:00 +00:00, 2020-01-01 00:00:00 +00:00, ";
-    assert_eq!(rt; told(alloc, answers.as_slice())?.as_str(), wanted);
+    give_back(rt, &mut blocks);
+    assert!(rt; !is_played);
     Ok(())
+}
+
+fn check_told(rt: &(impl Abort + AllocGlobal), answers: &[Option<Moment>]) -> Result<(), Fail> {
+    let text = told(rt.alloc(), answers)?;
+    let wanted = "2020-01-02 00:00:00 +00:00, 2020-01-01 00:00:00 +00:00, ";
+    assert_eq!(rt; text.as_str(), wanted);
+    Ok(())
+}
+
+fn check_play(
+    rt: &(impl Abort + AllocGlobal),
+    walk: &mut ScheduleIterator<'_>,
+) -> Result<(), Fail> {
+    check_wanting_play(rt, walk)?;
+    let answers = walk.play(rt.alloc(), &[Turn::Next, Turn::NextBack])?;
+    check_told(rt, answers.as_slice())
+}
+
+#[test]
+fn a_list_of_calls_without_memory_leaves_the_walk(rt: HostRuntime) -> Result<(), Fail> {
+    let start = "2020-01-01T00:00:00Z".parse::<Timestamp>()?;
+    let schedule = Schedule::from_str(rt.alloc(), "@daily")?;
+    check_play(&rt, &mut schedule.after(start, &TimeZone::UTC))
 }

@@ -1,7 +1,8 @@
 //! The words of a command line.
 
 use super::words_in;
-use crate::words::request_of;
+use cron_listing::words::{Request, request_of};
+use std::process::Abort;
 use std::test::Fail;
 
 // Lines of which one word can't be read, or that have another count of words.
@@ -72,25 +73,48 @@ no expression|2020-01-01T00:00:00Z|UTC|4294967295 = 1577836800 0 4294967295 fals
 @daily|-000044-03-15T00:00:00Z|UTC|1 = -63549360000 0 1 false
 ";
 
+fn check_facts(
+    rt: &(impl Abort + AllocGlobal),
+    line: &str,
+    asked: &Request<'_>,
+    want: &str,
+) -> Result<(), Fail> {
+    let got = format!(in rt.alloc();
+        "{} {} {} {}",
+        asked.start.as_second(),
+        asked.zone.to_offset(asked.start).seconds(),
+        asked.count,
+        asked.back
+    )?;
+    assert_eq!(rt; got.as_str(), want, "at {line}");
+    Ok(())
+}
+
+fn check_asked(
+    rt: &(impl Abort + AllocGlobal),
+    line: &str,
+    words: &[String],
+    want: &str,
+) -> Result<(), Fail> {
+    let (expression, _) = line.split_once('|').ok_or("one word")?;
+    let Some(asked) = request_of(words) else {
+        return Err("the words can't be read".into());
+    };
+    assert_eq!(rt; asked.expression, expression);
+    check_facts(rt, line, &asked, want)
+}
+
+fn check_row(rt: &(impl Abort + AllocGlobal), row: &str) -> Result<(), Fail> {
+    let (line, want) = row.split_once(" = ").ok_or("no facts")?;
+    let words = words_in(rt.alloc(), line)?;
+    check_asked(rt, line, words.as_slice(), want)
+}
+
 #[test]
 fn a_line_asks_for_what_its_words_say(rt: HostRuntime) -> Result<(), Fail> {
     let mut rows = 0u32;
     for row in RIGHT.lines() {
-        let (line, want) = row.split_once(" = ").ok_or("no facts")?;
-        let (expression, _) = line.split_once('|').ok_or("one word")?;
-        let words = words_in(rt.alloc(), line)?;
-        let Some(asked) = request_of(words.as_slice()) else {
-            return Err("the words can't be read".into());
-        };
-        assert_eq!(rt; asked.expression, expression);
-        let got = format!(in rt.alloc();
-            "{} {} {} {}",
-            asked.start.as_second(),
-            asked.zone.to_offset(asked.start).seconds(),
-            asked.count,
-            asked.back
-        )?;
-        assert_eq!(rt; got.as_str(), want, "at {line}");
+        check_row(&rt, row)?;
         rows = rows.saturating_add(1);
     }
     assert_eq!(rt; rows, 11);

@@ -1,10 +1,13 @@
 //! Writers that fail on the way.
 
+ghost use Rattle.std.specs.Prelude.{◌≡◌, false};
+ghost use Rattle.cron_writer.specs.Watching.{has_failed};
+
 use super::limited::Limited;
 use super::words_in;
-use crate::answer::answer;
 use crate::run::{Outcome, run};
 use crate::watched::Watched;
+use cron_listing::answer::answer;
 use jiff::tz::TimeZone;
 use std::alloc::{AllocError, Global};
 use std::io::ErrorKind;
@@ -18,35 +21,35 @@ const FAULT: &str = "error: Seconds must be less than 59. ('60' specified.)\n";
 const USAGE: &str = "usage: cron_next EXPRESSION START ZONE COUNT [back]\n";
 
 // Asks for two items after the start of 2020.
-fn two_items(
-    alloc: Global,
-    expression: &str,
-    writer: Limited,
-) -> Result<(Outcome, Watched<Limited>), Fail> {
+fn two_items(alloc: Global, expression: &str, out: &mut Watched<Limited>) -> Result<Outcome, Fail>
+    requires { has_failed out.old ≡ false }
+{
     let start = "2020-01-01T00:00:00Z".parse()?;
-    let mut out = Watched::new(writer);
-    let outcome = run(alloc, expression, start, &TimeZone::UTC, 2, false, &mut out);
-    Ok((outcome, out))
+    Ok(run(alloc, expression, start, &TimeZone::UTC, 2, false, out))
 }
 
-// A write that fails so ends the run, with what the writer took before.
-fn check_failed_write(
+// A run over this writer ends so. Then the writer holds the text, and has failed so often.
+fn check_run(
     rt: &(impl Abort + AllocGlobal),
     expression: &str,
-    text: &str,
     writer: Limited,
+    done: Outcome,
+    text: &str,
+    failures: u8,
 ) -> Result<(), Fail> {
-    let room = writer.room;
-    let (outcome, out) = two_items(rt.alloc(), expression, writer)?;
-    assert_eq!(rt; outcome, Outcome::WriteFailed, "{expression} at {room}");
-    assert!(rt; out.failed(), "{expression} at {room}");
+    let count = text.len();
+    let mut out = Watched::new(writer);
+    let outcome = two_items(rt.alloc(), expression, &mut out)?;
+    assert_eq!(rt; outcome, done, "{expression} at {count}");
+    let failed = done == Outcome::WriteFailed;
+    assert_eq!(rt; out.failed(), failed, "{expression} at {count}");
     let writer = out.into_inner();
-    let held = writer.held.as_slice();
-    assert!(rt;
-        held.len() == room && text.as_bytes().starts_with(held),
-        "{expression} at {room}"
+    assert_eq!(rt;
+        writer.held.as_slice(),
+        text.as_bytes(),
+        "{expression} at {count}"
     );
-    assert_eq!(rt; writer.failures, 1, "{expression} at {room}");
+    assert_eq!(rt; writer.failures, failures, "{expression} at {count}");
     Ok(())
 }
 
@@ -57,61 +60,78 @@ const KINDS: [ErrorKind; 3] = [
     ErrorKind::WouldBlock,
 ];
 
-#[test]
-fn a_failed_write_ends_the_run_where_it_stands(rt: HostRuntime) -> Result<(), Fail> {
-    for (expression, text) in [("@daily", TWO_DAYS), ("60 * * * * *", FAULT)] {
-        for room in 0..text.len() {
-            for kind in KINDS {
-                let writer = Limited::failing(rt.alloc(), room, kind);
-                check_failed_write(&rt, expression, text, writer)?;
-            }
-        }
+// A write that fails so ends the run, with what the writer took before.
+fn check_failed_write(
+    rt: &(impl Abort + AllocGlobal),
+    expression: &str,
+    text: &str,
+    room: usize,
+) -> Result<(), Fail> {
+    let text = text.get(..room).ok_or("a letter begins here")?;
+    for kind in KINDS {
+        let writer = Limited::failing(rt.alloc(), room, kind);
+        check_run(rt, expression, writer, Outcome::WriteFailed, text, 1)?;
     }
     Ok(())
+}
+
+fn check_failed_writes(
+    rt: &(impl Abort + AllocGlobal),
+    expression: &str,
+    text: &str,
+) -> Result<(), Fail> {
+    for room in 0..text.len() {
+        check_failed_write(rt, expression, text, room)?;
+    }
+    Ok(())
+}
+
+#[test]
+fn a_failed_write_ends_the_run_where_it_stands(rt: HostRuntime) -> Result<(), Fail> {
+    check_failed_writes(&rt, "@daily", TWO_DAYS)?;
+    check_failed_writes(&rt, "60 * * * * *", FAULT)
+}
+
+fn check_failed_flush(
+    rt: &(impl Abort + AllocGlobal),
+    expression: &str,
+    text: &str,
+) -> Result<(), Fail> {
+    let writer = Limited::unflushed(rt.alloc());
+    check_run(rt, expression, writer, Outcome::WriteFailed, text, 1)
 }
 
 #[test]
 fn a_failed_flush_is_a_failed_write(rt: HostRuntime) -> Result<(), Fail> {
-    for (expression, text) in [("@daily", TWO_DAYS), ("60 * * * * *", FAULT)] {
-        let writer = Limited::unflushed(rt.alloc());
-        let (outcome, out) = two_items(rt.alloc(), expression, writer)?;
-        assert_eq!(rt; outcome, Outcome::WriteFailed, "at {expression}");
-        let writer = out.into_inner();
-        assert_eq!(rt; writer.held.as_slice(), text.as_bytes(), "at {expression}");
-        assert_eq!(rt; writer.failures, 1, "at {expression}");
-    }
-    Ok(())
+    check_failed_flush(&rt, "@daily", TWO_DAYS)?;
+    check_failed_flush(&rt, "60 * * * * *", FAULT)
+}
+
+fn check_byte_a_call(
+    rt: &(impl Abort + AllocGlobal),
+    expression: &str,
+    text: &str,
+    done: Outcome,
+) -> Result<(), Fail> {
+    let writer = Limited::new(rt.alloc(), usize::MAX, 1);
+    check_run(rt, expression, writer, done, text, 0)
 }
 
 #[test]
 fn a_writer_may_take_one_byte_a_call(rt: HostRuntime) -> Result<(), Fail> {
-    for (expression, text, done) in [
-        ("@daily", TWO_DAYS, Outcome::Listed),
-        ("60 * * * * *", FAULT, Outcome::Refused),
-    ] {
-        let writer = Limited::new(rt.alloc(), usize::MAX, 1);
-        let (outcome, out) = two_items(rt.alloc(), expression, writer)?;
-        assert_eq!(rt; outcome, done, "at {expression}");
-        assert_eq!(rt;
-            out.into_inner().held.as_slice(),
-            text.as_bytes(),
-            "at {expression}"
-        );
-    }
-    Ok(())
+    check_byte_a_call(&rt, "@daily", TWO_DAYS, Outcome::Listed)?;
+    check_byte_a_call(&rt, "60 * * * * *", FAULT, Outcome::Refused)
+}
+
+fn check_nothing_taken(rt: &(impl Abort + AllocGlobal), expression: &str) -> Result<(), Fail> {
+    let writer = Limited::new(rt.alloc(), usize::MAX, 0);
+    check_run(rt, expression, writer, Outcome::WriteFailed, "", 1)
 }
 
 #[test]
 fn a_writer_that_takes_nothing_is_not_tried_again(rt: HostRuntime) -> Result<(), Fail> {
-    for expression in ["@daily", "60 * * * * *"] {
-        let writer = Limited::new(rt.alloc(), usize::MAX, 0);
-        let (outcome, out) = two_items(rt.alloc(), expression, writer)?;
-        assert_eq!(rt; outcome, Outcome::WriteFailed, "at {expression}");
-        let writer = out.into_inner();
-        assert_eq!(rt; writer.held.len(), 0, "at {expression}");
-        assert_eq!(rt; writer.failures, 1, "at {expression}");
-    }
-    Ok(())
+    check_nothing_taken(&rt, "@daily")?;
+    check_nothing_taken(&rt, "60 * * * * *")
 }
 
 // A message that names a word of a million letters.
@@ -121,71 +141,94 @@ fn long_message(alloc: Global, word: &str) -> Result<String, AllocError> {
     )
 }
 
-fn million_letters(alloc: Global) -> Result<String, AllocError> {
-    let mut word = String::new(alloc);
+// Its first word is of a million letters.
+fn long_expression(alloc: Global) -> Result<String, AllocError> {
+    let mut text = String::new(alloc);
     for _ in 0..1_000_000 {
-        word.push('a')?;
+        text.push('a')?;
     }
-    Ok(word)
+    text.push_str(" * * * * *")?;
+    Ok(text)
+}
+
+fn check_message(
+    rt: &(impl Abort + AllocGlobal),
+    expression: &str,
+    message: &str,
+    step: usize,
+) -> Result<(), Fail> {
+    let mut out = Watched::new(Limited::new(rt.alloc(), usize::MAX, step));
+    let outcome = two_items(rt.alloc(), expression, &mut out)?;
+    assert_eq!(rt; outcome, Outcome::Refused, "{step} bytes a call");
+    let held = out.into_inner().held;
+    assert!(rt;
+        held.as_slice() == message.as_bytes(),
+        "{step} bytes a call"
+    );
+    Ok(())
+}
+
+fn check_long_word(rt: &(impl Abort + AllocGlobal), expression: &str) -> Result<(), Fail> {
+    let (word, _) = expression.split_once(' ').ok_or("one word")?;
+    let message = long_message(rt.alloc(), word)?;
+    check_message(rt, expression, message.as_str(), usize::MAX)?;
+    check_message(rt, expression, message.as_str(), 1000)
 }
 
 #[test]
 fn a_long_word_is_written_whole(rt: HostRuntime) -> Result<(), Fail> {
-    let word = million_letters(rt.alloc())?;
-    let expression = format!(in rt.alloc(); "{word} * * * * *")?;
-    let message = long_message(rt.alloc(), word.as_str())?;
-    for step in [usize::MAX, 1000] {
-        let writer = Limited::new(rt.alloc(), usize::MAX, step);
-        let (outcome, out) = two_items(rt.alloc(), expression.as_str(), writer)?;
-        assert_eq!(rt; outcome, Outcome::Refused, "{step} bytes a call");
-        let held = out.into_inner().held;
-        assert!(rt;
-            held.as_slice() == message.as_bytes(),
-            "{step} bytes a call"
-        );
-    }
+    let expression = long_expression(rt.alloc())?;
+    check_long_word(&rt, expression.as_str())
+}
+
+// The answer over this writer is that a write failed. Then the writer holds this.
+fn check_answer(
+    rt: &(impl Abort + AllocGlobal),
+    line: &str,
+    words: &[String],
+    writer: Limited,
+    held: &str,
+) {
+    let mut out = Watched::new(writer);
+    let status = answer(rt.alloc(), words, &mut out);
+    assert_eq!(rt; status.code(), 3, "at {line}");
+    let writer = out.into_inner();
+    assert_eq!(rt; writer.failures, 1, "at {line}");
+    assert_eq!(rt; writer.held.as_slice(), held.as_bytes(), "at {line}");
+}
+
+// Each way in which a writer fails after twenty bytes, and then in the flush.
+fn check_answers(
+    rt: &(impl Abort + AllocGlobal),
+    line: &str,
+    words: &[String],
+    cut: &str,
+    text: &str,
+) {
+    let alloc = rt.alloc();
+    check_answer(rt, line, words, Limited::new(alloc, 20, usize::MAX), cut);
+    check_answer(rt, line, words, Limited::new(alloc, 20, 3), cut);
+    let interrupted = Limited::failing(alloc, 20, ErrorKind::Interrupted);
+    check_answer(rt, line, words, interrupted, cut);
+    let blocked = Limited::failing(alloc, 20, ErrorKind::WouldBlock);
+    check_answer(rt, line, words, blocked, cut);
+    check_answer(rt, line, words, Limited::unflushed(alloc), text);
+}
+
+fn check_failed_answers(
+    rt: &(impl Abort + AllocGlobal),
+    line: &str,
+    text: &str,
+) -> Result<(), Fail> {
+    let cut = text.get(..20).ok_or("a text of twenty bytes")?;
+    let words = words_in(rt.alloc(), line)?;
+    check_answers(rt, line, words.as_slice(), cut, text);
     Ok(())
 }
 
 #[test]
 fn the_status_tells_of_a_failed_write(rt: HostRuntime) -> Result<(), Fail> {
-    for (line, text) in [
-        ("@daily|2020-01-01T00:00:00Z|UTC|2", TWO_DAYS),
-        ("60 * * * * *|2020-01-01T00:00:00Z|UTC|2", FAULT),
-        ("@daily|2020-01-01T00:00:00Z|utc|2", USAGE),
-    ] {
-        let words = words_in(rt.alloc(), line)?;
-        for writer in [
-            Limited::new(rt.alloc(), 20, usize::MAX),
-            Limited::new(rt.alloc(), 20, 3),
-            Limited::failing(rt.alloc(), 20, ErrorKind::Interrupted),
-            Limited::failing(rt.alloc(), 20, ErrorKind::WouldBlock),
-        ] {
-            let mut out = Watched::new(writer);
-            assert_eq!(rt;
-                answer(rt.alloc(), words.as_slice(), &mut out).code(),
-                3,
-                "at {line}"
-            );
-            let writer = out.into_inner();
-            assert_eq!(rt; writer.failures, 1, "at {line}");
-            let held = writer.held.as_slice();
-            assert!(rt;
-                held.len() == 20 && text.as_bytes().starts_with(held),
-                "at {line}"
-            );
-        }
-        let mut out = Watched::new(Limited::unflushed(rt.alloc()));
-        assert_eq!(rt;
-            answer(rt.alloc(), words.as_slice(), &mut out).code(),
-            3,
-            "at {line}"
-        );
-        assert_eq!(rt;
-            out.into_inner().held.as_slice(),
-            text.as_bytes(),
-            "at {line}"
-        );
-    }
-    Ok(())
+    check_failed_answers(&rt, "@daily|2020-01-01T00:00:00Z|UTC|2", TWO_DAYS)?;
+    check_failed_answers(&rt, "60 * * * * *|2020-01-01T00:00:00Z|UTC|2", FAULT)?;
+    check_failed_answers(&rt, "@daily|2020-01-01T00:00:00Z|utc|2", USAGE)
 }

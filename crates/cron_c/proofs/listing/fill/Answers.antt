@@ -38,3 +38,6 @@ loop-count-preserved c =
           filling room c.step.ensures (sym c.in-Some.is ∙ c.answer.ensures) c.item_of.ensures,
       longer,
     )
+
+pub returns : goal.returns
+returns c = search rules

@@ -1,4 +1,4 @@
-use Rattle.std.proofs.Common.{ℕ, List, refl, sym, subst}
+use Rattle.std.proofs.Common.{ℕ, List, refl, sym, subst, rules}
 use Rattle.cron_text.specs.Meaning.{Means}
 use Rattle.cron_c.proofs.reading.parse.Goals as goal
 
@@ -9,3 +9,12 @@ pub returns-then-read_into : goal.returns-then-read_into
 returns-then-read_into c =
     let of_text = subst (λ (t : List ℕ). Means t c.read_into.new.fields) c.in-Ok.ensures.cases.0 (c.read_into.ensures.sets c.if-read_into.true) in
     (c.in-Ok.ensures.cases.1, subst (Means c.args.text.now) (sym c.schedule_of.ensures) of_text, refl, refl)
+
+pub returns-in_default : goal.returns-in_default
+returns-in_default c = search rules
+
+pub returns-in-Some : goal.returns-in-Some
+returns-in-Some c = search rules
+
+pub returns-in-None : goal.returns-in-None
+returns-in-None c = search rules

@@ -14,3 +14,12 @@ returns c =
     let answer : (step c.args.way (start_at (sets_of c.args.schedule.now) zone c.args.second)).answer ≡ Some c.in-Some-first.found = sym (ap from nanos)
     ∙ (sym c.first.ensures ∙ c.in-Some-first.is) in
     (zone, c.in-Some-first.found, c.in-Some.ensures.1, within, answer, c.item_of.ensures)
+
+pub returns-in_default : goal.returns-in_default
+returns-in_default c = search rules
+
+pub returns-in_default-from_second : goal.returns-in_default-from_second
+returns-in_default-from_second c = search rules
+
+pub returns-in_default-first : goal.returns-in_default-first
+returns-in_default-first c = search rules

@@ -1,4 +1,4 @@
-use Rattle.std.proofs.Common.{◌≡◌, ℕ, List, ap, ◌∙◌}
+use Rattle.std.proofs.Common.{◌≡◌, ℕ, List, ap, ◌∙◌, rules}
 use Rattle.std.specs.Prelude.{length}
 use Rattle.cron_time.specs.MomentText.{moment_text}
 use Rattle.cron_c.specs.Buffers.{laid_over}
@@ -8,3 +8,6 @@ pub returns : goal.returns
 returns c =
     let same : c.as_slice-bytes.result.now ≡ moment_text c.in-Some.moment = c.as_slice-bytes.ensures.value ∙ c.text_of-shown.ensures.text in
     (c.in-Some.moment, c.in-Some.ensures.0, c.put.ensures ∙ ap (λ (l : List ℕ). laid_over 0 l c.args.text.now) same, ap length same)
+
+pub returns-in_default : goal.returns-in_default
+returns-in_default c = search rules

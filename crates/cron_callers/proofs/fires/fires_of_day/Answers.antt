@@ -34,3 +34,6 @@ returns c =
           taken-all (is_through c.args.date) w.in-Some.fire _ c.loop-fire.fires.items _ _ c.loop-fire.invariant w.in-Some.ensures.steps.items
           (is_through-past c.args.date w.in-Some.fire _ _ day last past)
     ]
+
+pub returns-in_err-push : goal.returns-in_err-push
+returns-in_err-push c = search rules

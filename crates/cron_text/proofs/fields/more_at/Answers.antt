@@ -1,4 +1,4 @@
-use Rattle.std.proofs.Common.{◌≡◌, Bool, true, false, ◌&&◌, List, ◌∷◌, refl, sym, ap, ◌∙◌}
+use Rattle.std.proofs.Common.{◌≡◌, Bool, true, false, ◌&&◌, List, ◌∷◌, refl, sym, ap, ◌∙◌, rules}
 use Rattle.cron_units.specs.Units.{TimeUnit}
 use Rattle.cron_text.specs.Fields.{is_wildcard}
 use Rattle.cron_text.specs.Inner.FieldReading.{FieldState, furthest}
@@ -57,3 +57,6 @@ returns-clause-more g c = λ done last e.
       on = ap (furthest u s) all ∙ grows_on u s _ con.token read.token (tokens_from text c.in_ok-token.after) c.in_ok-connector.connector con.symbol
           before behind (c.in_ok-growth.ensures done last read.token read.symbol);
     }
+
+pub returns-then-token-clause-more : goal.returns-then-token-clause-more
+returns-then-token-clause-more c = search rules

@@ -1,4 +1,4 @@
-use Rattle.std.proofs.Common.{[], ◌∷◌}
+use Rattle.std.proofs.Common.{[], ◌∷◌, rules}
 use Rattle.cron_units.specs.Units as units
 use Rattle.cron_units.specs.Units.{unmarked}
 use Rattle.cron_text.proofs.Prefixes.{start, next, refused_by, unread_by, denoted_by}
@@ -70,3 +70,27 @@ returns-clause-sets c =
     (next units.months _ _ _ _ _ _ c.in_ok-read_field-5.ensures.taken
     (next units.days_of_week _ _ _ _ _ _ c.in_ok-read_field-6.ensures.taken (start _)))))))
     c.in_ok-read_years.ensures.years
+
+pub returns-in_err-read_field-clause-sets : goal.returns-in_err-read_field-clause-sets
+returns-in_err-read_field-clause-sets c = search rules
+
+pub returns-in_err-read_field-2-clause-sets : goal.returns-in_err-read_field-2-clause-sets
+returns-in_err-read_field-2-clause-sets c = search rules
+
+pub returns-in_err-read_field-3-clause-sets : goal.returns-in_err-read_field-3-clause-sets
+returns-in_err-read_field-3-clause-sets c = search rules
+
+pub returns-in_err-read_field-4-clause-sets : goal.returns-in_err-read_field-4-clause-sets
+returns-in_err-read_field-4-clause-sets c = search rules
+
+pub returns-in_err-read_field-5-clause-sets : goal.returns-in_err-read_field-5-clause-sets
+returns-in_err-read_field-5-clause-sets c = search rules
+
+pub returns-in_err-read_field-6-clause-sets : goal.returns-in_err-read_field-6-clause-sets
+returns-in_err-read_field-6-clause-sets c = search rules
+
+pub returns-in_err-read_years-clause-sets : goal.returns-in_err-read_years-clause-sets
+returns-in_err-read_years-clause-sets c = search rules
+
+pub returns-clause-refused : goal.returns-clause-refused
+returns-clause-refused c = search rules

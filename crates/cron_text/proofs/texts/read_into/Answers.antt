@@ -1,4 +1,4 @@
-use Rattle.std.proofs.Common.{◌≡◌, None, List, ℕ, sym, ap, ◌∙◌}
+use Rattle.std.proofs.Common.{◌≡◌, None, List, ℕ, sym, ap, ◌∙◌, rules}
 use Rattle.cron_text.specs.Meaning.{shorthand_of, trimmed_front, trimmed_end}
 use Rattle.cron_text.specs.Inner.Places.{tokens_from}
 use Rattle.cron_text.proofs.TextRefusals.{nothing_meant}
@@ -12,3 +12,12 @@ returns-in-None-clause-nothing c = λ no.
     let none : shorthand_of (trimmed_end (trimmed_front text)) ≡ None = ap (λ (bs : List ℕ). shorthand_of (trimmed_end bs)) (sym skipped.trims)
     ∙ (sym named ∙ c.in-None.is) in
     nothing_meant text (tokens_from text c.skip_space-start.result) skipped.same none (c.longhand.ensures.nothing no)
+
+pub returns-in-Some-clause-sets : goal.returns-in-Some-clause-sets
+returns-in-Some-clause-sets c = search rules
+
+pub returns-in-Some-clause-nothing : goal.returns-in-Some-clause-nothing
+returns-in-Some-clause-nothing c = search rules
+
+pub returns-in-None-clause-sets : goal.returns-in-None-clause-sets
+returns-in-None-clause-sets c = search rules

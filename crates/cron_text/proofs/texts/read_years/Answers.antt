@@ -1,4 +1,4 @@
-use Rattle.std.proofs.Common.{inl, ap, arith}
+use Rattle.std.proofs.Common.{inl, ap, arith, rules}
 use Rattle.cron_units.specs.Units.{unmarked}
 use Rattle.cron_text.specs.Inner.Places.{tokens_from}
 use Rattle.cron_text.proofs.Places.{none_at_end, some_here}
@@ -24,3 +24,15 @@ returns-clause-years c =
     let last = c.read_field.new.place in
     years_read (tokens_from c.args.text.now c.args.start) (unmarked c.read_field.new.set) (tokens_from c.args.text.now last) c.in-Ok.ensures.taken
     (none_at_end c.args.text.now last.at last.spaced c.if-place-text.false)
+
+pub returns-then-start-text-clause-refused : goal.returns-then-start-text-clause-refused
+returns-then-start-text-clause-refused c = search rules
+
+pub returns-in-Err-clause-years : goal.returns-in-Err-clause-years
+returns-in-Err-clause-years c = search rules
+
+pub returns-then-place-text-clause-years : goal.returns-then-place-text-clause-years
+returns-then-place-text-clause-years c = search rules
+
+pub returns-clause-refused : goal.returns-clause-refused
+returns-clause-refused c = search rules

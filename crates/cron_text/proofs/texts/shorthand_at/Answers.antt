@@ -1,4 +1,5 @@
-use Rattle.std.proofs.Common.{◌≡◌, [], ◌∷◌, ℕ, List, get_or, drop, sym}
+use Rattle.std.proofs.lemmas.Grind.{common_steps}
+use Rattle.std.proofs.Common.{◌≡◌, [], ◌∷◌, ℕ, List, get_or, drop, sym, arith}
 use Rattle.std.proofs.lemmas.List.{drop_more, drop_all}
 use Rattle.cron_text.proofs.MeaningLemmas.{no_shorthand}
 use Rattle.cron_text.proofs.texts.shorthand_at.Goals as goal
@@ -18,3 +19,6 @@ returns-then-text-at-ne64 c =
     let text = c.args.text.now in
     sym (no_shorthand (drop c.args.at text) (λ cs e. c.if-text-at-ne64.true
     (first_is _ cs (get_or text c.args.at 0) 64 _ (drop_more text c.args.at 0 c.if-at-text.false) e)))
+
+pub returns : goal.returns
+returns c = grind (arith, common_steps)

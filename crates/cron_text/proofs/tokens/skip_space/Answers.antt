@@ -1,4 +1,5 @@
-use Rattle.std.proofs.Common.{◌≡◌, true, false, nat_lt, get_or, length, drop, sym, ◌∙◌, arith, le_refl}
+use Rattle.std.proofs.lemmas.Grind.{common_steps}
+use Rattle.std.proofs.Common.{◌≡◌, true, false, nat_lt, get_or, length, drop, sym, ◌∙◌, arith, le_refl, rules}
 use Rattle.cron_text.specs.Tokens.{tokens, is_space, after_gap}
 use Rattle.cron_text.specs.Meaning.{trimmed_front}
 use Rattle.cron_text.proofs.Places.{gap_more, front_further, front_here, front_end, end_of_gap}
@@ -34,3 +35,18 @@ pub returns-clause-trims : goal.returns-clause-trims
 returns-clause-trims c =
     let (gap, front) = rest_of c in
     front_end c.args.text.now (length c.args.text.now) _ (le_refl (length c.args.text.now)) front
+
+pub returns-then-not-is_space-clause-place : goal.returns-then-not-is_space-clause-place
+returns-then-not-is_space-clause-place c = grind (arith, common_steps)
+
+pub returns-then-not-is_space-clause-same : goal.returns-then-not-is_space-clause-same
+returns-then-not-is_space-clause-same c = search rules
+
+pub returns-then-not-is_space-clause-further : goal.returns-then-not-is_space-clause-further
+returns-then-not-is_space-clause-further c = search rules
+
+pub returns-clause-place : goal.returns-clause-place
+returns-clause-place c = grind (arith, common_steps)
+
+pub returns-clause-further : goal.returns-clause-further
+returns-clause-further c = search rules

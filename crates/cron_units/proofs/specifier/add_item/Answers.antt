@@ -1,4 +1,4 @@
-use Rattle.std.proofs.Common.{sym, ap, ◌∙◌}
+use Rattle.std.proofs.Common.{sym, ap, ◌∙◌, rules}
 use Rattle.cron_units.specs.Denotation.{by_steps, the_last_day, of_steps}
 use Rattle.cron_units.specs.SetLaws.{or_false}
 use Rattle.cron_units.specs.Views.{item_view, steps_view}
@@ -22,3 +22,12 @@ returns-clause-ok g c =
       c.add_steps.ensures.members,
       c.add_steps.ensures.mark ∙ sym (or_false (field.marked c.args.set.now)),
     )
+
+pub returns-in_err-first-clause-ok : goal.returns-in_err-first-clause-ok
+returns-in_err-first-clause-ok c = search rules
+
+pub returns-in_err-first-clause-err : goal.returns-in_err-first-clause-err
+returns-in_err-first-clause-err c = search rules
+
+pub returns-in_err-first-clause-unchanged : goal.returns-in_err-first-clause-unchanged
+returns-in_err-first-clause-unchanged c = search rules

@@ -5,6 +5,6 @@ use Rattle.cron_time.proofs.calendar.KnownMonth.month_and_day.Goals as goal
 pub returns-then-is_longer_than-clause-place : goal.returns-then-is_longer_than-clause-place
 returns-then-is_longer_than-clause-place c =
     let month = rw c.self.view_is at c.self.invariant in
-    let longer = c.is_longer_than.ensures c.if-is_longer_than.true in
+    let longer = c.is_longer_than.ensures.longer c.if-is_longer_than.true in
     rw (c.self-2.view_is, month.2) (known_place c.args.self c.args.number month.0 month.1 (omega (arith, month.2, c.if-number-self.false))
     (omega (arith, month.2, longer)))

@@ -1,4 +1,4 @@
-use Rattle.std.proofs.Common.{◌≡◌, ◌≤◌, ℕ, Option, sym, ap, subst, ◌∙◌}
+use Rattle.std.proofs.Common.{◌≡◌, ◌≤◌, ℕ, Option, sym, ap, subst, ◌∙◌, rules}
 use Rattle.std.specs.Prelude.{IfSome}
 use Rattle.std.specs.Option.{option_map}
 use Rattle.cron_units.specs.Tables.{names_view}
@@ -15,3 +15,6 @@ returns-clause-within g c =
     c.ordinal_named.ensures ∙ (sym (ap (λ (names : Option Names). named_by (option_map names_view names) word) c.in_ok-names.was)
     ∙ ap (λ (v : TimeUnit). ordinal_of v word) c.definition.ensures.unit) in
     subst (λ (o : Option ℕ). IfSome o (λ n. (u.least ≤ n) × (n ≤ u.greatest))) (sym same) (ordinal_within u word g.met.Self.TimeUnitField.is_unit)
+
+pub returns-clause-value : goal.returns-clause-value
+returns-clause-value c = search rules

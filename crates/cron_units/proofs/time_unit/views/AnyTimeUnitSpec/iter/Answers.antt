@@ -1,4 +1,4 @@
-use Rattle.std.proofs.Common.{ap, arith, List, ℕ, length}
+use Rattle.std.proofs.Common.{ap, arith, List, ℕ, length, rules}
 use Rattle.cron_units.specs.SetLaws.{length_set}
 use Rattle.cron_units.proofs.time_unit.views.AnyTimeUnitSpec.iter.Goals as goal
 
@@ -7,3 +7,6 @@ returns-clause-countable g c =
     let u = g.T.TimeUnitField.unit in
     let xs = g.T.TimeUnitField.members c.args.self.now in
     omega (arith, length_set u xs c.known.ensures, ap (λ (ys : List ℕ). length ys) c.ascending.ensures, g.met.T.TimeUnitField.is_unit.countable)
+
+pub returns-clause-members : goal.returns-clause-members
+returns-clause-members c = search rules

@@ -1,4 +1,4 @@
-use Rattle.std.proofs.Common.{◌≡◌, ap, arith, List, ℕ, filter, length}
+use Rattle.std.proofs.Common.{◌≡◌, ap, arith, List, ℕ, filter, length, rules}
 use Rattle.cron_units.specs.Bounds.{is_within}
 use Rattle.cron_units.specs.SetLaws.{length_filter, length_set}
 use Rattle.cron_units.proofs.time_unit.views.AnyTimeUnitSpec.range.Goals as goal
@@ -16,3 +16,6 @@ returns-clause-countable g c =
       ap (λ (ys : List ℕ). length ys) kept,
       g.met.T.TimeUnitField.is_unit.countable,
     )
+
+pub returns-clause-members : goal.returns-clause-members
+returns-clause-members c = search rules

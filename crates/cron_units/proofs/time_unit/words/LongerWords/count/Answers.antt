@@ -1,4 +1,4 @@
-use Rattle.std.proofs.Common.{sym}
+use Rattle.std.proofs.Common.{sym, rules}
 use Rattle.cron_units.specs.LongerLaws.{then_count}
 use Rattle.cron_units.specs.Words.{has_bit}
 use Rattle.cron_units.proofs.time_unit.words.LongerWords.count.Goals as goal
@@ -6,3 +6,6 @@ use Rattle.cron_units.proofs.time_unit.words.LongerWords.count.Goals as goal
 pub returns-clause-value : goal.returns-clause-value
 returns-clause-value g c =
     rw (c.count.ensures.value, c.count-2.ensures.value) (sym (then_count (has_bit c.args.self.low) (g.R.Words.has c.args.self.rest) g.R.Words.size))
+
+pub returns-clause-within : goal.returns-clause-within
+returns-clause-within c = search rules

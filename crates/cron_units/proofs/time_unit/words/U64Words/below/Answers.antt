@@ -1,3 +1,4 @@
+use Rattle.std.proofs.Common.{rules}
 use Rattle.cron_units.specs.WordLaws.{bit_to, bit_to_past}
 use Rattle.cron_units.proofs.time_unit.words.U64Words.below.Goals as goal
 
@@ -6,3 +7,9 @@ returns-then-place-lt64-clause-bits c = λ k. bit_to c.args.self c.args.place k 
 
 pub returns-else-place-lt64-clause-bits : goal.returns-else-place-lt64-clause-bits
 returns-else-place-lt64-clause-bits c = λ k. bit_to_past c.args.self c.args.place k c.if-place-lt64.false
+
+pub returns-then-place-lt64-clause-fit : goal.returns-then-place-lt64-clause-fit
+returns-then-place-lt64-clause-fit c = search rules
+
+pub returns-else-place-lt64-clause-fit : goal.returns-else-place-lt64-clause-fit
+returns-else-place-lt64-clause-fit c = search rules

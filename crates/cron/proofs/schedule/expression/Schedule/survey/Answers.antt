@@ -1,0 +1,14 @@
+use Rattle.std.proofs.Common.{rules}
+use Rattle.cron.proofs.schedule.expression.Schedule.survey.Goals as goal
+
+pub returns-clause-seconds : goal.returns-clause-seconds
+returns-clause-seconds c = search rules
+
+pub returns-clause-conversions : goal.returns-clause-conversions
+returns-clause-conversions c = search rules
+
+pub returns-clause-least_days : goal.returns-clause-least_days
+returns-clause-least_days c = search rules
+
+pub returns-clause-most_days : goal.returns-clause-most_days
+returns-clause-most_days c = search rules

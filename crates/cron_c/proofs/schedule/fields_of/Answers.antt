@@ -1,0 +1,5 @@
+use Rattle.std.proofs.Common.{rules}
+use Rattle.cron_c.proofs.schedule.fields_of.Goals as goal
+
+pub returns : goal.returns
+returns c = search rules

@@ -1,0 +1,15 @@
+use Rattle.std.proofs.Common.{◌≡◌, Bool, true, false, refl, ap, ◌∙◌, rules}
+use Rattle.cron_writer.specs.Watching.{has_failed}
+use Rattle.cron_writer.proofs.Gathering.{both_ways}
+use Rattle.cron_listing.proofs.run.send_items.Goals as goal
+
+was_fresh : (before after : Bool) → (before ≡ true → after ≡ true) → after ≡ false → before ≡ false
+was_fresh true after kept fresh = absurd (both_ways after (kept refl) fresh)
+was_fresh false after kept fresh = refl
+
+pub returns-clause-last : goal.returns-clause-last
+returns-clause-last g c =
+    λ fresh. c.gather_items-last.ensures.last (was_fresh _ _ (λ off. ap has_failed (c.send.ensures.untouched off) ∙ off) fresh)
+
+pub returns-clause-lines : goal.returns-clause-lines
+returns-clause-lines c = search rules

@@ -1,0 +1,79 @@
+-- What the program writes.
+use Rattle.std.specs.Prelude.{◌≡◌, ℕ, ℤ, Bool, true, false, List, [], ◌∷◌, ◌++◌, ◌⊎◌, Option, Some, None, codes, replicate}
+use Rattle.std.specs.Io.KnownBytes.{Appends}
+use Rattle.std.specs.List.{flat_map}
+use Rattle.jiff_tz.specs.declared.timezone.TimeZone.{TimeZone}
+use Rattle.cron_units.specs.declared.way.Way.{Way}
+use Rattle.cron_units.specs.declared.way.Way.TheVariants.{Ahead, Back}
+use Rattle.cron_time.specs.Cursor.{Start, Walk, run_on}
+use Rattle.cron_text.specs.Meaning.{Means}
+use Rattle.cron_time.specs.MomentText.{item_line}
+use Rattle.cron_time.specs.Readings.{Reading}
+use Rattle.cron_units.specs.Sets.{Sets}
+use Rattle.cron_text.specs.Fault.{IsRefusal}
+use Rattle.cron_time.specs.Timeline.{timeline}
+use Rattle.cron_writer.specs.Watching.{IsFrontSent}
+use Rattle.cron_listing.specs.declared.run.Outcome.{Outcome}
+use Rattle.cron_listing.specs.declared.run.Outcome.TheVariants.{Listed, Refused, WriteFailed}
+
+-- the line of an answer; a walk that has ended gives none
+abbrev pub answer_line : Option Reading → List ℕ
+answer_line None = []
+answer_line (Some r) = item_line r
+
+abbrev pub direction : Bool → Way
+direction false = Ahead
+direction true = Back
+
+-- the first so many answers of a walk in a direction
+unfoldable pub answers_of : Bool → Walk → ℕ → List (Option Reading)
+answers_of back w count = (run_on (timeline w.sets w.zone) w.zone (replicate count (direction back)) w.cursor).answers
+
+-- their lines
+unfoldable pub lines_of : Bool → Walk → ℕ → List ℕ
+lines_of back w count = flat_map answer_line (answers_of back w count)
+
+-- the first if it is there, else the second
+abbrev pub first_there : Option Reading → Option Reading → Option Reading
+first_there (Some r) other = Some r
+first_there None other = other
+
+-- the last item among answers, if there is one
+unfoldable pub last_item : List (Option Reading) → Option Reading
+last_item [] = None
+last_item (answer ∷ answers) = first_there (last_item answers) answer
+
+-- the same of the walk that starts at an instant
+abbrev pub listing : Sets → TimeZone → ℤ → ℕ → Bool → List ℕ
+listing s z start count back = lines_of back (record { sets = s; zone = z; cursor = Start start }) count
+
+-- what a refused expression is told: its fault, or that memory ran out
+abbrev pub IsTold : List ℕ → List ℕ → Type 0
+IsTold expression told = IsRefusal expression told ⊎ (told ≡ codes "out of memory")
+
+abbrev pub complaint : List ℕ → List ℕ
+complaint told = codes "error: " ++ (told ++ 10 ∷ [])
+
+-- the text lists the items of the sets that the expression means
+abbrev pub IsListing : List ℕ → TimeZone → ℤ → ℕ → Bool → List ℕ → Type 0
+IsListing expression z start count back text = (s : Sets) × Means expression s × (text ≡ listing s z start count back)
+
+-- the text complains of the expression
+abbrev pub IsComplaint : List ℕ → List ℕ → Type 0
+IsComplaint expression text = (told : List ℕ) × IsTold expression told × (text ≡ complaint told)
+
+-- A writer was handed this text: it holds the whole of it, and the outcome is `done`; or a write failed, and it holds a beginning.
+abbrev pub Ends : Outcome → List ℕ → Option (List ℕ) → Option (List ℕ) → Outcome → Type 0
+Ends done text old new Listed = (done ≡ Listed) × Appends old new text
+Ends done text old new Refused = (done ≡ Refused) × Appends old new text
+Ends done text old new WriteFailed = IsFrontSent old new text
+
+-- what a run writes: the listing of what the expression means, or the complaint
+abbrev pub Writes : List ℕ → TimeZone → ℤ → ℕ → Bool → Option (List ℕ) → Option (List ℕ) → Outcome → Type 0
+Writes expression z start count back old new outcome =
+    ((text : List ℕ) × IsListing expression z start count back text × Ends Listed text old new outcome)
+    ⊎ ((text : List ℕ) × IsComplaint expression text × Ends Refused text old new outcome)
+
+abbrev pub is_write_failure : Outcome → Bool
+is_write_failure WriteFailed = true
+is_write_failure _ = false

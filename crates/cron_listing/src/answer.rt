@@ -1,0 +1,95 @@
+//! What the program answers to the words of a command line.
+
+ghost use Rattle.std.specs.Prelude.{◌≡◌, false, map, string_bytes};
+ghost use Rattle.cron_listing.specs.Answers.{IsAnswered, IsUsage, Lists, code_of, is_failed, status_of};
+ghost use Rattle.cron_writer.specs.Watching.{has_failed, writer_of};
+
+use crate::run::{Outcome, refuse, run};
+use crate::words::{Request, request_of};
+use cron_writer::watched::Watched;
+use std::alloc::Global;
+use std::io::Write;
+
+const USAGE: &str = "usage: cron_next EXPRESSION START ZONE COUNT [back]\n";
+
+/// How an invocation ended.
+#[derive(Clone, Copy, Debug, PartialEq, Eq)]
+pub enum Status {
+    /// The items were listed, also where there are none.
+    Listed,
+    /// The expression was refused, or the words could not be read for want of memory.
+    Refused,
+    /// The words can't be read, and the usage line was written.
+    BadArguments,
+    /// A write or the flush failed.
+    WriteFailed,
+}
+
+impl Status {
+    /// The exit status: 0, 1, 2 or 3, in the order above.
+    pub fn code(self) -> u8
+        ensures { result ≡ code_of self }
+    {
+        match self {
+            Status::Listed => 0,
+            Status::Refused => 1,
+            Status::BadArguments => 2,
+            Status::WriteFailed => 3,
+        }
+    }
+}
+
+impl From<Outcome> for Status {
+    ghost from_gives = { λ outcome status. status ≡ status_of outcome };
+
+    fn from(outcome: Outcome) -> Status {
+        match outcome {
+            Outcome::Listed => Status::Listed,
+            Outcome::Refused => Status::Refused,
+            Outcome::WriteFailed => Status::WriteFailed,
+        }
+    }
+}
+
+// The words ask for a list.
+fn list<W: Write>(alloc: Global, request: &Request<'_>, out: &mut Watched<W>) -> Status
+    requires { has_failed out.old ≡ false }
+    ensures answered { Lists request.now (W.contents (writer_of out.old)) (W.contents (writer_of out.new)) result }
+    ensures mark { has_failed out.new ≡ is_failed result }
+{
+    let outcome = run(
+        alloc,
+        request.expression,
+        request.start,
+        &request.zone,
+        request.count,
+        request.back,
+        out,
+    );
+    Status::from(outcome)
+}
+
+/// Writes the usage line, and flushes.
+pub fn usage<W: Write>(out: &mut Watched<W>) -> Status
+    requires { has_failed out.old ≡ false }
+    ensures answered { IsUsage (W.contents (writer_of out.old)) (W.contents (writer_of out.new)) result }
+    ensures mark { has_failed out.new ≡ is_failed result }
+{
+    match refuse(out, USAGE) {
+        Outcome::WriteFailed => Status::WriteFailed,
+        _ => Status::BadArguments,
+    }
+}
+
+/// Answers the words after the program's name: the list that they ask for, or the line that says why
+/// there is none.
+pub fn answer<W: Write>(alloc: Global, words: &[String], out: &mut Watched<W>) -> Status
+    requires { has_failed out.old ≡ false }
+    ensures answered { IsAnswered (map string_bytes words.now) (W.contents (writer_of out.old)) (W.contents (writer_of out.new)) result }
+    ensures mark { has_failed out.new ≡ is_failed result }
+{
+    match request_of(words) {
+        Some(request) => list(alloc, &request, out),
+        None => usage(out),
+    }
+}

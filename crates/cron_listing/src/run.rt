@@ -1,0 +1,176 @@
+//! The items of an expression, written to a watched writer.
+
+ghost use Rattle.std.specs.Prelude.{◌≡◌, ℕ, List, [], Option, false};
+ghost use Rattle.jiff.specs.Words.{plain_zone};
+ghost use Rattle.cron_units.specs.Texts.{error_text};
+ghost use Rattle.cron_time.specs.Cursor.{Steps};
+ghost use Rattle.cron_listing.specs.Output.{answers_of, direction, last_item, lines_of, complaint, Ends, Writes, is_write_failure};
+ghost use Rattle.cron_writer.specs.Watching.{has_failed, kept_in, writer_of, IsGathered, IsSent};
+ghost use Rattle.cron_listing.specs.declared.run.Outcome.TheVariants.{Refused};
+
+use cron::error::{Error, ErrorKind};
+use cron::schedule::Moment;
+use cron::{Schedule, ScheduleIterator};
+use cron_time::line::line_of;
+use cron_writer::gathered::Gathered;
+use cron_writer::watched::{Watched, send};
+use jiff::Timestamp;
+use jiff::tz::TimeZone;
+use std::alloc::Global;
+use std::io::Write;
+
+/// How a run ended.
+#[derive(Clone, Copy, Debug, PartialEq, Eq)]
+pub enum Outcome {
+    /// The items were written, fewer than were asked for where the walk ended.
+    Listed,
+    /// The expression was refused, and the one line that says why was written.
+    Refused,
+    /// A write or the flush failed, and nothing more was written.
+    WriteFailed,
+}
+
+/// How a page ended.
+#[derive(Clone, Copy, Debug, PartialEq, Eq)]
+pub enum Page {
+    /// The items were written. This is the last of them, or the given item where there was none: hand
+    /// it in for the following page.
+    Listed(Moment),
+    /// The given moment is no item of the schedule in this zone. Nothing was written or flushed.
+    NotAnItem,
+    /// A write or the flush failed, and nothing more was written.
+    WriteFailed,
+}
+
+fn step(walk: &mut ScheduleIterator<'_>, back: bool) -> Option<Moment>
+    ensures { Steps (direction back) walk.old result walk.new }
+{
+    if back { walk.next_back() } else { walk.next() }
+}
+
+// Gathers the lines of the first `count` answers, until the walk ends or a write fails, and answers
+// the last item whose line was gathered.
+fn gather_items<W: Write>(
+    walk: &mut ScheduleIterator<'_>,
+    count: u32,
+    back: bool,
+    lines: &mut Gathered,
+    out: &mut Watched<W>,
+) -> Option<Moment>
+    requires fresh { has_failed out.old ≡ false }
+    requires nothing { kept_in lines.old ≡ [] }
+    ensures lines { IsGathered (W.contents (writer_of out.old)) (W.contents (writer_of out.new)) (has_failed out.new) (kept_in lines.new) (lines_of back walk.old count) }
+    ensures last { has_failed out.new ≡ false → result ≡ last_item (answers_of back walk.old count) }
+{
+    let mut last = None;
+    for _ in 0..count {
+        let Some(moment) = step(walk, back) else {
+            return last;
+        };
+        lines.push_line(line_of(&moment).as_slice(), out);
+        if out.failed() {
+            return last;
+        }
+        last = Some(moment);
+    }
+    last
+}
+
+/// Writes the lines of the first `count` answers, until the walk ends or a write fails, and answers
+/// the last item. The lines are handed on many at a time, and the rest of them at the end.
+pub(crate) fn send_items<W: Write>(
+    walk: &mut ScheduleIterator<'_>,
+    count: u32,
+    back: bool,
+    out: &mut Watched<W>,
+) -> Option<Moment>
+    requires { has_failed out.old ≡ false }
+    ensures lines { IsSent (W.contents (writer_of out.old)) (W.contents (writer_of out.new)) (has_failed out.new) (lines_of back walk.old count) }
+    ensures last { has_failed out.new ≡ false → result ≡ last_item (answers_of back walk.old count) }
+{
+    let mut lines = Gathered::new();
+    let last = gather_items(walk, count, back, &mut lines, out);
+    lines.send(out);
+    last
+}
+
+// What an error prints.
+fn message_of(error: &Error) -> &str
+    ensures { result.now ≡ error_text error.now }
+{
+    match error.kind() {
+        ErrorKind::Expression(text) => text.as_str(),
+        ErrorKind::OutOfMemory => "out of memory",
+    }
+}
+
+// Writes the line that tells why an expression is refused.
+fn send_complaint<W: Write>(error: &Error, out: &mut Watched<W>)
+    requires { has_failed out.old ≡ false }
+    ensures { IsSent (W.contents (writer_of out.old)) (W.contents (writer_of out.new)) (has_failed out.new) (complaint (error_text error.now)) }
+{
+    send(out, b"error: ");
+    send(out, message_of(error).as_bytes());
+    send(out, b"\n");
+}
+
+/// Flushes what was written whole, and tells how the run ended.
+pub(crate) fn finish<W: Write>(out: &mut Watched<W>, done: Outcome) -> Outcome
+    requires { is_write_failure done ≡ false }
+    ensures ends { (origin : Option (List ℕ)) (text : List ℕ)
+        → IsSent origin (W.contents (writer_of out.old)) (has_failed out.old) text
+        → Ends done text origin (W.contents (writer_of out.new)) result }
+    ensures mark { has_failed out.new ≡ is_write_failure result }
+    ensures whole { is_write_failure result ≡ false → has_failed out.old ≡ false }
+{
+    if out.failed() {
+        return Outcome::WriteFailed;
+    }
+    let _flushed = out.flush();
+    if out.failed() {
+        return Outcome::WriteFailed;
+    }
+    done
+}
+
+/// Writes the one line that says why nothing is listed, and flushes.
+pub fn refuse<W: Write>(out: &mut Watched<W>, line: &str) -> Outcome
+    requires { has_failed out.old ≡ false }
+    ensures ends { Ends Refused line.now (W.contents (writer_of out.old)) (W.contents (writer_of out.new)) result }
+    ensures mark { has_failed out.new ≡ is_write_failure result }
+{
+    send(out, line.as_bytes());
+    finish(out, Outcome::Refused)
+}
+
+/// Writes a line for each of the first `count` items of the expression after the start, or before
+/// it where `back` says so, and flushes. A refused expression is told by one line. It takes memory
+/// in the reading alone, so a list that was begun never ends for want of memory.
+///
+/// Whole lines are handed to the writer together, up to 4,096 bytes a call, and the last of them
+/// before the flush. So who reads sees a short list at once, and a long one in blocks. Once a call
+/// fails the writer is not called again: it holds what it took before.
+pub fn run<W: Write>(
+    alloc: Global,
+    expression: &str,
+    start: Timestamp,
+    zone: &TimeZone<'_>,
+    count: u32,
+    back: bool,
+    out: &mut Watched<W>,
+) -> Outcome
+    requires { has_failed out.old ≡ false }
+    ensures writes { Writes expression.now (plain_zone zone.now) start.nanosecond count back (W.contents (writer_of out.old)) (W.contents (writer_of out.new)) result }
+    ensures mark { has_failed out.new ≡ is_write_failure result }
+{
+    match Schedule::from_str(alloc, expression) {
+        Ok(schedule) => {
+            let _last = send_items(&mut schedule.after(start, zone), count, back, out);
+            finish(out, Outcome::Listed)
+        }
+        Err(error) => {
+            send_complaint(&error, out);
+            finish(out, Outcome::Refused)
+        }
+    }
+}

@@ -1,5 +1,0 @@
-pub mod Watching
-pub mod Output
-pub mod Words
-pub mod Answers
-pub mod Pages

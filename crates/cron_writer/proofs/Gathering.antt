@@ -1,0 +1,65 @@
+-- Lines that are gathered, and handed on together.
+use Rattle.std.proofs.Common.{◌≡◌, ℕ, Bool, true, false, Option, List, [], ◌++◌, refl, sym, ap, ◌∙◌, subst, append_assoc, append-nil}
+use Rattle.std.proofs.KnownBytes.{Appends-nil}
+use Rattle.cron_writer.specs.Watching.{IsFrontSent, IsGathered, IsKept, IsSent}
+use Rattle.cron_writer.proofs.Sending.{front_more, nothing_sent}
+
+pub nothing_gathered : (c : Option (List ℕ)) (failed : Bool) → IsGathered c c failed [] []
+nothing_gathered c failed =
+    record { front = (nothing_sent c failed).front; rest = λ _. record { sent = []; cut = refl; appended = Appends-nil c } }
+
+-- a line is kept with those that were kept before it
+pub kept_on : (origin now : Option (List ℕ)) (failed : Bool) (old were kept text line : List ℕ) → were ≡ old → kept ≡ were ++ line
+    → IsGathered origin now failed old text → IsGathered origin now failed kept (text ++ line)
+kept_on origin now failed old were kept text line same more g =
+    record {
+      front = front_more origin now text line g.front;
+      rest = λ fresh. record {
+        sent = (g.rest fresh).sent;
+        cut = ap (λ (t : List ℕ). t ++ line) (g.rest fresh).cut
+            ∙ (append_assoc (g.rest fresh).sent old line ∙ ap (λ (t : List ℕ). (g.rest fresh).sent ++ t)
+            (sym (more ∙ ap (λ (t : List ℕ). t ++ line) same)));
+        appended = (g.rest fresh).appended;
+      };
+    }
+
+-- a line is kept alone, after those before it were sent
+pub kept_alone : (origin now : Option (List ℕ)) (failed : Bool) (were kept text line : List ℕ) → were ≡ [] → kept ≡ were ++ line
+    → IsSent origin now failed text → IsGathered origin now failed kept (text ++ line)
+kept_alone origin now failed were kept text line none more s =
+    record {
+      front = front_more origin now text line s.front;
+      rest = λ fresh. record {
+        sent = text;
+        cut = ap (λ (t : List ℕ). text ++ t) (sym (more ∙ ap (λ (t : List ℕ). t ++ line) none));
+        appended = s.whole fresh;
+      };
+    }
+
+pub both_ways : (b : Bool) → b ≡ true → b ≡ false → ⊥
+both_ways b p q = cc
+
+-- a text that is a beginning of the whole, where a call has failed
+pub gathered_part : (origin now : Option (List ℕ)) (failed : Bool) (kept whole part rest : List ℕ) → whole ≡ part ++ rest → failed ≡ true
+    → IsGathered origin now failed kept part → IsGathered origin now failed kept whole
+gathered_part origin now failed kept whole part rest e f g =
+    rw e (record { front = front_more origin now part rest g.front; rest = λ fresh. absurd (both_ways failed f fresh) })
+
+-- all that was gathered was sent, but what is kept
+kept_sent : (origin old : Option (List ℕ)) (kept text : List ℕ) (k : IsKept origin old kept text) → IsSent origin old false k.sent
+kept_sent origin old kept text k =
+    record { front = record { sent = k.sent; kept_back = []; cut = sym (append-nil k.sent); appended = k.appended }; whole = λ _. k.appended }
+
+-- what was kept is handed on, where no call has failed before
+pub rest_sent : (origin old new : Option (List ℕ)) (failed fails : Bool) (handed kept text : List ℕ) → handed ≡ kept
+    → IsGathered origin old failed kept text → (failed ≡ true → (new ≡ old) × (fails ≡ true))
+    → ((before : List ℕ) → IsSent origin old failed before → IsSent origin new fails (before ++ handed)) → IsSent origin new fails text
+rest_sent origin old new true fails handed kept text same g off on =
+    record {
+      front = subst (λ (c : Option (List ℕ)). IsFrontSent origin c text) (sym (off refl).0) g.front;
+      whole = λ fresh. absurd (both_ways fails (off refl).1 fresh);
+    }
+rest_sent origin old new false fails handed kept text same g off on =
+    let sent : List ℕ = (g.rest refl).sent in
+    let is_text : sent ++ handed ≡ text = ap (λ (t : List ℕ). sent ++ t) same ∙ sym (g.rest refl).cut in
+    subst (λ (t : List ℕ). IsSent origin new fails t) is_text (on sent (kept_sent origin old kept text (g.rest refl)))

@@ -1,0 +1,98 @@
+//! A writer that remembers whether it failed, and a loop that hands a whole text to it.
+
+ghost use Rattle.std.specs.Prelude.{◌≡◌, ◌||◌, ◌++◌, ℕ, List, Option, false, true};
+ghost use Rattle.std.specs.Io.KnownBytes.{Keeps, WriteAppends};
+ghost use Rattle.std.specs.Io.{WritesAtMost};
+ghost use Rattle.cron_writer.specs.Watching.{has_failed, writer_of, is_failed_write, is_failed_flush, IsSent};
+
+use std::io::{self, Write};
+
+/// A writer, and whether a call of it failed. The mark stays set.
+#[derive(Drop)]
+pub struct Watched<W> {
+    writer: W,
+    failed: bool,
+}
+
+impl<W> Watched<W> {
+    /// Watches a writer. No call has failed yet.
+    pub fn new(writer: W) -> Watched<W>
+        ensures writer { writer_of result ≡ writer }
+        ensures mark { has_failed result ≡ false }
+    {
+        Watched {
+            writer,
+            failed: false,
+        }
+    }
+
+    /// Whether a write or a flush failed, or a write took no byte of a piece that isn't empty.
+    pub fn failed(&self) -> bool
+        ensures { result ≡ has_failed self.now }
+    {
+        self.failed
+    }
+
+    /// The writer.
+    pub fn into_inner(self) -> W
+        ensures { result ≡ writer_of self }
+    {
+        let Watched { writer, .. } = self;
+        writer
+    }
+}
+
+impl<W: Write> Watched<W> {
+    /// Passes a write on.
+    pub fn write(&mut self, piece: &[u8]) -> io::Result<usize>
+        ensures bound { WritesAtMost result piece.now }
+        ensures bytes { WriteAppends (W.contents (writer_of self.old)) (W.contents (writer_of self.new)) result piece.now }
+        ensures mark { has_failed self.new ≡ (has_failed self.old || is_failed_write result piece.now) }
+    {
+        let result = self.writer.write(piece);
+        match &result {
+            Ok(0) if !piece.is_empty() => self.failed = true,
+            Ok(_) => {}
+            Err(_) => self.failed = true,
+        }
+        result
+    }
+
+    /// Passes a flush on.
+    pub fn flush(&mut self) -> io::Result<()>
+        ensures bytes { Keeps (W.contents (writer_of self.old)) (W.contents (writer_of self.new)) }
+        ensures mark { has_failed self.new ≡ (has_failed self.old || is_failed_flush result) }
+    {
+        let result = self.writer.flush();
+        if result.is_err() {
+            self.failed = true;
+        }
+        result
+    }
+}
+
+// Hands the whole text on, in as many writes as it takes, and stops at the first failure.
+fn send_whole<W: Write>(out: &mut Watched<W>, text: &[u8])
+    requires { has_failed out.old ≡ false }
+    ensures { IsSent (W.contents (writer_of out.old)) (W.contents (writer_of out.new)) (has_failed out.new) text.now }
+{
+    let mut rest = text;
+    while !rest.is_empty() {
+        match out.write(rest) {
+            Ok(count) if count > 0 => rest = &rest[count..],
+            _ => return,
+        }
+    }
+}
+
+/// Hands a text on after what was handed on before, and nothing once a call has failed.
+pub fn send<W: Write>(out: &mut Watched<W>, text: &[u8])
+    ensures sent { (origin : Option (List ℕ)) (before : List ℕ)
+        → IsSent origin (W.contents (writer_of out.old)) (has_failed out.old) before
+        → IsSent origin (W.contents (writer_of out.new)) (has_failed out.new) (before ++ text.now) }
+    ensures untouched { has_failed out.old ≡ true → out.new ≡ out.old }
+{
+    if !out.failed() {
+        send_whole(out, text);
+    }
+}
