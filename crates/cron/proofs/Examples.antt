@@ -1,11 +1,14 @@
 -- The definitions on written examples, by computation.
-use Rattle.std.proofs.Common.{refl, arith}
+use Rattle.std.proofs.Common.{inr, refl, arith}
 use Rattle.jiff_core.specs.Calendar.{days_from_civil, day_count, days_of_years, days_of_months}
 use Rattle.std.specs.Fmt.{digits}
+use Rattle.cron_units.specs.Laws.{is_unit-seconds, is_unit-days_of_month, is_unit-days_of_week}
+use Rattle.cron_units.specs.Refusals.{below, above, no_range, first_unknown, turned, by_base, by_zero, by_step, unknown}
 use Rattle.cron_units.specs.Units.{whole}
+use Rattle.cron_units.proofs.DenotedSets.{denotes_union}
 use Rattle.cron.specs.Examples.{TextsAreCut, ItemsDenote, ItemsAreRefused, CursorsStep, DaysAreNumbered}
 use Rattle.cron_text.specs.Tokens.{tokens, symbol_of}
-use Rattle.cron_time.proofs.CivilLemmas.{civil_seconds-civil}
+use Rattle.cron_moments.proofs.CivilLemmas.{civil_seconds-civil}
 
 pub texts_are_cut : TextsAreCut
 unfolding tokens symbol_of
@@ -22,26 +25,26 @@ texts_are_cut = record {
 pub items_denote : ItemsDenote
 unfolding whole
 items_denote = record {
-  steps = record { unrefused = refl; union = refl };
-  names = record { unrefused = refl; union = refl };
-  last_day = record { unrefused = refl; union = refl };
-  last_day_first = record { unrefused = refl; union = refl };
+  steps = denotes_union _ _ _ is_unit-seconds refl refl;
+  names = denotes_union _ _ _ is_unit-days_of_week refl refl;
+  last_day = denotes_union _ _ _ is_unit-days_of_month refl refl;
+  last_day_first = denotes_union _ _ _ is_unit-days_of_month refl refl;
 }
 
 pub items_are_refused : ItemsAreRefused
 unfolding digits
 items_are_refused = record {
-  small = record { refusal = _; first = refl; told = refl };
-  large = record { refusal = _; first = refl; told = refl };
-  unknown = record { refusal = _; first = refl; told = refl };
-  unnamed = record { refusal = _; first = refl; told = refl };
-  lone = record { refusal = _; first = refl; told = refl };
-  longer = record { refusal = _; first = refl; told = refl };
-  last_days = record { refusal = _; first = refl; told = refl };
-  range = record { refusal = _; first = refl; told = refl };
-  names = record { refusal = _; first = refl; told = refl };
-  zero = record { refusal = _; first = refl; told = refl };
-  step = record { refusal = _; first = refl; told = refl };
+  small = record { refusal = _; refused = by_base (below (omega arith)); told = refl };
+  large = record { refusal = _; refused = by_base (above (omega arith)); told = refl };
+  unknown = record { refusal = _; refused = unknown refl refl; told = refl };
+  unnamed = record { refusal = _; refused = unknown refl refl; told = refl };
+  lone = record { refusal = _; refused = unknown refl refl; told = refl };
+  longer = record { refusal = _; refused = unknown refl refl; told = refl };
+  last_days = record { refusal = _; refused = by_base (first_unknown refl); told = refl };
+  range = record { refusal = _; refused = by_base (no_range (inr (inr (omega arith)))); told = refl };
+  names = record { refusal = _; refused = by_base (turned refl refl (omega arith)); told = refl };
+  zero = record { refusal = _; refused = by_zero refl; told = refl };
+  step = record { refusal = _; refused = by_step (omega arith); told = refl };
 }
 
 pub cursors_step : CursorsStep

@@ -1,17 +1,17 @@
 -- The first two answers of a walk in a zone with one offset.
-use Rattle.std.proofs.Common.{◌≡◌, ℕ, ℤ, List, Option, Some, None, refl, sym, ap, ◌∙◌, subst, slice_get}
+use Rattle.std.proofs.Common.{◌≡◌, ℕ, ◌+◌, ℤ, pos, ◌*ℤ◌, List, Option, Some, None, refl, sym, ap, ◌∙◌, subst, slice_get}
 use Rattle.jiff_core.specs.Timestamp.{IsTimestampNanos}
 use Rattle.jiff_tz.specs.Zone.{IsFixed}
 use Rattle.jiff_tz.specs.declared.timezone.TimeZone.{TimeZone}
 use Rattle.cron_units.specs.Sets.{Sets}
 use Rattle.cron_units.specs.declared.way.Way.TheVariants.{Ahead}
-use Rattle.cron_time.specs.Bounds.{bound_ahead}
-use Rattle.cron_time.specs.Cursor.{Cursor, Start, Place, Walk, Step, Steps, step, step_on, go_to, item_at, first_from}
-use Rattle.cron_time.specs.FixedLaws.{offset_of}
-use Rattle.cron_time.specs.Readings.{Reading}
+use Rattle.cron_time.specs.Walk.Bounds.{bound_ahead}
+use Rattle.cron_time.specs.Walk.Cursor.{Cursor, Start, Place, Ended, Walk, Step, Steps, step, step_on, go_to, item_at, first_from}
+use Rattle.cron_time.specs.Walk.FixedLaws.{offset_of}
+use Rattle.cron_moments.specs.Readings.{Reading, instant}
 use Rattle.cron_time.specs.Timeline.{timeline}
-use Rattle.cron_time.proofs.FixedLemmas.{first_is_least, next_is_later}
-use Rattle.cron.specs.Instants.{IsLeastIfAny, IsLaterIfAny}
+use Rattle.cron_time.proofs.Walks.FixedLemmas.{first_is_least, next_is_least}
+use Rattle.cron.specs.Instants.{IsLeastIfAny, IsNextIfAny}
 
 -- a walk that starts at t
 record StartsAt (s : Sets) (z : TimeZone) (t : ℤ) (w : Walk) : Type 0 where
@@ -39,20 +39,36 @@ pub placed : (items : List Reading) (o : Option ℕ) (x : Reading) → (go_to it
 placed items None x h = absurd (cc)
 placed items (Some i) x h = let at = item_placed i (slice_get items i) x h in (i, at.0, at.1)
 
-later_second : (s : Sets) (z : TimeZone) (t : ℤ) (first second : Option Reading) (c : Cursor) → IsFixed z
-    → first ≡ (step_on (timeline s z) z Ahead (Start t)).answer
-    → c ≡ (step_on (timeline s z) z Ahead (Start t)).cursor → second ≡ (step_on (timeline s z) z Ahead c).answer → IsLaterIfAny first second
-later_second s z t first None c fixed a at b = tt
-later_second s z t None (Some q) c fixed a at b = tt
-later_second s z t (Some r) (Some q) c fixed a at b =
-    let (i, here, item) = placed (timeline s z) (first_from (timeline s z) (bound_ahead z t)) r (sym a) in
-    next_is_later s z i r q fixed item (sym (b ∙ ap (λ (x : Cursor). (step_on (timeline s z) z Ahead x).answer) (at ∙ here)))
+-- a call that answers none leaves the walk ended
+ended : (items : List Reading) (o : Option ℕ) → (go_to items o).answer ≡ None → (go_to items o).cursor ≡ Ended
+ended items None h = refl
+ended items (Some i) h = at_place (slice_get items i) h
+  where
+    at_place : (x : Option Reading) → (item_at i x).answer ≡ None → (item_at i x).cursor ≡ Ended
+    at_place None e = refl
+    at_place (Some r) e = absurd (cc)
 
-pub later_next : (s : Sets) (z : TimeZone) (t : ℤ) (old new last : Walk) (first second : Option Reading) → old.sets ≡ s → old.zone ≡ z
+answer_at : (i : ℕ) (o : Option Reading) → (item_at i o).answer ≡ o
+answer_at i None = refl
+answer_at i (Some r) = refl
+
+second_is_least : (s : Sets) (z : TimeZone) (t : ℤ) (first second : Option Reading) (c : Cursor) → IsFixed z
+    → first ≡ (step_on (timeline s z) z Ahead (Start t)).answer
+    → c ≡ (step_on (timeline s z) z Ahead (Start t)).cursor → second ≡ (step_on (timeline s z) z Ahead c).answer
+    → IsNextIfAny s (offset_of z) first second
+second_is_least s z t None second c fixed a at b =
+    b ∙ ap (λ (x : Cursor). (step_on (timeline s z) z Ahead x).answer) (at ∙ ended (timeline s z) (first_from (timeline s z) (bound_ahead z t)) (sym a))
+second_is_least s z t (Some r) second c fixed a at b =
+    let (i, here, item) = placed (timeline s z) (first_from (timeline s z) (bound_ahead z t)) r (sym a) in
+    let answer : second ≡ slice_get (timeline s z) (i + 1) =
+    b ∙ (ap (λ (x : Cursor). (step_on (timeline s z) z Ahead x).answer) (at ∙ here) ∙ answer_at (i + 1) (slice_get (timeline s z) (i + 1))) in
+    subst (IsLeastIfAny s (offset_of z) (instant r *ℤ pos 1_000_000_000)) (sym answer) (next_is_least s z i r fixed item)
+
+pub next_least : (s : Sets) (z : TimeZone) (t : ℤ) (old new last : Walk) (first second : Option Reading) → old.sets ≡ s → old.zone ≡ z
     → old.cursor ≡ Start t → IsFixed z
-    → Steps Ahead old first new → Steps Ahead new second last → IsLaterIfAny first second
-later_next s z t old new last first second p q c fixed one two =
+    → Steps Ahead old first new → Steps Ahead new second last → IsNextIfAny s (offset_of z) first second
+next_least s z t old new last first second p q c fixed one two =
     let at = first_step s z t old (record { sets = p; zone = q; cursor = c }) in
     let next : step Ahead new ≡ step_on (timeline s z) z Ahead new.cursor = rw (one.sets ∙ p, one.zone ∙ q) refl in
-    later_second s z t first second new.cursor fixed (one.answer ∙ ap (λ (x : Step). x.answer) at) (one.cursor ∙ ap (λ (x : Step). x.cursor) at)
+    second_is_least s z t first second new.cursor fixed (one.answer ∙ ap (λ (x : Step). x.answer) at) (one.cursor ∙ ap (λ (x : Step). x.cursor) at)
     (two.answer ∙ ap (λ (x : Step). x.answer) next)

@@ -3,9 +3,9 @@ use Rattle.std.proofs.Common.{◌≡◌, ℕ, ◌+◌, List, [], ◌∷◌, ◌+
 use Rattle.jiff_tz.specs.declared.timezone.TimeZone.{TimeZone}
 use Rattle.cron_units.specs.declared.way.Way.{Way}
 use Rattle.cron_units.specs.declared.way.Way.TheVariants.{Ahead, Back}
-use Rattle.cron_time.specs.Bounds.{bound_ahead, bound_back}
-use Rattle.cron_time.specs.Cursor.{Cursor, Start, Place, Ended, run_on, step_on, first_from, last_to, place_before}
-use Rattle.cron_time.specs.Readings.{Reading}
+use Rattle.cron_time.specs.Walk.Bounds.{bound_ahead, bound_back}
+use Rattle.cron_time.specs.Walk.Cursor.{Cursor, Start, Place, Ended, run_on, step_on, first_from, last_to, place_before}
+use Rattle.cron_moments.specs.Readings.{Reading}
 use Rattle.cron_time.specs.Timeline.{timeline}
 use Rattle.cron_time.proofs.TimelineLaws.{stand_once}
 use Rattle.cron_time.proofs.TimelineLemmas.{is_in, stands-high}

@@ -4,11 +4,11 @@ use Rattle.std.proofs.lemmas.List.{map-append}
 use Rattle.jiff_tz.specs.declared.timezone.TimeZone.{TimeZone}
 use Rattle.cron_units.specs.declared.way.Way.{Way}
 use Rattle.cron_units.specs.declared.way.Way.TheVariants.{Ahead, Back}
-use Rattle.cron_time.specs.Cursor.{Cursor, Ended, Run, Walk, Step, Steps, go_to, item_at, place_before, step_on, run_on}
-use Rattle.cron_time.specs.Readings.{Reading}
+use Rattle.cron_time.specs.Walk.Cursor.{Cursor, Ended, Run, Walk, Step, Steps, go_to, item_at, place_before, step_on, run_on}
+use Rattle.cron_moments.specs.Readings.{Reading}
 use Rattle.cron_time.specs.Timeline.{timeline}
 use Rattle.cron.specs.Turns.{IsPlayed, way_of}
-use Rattle.cron_time.specs.WalkLaws.{RunsAreJoined, EndIsForEver, NeighboursAreAnswered}
+use Rattle.cron_time.specs.Walk.Laws.{RunsAreJoined, EndIsForEver, NeighboursAreAnswered}
 use Rattle.cron.specs.declared.schedule.play.Turn.{Turn}
 
 pub answers-append : (items : List Reading) (z : TimeZone) (us vs : List Way) (c : Cursor)

@@ -6,11 +6,12 @@ use Rattle.jiff_tz.specs.declared.timezone.TimeZone.{TimeZone}
 use Rattle.cron_units.specs.declared.way.Way.TheVariants.{Ahead, Back}
 use Rattle.cron_units.specs.Units as units
 use Rattle.cron_units.specs.Units.{unmarked, with_mark}
-use Rattle.cron_units.specs.Denotation.{Refusal, Denotes, refusal_of, message}
-use Rattle.cron_time.specs.Civil.{civil, seconds_in_range}
-use Rattle.cron_time.specs.Cursor.{Place, Ended, step_on}
+use Rattle.cron_units.specs.Denotation.{Denotes}
+use Rattle.cron_units.specs.Refusals.{Refusal, IsRefusedFor, message}
+use Rattle.cron_moments.specs.Civil.{civil, seconds_in_range}
+use Rattle.cron_time.specs.Walk.Cursor.{Place, Ended, step_on}
 use Rattle.cron_text.specs.Fields.{every, single, number_range, name_range, Item, plain, stepped, name, IsField, spacing_fits_all}
-use Rattle.cron_time.specs.Readings.{Reading}
+use Rattle.cron_moments.specs.Readings.{Reading}
 use Rattle.cron_text.specs.Tokens.{Token, tokens}
 
 abbrev pub token : List ℕ → Token
@@ -47,7 +48,7 @@ pub record ItemsDenote : Type 0 where
 -- an item is refused with this message
 pub record IsRefusedWith (u : units.TimeUnit) (i : Item) (text : List ℕ) : Type 0 where
   pub refusal : Refusal
-  pub first : refusal_of u (i ∷ []) ≡ Some refusal
+  pub refused : IsRefusedFor u i refusal
   pub told : message u refusal ≡ text
 
 -- one refusal of each kind

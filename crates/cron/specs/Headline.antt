@@ -1,9 +1,9 @@
 -- The whole promise in one place.
 use Rattle.std.specs.Prelude.{◌≡◌, ℕ, ℤ, List, Option, map}
 use Rattle.jiff_tz.specs.declared.timezone.TimeZone.{TimeZone}
-use Rattle.cron_time.specs.Cursor.{Start, run_on}
+use Rattle.cron_time.specs.Walk.Cursor.{Start, run_on}
 use Rattle.cron_text.specs.Meaning.{Means}
-use Rattle.cron_time.specs.Readings.{Reading}
+use Rattle.cron_moments.specs.Readings.{Reading}
 use Rattle.cron_units.specs.Sets.{Sets}
 use Rattle.cron_time.specs.Timeline.{timeline}
 use Rattle.cron.specs.Turns.{way_of}

@@ -2,9 +2,9 @@
 use Rattle.std.specs.Prelude.{◌≡◌, ◌<◌, ℕ, List, [], ◌∷◌, ◌++◌, Some, slice_get}
 use Rattle.cron_units.specs.Sets.{Sets}
 use Rattle.cron_units.specs.declared.way.Way.{Way}
-use Rattle.cron_time.specs.Civil.{seconds_in_range}
-use Rattle.cron_time.specs.Cursor.{Cursor, Place, Run, run_on, step_on}
-use Rattle.cron_time.specs.Readings.{Reading}
+use Rattle.cron_moments.specs.Civil.{seconds_in_range}
+use Rattle.cron_time.specs.Walk.Cursor.{Cursor, Place, Run, run_on, step_on}
+use Rattle.cron_moments.specs.Readings.{Reading}
 use Rattle.cron_time.specs.Timeline.{timeline}
 use Rattle.jiff_tz.specs.declared.timezone.TimeZone.{TimeZone}
 

@@ -2,8 +2,8 @@
 use Rattle.std.specs.Prelude.{◌≡◌, List, map, Option}
 use Rattle.cron_units.specs.declared.way.Way.{Way}
 use Rattle.cron_units.specs.declared.way.Way.TheVariants.{Ahead, Back}
-use Rattle.cron_time.specs.Cursor.{Walk, Run, run_on}
-use Rattle.cron_time.specs.Readings.{Reading}
+use Rattle.cron_time.specs.Walk.Cursor.{Walk, Run, run_on}
+use Rattle.cron_moments.specs.Readings.{Reading}
 use Rattle.cron_time.specs.Timeline.{timeline}
 use Rattle.cron.specs.declared.schedule.play.Turn.{Turn}
 use Rattle.cron.specs.declared.schedule.play.Turn.TheVariants.{Next, NextBack}

@@ -8,23 +8,24 @@ pub use Rattle.cron_units.specs.declared.way.Way.TheVariants.{Ahead, Back}
 pub use Rattle.cron_text.specs.Meaning.{Means, MeansBy, MeansNothing, IsLonghand, IsShorthand}
 pub use Rattle.cron_text.specs.Fault.{IsFault, IsRefusal, syntax_text}
 pub use Rattle.cron_time.specs.Matches.{matches, matches_date, matches_time, is_candidate, matches_day_of_month, has_day}
-pub use Rattle.cron_time.specs.Civil.{civil, days_in_range, seconds_in_range}
-pub use Rattle.cron_time.specs.CivilDates.{date_numbered}
-pub use Rattle.cron_time.specs.Readings.{Reading, instant, reading, readings}
+pub use Rattle.cron_moments.specs.Civil.{civil, days_in_range, seconds_in_range}
+pub use Rattle.cron_moments.specs.CivilDates.{date_numbered}
+pub use Rattle.cron_moments.specs.Readings.{Reading, instant, reading, readings}
 pub use Rattle.cron_time.specs.Timeline.{timeline, numbers_below}
-pub use Rattle.cron_time.specs.Bounds.{bound_ahead, bound_back}
-pub use Rattle.cron_time.specs.Cursor.{Cursor, Start, Place, Ended, Step, Walk, Steps, Run, step_on, run_on, go_to, item_at}
-pub use Rattle.cron_time.specs.Ways.{opposite, target}
-pub use Rattle.cron_time.specs.Rest.{Gives, items_from, rest, rest_on, rest_ahead, rest_back}
+pub use Rattle.cron_time.specs.Walk.Bounds.{bound_ahead, bound_back}
+pub use Rattle.cron_time.specs.Walk.Cursor.{Cursor, Start, Place, Ended, Step, Walk, Steps, Run, step_on, run_on, go_to, item_at}
+pub use Rattle.cron_time.specs.Walk.Ways.{opposite, target}
+pub use Rattle.cron_time.specs.Walk.Rest.{Gives, items_from, rest, rest_on, rest_ahead, rest_back}
 pub use Rattle.cron_time.specs.Search.{IsFound, stands}
-pub use Rattle.cron_time.specs.Found.{found_items, second_of}
-pub use Rattle.cron_time.specs.Counts.{conversions, days_of, candidates, gap_matches}
-pub use Rattle.cron_time.specs.Surveys.{standing_from, surveyed, surveyed_days}
-pub use Rattle.cron_time.specs.Times.{TimeOfDay, times_of_day, time_of_parts, IsNearestTime}
-pub use Rattle.cron_time.specs.MomentText.{moment_text}
+pub use Rattle.cron_moments.specs.Found.{found_items, second_of}
+pub use Rattle.cron_time.specs.Search.Counts.{conversions, days_of, candidates, gap_matches}
+pub use Rattle.cron_time.specs.Search.Surveys.{standing_from, surveyed, surveyed_days, days_again}
+pub use Rattle.cron_time.specs.Search.Times.{TimeOfDay, times_of_day, time_of_parts, IsNearestTime}
+pub use Rattle.cron_moments.specs.MomentText.{moment_text}
 pub use Rattle.cron_text.specs.TextLaws.{IsInGrammar, MeansOnce, MeansSets, LongestFrontsAgree, HasOneFault, MeantEarlier, KeepsItsMeaning}
-pub use Rattle.cron_time.specs.WalkLaws.{RunsAreJoined, EndIsForEver, NeighboursAreAnswered, SecondsNeverDecrease, SecondsStandTwiceAtMost, ItemsMatch, ItemsStandOnce}
-pub use Rattle.cron_time.specs.FixedLaws.{Shows, IsAfter, IsLeastAfter, offset_of, FirstIsLeast, NextIsLater}
-pub use Rattle.cron.specs.Instants.{IsLeastIfAny, IsLaterIfAny}
-pub use Rattle.cron_time.specs.Resume.{HasParts, IsAbsent, IsAtItem, IsResumed}
+pub use Rattle.cron_time.specs.Walk.Laws.{RunsAreJoined, EndIsForEver, NeighboursAreAnswered, SecondsNeverDecrease, SecondsStandTwiceAtMost, ItemsMatch, ItemsStandOnce}
+pub use Rattle.cron_time.specs.Walk.FixedLaws.{Shows, IsAfter, IsLeastAfter, offset_of, FirstIsLeast, NextIsLater}
+pub use Rattle.cron.specs.Instants.{IsLeastIfAny, IsNextIfAny}
+pub use Rattle.cron_time.specs.Walk.Resume.{IsAbsent, IsAtItem, IsResumed}
+pub use Rattle.cron_moments.specs.Parts.{HasParts}
 pub use Rattle.cron.specs.Resumed.{followed_by, CutRunsAreResumed, ItemsAreInRange}

@@ -1,18 +1,20 @@
-//! The headline, and laws over the definitions. No program calls these functions.
+//! The headline, and laws over the definitions. They are called for what their contracts say: by proofs,
+//! and `reread` by what tests the readers.
 
 ghost use Rattle.std.specs.Prelude.{◌≡◌, IfOk, IfErr};
 ghost use Rattle.jiff.specs.Words.{plain_zone, IsFixed};
+ghost use Rattle.cron_units.specs.ItemLaws.{ItemsAreRefusedOnce, ItemsAreDecided};
 ghost use Rattle.cron_units.specs.Texts.{Tells, IsMemory};
 ghost use Rattle.cron.specs.Examples.{TextsAreCut, ItemsDenote, ItemsAreRefused, CursorsStep, DaysAreNumbered};
 ghost use Rattle.cron_text.specs.Fault.{IsRefusal};
 ghost use Rattle.cron.specs.Headline.{IsWalked};
-ghost use Rattle.cron.specs.Instants.{IsLeastIfAny, IsLaterIfAny};
+ghost use Rattle.cron.specs.Instants.{IsLeastIfAny, IsNextIfAny};
 ghost use Rattle.cron.specs.Resumed.{CutRunsAreResumed, ItemsAreInRange};
 ghost use Rattle.cron_text.specs.TextLaws.{MeansOnce, MeansSets, LongestFrontsAgree, HasOneFault, KeepsItsMeaning};
-ghost use Rattle.cron_time.specs.Times.{TimesOfDayMatch};
-ghost use Rattle.cron_time.specs.Counts.{DaysAtMost};
-ghost use Rattle.cron_time.specs.FixedLaws as fixed;
-ghost use Rattle.cron_time.specs.WalkLaws as law;
+ghost use Rattle.cron_time.specs.Search.Times.{TimesOfDayMatch};
+ghost use Rattle.cron_time.specs.Search.Counts.{DaysAtMost};
+ghost use Rattle.cron_time.specs.Walk.FixedLaws as fixed;
+ghost use Rattle.cron_time.specs.Walk.Laws as law;
 
 use crate::schedule::{Moment, Schedule, Turn};
 use cron_units::error::Error;
@@ -56,7 +58,7 @@ pub fn equal_sets(one: &Schedule, other: &Schedule)
 }
 
 /// In a zone with one offset a walk from a start answers the least instant after the start that shows
-/// a match, and then a later one; `None` exactly where there is none.
+/// a match, and then the least instant after that one; `None` exactly where there is none.
 pub fn first_instants(
     schedule: &Schedule,
     start: Timestamp,
@@ -64,7 +66,7 @@ pub fn first_instants(
 ) -> (Option<Moment>, Option<Moment>)
     requires { IsFixed (plain_zone zone.now) }
     ensures first { IsLeastIfAny schedule.now.sets (fixed.offset_of (plain_zone zone.now)) start.nanosecond result.0 }
-    ensures later { IsLaterIfAny result.0 result.1 }
+    ensures next { IsNextIfAny schedule.now.sets (fixed.offset_of (plain_zone zone.now)) result.0 result.1 }
 {
     let mut fires = schedule.after(start, zone);
     let first = fires.next();
@@ -85,6 +87,13 @@ pub fn items_denote()
 /// One written refusal of each kind.
 pub fn items_are_refused()
     ensures { ItemsAreRefused }
+{}
+
+/// An item of a unit is refused for nothing, or for one thing alone; items denote one set, which has an
+/// ordinal or the mark of the last day, or one of them is the first that is refused, and never both.
+pub fn items_are_decided()
+    ensures each { ItemsAreRefusedOnce }
+    ensures all { ItemsAreDecided }
 {}
 
 /// The steps of a cursor on four items.

@@ -43,13 +43,29 @@ impl Schedule {
         Ok(Schedule::new(source, fields))
     }
 
-    /// The same as [`Schedule::from_str`].
+    /// What [`Schedule::from_str`] answers, under a second name.
     pub fn try_from_str(alloc: Global, text: &str) -> Result<Schedule, Error>
         ensures means { IfOk result (λ s. Means text.now s.sets) }
         ensures source { IfOk result (λ s. s.source ≡ text.now) }
         ensures refused { IfErr result (Tells (IsRefusal text.now)) }
     {
         Schedule::from_str(alloc, text)
+    }
+
+    // Reads a text and keeps it, or gives it back where it means nothing. There is no allocator to take
+    // memory from.
+    #[inline(always)]
+    fn kept(text: String) -> Result<Schedule, String>
+        ensures means { IfOk result (λ s. Means (string_bytes text) s.sets) }
+        ensures source { IfOk result (λ s. s.source ≡ string_bytes text) }
+        ensures same { IfErr result (λ back. back ≡ text) }
+        ensures nothing { IfErr result (λ _. MeansNothing (string_bytes text)) }
+    {
+        let mut fields = no_ordinals();
+        if !read_into(text.as_str(), &mut fields) {
+            return Err(text);
+        }
+        Ok(Schedule::new(text, fields))
     }
 
     /// Reads an expression and keeps the text itself. A refusal gives the text up.
@@ -59,11 +75,10 @@ impl Schedule {
         ensures refused { IfErr result (Tells (IsRefusal (string_bytes text))) }
         ensures accepted { IfErr result (λ _. MeansNothing (string_bytes text)) }
     {
-        let mut fields = no_ordinals();
-        if !read_into(text.as_str(), &mut fields) {
-            return Err(Schedule::refusal(alloc, text.as_str()));
+        match Schedule::kept(text) {
+            Ok(schedule) => Ok(schedule),
+            Err(text) => Err(Schedule::refusal(alloc, text.as_str())),
         }
-        Ok(Schedule::new(text, fields))
     }
 
     /// Reads an expression that is borrowed, as [`Schedule::from_str`], or owned, as

@@ -4,18 +4,19 @@ ghost use Rattle.std.specs.Prelude.{◌≡◌, ◌+◌, ◌<◌, ◌≤◌, Matc
 ghost use Rattle.cron_units.specs.declared.way.Way.TheVariants.{Ahead, Back};
 ghost use Rattle.jiff.specs.Words.{plain_zone};
 ghost use Rattle.jiff_core.specs.DateTime.{civil_seconds};
-ghost use Rattle.cron_time.specs.Counts.{candidates, conversions, days_of, gap_matches};
-ghost use Rattle.cron_time.specs.Found.{found_items, second_of};
+ghost use Rattle.cron_time.specs.Search.Counts.{candidates, conversions, days_of, gap_matches};
+ghost use Rattle.cron_moments.specs.Found.{found_items, second_of};
 ghost use Rattle.cron_time.specs.Search.{IsFound};
-ghost use Rattle.cron_time.specs.Surveys.{standing_from, surveyed, surveyed_days};
-ghost use Rattle.cron_time.specs.Times.{IsNearestTime, time_of_parts};
+ghost use Rattle.cron_time.specs.Search.Surveys.{days_again, standing_from, surveyed, surveyed_days};
+ghost use Rattle.cron_time.specs.Search.Times.{IsNearestTime, time_of_parts};
 
 use crate::schedule::Schedule;
-use cron_time::civil_number;
-pub use cron_time::found::{Found, Search, Survey, TimeFound};
+use cron_moments::civil::civil_number;
+pub use cron_moments::readings::Found;
+pub use cron_time::search::found::{Search, Survey, TimeFound};
 use cron_time::search::search;
-use cron_time::survey::survey;
-use cron_time::times::nearest_time;
+use cron_time::search::survey::survey;
+use cron_time::search::times::nearest_time;
 use cron_units::time_unit::Ordinal;
 use cron_units::way::Way;
 use jiff::civil::DateTime;
@@ -48,7 +49,8 @@ impl Schedule {
 
     /// Finds the first `count` civil seconds at or after `from` that match and have a reading, or all
     /// where there are fewer, by searches ahead one after the other. It tells how many it found and the
-    /// sums of both counts, so a day in which one search ends and the next begins may be counted twice.
+    /// sums of both counts, so a day in which one search ends and the next begins is counted twice: at
+    /// most one day more than the candidates for each of the seconds found.
     pub fn survey(&self, from: DateTime, zone: &TimeZone<'_>, count: u32) -> Survey
         ensures seconds { result.seconds
             ≡ length (take count (standing_from self.now.sets (plain_zone zone.now) (civil_seconds from))) }
@@ -56,13 +58,10 @@ impl Schedule {
             ≡ gap_matches self.now.sets (plain_zone zone.now)
             (surveyed self.now.sets (plain_zone zone.now) (civil_seconds from) count)
             + result.seconds }
-        ensures least_days { candidates self.now.sets
+        ensures days { result.days
+            ≡ candidates self.now.sets
             (surveyed_days self.now.sets (plain_zone zone.now) (civil_seconds from) count)
-            ≤ result.days }
-        ensures most_days { result.days
-            ≤ candidates self.now.sets
-            (surveyed_days self.now.sets (plain_zone zone.now) (civil_seconds from) count)
-            + result.seconds }
+            + days_again self.now.sets (plain_zone zone.now) (civil_seconds from) count }
     {
         survey(self.fields(), zone, civil_number(from), count)
     }

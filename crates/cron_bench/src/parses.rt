@@ -27,10 +27,10 @@ fn parse(rt: &HostRuntime, text: &str, times: u32) -> u32 {
     read
 }
 
-/// Prints the least cost of a parse in so many turns. A long text is shown by its length.
-fn time_parse(rt: &HostRuntime, text: &str, turns: u32, times: u32) -> io::Result<()> {
+/// Prints the least cost of a parse in so many rounds. A long text is shown by its length.
+fn time_parse(rt: &HostRuntime, text: &str, rounds: u32, times: u32) -> io::Result<()> {
     let mut best = u128::MAX;
-    for _ in 0..turns {
+    for _ in 0..rounds {
         let begun = Instant::now(rt)?;
         let _read = parse(rt, text, times);
         best = best.min(begun.elapsed(rt)?.as_nanos());

@@ -54,7 +54,7 @@ fn ahead(schedule: &Schedule, start: Timestamp, zone: &TimeZone<'_>, calls: u32)
     ended
 }
 
-/// The same with `next_back`.
+/// Calls `next_back` so often, begins anew where the walk ends, and tells when it last ended.
 fn back(schedule: &Schedule, end: Timestamp, zone: &TimeZone<'_>, calls: u32) -> u32 {
     let mut walk = schedule.after(end, zone);
     let mut ended = 0;
@@ -80,7 +80,7 @@ fn fresh(schedule: &Schedule, start: Timestamp, zone: &TimeZone<'_>, calls: u32)
     ended
 }
 
-/// Prints the least cost of a call in 150 turns.
+/// Prints the least cost of a call in 150 rounds.
 fn time_calls(
     rt: &HostRuntime,
     kind: Kind,

@@ -1,9 +1,10 @@
 /*
  * Cron expressions from C: what a text means, and the items of its timeline in a zone.
  *
- * C11 or later, and C++11 or later. Link `libcron_c.a`; it needs no other library, takes no memory,
- * keeps nothing between calls, and starts no thread. Each call reads and writes what its arguments
- * point to and nothing else, so calls over different structs may run at the same time.
+ * C11 or later, and C++11 or later. Link `libcron_c.a`, which is x86-64-v2 code for Linux (ELF). It
+ * needs no other library, takes no memory, keeps nothing between calls, and starts no thread. Each
+ * call reads and writes what its arguments point to and nothing else, so calls over different structs
+ * may run at the same time.
  *
  * Rules for every call, which no proof of the library can see:
  *   - No pointer may be null, also where its length is 0.
@@ -45,8 +46,9 @@ enum {
  *   days_of_week    1 to 7, from Sunday on      bit i is day i + 1
  *   years_from_N    1970 to 2100                bit i is year N + i
  *
- * Every pattern of bits is a schedule. A bit outside the unit means nothing. A unit without a bit
- * has no ordinal, and the timeline then no item, but for days of the month with a `last_day`.
+ * Every pattern of bits is a schedule. A bit outside the unit means nothing, and `cron_parse` sets
+ * none; it writes 0 or 1 as `last_day`. A unit without a bit has no ordinal, and the timeline then no
+ * item, but for days of the month with a `last_day`.
  */
 typedef struct cron_schedule {
     uint64_t seconds;
@@ -85,8 +87,14 @@ uint32_t cron_parse(const uint8_t *text, size_t text_length,
 /*
  * Writes to `item` the first item from the civil second on that a clock in the zone shows one second
  * after the instant; or, `cron_before`, the last one up to the civil second that it shows one second
- * before. An item at the very instant is answered by neither. For an instant with a part of a second
- * give `cron_after` the second that has begun, and `cron_before` the one after it.
+ * before. Where the clock shows each second once, an item at the very instant is answered by neither.
+ * For an instant with a part of a second give `cron_after` the second that has begun, and
+ * `cron_before` the one after it.
+ *
+ * Where a clock goes back, it shows an hour twice, and a search from an instant in it may leave out
+ * items after that instant, or answer the instant itself. In Chicago on 2022-11-06 `0 30 1 * * *` after
+ * 06:30Z is not the second 01:30, at 07:30Z, but the next day's; and `59 59 1 * * *` after 06:59:59Z is
+ * 06:59:59Z. So don't ask anew from an item's instant: `cron_next` goes on from the item itself.
  *
  * `zone` is `UTC`, or a rule text as POSIX has it, as `CST6CDT,M3.2.0,M11.1.0`.
  *
@@ -112,7 +120,9 @@ uint32_t cron_prev(const cron_schedule *schedule,
 /*
  * Writes to `items` the first items after the instant, in order; or, `cron_list_before`, the last ones
  * before it, the latest first: as many as fit, and fewer only where the timeline ends. The instant is
- * meant as by `cron_after` and `cron_before`. `*count` tells how many were written.
+ * meant as by `cron_after` and `cron_before`, with what is said there of an hour that comes twice: go on
+ * from the last item with `cron_next`, not with a list from its instant. `*count` tells how many were
+ * written.
  *
  * CRON_OK, also where there is none; CRON_BAD_ZONE or CRON_BAD_INSTANT, and `*count` is then 0.
  */

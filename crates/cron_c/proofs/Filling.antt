@@ -4,14 +4,14 @@ use Rattle.std.specs.Prelude.{length}
 use Rattle.jiff_tz.specs.declared.timezone.TimeZone.{TimeZone}
 use Rattle.cron_units.specs.Sets.{Sets}
 use Rattle.cron_units.specs.declared.way.Way.{Way}
-use Rattle.cron_time.specs.Cursor.{Walk}
-use Rattle.cron_time.specs.Inner.Placed.{IsPlaced, answer_of, cursor_of}
-use Rattle.cron_time.specs.Inner.Stand.{Stand}
-use Rattle.cron_time.specs.Inner.Stand as Kept
-use Rattle.cron_time.specs.Inner.Stop.{IsStop}
-use Rattle.cron_time.specs.Readings.{Reading}
-use Rattle.cron_time.specs.Rest.{rest}
-use Rattle.cron_time.proofs.RestLemmas.{gives}
+use Rattle.cron_time.specs.Walk.Cursor.{Walk}
+use Rattle.cron_time.specs.Walk.Inner.Placed.{IsPlaced, answer_of, cursor_of}
+use Rattle.cron_time.specs.Walk.Inner.Stand.{Stand}
+use Rattle.cron_time.specs.Walk.Inner.Stand as Kept
+use Rattle.cron_time.specs.Walk.Inner.Stop.{IsStop}
+use Rattle.cron_moments.specs.Readings.{Reading}
+use Rattle.cron_time.specs.Walk.Rest.{rest}
+use Rattle.cron_time.proofs.Walks.RestLemmas.{gives}
 use Rattle.cron_c.specs.Listings.{IsFront, IsListed}
 use Rattle.cron_c.specs.Structs.{IsItem}
 use Rattle.cron_c.specs.declared.item.CronItem.{CronItem}

@@ -10,14 +10,15 @@ use Rattle.jiff_core.specs.declared.Offset.{Offset}
 use Rattle.jiff_tz.specs.declared.timezone.TimeZone.{TimeZone}
 use Rattle.cron_units.specs.Sets.{Sets}
 use Rattle.cron_units.specs.declared.way.Way.{Way}
-use Rattle.cron_time.specs.Civil.{seconds_in_range}
-use Rattle.cron_time.specs.Cursor.{Cursor, Step, Walk, step}
-use Rattle.cron_time.specs.Inner.Placed.{answer_of}
-use Rattle.cron_time.specs.Inner.Stand.{Stand}
-use Rattle.cron_time.specs.Inner.Stop.{IsStop}
-use Rattle.cron_time.specs.Readings.{Reading, reading}
-use Rattle.cron_time.specs.Resume.{IsAbsent, IsAtItem, IsResumed, ShowsAt}
-use Rattle.cron_time.proofs.ResumeLemmas.{same_reading}
+use Rattle.cron_moments.specs.Civil.{seconds_in_range}
+use Rattle.cron_time.specs.Walk.Cursor.{Cursor, Step, Walk, step}
+use Rattle.cron_time.specs.Walk.Inner.Placed.{answer_of}
+use Rattle.cron_time.specs.Walk.Inner.Stand.{Stand}
+use Rattle.cron_time.specs.Walk.Inner.Stop.{IsStop}
+use Rattle.cron_moments.specs.Readings.{Reading, reading}
+use Rattle.cron_time.specs.Walk.Resume.{IsAbsent, IsAtItem, IsResumed}
+use Rattle.cron_moments.specs.Parts.{ShowsAt}
+use Rattle.cron_time.proofs.Walks.ResumeLemmas.{same_reading}
 use Rattle.cron_c.specs.Structs.{IsItem}
 use Rattle.cron_c.specs.declared.item.CronItem.{CronItem}
 

@@ -7,15 +7,15 @@ use Rattle.cron_units.specs.declared.way.Way.{Way}
 use Rattle.cron_units.specs.Sets.{Sets}
 use Rattle.cron_text.specs.Fault.{IsRefusal}
 use Rattle.cron_text.specs.Meaning.{Means}
-use Rattle.cron_time.specs.Civil.{seconds_in_range}
-use Rattle.cron_time.specs.Cursor.{Start, Walk, step}
-use Rattle.cron_time.specs.MomentText.{moment_text}
-use Rattle.cron_time.specs.Readings.{Reading}
-use Rattle.cron_time.specs.Resume.{IsAbsent, IsResumed}
-use Rattle.cron_time.specs.ZoneWords.{IsZoneWord, IsZoneOf}
+use Rattle.cron_moments.specs.Civil.{seconds_in_range}
+use Rattle.cron_time.specs.Walk.Cursor.{Start, Walk, step}
+use Rattle.cron_moments.specs.MomentText.{moment_text}
+use Rattle.cron_moments.specs.Readings.{Reading}
+use Rattle.cron_time.specs.Walk.Resume.{IsAbsent, IsResumed}
+use Rattle.cron_moments.specs.ZoneWords.{IsZoneWord, IsZoneOf}
 use Rattle.cron_c.specs.Buffers.{laid_over}
 use Rattle.cron_c.specs.Statuses.{code_of}
-use Rattle.cron_c.specs.Structs.{IsItem, sets_of}
+use Rattle.cron_c.specs.Structs.{IsItem, IsStructOf, sets_of}
 use Rattle.cron_c.specs.declared.item.CronItem.{CronItem}
 use Rattle.cron_c.specs.declared.schedule.CronSchedule.{CronSchedule}
 use Rattle.cron_c.specs.declared.status.Status.{Status}
@@ -37,9 +37,10 @@ IsInstant second = IsTimestampNanos (second *ℤ pos 1_000_000_000)
 abbrev pub start_at : Sets → TimeZone → ℤ → Walk
 start_at s z second = record { sets = s; zone = z; cursor = Start (second *ℤ pos 1_000_000_000) }
 
--- A text is read into a struct; or the message that refuses it is laid over a buffer, and its whole length told.
+-- A text is read into a struct, of which each bit is told; or the message that refuses it is laid over a buffer, and its whole length told.
 abbrev pub Parses : List ℕ → CronSchedule → CronSchedule → List ℕ → List ℕ → ℕ → Status → Type 0
-Parses text old new before after size Done = IsUtf8 text × Means text (sets_of new) × (after ≡ before) × (size ≡ 0)
+Parses text old new before after size Done =
+    IsUtf8 text × Means text (sets_of new) × IsStructOf (sets_of new) new × (after ≡ before) × (size ≡ 0)
 Parses text old new before after size Refused =
     IsUtf8 text × (told : List ℕ) × IsRefusal text told × (new ≡ old) × (after ≡ laid_over 0 told before) × (size ≡ length told)
 Parses text old new before after size NotUtf8 = (IsUtf8 text → ⊥) × (new ≡ old) × (after ≡ before) × (size ≡ 0)

@@ -3,9 +3,9 @@ use Rattle.std.specs.Prelude.{◌≡◌, ◌⊎◌, ℕ, ℤ, List, [], ◌∷�
 use Rattle.jiff_tz.specs.declared.timezone.TimeZone.{TimeZone}
 use Rattle.cron_units.specs.declared.way.Way.{Way}
 use Rattle.cron_units.specs.Sets.{Sets}
-use Rattle.cron_time.specs.Readings.{Reading}
-use Rattle.cron_time.specs.Rest.{rest}
-use Rattle.cron_time.specs.ZoneWords.{IsZoneOf}
+use Rattle.cron_moments.specs.Readings.{Reading}
+use Rattle.cron_time.specs.Walk.Rest.{rest}
+use Rattle.cron_moments.specs.ZoneWords.{IsZoneOf}
 use Rattle.cron_c.specs.Calls.{IsZoneText, IsInstant, start_at}
 use Rattle.cron_c.specs.Structs.{IsItem}
 use Rattle.cron_c.specs.declared.item.CronItem.{CronItem}

@@ -1,10 +1,10 @@
 -- What the structs of numbers say.
-use Rattle.std.specs.Prelude.{not, ◌==◌, ◌≡◌, ℕ, ◌-◌, List}
+use Rattle.std.specs.Prelude.{not, cond, ◌==◌, ◌≡◌, ℕ, ◌+◌, ◌-◌, List}
 use Rattle.cron_units.specs.Sets.{Sets}
-use Rattle.cron_units.specs.Units.{TimeUnit, set_of, with_mark}
+use Rattle.cron_units.specs.Units.{TimeUnit, contains, set_of, with_mark}
 use Rattle.cron_units.specs.Units as units
-use Rattle.cron_units.specs.Words.{has_bit, bit_of_three}
-use Rattle.cron_time.specs.Readings.{Reading, instant}
+use Rattle.cron_bits.specs.Words.{has_bit, bit_of_three}
+use Rattle.cron_moments.specs.Readings.{Reading, instant}
 use Rattle.cron_c.specs.declared.schedule.CronSchedule.{CronSchedule}
 use Rattle.cron_c.specs.declared.item.CronItem.{CronItem}
 
@@ -23,6 +23,21 @@ sets_of s = record {
   days_of_week = set_in units.days_of_week s.days_of_week;
   years = set_of units.years (λ x. bit_of_three s.years_from_1970 s.years_from_2034 s.years_from_2098 (x - units.years.least));
 }
+
+-- no other bit of the word is 1 than those of the members
+abbrev pub IsWordOf : TimeUnit → List ℕ → ℕ → Type 0
+IsWordOf u xs word = (k : ℕ) → has_bit word k ≡ contains xs (u.least + k)
+
+-- the struct says these sets, and there is one such struct: each bit is that of an ordinal, and the last day is 0 or 1
+pub record IsStructOf (sets : Sets) (s : CronSchedule) : Type 0 where
+  pub seconds : IsWordOf units.seconds sets.seconds s.seconds
+  pub minutes : IsWordOf units.minutes sets.minutes s.minutes
+  pub hours : IsWordOf units.hours sets.hours s.hours
+  pub days_of_month : IsWordOf units.days_of_month sets.days_of_month.ordinals s.days_of_month
+  pub last_day : s.last_day ≡ cond sets.days_of_month.last_day 1 0
+  pub months : IsWordOf units.months sets.months s.months
+  pub days_of_week : IsWordOf units.days_of_week sets.days_of_week s.days_of_week
+  pub years : (k : ℕ) → bit_of_three s.years_from_1970 s.years_from_2034 s.years_from_2098 k ≡ contains sets.years (units.years.least + k)
 
 -- the struct is that of the reading: its instant in seconds since 1970-01-01T00:00:00Z, and how far its clock is ahead of UTC
 pub record IsItem (r : Reading) (item : CronItem) : Type 0 where

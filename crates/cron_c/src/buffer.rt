@@ -1,6 +1,6 @@
 //! A caller's buffer, which may be too short.
 
-ghost use Rattle.std.specs.Prelude.{◌≡◌, ◌+◌, length};
+ghost use Rattle.std.specs.Prelude.{◌≡◌};
 ghost use Rattle.cron_c.specs.Buffers.{laid_over};
 
 use std::fmt;

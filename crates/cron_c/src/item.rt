@@ -1,12 +1,12 @@
 //! An item as plain numbers.
 
-ghost use Rattle.std.specs.Prelude.{◌≡◌, ◌<◌, MatchOption};
-ghost use Rattle.cron_time.specs.Civil.{seconds_in_range};
-ghost use Rattle.cron_time.specs.Readings.{Reading};
+ghost use Rattle.std.specs.Prelude.{◌<◌, MatchOption};
+ghost use Rattle.cron_moments.specs.Civil.{seconds_in_range};
+ghost use Rattle.cron_moments.specs.Readings.{Reading};
 ghost use Rattle.cron_c.specs.Structs.{IsItem};
 
-use cron_time::moment::Moment;
-use cron_time::parts::moment_at;
+use cron_moments::moment::Moment;
+use cron_moments::parts::moment_at;
 use jiff::tz::Offset;
 
 /// The instant of an item in seconds since 1970-01-01T00:00:00Z, and how far its clock is ahead of

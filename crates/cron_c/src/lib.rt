@@ -10,7 +10,7 @@ mod schedule;
 mod searching;
 mod status;
 mod text;
-mod words;
+mod zone;
 
 pub use item::CronItem;
 pub use listing::{cron_list_after, cron_list_before};

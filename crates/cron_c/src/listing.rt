@@ -1,10 +1,9 @@
 //! Many items at once.
 
-ghost use Rattle.std.specs.Prelude.{◌≡◌};
 ghost use Rattle.jiff.specs.Words.{plain_zone};
 ghost use Rattle.cron_units.specs.declared.way.Way.TheVariants.{Ahead, Back};
-ghost use Rattle.cron_time.specs.Cursor.{Start};
-ghost use Rattle.cron_time.specs.Rest.{rest};
+ghost use Rattle.cron_time.specs.Walk.Cursor.{Start};
+ghost use Rattle.cron_time.specs.Walk.Rest.{rest};
 ghost use Rattle.cron_c.specs.Calls.{Answers};
 ghost use Rattle.cron_c.specs.Listings.{IsListed, Lists};
 ghost use Rattle.cron_c.specs.Structs.{sets_of};
@@ -12,9 +11,9 @@ ghost use Rattle.cron_c.specs.Structs.{sets_of};
 use crate::item::{CronItem, item_of};
 use crate::schedule::{CronSchedule, fields_of};
 use crate::status::Status;
-use crate::words::zone_in;
-use cron_time::state::State;
-use cron_time::step::step;
+use crate::zone::zone_in;
+use cron_time::walk::state::State;
+use cron_time::walk::step::step;
 use cron_units::fields::ScheduleFields;
 use cron_units::way::Way;
 use jiff::Timestamp;

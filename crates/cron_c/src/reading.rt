@@ -1,6 +1,6 @@
 //! A text, read into a struct.
 
-ghost use Rattle.std.specs.Prelude.{◌≡◌, MatchOption, List, ℕ, length};
+ghost use Rattle.std.specs.Prelude.{◌≡◌, MatchOption, length};
 ghost use Rattle.cron_c.specs.Buffers.{laid_over};
 ghost use Rattle.cron_c.specs.Calls.{Answers, Parses};
 ghost use Rattle.cron_text.specs.FaultText.{fault_text};

@@ -3,19 +3,19 @@
 ghost use Rattle.std.specs.Prelude.{◌≡◌, MatchOption};
 ghost use Rattle.jiff.specs.Words.{plain_zone};
 ghost use Rattle.cron_units.specs.declared.way.Way.TheVariants.{Ahead, Back};
-ghost use Rattle.cron_time.specs.Cursor.{Start, Walk, step};
-ghost use Rattle.cron_time.specs.Resume.{IsAbsent, IsResumed};
+ghost use Rattle.cron_time.specs.Walk.Cursor.{Start, Walk, step};
+ghost use Rattle.cron_time.specs.Walk.Resume.{IsAbsent, IsResumed};
 ghost use Rattle.cron_c.specs.Calls.{Answers, Searches, Follows};
 ghost use Rattle.cron_c.specs.Structs.{sets_of};
 
 use crate::item::{CronItem, item_of, moment_of};
 use crate::schedule::{CronSchedule, fields_of};
 use crate::status::Status;
-use crate::words::zone_in;
-use cron_time::moment::Moment;
-use cron_time::resume::resumed;
-use cron_time::state::State;
-use cron_time::step::step;
+use crate::zone::zone_in;
+use cron_moments::moment::Moment;
+use cron_time::walk::resume::resumed;
+use cron_time::walk::state::State;
+use cron_time::walk::step::step;
 use cron_units::way::Way;
 use jiff::Timestamp;
 use jiff::tz::TimeZone;

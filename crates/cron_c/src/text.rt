@@ -1,12 +1,11 @@
 //! The text of an item.
 
-ghost use Rattle.std.specs.Prelude.{◌≡◌};
 ghost use Rattle.cron_c.specs.Calls.{Answers, Formats};
 
 use crate::buffer::put;
 use crate::item::{CronItem, moment_of};
 use crate::status::Status;
-use cron_time::line::text_of;
+use cron_moments::line::text_of;
 
 fn format(item: &CronItem, text: &mut [u8], text_length: &mut usize) -> Status
     ensures { Formats item.now text.old text.new text_length.new result }

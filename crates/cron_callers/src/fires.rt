@@ -3,22 +3,25 @@
 ghost use Rattle.std.specs.Prelude.{◌≡◌, IfOk, IsTrue, filter, length, take};
 ghost use Rattle.std.specs.List.{take_while};
 ghost use Rattle.jiff.specs.Words.{plain_zone};
-ghost use Rattle.cron.specs.Words.{Ahead, Start, step_on, timeline};
+ghost use Rattle.cron_instants.specs.Instants.{IsFirstAfter};
 ghost use Rattle.cron_callers.specs.Fires.{IsTooLate, fires_after, fires_before, is_through};
 ghost use Rattle.cron_callers.specs.Fires as spec;
 
 use cron::schedule::Moment;
 use cron::{Schedule, laws};
+use cron_fires::first_fire_after;
 use jiff::Timestamp;
 use jiff::civil::Date;
 use jiff::tz::TimeZone;
 use std::alloc::{AllocError, Global};
 
-/// When the schedule fires next after now.
+/// When the schedule fires next after now, also in a fold: of the items whose instant comes after now the
+/// earliest, `None` where there is none. A loop that asks again from its instant loses none but where two
+/// items share an instant; one that asks from the time at which it woke loses what came due meanwhile.
 pub fn next_fire(schedule: &Schedule, now: Timestamp, zone: &TimeZone<'_>) -> Option<Moment>
-    ensures { result ≡ (step_on (timeline schedule.now.sets (plain_zone zone.now)) (plain_zone zone.now) Ahead (Start now.nanosecond)).answer }
+    ensures { IsFirstAfter schedule.now.sets (plain_zone zone.now) now.nanosecond result }
 {
-    schedule.after(now, zone).next()
+    first_fire_after(schedule, now, zone)
 }
 
 /// The first so many fire times after an instant, fewer where the timeline ends.
@@ -96,8 +99,9 @@ fn is_too_late(fire: &Moment, now: Timestamp) -> bool
     fire.timestamp().as_nanosecond() > now.as_nanosecond() + REACH
 }
 
-/// The fire times after the last run whose instants aren't past now, in the order of the timeline.
-/// The walk ends where no later item can be due.
+/// The fire times of a walk from the last run whose instants aren't past now, in the order of the
+/// timeline: at a fold the walk may leave out some after the last run, or answer some before it. It
+/// ends where no later item can be due.
 pub fn missed_runs(
     alloc: Global,
     schedule: &Schedule,

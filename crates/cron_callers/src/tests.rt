@@ -51,6 +51,14 @@ fn monday_comes_after_friday(rt: HostRuntime) -> Result<(), Fail> {
 }
 
 #[test]
+fn second_hour_of_a_fold_comes_next(rt: HostRuntime) -> Result<(), Fail> {
+    let (zone, now) = (new_york()?, instant("2022-11-06T05:30:00Z")?);
+    let schedule = Schedule::from_str(rt.alloc(), "0 30 1 * * *")?;
+    let fire = next_fire(&schedule, now, &zone).ok_or("no fire")?;
+    check_fires(&rt, &[fire], "2022-11-06 01:30:00 -05:00, ")
+}
+
+#[test]
 fn fires_follow_a_start(rt: HostRuntime) -> Result<(), Fail> {
     let (zone, start) = (new_york()?, instant("2022-11-05T12:00:00Z")?);
     let schedule = Schedule::from_str(rt.alloc(), "0 30 1 * * *")?;

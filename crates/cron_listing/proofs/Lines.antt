@@ -3,9 +3,9 @@ use Rattle.std.proofs.Common.{◌≡◌, ℕ, zero, suc, ◌+◌, Bool, Option, 
 use Rattle.jiff_tz.specs.declared.timezone.TimeZone.{TimeZone}
 use Rattle.cron_units.specs.declared.way.Way.{Way}
 use Rattle.cron_units.specs.declared.way.Way.TheVariants.{Ahead, Back}
-use Rattle.cron_time.specs.Bounds.{bound_ahead, bound_back}
-use Rattle.cron_time.specs.Cursor.{Cursor, Start, Place, Ended, Step, Walk, Steps, step, step_on, go_to, item_at, first_from, last_to, place_before}
-use Rattle.cron_time.specs.Readings.{Reading}
+use Rattle.cron_time.specs.Walk.Bounds.{bound_ahead, bound_back}
+use Rattle.cron_time.specs.Walk.Cursor.{Cursor, Start, Place, Ended, Step, Walk, Steps, step, step_on, go_to, item_at, first_from, last_to, place_before}
+use Rattle.cron_moments.specs.Readings.{Reading}
 use Rattle.cron_time.specs.Timeline.{timeline}
 use Rattle.cron.proofs.Callers.{walk_is}
 use Rattle.cron_listing.specs.Output.{direction, answer_line, answers_of, lines_of, first_there, last_item}

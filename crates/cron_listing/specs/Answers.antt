@@ -1,15 +1,15 @@
--- What the program answers to the words of a command line.
+-- What the program answers to the arguments of a command line.
 use Rattle.std.specs.Prelude.{◌≡◌, ℕ, Bool, true, false, List, [], ◌∷◌, ◌++◌, ◌⊎◌, Option, codes}
 use Rattle.std.specs.Io.KnownBytes.{Appends}
 use Rattle.jiff.specs.Words.{plain_zone}
 use Rattle.cron_listing.specs.Output.{Writes}
 use Rattle.cron_writer.specs.Watching.{IsFrontSent}
-use Rattle.cron_listing.specs.Words.{IsReadable, Asks}
+use Rattle.cron_listing.specs.Arguments.{IsReadable, Asks}
 use Rattle.cron_listing.specs.declared.answer.Status.{Status}
 use Rattle.cron_listing.specs.declared.answer.Status.TheVariants.{Listed, Refused, BadArguments, WriteFailed}
 use Rattle.cron_listing.specs.declared.run.Outcome.{Outcome}
 use Rattle.cron_listing.specs.declared.run.Outcome.TheVariants as run
-use Rattle.cron_listing.specs.declared.words.Request.{Request}
+use Rattle.cron_listing.specs.declared.arguments.Request.{Request}
 
 -- the exit status
 abbrev pub code_of : Status → ℕ
@@ -41,7 +41,7 @@ abbrev pub Lists : Request → Option (List ℕ) → Option (List ℕ) → Statu
 Lists r old new status =
     (outcome : Outcome) × Writes r.expression.now (plain_zone r.zone) r.start.nanosecond r.count r.back old new outcome × (status ≡ status_of outcome)
 
--- the words can be read, and what they ask for was listed; or they can't, and the usage line was written
+-- the arguments can be read, and what they ask for was listed; or they can't, and the usage line was written
 abbrev pub IsAnswered : List (List ℕ) → Option (List ℕ) → Option (List ℕ) → Status → Type 0
-IsAnswered words old new status =
-    ((r : Request) × Asks words r × Lists r old new status) ⊎ ((IsReadable words → ⊥) × IsUsage old new status)
+IsAnswered arguments old new status =
+    ((r : Request) × Asks arguments r × Lists r old new status) ⊎ ((IsReadable arguments → ⊥) × IsUsage old new status)

@@ -1,4 +1,4 @@
 pub mod Output
-pub mod Words
+pub mod Arguments
 pub mod Answers
 pub mod Pages

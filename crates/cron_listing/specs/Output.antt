@@ -5,10 +5,10 @@ use Rattle.std.specs.List.{flat_map}
 use Rattle.jiff_tz.specs.declared.timezone.TimeZone.{TimeZone}
 use Rattle.cron_units.specs.declared.way.Way.{Way}
 use Rattle.cron_units.specs.declared.way.Way.TheVariants.{Ahead, Back}
-use Rattle.cron_time.specs.Cursor.{Start, Walk, run_on}
+use Rattle.cron_time.specs.Walk.Cursor.{Start, Walk, run_on}
 use Rattle.cron_text.specs.Meaning.{Means}
-use Rattle.cron_time.specs.MomentText.{item_line}
-use Rattle.cron_time.specs.Readings.{Reading}
+use Rattle.cron_moments.specs.MomentText.{item_line}
+use Rattle.cron_moments.specs.Readings.{Reading}
 use Rattle.cron_units.specs.Sets.{Sets}
 use Rattle.cron_text.specs.Fault.{IsRefusal}
 use Rattle.cron_time.specs.Timeline.{timeline}
@@ -43,7 +43,7 @@ unfoldable pub last_item : List (Option Reading) → Option Reading
 last_item [] = None
 last_item (answer ∷ answers) = first_there (last_item answers) answer
 
--- the same of the walk that starts at an instant
+-- the lines of a walk that starts at an instant
 abbrev pub listing : Sets → TimeZone → ℤ → ℕ → Bool → List ℕ
 listing s z start count back = lines_of back (record { sets = s; zone = z; cursor = Start start }) count
 

@@ -3,9 +3,9 @@ use Rattle.std.specs.Prelude.{◌≡◌, ℕ, Bool, true, false, List, ◌⊎◌
 use Rattle.std.specs.Io.KnownBytes.{Appends}
 use Rattle.jiff_tz.specs.declared.timezone.TimeZone.{TimeZone}
 use Rattle.cron_units.specs.Sets.{Sets}
-use Rattle.cron_time.specs.Cursor.{Walk}
-use Rattle.cron_time.specs.Readings.{Reading}
-use Rattle.cron_time.specs.Resume.{IsAbsent, IsResumed}
+use Rattle.cron_time.specs.Walk.Cursor.{Walk}
+use Rattle.cron_moments.specs.Readings.{Reading}
+use Rattle.cron_time.specs.Walk.Resume.{IsAbsent, IsResumed}
 use Rattle.cron_listing.specs.Output.{answers_of, lines_of, last_item}
 use Rattle.cron_writer.specs.Watching.{IsFrontSent}
 use Rattle.cron_listing.specs.declared.run.Page.{Page}

@@ -1,14 +1,16 @@
-//! What the program answers to the words of a command line.
+//! What the program answers to the arguments of a command line: what they ask for, or the usage line.
+//! Which line that is, and when it is written, is decided here.
 
 ghost use Rattle.std.specs.Prelude.{◌≡◌, false, map, string_bytes};
 ghost use Rattle.cron_listing.specs.Answers.{IsAnswered, IsUsage, Lists, code_of, is_failed, status_of};
+ghost use Rattle.cron_writer.specs.Calls.{AreWritesFlushed};
 ghost use Rattle.cron_writer.specs.Watching.{has_failed, writer_of};
 
+use crate::arguments::{Request, request_of};
 use crate::run::{Outcome, refuse, run};
-use crate::words::{Request, request_of};
+use cron_writer::watchable::Watchable;
 use cron_writer::watched::Watched;
 use std::alloc::Global;
-use std::io::Write;
 
 const USAGE: &str = "usage: cron_next EXPRESSION START ZONE COUNT [back]\n";
 
@@ -17,9 +19,9 @@ const USAGE: &str = "usage: cron_next EXPRESSION START ZONE COUNT [back]\n";
 pub enum Status {
     /// The items were listed, also where there are none.
     Listed,
-    /// The expression was refused, or the words could not be read for want of memory.
+    /// The expression was refused, or the arguments could not be read for want of memory.
     Refused,
-    /// The words can't be read, and the usage line was written.
+    /// The arguments can't be read, and the usage line was written.
     BadArguments,
     /// A write or the flush failed.
     WriteFailed,
@@ -51,11 +53,12 @@ impl From<Outcome> for Status {
     }
 }
 
-// The words ask for a list.
-fn list<W: Write>(alloc: Global, request: &Request<'_>, out: &mut Watched<W>) -> Status
+// The arguments ask for a list.
+fn list<W: Watchable>(alloc: Global, request: &Request<'_>, out: &mut Watched<W>) -> Status
     requires { has_failed out.old ≡ false }
     ensures answered { Lists request.now (W.contents (writer_of out.old)) (W.contents (writer_of out.new)) result }
     ensures mark { has_failed out.new ≡ is_failed result }
+    ensures calls { AreWritesFlushed W.writes W.flushes (writer_of out.old) (has_failed out.old) (writer_of out.new) (has_failed out.new) }
 {
     let outcome = run(
         alloc,
@@ -70,10 +73,11 @@ fn list<W: Write>(alloc: Global, request: &Request<'_>, out: &mut Watched<W>) ->
 }
 
 /// Writes the usage line, and flushes.
-pub fn usage<W: Write>(out: &mut Watched<W>) -> Status
+pub fn usage<W: Watchable>(out: &mut Watched<W>) -> Status
     requires { has_failed out.old ≡ false }
     ensures answered { IsUsage (W.contents (writer_of out.old)) (W.contents (writer_of out.new)) result }
     ensures mark { has_failed out.new ≡ is_failed result }
+    ensures calls { AreWritesFlushed W.writes W.flushes (writer_of out.old) (has_failed out.old) (writer_of out.new) (has_failed out.new) }
 {
     match refuse(out, USAGE) {
         Outcome::WriteFailed => Status::WriteFailed,
@@ -81,14 +85,15 @@ pub fn usage<W: Write>(out: &mut Watched<W>) -> Status
     }
 }
 
-/// Answers the words after the program's name: the list that they ask for, or the line that says why
+/// Answers the arguments after the program's name: the list that they ask for, or the line that says why
 /// there is none.
-pub fn answer<W: Write>(alloc: Global, words: &[String], out: &mut Watched<W>) -> Status
+pub fn answer<W: Watchable>(alloc: Global, arguments: &[String], out: &mut Watched<W>) -> Status
     requires { has_failed out.old ≡ false }
-    ensures answered { IsAnswered (map string_bytes words.now) (W.contents (writer_of out.old)) (W.contents (writer_of out.new)) result }
+    ensures answered { IsAnswered (map string_bytes arguments.now) (W.contents (writer_of out.old)) (W.contents (writer_of out.new)) result }
     ensures mark { has_failed out.new ≡ is_failed result }
+    ensures calls { AreWritesFlushed W.writes W.flushes (writer_of out.old) (has_failed out.old) (writer_of out.new) (has_failed out.new) }
 {
-    match request_of(words) {
+    match request_of(arguments) {
         Some(request) => list(alloc, &request, out),
         None => usage(out),
     }

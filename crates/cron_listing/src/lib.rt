@@ -1,8 +1,8 @@
 //! The items of a cron expression as lines: a run from a start, a page after an item, and what the
-//! words of a command line ask for.
+//! arguments of a command line ask for.
 #![tactic(auto)]
 
 pub mod answer;
+pub mod arguments;
 pub mod page;
 pub mod run;
-pub mod words;

@@ -3,15 +3,16 @@
 ghost use Rattle.std.specs.Prelude.{◌≡◌, false};
 ghost use Rattle.jiff.specs.Words.{plain_zone};
 ghost use Rattle.cron_listing.specs.Pages.{Pages, is_page_failure, item_or};
+ghost use Rattle.cron_writer.specs.Calls.{AreWritesFlushed};
 ghost use Rattle.cron_writer.specs.Watching.{has_failed, writer_of};
 ghost use Rattle.cron_listing.specs.declared.run.Page.TheVariants.{NotAnItem};
 
 use crate::run::{Outcome, Page, finish, send_items};
 use cron::Schedule;
 use cron::schedule::Moment;
+use cron_writer::watchable::Watchable;
 use cron_writer::watched::Watched;
 use jiff::tz::TimeZone;
-use std::io::Write;
 
 // The last item that was listed, or the given one where there was none.
 fn item_or(given: Moment, listed: Option<Moment>) -> Moment
@@ -26,7 +27,7 @@ fn item_or(given: Moment, listed: Option<Moment>) -> Moment
 /// Writes a line for each of the first `size` items after `last`, or before it where `back` says so,
 /// fewer where the timeline ends, and flushes. It takes no memory and keeps no walk. Lines are handed
 /// to the writer as `run` hands them.
-pub fn page<W: Write>(
+pub fn page<W: Watchable>(
     schedule: &Schedule,
     last: &Moment,
     zone: &TimeZone<'_>,
@@ -38,6 +39,8 @@ pub fn page<W: Write>(
     ensures writes { Pages schedule.now.sets (plain_zone zone.now) last.now size back (W.contents (writer_of out.old)) (W.contents (writer_of out.new)) result }
     ensures mark { has_failed out.new ≡ is_page_failure result }
     ensures untouched { result ≡ NotAnItem → out.new ≡ out.old }
+    ensures calls { (result ≡ NotAnItem → ⊥)
+        → AreWritesFlushed W.writes W.flushes (writer_of out.old) (has_failed out.old) (writer_of out.new) (has_failed out.new) }
 {
     let Some(mut walk) = schedule.resume(last, zone) else {
         return Page::NotAnItem;

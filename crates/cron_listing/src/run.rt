@@ -1,23 +1,25 @@
-//! The items of an expression, written to a watched writer.
+//! The items of an expression, or the line that says why it is refused, written to a watched writer.
+//! That such a line begins with `error: ` is decided here.
 
 ghost use Rattle.std.specs.Prelude.{◌≡◌, ℕ, List, [], Option, false};
 ghost use Rattle.jiff.specs.Words.{plain_zone};
 ghost use Rattle.cron_units.specs.Texts.{error_text};
-ghost use Rattle.cron_time.specs.Cursor.{Steps};
+ghost use Rattle.cron_time.specs.Walk.Cursor.{Steps};
 ghost use Rattle.cron_listing.specs.Output.{answers_of, direction, last_item, lines_of, complaint, Ends, Writes, is_write_failure};
+ghost use Rattle.cron_writer.specs.Calls.{AreWrites, AreWritesFlushed, IsFlushed};
 ghost use Rattle.cron_writer.specs.Watching.{has_failed, kept_in, writer_of, IsGathered, IsSent};
 ghost use Rattle.cron_listing.specs.declared.run.Outcome.TheVariants.{Refused};
 
 use cron::error::{Error, ErrorKind};
 use cron::schedule::Moment;
 use cron::{Schedule, ScheduleIterator};
-use cron_time::line::line_of;
+use cron_moments::line::line_of;
 use cron_writer::gathered::Gathered;
+use cron_writer::watchable::Watchable;
 use cron_writer::watched::{Watched, send};
 use jiff::Timestamp;
 use jiff::tz::TimeZone;
 use std::alloc::Global;
-use std::io::Write;
 
 /// How a run ended.
 #[derive(Clone, Copy, Debug, PartialEq, Eq)]
@@ -50,7 +52,7 @@ fn step(walk: &mut ScheduleIterator<'_>, back: bool) -> Option<Moment>
 
 // Gathers the lines of the first `count` answers, until the walk ends or a write fails, and answers
 // the last item whose line was gathered.
-fn gather_items<W: Write>(
+fn gather_items<W: Watchable>(
     walk: &mut ScheduleIterator<'_>,
     count: u32,
     back: bool,
@@ -61,6 +63,7 @@ fn gather_items<W: Write>(
     requires nothing { kept_in lines.old ≡ [] }
     ensures lines { IsGathered (W.contents (writer_of out.old)) (W.contents (writer_of out.new)) (has_failed out.new) (kept_in lines.new) (lines_of back walk.old count) }
     ensures last { has_failed out.new ≡ false → result ≡ last_item (answers_of back walk.old count) }
+    ensures calls { AreWrites W.writes (writer_of out.old) (has_failed out.old) (writer_of out.new) (has_failed out.new) }
 {
     let mut last = None;
     for _ in 0..count {
@@ -78,7 +81,7 @@ fn gather_items<W: Write>(
 
 /// Writes the lines of the first `count` answers, until the walk ends or a write fails, and answers
 /// the last item. The lines are handed on many at a time, and the rest of them at the end.
-pub(crate) fn send_items<W: Write>(
+pub(crate) fn send_items<W: Watchable>(
     walk: &mut ScheduleIterator<'_>,
     count: u32,
     back: bool,
@@ -87,6 +90,7 @@ pub(crate) fn send_items<W: Write>(
     requires { has_failed out.old ≡ false }
     ensures lines { IsSent (W.contents (writer_of out.old)) (W.contents (writer_of out.new)) (has_failed out.new) (lines_of back walk.old count) }
     ensures last { has_failed out.new ≡ false → result ≡ last_item (answers_of back walk.old count) }
+    ensures calls { AreWrites W.writes (writer_of out.old) (has_failed out.old) (writer_of out.new) (has_failed out.new) }
 {
     let mut lines = Gathered::new();
     let last = gather_items(walk, count, back, &mut lines, out);
@@ -105,9 +109,10 @@ fn message_of(error: &Error) -> &str
 }
 
 // Writes the line that tells why an expression is refused.
-fn send_complaint<W: Write>(error: &Error, out: &mut Watched<W>)
+fn send_complaint<W: Watchable>(error: &Error, out: &mut Watched<W>)
     requires { has_failed out.old ≡ false }
-    ensures { IsSent (W.contents (writer_of out.old)) (W.contents (writer_of out.new)) (has_failed out.new) (complaint (error_text error.now)) }
+    ensures sent { IsSent (W.contents (writer_of out.old)) (W.contents (writer_of out.new)) (has_failed out.new) (complaint (error_text error.now)) }
+    ensures calls { AreWrites W.writes (writer_of out.old) (has_failed out.old) (writer_of out.new) (has_failed out.new) }
 {
     send(out, b"error: ");
     send(out, message_of(error).as_bytes());
@@ -115,13 +120,14 @@ fn send_complaint<W: Write>(error: &Error, out: &mut Watched<W>)
 }
 
 /// Flushes what was written whole, and tells how the run ended.
-pub(crate) fn finish<W: Write>(out: &mut Watched<W>, done: Outcome) -> Outcome
+pub(crate) fn finish<W: Watchable>(out: &mut Watched<W>, done: Outcome) -> Outcome
     requires { is_write_failure done ≡ false }
     ensures ends { (origin : Option (List ℕ)) (text : List ℕ)
         → IsSent origin (W.contents (writer_of out.old)) (has_failed out.old) text
         → Ends done text origin (W.contents (writer_of out.new)) result }
     ensures mark { has_failed out.new ≡ is_write_failure result }
     ensures whole { is_write_failure result ≡ false → has_failed out.old ≡ false }
+    ensures calls { IsFlushed W.flushes (writer_of out.old) (has_failed out.old) (writer_of out.new) (has_failed out.new) }
 {
     if out.failed() {
         return Outcome::WriteFailed;
@@ -134,10 +140,11 @@ pub(crate) fn finish<W: Write>(out: &mut Watched<W>, done: Outcome) -> Outcome
 }
 
 /// Writes the one line that says why nothing is listed, and flushes.
-pub fn refuse<W: Write>(out: &mut Watched<W>, line: &str) -> Outcome
+pub fn refuse<W: Watchable>(out: &mut Watched<W>, line: &str) -> Outcome
     requires { has_failed out.old ≡ false }
     ensures ends { Ends Refused line.now (W.contents (writer_of out.old)) (W.contents (writer_of out.new)) result }
     ensures mark { has_failed out.new ≡ is_write_failure result }
+    ensures calls { AreWritesFlushed W.writes W.flushes (writer_of out.old) (has_failed out.old) (writer_of out.new) (has_failed out.new) }
 {
     send(out, line.as_bytes());
     finish(out, Outcome::Refused)
@@ -150,7 +157,7 @@ pub fn refuse<W: Write>(out: &mut Watched<W>, line: &str) -> Outcome
 /// Whole lines are handed to the writer together, up to 4,096 bytes a call, and the last of them
 /// before the flush. So who reads sees a short list at once, and a long one in blocks. Once a call
 /// fails the writer is not called again: it holds what it took before.
-pub fn run<W: Write>(
+pub fn run<W: Watchable>(
     alloc: Global,
     expression: &str,
     start: Timestamp,
@@ -162,6 +169,7 @@ pub fn run<W: Write>(
     requires { has_failed out.old ≡ false }
     ensures writes { Writes expression.now (plain_zone zone.now) start.nanosecond count back (W.contents (writer_of out.old)) (W.contents (writer_of out.new)) result }
     ensures mark { has_failed out.new ≡ is_write_failure result }
+    ensures calls { AreWritesFlushed W.writes W.flushes (writer_of out.old) (has_failed out.old) (writer_of out.new) (has_failed out.new) }
 {
     match Schedule::from_str(alloc, expression) {
         Ok(schedule) => {

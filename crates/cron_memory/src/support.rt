@@ -69,7 +69,7 @@ pub(crate) fn check_accepted(
     Ok(())
 }
 
-/// The same of the refused expression.
+/// Whether a reading of the refused expression told its fault, or was refused for want of memory.
 pub(crate) fn check_refused(
     rt: &(impl Abort + Print),
     read: Result<Schedule, Error>,

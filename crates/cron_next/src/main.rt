@@ -14,16 +14,16 @@ use std::env;
 use std::io::{self, ErrorKind};
 use std::process::ExitCode;
 
-// The words, with the program's name before them.
-fn words_of(rt: &HostRuntime) -> io::Result<Vec<String>> {
+// The arguments, with the program's name before them.
+fn arguments_of(rt: &HostRuntime) -> io::Result<Vec<String>> {
     Ok(env::args(rt)?.collect(rt.alloc())?)
 }
 
 fn main(rt: HostRuntime) -> ExitCode {
     let mut out = Watched::new(io::writer(&rt));
-    let status = match words_of(&rt) {
-        Ok(words) => match words.as_slice().split_first() {
-            Some((_, words)) => answer(rt.alloc(), words, &mut out),
+    let status = match arguments_of(&rt) {
+        Ok(arguments) => match arguments.as_slice().split_first() {
+            Some((_, arguments)) => answer(rt.alloc(), arguments, &mut out),
             None => usage(&mut out),
         },
         Err(error) if error.kind() == ErrorKind::OutOfMemory => {

@@ -1,5 +1,6 @@
-//! Outside values, failing writers, words and statuses.
+//! Outside values, failing writers, arguments and statuses.
 
+mod arguments_read;
 mod blocks;
 mod limited;
 mod listings;
@@ -7,16 +8,15 @@ mod memory;
 mod owned;
 mod pages;
 mod wanting;
-mod words_read;
 mod writers;
 
 use std::alloc::{AllocError, Global};
 
-// The words of a command line, which `|` stands between.
-fn words_in(alloc: Global, line: &str) -> Result<Vec<String>, AllocError> {
-    let mut words = Vec::new(alloc);
-    for word in line.split('|') {
-        words.push(String::from_str(alloc, word)?)?;
+// The arguments of a command line, which `|` stands between.
+fn arguments_in(alloc: Global, line: &str) -> Result<Vec<String>, AllocError> {
+    let mut arguments = Vec::new(alloc);
+    for argument in line.split('|') {
+        arguments.push(String::from_str(alloc, argument)?)?;
     }
-    Ok(words)
+    Ok(arguments)
 }

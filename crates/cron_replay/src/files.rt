@@ -13,12 +13,16 @@ pub(crate) enum Kind {
     Walks,
     /// A search: expression, zone, datetime and answer.
     SearchesAhead,
-    /// The same in the other direction.
+    /// A search in the other direction: expression, zone, datetime and answer.
     SearchesBack,
+    /// The first fire after an instant: expression, zone, instant and answer.
+    FiresAfter,
+    /// The last fire by an instant: expression, zone, instant and answer.
+    FiresBy,
 }
 
 /// The files, each with its kind.
-pub(crate) const FILES: [(Kind, &str); 38] = [
+pub(crate) const FILES: [(Kind, &str); 40] = [
     (Kind::Texts, "texts_accepted.txt"),
     (Kind::Texts, "texts_refused.txt"),
     (Kind::Texts, "texts_beginnings.txt"),
@@ -57,4 +61,6 @@ pub(crate) const FILES: [(Kind, &str); 38] = [
     (Kind::Walks, "walks_mended_turns.txt"),
     (Kind::SearchesAhead, "searches_ahead.txt"),
     (Kind::SearchesBack, "searches_back.txt"),
+    (Kind::FiresAfter, "fires_after.txt"),
+    (Kind::FiresBy, "fires_by.txt"),
 ];

@@ -1,4 +1,4 @@
-//! Replays the rows of `data/`: texts and what they mean, walks and what they answer. It prints each
+//! Replays the rows of `data/`: texts and what they mean, walks and what they answer, fires by instants. It prints each
 //! answer that isn't the one of its row, for each file how many rows it has, and how many texts one
 //! change away from an accepted one were tried. Where an answer differs, a file is missing or a row can't be taken apart, it ends with a status other than 0.
 #![tactic(auto)]
@@ -6,6 +6,7 @@
 mod answers;
 mod characters;
 mod files;
+mod fires;
 mod long_texts;
 mod mutations;
 mod readers;
@@ -31,6 +32,8 @@ fn replay_row(report: &mut Report<'_>, kind: Kind, row: Row<'_>) -> Result<()> {
         Kind::Walks => walks::replay(report, row),
         Kind::SearchesAhead => searches::replay_ahead(report, row),
         Kind::SearchesBack => searches::replay_back(report, row),
+        Kind::FiresAfter => fires::replay_after(report, row),
+        Kind::FiresBy => fires::replay_by(report, row),
     }
 }
 

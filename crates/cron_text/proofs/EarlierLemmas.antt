@@ -1,20 +1,21 @@
 -- A text of the grammar without the mark of the last day keeps its meaning.
-use Rattle.std.proofs.Common.{◌≡◌, ℕ, Bool, true, false, cond, ◌||◌, inl, inr, Option, Some, None, Result, Ok, Err, List, [], ◌∷◌, ◌++◌, map, codes, refl, sym, ap, ◌∙◌, subst}
-use Rattle.std.specs.List.{AllByRecursion}
+use Rattle.std.proofs.Common.{◌≡◌, ◌↔◌, ℕ, Bool, true, false, cond, inl, inr, Option, Some, None, List, [], ◌∷◌, ◌++◌, map, codes, refl, sym, ap, ◌∙◌}
+use Rattle.std.specs.List.{AllByRecursion, Any}
 use Rattle.std.specs.Str.{bytes_eq}
-use Rattle.cron_units.specs.Denotation.{Progression, Denoted, the_last_day, Refusal, found_name, one_ordinal, of_steps, steps_of, denoted_by, denoted_has, denoted_marks, first_refusal, refusal_of, in_items, items_mark, Denotes}
+use Rattle.cron_units.specs.Denotation.{LiesIn, MarksLastDay, Denotes}
+use Rattle.cron_units.specs.Refusals.{Refusal, unknown_name, IsBaseRefusedFor, below, above, no_range, first_unknown, second_unknown, turned, IsRefusedFor, by_base, by_zero, by_step, by_stepped, unknown, IsUnrefused}
 use Rattle.cron_units.specs.Items.{Base, every, question_mark, single, number_range, name_range, Item, plain, stepped, name}
-use Rattle.cron_units.specs.SetLaws.{set_without, set_same}
+use Rattle.cron_units.proofs.SetLemmas.{set_without}
 use Rattle.cron_units.specs.Sets.{Sets}
-use Rattle.cron_units.specs.Units.{TimeUnit, FieldSet, ordinal_of, is_word, means_last_day, with_mark, without_last_day}
+use Rattle.cron_units.specs.Units.{TimeUnit, FieldSet, contains, ordinal_of, is_name, means_last_day, without_last_day}
 use Rattle.cron_units.specs.Units as units
 use Rattle.cron_text.specs.Fields.{base_in, item_in, items_in, IsField}
 use Rattle.cron_text.specs.Meaning.{DenoteSets, six_units, field_sets, earlier_shorthands, meaning_in, trimmed_front, trimmed_end, yearly, daily}
 use Rattle.cron_text.specs.TextLaws.{KeepsItsMeaning}
 use Rattle.cron_text.specs.Tokens.{Token, tokens}
-use Rattle.cron_text.proofs.FieldSets.{tail_unrefused}
 use Rattle.cron_text.proofs.FieldStates.{some_same}
-use Rattle.std.proofs.lemmas.Bool.{false≢true}
+use Rattle.std.proofs.lemmas.Bool.{false≢true, false_from_ne_true}
+use Rattle.std.proofs.lemmas.List.Elements.{All-weaker, All-contains}
 
 -- no name of the unit is its word for the last day
 abbrev IsNoName : TimeUnit → Type 0
@@ -44,80 +45,76 @@ field_same u ts is f =
 
 -- ---- the same sets
 
-same_steps : (u : TimeUnit) (i : Item) → steps_of (without_last_day u) i ≡ steps_of u i
-same_steps u (plain every) = refl
-same_steps u (plain question_mark) = refl
-same_steps u (plain (single n)) = refl
-same_steps u (plain (number_range a b)) = refl
-same_steps u (plain (name_range v w)) = refl
-same_steps u (stepped every n) = refl
-same_steps u (stepped question_mark n) = refl
-same_steps u (stepped (single k) n) = refl
-same_steps u (stepped (number_range a b) n) = refl
-same_steps u (stepped (name_range v w) n) = refl
-same_steps u (name word) = refl
+-- what is refused with the word was refused without it
+base_then : (u : TimeUnit) (b : Base) (r : Refusal) → IsBaseRefusedFor u b r → IsBaseRefusedFor (without_last_day u) b r
+base_then u every r k = elim k [ ]
+base_then u question_mark r k = elim k [ ]
+base_then u (single n) r (below l) = below l
+base_then u (single n) r (above l) = above l
+base_then u (number_range a b) r (no_range k) = no_range k
+base_then u (name_range v w) r (first_unknown e) = first_unknown e
+base_then u (name_range v w) r (second_unknown e f) = second_unknown e f
+base_then u (name_range v w) r (turned e f l) = turned e f l
 
--- without the word an item has steps alone
-earlier_item : (u : TimeUnit) (i : Item) → denoted_by (without_last_day u) i ≡ of_steps (steps_of u i)
-earlier_item u (plain b) = ap of_steps (same_steps u (plain b))
-earlier_item u (stepped b n) = ap of_steps (same_steps u (stepped b n))
-earlier_item u (name word) = refl
+refused_then : (u : TimeUnit) (i : Item) (r : Refusal) → IsRefusedFor u i r → IsRefusedFor (without_last_day u) i r
+refused_then u (plain b) r (by_base k) = by_base (base_then u b r k)
+refused_then u (stepped b n) r (by_zero e) = by_zero e
+refused_then u (stepped b n) r (by_step l) = by_step l
+refused_then u (stepped b n) r (by_stepped some fits k) = by_stepped some fits (base_then u b r k)
+refused_then u (name word) r (unknown e f) = unknown refl f
 
-unnamed : (word : List ℕ) (o : Option ℕ) (more : Option Refusal) → o ≡ None → first_refusal (of_steps (one_ordinal (found_name word o))) more ≡ None → ⊥
-unnamed word None more e h = cc
-unnamed word (Some n) more e h = cc
+no_ordinal : (o : Option ℕ) (x : ℕ) → o ≡ None → o ≡ Some x → ⊥
+no_ordinal o x e f = cc
 
--- with it, an item that was not refused denotes the same
-kept_item : (u : TimeUnit) (i : Item) (more : Option Refusal) → IsNoName u → first_refusal (of_steps (steps_of u i)) more ≡ None
-    → denoted_by u i ≡ of_steps (steps_of u i)
-kept_item u (plain b) more free h = refl
-kept_item u (stepped b n) more free h = refl
-kept_item u (name word) more free h = by_test (means_last_day u word) refl where
-  by_test : (b : Bool) → means_last_day u word ≡ b → cond b (Ok the_last_day) (of_steps (steps_of u (name word))) ≡ of_steps (steps_of u (name word))
-  by_test false e = refl
-  by_test true e = absurd (unnamed word (ordinal_of u word) more (free word e) h)
+-- what lies in an item is the same
+lies_same : (u : TimeUnit) (i : Item) (x : ℕ) → IsNoName u → LiesIn (without_last_day u) i x ↔ LiesIn u i x
+lies_same u (plain every) x free = (λ l. l, λ l. l)
+lies_same u (plain question_mark) x free = (λ l. l, λ l. l)
+lies_same u (plain (single n)) x free = (λ l. l, λ l. l)
+lies_same u (plain (number_range a b)) x free = (λ l. l, λ l. l)
+lies_same u (plain (name_range v w)) x free = (λ l. l, λ l. l)
+lies_same u (stepped every n) x free = (λ l. l, λ l. l)
+lies_same u (stepped question_mark n) x free = (λ l. l, λ l. l)
+lies_same u (stepped (single k) n) x free = (λ l. l, λ l. l)
+lies_same u (stepped (number_range a b) n) x free = (λ l. l, λ l. l)
+lies_same u (stepped (name_range v w) n) x free = (λ l. l, λ l. l)
+lies_same u (name word) x free = (
+  λ l. (false_from_ne_true (means_last_day u word) (λ marks. no_ordinal (ordinal_of u word) x (free word marks) l.1), l.1),
+  λ l. (refl, l.1),
+)
 
-unmarked_steps : (r : Result Progression Refusal) → denoted_marks (of_steps r) ≡ false
-unmarked_steps (Err e) = refl
-unmarked_steps (Ok s) = refl
+-- without the word there is no mark
+no_mark : (u : TimeUnit) (i : Item) → MarksLastDay (without_last_day u) i → ⊥
+no_mark u (plain b) m = m
+no_mark u (stepped b n) m = m
+no_mark u (name word) m = false≢true m
 
--- items that were not refused aren't refused, and have the numbers that they had, without the mark
-record AreKept (u : TimeUnit) (is : List Item) : Type 0 where
-  unrefused : refusal_of u is ≡ None
-  numbers : (x : ℕ) → in_items (without_last_day u) is x ≡ in_items u is x
-  unmarked : items_mark u is ≡ false
-  unmarked_then : items_mark (without_last_day u) is ≡ false
+-- what is marked with it was refused without it
+marked_refused : (u : TimeUnit) (i : Item) → IsNoName u → MarksLastDay u i → IsUnrefused (without_last_day u) i → ⊥
+marked_refused u (plain b) free m k = m
+marked_refused u (stepped b n) free m k = m
+marked_refused u (name word) free m k = k (unknown_name word) (unknown refl (free word m))
 
-kept_items : (u : TimeUnit) (is : List Item) → IsNoName u → refusal_of (without_last_day u) is ≡ None → AreKept u is
-kept_items u [] free h = record { unrefused = refl; numbers = λ x. refl; unmarked = refl; unmarked_then = refl }
-kept_items u (i ∷ is) free h =
-    let earlier = earlier_item u i in
-    let others = tail_unrefused (denoted_by (without_last_day u) i) (refusal_of (without_last_day u) is) h in
-    let first : first_refusal (of_steps (steps_of u i)) (refusal_of (without_last_day u) is)
-    ≡ None = subst (λ (o : Result Denoted Refusal). first_refusal o (refusal_of (without_last_day u) is) ≡ None) earlier h in
-    let same = kept_item u i (refusal_of (without_last_day u) is) free first in
-    let rest = kept_items u is free others in
-    record {
-      unrefused = ap (λ (o : Result Denoted Refusal). first_refusal o (refusal_of u is)) same
-          ∙ (ap (λ (m : Option Refusal). first_refusal (of_steps (steps_of u i)) m) (rest.unrefused ∙ sym others) ∙ first);
-      numbers = λ x. ap (λ (o : Result Denoted Refusal). denoted_has x o || in_items (without_last_day u) is x) (earlier ∙ sym same)
-          ∙ ap (λ (b : Bool). denoted_has x (denoted_by u i) || b) (rest.numbers x);
-      unmarked = unmarked_both u i is (denoted_by u i) (items_mark u is) same rest.unmarked;
-      unmarked_then = unmarked_both u i is (denoted_by (without_last_day u) i) (items_mark (without_last_day u) is) earlier rest.unmarked_then;
-    } where
-      unmarked_both : (u : TimeUnit) (i : Item) (is : List Item) (o : Result Denoted Refusal) (m : Bool) → o ≡ of_steps (steps_of u i) → m ≡ false
-          → (denoted_marks o || m) ≡ false
-      unmarked_both u i is o m e f = rw (e, f, unmarked_steps (steps_of u i)) refl
-
-same_field : (xs ys : List ℕ) (m n : Bool) → xs ≡ ys → m ≡ n → with_mark xs m ≡ with_mark ys n
-same_field xs ys m n h e = rw (h, e) refl
+some_also : (P Q : Item → Type 0) (is : List Item) → ((i : Item) → P i → Q i) → Any P is → Any Q is
+some_also P Q is f a = (a.0, a.1, a.2, a.3, f a.1 a.4)
 
 kept_denotes : (u : TimeUnit) (is : List Item) (s : FieldSet) → IsNoName u → Denotes (without_last_day u) is s → Denotes u is s × (s.last_day ≡ false)
 kept_denotes u is s free d =
-    let kept = kept_items u is free d.unrefused in
-    let numbers = set_without u (in_items (without_last_day u) is) ∙ set_same u (in_items (without_last_day u) is) (in_items u is) (λ x _ _. kept.numbers x) in
-    let union = d.union ∙ same_field _ _ _ _ numbers (kept.unmarked_then ∙ sym kept.unmarked) in
-    (record { unrefused = kept.unrefused; union = union }, ap (λ (t : FieldSet). t.last_day) union ∙ kept.unmarked)
+    let unmarked = false_from_ne_true s.last_day (λ m. let a = d.mark.0 m in no_mark u a.1 a.4) in (
+      record {
+        unrefused = All-weaker (IsUnrefused (without_last_day u)) (IsUnrefused u) (λ i f r k. f r (refused_then u i r k)) is d.unrefused;
+        is_set = d.is_set ∙ set_without u (contains s.ordinals);
+        ordinals = λ x. (
+          λ c. some_also (λ i. LiesIn (without_last_day u) i x) (λ i. LiesIn u i x) is (λ i. (lies_same u i x free).0) ((d.ordinals x).0 c),
+          λ a. (d.ordinals x).1 (some_also (λ i. LiesIn u i x) (λ i. LiesIn (without_last_day u) i x) is (λ i. (lies_same u i x free).1) a),
+        );
+        mark = (
+          λ m. absurd (false≢true (sym unmarked ∙ m)),
+          λ a. absurd (marked_refused u a.1 free a.4 (All-contains (IsUnrefused (without_last_day u)) is a.1 d.unrefused (a.0, a.2, a.3))),
+        );
+      },
+      unmarked,
+    )
 
 -- ---- the same texts
 
@@ -154,7 +151,7 @@ unmarked_word (e ∷ es) word s a h = by_test (bytes_eq word e.0) (unmarked_word
   by_test false f k = f k
 
 no_word : (u : TimeUnit) → u.last_day ≡ None → IsNoName u
-no_word u none word e = absurd (false≢true (ap (λ (o : Option (List ℕ)). is_word o word) (sym none) ∙ e))
+no_word u none word e = absurd (false≢true (ap (λ (o : Option (List ℕ)). is_name o word) (sym none) ∙ e))
 
 no_names : AllByRecursion IsNoName six_units
 no_names = (

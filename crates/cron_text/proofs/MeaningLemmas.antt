@@ -2,8 +2,10 @@
 use Rattle.std.proofs.Common.{◌≡◌, ℕ, Bool, true, false, cond, ◌⊎◌, inl, inr, not, ◌&&◌, if◌then◌else◌, Option, Some, None, List, [], ◌∷◌, ◌++◌, codes, refl, sym, ap, ◌∙◌, subst}
 use Rattle.std.specs.Prelude.{slice_index}
 use Rattle.std.specs.Str.{bytes_eq}
-use Rattle.cron_units.specs.Units.{TimeUnit, FieldSet, unmarked}
-use Rattle.cron_units.specs.Denotation.{Refusal, refusal_of, message}
+use Rattle.std.specs.List.{AllByRecursion}
+use Rattle.cron_units.specs.Units.{TimeUnit, FieldSet, IsUnit, unmarked}
+use Rattle.cron_units.specs.Refusals.{Refusal, IsFirstRefusal, message}
+use Rattle.cron_units.proofs.DenotedSets.{first_once}
 use Rattle.cron_text.specs.Fault.{IsRefused, IsFaultOf, TakeSets}
 use Rattle.cron_text.specs.Fields.{Item, IsField}
 use Rattle.cron_text.specs.Inner.FieldReading.{FieldState, first_state, lone_item, state_after}
@@ -12,7 +14,7 @@ use Rattle.cron_units.specs.Sets.{Sets}
 use Rattle.cron_text.specs.TextLaws.{MeansOnce, LongestFrontsAgree, HasOneFault}
 use Rattle.cron_text.specs.Tokens.{Token, Symbol, tokens, is_space, in_one_run, after_space, after_byte, after_gap, symbol_of, foreign}
 use Rattle.cron_text.proofs.Longest.{nothing}
-use Rattle.cron_text.proofs.TextLemmas.{sets_once, sets_taken, taken_sets, same_longest, takes_once, not_both}
+use Rattle.cron_text.proofs.TextLemmas.{sets_once, sets_taken, taken_sets, same_longest, takes_once, not_both, are_units}
 use Rattle.cron_text.proofs.TokenRuns.{tokens-cons, skip_more}
 use Rattle.cron_text.proofs.FieldStates.{field_states, bound, mapped, some_same}
 use Rattle.std.proofs.lemmas.Slice.Eq.{bytes_eq-Decides}
@@ -180,25 +182,25 @@ fronts_agree text none = (λ m. taken m.0 m.1, λ t. (t.0, inl (taken_sets six_u
 
 -- ---- one fault
 
-same_message : (u : TimeUnit) (o : Option Refusal) (q r : Refusal) (a b : List ℕ) → o ≡ Some q → o ≡ Some r → a ≡ message u q → b ≡ message u r → a ≡ b
-same_message u o q r a b h k d e = let same : q ≡ r = some_same q r (sym h ∙ k) in d ∙ (ap (message u) same ∙ sym e)
+same_message : (u : TimeUnit) (is : List Item) (q r : Refusal) (a b : List ℕ) → IsUnit u → IsFirstRefusal u is q → IsFirstRefusal u is r
+    → a ≡ message u q → b ≡ message u r → a ≡ b
+same_message u is q r a b h f g d e = d ∙ (ap (message u) (first_once u is q r h f g) ∙ sym e)
 
-refused_once : (us : List TimeUnit) (ts : List Token) (a b : List ℕ) → IsRefused us ts a → IsRefused us ts b → a ≡ b
-refused_once [] ts a b h k = absurd h
-refused_once (u ∷ us) ts a b (inl h) (inl k) =
+refused_once : (us : List TimeUnit) (ts : List Token) (a b : List ℕ) → AllByRecursion IsUnit us → IsRefused us ts a → IsRefused us ts b → a ≡ b
+refused_once [] ts a b v h k = absurd h
+refused_once (u ∷ us) ts a b v (inl h) (inl k) =
     let s = same_longest u ts h.front h.rest k.front k.rest h.items k.items h.longest k.longest in
-    same_message u (refusal_of u k.items) h.refusal k.refusal a b (subst (λ (is : List Item). refusal_of u is ≡ Some h.refusal) s.1 h.first) k.first
-    h.told k.told
-refused_once (u ∷ us) ts a b (inl h) (inr k) = absurd (not_both u ts k.0 k.1 a h k.2)
-refused_once (u ∷ us) ts a b (inr h) (inl k) = absurd (not_both u ts h.0 h.1 b k h.2)
-refused_once (u ∷ us) ts a b (inr h) (inr k) =
-    refused_once us k.1 a b (subst (λ (z : List Token). IsRefused us z a) (takes_once u ts h.0 k.0 h.1 k.1 h.2 k.2).0 h.3) k.3
+    same_message u k.items h.refusal k.refusal a b v.0 (subst (λ (is : List Item). IsFirstRefusal u is h.refusal) s.1 h.first) k.first h.told k.told
+refused_once (u ∷ us) ts a b v (inl h) (inr k) = absurd (not_both u ts k.0 k.1 a h k.2)
+refused_once (u ∷ us) ts a b v (inr h) (inl k) = absurd (not_both u ts h.0 h.1 b k h.2)
+refused_once (u ∷ us) ts a b v (inr h) (inr k) =
+    refused_once us k.1 a b v.1 (subst (λ (z : List Token). IsRefused us z a) (takes_once u ts h.0 k.0 h.1 k.1 h.2 k.2).0 h.3) k.3
 
-fault_once : (us : List TimeUnit) (ts : List Token) (a b : List ℕ) → IsFaultOf us ts a → IsFaultOf us ts b → a ≡ b
-fault_once us ts a b (inl h) (inl k) = refused_once us ts a b h k
-fault_once us ts a b (inl h) (inr k) = absurd (k.0 a h)
-fault_once us ts a b (inr h) (inl k) = absurd (h.0 b k)
-fault_once us ts a b (inr h) (inr k) = h.1 ∙ sym k.1
+fault_once : (us : List TimeUnit) (ts : List Token) (a b : List ℕ) → AllByRecursion IsUnit us → IsFaultOf us ts a → IsFaultOf us ts b → a ≡ b
+fault_once us ts a b v (inl h) (inl k) = refused_once us ts a b v h k
+fault_once us ts a b v (inl h) (inr k) = absurd (k.0 a h)
+fault_once us ts a b v (inr h) (inl k) = absurd (h.0 b k)
+fault_once us ts a b v (inr h) (inr k) = h.1 ∙ sym k.1
 
 pub one_fault : HasOneFault
-one_fault text a b h k = fault_once six_units (tokens text) a b h k
+one_fault text a b h k = fault_once six_units (tokens text) a b are_units h k

@@ -1,15 +1,15 @@
 -- A star that is a whole field.
-use Rattle.std.proofs.Common.{◌≡◌, ℕ, Bool, ◌+◌, ◌<◌, ◌||◌, false, true, List, [], ◌∷◌, Some, length, get_or, drop, refl, sym, ap, ◌∙◌}
-use Rattle.cron_units.specs.Units.{TimeUnit, contains, set_of, with_mark}
-use Rattle.cron_units.specs.Denotation.{Denoted, denoted_by, in_denoted, is_last_day}
-use Rattle.std.specs.Prelude.{Ok}
+use Rattle.std.proofs.Common.{◌≡◌, ℕ, Bool, ◌+◌, ◌<◌, false, true, List, [], ◌∷◌, Some, length, get_or, drop, refl, sym, ap, ◌∙◌}
+use Rattle.cron_units.specs.Units.{TimeUnit, with_mark}
+use Rattle.cron_units.specs.Denotation.{AddsItem}
 use Rattle.cron_text.specs.Fault.{TakesField}
 use Rattle.cron_text.specs.Fields.{every, plain, is_wildcard}
 use Rattle.cron_text.specs.Inner.FieldReading.{FieldState, field_at, furthest, lone_item}
 use Rattle.cron_text.specs.Inner.Places.{IsPlace, IsLoneStar, token_between, tokens_from}
 use Rattle.cron_text.specs.Tokens.{Token, tokens, symbol_of, sign_of, star, is_digit, is_letter}
 use Rattle.cron_text.specs.declared.tokens.Place.{Place}
-use Rattle.cron_text.proofs.FieldSets.{read_first, unrefused_push, empty_union, set_push, field_taken}
+use Rattle.cron_units.proofs.DenotedSets.{denotes_none, denotes_push}
+use Rattle.cron_text.proofs.FieldSets.{read_first, field_taken}
 use Rattle.cron_text.proofs.Places.{gap_token, lone_symbol, place_front, sign_token, symbol_spaced}
 
 pub lone_star : (text : List ℕ) (p next : Place) → p.at < length text → IsPlace text p → get_or text p.at 0 ≡ 42
@@ -31,14 +31,12 @@ lone_star text p next l h e same stuck =
     }
 
 -- Such a star is the longest field, with one item.
-pub star_taken : (u : TimeUnit) (text : List ℕ) (p next : Place) (d : Denoted) (none xs : List ℕ) (m n : Bool)
-    → IsLoneStar text p next → none ≡ [] → m ≡ false → denoted_by u (plain every) ≡ Ok d
-    → xs ≡ set_of u (λ x. contains none x || in_denoted d x) → n ≡ (m || is_last_day d)
+pub star_taken : (u : TimeUnit) (text : List ℕ) (p next : Place) (none xs : List ℕ) (m n : Bool)
+    → IsLoneStar text p next → none ≡ [] → m ≡ false → AddsItem u (plain every) (with_mark none m) (with_mark xs n)
     → TakesField u (tokens_from text p) (with_mark xs n) (tokens_from text next)
-star_taken u text p next d none xs m n h e f denoted added mark =
+star_taken u text p next none xs m n h e f added =
     let state : FieldState = record { done = []; item = plain every; last = h.token } in
     let lone : lone_item u (symbol_of h.token) ≡ Some (plain every) = ap (lone_item u) h.symbol in
     let read : field_at u (tokens_from text p) ≡ Some (state, tokens_from text next) =
     ap (field_at u) h.rest ∙ (read_first u h.token (tokens_from text next) (plain every) lone ∙ ap Some (h.alone u state refl)) in
-    field_taken u (tokens_from text p) (tokens_from text next) state _ read (unrefused_push u [] (plain every) d refl denoted)
-    (set_push u [] (plain every) d none xs m n (empty_union u none m e f) denoted added mark)
+    field_taken u (tokens_from text p) (tokens_from text next) state _ read (denotes_push u [] (plain every) _ _ (denotes_none u none m e f) added)

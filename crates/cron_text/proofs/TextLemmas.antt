@@ -1,8 +1,12 @@
 -- Fields one after another: a cut anywhere and the longest fronts are the same cut, and what a reader tells of them.
-use Rattle.std.proofs.Common.{◌≡◌, ℕ, true, ◌&&◌, inl, inr, Option, Some, None, List, [], ◌∷◌, ◌++◌, refl, sym, ap, ◌∙◌, subst, append-nil}
-use Rattle.cron_units.specs.Units.{TimeUnit, FieldSet, whole}
+use Rattle.std.proofs.Common.{◌≡◌, ℕ, true, ◌&&◌, inl, inr, Some, List, [], ◌∷◌, ◌++◌, refl, sym, ap, ◌∙◌, subst, append-nil}
+use Rattle.std.specs.List.{AllByRecursion}
+use Rattle.cron_units.specs.Laws.{is_unit-seconds, is_unit-minutes, is_unit-hours, is_unit-days_of_month, is_unit-months, is_unit-days_of_week}
+use Rattle.cron_units.specs.Units.{TimeUnit, FieldSet, IsUnit, whole}
 use Rattle.cron_units.specs.Units as units
-use Rattle.cron_units.specs.Denotation.{refusal_of, Denotes}
+use Rattle.cron_units.specs.Denotation.{Denotes}
+use Rattle.cron_units.specs.Refusals.{IsFirstRefusal}
+use Rattle.cron_units.proofs.DenotedSets.{denotes_once, not_refused}
 use Rattle.cron_text.specs.Fault.{IsLongestField, NoField, TakesField, RefusesField, IsRefused, IsFaultOf, TakeSets, syntax_text}
 use Rattle.cron_text.specs.FaultText.{fault_text}
 use Rattle.cron_text.specs.Inner.Faults.{IsUnread}
@@ -10,11 +14,17 @@ use Rattle.cron_text.specs.declared.faults.Fault.{Fault}
 use Rattle.cron_text.specs.declared.faults.Fault.TheVariants.{Syntax, Refused}
 use Rattle.cron_text.specs.Fields.{Item, is_connector, spacing_fits, IsField}
 use Rattle.cron_text.specs.Inner.FieldReading.{FieldState, lone_item, joined, next_state, state_after, first_state, state_items}
-use Rattle.cron_text.specs.Meaning.{DenoteYears, DenoteSets}
+use Rattle.cron_text.specs.Meaning.{six_units, DenoteYears, DenoteSets}
 use Rattle.cron_text.specs.Inner.TextReading.{IsRefusalOf}
 use Rattle.cron_text.specs.Tokens.{Token, Symbol, symbol_of, comma, dash, slash}
 use Rattle.cron_text.proofs.Longest.{longest_read, nothing, none_left, state_after-append}
 use Rattle.cron_text.proofs.FieldStates.{field_states, bound, mapped, chosen, some_same}
+
+pub are_units : AllByRecursion IsUnit six_units
+are_units = (
+  is_unit-seconds,
+  (is_unit-minutes, (is_unit-hours, (is_unit-days_of_month, (is_unit-months, (is_unit-days_of_week, tt))))),
+)
 
 connector_next : (u : TimeUnit) (s : FieldState) (a : Symbol) (x : Token) (z : FieldState) → joined u s a x ≡ Some z → is_connector a ≡ true
 connector_next u s comma x z h = refl
@@ -116,7 +126,7 @@ same_longest u ts front rest front' rest' is js f g =
     (ap (λ (p : FieldState × List Token). p.1) same, sym a.2 ∙ (ap (λ (p : FieldState × List Token). state_items p.0) same ∙ b.2))
 
 same_set : (u : TimeUnit) (is js : List Item) (xs ys : FieldSet) → is ≡ js → Denotes u is xs → Denotes u js ys → xs ≡ ys
-same_set u is js xs ys e d f = let g = subst (λ (ks : List Item). Denotes u ks xs) e d in g.union ∙ sym f.union
+same_set u is js xs ys e d f = denotes_once u js xs ys (subst (λ (ks : List Item). Denotes u ks xs) e d) f
 
 pub takes_once : (u : TimeUnit) (ts : List Token) (xs ys : FieldSet) (rest rest' : List Token) → TakesField u ts xs rest → TakesField u ts ys rest'
     → (rest ≡ rest') × (xs ≡ ys)
@@ -156,14 +166,11 @@ sets_once us ts xss yss h k = taken_once us ts xss yss (sets_taken us ts xss h) 
 
 -- ---- what is told
 
-none_is_some : {A : Type 0} (o : Option A) (x : A) → o ≡ None → o ≡ Some x → ⊥
-none_is_some o x h k = cc
-
 -- one field isn't both refused and taken
 pub not_both : (u : TimeUnit) (ts : List Token) (xs : FieldSet) (rest : List Token) (text : List ℕ) → RefusesField u ts text → TakesField u ts xs rest → ⊥
 not_both u ts xs rest text r t =
     let s = same_longest u ts r.front r.rest t.front rest r.items t.items r.longest t.longest in
-    none_is_some (refusal_of u t.items) r.refusal t.denotes.unrefused (subst (λ (is : List Item). refusal_of u is ≡ Some r.refusal) s.1 r.first)
+    not_refused u t.items r.refusal xs (subst (λ (is : List Item). IsFirstRefusal u is r.refusal) s.1 r.first) t.denotes
 
 -- where the first field is refused
 pub refused_first : (u : TimeUnit) (us : List TimeUnit) (ts : List Token) (text : List ℕ) → RefusesField u ts text → IsRefusalOf (u ∷ us) ts text

@@ -1,7 +1,8 @@
 -- The fault that is told of a text that means nothing.
-use Rattle.std.specs.Prelude.{◌≡◌, ℕ, List, [], ◌∷◌, ◌++◌, ◌⊎◌, Some, codes}
+use Rattle.std.specs.Prelude.{◌≡◌, ℕ, List, [], ◌∷◌, ◌++◌, ◌⊎◌, codes}
 use Rattle.cron_units.specs.Units.{TimeUnit, FieldSet}
-use Rattle.cron_units.specs.Denotation.{Refusal, refusal_of, message, Denotes}
+use Rattle.cron_units.specs.Denotation.{Denotes}
+use Rattle.cron_units.specs.Refusals.{Refusal, IsFirstRefusal, message}
 use Rattle.cron_text.specs.Fields.{Item, IsField}
 use Rattle.cron_text.specs.Meaning.{six_units, DenoteYears, MeansNothing}
 use Rattle.cron_text.specs.Tokens.{Token, tokens}
@@ -30,7 +31,7 @@ pub record RefusesField (u : TimeUnit) (ts : List Token) (text : List ℕ) : Typ
   pub items : List Item
   pub refusal : Refusal
   pub longest : IsLongestField u ts front rest items
-  pub first : refusal_of u items ≡ Some refusal
+  pub first : IsFirstRefusal u items refusal
   pub told : text ≡ message u refusal
 
 -- Fields are taken from the left, each the longest front of what is left; the first refused one is refused with this message.

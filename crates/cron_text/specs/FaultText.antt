@@ -1,6 +1,6 @@
 -- The text of a fault that a reader answers.
 use Rattle.std.specs.Prelude.{ℕ, List}
-use Rattle.cron_units.specs.Denotation.{message}
+use Rattle.cron_units.specs.Refusals.{message}
 use Rattle.cron_units.specs.Tables.{definition_view}
 use Rattle.cron_units.specs.Views.{refusal_view}
 use Rattle.cron_text.specs.Fault.{syntax_text}

@@ -40,7 +40,7 @@ abbrev pub spacing_fits : Token → Token → Bool
 spacing_fits t u =
     not u.spaced || not ((is_wildcard (symbol_of t) && is_connector (symbol_of u)) || (is_connector (symbol_of t) && is_wildcard (symbol_of u)))
 
--- the same of each two tokens side by side
+-- each two tokens side by side keep to this
 abbrev pub spacing_fits_all : List Token → Bool
 spacing_fits_all [] = true
 spacing_fits_all (t ∷ []) = true

@@ -1,6 +1,7 @@
-//! One field, read once from the left and joined into its set on the way.
+//! One field, read once from the left and joined into its set on the way. What white space beside a
+//! star means is decided here.
 
-ghost use Rattle.std.specs.Prelude.{◌≡◌, ◌<◌, ◌||◌, length, MatchOption, IfSome, OnErr, OnOk, Some, None, Ok, List, false};
+ghost use Rattle.std.specs.Prelude.{◌≡◌, ◌<◌, length, MatchOption, IfSome, OnErr, OnOk, Some, None, List, false};
 ghost use Rattle.cron_units.specs.Views.{item_view};
 ghost use Rattle.cron_text.specs.Fault.{TakesField};
 ghost use Rattle.cron_text.specs.Inner.FieldReading.{joined, furthest};
@@ -11,9 +12,8 @@ ghost use Rattle.cron_text.specs.Tokens as spec;
 ghost use Rattle.cron_text.specs.Inner.Places.{IsPlace, tokens_from, IsConnector, NoConnector, GrowsOn};
 ghost use Rattle.cron_text.specs.Inner.Views.{symbol_view, connector_view, state_view, after_growth};
 ghost use Rattle.cron_text.specs.Inner.Faults.{IsUnread, TellsItem};
-ghost use Rattle.cron_units.specs.Denotation as denotation;
-ghost use Rattle.cron_units.specs.Denotation.{denoted_by, in_denoted, is_last_day};
-ghost use Rattle.cron_units.specs.Units.{contains, set_of, with_mark};
+ghost use Rattle.cron_units.specs.Denotation.{AddsItem};
+ghost use Rattle.cron_units.specs.Units.{with_mark};
 
 use super::faults::Fault;
 use super::items::{lone_item, with_end, with_step};
@@ -131,10 +131,8 @@ fn add_to<'a, T: TimeUnitField>(
     item: Item<'a>,
     fault: &mut Fault<'a>,
 ) -> Result<(), Unread>
-    ensures ok { OnOk result ((d : denotation.Denoted) × (denoted_by T.unit (item_view item.entry) ≡ Ok d)
-        × (T.members set.new ≡ set_of T.unit (λ x. contains (T.members set.old) x || in_denoted d x))
-        × (T.marked set.new ≡ (T.marked set.old || is_last_day d))) }
-    ensures err { OnErr result (TellsItem T.unit (denoted_by T.unit (item_view item.entry)) fault.new) }
+    ensures ok { OnOk result (AddsItem T.unit (item_view item.entry) (with_mark (T.members set.old) (T.marked set.old)) (with_mark (T.members set.new) (T.marked set.new))) }
+    ensures err { OnErr result (TellsItem T.unit (item_view item.entry) fault.new) }
 {
     match add_item::<T>(set, item) {
         Ok(()) => Ok(()),

@@ -1,4 +1,4 @@
-//! What the grammar sees in a token.
+//! What the grammar sees in a token. That a number past 32 bits is foreign is decided here.
 
 ghost use Rattle.std.specs.Prelude.{◌≡◌, ◌<◌, ◌+◌, ◌*◌, [], ℕ, length, slice_index, MatchOption, IfSome, true, false};
 ghost use Rattle.std.specs.Char.{digit_value};

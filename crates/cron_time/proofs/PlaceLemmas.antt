@@ -7,9 +7,9 @@ use Rattle.std.proofs.lemmas.Iterator.Adapters.{position_from-zero}
 use Rattle.cron_units.specs.declared.way.Way.{Way}
 use Rattle.cron_units.specs.declared.way.Way.TheVariants.{Ahead, Back}
 use Rattle.cron_units.specs.Nearest.{LiesFrom, Precedes}
-use Rattle.cron_time.specs.Cursor.{last_place, place_in_tail}
-use Rattle.cron_time.specs.Readings.{Reading}
-use Rattle.cron_time.specs.Ways.{place_from}
+use Rattle.cron_time.specs.Walk.Cursor.{last_place, place_in_tail}
+use Rattle.cron_moments.specs.Readings.{Reading}
+use Rattle.cron_time.specs.Walk.Ways.{place_from}
 
 -- ---- lists
 

@@ -9,12 +9,12 @@ use Rattle.jiff_tz.specs.Zone.{ambiguous_at}
 use Rattle.jiff_tz.specs.declared.timezone.TimeZone.{TimeZone}
 use Rattle.jiff_tz.specs.declared.ambiguous.AmbiguousOffset.{AmbiguousOffset}
 use Rattle.jiff_tz.specs.declared.ambiguous.AmbiguousOffset.TheVariants.{Unambiguous, Gap, Fold}
-use Rattle.cron_time.specs.Civil.{civil}
-use Rattle.cron_time.specs.Readings.{Reading, reading, readings, readings_by}
+use Rattle.cron_moments.specs.Civil.{civil}
+use Rattle.cron_moments.specs.Readings.{Reading, reading, readings, readings_by}
 use Rattle.cron_time.specs.Search.{items_of, has_item}
 use Rattle.cron_units.specs.Sets.{Sets}
 use Rattle.cron_time.specs.Matches.{matches}
-use Rattle.cron_time.specs.WalkLaws.{SecondsNeverDecrease, SecondsStandTwiceAtMost, ItemsMatch, ItemsStandOnce}
+use Rattle.cron_time.specs.Walk.Laws.{SecondsNeverDecrease, SecondsStandTwiceAtMost, ItemsMatch, ItemsStandOnce}
 use Rattle.cron_time.proofs.PlaceLemmas.{nothing_in_nil}
 use Rattle.cron_time.proofs.JoinedLemmas.{joined, joined-zero, joined-suc, owner}
 use Rattle.cron_time.proofs.TimelineLemmas.{before-up, is_in, items_of-second, timeline-joined}

@@ -8,8 +8,8 @@ use Rattle.jiff_tz.specs.Zone.{ambiguous_at}
 use Rattle.jiff_tz.specs.declared.timezone.TimeZone.{TimeZone}
 use Rattle.jiff_tz.specs.declared.ambiguous.AmbiguousOffset.{AmbiguousOffset}
 use Rattle.jiff_tz.specs.declared.ambiguous.AmbiguousOffset.TheVariants.{Unambiguous, Gap, Fold}
-use Rattle.cron_time.specs.Civil.{civil}
-use Rattle.cron_time.specs.Readings.{Reading, reading, readings, readings_by}
+use Rattle.cron_moments.specs.Civil.{civil}
+use Rattle.cron_moments.specs.Readings.{Reading, reading, readings, readings_by}
 use Rattle.cron_time.specs.Search.{items_of, has_item, stands}
 use Rattle.cron_units.specs.Sets.{Sets}
 use Rattle.cron_time.specs.Matches.{matches}

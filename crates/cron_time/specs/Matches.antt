@@ -1,10 +1,10 @@
 -- The civil datetimes that lie in the seven sets of a schedule.
-use Rattle.std.specs.Prelude.{ℕ, ◌+◌, ◌%◌, ◌==◌, ℤ, pos, negsuc, Bool, false, ◌&&◌, ◌||◌, List}
+use Rattle.std.specs.Prelude.{ℕ, ◌==◌, ℤ, pos, negsuc, Bool, false, ◌&&◌, ◌||◌, List}
 use Rattle.jiff_core.specs.declared.civil.date.Date.{Date}
 use Rattle.jiff_core.specs.declared.civil.time.Time.{Time}
 use Rattle.jiff_core.specs.declared.civil.datetime.DateTime.{DateTime}
 use Rattle.jiff_core.specs.Calendar.{days_in_month}
-use Rattle.jiff_core.specs.Date.{weekday_of}
+use Rattle.cron_moments.specs.Calendar.{weekday_number}
 use Rattle.cron_units.specs.Sets.{Sets}
 use Rattle.cron_units.specs.Units.{FieldSet, contains}
 
@@ -12,10 +12,6 @@ use Rattle.cron_units.specs.Units.{FieldSet, contains}
 abbrev pub contains_year : List ℕ → ℤ → Bool
 contains_year xs (pos y) = contains xs y
 contains_year xs (negsuc y) = false
-
--- the day of the week, from 1 for Sunday to 7 for Saturday
-abbrev pub weekday_number : Date → ℕ
-weekday_number d = (weekday_of d + 1) % 7 + 1
 
 -- a day of a month of this length lies in the set: by its number, or as the last day where that is marked
 abbrev pub has_day : FieldSet → ℕ → ℕ → Bool

@@ -1,10 +1,14 @@
 -- The nearest civil second that stands on a timeline, and what a search finds of it.
+pub mod Counts
+pub mod Surveys
+pub mod Times
+pub mod Inner
 use Rattle.std.specs.Prelude.{◌≡◌, ℕ, ℤ, Bool, true, false, ◌&&◌, nat_lt, List, [], ◌∷◌, Option, MatchOption, if◌then◌else◌}
 use Rattle.jiff_tz.specs.declared.timezone.TimeZone.{TimeZone}
 use Rattle.cron_units.specs.declared.way.Way.{Way}
 use Rattle.cron_units.specs.Nearest.{LiesFrom, IsNearestAt}
-use Rattle.cron_time.specs.Civil.{civil, seconds_in_range}
-use Rattle.cron_time.specs.Readings.{Reading, readings}
+use Rattle.cron_moments.specs.Civil.{civil, seconds_in_range}
+use Rattle.cron_moments.specs.Readings.{Reading, readings}
 use Rattle.cron_units.specs.Sets.{Sets}
 use Rattle.cron_time.specs.Matches.{matches}
 

@@ -1,26 +1,7 @@
-//! The civil seconds that match the sets of a schedule: their readings in a zone, the search for the
-//! nearest one, and the steps of a walk over them.
+//! The civil seconds that match the sets of a schedule: the search for the nearest one that has a reading
+//! in a zone, and the steps of a walk over the readings.
 #![tactic(auto)]
 
-mod bounds;
-mod calendar;
-mod civil;
-mod days;
-pub mod found;
-mod inquiry;
-pub mod line;
 pub mod matching;
-pub mod moment;
-mod neighbours;
-mod onward;
-pub mod parts;
-pub mod resume;
 pub mod search;
-pub mod state;
-pub mod step;
-pub mod survey;
-pub mod times;
-mod ways;
-pub mod zone;
-
-pub use civil::civil_number;
+pub mod walk;

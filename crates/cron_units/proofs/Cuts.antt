@@ -3,11 +3,11 @@ use Rattle.std.proofs.Common.{◌≡◌, ℕ, ◌+◌, ◌-◌, ◌*◌, ◌<◌
 use Rattle.std.specs.Prelude.{nat_lt}
 use Rattle.std.proofs.lemmas.Bool.{cases_lt, lt-ltb, le-ltb}
 use Rattle.cron_units.specs.Units.{TimeUnit, set_of}
-use Rattle.cron_units.specs.Words.{has_bit, bit_of_three}
-use Rattle.cron_units.specs.WordLaws.{bit_past}
+use Rattle.cron_bits.specs.Words.{has_bit, bit_of_three}
+use Rattle.cron_bits.proofs.WordLemmas.{bit_past}
 use Rattle.cron_units.specs.Places.{placed, NonePast}
-use Rattle.cron_units.specs.PlaceLaws.{placed_is}
-use Rattle.cron_units.specs.SetLaws.{set_same}
+use Rattle.cron_units.proofs.PlaceLemmas.{placed_is}
+use Rattle.cron_units.proofs.SetLemmas.{set_same}
 
 -- no bit is left past the greatest ordinal, and those up to it are as they were
 pub cut_past : (u : TimeUnit) (words kept : ℕ → Bool) (greatest least : ℕ) → u.least ≤ u.greatest → greatest ≡ u.greatest → least ≡ u.least

@@ -2,17 +2,18 @@
 use Rattle.std.proofs.Common.{◌≡◌, ℕ, ◌+◌, ◌-◌, ◌<◌, ◌≤◌, pos, Bool, true, false, ◌&&◌, ◌||◌, min, List, Some, None, refl, sym, ap, ◌∙◌, arith, inl, inr}
 use Rattle.std.specs.Prelude.{filter, length, nat_le, nat_lt, nat_eq}
 use Rattle.std.specs.List.{range_with_len}
+use Rattle.std.proofs.Math.Bool.{or-false}
 use Rattle.std.proofs.lemmas.Bool.{cases_lt, cases_eq, le-leb, lt-leb, lt-ltb, le-ltb, leb-true, ltb-true, eq-eqb, ne_eqb, and_right, and_parts, or_from}
 use Rattle.std.proofs.lemmas.Bool.Decides.{nat_tests}
 use Rattle.std.proofs.lemmas.Int.{ints}
 use Rattle.cron_units.specs.Nearest.{IsNearest}
 use Rattle.cron_units.specs.declared.way.Way.TheVariants.{Ahead, Back}
 use Rattle.cron_units.specs.Units.{TimeUnit, contains, set_of, IsSet}
-use Rattle.cron_units.specs.Words.{count_below}
+use Rattle.cron_bits.specs.Words.{count_below}
 use Rattle.cron_units.specs.Places.{listed, placed, NonePast}
-use Rattle.cron_units.specs.SetLaws.{set_same, or_false, filter_same_in, filter_none}
-use Rattle.cron_units.specs.LongerLaws.{count_shift, count_split}
-use Rattle.cron_units.specs.PlaceLaws.{placed_or, placed_contains, placed_at}
+use Rattle.cron_units.proofs.SetLemmas.{set_same, filter_same_in, filter_none}
+use Rattle.cron_bits.proofs.LongerLemmas.{count_shift, count_split}
+use Rattle.cron_units.proofs.PlaceLemmas.{placed_or, placed_contains, placed_at}
 
 same_place : (least x o : ℕ) → least ≤ x → least ≤ o → nat_eq (x - least) (o - least) ≡ nat_eq x o
 same_place least x o l g = elim (cases_eq x o) [
@@ -73,7 +74,7 @@ pub range_empty : (u : TimeUnit) (xs : List ℕ) (first last : ℕ) → IsSet u 
     → xs ≡ set_of u (λ x. contains xs x || (nat_le first x && nat_le x last))
 range_empty u xs first last set l =
     set ∙ set_same u (contains xs) (λ x. contains xs x || (nat_le first x && nat_le x last))
-    (λ x a b. sym (ap (λ (t : Bool). contains xs x || t) (empty_test first last x l) ∙ or_false (contains xs x)))
+    (λ x a b. sym (ap (λ (t : Bool). contains xs x || t) (empty_test first last x l) ∙ or-false (contains xs x)))
 
 -- ---- the nearest member
 

@@ -1,7 +1,10 @@
+pub mod SetLemmas
+pub mod PlaceLemmas
+pub mod NameLemmas
 mod Marks
-pub mod Words
+pub mod Denoting
+pub mod DenotedSets
 pub mod Laid
 pub mod Remaining
 pub mod Progressions
-pub mod Multiples
 pub mod Cuts

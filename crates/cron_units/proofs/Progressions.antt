@@ -2,13 +2,14 @@
 use Rattle.std.proofs.Common.{◌≡◌, ℕ, ◌+◌, ◌-◌, ◌%◌, ◌<◌, ◌≤◌, Bool, true, false, ◌&&◌, ◌||◌, not, List, [], ◌∷◌, refl, sym, ap, ◌∙◌, arith}
 use Rattle.std.specs.Prelude.{nat_eq, nat_lt, nat_le, filter}
 use Rattle.std.specs.List.{range_with_len}
+use Rattle.std.proofs.Math.Bool.{and-true, or-false}
 use Rattle.std.proofs.lemmas.Bool.{lt-ltb, le-leb, ne_eqb, eq-eqb}
 use Rattle.std.proofs.lemmas.Bool.Decides.{nat_tests}
-use Rattle.cron_units.specs.Denotation.{Progression, in_steps}
+use Rattle.cron_units.specs.Steps.{Progression, in_steps}
 use Rattle.cron_units.specs.Units.{TimeUnit, whole, contains, set_of, IsSet}
 use Rattle.cron_units.specs.Places.{placed}
-use Rattle.cron_units.specs.PlaceLaws.{placed_or}
-use Rattle.cron_units.specs.SetLaws.{same_eq, and_true, or_false, set_same, whole_is_all, filter_none}
+use Rattle.cron_units.proofs.PlaceLemmas.{placed_or}
+use Rattle.cron_units.proofs.SetLemmas.{same_eq, set_same, whole_is_all, filter_none}
 use Rattle.cron_units.proofs.Laid.{empty_test}
 use Rattle.cron_units.proofs.Remaining.{filter_first}
 
@@ -53,7 +54,7 @@ none_between s x l = ap (λ (b : Bool). b && nat_eq ((x - s.first) % s.every) 0)
 pub steps_empty : (u : TimeUnit) (xs : List ℕ) (s : Progression) → IsSet u xs → s.last < s.first → xs ≡ set_of u (λ x. contains xs x || in_steps s x)
 steps_empty u xs s set l =
     set ∙ set_same u (contains xs) (λ x. contains xs x || in_steps s x)
-    (λ x a b. sym (ap (λ (t : Bool). contains xs x || t) (none_between s x l) ∙ or_false (contains xs x)))
+    (λ x a b. sym (ap (λ (t : Bool). contains xs x || t) (none_between s x l) ∙ or-false (contains xs x)))
 
 -- ---- all ordinals, and one
 
@@ -83,7 +84,7 @@ range_steps u old xs first last every h e =
     (λ x l g.
     let whole_number : (x - first) % every ≡ 0 = rw h (omega arith) in
     ap (λ (b : Bool). contains old x || b) (sym (ap (λ (b : Bool). (nat_le first x && nat_le x last) && b) (eq-eqb ((x - first) % every) 0 whole_number)
-    ∙ and_true (nat_le first x && nat_le x last))))
+    ∙ and-true (nat_le first x && nat_le x last))))
 
 pub only_one : (u : TimeUnit) (none xs : List ℕ) (k : ℕ) → none ≡ [] → u.least ≤ k → k ≤ u.greatest → xs ≡ set_of u (λ x. contains none x || nat_eq x k)
     → xs ≡ k ∷ []

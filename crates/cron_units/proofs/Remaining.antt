@@ -7,7 +7,7 @@ use Rattle.std.proofs.lemmas.Bool.{cases_eq, eq-eqb, ne_eqb, and_parts, and_righ
 use Rattle.cron_units.specs.Bounds.{is_from, is_up_to, is_within}
 use Rattle.cron_units.specs.Units.{TimeUnit}
 use Rattle.cron_units.specs.Places.{listed, placed, NonePast}
-use Rattle.cron_units.specs.SetLaws.{filter_same_in, filter_none}
+use Rattle.cron_units.proofs.SetLemmas.{filter_same_in, filter_none}
 
 filter_none_in : (p : ℕ → Bool) (a n : ℕ) → ((x : ℕ) → a ≤ x → x < a + n → p x ≡ false) → filter p (range_with_len a n) ≡ []
 filter_none_in p a n none = filter_same_in p (λ x. false) a n none ∙ filter_none (λ x. false) (range_with_len a n) (λ x. refl)

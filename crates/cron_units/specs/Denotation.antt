@@ -1,157 +1,57 @@
--- The set that an item denotes, or why it is refused and with which message.
-use Rattle.std.specs.Prelude.{◌≡◌, ◌-◌, ◌%◌, ◌==◌, ℕ, Bool, true, false, ◌&&◌, ◌||◌, List, [], ◌∷◌, ◌++◌, Option, Some, None, Result, Ok, Err, codes, nat_lt, nat_le, if◌then◌else◌}
-use Rattle.std.specs.Fmt.{decimal}
-use Rattle.cron_units.specs.Units.{TimeUnit, FieldSet, Names, set_of, ordinal_of, means_last_day}
+-- What items denote: which ordinals lie in an item. Each line of a definition is a row of a table.
+use Rattle.std.specs.Prelude.{◌≡◌, ◌≤◌, ◌+◌, ◌*◌, ◌↔◌, ℕ, true, false, ◌⊎◌, List, Some}
+use Rattle.std.specs.List.{All, Any}
 use Rattle.cron_units.specs.Items.{Base, every, question_mark, single, number_range, name_range, Item, plain, stepped, name}
+use Rattle.cron_units.specs.Refusals.{IsUnrefused}
+use Rattle.cron_units.specs.Units.{TimeUnit, FieldSet, contains, IsSet, ordinal_of, means_last_day}
 
--- why an item is refused
-pub data Refusal : Type 0 where
-  unknown_name : List ℕ → Refusal
-  too_small : ℕ → Refusal
-  too_large : ℕ → Refusal
-  bad_range : ℕ → ℕ → Refusal
-  bad_name_range : List ℕ → List ℕ → Refusal
-  zero_step : Refusal
-  large_step : ℕ → Refusal
+-- x is one of the numbers from the first to the last
+abbrev pub IsBetween : ℕ → ℕ → ℕ → Type 0
+IsBetween first last x = (first ≤ x) × (x ≤ last)
 
--- every so many-th ordinal, from the first to the last
-pub record Progression : Type 0 where
-  pub first : ℕ
-  pub last : ℕ
-  pub every : ℕ
+-- x lies in a base
+abbrev pub LiesInBase : TimeUnit → Base → ℕ → Type 0
+LiesInBase u every x = IsBetween u.least u.greatest x
+LiesInBase u question_mark x = IsBetween u.least u.greatest x
+LiesInBase u (single n) x = x ≡ n
+LiesInBase u (number_range a b) x = IsBetween a b x
+LiesInBase u (name_range v w) x = (a : ℕ) × (b : ℕ) × (ordinal_of u v ≡ Some a) × (ordinal_of u w ≡ Some b) × IsBetween a b x
 
--- what an item denotes: ordinals by steps, or the last day of the month
-pub data Denoted : Type 0 where
-  by_steps : Progression → Denoted
-  the_last_day : Denoted
+-- a step goes over x: it lies in the base, and where that is one number, from there to the greatest ordinal
+abbrev pub IsSteppedOver : TimeUnit → Base → ℕ → Type 0
+IsSteppedOver u (single n) x = IsBetween n u.greatest x
+IsSteppedOver u b x = LiesInBase u b x
 
--- x is from the first to the last, and a whole number of steps after the first
-abbrev pub in_steps : Progression → ℕ → Bool
-in_steps s x = nat_le s.first x && nat_le x s.last && (x - s.first) % s.every == 0
+-- the least number of this property
+abbrev pub IsLeast : (ℕ → Type 0) → ℕ → Type 0
+IsLeast P least = P least × ((x : ℕ) → P x → least ≤ x)
 
--- the ordinal of a name
-abbrev pub found_name : List ℕ → Option ℕ → Result ℕ Refusal
-found_name word None = Err (unknown_name word)
-found_name word (Some n) = Ok n
+-- x is a whole number of steps after another
+abbrev pub IsStepsAfter : ℕ → ℕ → ℕ → Type 0
+IsStepsAfter step from x = (count : ℕ) × (x ≡ from + count * step)
 
-abbrev pub ordinal : TimeUnit → List ℕ → Result ℕ Refusal
-ordinal u word = found_name word (ordinal_of u word)
-
--- from the first name to the second: the first is looked up first
-abbrev pub name_ends : List ℕ → List ℕ → Result ℕ Refusal → Result ℕ Refusal → Result (ℕ × ℕ) Refusal
-name_ends v w (Err r) _ = Err r
-name_ends v w (Ok a) (Err r) = Err r
-name_ends v w (Ok a) (Ok b) = if nat_lt b a then Err (bad_name_range v w) else Ok (a, b)
-
--- the first and the last ordinal of a base
-abbrev pub ends : TimeUnit → Base → Result (ℕ × ℕ) Refusal
-ends u every = Ok (u.least, u.greatest)
-ends u question_mark = Ok (u.least, u.greatest)
-ends u (single n) =
-    if nat_lt n u.least then Err (too_small n) else if nat_lt u.greatest n then Err (too_large n) else Ok (n, n)
-ends u (number_range a b) =
-    if nat_lt a u.least || nat_lt u.greatest b || nat_lt b a then Err (bad_range a b) else Ok (a, b)
-ends u (name_range v w) = name_ends v w (ordinal u v) (ordinal u w)
-
--- where steps from a base end: those from one number go on to the greatest ordinal
-abbrev pub end_of : TimeUnit → Base → ℕ → ℕ
-end_of u (single n) last = u.greatest
-end_of u _ last = last
-
-abbrev pub every_nth : TimeUnit → Base → ℕ → Result (ℕ × ℕ) Refusal → Result Progression Refusal
-every_nth u b n (Err r) = Err r
-every_nth u b n (Ok p) = Ok (record { first = p.0; last = end_of u b p.1; every = n })
-
-abbrev pub each_of : Result (ℕ × ℕ) Refusal → Result Progression Refusal
-each_of (Err r) = Err r
-each_of (Ok p) = Ok (record { first = p.0; last = p.1; every = 1 })
-
-abbrev pub one_ordinal : Result ℕ Refusal → Result Progression Refusal
-one_ordinal (Err r) = Err r
-one_ordinal (Ok n) = Ok (record { first = n; last = n; every = 1 })
-
--- the steps of an item: with a step, the tests come in the order step zero, step too large, base
-abbrev pub steps_of : TimeUnit → Item → Result Progression Refusal
-steps_of u (plain b) = each_of (ends u b)
-steps_of u (stepped b n) =
-    if n == 0 then Err zero_step else if nat_lt u.greatest n then Err (large_step n) else every_nth u b n (ends u b)
-steps_of u (name word) = one_ordinal (ordinal u word)
+-- x lies in an item; steps are counted from the least of the base
+abbrev pub LiesIn : TimeUnit → Item → ℕ → Type 0
+LiesIn u (plain b) x = LiesInBase u b x
+LiesIn u (stepped b step) x = IsSteppedOver u b x × (least : ℕ) × IsLeast (LiesInBase u b) least × IsStepsAfter step least x
+LiesIn u (name word) x = (means_last_day u word ≡ false) × (ordinal_of u word ≡ Some x)
 
 -- the item is the unit's word for the last day of the month
-abbrev pub names_last_day : TimeUnit → Item → Bool
-names_last_day u (name word) = means_last_day u word
-names_last_day u _ = false
+abbrev pub MarksLastDay : TimeUnit → Item → Type 0
+MarksLastDay u (name word) = means_last_day u word ≡ true
+MarksLastDay u _ = ⊥
 
-abbrev pub of_steps : Result Progression Refusal → Result Denoted Refusal
-of_steps (Err r) = Err r
-of_steps (Ok s) = Ok (by_steps s)
-
--- what an item denotes
-abbrev pub denoted_by : TimeUnit → Item → Result Denoted Refusal
-denoted_by u item = if names_last_day u item then Ok the_last_day else of_steps (steps_of u item)
-
-abbrev pub unknown_text : TimeUnit → List ℕ → Option Names → List ℕ
-unknown_text u word None =
-    codes "The '" ++ (u.title ++ (codes "' field does not support using names. '" ++ (word ++ codes "' specified.")))
-unknown_text u word (Some names) = codes "'" ++ (word ++ (codes "' is not a valid " ++ (names.noun ++ codes ".")))
-
--- the text of a refusal
-abbrev pub message : TimeUnit → Refusal → List ℕ
-message u (unknown_name word) = unknown_text u word u.names
-message u (too_small n) =
-    u.title ++ (codes " must be greater than or equal to " ++ (decimal u.least ++ (codes ". ('" ++ (decimal n ++ codes "' specified.)"))))
-message u (too_large n) =
-    u.title ++ (codes " must be less than " ++ (decimal u.greatest ++ (codes ". ('" ++ (decimal n ++ codes "' specified.)"))))
-message u (bad_range a b) = codes "Invalid range for " ++ (u.title ++ (codes ": " ++ (decimal a ++ (codes "-" ++ decimal b))))
-message u (bad_name_range v w) = codes "Invalid named range for " ++ (u.title ++ (codes ": " ++ (v ++ (codes "-" ++ w))))
-message u zero_step = codes "range step cannot be zero"
-message u (large_step n) =
-    u.title ++ (codes " must be between 1 and " ++ (decimal u.greatest ++ (codes ". ('" ++ (decimal n ++ codes "' specified.)"))))
-
--- the numbered x is denoted
-abbrev pub in_denoted : Denoted → ℕ → Bool
-in_denoted (by_steps s) x = in_steps s x
-in_denoted the_last_day x = false
-
--- the last day of the month is denoted
-abbrev pub is_last_day : Denoted → Bool
-is_last_day (by_steps s) = false
-is_last_day the_last_day = true
-
--- an item's set has x
-abbrev pub denoted_has : ℕ → Result Denoted Refusal → Bool
-denoted_has x (Ok d) = in_denoted d x
-denoted_has x (Err r) = false
-
--- an item's set has the mark
-abbrev pub denoted_marks : Result Denoted Refusal → Bool
-denoted_marks (Ok d) = is_last_day d
-denoted_marks (Err r) = false
-
--- the first refusal among items
-abbrev pub first_refusal : Result Denoted Refusal → Option Refusal → Option Refusal
-first_refusal (Err r) more = Some r
-first_refusal (Ok d) more = more
-
-abbrev pub refusal_of : TimeUnit → List Item → Option Refusal
-refusal_of u [] = None
-refusal_of u (i ∷ is) = first_refusal (denoted_by u i) (refusal_of u is)
-
--- the union of the items' sets has x
-abbrev pub in_items : TimeUnit → List Item → ℕ → Bool
-in_items u [] x = false
-in_items u (i ∷ is) x = denoted_has x (denoted_by u i) || in_items u is x
-
--- and it has the mark where one of them has it
-abbrev pub items_mark : TimeUnit → List Item → Bool
-items_mark u [] = false
-items_mark u (i ∷ is) = denoted_marks (denoted_by u i) || items_mark u is
-
--- the union of the items' sets
-abbrev pub union_of : TimeUnit → List Item → FieldSet
-union_of u items = record { ordinals = set_of u (in_items u items); last_day = items_mark u items }
-
--- the items of a field denote this set: none is refused, and it is the union of theirs
+-- Items denote this set: none of them is refused, and its ordinals, in ascending order, are what lies in one of them. It has
+-- the last day of the month if one of them marks it.
 pub record Denotes (u : TimeUnit) (items : List Item) (s : FieldSet) : Type 0 where
-  pub unrefused : refusal_of u items ≡ None
-  pub union : s ≡ union_of u items
+  pub unrefused : All (IsUnrefused u) items
+  pub is_set : IsSet u s.ordinals
+  pub ordinals : (x : ℕ) → (contains s.ordinals x ≡ true) ↔ Any (λ item. LiesIn u item x) items
+  pub mark : (s.last_day ≡ true) ↔ Any (MarksLastDay u) items
+
+-- the item isn't refused, and what it denotes was joined to a set
+pub record AddsItem (u : TimeUnit) (item : Item) (old new : FieldSet) : Type 0 where
+  pub unrefused : IsUnrefused u item
+  pub is_set : IsSet u new.ordinals
+  pub ordinals : (x : ℕ) → (contains new.ordinals x ≡ true) ↔ ((contains old.ordinals x ≡ true) ⊎ LiesIn u item x)
+  pub mark : (new.last_day ≡ true) ↔ ((old.last_day ≡ true) ⊎ MarksLastDay u item)

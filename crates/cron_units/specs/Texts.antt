@@ -1,8 +1,6 @@
 -- The texts of errors.
-use Rattle.std.specs.Prelude.{◌≡◌, ℕ, List, codes, Result, Ok, Err}
+use Rattle.std.specs.Prelude.{ℕ, List, codes}
 use Rattle.std.specs.String.{string_bytes}
-use Rattle.cron_units.specs.Units.{TimeUnit}
-use Rattle.cron_units.specs.Denotation.{Denoted, Refusal, message}
 use Rattle.cron_units.specs.declared.error.Error.{Error}
 use Rattle.cron_units.specs.declared.error.ErrorKind.{ErrorKind}
 use Rattle.cron_units.specs.declared.error.ErrorKind.TheVariants.{Expression, OutOfMemory}
@@ -30,8 +28,3 @@ IsMemoryKind OutOfMemory = Unit {0}
 -- memory ran out
 abbrev pub IsMemory : Error → Type 0
 IsMemory e = IsMemoryKind e.kind
-
--- an item isn't added: it is refused, and the error tells why, or memory ran out
-abbrev pub Fails : TimeUnit → Result Denoted Refusal → Error → Type 0
-Fails u (Err r) e = Tells (λ text. text ≡ message u r) e
-Fails u (Ok d) e = IsMemory e

@@ -8,7 +8,7 @@ pub record Names : Type 0 where
   pub noun : List ℕ
   pub ordinals : List (List ℕ × ℕ)
 
--- a unit: what messages call it, its bounds, its names if it has any, whether `?` stands for the whole range, and the word
+-- a unit: what messages call it, its bounds, its names if it has any, whether `?` stands for the whole range, and the name
 -- that means the last day of the month, if it has one
 pub record TimeUnit : Type 0 where
   pub title : List ℕ
@@ -34,27 +34,27 @@ unmarked xs = with_mark xs false
 unfoldable pub whole : TimeUnit → List ℕ
 whole u = range_with_len u.least (u.greatest + 1 - u.least)
 
--- the ordinal that a word names, in any case of its letters
+-- the ordinal of a name, in any case of its letters
 abbrev pub named_in : List (List ℕ × ℕ) → List ℕ → Option ℕ
-named_in [] word = None
-named_in (e ∷ es) word = if str_eq_ignore_ascii_case e.0 word then Some e.1 else named_in es word
+named_in [] name = None
+named_in (e ∷ es) name = if str_eq_ignore_ascii_case e.0 name then Some e.1 else named_in es name
 
 abbrev pub named_by : Option Names → List ℕ → Option ℕ
-named_by None word = None
-named_by (Some names) word = named_in names.ordinals word
+named_by None name = None
+named_by (Some names) name = named_in names.ordinals name
 
 abbrev pub ordinal_of : TimeUnit → List ℕ → Option ℕ
-ordinal_of u word = named_by u.names word
+ordinal_of u name = named_by u.names name
 
-abbrev pub is_word : Option (List ℕ) → List ℕ → Bool
-is_word None word = false
-is_word (Some last) word = str_eq_ignore_ascii_case last word
+abbrev pub is_name : Option (List ℕ) → List ℕ → Bool
+is_name None name = false
+is_name (Some last) name = str_eq_ignore_ascii_case last name
 
--- the word means the last day of the month, in any case of its letters
+-- the name means the last day of the month, in any case of its letters
 abbrev pub means_last_day : TimeUnit → List ℕ → Bool
-means_last_day u word = is_word u.last_day word
+means_last_day u name = is_name u.last_day name
 
--- the same unit without such a word
+-- the unit without such a name
 abbrev pub without_last_day : TimeUnit → TimeUnit
 without_last_day u = record u { last_day = None }
 

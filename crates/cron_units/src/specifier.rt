@@ -1,10 +1,11 @@
-//! The items of a field, and what they denote.
+//! The items of a field, and what they denote. A step too large is refused here.
 
-ghost use Rattle.std.specs.Prelude.{◌≡◌, ◌≤◌, ◌<◌, ◌||◌, IfOk, IfErr, MatchResult, OnOk, OnErr, Ok, Err};
-ghost use Rattle.cron_units.specs.Denotation.{denoted_by, in_denoted, is_last_day, names_last_day, ordinal, ends, steps_of};
-ghost use Rattle.cron_units.specs.Denotation as spec;
+ghost use Rattle.std.specs.Prelude.{◌≡◌, ◌≤◌, ◌<◌, IfOk, IfErr, MatchResult, OnOk, OnErr, Ok, Err};
+ghost use Rattle.cron_units.specs.Denotation.{AddsItem};
+ghost use Rattle.cron_units.specs.Inner.ItemSteps.{names_last_day, ordinal, ends, steps_of};
 ghost use Rattle.cron_units.specs.Items as items;
-ghost use Rattle.cron_units.specs.Units.{contains, set_of};
+ghost use Rattle.cron_units.specs.Refusals.{IsRefusedFor};
+ghost use Rattle.cron_units.specs.Units.{with_mark};
 ghost use Rattle.cron_units.specs.Views.{base_view, item_view, refusal_view, steps_view};
 
 mod messages;
@@ -117,7 +118,7 @@ fn stepped<'a, T: TimeUnitField>(base: Base<'a>, every: u32) -> Result<Progressi
 
 /// Finds the steps of an item.
 #[inline(always)]
-pub fn steps_of<'a, T: TimeUnitField>(item: Item<'a>) -> Result<Progression, Refusal<'a>>
+fn steps_of<'a, T: TimeUnitField>(item: Item<'a>) -> Result<Progression, Refusal<'a>>
     ensures within { IfOk result (λ s. (T.unit.least ≤ s.first) × (s.last ≤ T.unit.greatest) × (0 < s.every)) }
     ensures value { MatchResult result (λ s. steps_of T.unit (item_view item.entry) ≡ Ok (steps_view s)) (λ r. steps_of T.unit (item_view item.entry) ≡ Err (refusal_view r)) }
 {
@@ -156,14 +157,12 @@ fn names_last_day<T: TimeUnitField>(item: Item<'_>) -> bool
 /// Adds what an item denotes to a set of the unit. A refused item leaves the set as it was.
 #[inline(always)]
 pub fn add_item<'a, T: TimeUnitField>(set: &mut T, item: Item<'a>) -> Result<(), Refusal<'a>>
-    ensures ok { OnOk result ((d : spec.Denoted) × (denoted_by T.unit (item_view item.entry) ≡ Ok d)
-        × (T.members set.new ≡ set_of T.unit (λ x. contains (T.members set.old) x || in_denoted d x))
-        × (T.marked set.new ≡ (T.marked set.old || is_last_day d))) }
-    ensures err { IfErr result (λ r. denoted_by T.unit (item_view item.entry) ≡ Err (refusal_view r)) }
+    ensures ok { OnOk result (AddsItem T.unit (item_view item.entry) (with_mark (T.members set.old) (T.marked set.old)) (with_mark (T.members set.new) (T.marked set.new))) }
+    ensures err { IfErr result (λ r. IsRefusedFor T.unit (item_view item.entry) (refusal_view r)) }
     ensures unchanged { OnErr result (set.new ≡ set.old) }
 {
+    set.known();
     if names_last_day::<T>(item) {
-        set.known();
         set.mark();
         return Ok(());
     }

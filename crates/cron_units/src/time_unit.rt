@@ -4,21 +4,20 @@ mod days_of_month;
 mod definition;
 mod field;
 mod iterators;
+pub mod layout;
 mod makers;
-mod multiples;
 mod names;
 mod ordinals;
 mod units;
 mod views;
-pub mod wide;
-pub mod words;
 
 pub use days_of_month::DaysOfMonth;
-pub use definition::{Definition, Names};
+pub use definition::Definition;
 pub use field::TimeUnitField;
 pub use iterators::{OrdinalIter, OrdinalRangeIter};
 pub(crate) use makers::add_steps;
 pub use makers::{empty, only, whole};
+pub use names::Names;
 pub use ordinals::{Ordinals, UnitTable};
 pub use units::{
     DaysOfWeek, DaysOfWeekTable, Hours, HoursTable, Minutes, MinutesTable, Months, MonthsTable,

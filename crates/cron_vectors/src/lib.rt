@@ -16,6 +16,8 @@ mod month_lengths;
 #[cfg(test)]
 mod odd_zones;
 #[cfg(test)]
+mod questions;
+#[cfg(test)]
 mod resumed;
 #[cfg(test)]
 mod shown;

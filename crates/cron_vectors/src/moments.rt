@@ -75,7 +75,7 @@ fn two_readings(alloc: Global, zone: &TimeZone<'_>) -> Result<(Moment, Moment), 
     Ok((earlier, later))
 }
 
-// The same instant by another clock.
+// An instant by another clock.
 fn check_elsewhere(rt: &(impl Abort + AllocGlobal), earlier: Moment) -> Result<(), Fail> {
     let start = "2022-11-06T05:30:00Z";
     let elsewhere = next(rt.alloc(), "0 0 6 6 11 ? 2022", &TimeZone::UTC, start)?;

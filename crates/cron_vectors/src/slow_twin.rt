@@ -136,7 +136,7 @@ fn check_ahead(
     check_beyond(rt, walk.next(), span)
 }
 
-// The same back, from the last reading to the first.
+// A walk back answers the readings of the span, from the last to the first.
 fn check_back(
     rt: &impl Abort,
     schedule: &Schedule,
@@ -284,7 +284,7 @@ pub(crate) fn midnight(date: Date) -> Result<i64, Fail> {
     number(date.to_datetime(Time::midnight()))
 }
 
-/// The same for a day.
+/// Compares what [`check_span`] compares over the 24 hours of a date.
 pub(crate) fn check_day(
     rt: &(impl Abort + AllocGlobal),
     text: &str,

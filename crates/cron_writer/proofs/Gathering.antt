@@ -2,7 +2,7 @@
 use Rattle.std.proofs.Common.{◌≡◌, ℕ, Bool, true, false, Option, List, [], ◌++◌, refl, sym, ap, ◌∙◌, subst, append_assoc, append-nil}
 use Rattle.std.proofs.KnownBytes.{Appends-nil}
 use Rattle.cron_writer.specs.Watching.{IsFrontSent, IsGathered, IsKept, IsSent}
-use Rattle.cron_writer.proofs.Sending.{front_more, nothing_sent}
+use Rattle.cron_writer.proofs.Sending.{both_ways, front_more, nothing_sent}
 
 pub nothing_gathered : (c : Option (List ℕ)) (failed : Bool) → IsGathered c c failed [] []
 nothing_gathered c failed =
@@ -35,9 +35,6 @@ kept_alone origin now failed were kept text line none more s =
         appended = s.whole fresh;
       };
     }
-
-pub both_ways : (b : Bool) → b ≡ true → b ≡ false → ⊥
-both_ways b p q = cc
 
 -- a text that is a beginning of the whole, where a call has failed
 pub gathered_part : (origin now : Option (List ℕ)) (failed : Bool) (kept whole part rest : List ℕ) → whole ≡ part ++ rest → failed ≡ true

@@ -4,6 +4,9 @@ use Rattle.std.specs.Io.KnownBytes.{Appends}
 use Rattle.std.proofs.KnownBytes.{Appends-nil, Appends-trans}
 use Rattle.cron_writer.specs.Watching.{IsFrontSent, IsSent}
 
+pub both_ways : (b : Bool) → b ≡ true → b ≡ false → ⊥
+both_ways b p q = cc
+
 -- a beginning of a text is one of a longer text
 pub front_more : (old new : Option (List ℕ)) (text more : List ℕ) → IsFrontSent old new text → IsFrontSent old new (text ++ more)
 front_more old new text more f =
@@ -36,9 +39,7 @@ sent_on origin old new failed before text a s =
 pub sent_off : (origin now : Option (List ℕ)) (failed : Bool) (before text : List ℕ) → failed ≡ true → IsSent origin now failed before
     → IsSent origin now failed (before ++ text)
 sent_off origin now failed before text f s =
-    record { front = front_more origin now before text s.front; whole = λ fresh. absurd (both f fresh) } where
-      both : failed ≡ true → failed ≡ false → ⊥
-      both p q = cc
+    record { front = front_more origin now before text s.front; whole = λ fresh. absurd (both_ways failed f fresh) }
 
 -- a text that is a beginning of the whole, where a call has failed
 pub sent_part : (origin now : Option (List ℕ)) (failed : Bool) (whole sent rest : List ℕ) → whole ≡ sent ++ rest → failed ≡ true

@@ -4,4 +4,5 @@
 pub mod gathered;
 #[cfg(test)]
 mod tests;
+pub mod watchable;
 pub mod watched;

@@ -1,6 +1,7 @@
 //! The mark of a watched writer.
 
-use crate::watched::Watched;
+use crate::watched::{Watched, send};
+use arrayvec::ArrayVec;
 use std::io::{self, ErrorKind, Write};
 use std::test::Fail;
 
@@ -103,4 +104,67 @@ fn the_writer_is_given_back(rt: HostRuntime) -> Result<(), Fail> {
     out.flush()?;
     assert_eq!(rt; out.into_inner().as_slice(), b"text".as_slice());
     Ok(())
+}
+
+// Keeps how its calls went: the length of each piece that it was handed, and `None` for a flush.
+#[derive(Drop)]
+struct Counting {
+    takes: Option<usize>,
+    calls: ArrayVec<Option<usize>, 8>,
+}
+
+impl Counting {
+    fn new(takes: Option<usize>) -> Counting {
+        Counting {
+            takes,
+            calls: ArrayVec::new(),
+        }
+    }
+}
+
+impl Write for Counting {
+    fn write(&mut self, buf: &[u8]) -> io::Result<usize> {
+        let _full = self.calls.try_push(Some(buf.len()));
+        match self.takes {
+            Some(takes) => Ok(takes.min(buf.len())),
+            None => Err(io::Error::from(ErrorKind::Interrupted)),
+        }
+    }
+
+    fn flush(&mut self) -> io::Result<()> {
+        let _full = self.calls.try_push(None);
+        Err(io::Error::from(ErrorKind::Interrupted))
+    }
+}
+
+#[test]
+fn each_call_is_passed_on_once(rt: HostRuntime) {
+    for takes in [Some(4), Some(1), Some(0), None] {
+        let mut out = Watched::new(Counting::new(takes));
+        let _written = out.write(b"text");
+        let _flushed = out.flush();
+        let _empty = out.write(b"");
+        let calls = out.into_inner().calls;
+        assert_eq!(rt;
+            calls.as_slice(),
+            [Some(4), None, Some(0)].as_slice(),
+            "{takes:?}"
+        );
+    }
+}
+
+#[test]
+fn a_text_is_tried_until_it_is_taken_or_a_call_fails(rt: HostRuntime) {
+    for (takes, tried) in [
+        (Some(4), [Some(4)].as_slice()),
+        (Some(3), [Some(4), Some(1)].as_slice()),
+        (Some(1), [Some(4), Some(3), Some(2), Some(1)].as_slice()),
+        (Some(0), [Some(4)].as_slice()),
+        (None, [Some(4)].as_slice()),
+    ] {
+        let mut out = Watched::new(Counting::new(takes));
+        send(&mut out, b"text");
+        let calls = out.into_inner().calls;
+        assert_eq!(rt; calls.as_slice(), tried, "{takes:?}");
+    }
 }

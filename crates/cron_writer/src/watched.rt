@@ -3,9 +3,11 @@
 ghost use Rattle.std.specs.Prelude.{◌≡◌, ◌||◌, ◌++◌, ℕ, List, Option, false, true};
 ghost use Rattle.std.specs.Io.KnownBytes.{Keeps, WriteAppends};
 ghost use Rattle.std.specs.Io.{WritesAtMost};
+ghost use Rattle.cron_writer.specs.Calls.{HandsOn};
 ghost use Rattle.cron_writer.specs.Watching.{has_failed, writer_of, is_failed_write, is_failed_flush, IsSent};
 
-use std::io::{self, Write};
+use crate::watchable::Watchable;
+use std::io;
 
 /// A writer, and whether a call of it failed. The mark stays set.
 #[derive(Drop)]
@@ -42,14 +44,15 @@ impl<W> Watched<W> {
     }
 }
 
-impl<W: Write> Watched<W> {
-    /// Passes a write on.
+impl<W: Watchable> Watched<W> {
+    /// Passes a write on: one call of the writer, whatever it answers.
     pub fn write(&mut self, piece: &[u8]) -> io::Result<usize>
+        ensures call { W.writes (writer_of self.old) piece.now result (writer_of self.new) }
         ensures bound { WritesAtMost result piece.now }
         ensures bytes { WriteAppends (W.contents (writer_of self.old)) (W.contents (writer_of self.new)) result piece.now }
         ensures mark { has_failed self.new ≡ (has_failed self.old || is_failed_write result piece.now) }
     {
-        let result = self.writer.write(piece);
+        let result = self.writer.write_once(piece);
         match &result {
             Ok(0) if !piece.is_empty() => self.failed = true,
             Ok(_) => {}
@@ -58,12 +61,13 @@ impl<W: Write> Watched<W> {
         result
     }
 
-    /// Passes a flush on.
+    /// Passes a flush on: one call of the writer, whatever it answers.
     pub fn flush(&mut self) -> io::Result<()>
+        ensures call { W.flushes (writer_of self.old) result (writer_of self.new) }
         ensures bytes { Keeps (W.contents (writer_of self.old)) (W.contents (writer_of self.new)) }
         ensures mark { has_failed self.new ≡ (has_failed self.old || is_failed_flush result) }
     {
-        let result = self.writer.flush();
+        let result = self.writer.flush_once();
         if result.is_err() {
             self.failed = true;
         }
@@ -72,9 +76,10 @@ impl<W: Write> Watched<W> {
 }
 
 // Hands the whole text on, in as many writes as it takes, and stops at the first failure.
-fn send_whole<W: Write>(out: &mut Watched<W>, text: &[u8])
+fn send_whole<W: Watchable>(out: &mut Watched<W>, text: &[u8])
     requires { has_failed out.old ≡ false }
-    ensures { IsSent (W.contents (writer_of out.old)) (W.contents (writer_of out.new)) (has_failed out.new) text.now }
+    ensures sent { IsSent (W.contents (writer_of out.old)) (W.contents (writer_of out.new)) (has_failed out.new) text.now }
+    ensures calls { HandsOn W.writes (writer_of out.old) (has_failed out.old) (writer_of out.new) (has_failed out.new) text.now }
 {
     let mut rest = text;
     while !rest.is_empty() {
@@ -86,11 +91,12 @@ fn send_whole<W: Write>(out: &mut Watched<W>, text: &[u8])
 }
 
 /// Hands a text on after what was handed on before, and nothing once a call has failed.
-pub fn send<W: Write>(out: &mut Watched<W>, text: &[u8])
+pub fn send<W: Watchable>(out: &mut Watched<W>, text: &[u8])
     ensures sent { (origin : Option (List ℕ)) (before : List ℕ)
         → IsSent origin (W.contents (writer_of out.old)) (has_failed out.old) before
         → IsSent origin (W.contents (writer_of out.new)) (has_failed out.new) (before ++ text.now) }
     ensures untouched { has_failed out.old ≡ true → out.new ≡ out.old }
+    ensures calls { HandsOn W.writes (writer_of out.old) (has_failed out.old) (writer_of out.new) (has_failed out.new) text.now }
 {
     if !out.failed() {
         send_whole(out, text);

@@ -48,7 +48,7 @@ impl Schedule {
         &self.fields
     }
 
-    /// The same sets, none of which is empty, but for days of the month that are marked.
+    /// The sets, none of which is empty, but for days of the month that are marked.
     pub(crate) fn filled_fields(&self) -> &ScheduleFields
         ensures sets { result.now ≡ self.now.sets }
         ensures filled { AreSets result.now }

@@ -7,7 +7,7 @@ mod play;
 mod walk;
 mod walks;
 
-pub use cron_time::moment::Moment;
+pub use cron_moments::moment::Moment;
 pub use expression::Schedule;
 pub use play::Turn;
 pub use walk::{

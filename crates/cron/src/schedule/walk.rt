@@ -1,8 +1,8 @@
 //! A walk over the timeline of sets in a zone, and the same walk reversed.
 use super::course::{Course, Lent, Owned};
-use cron_time::moment::Moment;
-use cron_time::state::State;
-use cron_time::step::step;
+use cron_moments::moment::Moment;
+use cron_time::walk::state::State;
+use cron_time::walk::step::step;
 use cron_units::way::Way;
 use jiff::Timestamp;
 use std::marker::Model;
@@ -21,8 +21,8 @@ pub type ScheduleIterator<'a> = Walker<Lent<'a>>;
 pub type OwnedScheduleIterator<'z> = Walker<Owned<'z>>;
 
 impl<C: Course> Model for Walker<C> {
-    ghost use Rattle.cron_time.specs.Cursor.{Walk};
-    ghost use Rattle.cron_time.specs.Inner.Placed.{cursor_of, stand_of, IsPlaced};
+    ghost use Rattle.cron_time.specs.Walk.Cursor.{Walk};
+    ghost use Rattle.cron_time.specs.Walk.Inner.Placed.{cursor_of, stand_of, IsPlaced};
 
     ghost Value = { Walk };
 
@@ -38,9 +38,9 @@ impl<C: Course> Model for Walker<C> {
 impl<C: Course> Walker<C> {
     ghost use Rattle.std.specs.Prelude.{◌≡◌};
     ghost use Rattle.cron_units.specs.declared.way.Way.TheVariants.{Back};
-    ghost use Rattle.cron_time.specs.Cursor.{Start};
-    ghost use Rattle.cron_time.specs.Inner.Placed.{cursor_of, stand_of, IsPlaced};
-    ghost use Rattle.cron_time.specs.Rest.{Gives};
+    ghost use Rattle.cron_time.specs.Walk.Cursor.{Start};
+    ghost use Rattle.cron_time.specs.Walk.Inner.Placed.{cursor_of, stand_of, IsPlaced};
+    ghost use Rattle.cron_time.specs.Walk.Rest.{Gives};
 
     /// A walk whose cursor is at a start.
     pub(crate) fn starting(course: C, start: Timestamp) -> Walker<C>
@@ -84,7 +84,7 @@ impl<C: Course> Walker<C> {
         self.step(Way::Back)
     }
 
-    /// The same cursor, with the two directions exchanged.
+    /// The cursor stays where it is, and the two directions are exchanged.
     pub fn rev(self) -> Reversed<C>
         ensures { result ≡ self }
     {
@@ -95,7 +95,7 @@ impl<C: Course> Walker<C> {
 impl<C: Course> Iterator for Walker<C> {
     ghost use Rattle.std.specs.Iterator.{item_count};
     ghost use Rattle.cron_units.specs.declared.way.Way.TheVariants.{Ahead};
-    ghost use Rattle.cron_time.specs.Rest.{Gives, rest_ahead};
+    ghost use Rattle.cron_time.specs.Walk.Rest.{Gives, rest_ahead};
 
     type Item = Moment;
 
@@ -122,7 +122,7 @@ pub type RevScheduleIterator<'a> = Reversed<Lent<'a>>;
 pub type OwnedRevScheduleIterator<'z> = Reversed<Owned<'z>>;
 
 impl<C: Course> Model for Reversed<C> {
-    ghost use Rattle.cron_time.specs.Cursor.{Walk};
+    ghost use Rattle.cron_time.specs.Walk.Cursor.{Walk};
 
     ghost Value = { Walk };
 
@@ -131,7 +131,7 @@ impl<C: Course> Model for Reversed<C> {
 
 impl<C: Course> Reversed<C> {
     ghost use Rattle.cron_units.specs.declared.way.Way.TheVariants.{Ahead};
-    ghost use Rattle.cron_time.specs.Rest.{Gives};
+    ghost use Rattle.cron_time.specs.Walk.Rest.{Gives};
 
     /// The item after the cursor, to which the cursor moves.
     pub fn next_back(&mut self) -> Option<Moment>
@@ -144,7 +144,7 @@ impl<C: Course> Reversed<C> {
 impl<C: Course> Iterator for Reversed<C> {
     ghost use Rattle.std.specs.Iterator.{item_count};
     ghost use Rattle.cron_units.specs.declared.way.Way.TheVariants.{Back};
-    ghost use Rattle.cron_time.specs.Rest.{Gives, rest_back};
+    ghost use Rattle.cron_time.specs.Walk.Rest.{Gives, rest_back};
 
     type Item = Moment;
 

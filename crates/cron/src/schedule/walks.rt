@@ -2,13 +2,13 @@
 
 ghost use Rattle.std.specs.Prelude.{◌≡◌, IfOk, IsOk, MatchOption};
 ghost use Rattle.jiff.specs.Words.{plain_zone};
-ghost use Rattle.cron_time.specs.Cursor.{Start};
-ghost use Rattle.cron_time.specs.Resume.{IsAbsent, IsResumed};
+ghost use Rattle.cron_time.specs.Walk.Cursor.{Start};
+ghost use Rattle.cron_time.specs.Walk.Resume.{IsAbsent, IsResumed};
 
 use super::course::{Lent, Owned};
 use super::walk::Walker;
 use super::{Moment, OwnedScheduleIterator, Schedule, ScheduleIterator};
-use cron_time::resume::resumed;
+use cron_time::walk::resume::resumed;
 use jiff::Timestamp;
 use jiff::tz::TimeZone;
 use std::alloc::AllocError;
@@ -18,6 +18,16 @@ impl Schedule {
     /// second on that a clock in the zone shows one second after the start. Its first `next_back`
     /// answers the last one up to the civil second that a clock shows at the start where it shows a
     /// part of a second, and one second before the start where it shows none.
+    ///
+    /// In a fold that civil second comes twice, so a walk that is begun there may leave out items after
+    /// the start, or answer the start itself. In Chicago on 2022-11-06 `0 30 1 * * *` from 06:30Z leaves
+    /// out 07:30Z, and `59 59 1 * * *` from 06:59:59Z answers 06:59:59Z. A loop that asks anew from each
+    /// instant loses fires by this: keep one walk, or [`Schedule::resume`] it from its last item.
+    ///
+    /// ```text
+    /// let mut walk = schedule.after(now, &zone);
+    /// while let Some(moment) = walk.next() { .. }
+    /// ```
     pub fn after<'a>(&'a self, start: Timestamp, zone: &'a TimeZone<'a>) -> ScheduleIterator<'a>
         ensures sets { result.sets ≡ self.now.sets }
         ensures zone { result.zone ≡ plain_zone zone.now }
@@ -27,8 +37,8 @@ impl Schedule {
         Walker::starting(Lent { fields, zone }, start)
     }
 
-    /// The same as [`Schedule::after`], from the present instant. An item at that very second isn't
-    /// answered.
+    /// [`Schedule::after`] from the present instant, with what is said there of a fold. An item at
+    /// that very second isn't answered, but in a fold.
     pub fn upcoming<'a>(&'a self, now: Timestamp, zone: &'a TimeZone<'a>) -> ScheduleIterator<'a>
         ensures sets { result.sets ≡ self.now.sets }
         ensures zone { result.zone ≡ plain_zone zone.now }
@@ -39,8 +49,7 @@ impl Schedule {
 
     /// The walk whose cursor is at the place of an item, as a walk left it that answered the item: its
     /// `next` answers the following one, its `next_back` the one before, also in a fold. It is `None`
-    /// where the moment is no item of this schedule in this zone. It takes no memory, and asks the zone
-    /// at most once.
+    /// where the moment is no item of this schedule in this zone. It takes no memory.
     pub fn resume<'a>(
         &'a self,
         item: &Moment,
@@ -55,8 +64,8 @@ impl Schedule {
         Some(Walker::at(Lent { fields, zone }, state))
     }
 
-    /// The same walk, over the schedule's sets and the zone itself. It takes no memory, so it never
-    /// fails.
+    /// The walk of [`Schedule::after`], over the schedule's sets and the zone itself. It takes no
+    /// memory, so it never fails.
     pub fn after_owned<'z>(
         &self,
         start: Timestamp,
@@ -71,7 +80,7 @@ impl Schedule {
         Ok(Walker::starting(Owned { fields, zone }, start))
     }
 
-    /// The same as [`Schedule::after_owned`], from the present instant.
+    /// [`Schedule::after_owned`] from the present instant.
     pub fn upcoming_owned<'z>(
         &self,
         now: Timestamp,

@@ -1,16 +1,16 @@
 //! What a run writes where the writer takes every byte.
 
-use super::words_in;
+use super::arguments_in;
 use crate::run::{Outcome, run};
 use crate::watched::Watched;
 use cron_listing::answer::answer;
-use cron_listing::words::{Request, request_of};
+use cron_listing::arguments::{Request, request_of};
 use jiff::Timestamp;
 use jiff::tz::TimeZone;
 use std::process::Abort;
 use std::test::Fail;
 
-// Each block is the words after a `>`, and then the lines that are listed.
+// Each block is the arguments after a `>`, and then the lines that are listed.
 const LISTED: &str = "\
 >0 0,30 9 * * 2|2024-01-01T00:00:00Z|UTC|3
 2024-01-01 09:00:00 +00:00
@@ -105,26 +105,26 @@ fn check_run(
     assert_eq!(rt; out.into_inner().as_slice(), want.as_bytes(), "at {line}");
 }
 
-fn check_words(
+fn check_arguments(
     rt: &(impl Abort + AllocGlobal),
     line: &str,
-    words: &[String],
+    arguments: &[String],
     want: &str,
 ) -> Result<(), Fail> {
-    let Some(asked) = request_of(words) else {
-        return Err("the words can't be read".into());
+    let Some(asked) = request_of(arguments) else {
+        return Err("the arguments can't be read".into());
     };
     check_run(rt, line, &asked, Outcome::Listed, want);
     Ok(())
 }
 
 fn check_block(rt: &(impl Abort + AllocGlobal), line: &str, want: &str) -> Result<(), Fail> {
-    let words = words_in(rt.alloc(), line)?;
-    check_words(rt, line, words.as_slice(), want)
+    let arguments = arguments_in(rt.alloc(), line)?;
+    check_arguments(rt, line, arguments.as_slice(), want)
 }
 
 #[test]
-fn lists_what_the_words_ask_for(rt: HostRuntime) -> Result<(), Fail> {
+fn lists_what_the_arguments_ask_for(rt: HostRuntime) -> Result<(), Fail> {
     let mut blocks = 0u32;
     for block in LISTED.split('>') {
         if let Some((line, want)) = block.split_once('\n') {
@@ -170,13 +170,13 @@ fn tells_why_an_expression_is_refused(rt: HostRuntime) -> Result<(), Fail> {
 fn check_answer(
     rt: &(impl Abort + AllocGlobal),
     line: &str,
-    words: &[String],
+    arguments: &[String],
     status: u8,
     want: &str,
 ) {
     let mut out = Watched::new(Vec::new(rt.alloc()));
     assert_eq!(rt;
-        answer(rt.alloc(), words, &mut out).code(),
+        answer(rt.alloc(), arguments, &mut out).code(),
         status,
         "at {line}"
     );
@@ -189,8 +189,8 @@ fn check_status(
     status: u8,
     want: &str,
 ) -> Result<(), Fail> {
-    let words = words_in(rt.alloc(), line)?;
-    check_answer(rt, line, words.as_slice(), status, want);
+    let arguments = arguments_in(rt.alloc(), line)?;
+    check_answer(rt, line, arguments.as_slice(), status, want);
     Ok(())
 }
 

@@ -3,8 +3,8 @@
 ghost use Rattle.std.specs.Prelude.{◌≡◌, false};
 ghost use Rattle.cron_writer.specs.Watching.{has_failed};
 
+use super::arguments_in;
 use super::limited::Limited;
-use super::words_in;
 use crate::run::{Outcome, run};
 use crate::watched::Watched;
 use cron_listing::answer::answer;
@@ -185,12 +185,12 @@ fn a_long_word_is_written_whole(rt: HostRuntime) -> Result<(), Fail> {
 fn check_answer(
     rt: &(impl Abort + AllocGlobal),
     line: &str,
-    words: &[String],
+    arguments: &[String],
     writer: Limited,
     held: &str,
 ) {
     let mut out = Watched::new(writer);
-    let status = answer(rt.alloc(), words, &mut out);
+    let status = answer(rt.alloc(), arguments, &mut out);
     assert_eq!(rt; status.code(), 3, "at {line}");
     let writer = out.into_inner();
     assert_eq!(rt; writer.failures, 1, "at {line}");
@@ -201,18 +201,24 @@ fn check_answer(
 fn check_answers(
     rt: &(impl Abort + AllocGlobal),
     line: &str,
-    words: &[String],
+    arguments: &[String],
     cut: &str,
     text: &str,
 ) {
     let alloc = rt.alloc();
-    check_answer(rt, line, words, Limited::new(alloc, 20, usize::MAX), cut);
-    check_answer(rt, line, words, Limited::new(alloc, 20, 3), cut);
+    check_answer(
+        rt,
+        line,
+        arguments,
+        Limited::new(alloc, 20, usize::MAX),
+        cut,
+    );
+    check_answer(rt, line, arguments, Limited::new(alloc, 20, 3), cut);
     let interrupted = Limited::failing(alloc, 20, ErrorKind::Interrupted);
-    check_answer(rt, line, words, interrupted, cut);
+    check_answer(rt, line, arguments, interrupted, cut);
     let blocked = Limited::failing(alloc, 20, ErrorKind::WouldBlock);
-    check_answer(rt, line, words, blocked, cut);
-    check_answer(rt, line, words, Limited::unflushed(alloc), text);
+    check_answer(rt, line, arguments, blocked, cut);
+    check_answer(rt, line, arguments, Limited::unflushed(alloc), text);
 }
 
 fn check_failed_answers(
@@ -221,8 +227,8 @@ fn check_failed_answers(
     text: &str,
 ) -> Result<(), Fail> {
     let cut = text.get(..20).ok_or("a text of twenty bytes")?;
-    let words = words_in(rt.alloc(), line)?;
-    check_answers(rt, line, words.as_slice(), cut, text);
+    let arguments = arguments_in(rt.alloc(), line)?;
+    check_answers(rt, line, arguments.as_slice(), cut, text);
     Ok(())
 }
 

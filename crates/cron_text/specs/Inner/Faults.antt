@@ -1,6 +1,7 @@
 -- What the code tells of a field: words of the reader's inner functions, which no public contract cites.
-use Rattle.std.specs.Prelude.{◌≡◌, List, Result, Err}
-use Rattle.cron_units.specs.Denotation.{Refusal, Denoted}
+use Rattle.std.specs.Prelude.{◌≡◌, List}
+use Rattle.cron_units.specs.Items.{Item}
+use Rattle.cron_units.specs.Refusals.{IsRefusedFor}
 use Rattle.cron_units.specs.Tables.{definition_view}
 use Rattle.cron_units.specs.Units.{TimeUnit}
 use Rattle.cron_units.specs.Views.{refusal_view}
@@ -11,9 +12,9 @@ use Rattle.cron_text.specs.declared.faults.Fault.{Fault}
 use Rattle.cron_text.specs.declared.faults.Fault.TheVariants.{Syntax, Refused}
 
 -- an item is refused, and the fault tells why
-abbrev pub TellsItem : TimeUnit → Result Denoted Refusal → Fault → Type 0
-TellsItem u r Syntax = ⊥
-TellsItem u r (Refused x) = (definition_view x.definition ≡ u) × (r ≡ Err (refusal_view x.refusal))
+abbrev pub TellsItem : TimeUnit → Item → Fault → Type 0
+TellsItem u item Syntax = ⊥
+TellsItem u item (Refused x) = (definition_view x.definition ≡ u) × IsRefusedFor u item (refusal_view x.refusal)
 
 -- no field is read, and the fault tells why
 abbrev pub IsUnread : TimeUnit → List Token → Fault → Type 0

@@ -2,7 +2,7 @@
 
 ghost use Rattle.std.specs.Prelude.{◌≡◌, Some};
 ghost use Rattle.std.specs.Fmt.{DisplaysOnOk};
-ghost use Rattle.cron_units.specs.Denotation.{message, unknown_name};
+ghost use Rattle.cron_units.specs.Refusals.{message, unknown_name};
 ghost use Rattle.cron_units.specs.Tables.{definition_view};
 ghost use Rattle.cron_units.specs.Texts.{Tells};
 ghost use Rattle.cron_units.specs.Views.{refusal_view};
@@ -42,7 +42,7 @@ fn write_unknown<W: fmt::Write>(
 
 impl<'a> fmt::Display for RefusedItem<'a> {
     ghost use Rattle.std.specs.Prelude.{Some};
-    ghost use Rattle.cron_units.specs.Denotation.{message};
+    ghost use Rattle.cron_units.specs.Refusals.{message};
     ghost use Rattle.cron_units.specs.Tables.{definition_view};
     ghost use Rattle.cron_units.specs.Views.{refusal_view};
 

@@ -12,8 +12,8 @@ use std::marker::Model;
 /// `TimeUnitSpec` tells is of the numbered days alone.
 #[derive(Debug, Clone, Copy, PartialEq, Eq)]
 pub struct DaysOfMonth {
-    numbered: NumberedDays,
-    last_day: bool,
+    pub(super) numbered: NumberedDays,
+    pub(super) last_day: bool,
 }
 
 impl Model for DaysOfMonth {
@@ -27,29 +27,6 @@ impl Model for DaysOfMonth {
 }
 
 impl DaysOfMonth {
-    ghost use Rattle.std.specs.Prelude.{◌-◌, ◌^◌, ◌<◌};
-    ghost use Rattle.cron_units.specs.Units.{days_of_month, set_of, with_mark};
-    ghost use Rattle.cron_units.specs.Words.{has_bit};
-
-    /// Makes the set of the numbered days whose bits are 1, where bit i stands for day i + 1, and of the
-    /// last day of the month where it is marked. A bit past that of day 31 means nothing.
-    pub fn from_bits(bits: u64, last_day: bool) -> DaysOfMonth
-        ensures { result ≡ with_mark (set_of days_of_month (λ x. has_bit bits (x - days_of_month.least))) last_day }
-    {
-        DaysOfMonth {
-            numbered: NumberedDays::from_bits(bits),
-            last_day,
-        }
-    }
-
-    /// The word of the numbered days, in which bit i stands for day i + 1.
-    pub fn bits(&self) -> u64
-        ensures within { result < 2 ^ 64 }
-        ensures set { set_of days_of_month (λ x. has_bit result (x - days_of_month.least)) ≡ self.now.ordinals }
-    {
-        self.numbered.bits()
-    }
-
     /// Tells whether the last day of the month, whatever its number, is a member.
     pub fn last_day(&self) -> bool
         ensures { result ≡ self.now.last_day }

@@ -1,13 +1,12 @@
 //! What every unit has, written once for all of them.
 
-ghost use Rattle.std.specs.Prelude.{◌≡◌, ◌≤◌, ◌<◌, ◌&&◌, ◌||◌, [], List, ℕ, Bool, true, false, None, pos, length, nat_eq, nat_le, IfSome};
-ghost use Rattle.std.specs.Option.{option_map};
-ghost use Rattle.cron_units.specs.Denotation.{in_steps};
+ghost use Rattle.std.specs.Prelude.{◌≡◌, ◌≤◌, ◌<◌, ◌&&◌, ◌||◌, [], List, ℕ, Bool, false, pos, length, nat_eq, nat_le, IfSome, is_some};
+ghost use Rattle.cron_units.specs.Steps.{in_steps};
 ghost use Rattle.cron_units.specs.Nearest.{IsNearest};
 ghost use Rattle.cron_units.specs.Tables.{definition_view, AreKeyed};
 ghost use Rattle.cron_units.specs.Units.{TimeUnit, IsUnit, IsSet, contains, set_of, ordinal_of, means_last_day};
 
-use super::definition::ordinal_named;
+use super::names::ordinal_named;
 use super::{Definition, Ordinal, OrdinalIter};
 use crate::way::Way;
 
@@ -50,11 +49,10 @@ pub trait TimeUnitField: Copy {
         ensures members { members self.new ≡ set_of unit (λ x. contains (members self.old) x || nat_le first x && nat_le x last) }
         ensures mark { marked self.new ≡ marked self.old };
 
-    /// Adds the last day of the month, for which the unit has a word.
+    /// Adds the last day of the month, if the unit has a name for it.
     fn mark(&mut self)
-        requires { unit.last_day ≡ None → ⊥ }
         ensures members { members self.new ≡ members self.old }
-        ensures mark { marked self.new ≡ true };
+        ensures mark { marked self.new ≡ is_some unit.last_day };
 
     /// Adds every so many-th ordinal, from the first to the last.
     fn insert_steps(&mut self, first: Ordinal, last: Ordinal, every: u32)
@@ -112,15 +110,7 @@ pub trait TimeUnitField: Copy {
         Self::definition().question_mark
     }
 
-    /// What messages call a name of the unit, if it has names.
-    final fn noun() -> Option<&'static str>
-        ensures { option_map (λ noun. noun.now) result ≡ option_map (λ names. names.noun) unit.names }
-    {
-        let names = Self::definition().names?;
-        Some(names.noun)
-    }
-
-    /// Finds the ordinal that a word names, in any case of its letters.
+    /// Finds the ordinal of a name, in any case of its letters.
     final fn ordinal_from_name(name: &str) -> Option<Ordinal>
         ensures value { result ≡ ordinal_of unit name.now }
         ensures within { IfSome result (λ n. (unit.least ≤ n) × (n ≤ unit.greatest)) }
@@ -129,12 +119,12 @@ pub trait TimeUnitField: Copy {
         ordinal_named(names.ordinals, name)
     }
 
-    /// Tells whether a word means the last day of the month, in any case of its letters.
-    final fn means_last_day(word: &str) -> bool
-        ensures { result ≡ means_last_day unit word.now }
+    /// Tells whether a name means the last day of the month, in any case of its letters.
+    final fn means_last_day(name: &str) -> bool
+        ensures { result ≡ means_last_day unit name.now }
     {
         match Self::definition().last_day {
-            Some(last) => last.eq_ignore_ascii_case(word),
+            Some(last) => last.eq_ignore_ascii_case(name),
             None => false,
         }
     }

@@ -6,8 +6,8 @@ ghost use Rattle.cron_units.specs.Bounds.{is_from, is_up_to, is_within};
 ghost use Rattle.cron_units.specs.Places.{listed};
 
 use super::Ordinal;
-use super::wide::Wide;
-use super::words::Words;
+use cron_bits::wide::Wide;
+use cron_bits::words::Words;
 use std::marker::{Model, PhantomData};
 use std::ops::Bound;
 

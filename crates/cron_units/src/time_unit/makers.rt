@@ -1,7 +1,7 @@
 //! What makes the sets of a unit.
 
 ghost use Rattle.std.specs.Prelude.{◌≡◌, ◌≤◌, ◌<◌, ◌||◌, [], ◌∷◌, false};
-ghost use Rattle.cron_units.specs.Denotation.{in_steps};
+ghost use Rattle.cron_units.specs.Steps.{in_steps};
 ghost use Rattle.cron_units.specs.Units.{contains, set_of, whole};
 
 use super::{Ordinal, TimeUnitField};

@@ -1,7 +1,48 @@
-//! The names of ordinals, in small letters, each with its key.
+//! The names of ordinals, in small letters, each with its key, and the look-up in any case of letters.
+
+ghost use Rattle.std.specs.Prelude.{◌≡◌, true};
+ghost use Rattle.cron_units.specs.Units.{named_in};
+ghost use Rattle.cron_units.specs.Tables.{ordinals_view, key_of, are_keyed};
 
 use super::Ordinal;
-use super::definition::Key;
+
+/// The first three letters of a name by their numbers in the alphabet, a byte each. A key tells most
+/// names apart without a comparison of texts.
+pub type Key = u32;
+
+/// The names of a unit's ordinals.
+#[derive(Clone, Copy)]
+pub struct Names {
+    /// What messages call such a name.
+    pub noun: &'static str,
+    /// Each name, in small letters, with its ordinal and its key.
+    pub ordinals: &'static [(&'static str, Ordinal, Key)],
+}
+
+/// The key of a name in any case of its letters; 0 if it is shorter than three.
+#[inline(always)]
+fn key_of(name: &[u8]) -> Key
+    ensures { result ≡ key_of name.now }
+{
+    if name.len() < 3 {
+        return 0;
+    }
+    u32::from(name[0] % 32) * 65536 + u32::from(name[1] % 32) * 256 + u32::from(name[2] % 32)
+}
+
+/// Finds the ordinal of a name, in any case of its letters.
+pub(super) fn ordinal_named(names: &[(&'static str, Ordinal, Key)], sought: &str) -> Option<Ordinal>
+    requires { are_keyed names.now ≡ true }
+    ensures { result ≡ named_in (ordinals_view names.now) sought.now }
+{
+    let sought_key = key_of(sought.as_bytes());
+    for (name, ordinal, key) in names {
+        if *key == sought_key && name.eq_ignore_ascii_case(sought) {
+            return Some(*ordinal);
+        }
+    }
+    None
+}
 
 /// The months' names.
 pub(super) const MONTH_NAMES: [(&str, Ordinal, Key); 23] = [

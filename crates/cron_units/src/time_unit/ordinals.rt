@@ -1,15 +1,14 @@
 //! Sets of ordinals, a bit for each ordinal of the unit.
 
-ghost use Rattle.std.specs.Prelude.{◌≡◌, ◌≤◌, ◌<◌, ◌+◌, ◌-◌, ◌^◌, ◌↔◌, ℕ, List, None};
-ghost use Rattle.cron_units.specs.Units.{TimeUnit, IsUnit, contains, set_of};
-ghost use Rattle.cron_units.specs.Words.{bit_of_three, has_bit};
+ghost use Rattle.std.specs.Prelude.{◌≡◌, ◌<◌, ◌+◌, ◌-◌, None};
+ghost use Rattle.cron_units.specs.Units.{TimeUnit, IsUnit, set_of};
 ghost use Rattle.cron_units.specs.Places.{placed, NonePast};
 ghost use Rattle.cron_units.specs.Tables.{definition_view, AreKeyed};
 
-use super::wide::{Wide, wide, widened};
-use super::words::Words;
 use super::{Definition, Ordinal, OrdinalIter, TimeUnitField};
 use crate::way::Way;
+use cron_bits::wide::widened;
+use cron_bits::words::Words;
 use std::alloc::AllocError;
 use std::marker::{Model, PhantomData};
 
@@ -40,7 +39,7 @@ pub trait UnitTable<W: Words>: Copy {
     /// The bounds are in order, the names' ordinals are within them, and the ordinals can be counted.
     ghost is_unit: { IsUnit unit };
 
-    /// No word means the last day of the month.
+    /// No name means the last day of the month.
     ghost unmarked: { unit.last_day ≡ None };
 
     /// There is a bit for each ordinal.
@@ -53,7 +52,7 @@ pub trait UnitTable<W: Words>: Copy {
 /// A set of ordinals of a unit. Bit i stands for the least ordinal plus i.
 #[derive(Debug)]
 pub struct Ordinals<U: UnitTable<W>, W: Words> {
-    words: W,
+    pub(super) words: W,
     of: PhantomData<U>,
 }
 
@@ -92,7 +91,7 @@ impl<U: UnitTable<W>, W: Words> Copy for Ordinals<U, W> {}
 impl<U: UnitTable<W>, W: Words> Ordinals<U, W> {
     /// Makes the set of the ordinals whose bits are 1. A bit past that of the greatest ordinal means
     /// nothing.
-    fn cut(words: W) -> Ordinals<U, W>
+    pub(super) fn cut(words: W) -> Ordinals<U, W>
         requires { W.IsFit words }
         ensures { result ≡ set_of U.unit (λ x. W.has words (x - U.unit.least)) }
     {
@@ -109,43 +108,6 @@ impl<U: UnitTable<W>, W: Words> Ordinals<U, W> {
             words,
             of: PhantomData,
         }
-    }
-}
-
-impl<U: UnitTable<u64>> Ordinals<U, u64> {
-    /// Makes the set of the ordinals whose bits are 1, where bit i stands for the least ordinal plus i.
-    /// A bit past that of the greatest ordinal means nothing.
-    pub fn from_bits(bits: u64) -> Ordinals<U, u64>
-        ensures { result ≡ set_of U.unit (λ x. has_bit bits (x - U.unit.least)) }
-    {
-        Ordinals::cut(bits)
-    }
-
-    /// Lends the word of the set, in which bit i stands for the least ordinal plus i.
-    pub fn bits(&self) -> u64
-        ensures bits { (k : ℕ) → has_bit result k ≡ contains self.now (U.unit.least + k) }
-        ensures within { result < 2 ^ 64 }
-        ensures set { set_of U.unit (λ x. has_bit result (x - U.unit.least)) ≡ self.now }
-    {
-        self.words.word(0)
-    }
-}
-
-impl<U: UnitTable<Wide>> Ordinals<U, Wide> {
-    /// Makes the set of the ordinals whose bits in three words are 1, where bit i of the first stands
-    /// for the least ordinal plus i, and so on. A bit past that of the greatest ordinal means nothing.
-    pub fn from_three(first: u64, second: u64, third: u64) -> Ordinals<U, Wide>
-        ensures { result ≡ set_of U.unit (λ x. bit_of_three first second third (x - U.unit.least)) }
-    {
-        Ordinals::cut(wide(first, second, third))
-    }
-
-    /// Lends the three words of the set.
-    pub fn three(&self) -> (u64, u64, u64)
-        ensures { set_of U.unit (λ x. bit_of_three result.0 result.1 result.2 (x - U.unit.least)) ≡ self.now }
-    {
-        let words = self.words;
-        (words.word(0), words.word(1), words.word(2))
     }
 }
 

@@ -1,8 +1,8 @@
 //! The seven units.
 
 use super::names::{DAY_NAMES, MONTH_NAMES};
-use super::wide::Wide;
 use super::{Definition, Names, Ordinals, UnitTable};
+use cron_bits::wide::Wide;
 
 /// The seconds of a minute.
 pub type Seconds = Ordinals<SecondsTable, u64>;

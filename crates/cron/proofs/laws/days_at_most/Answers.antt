@@ -1,4 +1,4 @@
-use Rattle.cron_time.proofs.CountLemmas.{days_at_most}
+use Rattle.cron_time.proofs.Searches.CountLemmas.{days_at_most}
 use Rattle.cron.proofs.laws.days_at_most.Goals as goal
 
 pub returns : goal.returns

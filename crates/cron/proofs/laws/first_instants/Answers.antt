@@ -1,4 +1,4 @@
-use Rattle.cron.proofs.InstantLemmas.{least_first, later_next}
+use Rattle.cron.proofs.InstantLemmas.{least_first, next_least}
 use Rattle.cron.proofs.laws.first_instants.Goals as goal
 
 pub returns-clause-first : goal.returns-clause-first
@@ -6,7 +6,7 @@ returns-clause-first c =
     least_first _ _ _ c.after-fires.result _ _ c.after-fires.ensures.sets c.after-fires.ensures.zone c.after-fires.ensures.cursor c.requires
     c.args.start.in_range c.next-first.ensures.steps.cursor
 
-pub returns-clause-later : goal.returns-clause-later
-returns-clause-later c =
-    later_next _ _ _ c.after-fires.result _ _ _ _ c.after-fires.ensures.sets c.after-fires.ensures.zone c.after-fires.ensures.cursor c.requires
+pub returns-clause-next : goal.returns-clause-next
+returns-clause-next c =
+    next_least _ _ _ c.after-fires.result _ _ _ _ c.after-fires.ensures.sets c.after-fires.ensures.zone c.after-fires.ensures.cursor c.requires
     c.next-first.ensures.steps.cursor c.next-second.ensures.steps.cursor

@@ -1,6 +1,6 @@
 use Rattle.std.proofs.Common.{ap, ◌∙◌}
 use Rattle.std.specs.Prelude.{map}
-use Rattle.cron_time.specs.Cursor.{Walk}
+use Rattle.cron_time.specs.Walk.Cursor.{Walk}
 use Rattle.cron.specs.Turns.{way_of, run_from}
 use Rattle.cron_text.proofs.MeaningLemmas.{means_once}
 use Rattle.cron.proofs.RunLemmas.{walk_is}

@@ -1,4 +1,4 @@
-use Rattle.cron_time.proofs.FixedLemmas.{next_is_later}
+use Rattle.cron_time.proofs.Walks.FixedLemmas.{next_is_later}
 use Rattle.cron.proofs.laws.later_instants.Goals as goal
 
 pub returns : goal.returns

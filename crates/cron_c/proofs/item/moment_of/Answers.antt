@@ -1,7 +1,7 @@
 use Rattle.std.proofs.Common.{◌≡◌, Some, rules}
 use Rattle.std.specs.Prelude.{IfSome}
-use Rattle.cron_time.specs.Readings.{Reading}
-use Rattle.cron_time.specs.Resume.{ShowsAt}
+use Rattle.cron_moments.specs.Readings.{Reading}
+use Rattle.cron_moments.specs.Parts.{ShowsAt}
 use Rattle.cron_c.proofs.Items.{moment_is}
 use Rattle.cron_c.proofs.item.moment_of.Goals as goal
 

@@ -1,9 +1,9 @@
 use Rattle.std.proofs.Common.{◌≡◌, ◌<◌, refl, sym, subst, ◌∙◌, arith, rules, slice_set}
 use Rattle.std.specs.Prelude.{length}
 use Rattle.jiff.specs.Words.{plain_zone}
-use Rattle.cron_time.specs.Inner.Placed.{stand_of}
-use Rattle.cron_time.specs.Inner.Stand.{Stand}
-use Rattle.cron_time.specs.Rest.{rest}
+use Rattle.cron_time.specs.Walk.Inner.Placed.{stand_of}
+use Rattle.cron_time.specs.Walk.Inner.Stand.{Stand}
+use Rattle.cron_time.specs.Walk.Rest.{rest}
 use Rattle.cron_c.specs.Listings.{IsListed}
 use Rattle.cron_c.proofs.Filling.{start_is_placed, filling_begins, filling_goes_on, filling_ends, walk_of}
 use Rattle.cron_c.proofs.listing.fill.Goals as goal

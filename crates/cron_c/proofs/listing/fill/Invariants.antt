@@ -1,7 +1,7 @@
 use Rattle.std.proofs.Common.{◌≡◌}
 use Rattle.std.specs.Prelude.{length}
 use Rattle.jiff.specs.Words.{plain_zone}
-use Rattle.cron_time.specs.Inner.Placed.{stand_of}
+use Rattle.cron_time.specs.Walk.Inner.Placed.{stand_of}
 use Rattle.cron_c.proofs.Filling.{IsFilling}
 use Rattle.cron_c.proofs.listing.fill.Given as goal
 

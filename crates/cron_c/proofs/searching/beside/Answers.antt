@@ -1,5 +1,5 @@
 use Rattle.jiff.specs.Words.{plain_zone}
-use Rattle.cron_time.specs.Inner.Placed.{cursor_of, stand_of}
+use Rattle.cron_time.specs.Walk.Inner.Placed.{cursor_of, stand_of}
 use Rattle.cron_c.specs.Structs.{sets_of}
 use Rattle.cron_c.proofs.Items.{resumed_answer}
 use Rattle.cron_c.proofs.searching.beside.Goals as goal

@@ -1,6 +1,6 @@
 use Rattle.std.proofs.Common.{refl, sym, ◌∙◌}
 use Rattle.jiff.specs.Words.{plain_zone}
-use Rattle.cron_time.proofs.ResumeLemmas.{absent_past}
+use Rattle.cron_time.proofs.Walks.ResumeLemmas.{absent_past}
 use Rattle.cron_c.specs.Structs.{sets_of}
 use Rattle.cron_c.proofs.Items.{absent_item}
 use Rattle.cron_c.proofs.searching.follow.Goals as goal

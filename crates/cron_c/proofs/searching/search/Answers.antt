@@ -1,6 +1,6 @@
 use Rattle.std.proofs.Common.{◌≡◌, ◌*ℤ◌, ℤ, pos, Some, rules, sym, ap, ◌∙◌}
 use Rattle.jiff.specs.Words.{plain_zone}
-use Rattle.cron_time.specs.Cursor.{Start, step}
+use Rattle.cron_time.specs.Walk.Cursor.{Start, step}
 use Rattle.cron_c.specs.Calls.{IsInstant, start_at}
 use Rattle.cron_c.specs.Structs.{sets_of}
 use Rattle.cron_c.proofs.searching.search.Goals as goal

@@ -1,6 +1,6 @@
 use Rattle.std.proofs.Common.{◌≡◌, ℕ, List, ap, ◌∙◌, rules}
 use Rattle.std.specs.Prelude.{length}
-use Rattle.cron_time.specs.MomentText.{moment_text}
+use Rattle.cron_moments.specs.MomentText.{moment_text}
 use Rattle.cron_c.specs.Buffers.{laid_over}
 use Rattle.cron_c.proofs.text.format.Goals as goal
 

@@ -15,5 +15,5 @@ returns-clause-first c =
 
 pub returns-clause-ascending : goal.returns-clause-ascending
 returns-clause-ascending c =
-    second_alarm (λ t. t.nanosecond) c.first_instants-first.result.0 c.first_instants-first.result.1 c.instant_of.result c.instant_of-2.result
-    c.instant_of.ensures c.instant_of-2.ensures c.first_instants-first.ensures.later
+    second_alarm (λ t. t.nanosecond) _ _ c.first_instants-first.result.0 c.first_instants-first.result.1 c.instant_of.result c.instant_of-2.result
+    c.instant_of.ensures c.instant_of-2.ensures c.first_instants-first.ensures.next

@@ -17,7 +17,12 @@ returns-in_default-finish g c =
     let lines = lines_of c.args.back c.in-Some.walk c.args.size in
     let (went, appended) = went_out lines _ _ c.finish.result c.in_default-finish.not-WriteFailed (c.finish.ensures.ends _ lines c.send_items.ensures.lines) in
     let last = c.item_or-listed.ensures ∙ ap (item_or c.args.last.now) (c.send_items.ensures.last (c.finish.ensures.whole went)) in
-    record { writes = inr (c.in-Some.walk, c.in-Some.ensures, (last, appended)); mark = c.finish.ensures.mark ∙ went; untouched = λ listed. absurd (cc) }
+    record {
+      writes = inr (c.in-Some.walk, c.in-Some.ensures, (last, appended));
+      mark = c.finish.ensures.mark ∙ went;
+      untouched = λ listed. absurd (cc);
+      calls = λ item. (_, _, c.send_items.ensures.calls, c.finish.ensures.calls);
+    }
 
 pub returns-in-WriteFailed-clause-writes : goal.returns-in-WriteFailed-clause-writes
 returns-in-WriteFailed-clause-writes g c =
@@ -38,3 +43,6 @@ returns-in-WriteFailed-clause-mark c = search rules
 
 pub returns-in-WriteFailed-clause-untouched : goal.returns-in-WriteFailed-clause-untouched
 returns-in-WriteFailed-clause-untouched c = search rules
+
+pub returns-in-WriteFailed-clause-calls : goal.returns-in-WriteFailed-clause-calls
+returns-in-WriteFailed-clause-calls g c item = (_, _, c.send_items.ensures.calls, c.in-WriteFailed.ensures.calls)

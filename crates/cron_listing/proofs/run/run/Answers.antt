@@ -2,7 +2,7 @@ use Rattle.std.proofs.Common.{List, ℕ, inl, inr, refl, ap, rules}
 use Rattle.cron_units.specs.Texts.{TellsKind, kind_text, error_text}
 use Rattle.cron_units.specs.declared.error.ErrorKind.{ErrorKind}
 use Rattle.cron_units.specs.declared.error.ErrorKind.TheVariants.{Expression, OutOfMemory}
-use Rattle.cron_time.specs.Cursor.{Walk}
+use Rattle.cron_time.specs.Walk.Cursor.{Walk}
 use Rattle.cron_text.specs.Fault.{IsRefusal}
 use Rattle.cron_listing.specs.Output.{IsTold, complaint, lines_of}
 use Rattle.cron.proofs.Callers.{walk_is}
@@ -28,7 +28,7 @@ returns-in-Err-clause-writes g c =
         kind_told c.args.expression.now c.in-Err.error.kind c.in-Err.ensures.refused,
         refl,
       ),
-      c.finish-in-Err.ensures.ends _ _ c.send_complaint.ensures,
+      c.finish-in-Err.ensures.ends _ _ c.send_complaint.ensures.sent,
     )
 
 pub returns-in-Ok-clause-mark : goal.returns-in-Ok-clause-mark
@@ -36,3 +36,9 @@ returns-in-Ok-clause-mark c = search rules
 
 pub returns-in-Err-clause-mark : goal.returns-in-Err-clause-mark
 returns-in-Err-clause-mark c = search rules
+
+pub returns-in-Ok-clause-calls : goal.returns-in-Ok-clause-calls
+returns-in-Ok-clause-calls g c = (_, _, c.send_items-last.ensures.calls, c.finish.ensures.calls)
+
+pub returns-in-Err-clause-calls : goal.returns-in-Err-clause-calls
+returns-in-Err-clause-calls g c = (_, _, c.send_complaint.ensures.calls, c.finish-in-Err.ensures.calls)

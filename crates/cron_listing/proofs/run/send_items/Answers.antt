@@ -1,6 +1,7 @@
 use Rattle.std.proofs.Common.{◌≡◌, Bool, true, false, refl, ap, ◌∙◌, rules}
 use Rattle.cron_writer.specs.Watching.{has_failed}
-use Rattle.cron_writer.proofs.Gathering.{both_ways}
+use Rattle.cron_writer.proofs.Calling.{handed_on, writes_on}
+use Rattle.cron_writer.proofs.Sending.{both_ways}
 use Rattle.cron_listing.proofs.run.send_items.Goals as goal
 
 was_fresh : (before after : Bool) → (before ≡ true → after ≡ true) → after ≡ false → before ≡ false
@@ -13,3 +14,6 @@ returns-clause-last g c =
 
 pub returns-clause-lines : goal.returns-clause-lines
 returns-clause-lines c = search rules
+
+pub returns-clause-calls : goal.returns-clause-calls
+returns-clause-calls g c = writes_on _ _ _ _ _ _ _ c.gather_items-last.ensures.calls (handed_on _ _ _ _ _ _ c.send.ensures.calls)

@@ -7,7 +7,8 @@ use Rattle.cron_text.specs.Inner.Places.{tokens_from}
 use Rattle.cron_text.specs.Inner.Views.{state_view, after_growth}
 use Rattle.cron_text.specs.Tokens.{symbol_of}
 use Rattle.cron_text.specs.declared.fields.Growth.{Growth}
-use Rattle.cron_text.proofs.FieldSets.{unread_first, read_first, unrefused_push, empty_union, set_push, field_taken, unread_inside, unread_last}
+use Rattle.cron_units.proofs.DenotedSets.{denotes_none, denotes_push}
+use Rattle.cron_text.proofs.FieldSets.{unread_first, read_first, field_taken, unread_inside, unread_last}
 use Rattle.cron_text.proofs.Longest.{read_none}
 use Rattle.cron_text.proofs.Results.{on_err}
 use Rattle.cron_text.proofs.fields.read_items.Goals as goal
@@ -35,8 +36,7 @@ loop-growth-init g c =
       [],
       first.token,
       ap (field_at u) first.rest ∙ read_first u first.token (tokens_from c.args.text.now c.in-Some.after) item lone,
-      refl,
-      empty_union u _ _ c.empty-joined.ensures.members c.empty-joined.ensures.mark,
+      denotes_none u _ _ c.empty-joined.ensures.members c.empty-joined.ensures.mark,
       ap is_wildcard (sym first.symbol) ∙ sym c.is_wildcard-wildcard.ensures,
       c.in-Some.ensures.place,
     )
@@ -44,26 +44,24 @@ loop-growth-init g c =
 pub loop-growth-preserved-in-Grown : goal.loop-growth-preserved-in-Grown
 loop-growth-preserved-in-Grown g c =
     let u = g.T.TimeUnitField.unit in
-    let (done, last, read, none, joined, seen, here) = c.loop-growth.invariant in
+    let (done, last, read, joined, seen, here) = c.loop-growth.invariant in
     let more = c.in-Some-more_at.ensures.more done last seen in
     let on = more.on ∙ ap (λ (x : Growth). furthest u (after_growth done c.loop-growth.item more.token x)
     (tokens_from c.args.text.now c.in-Some-more_at.after)) c.in-Grown.is in
-    (done, more.token, read ∙ ap Some on, none, joined, more.seen, c.in-Some-more_at.ensures.place)
+    (done, more.token, read ∙ ap Some on, joined, more.seen, c.in-Some-more_at.ensures.place)
 
 pub loop-growth-preserved : goal.loop-growth-preserved
 loop-growth-preserved g c =
     let u = g.T.TimeUnitField.unit in
-    let (done, last, read, none, joined, seen, here) = c.loop-growth.invariant in
+    let (done, last, read, joined, seen, here) = c.loop-growth.invariant in
     let item = item_view c.loop-growth.item in
-    let (what, denoted, added, mark) = c.in_ok-add_to-in-Next.ensures.ok in
     let more = c.in-Some-more_at.ensures.more done last seen in
     let on = more.on ∙ ap (λ (x : Growth). furthest u (after_growth done c.loop-growth.item more.token x)
     (tokens_from c.args.text.now c.in-Some-more_at.after)) c.in-Next.is in (
       done ++ item ∷ [],
       more.token,
       read ∙ ap Some on,
-      unrefused_push u done item what none denoted,
-      set_push u done item what _ _ _ _ joined denoted added mark,
+      denotes_push u done item _ _ joined c.in_ok-add_to-in-Next.ensures.ok,
       more.seen,
       c.in-Some-more_at.ensures.place,
     )
@@ -71,29 +69,28 @@ loop-growth-preserved g c =
 pub returns-in_err-add_to-in-Next-clause-refused : goal.returns-in_err-add_to-in-Next-clause-refused
 returns-in_err-add_to-in-Next-clause-refused g c =
     let u = g.T.TimeUnitField.unit in
-    let (done, last, read, none, joined, seen, here) = c.loop-growth.invariant in
+    let (done, last, read, joined, seen, here) = c.loop-growth.invariant in
     let item = item_view c.loop-growth.item in
     let more = c.in-Some-more_at.ensures.more done last seen in
     let on = more.on ∙ ap (λ (x : Growth). furthest u (after_growth done c.loop-growth.item more.token x)
     (tokens_from c.args.text.now c.in-Some-more_at.after)) c.in-Next.is in
     on_err c.from_residual.result (unread_inside u (tokens_from c.args.text.now c.args.place.now) (tokens_from c.args.text.now c.in-Some-more_at.after) done item
-    (state_view (done ++ item ∷ []) c.in-Next.other more.token) _ (read ∙ ap Some on) refl none c.in_err-add_to-in-Next.ensures.err)
+    (state_view (done ++ item ∷ []) c.in-Next.other more.token) _ (read ∙ ap Some on) refl joined.unrefused c.in_err-add_to-in-Next.ensures.err)
 
 pub returns-in_err-add_to-clause-refused : goal.returns-in_err-add_to-clause-refused
 returns-in_err-add_to-clause-refused g c =
     let u = g.T.TimeUnitField.unit in
-    let (done, last, read, none, joined, seen, here) = c.loop-growth.invariant in
+    let (done, last, read, joined, seen, here) = c.loop-growth.invariant in
     let state = state_view done c.loop-growth.item last in
     on_err c.from_residual-in_err-add_to.result (unread_last u (tokens_from c.args.text.now c.args.place.now) (tokens_from c.args.text.now c.loop-growth.next) state _ (read
-    ∙ ap Some (c.in_default-more_at.ensures.more done last seen)) none c.in_err-add_to.ensures.err)
+    ∙ ap Some (c.in_default-more_at.ensures.more done last seen)) joined.unrefused c.in_err-add_to.ensures.err)
 
 pub returns-clause-taken : goal.returns-clause-taken
 returns-clause-taken g c =
     let u = g.T.TimeUnitField.unit in
-    let (done, last, read, none, joined, seen, here) = c.loop-growth.invariant in
+    let (done, last, read, joined, seen, here) = c.loop-growth.invariant in
     let item = item_view c.loop-growth.item in
-    let (what, denoted, added, mark) = c.in_ok-add_to.ensures.ok in
     let state = state_view done c.loop-growth.item last in
     field_taken u (tokens_from c.args.text.now c.args.place.now) (tokens_from c.args.text.now c.loop-growth.next) state _ (read
     ∙ ap Some (c.in_default-more_at.ensures.more done last seen))
-    (unrefused_push u done item what none denoted) (set_push u done item what _ _ _ _ joined denoted added mark)
+    (denotes_push u done item _ _ joined c.in_ok-add_to.ensures.ok)

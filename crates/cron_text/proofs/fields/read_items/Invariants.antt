@@ -1,5 +1,5 @@
-use Rattle.std.proofs.Common.{◌≡◌, ◌-◌, Some, None, List, length}
-use Rattle.cron_units.specs.Denotation.{refusal_of, union_of}
+use Rattle.std.proofs.Common.{◌≡◌, ◌-◌, Some, List, length}
+use Rattle.cron_units.specs.Denotation.{Denotes}
 use Rattle.cron_units.specs.Units.{with_mark}
 use Rattle.cron_text.specs.Fields.{Item, is_wildcard}
 use Rattle.cron_text.specs.Inner.FieldReading.{field_at, furthest}
@@ -15,7 +15,7 @@ invariant-loop-growth g l =
     let u = field.unit in
     (done : List Item) × (last : Token)
     × (field_at u (tokens_from l.text l.fn.place) ≡ Some (furthest u (state_view done l.item last) (tokens_from l.text l.next)))
-    × (refusal_of u done ≡ None) × (with_mark (field.members l.joined) (field.marked l.joined) ≡ union_of u done)
+    × Denotes u done (with_mark (field.members l.joined) (field.marked l.joined))
     × (is_wildcard (symbol_of last) ≡ l.wildcard) × IsPlace l.text l.next
 
 abbrev pub decreases-loop-growth : goal.decreases-loop-growth

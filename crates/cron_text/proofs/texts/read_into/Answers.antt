@@ -1,6 +1,7 @@
-use Rattle.std.proofs.Common.{◌≡◌, None, List, ℕ, sym, ap, ◌∙◌, rules}
-use Rattle.cron_text.specs.Meaning.{shorthand_of, trimmed_front, trimmed_end}
+use Rattle.std.proofs.Common.{◌≡◌, inl, None, List, ℕ, sym, ap, ◌∙◌, subst, rules}
+use Rattle.cron_text.specs.Meaning.{DenoteSets, six_units, field_sets, shorthand_of, trimmed_front, trimmed_end}
 use Rattle.cron_text.specs.Inner.Places.{tokens_from}
+use Rattle.cron_text.specs.Tokens.{Token}
 use Rattle.cron_text.proofs.TextRefusals.{nothing_meant}
 use Rattle.cron_text.proofs.texts.read_into.Goals as goal
 
@@ -20,4 +21,6 @@ pub returns-in-Some-clause-nothing : goal.returns-in-Some-clause-nothing
 returns-in-Some-clause-nothing c = search rules
 
 pub returns-in-None-clause-sets : goal.returns-in-None-clause-sets
-returns-in-None-clause-sets c = search rules
+returns-in-None-clause-sets c = λ yes.
+    let skipped = rw c.as_bytes-bytes.ensures.value at c.skip_space-start.ensures in
+    inl (subst (λ (ts : List Token). DenoteSets six_units ts (field_sets c.longhand.new.fields)) skipped.same (c.longhand.ensures.sets yes))

@@ -1,6 +1,6 @@
 use Rattle.std.proofs.Common.{FitsSigned, w64, to_z-of_z, rules, ap, arith}
-use Rattle.cron_time.specs.Found.{second_of}
-use Rattle.cron_time.proofs.CountLemmas.{days_at_most, found_in}
+use Rattle.cron_moments.specs.Found.{second_of}
+use Rattle.cron_time.proofs.Searches.CountLemmas.{days_at_most, found_in}
 use Rattle.cron_time.proofs.search.search.Goals as goal
 
 pub overflow_cast-result : goal.overflow_cast-result

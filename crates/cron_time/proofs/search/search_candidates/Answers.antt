@@ -1,13 +1,13 @@
 use Rattle.std.proofs.Common.{◌/◌, pos, refl, sym, arith, ◌∙◌}
-use Rattle.cron_time.specs.Inner.Blocks.{Reaches}
-use Rattle.cron_time.specs.Inner.DaySearch.{candidate_day}
-use Rattle.cron_time.specs.Inner.Days.{number_of}
+use Rattle.cron_time.specs.Search.Inner.Blocks.{Reaches}
+use Rattle.cron_time.specs.Search.Inner.DaySearch.{candidate_day}
+use Rattle.cron_time.specs.Search.Inner.Days.{number_of}
 use Rattle.cron_time.specs.Search.{stands}
-use Rattle.cron_time.proofs.AskedLemmas.{looks_same, same_on}
-use Rattle.cron_time.proofs.DayLemmas.{month_passes}
-use Rattle.cron_time.proofs.FoundLemmas.{none_found}
-use Rattle.cron_time.proofs.TallyLemmas.{kind_bound, adds_none, adds_more, adds_on, adds_to, passed_start, passed_next}
-use Rattle.cron_time.proofs.SearchLemmas.{next_number, found_passes, days_start, days_next, day_found, days_found, asked_start, asked_next, asked_found, candidate_in, fewer_days}
+use Rattle.cron_time.proofs.Searches.AskedLemmas.{looks_same, same_on}
+use Rattle.cron_time.proofs.Searches.DayLemmas.{month_passes}
+use Rattle.cron_moments.proofs.FoundLemmas.{none_found}
+use Rattle.cron_time.proofs.Searches.TallyLemmas.{kind_bound, adds_none, adds_more, adds_on, adds_to, passed_start, passed_next}
+use Rattle.cron_time.proofs.Searches.SearchLemmas.{next_number, found_passes, days_start, days_next, day_found, days_found, asked_start, asked_next, asked_found, candidate_in, fewer_days}
 use Rattle.cron_time.proofs.search.search_candidates.Goals as goal
 
 pub loop-next-init : goal.loop-next-init
@@ -45,43 +45,27 @@ day_past-next-requires-clause-matching g c =
     let range = rw c.in-Some.is at c.loop-next.invariant.range in
     rw (c.search_day-found.ensures.same.sets ∙ c.loop-next.invariant.same.sets) (month_passes c.args.inquiry.now.sets c.in-Some.day range.0 range.1)
 
-pub returns-then-is_some-clause-found : goal.returns-then-is_some-clause-found
-returns-then-is_some-clause-found g c =
+pub returns-then-is_some : goal.returns-then-is_some
+returns-then-is_some g c =
     let s = c.args.inquiry.now.sets in
     let z = c.args.inquiry.now.zone in
     let kept = c.loop-next.invariant in
     let reached : Reaches c.args.way 86_400 (candidate_day s) (stands s z) (pos c.args.start) (pos (c.args.start / 86_400))
     (number_of c.in-Some.day) = rw c.in-Some.is at kept.reached in
-    let range = rw c.in-Some.is at kept.range in
-    let found = rw (kept.same.sets, kept.same.zone) at c.search_day-found.ensures.found in
-    day_found c.args.way s z c.args.start (number_of c.in-Some.day) _ reached (sym c.if-is_some.ensures) found
-
-pub returns-then-is_some-clause-days : goal.returns-then-is_some-clause-days
-returns-then-is_some-clause-days g c =
-    let s = c.args.inquiry.now.sets in
-    let z = c.args.inquiry.now.zone in
-    let kept = c.loop-next.invariant in
-    let reached : Reaches c.args.way 86_400 (candidate_day s) (stands s z) (pos c.args.start) (pos (c.args.start / 86_400))
-    (number_of c.in-Some.day) = rw c.in-Some.is at kept.reached in
-    let range = rw c.in-Some.is at kept.range in
-    let found = rw (kept.same.sets, kept.same.zone) at c.search_day-found.ensures.found in
-    let early = rw c.in-Some.is at kept.days in
-    adds_more 47_847 _ _ _ _ _ early c.search_day-found.ensures.days
-    (days_found c.args.way s z c.args.start (number_of c.in-Some.day) _ _ reached (sym c.if-is_some.ensures) found early.tally)
-
-pub returns-then-is_some-clause-conversions : goal.returns-then-is_some-clause-conversions
-returns-then-is_some-clause-conversions g c =
-    let s = c.args.inquiry.now.sets in
-    let z = c.args.inquiry.now.zone in
-    let kept = c.loop-next.invariant in
-    let reached : Reaches c.args.way 86_400 (candidate_day s) (stands s z) (pos c.args.start) (pos (c.args.start / 86_400))
-    (number_of c.in-Some.day) = rw c.in-Some.is at kept.reached in
-    let range = rw c.in-Some.is at kept.range in
-    let found = rw (kept.same.sets, kept.same.zone) at c.search_day-found.ensures.found in
-    let early = rw c.in-Some.is at kept.conversions in
-    let here = rw kept.same.sets at c.search_day-found.ensures.conversions in
-    adds_on 4_133_980_800 _ _ _ _ _ _ early here (asked_found c.args.way s z c.args.start (number_of c.in-Some.day) _ _ _ (sym c.if-is_some.ensures) found
-    early.tally here.tally)
+    let searched = c.search_day-found.ensures in
+    let found = rw (kept.same.sets, kept.same.zone) at searched.found in
+    let some = sym c.if-is_some.ensures in
+    let days = rw c.in-Some.is at kept.days in
+    let asked = rw c.in-Some.is at kept.conversions in
+    let here = rw kept.same.sets at searched.conversions in
+    record {
+      found = day_found c.args.way s z c.args.start (number_of c.in-Some.day) _ reached some found;
+      same = same_on _ _ _ kept.same searched.same;
+      days = adds_more 47_847 _ _ _ _ _ days searched.days
+          (days_found c.args.way s z c.args.start (number_of c.in-Some.day) _ _ reached some found days.tally);
+      conversions = adds_on 4_133_980_800 _ _ _ _ _ _ asked here
+          (asked_found c.args.way s z c.args.start (number_of c.in-Some.day) _ _ _ some found asked.tally here.tally);
+    }
 
 pub loop-next-preserved : goal.loop-next-preserved
 loop-next-preserved g c =

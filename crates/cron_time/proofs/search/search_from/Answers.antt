@@ -1,6 +1,6 @@
 use Rattle.std.proofs.Common.{FitsSigned, w64, to_z-of_z, rules, subst, ℤ, arith}
-use Rattle.cron_time.specs.Inner.Starts.{Starts, LiesOutside}
-use Rattle.cron_time.proofs.CountLemmas.{days_counted, conversions_counted, outside_days, outside_conversions}
+use Rattle.cron_time.specs.Search.Inner.Starts.{Starts, LiesOutside}
+use Rattle.cron_time.proofs.Searches.CountLemmas.{days_counted, conversions_counted, outside_days, outside_conversions}
 use Rattle.cron_time.proofs.search.search_from.Goals as goal
 
 pub returns-in_err-start-clause-days : goal.returns-in_err-start-clause-days
@@ -22,9 +22,9 @@ returns-clause-days c =
     let fits : FitsSigned w64 c.args.from = search rules in
     let P : ℤ → Type 0 = λ from. Starts c.args.way from c.in_ok-start.start in
     let start : Starts c.args.way c.args.from c.in_ok-start.start = subst P (to_z-of_z fits) c.in_ok-start.ensures in
-    let days = c.search_days.ensures.days in
-    let counted = days_counted c.args.way c.args.inquiry.now.sets c.args.inquiry.now.zone c.args.from c.in_ok-start.start days.count c.search_days.result
-    start c.search_days.ensures.found days.tally in
+    let days = c.search_days_either_way.ensures.days in
+    let counted = days_counted c.args.way c.args.inquiry.now.sets c.args.inquiry.now.zone c.args.from c.in_ok-start.start days.count c.search_days_either_way.result
+    start c.search_days_either_way.ensures.found days.tally in
     omega (arith, days.is, counted)
 
 pub returns-clause-conversions : goal.returns-clause-conversions
@@ -32,7 +32,7 @@ returns-clause-conversions c =
     let fits : FitsSigned w64 c.args.from = search rules in
     let P : ℤ → Type 0 = λ from. Starts c.args.way from c.in_ok-start.start in
     let start : Starts c.args.way c.args.from c.in_ok-start.start = subst P (to_z-of_z fits) c.in_ok-start.ensures in
-    let asked = c.search_days.ensures.conversions in
+    let asked = c.search_days_either_way.ensures.conversions in
     let counted = conversions_counted c.args.way c.args.inquiry.now.sets c.args.inquiry.now.zone c.args.from c.in_ok-start.start asked.count
-    c.search_days.result start c.search_days.ensures.found asked.tally in
+    c.search_days_either_way.result start c.search_days_either_way.ensures.found asked.tally in
     omega (arith, asked.is, counted)

@@ -1,9 +1,9 @@
 use Rattle.std.proofs.Common.{pos, refl, sym, arith, ◌∙◌}
-use Rattle.cron_time.specs.Inner.Blocks.{Reaches}
-use Rattle.cron_time.specs.Inner.Places.{matches_second, stands_at}
-use Rattle.cron_time.proofs.AskedLemmas.{looks_same, same_on, converted}
-use Rattle.cron_time.proofs.TallyLemmas.{kind_bound, adds_none, adds_more, passed_start, passed_next}
-use Rattle.cron_time.proofs.TimesLemmas.{AtTime, time_found, time_counted, time_silent, times_start, times_next, time_low}
+use Rattle.cron_time.specs.Search.Inner.Blocks.{Reaches}
+use Rattle.cron_time.specs.Search.Inner.Numbers.{matches_second, stands_at}
+use Rattle.cron_time.proofs.Searches.AskedLemmas.{looks_same, same_on, converted}
+use Rattle.cron_time.proofs.Searches.TallyLemmas.{kind_bound, adds_none, adds_more, passed_start, passed_next}
+use Rattle.cron_time.proofs.Searches.TimesLemmas.{AtTime, time_found, time_counted, time_silent, times_start, times_next, time_low}
 use Rattle.cron_time.proofs.search.search_times.Goals as goal
 
 pub loop-next-init : goal.loop-next-init

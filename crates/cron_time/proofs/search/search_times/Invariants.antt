@@ -1,8 +1,8 @@
 use Rattle.std.proofs.Common.{◌≡◌, ◌<◌, ◌≤◌, pos, IfSome}
-use Rattle.cron_time.specs.Inner.Blocks.{ReachesIfAny, left_to_reach}
-use Rattle.cron_time.specs.Inner.Inquired.{IsSame}
-use Rattle.cron_time.specs.Inner.Places.{matches_second, stands_at}
-use Rattle.cron_time.specs.Inner.Tally.{Adds, IsPassedBefore}
+use Rattle.cron_time.specs.Search.Inner.Blocks.{ReachesIfAny, left_to_reach}
+use Rattle.cron_time.specs.Search.Inner.Inquired.{IsSame}
+use Rattle.cron_time.specs.Search.Inner.Numbers.{matches_second, stands_at}
+use Rattle.cron_time.specs.Search.Inner.Tally.{Adds, IsPassedBefore}
 use Rattle.cron_time.proofs.search.search_times.Given as goal
 
 abbrev pub invariant-loop-next : goal.invariant-loop-next

@@ -1,11 +1,12 @@
 use Rattle.std.proofs.lemmas.Grind.{common_steps}
 use Rattle.std.proofs.Common.{sym, ◌∙◌, arith, rules}
+use Rattle.cron_writer.proofs.Calling.{nothing_handed}
 use Rattle.cron_writer.proofs.Sending.{sent_on}
 use Rattle.cron_writer.proofs.watched.send.Goals as goal
 
 pub returns-then-not-failed-clause-sent : goal.returns-then-not-failed-clause-sent
 returns-then-not-failed-clause-sent g c =
-    λ origin before s. sent_on origin _ _ _ before c.args.text.now (s.whole (sym c.failed.ensures ∙ c.if-not-failed.true)) c.send_whole.ensures
+    λ origin before s. sent_on origin _ _ _ before c.args.text.now (s.whole (sym c.failed.ensures ∙ c.if-not-failed.true)) c.send_whole.ensures.sent
 
 pub returns-then-not-failed-clause-untouched : goal.returns-then-not-failed-clause-untouched
 returns-then-not-failed-clause-untouched c = search rules
@@ -15,3 +16,6 @@ returns-else-not-failed-clause-sent c = grind (arith, common_steps)
 
 pub returns-else-not-failed-clause-untouched : goal.returns-else-not-failed-clause-untouched
 returns-else-not-failed-clause-untouched c = search rules
+
+pub returns-else-not-failed-clause-calls : goal.returns-else-not-failed-clause-calls
+returns-else-not-failed-clause-calls g c = nothing_handed _ _ _ _ (search rules)

@@ -15,8 +15,8 @@ fits_alone were line room none fits = let n : length were ≡ 0 = ap length none
 fits_on : (old were line : List ℕ) (left room : ℕ) → were ≡ old → left + length old ≡ room → length line ≤ left → length were + length line ≤ room
 fits_on old were line left room same sum fits = let n : length were ≡ length old = ap length same in omega arith
 
-pub returns : goal.returns
-returns g c =
+pub returns-clause-gathered : goal.returns-clause-gathered
+returns-clause-gathered g c =
     λ origin before gathered.
     let line = c.args.line.now in
     let were = kept_in c.if-remaining_capacity-line.self in

@@ -7,8 +7,5 @@ returns-clause-seconds c = search rules
 pub returns-clause-conversions : goal.returns-clause-conversions
 returns-clause-conversions c = search rules
 
-pub returns-clause-least_days : goal.returns-clause-least_days
-returns-clause-least_days c = search rules
-
-pub returns-clause-most_days : goal.returns-clause-most_days
-returns-clause-most_days c = search rules
+pub returns-clause-days : goal.returns-clause-days
+returns-clause-days c = search rules

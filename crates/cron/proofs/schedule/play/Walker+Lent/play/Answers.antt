@@ -1,6 +1,6 @@
 use Rattle.std.proofs.Common.{◌≡◌, ◌+◌, ◌++◌, ◌∷◌, [], take, get_or, arith}
 use Rattle.std.proofs.lemmas.List.{take_more}
-use Rattle.cron_time.specs.Cursor.{Steps}
+use Rattle.cron_time.specs.Walk.Cursor.{Steps}
 use Rattle.cron.specs.Turns.{way_of}
 use Rattle.cron.specs.declared.schedule.play.Turn.TheVariants.{Next}
 use Rattle.cron.proofs.RunLemmas.{played_more}

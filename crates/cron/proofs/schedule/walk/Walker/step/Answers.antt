@@ -1,5 +1,5 @@
-use Rattle.cron_time.specs.Inner.Placed.{stand_of}
-use Rattle.cron_time.proofs.RestLemmas.{gives}
+use Rattle.cron_time.specs.Walk.Inner.Placed.{stand_of}
+use Rattle.cron_time.proofs.Walks.RestLemmas.{gives}
 use Rattle.cron.proofs.schedule.walk.Walker.step.Goals as goal
 
 pub returns : goal.returns

@@ -1,5 +1,5 @@
 use Rattle.std.proofs.Common.{◌||◌, nat_eq, ap, ◌∙◌}
-use Rattle.cron_units.specs.SetLaws.{set_without}
+use Rattle.cron_units.proofs.SetLemmas.{set_without}
 use Rattle.cron_units.specs.Units.{FieldSet, contains, days_of_month, set_of}
 use Rattle.cron_units.proofs.time_unit.days_of_month.DaysOfMonthTimeUnitField.insert.Goals as goal
 

@@ -1,6 +1,6 @@
 use Rattle.std.proofs.Common.{◌||◌, ap, ◌∙◌}
-use Rattle.cron_units.specs.Denotation.{Progression, in_steps}
-use Rattle.cron_units.specs.SetLaws.{set_without}
+use Rattle.cron_units.specs.Steps.{Progression, in_steps}
+use Rattle.cron_units.proofs.SetLemmas.{set_without}
 use Rattle.cron_units.specs.Units.{FieldSet, contains, days_of_month, set_of}
 use Rattle.cron_units.proofs.time_unit.days_of_month.DaysOfMonthTimeUnitField.insert_steps.Goals as goal
 

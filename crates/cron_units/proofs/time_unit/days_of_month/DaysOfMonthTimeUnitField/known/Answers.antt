@@ -1,5 +1,5 @@
 use Rattle.std.proofs.Common.{ap, ◌∙◌, subst}
-use Rattle.cron_units.specs.SetLaws.{set_without}
+use Rattle.cron_units.proofs.SetLemmas.{set_without}
 use Rattle.cron_units.specs.Units.{FieldSet, IsSet, contains, days_of_month}
 use Rattle.cron_units.proofs.time_unit.days_of_month.DaysOfMonthTimeUnitField.known.Goals as goal
 

@@ -1,4 +1,4 @@
-use Rattle.cron_units.specs.PlaceLaws.{laid_out}
+use Rattle.cron_units.proofs.PlaceLemmas.{laid_out}
 use Rattle.cron_units.proofs.time_unit.ordinals.Ordinals.laid.Goals as goal
 
 pub invariant_of-result : goal.invariant_of-result

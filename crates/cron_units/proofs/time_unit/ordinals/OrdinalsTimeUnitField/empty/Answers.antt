@@ -1,5 +1,5 @@
 use Rattle.std.proofs.Common.{◌∙◌}
-use Rattle.cron_units.specs.PlaceLaws.{placed_none}
+use Rattle.cron_units.proofs.PlaceLemmas.{placed_none}
 use Rattle.cron_units.proofs.time_unit.ordinals.OrdinalsTimeUnitField.empty.Goals as goal
 
 pub returns-clause-members : goal.returns-clause-members

@@ -1,6 +1,6 @@
 use Rattle.std.proofs.Common.{◌+◌, ◌-◌, ◌∙◌, subst}
 use Rattle.cron_units.specs.Units.{IsSet}
-use Rattle.cron_units.specs.PlaceLaws.{placed_set}
+use Rattle.cron_units.proofs.PlaceLemmas.{placed_set}
 use Rattle.cron_units.proofs.Laid.{range_bits, range_past, range_more, range_empty}
 use Rattle.cron_units.proofs.time_unit.ordinals.OrdinalsTimeUnitField.insert_range.Goals as goal
 

@@ -1,7 +1,7 @@
 use Rattle.std.proofs.Common.{◌∙◌, subst}
-use Rattle.cron_units.specs.Denotation.{Progression}
+use Rattle.cron_units.specs.Steps.{Progression}
 use Rattle.cron_units.specs.Units.{IsSet}
-use Rattle.cron_units.specs.PlaceLaws.{placed_set}
+use Rattle.cron_units.proofs.PlaceLemmas.{placed_set}
 use Rattle.cron_units.proofs.Laid.{range_past}
 use Rattle.cron_units.proofs.Progressions.{steps_more, steps_empty}
 use Rattle.cron_units.proofs.time_unit.ordinals.OrdinalsTimeUnitField.insert_steps.Goals as goal

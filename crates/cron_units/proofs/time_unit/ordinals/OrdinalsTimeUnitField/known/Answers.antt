@@ -1,6 +1,6 @@
 use Rattle.std.proofs.Common.{subst}
 use Rattle.cron_units.specs.Units.{IsSet}
-use Rattle.cron_units.specs.PlaceLaws.{placed_set}
+use Rattle.cron_units.proofs.PlaceLemmas.{placed_set}
 use Rattle.cron_units.proofs.time_unit.ordinals.OrdinalsTimeUnitField.known.Goals as goal
 
 pub returns : goal.returns

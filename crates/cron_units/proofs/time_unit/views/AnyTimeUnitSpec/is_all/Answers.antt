@@ -1,6 +1,6 @@
 use Rattle.std.proofs.Common.{◌≡◌, ◌+◌, ◌-◌, ap, arith, List, ℕ, length}
 use Rattle.std.proofs.lemmas.Bool.{eqb-true, eq-eqb}
-use Rattle.cron_units.specs.SetLaws.{full_set, length_whole}
+use Rattle.cron_units.proofs.SetLemmas.{full_set, length_whole}
 use Rattle.cron_units.proofs.time_unit.views.AnyTimeUnitSpec.is_all.Goals as goal
 
 pub returns : goal.returns

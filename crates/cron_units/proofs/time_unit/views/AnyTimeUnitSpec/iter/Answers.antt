@@ -1,5 +1,5 @@
 use Rattle.std.proofs.Common.{ap, arith, List, ℕ, length, rules}
-use Rattle.cron_units.specs.SetLaws.{length_set}
+use Rattle.cron_units.proofs.SetLemmas.{length_set}
 use Rattle.cron_units.proofs.time_unit.views.AnyTimeUnitSpec.iter.Goals as goal
 
 pub returns-clause-countable : goal.returns-clause-countable

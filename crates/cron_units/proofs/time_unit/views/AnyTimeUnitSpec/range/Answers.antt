@@ -1,6 +1,6 @@
 use Rattle.std.proofs.Common.{◌≡◌, ap, arith, List, ℕ, filter, length, rules}
 use Rattle.cron_units.specs.Bounds.{is_within}
-use Rattle.cron_units.specs.SetLaws.{length_filter, length_set}
+use Rattle.cron_units.proofs.SetLemmas.{length_filter, length_set}
 use Rattle.cron_units.proofs.time_unit.views.AnyTimeUnitSpec.range.Goals as goal
 
 pub returns-clause-countable : goal.returns-clause-countable

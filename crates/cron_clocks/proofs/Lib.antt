@@ -1,0 +1,11 @@
+pub mod AgreementLemmas
+pub mod ToldLemmas
+pub mod FixedZones
+pub mod RuleDays
+pub mod RuleTurns
+pub mod RuleYears
+pub mod Windows
+pub mod Seasons
+pub mod RuleSeasons
+pub mod RuleTold
+pub mod RuleAgreement

@@ -1,0 +1,11 @@
+use Rattle.std.proofs.Common.{◌≡◌, min, ap, ◌∙◌}
+use Rattle.cron_clocks.proofs.RuleDays.{weekday_among}
+use Rattle.cron_clocks.proofs.turns.days_of_week.Goals as goal
+
+pub returns-clause-among : goal.returns-clause-among
+returns-clause-among c =
+    λ weekday y year.
+    let month = c.requires.month_in in
+    let week = c.requires.week_in in
+    let weeks : c.min.result ≡ min c.args.week 4 = c.min.ensures ∙ ap (λ k. min k 4) c.from-weeks.ensures in
+    rw (weeks, c.from-months.ensures, c.from-weeks.ensures) (weekday_among y c.args.month c.args.week weekday month.0 week.0 week.1)

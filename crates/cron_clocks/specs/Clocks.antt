@@ -1,0 +1,38 @@
+-- When the two look-ups of a zone agree: what a clock shows at an instant, and at which instants it shows a civil second.
+use Rattle.std.specs.Prelude.{◌≡◌, ℕ, ◌<◌, ℤ, pos, ◌+ℤ◌, List, Some, slice_get}
+use Rattle.jiff_core.specs.Timestamp.{nanos_of_seconds}
+use Rattle.jiff_tz.specs.declared.timezone.TimeZone.{TimeZone}
+use Rattle.jiff_tz.specs.Zone.{offset_at}
+use Rattle.cron_moments.specs.Civil.{seconds_in_range}
+use Rattle.cron_moments.specs.Readings.{Reading, readings, instant}
+
+-- how many seconds a clock in the zone is ahead of UTC, n whole seconds after 1970-01-01T00:00:00Z
+abbrev pub shown_offset : TimeZone → ℤ → ℤ
+shown_offset z n = offset_at z (nanos_of_seconds n)
+
+-- one of these readings has the instant n
+pub record HasInstant (rs : List Reading) (n : ℤ) : Type 0 where
+  pub place : ℕ
+  pub at_place : Reading
+  pub here : slice_get rs place ≡ Some at_place
+  pub is : instant at_place ≡ n
+
+-- at the instant of each reading of a civil second of the range the clock shows the reading's offset
+abbrev pub ReadingsAreShown : TimeZone → Type 0
+ReadingsAreShown z =
+    (c i : ℕ) (r : Reading)
+    → c < seconds_in_range
+    → slice_get (readings z c) i ≡ Some r
+    → shown_offset z (instant r) ≡ r.offset.seconds
+
+-- an instant at which the clock shows a civil second of the range is that of one of its readings
+abbrev pub ShownAreRead : TimeZone → Type 0
+ShownAreRead z =
+    (c : ℕ) (n : ℤ)
+    → c < seconds_in_range
+    → n +ℤ shown_offset z n ≡ pos c
+    → HasInstant (readings z c) n
+
+pub record LookupsAgree (z : TimeZone) : Type 0 where
+  pub readings_shown : ReadingsAreShown z
+  pub shown_read : ShownAreRead z

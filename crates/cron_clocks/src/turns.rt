@@ -1,0 +1,112 @@
+//! Where in a year the two turns of a rule lie.
+
+ghost use Rattle.std.specs.Prelude.{◌≡◌, ℕ, ◌<◌, ◌≤◌, pos, ◌+ℤ◌, ◌*ℤ◌, ◌≤ℤ◌, IsTrue};
+ghost use Rattle.jiff_core.specs.Calendar.{IsWithin};
+ghost use Rattle.jiff_tz.specs.PosixDay.{is_rule_day};
+ghost use Rattle.cron_clocks.specs.Turns.{IsAlwaysAmong, AlwaysTurnsWithin, IsInside, TurnsAreApart, week};
+
+use jiff_tz::posix::{Day, DayTime, Dst};
+
+const DAY: i64 = 86_400;
+
+const WEEK: i64 = 7 * DAY;
+
+// The seconds of the shorter years.
+const YEAR: i64 = 365 * DAY;
+
+// Days of a year, from the first to the last, counted from 0 for 1 January.
+#[derive(Clone, Copy)]
+struct Days {
+    first: u16,
+    last: u16,
+}
+
+// Seconds of a year, from the first to the last, counted from its beginning on the wall clock.
+#[derive(Clone, Copy)]
+struct Stretch {
+    first: i64,
+    last: i64,
+}
+
+// Whether the two turns lie a week or more from each other and from the edges of every year.
+pub fn turns_apart(dst: Dst) -> bool
+    ensures { IsTrue result → TurnsAreApart dst }
+{
+    let start = stretch_of(dst.rule.start);
+    let end = stretch_of(dst.rule.end);
+    if !is_inside(start) || !is_inside(end) {
+        return false;
+    }
+    is_before(start, end) || is_before(end, start)
+}
+
+// Whether the seconds lie a week or more from the edges of every year.
+fn is_inside(stretch: Stretch) -> bool
+    requires { IsWithin 100_000_000 stretch.last }
+    ensures { IsTrue result → IsInside stretch.first stretch.last }
+{
+    WEEK <= stretch.first && stretch.last + WEEK <= YEAR
+}
+
+// Whether the one ends a week or more before the other begins.
+fn is_before(earlier: Stretch, later: Stretch) -> bool
+    requires { IsWithin 100_000_000 earlier.last }
+    ensures { IsTrue result → (earlier.last +ℤ week) ≤ℤ later.first }
+{
+    earlier.last + WEEK <= later.first
+}
+
+// The seconds of a year among which the turn lies in every year.
+fn stretch_of(turn: DayTime) -> Stretch
+    ensures turns { IsInside result.first result.last → AlwaysTurnsWithin result.first result.last turn }
+    ensures bound { IsWithin 100_000_000 result.last }
+{
+    let days = days_of(turn.date);
+    Stretch {
+        first: second_of(days.first, turn.time),
+        last: second_of(days.last, turn.time),
+    }
+}
+
+// The second of the year at which such a time of such a day lies.
+fn second_of(day: u16, time: i32) -> i64
+    requires { IsWithin 604_799 time }
+    ensures { result ≡ pos day *ℤ pos 86_400 +ℤ time }
+{
+    i64::from(day) * DAY + i64::from(time)
+}
+
+// The days of a year among which the rule's day is in every year.
+fn days_of(day: Day) -> Days
+    requires { IsTrue (is_rule_day day) }
+    ensures among { result.last < 365 → IsAlwaysAmong result.first result.last day }
+    ensures bound { result.last < 500 }
+{
+    match day {
+        Day::JulianOne(number) => Days {
+            first: number - 1,
+            last: number,
+        },
+        Day::JulianZero(number) => Days {
+            first: number,
+            last: number,
+        },
+        Day::WeekdayOfMonth { month, week, .. } => days_of_week(month, week),
+    }
+}
+
+// The days of a week of a month. The months before it have at least 28 days each, and at most 31.
+// Week 5 is the last one, which may begin where the fourth does.
+fn days_of_week(month: u8, week: u8) -> Days
+    requires month_in { (1 ≤ month) × (month ≤ 12) }
+    requires week_in { (1 ≤ week) × (week ≤ 5) }
+    ensures among { (weekday : ℕ) → IsAlwaysAmong result.first result.last (Day.WeekdayOfMonth month week weekday) }
+    ensures bound { result.last < 500 }
+{
+    let months = u16::from(month) - 1;
+    let weeks = u16::from(week);
+    Days {
+        first: 28 * months + 7 * (weeks.min(4) - 1),
+        last: 31 * months + 7 * weeks - 1,
+    }
+}

@@ -1,0 +1,60 @@
+//! When a schedule fires, by instants: the first fire after now, the last one by now.
+#![tactic(auto)]
+
+ghost use Rattle.std.specs.Prelude.{◌≡◌};
+ghost use Rattle.jiff.specs.Words.{plain_zone};
+ghost use Rattle.cron_instants.specs.Instants.{IsFirstAfter, IsFirstPast, IsLastBy};
+
+use cron::Schedule;
+use cron::schedule::Moment;
+use cron_instants::instants;
+use cron_units::fields::ScheduleFields;
+use jiff::Timestamp;
+use jiff::tz::TimeZone;
+
+#[cfg(test)]
+mod tests;
+
+// The seven sets of a schedule.
+#[inline(always)]
+fn fields_of(schedule: &Schedule) -> ScheduleFields
+    ensures { result ≡ schedule.now.sets }
+{
+    ScheduleFields {
+        seconds: *schedule.seconds(),
+        minutes: *schedule.minutes(),
+        hours: *schedule.hours(),
+        days_of_month: *schedule.days_of_month(),
+        months: *schedule.months(),
+        days_of_week: *schedule.days_of_week(),
+        years: *schedule.years(),
+    }
+}
+
+/// When the schedule fires first after an instant: of its moments in the zone whose instant comes after
+/// `now` the earliest, also in a fold. `None` where it fires no more.
+pub fn first_fire_after(schedule: &Schedule, now: Timestamp, zone: &TimeZone<'_>) -> Option<Moment>
+    ensures { IsFirstAfter schedule.now.sets (plain_zone zone.now) now.nanosecond result }
+{
+    let fields = fields_of(schedule);
+    instants::first_after(&fields, zone, now)
+}
+
+/// When the schedule fires next after a fire: of its moments that are later than this one the earliest,
+/// also where two share an instant, of which that with the less civil second comes first. The moment may
+/// be one at which the schedule doesn't fire.
+pub fn first_fire_past(schedule: &Schedule, item: &Moment, zone: &TimeZone<'_>) -> Option<Moment>
+    ensures { IsFirstPast schedule.now.sets (plain_zone zone.now) item.now result }
+{
+    let fields = fields_of(schedule);
+    instants::first_past(&fields, zone, item)
+}
+
+/// When the schedule fired last: of its moments in the zone whose instant is `now` or comes before it
+/// the latest. `None` where it hasn't fired yet.
+pub fn last_fire_by(schedule: &Schedule, now: Timestamp, zone: &TimeZone<'_>) -> Option<Moment>
+    ensures { IsLastBy schedule.now.sets (plain_zone zone.now) now.nanosecond result }
+{
+    let fields = fields_of(schedule);
+    instants::last_by(&fields, zone, now)
+}

@@ -1,0 +1,29 @@
+//! Pages, and a writer that is watched.
+
+use anyhow::Error;
+use cron::Schedule;
+use cron_listing::page::page;
+use cron_writer::watched::{Watched, send};
+use jiff::Timestamp;
+use jiff::tz::TimeZone;
+use std::io;
+
+pub fn run(rt: &HostRuntime, schedule: &Schedule) -> Result<(), Error> {
+    let zone = TimeZone::UTC;
+    let start: Timestamp = "2024-01-01T00:00:00Z".parse()?;
+    let Some(item) = schedule.after(start, &zone).next() else {
+        return Ok(());
+    };
+    println!(rt; "set up")?;
+    let mut out = Watched::new(io::writer(rt));
+    send(&mut out, b"send\n");
+    let _written = out.write(b"write\n");
+    let _flushed = out.flush();
+    println!(rt; "flush: {}", out.failed())?;
+    if out.failed() {
+        return Ok(());
+    }
+    let _listed = page(schedule, &item, &zone, 3, false, &mut out);
+    println!(rt; "page")?;
+    Ok(())
+}

@@ -1,0 +1,17 @@
+//! Calls that take no memory, one after another, with a line after each. `tools/count_growths` counts
+//! the growths between the lines.
+#![tactic(auto)]
+
+mod lines;
+mod readers;
+mod searches;
+mod walks;
+
+use anyhow::Error;
+
+fn main(rt: HostRuntime) -> Result<(), Error> {
+    let schedule = readers::run(&rt)?;
+    searches::run(&rt, &schedule)?;
+    walks::run(&rt, &schedule)?;
+    lines::run(&rt, &schedule)
+}

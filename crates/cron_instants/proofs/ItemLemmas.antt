@@ -1,0 +1,111 @@
+-- The items of the timeline are the readings of the civil seconds that match; and where one lies among the instants.
+use Rattle.std.proofs.Common.{◌≡◌, ℕ, ◌+◌, ◌<◌, ◌≤◌, ℤ, pos, ◌+ℤ◌, ◌*ℤ◌, ◌≤ℤ◌, ◌<ℤ◌, Bool, true, false, ◌&&◌, cond, Option, Some, List, [], length, nat_lt, ◌⊎◌, inl, inr, refl, sym, ap, subst, ◌∙◌, arith}
+use Rattle.std.specs.Prelude.{slice_get}
+use Rattle.std.specs.Int.{int_div_euclid}
+use Rattle.std.proofs.lemmas.Option.{slice_get_within}
+use Rattle.jiff_core.proofs.SignedLemmas.{signed_arith}
+use Rattle.jiff_tz.specs.declared.timezone.TimeZone.{TimeZone}
+use Rattle.cron_units.specs.declared.way.Way.TheVariants.{Ahead, Back}
+use Rattle.cron_units.specs.Sets.{Sets}
+use Rattle.cron_moments.specs.Civil.{civil, seconds_in_range}
+use Rattle.cron_time.specs.Matches.{matches}
+use Rattle.cron_moments.specs.Readings.{Reading, instant, readings}
+use Rattle.cron_time.specs.Search.{items_of}
+use Rattle.cron_time.specs.Timeline.{timeline}
+use Rattle.cron_time.proofs.JoinedLemmas.{Owner, owner}
+use Rattle.cron_time.proofs.PlaceLemmas.{nothing_in_nil}
+use Rattle.cron_time.proofs.TimelineLemmas.{before, item_in, items_of-second, timeline-joined}
+use Rattle.cron_instants.specs.Instants.{IsItem, IsAfter, IsBy, IsFirstAfter, IsFirstPast, IsLastBy}
+use Rattle.cron_instants.specs.Order.{is_earlier}
+use Rattle.cron_instants.specs.Inner.Beyond.{beyond, is_match, IsBest, IsBeyond, Stands}
+use Rattle.cron_instants.proofs.BestLemmas.{best_of_more}
+use Rattle.cron_instants.proofs.MatchLemmas.{match_in_range}
+use Rattle.cron_instants.proofs.OrderLemmas.{before-true, before-less, before-up_to}
+
+-- ---- the timeline
+
+matching_by : (s : Sets) (z : TimeZone) (c place : ℕ) (r : Reading) (m : Bool) → slice_get (cond m (readings z c) []) place ≡ Some r
+    → (m ≡ true) × (slice_get (readings z c) place ≡ Some r)
+matching_by s z c place r true e = (refl, e)
+matching_by s z c place r false e = absurd (nothing_in_nil place r e)
+
+matching_of : (s : Sets) (z : TimeZone) (c place : ℕ) (r : Reading) → slice_get (items_of s z c) place ≡ Some r
+    → (matches s (civil c) ≡ true) × (slice_get (readings z c) place ≡ Some r)
+unfolding items_of
+matching_of s z c place r e = matching_by s z c place r (matches s (civil c)) e
+
+is_match_by : (c : ℕ) (m : Bool) → c < seconds_in_range → m ≡ true → (nat_lt c seconds_in_range && m) ≡ true
+is_match_by c m high is = rw is (grind arith)
+
+matches_of : (c : ℕ) (m : Bool) → (nat_lt c seconds_in_range && m) ≡ true → m ≡ true
+matches_of c true h = refl
+matches_of c false h = grind arith
+
+pub stands_of : (s : Sets) (z : TimeZone) (r : Reading) → IsItem s z r → Stands s z r
+stands_of s z r item =
+    let own : Owner (items_of s z) seconds_in_range item.0 r = owner (items_of s z) seconds_in_range item.0 r (rw (timeline-joined s z) at item.1) in
+    let second = items_of-second s z own.number own.place r own.here in
+    let there : slice_get (items_of s z r.second) own.place ≡ Some r =
+    subst (λ (n : ℕ). slice_get (items_of s z n) own.place ≡ Some r) (sym second) own.here in
+    let both = matching_of s z r.second own.place r there in
+    let below = own.below in
+    record {
+      matching = is_match_by r.second (matches s (civil r.second)) (omega arith) both.0;
+      place = own.place;
+      here = both.1;
+    }
+
+items_of-all : (s : Sets) (z : TimeZone) (c : ℕ) → matches s (civil c) ≡ true → items_of s z c ≡ readings z c
+unfolding items_of
+items_of-all s z c e = rw e refl
+
+pub item_of : (s : Sets) (z : TimeZone) (r : Reading) → Stands s z r → IsItem s z r
+item_of s z r st =
+    let same = items_of-all s z r.second (matches_of r.second (matches s (civil r.second)) st.matching) in
+    let there : slice_get (items_of s z r.second) st.place ≡ Some r = ap (λ xs. slice_get xs st.place) same ∙ st.here in (
+      before s z r.second + st.place,
+      item_in s z r.second st.place (match_in_range s r.second st.matching)
+          (slice_get_within (items_of s z r.second) st.place r there) ∙ there,
+    )
+
+-- ---- instants
+
+after_beyond : (t i : ℤ) (r : Reading) → i ≡ int_div_euclid t (pos 1_000_000_000) → IsAfter t r → beyond Ahead i 4_294_967_295 r ≡ true
+after_beyond t i r is after = before-less i 4_294_967_295 (instant r) r.second (omega (arith, signed_arith))
+
+beyond_after : (t i : ℤ) (r : Reading) → i ≡ int_div_euclid t (pos 1_000_000_000) → r.second < seconds_in_range
+    → beyond Ahead i 4_294_967_295 r ≡ true → IsAfter t r
+beyond_after t i r is high past = elim (before-true i 4_294_967_295 (instant r) r.second past) [
+  | inl less ↦ omega (arith, signed_arith)
+  | inr same ↦ let more = same.1 in absurd (omega arith)
+]
+
+by_beyond : (t i : ℤ) (r : Reading) → i ≡ int_div_euclid t (pos 1_000_000_000) → r.second < seconds_in_range → IsBy t r → beyond Back i 4_294_967_295 r ≡ true
+by_beyond t i r is high early = before-up_to (instant r) r.second i 4_294_967_295 (omega (arith, signed_arith)) (omega arith)
+
+beyond_by : (t i : ℤ) (r : Reading) → i ≡ int_div_euclid t (pos 1_000_000_000) → beyond Back i 4_294_967_295 r ≡ true → IsBy t r
+beyond_by t i r is past = elim (before-true (instant r) r.second i 4_294_967_295 past) [
+  | inl less ↦ omega (arith, signed_arith)
+  | inr same ↦ let equal = same.0 in omega (arith, signed_arith)
+]
+
+pub first_after : (s : Sets) (z : TimeZone) (t i : ℤ) (best : Option Reading) → i ≡ int_div_euclid t (pos 1_000_000_000)
+    → IsBest Ahead (IsBeyond Ahead s z i 4_294_967_295) best → IsFirstAfter s z t best
+first_after s z t i best is found =
+    best_of_more Ahead (IsBeyond Ahead s z i 4_294_967_295) (λ r. IsItem s z r × IsAfter t r) best found
+    (λ r m. (item_of s z r m.0, beyond_after t i r is (match_in_range s r.second m.0.matching) m.1))
+    (λ r m. inl (stands_of s z r m.0, after_beyond t i r is m.1))
+
+pub first_past : (s : Sets) (z : TimeZone) (item : Reading) (best : Option Reading) → IsBest Ahead (IsBeyond Ahead s z (instant item) item.second) best
+    → IsFirstPast s z item best
+first_past s z item best found =
+    best_of_more Ahead (IsBeyond Ahead s z (instant item) item.second) (λ r. IsItem s z r × (is_earlier item r ≡ true)) best found
+    (λ r m. (item_of s z r m.0, m.1))
+    (λ r m. inl (stands_of s z r m.0, m.1))
+
+pub last_by : (s : Sets) (z : TimeZone) (t i : ℤ) (best : Option Reading) → i ≡ int_div_euclid t (pos 1_000_000_000)
+    → IsBest Back (IsBeyond Back s z i 4_294_967_295) best → IsLastBy s z t best
+last_by s z t i best is found =
+    best_of_more Back (IsBeyond Back s z i 4_294_967_295) (λ r. IsItem s z r × IsBy t r) best found
+    (λ r m. (item_of s z r m.0, beyond_by t i r is m.1))
+    (λ r m. let there = stands_of s z r m.0 in inl (there, by_beyond t i r is (match_in_range s r.second there.matching) m.1))

@@ -1,0 +1,6 @@
+pub mod MatchLemmas
+pub mod OrderLemmas
+pub mod BestLemmas
+pub mod StretchLemmas
+pub mod ItemLemmas
+pub mod TurnLemmas

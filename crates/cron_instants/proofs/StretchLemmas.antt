@@ -1,0 +1,301 @@
+-- The nearest item of a stretch.
+use Rattle.std.proofs.Common.{◌≡◌, ℕ, zero, suc, ◌+◌, ◌<◌, ◌≤◌, ℤ, pos, ◌≤ℤ◌, ◌<ℤ◌, true, false, Option, Some, None, [], ◌∷◌, ◌⊎◌, inl, inr, refl, sym, ap, subst, ◌∙◌, arith, true≢false}
+use Rattle.std.specs.Prelude.{slice_get, IfSome}
+use Rattle.std.proofs.lemmas.Bool.{cases_lt}
+use Rattle.jiff_core.specs.declared.Offset.{Offset}
+use Rattle.jiff_tz.specs.declared.timezone.TimeZone.{TimeZone}
+use Rattle.jiff_tz.specs.declared.timezone.TimeZone.TheVariants.{UTC, Unknown, Fixed, Posix}
+use Rattle.jiff_tz.specs.declared.posix.TimeZone.{TimeZone as Rule}
+use Rattle.jiff_tz.specs.PosixRule.{ambiguous_at as rule_tells}
+use Rattle.jiff_tz.specs.Zone.{ambiguous_at, utc_offset}
+use Rattle.cron_units.specs.declared.way.Way.{Way}
+use Rattle.cron_units.specs.declared.way.Way.TheVariants.{Ahead, Back}
+use Rattle.cron_units.specs.Nearest.{LiesFrom, Precedes, IsNearestAt}
+use Rattle.cron_units.specs.Sets.{Sets}
+use Rattle.cron_moments.specs.Civil.{civil, seconds_in_range}
+use Rattle.cron_moments.specs.Readings.{Reading, reading, readings, readings_by}
+use Rattle.std.specs.Ordering.{int_eq}
+use Rattle.jiff_tz.specs.declared.ambiguous.AmbiguousOffset.{AmbiguousOffset}
+use Rattle.jiff_tz.specs.declared.ambiguous.AmbiguousOffset.TheVariants.{Fold}
+use Rattle.cron_instants.specs.declared.stretch.Stretch.{Stretch}
+use Rattle.cron_instants.specs.Inner.Beyond.{is_match, nearer_of, entry_of, IsBest, IsBeyond, IsEntered, IsPassed, IsSought, IsGoneOn, LiesPast, IsNotPast, IsInside, IsStartAt, IsMatchAt, IsMatchIn}
+use Rattle.jiff_core.proofs.SignedLemmas.{signed_arith}
+use Rattle.cron_instants.specs.Inner.Turns.{IsNarrowed, IsToldAlike}
+use Rattle.cron_instants.specs.Inner.Steady.{IsSteady, IsToldBy, readings_at, whole_range}
+use Rattle.cron_instants.proofs.MatchLemmas.{match_in_range}
+use Rattle.cron_instants.proofs.OrderLemmas.{past_entry, entry_past, not_nearer}
+use Rattle.cron_instants.proofs.BestLemmas.{best_of_more, best_of_both}
+
+-- ---- at one offset
+
+module _ (way : Way) (s : Sets) (i : ℤ) (c low high : ℕ) (o : Offset) where
+  -- a match of the stretch lies where a search from the entry comes to
+  lies_from : (r : Reading) → IsMatchAt way s i c low high o r → LiesFrom way (entry_of way i c o.seconds) r.second
+  lies_from r m = subst (λ (x : Offset). LiesFrom way (entry_of way i c x.seconds) r.second) m.at (past_entry way i c r m.past)
+
+  pub none_entered : ((k : ℕ) → low ≤ k → k < high → LiesFrom way (entry_of way i c o.seconds) k → ⊥) → (r : Reading) → IsMatchAt way s i c low high o r → ⊥
+  none_entered none r m = none r.second m.from m.to (lies_from r m)
+
+  module _ (start : ℤ) (st : IsStartAt way low high (entry_of way i c o.seconds) start) where
+    lies_on : (r : Reading) → IsMatchAt way s i c low high o r → LiesFrom way start r.second
+    lies_on r m = st.whole r.second m.from m.to (lies_from r m)
+
+    pub none_found : ((k : ℕ) → LiesFrom way start k → is_match s k ≡ false) → (r : Reading) → IsMatchAt way s i c low high o r → ⊥
+    none_found none r m = true≢false (sym m.matching ∙ none r.second (lies_on r m))
+
+    pub nearest_passes : (n : ℕ) → IsNearestAt way (is_match s) start n → (r : Reading) → IsMatchAt way s i c low high o r → Precedes way r.second n → ⊥
+    nearest_passes n near r m before = true≢false (sym m.matching ∙ near.nearest r.second (lies_on r m) before)
+
+    pub found_here : (n : ℕ) → IsNearestAt way (is_match s) start n → low ≤ n → n < high
+        → IsBest way (IsMatchAt way s i c low high o) (Some (reading n o))
+    found_here n near from to = (
+      record {
+        matching = near.passes;
+        past = entry_past way i c (reading n o) (st.sound n near.lies);
+        from = from;
+        to = to;
+        at = refl;
+      },
+      λ r m. not_nearer way r (reading n o) (ap (λ (x : Offset). x.seconds) m.at) (nearest_passes n near r m),
+    )
+
+-- what is found outside of the stretch lies past it
+past_by : (way : Way) (low high n k : ℕ) → IsInside way low high n → low ≤ k → k < high → (n < low) ⊎ (high ≤ n) → Precedes way k n
+past_by Ahead low high n k inside from to (inl less) = absurd (omega arith)
+past_by Ahead low high n k inside from to (inr more) = omega arith
+past_by Back low high n k inside from to (inl less) = omega arith
+past_by Back low high n k inside from to (inr more) = absurd (omega arith)
+
+pub found_outside : (way : Way) (s : Sets) (i : ℤ) (c low high : ℕ) (o : Offset) (start : ℤ) → IsStartAt way low high (entry_of way i c o.seconds) start
+    → (n : ℕ) → IsNearestAt way (is_match s) start n → (n < low) ⊎ (high ≤ n) → (r : Reading) → IsMatchAt way s i c low high o r → ⊥
+found_outside way s i c low high o start st n near out r m =
+    nearest_passes way s i c low high o start st n near r m (past_by way low high n r.second (st.inside n near.lies) m.from m.to out)
+
+-- ---- at the offsets of a stretch
+
+module _ (way : Way) (s : Sets) (i : ℤ) (c : ℕ) (st : Stretch) where
+  abbrev at_offset : Offset → Reading → Type 0
+  at_offset o = IsMatchAt way s i c st.first st.end o
+
+  no_reading : (place : ℕ) (r : Reading) → slice_get [] place ≡ Some r → ⊥
+  no_reading zero r e = cc
+  no_reading (suc n) r e = cc
+
+  pub best_of_none : st.earlier ≡ None → (r : Reading) → IsMatchIn way s i c st r → ⊥
+  best_of_none none r m = no_reading m.place r (rw none at m.here)
+
+  inside : (r : Reading) (o : Offset) (place : ℕ) → at_offset o r → slice_get (readings_at r.second st.earlier st.later) place ≡ Some (reading r.second o)
+      → IsMatchIn way s i c st r
+  inside r o place m here = record {
+    matching = m.matching;
+    past = m.past;
+    from = m.from;
+    to = m.to;
+    place = place;
+    here = here ∙ ap (λ (x : Offset). Some (reading r.second x)) (sym m.at);
+  }
+
+  outside : (r : Reading) (o : Offset) → IsMatchIn way s i c st r → reading r.second o ≡ r → at_offset o r
+  outside r o m is = record { matching = m.matching; past = m.past; from = m.from; to = m.to; at = ap (λ (x : Reading). x.offset) (sym is) }
+
+  first_read : (n place : ℕ) (o : Offset) (r : Reading) → slice_get (reading n o ∷ []) place ≡ Some r → reading n o ≡ r
+  first_read n zero o r e = cc
+  first_read n (suc place) o r e = absurd (no_reading place r e)
+
+  either_read : (n place : ℕ) (o p : Offset) (r : Reading) → slice_get (reading n o ∷ reading n p ∷ []) place ≡ Some r → (reading n o ≡ r) ⊎ (reading n p ≡ r)
+  either_read n zero o p r e = inl cc
+  either_read n (suc place) o p r e = inr (first_read n place p r e)
+
+  pub best_of_one : (o : Offset) (best : Option Reading) → st.earlier ≡ Some o → st.later ≡ None → IsBest way (at_offset o) best
+      → IsBest way (IsMatchIn way s i c st) best
+  best_of_one o best first none found =
+      best_of_more way (at_offset o) (IsMatchIn way s i c st) best found
+      (λ r m. inside r o 0 m (rw (first, none) refl))
+      (λ r m. inl (outside r o m (first_read r.second m.place o r (rw (first, none) at m.here))))
+
+  pub best_of_two : (o p : Offset) (a b : Option Reading) → st.earlier ≡ Some o → st.later ≡ Some p → IsBest way (at_offset o) a → IsBest way (at_offset p) b
+      → IsBest way (IsMatchIn way s i c st) (nearer_of way a b)
+  best_of_two o p a b first second one other =
+      best_of_more way (λ r. at_offset o r ⊎ at_offset p r) (IsMatchIn way s i c st) (nearer_of way a b)
+      (best_of_both way (at_offset o) (at_offset p) a b one other)
+      (λ r m. elim m [ inl x ↦ inside r o 0 x (rw (first, second) refl) | inr y ↦ inside r p 1 y (rw (first, second) refl) ])
+      (λ r m. inl (elim (either_read r.second m.place o p r (rw (first, second) at m.here)) [ inl x ↦ inl (outside r o m x) | inr y ↦ inr (outside r p m y) ]))
+
+-- ---- stretches
+
+pub steady_alike : (z : TimeZone) (c first end : ℕ) (a b : Option Offset) → first ≤ c → c < end → end ≤ seconds_in_range
+    → IsToldBy (ambiguous_at z (civil c)) a b → ((k : ℕ) → first ≤ k → k < end → ambiguous_at z (civil k) ≡ ambiguous_at z (civil c))
+    → IsSteady z (record { first = first; end = end; earlier = a; later = b })
+unfolding readings
+steady_alike z c first end a b low high in_range told alike = record {
+  some = omega arith;
+  high = in_range;
+  same = λ k from to. ap (readings_by k) (alike k from to) ∙ sym (told k);
+}
+
+one_second : (n k : ℕ) → n ≤ k → k < n + 1 → k ≡ n
+one_second n k h g = omega arith
+
+pub steady_single : (z : TimeZone) (n : ℕ) (a b : Option Offset) → n < seconds_in_range → IsToldBy (ambiguous_at z (civil n)) a b
+    → IsSteady z (record { first = n; end = n + 1; earlier = a; later = b })
+steady_single z n a b high told =
+    steady_alike z n n (n + 1) a b (omega arith) (omega arith) (omega arith)
+    told (λ k from to. ap (λ (m : ℕ). ambiguous_at z (civil m)) (one_second n k from to))
+
+-- of civil seconds of which a rule tells alike its zone does
+zone_tells : (rule : Rule) (k c : ℕ) → rule_tells rule (civil k) ≡ rule_tells rule (civil c)
+    → ambiguous_at (Posix rule) (civil k) ≡ ambiguous_at (Posix rule) (civil c)
+unfolding ambiguous_at
+zone_tells rule k c e = e
+
+pub steady_rule : (z : TimeZone) (rule : Rule) (c first end : ℕ) (from to : ℤ) (a b : Option Offset) → z ≡ Posix rule → from ≡ pos first → to ≡ pos end
+    → from ≤ℤ pos c → pos c <ℤ to → IsNarrowed (pos 0) (pos seconds_in_range) from to → IsToldAlike rule c from to → IsToldBy (ambiguous_at z (civil c)) a b
+    → IsSteady z (record { first = first; end = end; earlier = a; later = b })
+steady_rule z rule c first end from to a b is e f low high (start, last) alike told =
+    steady_alike z c first end a b (omega (arith, signed_arith)) (omega (arith, signed_arith)) (omega (arith, signed_arith)) told
+    (rw is (λ k above below. zone_tells rule k c (alike k (omega (arith, signed_arith)) (omega (arith, signed_arith)))))
+
+steady_whole : (z : TimeZone) (o : Offset) → ((k : ℕ) → readings z k ≡ reading k o ∷ []) → IsSteady z (whole_range o)
+steady_whole z o e = record { some = omega arith; high = omega arith; same = λ k from to. e k }
+
+utc_reading : (k : ℕ) → readings UTC k ≡ reading k utc_offset ∷ []
+unfolding readings ambiguous_at
+utc_reading k = refl
+
+unknown_reading : (k : ℕ) → readings Unknown k ≡ reading k utc_offset ∷ []
+unfolding readings ambiguous_at
+unknown_reading k = refl
+
+fixed_reading : (o : Offset) (k : ℕ) → readings (Fixed o) k ≡ reading k o ∷ []
+unfolding readings ambiguous_at
+fixed_reading o k = refl
+
+pub steady_utc : (plain z : TimeZone) (st : Stretch) → plain ≡ z → (plain ≡ UTC) ⊎ (plain ≡ Unknown) → st ≡ whole_range utc_offset → IsSteady z st
+steady_utc plain z st e (inl is) same = rw (same, sym e ∙ is) (steady_whole UTC utc_offset utc_reading)
+steady_utc plain z st e (inr is) same = rw (same, sym e ∙ is) (steady_whole Unknown utc_offset unknown_reading)
+
+pub steady_fixed : (plain z : TimeZone) (o : Offset) (st : Stretch) → plain ≡ z → plain ≡ Fixed o → st ≡ whole_range o → IsSteady z st
+steady_fixed plain z o st e is same = rw (same, sym e ∙ is) (steady_whole (Fixed o) o (fixed_reading o))
+
+-- ---- from stretch to stretch
+
+-- a civil second lies before one of the stretch, in the stretch, or past it
+data Where (way : Way) (low n high k : ℕ) : Type 0 where
+  Early : Precedes way k n → Where way low n high k
+  Within : low ≤ k → k < high → Where way low n high k
+  Late : LiesPast way low high k → Where way low n high k
+
+placed : (way : Way) (low n high k : ℕ) → low ≤ n → n < high → Where way low n high k
+placed Ahead low n high k from to = elim (cases_lt k n) [
+  | inl less ↦ Early less
+  | inr more ↦ elim (cases_lt k high) [ inl less ↦ Within (omega arith) less | inr past ↦ Late past ]
+]
+placed Back low n high k from to = elim (cases_lt n k) [
+  | inl less ↦ Early less
+  | inr more ↦ elim (cases_lt k low) [ inl past ↦ Late past | inr less ↦ Within less (omega arith) ]
+]
+
+early_passed : (way : Way) (low n high m k : ℕ) → low ≤ n → n < high → LiesPast way low high m → Precedes way k n → Precedes way k m
+early_passed Ahead low n high m k from to past before = omega arith
+early_passed Back low n high m k from to past before = omega arith
+
+within_passed : (way : Way) (low high m k : ℕ) → low ≤ k → k < high → LiesPast way low high m → Precedes way k m
+within_passed Ahead low high m k from to past = omega arith
+within_passed Back low high m k from to past = omega arith
+
+early_not_past : (way : Way) (low n high k : ℕ) → low ≤ n → n < high → Precedes way k n → IsNotPast way low high k
+early_not_past Ahead low n high k from to before = omega arith
+early_not_past Back low n high k from to before = omega arith
+
+within_not_past : (way : Way) (low high k : ℕ) → low ≤ k → k < high → IsNotPast way low high k
+within_not_past Ahead low high k from to = to
+within_not_past Back low high k from to = from
+
+module _ (way : Way) (s : Sets) (z : TimeZone) (i : ℤ) (c n : ℕ) (old here : Option Reading) (st : Stretch) (steady : IsSteady z st)
+    (low : st.first ≤ n) (high : n < st.end) (sought : IsSought way s z i c (Some n) old) (found : IsBest way (IsMatchIn way s i c st) here) where
+  abbrev Early_item : Reading → Type 0
+  Early_item r = IsBeyond way s z i c r × Precedes way r.second n
+
+  abbrev In_stretch : Reading → Type 0
+  In_stretch = IsMatchIn way s i c st
+
+  both : IsBest way (λ r. Early_item r ⊎ In_stretch r) (nearer_of way old here)
+  both = best_of_both way Early_item In_stretch old here sought.1 found
+
+  not_past : (b : Reading) → Early_item b ⊎ In_stretch b → IsNotPast way st.first st.end b.second
+  not_past b (inl early) = early_not_past way st.first n st.end b.second low high early.1
+  not_past b (inr within) = within_not_past way st.first st.end b.second within.from within.to
+
+  not_past_by : (best : Option Reading) → IsBest way (λ r. Early_item r ⊎ In_stretch r) best → IfSome best (λ b. IsNotPast way st.first st.end b.second)
+  not_past_by None found = tt
+  not_past_by (Some b) found = not_past b found.0
+
+  pub best_not_past : IfSome (nearer_of way old here) (λ b. IsNotPast way st.first st.end b.second)
+  best_not_past = not_past_by (nearer_of way old here) both
+
+  read_there : (r : Reading) → In_stretch r → IsBeyond way s z i c r
+  read_there r m = (
+    record {
+      matching = m.matching;
+      place = m.place;
+      here = ap (λ xs. slice_get xs m.place) (steady.same r.second m.from m.to) ∙ m.here;
+    },
+    m.past,
+  )
+
+  read_here : (r : Reading) → IsBeyond way s z i c r → st.first ≤ r.second → r.second < st.end → In_stretch r
+  read_here r m from to = record {
+    matching = m.0.matching;
+    past = m.1;
+    from = from;
+    to = to;
+    place = m.0.place;
+    here = ap (λ xs. slice_get xs m.0.place) (sym (steady.same r.second from to)) ∙ m.0.here;
+  }
+
+  pub passed_on : (next : Option ℕ) → IsGoneOn way s st.first st.end (nearer_of way old here) next → IsSought way s z i c next (nearer_of way old here)
+  passed_on None on = (
+    tt,
+    best_of_more way (λ r. Early_item r ⊎ In_stretch r) (λ r. IsBeyond way s z i c r × IsPassed way None r.second) (nearer_of way old here) both
+        (λ r m. elim m [ inl early ↦ (early.0, tt) | inr within ↦ (read_there r within, tt) ])
+        (λ r m. elim (placed way st.first n st.end r.second low high) [
+          | Early before ↦ inl (inl (m.0, before))
+          | Within from to ↦ inl (inr (read_here r m.0 from to))
+          | Late past ↦ inr (on r m.0.0.matching past)
+        ]),
+  )
+  passed_on (Some m) on = (
+    on.0,
+    best_of_more way (λ r. Early_item r ⊎ In_stretch r) (λ r. IsBeyond way s z i c r × IsPassed way (Some m) r.second) (nearer_of way old here) both
+        (λ r x. elim x [
+          | inl early ↦ (early.0, early_passed way st.first n st.end m r.second low high on.1 early.1)
+          | inr within ↦ (read_there r within, within_passed way st.first st.end m r.second within.from within.to on.1)
+        ])
+        (λ r x. elim (placed way st.first n st.end r.second low high) [
+          | Early before ↦ inl (inl (x.0, before))
+          | Within from to ↦ inl (inr (read_here r x.0 from to))
+          | Late past ↦ inr (on.2 r x.0.0.matching past x.1)
+        ]),
+  )
+
+pub sought_first : (way : Way) (s : Sets) (z : TimeZone) (i : ℤ) (c : ℕ) (first : Option ℕ) → IsEntered way i c first → IsSought way s z i c first None
+sought_first way s z i c None none = (tt, λ r m. none r (match_in_range s r.second m.0.0.matching) m.0.1)
+sought_first way s z i c (Some n) on = (on.0, λ r m. on.1 r (match_in_range s r.second m.0.0.matching) m.0.1 m.1)
+
+pub sought_all : (way : Way) (s : Sets) (z : TimeZone) (i : ℤ) (c : ℕ) (best : Option Reading) → IsSought way s z i c None best
+    → IsBest way (IsBeyond way s z i c) best
+sought_all way s z i c best sought =
+    best_of_more way (λ r. IsBeyond way s z i c r × Unit {0}) (IsBeyond way s z i c) best sought.1 (λ r m. m.0) (λ r m. inl (m, tt))
+
+-- ---- what jiff tells of a civil second
+
+pub told : (z : TimeZone) (n : ℕ) (a : AmbiguousOffset) → ambiguous_at z (civil n) ≡ a → (k : ℕ) → readings_by k a ≡ readings_by k (ambiguous_at z (civil n))
+told z n a e k = ap (readings_by k) (sym e)
+
+pub told_same : (z : TimeZone) (n : ℕ) (b a : Offset) → ambiguous_at z (civil n) ≡ Fold b a → int_eq b.seconds a.seconds ≡ true
+    → IsToldBy (ambiguous_at z (civil n)) (Some b) None
+told_same z n b a e same k = sym (rw (e, same) refl)
+
+pub told_apart : (z : TimeZone) (n : ℕ) (b a : Offset) → ambiguous_at z (civil n) ≡ Fold b a → int_eq b.seconds a.seconds ≡ false
+    → IsToldBy (ambiguous_at z (civil n)) (Some b) (Some a)
+told_apart z n b a e apart k = sym (rw (e, apart) refl)

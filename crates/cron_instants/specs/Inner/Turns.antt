@@ -1,0 +1,22 @@
+-- Civil seconds between the turns of a rule.
+use Rattle.std.specs.Prelude.{◌≡◌, ℕ, ◌⊎◌, ℤ, pos, ◌-ℤ◌, ◌≤ℤ◌, ◌<ℤ◌}
+use Rattle.jiff_core.specs.Timestamp.{nanos_of_seconds}
+use Rattle.jiff_tz.specs.declared.posix.TimeZone.{TimeZone}
+use Rattle.jiff_tz.specs.PosixRule.{ambiguous_at}
+use Rattle.cron_moments.specs.Civil.{civil}
+
+-- the first second that isn't before the moment, which is in nanoseconds
+abbrev pub IsFirstFrom : ℤ → ℤ → Type 0
+IsFirstFrom moment second = ((nanos_of_seconds second -ℤ pos 1_000_000_000) <ℤ moment) × (moment ≤ℤ nanos_of_seconds second)
+
+-- the turn doesn't lie among the seconds after the first one
+abbrev pub IsUnparted : ℤ → ℤ → ℤ → Type 0
+IsUnparted first end turn = (turn ≤ℤ first) ⊎ (end ≤ℤ turn)
+
+-- the second span lies in the first one
+abbrev pub IsNarrowed : ℤ → ℤ → ℤ → ℤ → Type 0
+IsNarrowed first end from to = (first ≤ℤ from) × (to ≤ℤ end)
+
+-- the rule tells of each of these civil seconds what it tells of the civil second c
+abbrev pub IsToldAlike : TimeZone → ℕ → ℤ → ℤ → Type 0
+IsToldAlike rule c first end = (k : ℕ) → first ≤ℤ pos k → pos k <ℤ end → ambiguous_at rule (civil k) ≡ ambiguous_at rule (civil c)

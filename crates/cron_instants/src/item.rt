@@ -1,0 +1,58 @@
+//! Which of two items is nearer among the instants.
+ghost use Rattle.std.specs.Prelude.{◌≡◌};
+ghost use Rattle.cron_moments.specs.Readings.{instant};
+ghost use Rattle.cron_instants.specs.Inner.Beyond.{is_nearer, nearer_of};
+ghost use Rattle.cron_instants.specs.Order as order;
+
+use cron_moments::moment::{Moment, civil_second};
+use cron_units::way::Way;
+
+/// The instant, in seconds: the clock is ahead of UTC by its offset.
+#[inline(always)]
+pub(crate) fn instant_of(item: &Moment) -> i64
+    ensures { result ≡ instant item.now }
+{
+    civil_second(item) as i64 - item.offset().seconds() as i64
+}
+
+// Whether an item is earlier than another: by instant, and where that is shared by civil second.
+#[inline(always)]
+fn is_earlier(item: &Moment, other: &Moment) -> bool
+    ensures { result ≡ order.is_earlier item.now other.now }
+{
+    let (instant, shared) = (instant_of(item), instant_of(other));
+    if instant == shared {
+        civil_second(item) < civil_second(other)
+    } else {
+        instant < shared
+    }
+}
+
+// Whether an item is reached before another, in this direction.
+#[inline(always)]
+fn is_nearer(way: Way, item: &Moment, other: &Moment) -> bool
+    ensures { result ≡ is_nearer way item.now other.now }
+{
+    match way {
+        Way::Ahead => is_earlier(item, other),
+        Way::Back => is_earlier(other, item),
+    }
+}
+
+/// The nearer of two items, in this direction.
+#[inline(always)]
+pub(crate) fn nearer(way: Way, best: &Option<Moment>, other: Option<Moment>) -> Option<Moment>
+    ensures { result ≡ nearer_of way best.now other }
+{
+    let Some(item) = *best else {
+        return other;
+    };
+    let Some(next) = other else {
+        return Some(item);
+    };
+    if is_nearer(way, &next, &item) {
+        Some(next)
+    } else {
+        Some(item)
+    }
+}

@@ -1,0 +1,10 @@
+//! The items of a timeline by their instants: the earliest after an instant, or later than an item, and
+//! the latest by an instant.
+#![tactic(auto)]
+
+pub mod instants;
+mod item;
+mod matching;
+mod rule;
+mod search;
+mod stretch;

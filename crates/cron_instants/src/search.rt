@@ -1,0 +1,208 @@
+//! The nearest item beyond a place among the instants.
+ghost use Rattle.std.specs.Prelude.{◌≡◌, ◌≤◌, ◌<◌, ℕ, IfSome, Some, pos, neg_ℤ};
+ghost use Rattle.jiff.specs.Words.{plain_zone};
+ghost use Rattle.jiff_core.specs.Calendar.{IsBetween};
+ghost use Rattle.cron_moments.specs.Civil.{seconds_in_range};
+ghost use Rattle.cron_instants.specs.Inner.Beyond.{IsBest, IsBeyond, IsEntered, IsGoneOn, IsMatchAt, IsMatchIn, IsNotPast, IsSought, IsStart, entry_of, left_to_pass};
+
+use crate::item::{instant_of, nearer};
+use crate::matching::nearest_match;
+use crate::stretch::{SECONDS, Stretch};
+use cron_moments::moment::{Moment, moment_numbered};
+use cron_units::fields::ScheduleFields;
+use cron_units::way::Way;
+use jiff::tz::{Offset, TimeZone};
+
+// No clock is further from UTC, in seconds.
+const FURTHEST: i64 = 93_599;
+
+/// A place among the instants: an instant in seconds, and a civil second among those that share it.
+#[derive(Clone, Copy)]
+pub(crate) struct Mark {
+    pub instant: i64,
+    pub second: u32,
+    pub ghost bounded: { IsBetween (neg_ℤ (pos 400_000_000_000)) (pos 400_000_000_000) instant },
+}
+
+// The civil second from which on an item can lie beyond the mark, if there is one.
+fn entrance(way: Way, mark: Mark) -> Option<u32>
+    ensures { IsEntered way mark.instant mark.second result }
+{
+    match way {
+        Way::Ahead => {
+            let from = mark.instant - FURTHEST;
+            if from >= SECONDS as i64 {
+                return None;
+            }
+            Some(from.max(0) as u32)
+        }
+        Way::Back => {
+            let from = mark.instant + FURTHEST;
+            if from < 0 {
+                return None;
+            }
+            Some(from.min(SECONDS as i64 - 1) as u32)
+        }
+    }
+}
+
+// From which civil second on those at an offset lie beyond the mark.
+#[inline(always)]
+fn entry(way: Way, mark: Mark, offset: Offset) -> i64
+    ensures { result ≡ entry_of way mark.instant mark.second offset.seconds }
+{
+    let shown = mark.instant + offset.seconds() as i64;
+    match way {
+        Way::Ahead => {
+            if (mark.second as i64) < shown {
+                shown
+            } else {
+                shown + 1
+            }
+        }
+        Way::Back => {
+            if shown < (mark.second as i64) {
+                shown
+            } else {
+                shown - 1
+            }
+        }
+    }
+}
+
+// Where a search of a stretch starts that goes on from a number, if it comes into the stretch.
+#[inline(always)]
+fn start_in(stretch: &Stretch, way: Way, from: i64) -> Option<i64>
+    requires { stretch.now.first < stretch.now.end }
+    ensures { IsStart way stretch.now.first stretch.now.end from result }
+{
+    match way {
+        Way::Ahead => {
+            if from >= stretch.end as i64 {
+                return None;
+            }
+            Some(from.max(stretch.first as i64))
+        }
+        Way::Back => {
+            if from < (stretch.first as i64) {
+                return None;
+            }
+            let last = stretch.end as i64 - 1;
+            if from < last { Some(from) } else { Some(last) }
+        }
+    }
+}
+
+// The nearest item of a stretch at one of its offsets.
+fn item_at(
+    fields: &ScheduleFields,
+    stretch: &Stretch,
+    way: Way,
+    mark: Mark,
+    offset: Offset,
+) -> Option<Moment>
+    requires some { stretch.now.first < stretch.now.end }
+    requires high { stretch.now.end ≤ seconds_in_range }
+    ensures { IsBest way (IsMatchAt way fields.now mark.instant mark.second stretch.now.first stretch.now.end offset) result }
+{
+    let Some(from) = start_in(stretch, way, entry(way, mark, offset)) else {
+        return None;
+    };
+    let Some(second) = nearest_match(fields, way, from) else {
+        return None;
+    };
+    if second < stretch.first {
+        return None;
+    }
+    if second >= stretch.end {
+        return None;
+    }
+    Some(moment_numbered(second, offset))
+}
+
+// The nearest item of a stretch.
+fn item_in(fields: &ScheduleFields, stretch: &Stretch, way: Way, mark: Mark) -> Option<Moment>
+    requires some { stretch.now.first < stretch.now.end }
+    requires high { stretch.now.end ≤ seconds_in_range }
+    ensures { IsBest way (IsMatchIn way fields.now mark.instant mark.second stretch.now) result }
+{
+    let Some(earlier) = stretch.earlier else {
+        return None;
+    };
+    let best = item_at(fields, stretch, way, mark, earlier);
+    let Some(later) = stretch.later else {
+        return best;
+    };
+    nearer(way, &best, item_at(fields, stretch, way, mark, later))
+}
+
+// From which civil second behind a stretch to go on, if a better item than the best so far can lie there.
+fn next_past(
+    fields: &ScheduleFields,
+    stretch: &Stretch,
+    way: Way,
+    best: &Option<Moment>,
+) -> Option<u32>
+    requires some { stretch.now.first < stretch.now.end }
+    requires high { stretch.now.end ≤ seconds_in_range }
+    requires best { IfSome best.now (λ b. IsNotPast way stretch.now.first stretch.now.end b.second) }
+    ensures { IsGoneOn way fields.now stretch.now.first stretch.now.end best.now result }
+{
+    let edge = match way {
+        Way::Ahead => {
+            if stretch.end >= SECONDS {
+                return None;
+            }
+            stretch.end
+        }
+        Way::Back => stretch.first.checked_sub(1)?,
+    };
+    let Some(item) = *best else {
+        return nearest_match(fields, way, edge as i64);
+    };
+    let gap = match way {
+        Way::Ahead => edge as i64 - instant_of(&item),
+        Way::Back => instant_of(&item) - edge as i64,
+    };
+    if gap >= FURTHEST {
+        return None;
+    }
+    nearest_match(fields, way, edge as i64)
+}
+
+// A stretch with this civil second is passed: the best so far becomes better by its nearest item, and
+// the answer is from where to go on.
+fn pass(
+    fields: &ScheduleFields,
+    zone: &TimeZone<'_>,
+    way: Way,
+    mark: Mark,
+    second: u32,
+    best: &mut Option<Moment>,
+) -> Option<u32>
+    requires { IsSought way fields.now (plain_zone zone.now) mark.instant mark.second (Some second) best.old }
+    ensures sought { IsSought way fields.now (plain_zone zone.now) mark.instant mark.second result best.new }
+    ensures less { left_to_pass way result < left_to_pass way (Some second) }
+{
+    let stretch = Stretch::at(zone, second);
+    let here = item_in(fields, &stretch, way, mark);
+    *best = nearer(way, best, here);
+    next_past(fields, &stretch, way, best)
+}
+
+/// The nearest item beyond a mark.
+pub(crate) fn nearest_item(
+    fields: &ScheduleFields,
+    zone: &TimeZone<'_>,
+    way: Way,
+    mark: Mark,
+) -> Option<Moment>
+    ensures { IsBest way (IsBeyond way fields.now (plain_zone zone.now) mark.instant mark.second) result }
+{
+    let mut best = None;
+    let mut next = entrance(way, mark);
+    while let Some(second) = next {
+        next = pass(fields, zone, way, mark, second, &mut best);
+    }
+    best
+}

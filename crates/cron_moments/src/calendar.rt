@@ -1,0 +1,201 @@
+//! Days of the range and their numbers, in closed form.
+//!
+//! Years and their months are counted from March, so that a leap day ends its year. Of the years of the
+//! range that 4 divides, 2100 alone has no leap day.
+ghost use Rattle.std.specs.Prelude.{◌≡◌, cond, nat_lt, ◌+◌, ◌*◌, ◌/◌, ◌<◌, ◌≤◌};
+ghost use Rattle.cron_moments.specs.Civil.{days_in_range};
+ghost use Rattle.cron_moments.specs.CivilDates.{date_numbered};
+ghost use Rattle.cron_moments.specs.Calendar.{day_number, first_month, length_of, months_end, rank, rank_of_date, weekday_number};
+
+use jiff_core::civil::days_in_month;
+use std::marker::Model;
+
+/// The number of January 1970.
+const FIRST_MONTH: u32 = 23_640;
+
+/// The number of March 1969, where the first year that reaches into the range begins.
+const FIRST_MARCH: u32 = 23_630;
+
+/// The days from its first day to 1970-01-01.
+const DAYS_FROM_FIRST_MARCH: u32 = 306;
+
+/// The number of March 2100, before which a leap day is lacking.
+const MARCH_2100: u32 = 25_202;
+
+/// The number of its first day.
+const DAYS_TO_MARCH_2100: u32 = 47_541;
+
+// The days of so many years from March 1969 on. The third of them ends in a leap day, and each fourth
+// after it.
+#[inline(always)]
+fn days_of_years(years: u32) -> u32
+    requires { years < 1000 }
+    ensures { result ≡ (1461 * years + 1) / 4 }
+{
+    (1461 * years + 1) / 4
+}
+
+// The days of so many months from March on.
+#[inline(always)]
+fn days_of_months(months: u32) -> u32
+    requires { months < 12 }
+    ensures { result ≡ (153 * months + 2) / 5 }
+{
+    (153 * months + 2) / 5
+}
+
+// The leap day that is lacking from a number on.
+#[inline(always)]
+fn lacking(number: u32, from: u32) -> u32
+    ensures value { result ≡ cond (nat_lt number from) 0 1 }
+    ensures bound { result ≤ 1 }
+{
+    if number < from { 0 } else { 1 }
+}
+
+/// The number of a day of a month, counted from 1970-01-01.
+#[inline(always)]
+fn number_of(month: u32, day: u32) -> u32
+    requires month { (first_month ≤ month) × (month < months_end) }
+    requires day { (1 ≤ day) × (day ≤ length_of month) }
+    ensures number { result ≡ day_number month day }
+    ensures bound { result < days_in_range }
+{
+    let months = month - FIRST_MARCH;
+    let first = days_of_years(months / 12) + days_of_months(months % 12);
+    first + day - lacking(month, MARCH_2100) - (DAYS_FROM_FIRST_MARCH + 1)
+}
+
+/// The month and the day of the month with this number.
+#[inline(always)]
+fn month_and_day(number: u32) -> (u32, u32)
+    requires { number < days_in_range }
+    ensures rank { rank result.0 result.1 ≡ rank_of_date (date_numbered number).0 }
+    ensures month { (first_month ≤ result.0) × (result.0 < months_end) }
+    ensures day { (1 ≤ result.1) × (result.1 ≤ 31) }
+{
+    let days = number + DAYS_FROM_FIRST_MARCH + lacking(number, DAYS_TO_MARCH_2100);
+    let years = (4 * days + 2) / 1461;
+    let rest = days - days_of_years(years);
+    let months = (5 * rest + 2) / 153;
+    (
+        FIRST_MARCH + 12 * years + months,
+        rest - days_of_months(months) + 1,
+    )
+}
+
+/// The day of the week of a day number, from 1 for Sunday: day 0 was a Thursday.
+#[inline(always)]
+pub fn weekday_of(number: u32) -> u32
+    requires { number < days_in_range }
+    ensures { result ≡ weekday_number (date_numbered number).0 }
+{
+    (number + 4) % 7 + 1
+}
+
+/// Each month has as many days.
+pub const SHORTEST: u32 = 28;
+
+/// The number of the last day of a month.
+#[inline(always)]
+pub fn length_of(month: u32) -> u32
+    requires { month < months_end }
+    ensures value { result ≡ length_of month }
+    ensures bound { (28 ≤ result) × (result ≤ 31) }
+{
+    days_in_month((month / 12) as i16, (month % 12 + 1) as u8) as u32
+}
+
+/// A month of the range with the number of its first day, which is made once for all its days.
+#[derive(Clone, Copy)]
+pub struct KnownMonth {
+    month: u32,
+    first: u32,
+}
+
+impl Model for KnownMonth {
+    ghost use Rattle.std.specs.Prelude.{◌≡◌, ◌<◌, ◌≤◌, ℕ};
+    ghost use Rattle.cron_moments.specs.Calendar.{day_number, first_month, months_end};
+
+    ghost Value = { ℕ };
+
+    ghost view = { λ m. m.month };
+
+    ghost inverse = { λ month. record { month = month; first = day_number month 1 } };
+
+    ghost invariant = { λ m. (first_month ≤ m.month) × (m.month < months_end) × (m.first ≡ day_number m.month 1) };
+}
+
+impl KnownMonth {
+    ghost use Rattle.std.specs.Prelude.{◌≡◌, ◌<◌, ◌≤◌, true, false};
+    ghost use Rattle.cron_moments.specs.Civil.{days_in_range};
+    ghost use Rattle.cron_moments.specs.CivilDates.{date_numbered};
+    ghost use Rattle.cron_moments.specs.Calendar.{day_number, first_month, length_of, months_end, rank, rank_of_date};
+
+    /// The month with this number.
+    #[inline(always)]
+    pub fn numbered(month: u32) -> KnownMonth
+        requires { (first_month ≤ month) × (month < months_end) }
+        ensures { result ≡ month }
+    {
+        let first = number_of(month, 1);
+        KnownMonth { month, first }
+    }
+
+    /// The first month of the range.
+    pub fn january_1970() -> KnownMonth
+        ensures { result ≡ first_month }
+    {
+        KnownMonth::numbered(FIRST_MONTH)
+    }
+
+    /// The month with this number: itself, if it is the one.
+    #[inline(always)]
+    pub fn or_numbered(self, month: u32) -> KnownMonth
+        requires { (first_month ≤ month) × (month < months_end) }
+        ensures { result ≡ month }
+    {
+        if self.month == month {
+            return self;
+        }
+        KnownMonth::numbered(month)
+    }
+
+    /// The number of a day of the month.
+    #[inline(always)]
+    pub fn number_of(self, day: u32) -> u32
+        requires { (1 ≤ day) × (day ≤ length_of self) }
+        ensures number { result ≡ day_number self day }
+        ensures bound { result < days_in_range }
+    {
+        self.first + day - 1
+    }
+
+    // Each month has the shortest one's days: its own length is seldom asked for.
+    #[inline(always)]
+    fn is_longer_than(self, days: u32) -> bool
+        ensures longer { result ≡ true → days < length_of self }
+        ensures covered { result ≡ false → length_of self ≤ days }
+    {
+        days < SHORTEST || days < length_of(self.month)
+    }
+
+    /// The month and the day of the month with this number. It costs little where it lies in
+    /// this month.
+    #[inline(always)]
+    pub fn month_and_day(self, number: u32) -> (u32, u32)
+        requires { number < days_in_range }
+        ensures rank { rank result.0 result.1 ≡ rank_of_date (date_numbered number).0 }
+        ensures month { (first_month ≤ result.0) × (result.0 < months_end) }
+        ensures day { (1 ≤ result.1) × (result.1 ≤ 31) }
+    {
+        if number < self.first {
+            return month_and_day(number);
+        }
+        let before = number - self.first;
+        if self.is_longer_than(before) {
+            return (self.month, before + 1);
+        }
+        month_and_day(number)
+    }
+}

@@ -1,0 +1,17 @@
+pub mod WayLemmas
+pub mod BlockLemmas
+pub mod CarryLemmas
+pub mod AskedLemmas
+pub mod TallyLemmas
+pub mod StandLemmas
+pub mod TimesLemmas
+pub mod DaySearchLemmas
+pub mod CountLemmas
+pub mod PassingLemmas
+pub mod SurveyLemmas
+pub mod SearchLemmas
+pub mod OwnDayLemmas
+pub mod DayLemmas
+pub mod LastDayLemmas
+pub mod TimeOfDayLemmas
+pub mod NearestTimeLemmas

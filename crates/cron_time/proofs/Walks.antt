@@ -1,0 +1,5 @@
+pub mod BoundLemmas
+pub mod StepLemmas
+pub mod RestLemmas
+pub mod FixedLemmas
+pub mod ResumeLemmas

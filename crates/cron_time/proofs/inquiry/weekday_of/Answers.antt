@@ -1,7 +1,0 @@
-use Rattle.cron_time.specs.CivilDates.{date_numbered}
-use Rattle.cron_time.proofs.DateLemmas.{epoch_at}
-use Rattle.cron_time.proofs.DayLemmas.{weekday_by_number}
-use Rattle.cron_time.proofs.inquiry.weekday_of.Goals as goal
-
-pub returns : goal.returns
-returns c = weekday_by_number (date_numbered c.args.number).0 c.args.number (epoch_at c.args.number c.requires)

@@ -1,8 +1,0 @@
-use Rattle.std.proofs.Common.{ap}
-use Rattle.cron_time.proofs.onward.days_past.Goals as goal
-
-pub search_days_past-found-requires-clause-matching : goal.search_days_past-found-requires-clause-matching
-search_days_past-found-requires-clause-matching c = rw (ap (λ q. q.sets) c.knowing-inquiry.ensures) c.requires.matching
-
-pub returns : goal.returns
-returns c = rw (ap (λ q. q.sets) c.knowing-inquiry.ensures, ap (λ q. q.zone) c.knowing-inquiry.ensures) at c.search_days_past-found.ensures

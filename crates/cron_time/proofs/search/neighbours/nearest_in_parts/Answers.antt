@@ -1,0 +1,83 @@
+use Rattle.std.proofs.Common.{◌≡◌, ◌/◌, arith}
+use Rattle.cron_units.specs.Sets.{AreSets}
+use Rattle.cron_time.specs.Search.Inner.Inquired.{outermost}
+use Rattle.cron_time.proofs.Searches.CarryLemmas.{Carried, both, both_parts, carry_none, carry_first, carry_past}
+use Rattle.cron_time.proofs.Searches.AskedLemmas.{one_asked, asked_first, asked_past, outermost_finds, outermost_parts, start_outermost}
+use Rattle.cron_time.proofs.search.neighbours.nearest_in_parts.Goals as goal
+
+pub returns-in_err-outer-clause-nearest : goal.returns-in_err-outer-clause-nearest
+returns-in_err-outer-clause-nearest g c =
+    let s = c.args.inquiry.now.sets in
+    let w = g.I.Neighbours.LIMIT in
+    let o = g.O.Neighbours.passes s in
+    let i = g.I.Neighbours.passes s in
+    rw c.from_residual.ensures (carry_none c.args.way w o i (both w o i) c.args.from (both_parts w o i) c.requires.positive
+    (rw c.LIMIT-width.ensures at c.in_err-outer.ensures.nearest))
+
+pub returns-in_err-outer-clause-outermost : goal.returns-in_err-outer-clause-outermost
+returns-in_err-outer-clause-outermost g c = λ sets at.
+    let one = g.met.O.Neighbours.filled c.args.inquiry.now.sets sets in
+    let parts = outermost_parts c.args.way g.O.Neighbours.LIMIT g.I.Neighbours.LIMIT (omega (arith, one.1)) c.requires.positive in
+    let first : c.args.from / c.LIMIT-width.result ≡ outermost c.args.way g.O.Neighbours.LIMIT = rw (c.LIMIT-width.ensures, at) parts.0 in
+    outermost_finds c.args.way g.O.Neighbours.LIMIT (g.O.Neighbours.passes c.args.inquiry.now.sets) one (rw first at c.in_err-outer.ensures.nearest)
+
+pub returns-in-Some-clause-nearest : goal.returns-in-Some-clause-nearest
+returns-in-Some-clause-nearest g c =
+    let s = c.args.inquiry.now.sets in
+    let w = g.I.Neighbours.LIMIT in
+    let o = g.O.Neighbours.passes s in
+    let i = g.I.Neighbours.passes s in
+    let first = rw c.LIMIT-width.ensures at c.in_ok-outer.ensures.nearest in
+    let enters = rw c.LIMIT-width.ensures at c.entry-start.ensures.enters in
+    let carried : Carried c.args.way w o i (both w o i) c.args.from c.in_ok-outer.outer c.entry-start.result = record {
+      split = both_parts w o i;
+      positive = c.requires.positive;
+      first = first;
+      enters = enters;
+    } in
+    let inner = rw c.nearest.ensures.same.sets at c.in-Some.ensures.nearest in
+    rw c.LIMIT-width.ensures (carry_first c.args.way w o i (both w o i) c.args.from c.in_ok-outer.outer c.entry-start.result c.in-Some.inner carried
+    c.in-Some.ensures.bound.1 inner)
+
+pub returns-in-Some-clause-questions : goal.returns-in-Some-clause-questions
+returns-in-Some-clause-questions g c = λ sets.
+    let later : AreSets c.nearest.new.inquiry.sets = rw c.nearest.ensures.same.sets sets in
+    asked_first _ _ _ _ _ _ (one_asked _ _ _ _ c.requires.unit (c.nearest.ensures.questions sets)) (c.in-Some.ensures.questions later)
+
+pub returns-in-Some-clause-outermost : goal.returns-in-Some-clause-outermost
+returns-in-Some-clause-outermost g c = λ sets at.
+    let later : AreSets c.nearest.new.inquiry.sets = rw c.nearest.ensures.same.sets sets in
+    let one = g.met.O.Neighbours.filled c.args.inquiry.now.sets sets in
+    let start = start_outermost c.args.way g.O.Neighbours.LIMIT g.I.Neighbours.LIMIT c.args.from c.entry-start.result (omega (arith, one.1))
+    c.requires.positive at (rw c.LIMIT-width.ensures at c.entry-start.ensures.value) in
+    omega (arith, one_asked _ _ _ _ c.requires.unit (c.nearest.ensures.questions sets), c.nearest-2.ensures.outermost later start)
+
+pub returns-clause-nearest : goal.returns-clause-nearest
+returns-clause-nearest g c =
+    let s = c.args.inquiry.now.sets in
+    let w = g.I.Neighbours.LIMIT in
+    let o = g.O.Neighbours.passes s in
+    let i = g.I.Neighbours.passes s in
+    let first = rw c.LIMIT-width.ensures at c.in_ok-outer.ensures.nearest in
+    let enters = rw c.LIMIT-width.ensures at c.entry-start.ensures.enters in
+    let carried : Carried c.args.way w o i (both w o i) c.args.from c.in_ok-outer.outer c.entry-start.result =
+    record { split = both_parts w o i; positive = c.requires.positive; first = first; enters = enters } in
+    let none = rw c.nearest.ensures.same.sets at c.in_default.ensures.nearest in
+    let past = rw (c.nearest-2.ensures.same.sets, c.nearest.ensures.same.sets) at c.nearest_past_block.ensures.nearest in
+    carry_past c.args.way w o i (both w o i) c.args.from c.in_ok-outer.outer c.entry-start.result _ carried none past
+
+pub returns-clause-questions : goal.returns-clause-questions
+returns-clause-questions g c = λ sets.
+    let later : AreSets c.nearest.new.inquiry.sets = rw c.nearest.ensures.same.sets sets in
+    let last : AreSets c.nearest-2.new.inquiry.sets = rw c.nearest-2.ensures.same.sets later in
+    asked_past _ _ _ _ _ _ (one_asked _ _ _ _ c.requires.unit (c.nearest.ensures.questions sets))
+    (c.in_default.ensures.questions later) (c.nearest_past_block.ensures.questions last)
+
+pub returns-clause-outermost : goal.returns-clause-outermost
+returns-clause-outermost g c = λ sets at.
+    let later : AreSets c.nearest.new.inquiry.sets = rw c.nearest.ensures.same.sets sets in
+    let one = g.met.O.Neighbours.filled c.args.inquiry.now.sets sets in
+    let start = start_outermost c.args.way g.O.Neighbours.LIMIT g.I.Neighbours.LIMIT c.args.from c.entry-start.result (omega (arith, one.1))
+    c.requires.positive at (rw c.LIMIT-width.ensures at c.entry-start.ensures.value) in
+    let full = g.met.I.Neighbours.filled c.nearest.new.inquiry.sets later in
+    outermost_finds c.args.way g.I.Neighbours.LIMIT (g.I.Neighbours.passes c.nearest.new.inquiry.sets) full (rw start at c.in_default.ensures.nearest)

@@ -1,8 +1,0 @@
-use Rattle.jiff.specs.Words.{plain_zone}
-use Rattle.cron_time.proofs.StepLemmas.{reached}
-use Rattle.cron_time.proofs.step.past_item.Goals as goal
-
-pub returns : goal.returns
-returns c =
-    let found = rw c.second.ensures at c.search_past-found.ensures in
-    rw c.stop.ensures (reached c.args.way c.args.fields.now (plain_zone c.args.zone.now) _ c.search_past-found.result found)

@@ -1,0 +1,11 @@
+use Rattle.std.proofs.Common.{ap, refl}
+use Rattle.jiff.specs.Words.{plain_zone}
+use Rattle.cron_time.proofs.Walks.RestLemmas.{nowhere, start_nowhere}
+use Rattle.cron_time.proofs.walk.step.from_start.Goals as goal
+
+pub returns-then-not-some_month_has_a_day : goal.returns-then-not-some_month_has_a_day
+returns-then-not-some_month_has_a_day c =
+    let s = c.args.fields.now in
+    let z = plain_zone c.args.zone.now in
+    let none = rw (ap (λ q. q.sets) c.new-inquiry.ensures) at (c.if-not-some_month_has_a_day.ensures.none refl) in
+    rw c.stop.ensures (start_nowhere c.args.way s z _ (nowhere s z none))

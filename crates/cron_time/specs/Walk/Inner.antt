@@ -1,0 +1,3 @@
+pub mod Stand
+pub mod Placed
+pub mod Stop

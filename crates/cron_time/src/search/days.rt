@@ -1,0 +1,220 @@
+//! The nearest day whose year, month and day of the month lie in the sets.
+ghost use Rattle.std.specs.Prelude.{◌≡◌, ℕ, ◌+◌, ◌*◌, ◌/◌, ◌%◌, ◌^◌, ◌<◌, ◌≤◌, ◌||◌, ◌==◌, pos, Bool, IfSome, Option, option_map, true, false};
+ghost use Rattle.cron_units.specs.Units.{contains};
+ghost use Rattle.cron_units.specs.Nearest.{IsNearest};
+ghost use Rattle.cron_moments.specs.Civil.{seconds_in_range};
+ghost use Rattle.cron_moments.specs.CivilDates.{date_numbered};
+ghost use Rattle.cron_time.specs.Search.Inner.Days.{day_rank, has_number, IsInRange, longest};
+ghost use Rattle.cron_time.specs.Search.Inner.Inquired.{LooksAlone};
+ghost use Rattle.cron_time.specs.Search.Inner.Numbers.{beyond, matches_day, matches_month, matches_rank};
+ghost use Rattle.cron_moments.specs.Calendar.{length_of, rank_of_date, first_month, months_end};
+
+use crate::search::inquiry::{Inquiry, Unit};
+use crate::search::neighbours::{
+    Months, MonthsOfYear, Neighbours, Years, nearest_past, past_in_parts,
+};
+use crate::search::ways::entry;
+use cron_moments::calendar::{KnownMonth, SHORTEST, length_of};
+use cron_units::way::Way;
+use jiff_core::civil::days_in_month;
+
+/// A day of a month. Months are numbered from January of the year 0 on.
+#[derive(Clone, Copy)]
+pub(crate) struct Day {
+    pub(crate) month: u32,
+    pub(crate) day: u32,
+}
+
+/// The day of a civil second. It is read, by the help of a month, and neither made from the sets nor
+/// tested.
+#[inline(always)]
+pub(crate) fn day_with(known: KnownMonth, second: u32) -> Day
+    requires { second < seconds_in_range }
+    ensures rank { day_rank result ≡ rank_of_date (date_numbered (second / 86_400)).0 }
+    ensures range { IsInRange result }
+{
+    let (month, day) = known.month_and_day(second / 86_400);
+    Day { month, day }
+}
+
+// The length that a month of the year has in a leap year.
+fn longest_month(month: u32) -> u32
+    requires { (1 ≤ month) × (month ≤ 12) }
+    ensures { result ≡ longest month }
+{
+    days_in_month(2000, month as u8) as u32
+}
+
+/// Whether some month of the set has the least day of the set in some year. Each month has a last day.
+pub(crate) fn some_month_has_a_day(inquiry: &mut Inquiry<'_>) -> bool
+    ensures none { result ≡ false → (p : ℕ) → matches_rank inquiry.old.sets p ≡ false }
+    ensures same { LooksAlone inquiry.old inquiry.new }
+{
+    if inquiry.takes_last_day() {
+        return true;
+    }
+    let Some(least) = inquiry.member(Unit::Day, Way::Ahead, 0) else {
+        return false;
+    };
+    if least <= 29 {
+        return true;
+    }
+    let mut next = inquiry.member(Unit::Month, Way::Ahead, 0);
+    while let Some(month) = next {
+        if least <= longest_month(month) {
+            return true;
+        }
+        next = inquiry.member(Unit::Month, Way::Ahead, month + 1);
+    }
+    false
+}
+
+// The nearest one past a month that lies in the sets: first in its own year, which isn't asked for.
+#[inline(always)]
+fn month_past(inquiry: &mut Inquiry<'_>, way: Way, month: u32) -> Option<u32>
+    requires range { (first_month ≤ month) × (month < months_end) }
+    requires matching { matches_month inquiry.old.sets month ≡ true }
+    ensures nearest { IsNearest way (matches_month inquiry.old.sets) (beyond way month) result }
+    ensures bound { IfSome result (λ n. (first_month ≤ n) × (n < months_end)) }
+    ensures same { LooksAlone inquiry.old inquiry.new }
+{
+    let rest = nearest_past::<MonthsOfYear>(inquiry, way, month % 12);
+    past_in_parts::<Years, MonthsOfYear>(inquiry, way, month, rest)
+}
+
+// The nearest day of a month whose number lies in the set. The length of the month matters for the
+// last numbers alone.
+#[inline(always)]
+fn numbered_day(inquiry: &mut Inquiry<'_>, way: Way, month: u32, from: u32) -> Option<u32>
+    requires { month < months_end }
+    ensures nearest { IsNearest way (has_number inquiry.old.sets.days_of_month.ordinals (length_of month)) (pos from) result }
+    ensures bound { IfSome result (λ n. (1 ≤ n) × (n ≤ length_of month)) }
+    ensures same { LooksAlone inquiry.old inquiry.new }
+{
+    let day = inquiry.member(Unit::Day, way, from)?;
+    if day <= SHORTEST {
+        return Some(day);
+    }
+    let last = length_of(month);
+    if day <= last {
+        return Some(day);
+    }
+    match way {
+        Way::Ahead => None,
+        Way::Back => inquiry.member(Unit::Day, way, last),
+    }
+}
+
+// The nearest day of a month of this length, of the nearest numbered one and the last one.
+#[inline(always)]
+fn with_last_day(way: Way, last: u32, from: u32, numbered: Option<u32>) -> Option<u32>
+    requires last { 1 ≤ last }
+    requires numbered { IfSome numbered (λ n. (1 ≤ n) × (n ≤ last)) }
+    ensures nearest { (test : ℕ → Bool) → ((day : ℕ) → last < day → test day ≡ false) → IsNearest way test (pos from) numbered
+        → IsNearest way (λ day. test day || day == last) (pos from) result }
+    ensures bound { IfSome result (λ n. (1 ≤ n) × (n ≤ last)) }
+{
+    match way {
+        Way::Ahead => match numbered {
+            Some(day) => Some(day),
+            None if from > last => None,
+            None => Some(last),
+        },
+        Way::Back if from < last => numbered,
+        Way::Back => Some(last),
+    }
+}
+
+// The nearest day of the month that lies in its set.
+#[inline(always)]
+fn day_of_month(inquiry: &mut Inquiry<'_>, way: Way, month: u32, from: u32) -> Option<u32>
+    requires { month < months_end }
+    ensures nearest { IsNearest way (matches_day inquiry.old.sets month) (pos from) result }
+    ensures bound { IfSome result (λ n. (1 ≤ n) × (n ≤ 31)) }
+    ensures same { LooksAlone inquiry.old inquiry.new }
+{
+    let numbered = numbered_day(inquiry, way, month, from);
+    if inquiry.takes_last_day() {
+        return with_last_day(way, length_of(month), from, numbered);
+    }
+    numbered
+}
+
+// The nearest day from one on, of the months from the first one that lies in the sets.
+#[inline(always)]
+fn nearest_in_months(
+    inquiry: &mut Inquiry<'_>,
+    way: Way,
+    from: Day,
+    first: Option<u32>,
+) -> Option<Day>
+    requires day { from.day < 100 }
+    requires first { IsNearest way (matches_month inquiry.old.sets) (pos from.month) first }
+    requires bound { IfSome first (λ n. (first_month ≤ n) × (n < months_end)) }
+    ensures nearest { IsNearest way
+        (matches_rank inquiry.old.sets)
+        (pos (day_rank from))
+        (option_map day_rank result) }
+    ensures range { IfSome result IsInRange }
+    ensures same { LooksAlone inquiry.old inquiry.new }
+{
+    let mut next = first;
+    while let Some(month) = next {
+        let start = entry(way, 100, from.month, from.day, month);
+        if let Some(day) = day_of_month(inquiry, way, month, start) {
+            return Some(Day { month, day });
+        }
+        next = month_past(inquiry, way, month);
+    }
+    None
+}
+
+/// The nearest day whose year, month and day of the month lie in their sets.
+pub(crate) fn nearest_day(inquiry: &mut Inquiry<'_>, way: Way, from: Day) -> Option<Day>
+    requires { IsInRange from }
+    ensures nearest { IsNearest way
+        (matches_rank inquiry.old.sets)
+        (pos (day_rank from))
+        (option_map day_rank result) }
+    ensures range { IfSome result IsInRange }
+    ensures same { LooksAlone inquiry.old inquiry.new }
+{
+    let first = Months::nearest(inquiry, way, from.month);
+    nearest_in_months(inquiry, way, from, first)
+}
+
+// The rank past that of a day.
+#[inline(always)]
+fn rank_past(way: Way, day: Day) -> Day
+    requires { IsInRange day }
+    ensures rank { pos (day_rank result) ≡ beyond way (day_rank day) }
+    ensures bound { result.day < 100 }
+    ensures month { result.month ≡ day.month }
+{
+    let Day { month, day } = day;
+    match way {
+        Way::Ahead => Day {
+            month,
+            day: day + 1,
+        },
+        Way::Back => Day {
+            month,
+            day: day - 1,
+        },
+    }
+}
+
+/// The nearest one past a day whose year and month lie in their sets: they aren't asked for.
+#[inline(always)]
+pub(crate) fn day_past(inquiry: &mut Inquiry<'_>, way: Way, day: Day) -> Option<Day>
+    requires range { IsInRange day }
+    requires matching { matches_month inquiry.old.sets day.month ≡ true }
+    ensures nearest { IsNearest way
+        (matches_rank inquiry.old.sets)
+        (beyond way (day_rank day))
+        (option_map day_rank result) }
+    ensures range { IfSome result IsInRange }
+    ensures same { LooksAlone inquiry.old inquiry.new }
+{
+    nearest_in_months(inquiry, way, rank_past(way, day), Some(day.month))
+}

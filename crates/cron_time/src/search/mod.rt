@@ -1,0 +1,232 @@
+//! The nearest civil second that stands on a timeline, field by field.
+ghost use Rattle.std.specs.Prelude.{◌≡◌, ℕ, ◌+◌, ◌/◌, ◌%◌, ◌^◌, ◌<◌, pos, true, IfSome, MatchOption, option_map};
+ghost use Rattle.jiff.specs.Words.{plain_zone};
+ghost use Rattle.cron_units.specs.Nearest.{LiesFrom, IsNearest};
+ghost use Rattle.cron_moments.specs.Civil.{days_in_range, seconds_in_range};
+ghost use Rattle.cron_moments.specs.CivilDates.{date_numbered};
+ghost use Rattle.cron_time.specs.Search.Counts.{conversions, days_of};
+ghost use Rattle.cron_moments.specs.Found.{found_items, second_of};
+ghost use Rattle.cron_time.specs.Search.Inner.DaySearch.{candidate_day, FindsInDay, Finds, IsAskedIn, Searches, time_of};
+ghost use Rattle.cron_time.specs.Search.Inner.Days.{number_of, day_rank, IsCandidate, IsInRange};
+ghost use Rattle.cron_time.specs.Search.Inner.Inquired.{IsSame};
+ghost use Rattle.cron_time.specs.Search.Inner.Numbers.{matches_rank, matches_second, way_of};
+ghost use Rattle.cron_time.specs.Search.Inner.Starts.{LiesOutside, Starts};
+ghost use Rattle.cron_time.specs.Search.Inner.Tally.{Adds, IsPassedTo};
+ghost use Rattle.cron_time.specs.Matches.{matches_date};
+ghost use Rattle.cron_time.specs.Search.{IsFound};
+
+pub(crate) mod days;
+pub mod found;
+pub(crate) mod inquiry;
+mod neighbours;
+pub(crate) mod onward;
+pub mod survey;
+pub mod times;
+mod ways;
+
+use crate::search::days::{Day, day_past, day_with, nearest_day, some_month_has_a_day};
+use crate::search::found::Search;
+use crate::search::inquiry::Inquiry;
+use crate::search::neighbours::{Neighbours, TimesOfDay, time_past};
+use crate::search::ways::entry;
+use cron_moments::civil::SECONDS;
+use cron_moments::readings::Found;
+use cron_units::fields::ScheduleFields;
+use cron_units::way::Way;
+use jiff::tz::TimeZone;
+
+pub(crate) const SECONDS_PER_DAY: u32 = 86_400;
+
+/// A day whose date matches: its times of day are gone through from the first one on, until one has a
+/// reading. The first one is the nearest from `from` on.
+#[inline(always)]
+pub(crate) fn search_times(
+    inquiry: &mut Inquiry<'_>,
+    way: Way,
+    day: u32,
+    from: u32,
+    first: Option<u32>,
+) -> Option<Found>
+    requires in_range { day < days_in_range }
+    requires first { IsNearest way (matches_second inquiry.old.sets) (pos from) first }
+    requires bound { IfSome first (λ n. n < 86_400) }
+    requires matching { matches_date inquiry.old.sets (date_numbered day).0 ≡ true }
+    requires room { inquiry.old.conversions < 2 ^ 62 }
+    ensures found { FindsInDay way
+        inquiry.old.sets
+        inquiry.old.zone
+        day
+        from
+        (option_map found_items result) }
+    ensures same { IsSame inquiry.old inquiry.new }
+    ensures days { inquiry.new.days ≡ inquiry.old.days }
+    ensures conversions { Adds
+        86_400
+        (IsPassedTo way (matches_second inquiry.old.sets) (pos from) (time_of result))
+        inquiry.old.conversions
+        inquiry.new.conversions }
+{
+    let mut next = first;
+    while let Some(time) = next {
+        let found = inquiry.readings(day * SECONDS_PER_DAY + time);
+        if found.is_some() {
+            return found;
+        }
+        next = time_past(inquiry, way, time);
+    }
+    None
+}
+
+// A candidate: its date is made, and if its weekday lies in its set, its times of day are gone
+// through from the start on.
+#[inline(always)]
+fn search_day(inquiry: &mut Inquiry<'_>, way: Way, start: u32, day: Day) -> Option<Found>
+    requires range { IsInRange day }
+    requires candidate { matches_rank inquiry.old.sets (day_rank day) ≡ true }
+    requires lies { LiesFrom way (pos (start / 86_400)) (number_of day) }
+    requires days_room { inquiry.old.days < 2 ^ 62 }
+    requires room { inquiry.old.conversions < 2 ^ 62 }
+    ensures found { Finds way
+        inquiry.old.sets
+        inquiry.old.zone
+        (pos start)
+        (number_of day)
+        (option_map found_items result) }
+    ensures same { IsSame inquiry.old inquiry.new }
+    ensures days { inquiry.new.days ≡ inquiry.old.days + 1 }
+    ensures conversions { Adds
+        seconds_in_range
+        (IsAskedIn way inquiry.old.sets (pos start) (number_of day) (second_of result))
+        inquiry.old.conversions
+        inquiry.new.conversions }
+{
+    let number = inquiry.matching_day(day.month, day.day)?;
+    let from = entry(
+        way,
+        SECONDS_PER_DAY,
+        start / SECONDS_PER_DAY,
+        start % SECONDS_PER_DAY,
+        number,
+    );
+    let first = TimesOfDay::nearest(inquiry, way, from);
+    search_times(inquiry, way, number, from, first)
+}
+
+/// The candidates from one on, until the times of one of them find an answer. The first one is the
+/// nearest from the start's day on. `BACK` says the way once more, so that each has code of its own.
+pub(crate) fn search_candidates<const BACK: bool>(
+    inquiry: &mut Inquiry<'_>,
+    way: Way,
+    start: u32,
+    first: Option<Day>,
+) -> Option<Found>
+    requires tied { way ≡ way_of BACK }
+    requires start { start < seconds_in_range }
+    requires first { IsNearest way
+        (candidate_day inquiry.old.sets)
+        (pos (start / 86_400))
+        (option_map number_of first) }
+    requires passes { IfSome first (IsCandidate inquiry.old.sets) }
+    requires days_room { inquiry.old.days < 2 ^ 60 }
+    requires room { inquiry.old.conversions < 2 ^ 60 }
+    ensures { Searches way start result inquiry.old inquiry.new }
+{
+    let mut next = first;
+    while let Some(day) = next {
+        let found = search_day(inquiry, way, start, day);
+        if found.is_some() {
+            return found;
+        }
+        next = day_past(inquiry, way, day);
+    }
+    None
+}
+
+// The candidates from the start's day on. The first one is looked for if a month has one.
+#[inline(always)]
+fn search_days<const BACK: bool>(inquiry: &mut Inquiry<'_>, way: Way, start: u32) -> Option<Found>
+    requires tied { way ≡ way_of BACK }
+    requires start { start < seconds_in_range }
+    requires days_room { inquiry.old.days < 2 ^ 60 }
+    requires room { inquiry.old.conversions < 2 ^ 60 }
+    ensures { Searches way start result inquiry.old inquiry.new }
+{
+    if !some_month_has_a_day(inquiry) {
+        return None;
+    }
+    let first = nearest_day(inquiry, way, day_with(inquiry.month(), start));
+    search_candidates::<BACK>(inquiry, way, start, first)
+}
+
+// Each direction has code of its own.
+fn search_days_either_way(inquiry: &mut Inquiry<'_>, way: Way, start: u32) -> Option<Found>
+    requires start { start < seconds_in_range }
+    requires days_room { inquiry.old.days < 2 ^ 60 }
+    requires room { inquiry.old.conversions < 2 ^ 60 }
+    ensures { Searches way start result inquiry.old inquiry.new }
+{
+    match way {
+        Way::Ahead => search_days::<false>(inquiry, Way::Ahead, start),
+        Way::Back => search_days::<true>(inquiry, Way::Back, start),
+    }
+}
+
+/// The civil second of the range that a search from a number starts at.
+pub(crate) fn start_of(way: Way, from: i64) -> Option<u32>
+    ensures { MatchOption result (LiesOutside way from) (Starts way from) }
+{
+    match way {
+        Way::Ahead => {
+            if from >= SECONDS {
+                return None;
+            }
+            Some(from.max(0) as u32)
+        }
+        Way::Back => {
+            if from < 0 {
+                return None;
+            }
+            Some(from.min(SECONDS - 1) as u32)
+        }
+    }
+}
+
+/// The nearest civil second from a number on that stands on the timeline, with its readings.
+pub(crate) fn search_from(inquiry: &mut Inquiry<'_>, way: Way, from: i64) -> Option<Found>
+    requires days_room { inquiry.old.days < 2 ^ 60 }
+    requires room { inquiry.old.conversions < 2 ^ 60 }
+    ensures found { IsFound way
+        inquiry.old.sets
+        inquiry.old.zone
+        from
+        (option_map found_items result) }
+    ensures same { IsSame inquiry.old inquiry.new }
+    ensures days { inquiry.new.days
+        ≡ inquiry.old.days + days_of way inquiry.old.sets from (second_of result) }
+    ensures conversions { inquiry.new.conversions
+        ≡ inquiry.old.conversions
+        + conversions way inquiry.old.sets inquiry.old.zone from (second_of result) }
+{
+    let start = start_of(way, from)?;
+    search_days_either_way(inquiry, way, start)
+}
+
+/// A search from a number in a new inquiry, with the numbers of dates and of questions to the zone that it took.
+pub fn search(fields: &ScheduleFields, zone: &TimeZone<'_>, way: Way, from: i64) -> Search
+    ensures found { IsFound way
+        fields.now
+        (plain_zone zone.now)
+        from
+        (option_map found_items result.found) }
+    ensures days { result.days ≡ days_of way fields.now from (second_of result.found) }
+    ensures conversions { result.conversions
+        ≡ conversions way fields.now (plain_zone zone.now) from (second_of result.found) }
+{
+    let mut inquiry = Inquiry::new(fields, zone);
+    let found = search_from(&mut inquiry, way, from);
+    Search {
+        found,
+        days: inquiry.days() as u32,
+        conversions: inquiry.conversions(),
+    }
+}

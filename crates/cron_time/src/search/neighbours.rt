@@ -1,0 +1,371 @@
+//! The nearest number of one unit, or of some units of which each carries into the next.
+ghost use Rattle.std.specs.Prelude.{◌≡◌, ℕ, ◌+◌, ◌*◌, ◌/◌, ◌%◌, ◌^◌, ◌<◌, ◌≤◌, ◌&&◌, Bool, true, pos, IfSome};
+ghost use Rattle.cron_units.specs.Nearest.{IsNearest};
+ghost use Rattle.cron_units.specs.Sets.{Sets, AreSets};
+ghost use Rattle.cron_units.specs.Units.{contains};
+ghost use Rattle.cron_time.specs.Search.Inner.Inquired.{Inquired, LooksAlone, Asks, AsksFor, AsksPast, outermost};
+ghost use Rattle.cron_time.specs.Search.Inner.Numbers.{beyond, beyond_block, matches_month, matches_month_of_year, matches_rest, matches_second};
+ghost use Rattle.cron_moments.specs.Calendar.{first_month, months_end};
+
+use crate::search::inquiry::{Inquiry, Unit};
+use crate::search::ways::{entry, extreme, past};
+use cron_units::way::Way;
+
+/// The end of the months of the range, counted from January of the year 0.
+const MONTHS_END: u32 = 2101 * 12;
+
+/// Numbers of which the nearest one that lies in the sets can be asked for.
+pub(crate) trait Neighbours {
+    /// Which numbers lie in the sets.
+    ghost passes: { Sets → ℕ → Bool };
+
+    /// How many units they are made of.
+    ghost parts: { ℕ };
+
+    /// All that lie in the sets are from this one on, and below the limit.
+    ghost least: { ℕ };
+
+    ghost LIMIT: { ℕ };
+
+    const LIMIT: u32;
+
+    /// The nearest one from a number on.
+    fn nearest(inquiry: &mut Inquiry<'_>, way: Way, from: u32) -> Option<u32>
+        requires { from + 1 < 2 ^ 32 }
+        ensures nearest { IsNearest way (passes inquiry.old.sets) (pos from) result }
+        ensures bound { IfSome result (λ n. (least ≤ n) × (n < LIMIT)) }
+        ensures same { LooksAlone inquiry.old inquiry.new }
+        ensures questions { AreSets inquiry.old.sets
+            → AsksFor parts result inquiry.old.questions inquiry.new.questions }
+        ensures outermost { AreSets inquiry.old.sets
+            → from ≡ outermost way LIMIT
+            → Asks parts inquiry.old.questions inquiry.new.questions };
+
+    /// Sets that were read have such a number.
+    ghost filled: { (s : Sets) → AreSets s → (n : ℕ) × (n < LIMIT) × (passes s n ≡ true) };
+}
+
+/// The nearest number past the block of an outer number, in its parts.
+#[inline(always)]
+fn nearest_past_block<O: Neighbours, I: Neighbours>(
+    inquiry: &mut Inquiry<'_>,
+    way: Way,
+    outer: u32,
+) -> Option<u32>
+    requires unit { O.parts ≡ 1 }
+    requires positive { 0 < I.LIMIT }
+    requires fits { (O.LIMIT + 1) * I.LIMIT < 2 ^ 32 }
+    requires outer { outer < O.LIMIT }
+    ensures nearest { IsNearest way
+        (λ n. O.passes inquiry.old.sets (n / I.LIMIT) && I.passes inquiry.old.sets (n % I.LIMIT))
+        (beyond_block way I.LIMIT outer)
+        result }
+    ensures bound { IfSome result (λ n. (O.least * I.LIMIT ≤ n) × (n < O.LIMIT * I.LIMIT)) }
+    ensures same { LooksAlone inquiry.old inquiry.new }
+    ensures questions { AreSets inquiry.old.sets
+        → AsksPast I.parts result inquiry.old.questions inquiry.new.questions }
+{
+    let width = I::LIMIT;
+    let next = O::nearest(inquiry, way, past(way, outer)?)?;
+    let inner = I::nearest(inquiry, way, extreme(way, width))?;
+    Some(next * width + inner)
+}
+
+/// The nearest number whose quotient by the limit of the inner numbers is one of the outer unit, and
+/// whose rest is one of the inner numbers.
+#[inline(always)]
+fn nearest_in_parts<O: Neighbours, I: Neighbours>(
+    inquiry: &mut Inquiry<'_>,
+    way: Way,
+    from: u32,
+) -> Option<u32>
+    requires unit { O.parts ≡ 1 }
+    requires positive { 0 < I.LIMIT }
+    requires fits { (O.LIMIT + 1) * I.LIMIT < 2 ^ 32 }
+    requires from { from + 1 < 2 ^ 32 }
+    ensures nearest { IsNearest way
+        (λ n. O.passes inquiry.old.sets (n / I.LIMIT) && I.passes inquiry.old.sets (n % I.LIMIT))
+        (pos from)
+        result }
+    ensures bound { IfSome result (λ n. (O.least * I.LIMIT ≤ n) × (n < O.LIMIT * I.LIMIT)) }
+    ensures same { LooksAlone inquiry.old inquiry.new }
+    ensures questions { AreSets inquiry.old.sets
+        → AsksFor (I.parts + 1) result inquiry.old.questions inquiry.new.questions }
+    ensures outermost { AreSets inquiry.old.sets
+        → from ≡ outermost way (O.LIMIT * I.LIMIT)
+        → Asks (I.parts + 1) inquiry.old.questions inquiry.new.questions }
+{
+    let width = I::LIMIT;
+    let (first, rest) = (from / width, from % width);
+    let outer = O::nearest(inquiry, way, first)?;
+    let start = entry(way, width, first, rest, outer);
+    if let Some(inner) = I::nearest(inquiry, way, start) {
+        return Some(outer * width + inner);
+    }
+    nearest_past_block::<O, I>(inquiry, way, outer)
+}
+
+/// The nearest one past a number.
+#[inline(always)]
+pub(crate) fn nearest_past<N: Neighbours>(
+    inquiry: &mut Inquiry<'_>,
+    way: Way,
+    n: u32,
+) -> Option<u32>
+    requires { n + 2 < 2 ^ 32 }
+    ensures nearest { IsNearest way (N.passes inquiry.old.sets) (beyond way n) result }
+    ensures bound { IfSome result (λ k. (N.least ≤ k) × (k < N.LIMIT)) }
+    ensures same { LooksAlone inquiry.old inquiry.new }
+{
+    N::nearest(inquiry, way, past(way, n)?)
+}
+
+/// The nearest number past one whose quotient is one of the outer unit: first in its own block, with
+/// the nearest inner number past its rest.
+#[inline(always)]
+pub(crate) fn past_in_parts<O: Neighbours, I: Neighbours>(
+    inquiry: &mut Inquiry<'_>,
+    way: Way,
+    from: u32,
+    inner: Option<u32>,
+) -> Option<u32>
+    requires unit { O.parts ≡ 1 }
+    requires positive { 0 < I.LIMIT }
+    requires fits { (O.LIMIT + 1) * I.LIMIT < 2 ^ 32 }
+    requires block { (O.least ≤ from / I.LIMIT) × (from / I.LIMIT < O.LIMIT) }
+    requires matching { O.passes inquiry.old.sets (from / I.LIMIT) ≡ true }
+    requires inner { IsNearest way (I.passes inquiry.old.sets) (beyond way (from % I.LIMIT)) inner }
+    requires inner_bound { IfSome inner (λ n. n < I.LIMIT) }
+    ensures nearest { IsNearest way
+        (λ n. O.passes inquiry.old.sets (n / I.LIMIT) && I.passes inquiry.old.sets (n % I.LIMIT))
+        (beyond way from)
+        result }
+    ensures bound { IfSome result (λ n. (O.least * I.LIMIT ≤ n) × (n < O.LIMIT * I.LIMIT)) }
+    ensures same { LooksAlone inquiry.old inquiry.new }
+{
+    let width = I::LIMIT;
+    let outer = from / width;
+    if let Some(rest) = inner {
+        return Some(outer * width + rest);
+    }
+    nearest_past_block::<O, I>(inquiry, way, outer)
+}
+
+/// The seconds of a minute.
+struct Seconds;
+
+impl Neighbours for Seconds {
+    ghost use Rattle.cron_time.specs.Search.Inner.Filled.{seconds_filled};
+
+    ghost passes = { λ s. contains s.seconds };
+
+    ghost parts = { 1 };
+
+    ghost least = { 0 };
+
+    ghost LIMIT = { 60 };
+
+    const LIMIT: u32 = 60;
+
+    #[inline(always)]
+    fn nearest(inquiry: &mut Inquiry<'_>, way: Way, from: u32) -> Option<u32> {
+        inquiry.member(Unit::Second, way, from)
+    }
+
+    ghost filled = { seconds_filled };
+}
+
+/// The minutes of an hour.
+struct Minutes;
+
+impl Neighbours for Minutes {
+    ghost use Rattle.cron_time.specs.Search.Inner.Filled.{minutes_filled};
+
+    ghost passes = { λ s. contains s.minutes };
+
+    ghost parts = { 1 };
+
+    ghost least = { 0 };
+
+    ghost LIMIT = { 60 };
+
+    const LIMIT: u32 = 60;
+
+    #[inline(always)]
+    fn nearest(inquiry: &mut Inquiry<'_>, way: Way, from: u32) -> Option<u32> {
+        inquiry.member(Unit::Minute, way, from)
+    }
+
+    ghost filled = { minutes_filled };
+}
+
+/// The hours of a day.
+struct Hours;
+
+impl Neighbours for Hours {
+    ghost use Rattle.cron_time.specs.Search.Inner.Filled.{hours_filled};
+
+    ghost passes = { λ s. contains s.hours };
+
+    ghost parts = { 1 };
+
+    ghost least = { 0 };
+
+    ghost LIMIT = { 24 };
+
+    const LIMIT: u32 = 24;
+
+    #[inline(always)]
+    fn nearest(inquiry: &mut Inquiry<'_>, way: Way, from: u32) -> Option<u32> {
+        inquiry.member(Unit::Hour, way, from)
+    }
+
+    ghost filled = { hours_filled };
+}
+
+/// The seconds of an hour.
+struct SecondsOfHour;
+
+impl Neighbours for SecondsOfHour {
+    ghost use Rattle.cron_time.specs.Search.Inner.Filled.{rest_filled};
+
+    ghost passes = { matches_rest };
+
+    ghost parts = { 2 };
+
+    ghost least = { 0 };
+
+    ghost LIMIT = { 3600 };
+
+    const LIMIT: u32 = 3600;
+
+    #[inline(always)]
+    fn nearest(inquiry: &mut Inquiry<'_>, way: Way, from: u32) -> Option<u32> {
+        nearest_in_parts::<Minutes, Seconds>(inquiry, way, from)
+    }
+
+    ghost filled = { rest_filled };
+}
+
+/// The seconds of a day.
+pub(crate) struct TimesOfDay;
+
+impl Neighbours for TimesOfDay {
+    ghost use Rattle.cron_time.specs.Search.Inner.Filled.{times_filled};
+
+    ghost passes = { matches_second };
+
+    ghost parts = { 3 };
+
+    ghost least = { 0 };
+
+    ghost LIMIT = { 86_400 };
+
+    const LIMIT: u32 = 86_400;
+
+    #[inline(always)]
+    fn nearest(inquiry: &mut Inquiry<'_>, way: Way, from: u32) -> Option<u32> {
+        nearest_in_parts::<Hours, SecondsOfHour>(inquiry, way, from)
+    }
+
+    ghost filled = { times_filled };
+}
+
+// The nearest second of the hour past one whose minute lies in its set.
+#[inline(always)]
+fn rest_past(inquiry: &mut Inquiry<'_>, way: Way, rest: u32) -> Option<u32>
+    requires fits { rest < 3600 }
+    requires matching { matches_rest inquiry.old.sets rest ≡ true }
+    ensures nearest { IsNearest way (matches_rest inquiry.old.sets) (beyond way rest) result }
+    ensures bound { IfSome result (λ n. n < 3600) }
+    ensures same { LooksAlone inquiry.old inquiry.new }
+{
+    let second = nearest_past::<Seconds>(inquiry, way, rest % 60);
+    past_in_parts::<Minutes, Seconds>(inquiry, way, rest, second)
+}
+
+/// The nearest time of day past one that lies in the sets: its hour and minute aren't asked for again.
+#[inline(always)]
+pub(crate) fn time_past(inquiry: &mut Inquiry<'_>, way: Way, time: u32) -> Option<u32>
+    requires fits { time < 86_400 }
+    requires matching { matches_second inquiry.old.sets time ≡ true }
+    ensures nearest { IsNearest way (matches_second inquiry.old.sets) (beyond way time) result }
+    ensures bound { IfSome result (λ n. n < 86_400) }
+    ensures same { LooksAlone inquiry.old inquiry.new }
+{
+    let rest = rest_past(inquiry, way, time % 3600);
+    past_in_parts::<Hours, SecondsOfHour>(inquiry, way, time, rest)
+}
+
+/// The months of a year, from 0 for January.
+pub(crate) struct MonthsOfYear;
+
+impl Neighbours for MonthsOfYear {
+    ghost use Rattle.cron_time.specs.Search.Inner.Filled.{months_filled};
+
+    ghost passes = { matches_month_of_year };
+
+    ghost parts = { 1 };
+
+    ghost least = { 0 };
+
+    ghost LIMIT = { 12 };
+
+    const LIMIT: u32 = 12;
+
+    #[inline(always)]
+    fn nearest(inquiry: &mut Inquiry<'_>, way: Way, from: u32) -> Option<u32> {
+        let month = inquiry.member(Unit::Month, way, from + 1)?;
+        Some(month - 1)
+    }
+
+    ghost filled = { months_filled };
+}
+
+/// The years.
+pub(crate) struct Years;
+
+impl Neighbours for Years {
+    ghost use Rattle.cron_time.specs.Search.Inner.Filled.{years_filled};
+
+    ghost passes = { λ s. contains s.years };
+
+    ghost parts = { 1 };
+
+    ghost least = { 1970 };
+
+    ghost LIMIT = { 2101 };
+
+    const LIMIT: u32 = 2101;
+
+    #[inline(always)]
+    fn nearest(inquiry: &mut Inquiry<'_>, way: Way, from: u32) -> Option<u32> {
+        inquiry.member(Unit::Year, way, from)
+    }
+
+    ghost filled = { years_filled };
+}
+
+/// The months, numbered from January of the year 0 on.
+pub(crate) struct Months;
+
+impl Neighbours for Months {
+    ghost use Rattle.cron_time.specs.Search.Inner.Filled.{all_months_filled};
+
+    ghost passes = { matches_month };
+
+    ghost parts = { 2 };
+
+    ghost least = { first_month };
+
+    ghost LIMIT = { months_end };
+
+    const LIMIT: u32 = MONTHS_END;
+
+    #[inline(always)]
+    fn nearest(inquiry: &mut Inquiry<'_>, way: Way, from: u32) -> Option<u32> {
+        nearest_in_parts::<Years, MonthsOfYear>(inquiry, way, from)
+    }
+
+    ghost filled = { all_months_filled };
+}

@@ -1,0 +1,47 @@
+//! The nearest time of day.
+ghost use Rattle.std.specs.Prelude.{◌<◌, ◌≤◌, MatchOption, option_map};
+ghost use Rattle.cron_units.specs.Sets.{AreSets};
+ghost use Rattle.cron_time.specs.Search.Times.{IsNearestTime, time_of_parts};
+
+use crate::search::found::TimeFound;
+use crate::search::inquiry::Inquiry;
+use crate::search::neighbours::{Neighbours, TimesOfDay};
+use cron_units::fields::ScheduleFields;
+use cron_units::way::Way;
+use jiff::tz::TimeZone;
+
+/// The time of day nearest to a given one, whose hour, minute and second lie in their sets.
+pub fn nearest_time(
+    fields: &ScheduleFields,
+    way: Way,
+    hour: u32,
+    minute: u32,
+    second: u32,
+) -> TimeFound
+    requires sets { AreSets fields.now }
+    requires hour { hour < 24 }
+    requires minute { minute < 60 }
+    requires second { second < 60 }
+    ensures time { IsNearestTime way
+        fields.now
+        (time_of_parts (hour, minute, second))
+        (option_map time_of_parts result.time) }
+    ensures questions { MatchOption result.time
+        ((1 ≤ result.questions) × (result.questions ≤ 7))
+        (λ time. (3 ≤ result.questions) × (result.questions ≤ 7)) }
+{
+    let zone = TimeZone::UTC;
+    let mut inquiry = Inquiry::new(fields, &zone);
+    let found = TimesOfDay::nearest(&mut inquiry, way, hour * 3600 + minute * 60 + second);
+    let questions = inquiry.questions() as u8;
+    match found {
+        Some(time) => TimeFound {
+            time: Some((time / 3600, time / 60 % 60, time % 60)),
+            questions,
+        },
+        None => TimeFound {
+            time: None,
+            questions,
+        },
+    }
+}

@@ -1,0 +1,64 @@
+//! Where a walk goes on that has answered an item.
+ghost use Rattle.std.specs.Prelude.{◌≡◌, ◌<◌, ℕ, Some, MatchOption, slice_get};
+ghost use Rattle.jiff.specs.Words.{plain_zone};
+ghost use Rattle.cron_moments.specs.Civil.{seconds_in_range};
+ghost use Rattle.cron_moments.specs.Found.{found_items, items_if_any};
+ghost use Rattle.cron_time.specs.Walk.Inner.Placed.{IsPlaced, cursor_of, reading_of, stand_of};
+ghost use Rattle.cron_time.specs.Walk.Resume.{IsAbsent, IsAtItem};
+ghost use Rattle.cron_time.specs.Search.{items_of};
+
+use crate::matching;
+use crate::search::inquiry::Inquiry;
+use crate::walk::state::State;
+use cron_moments::civil::{SECONDS, civil_of};
+use cron_moments::moment::{Moment, civil_second};
+use cron_moments::readings::Found;
+use cron_units::fields::ScheduleFields;
+use jiff::tz::TimeZone;
+
+// The items of a civil second, if it stands on the timeline.
+fn items_at(fields: &ScheduleFields, zone: &TimeZone<'_>, second: u32) -> Option<Found>
+    ensures { items_if_any result ≡ items_of fields.now (plain_zone zone.now) second }
+{
+    if !matching::includes(fields, civil_of(second)) {
+        return None;
+    }
+    Inquiry::new(fields, zone).readings(second)
+}
+
+// Which of the items a moment is: the later one, or the first.
+fn is_later(found: &Found, moment: Moment) -> Option<bool>
+    ensures { MatchOption result
+        ((j : ℕ) → slice_get (found_items found.now) j ≡ Some moment → ⊥)
+        (λ later. reading_of found.now later ≡ Some moment) }
+{
+    if found.first == moment {
+        return Some(false);
+    }
+    let second = found.second?;
+    if second == moment {
+        return Some(true);
+    }
+    None
+}
+
+/// Where a walk stands that has answered a moment; `None` where the moment is no item of the
+/// timeline. It asks the zone at most once.
+pub fn resumed(fields: &ScheduleFields, zone: &TimeZone<'_>, moment: &Moment) -> Option<State>
+    ensures { MatchOption result
+        (IsAbsent fields.now (plain_zone zone.now) moment.now)
+        (λ state. IsPlaced fields.now (plain_zone zone.now) (stand_of state)
+        × IsAtItem fields.now (plain_zone zone.now) moment.now (cursor_of fields.now (plain_zone zone.now) (stand_of state))) }
+{
+    let second = civil_second(moment);
+    if second as i64 >= SECONDS {
+        return None;
+    }
+    let Some(found) = items_at(fields, zone, second) else {
+        return None;
+    };
+    let Some(later) = is_later(&found, *moment) else {
+        return None;
+    };
+    Some(State::starting(moment.timestamp()).standing(found, later))
+}

@@ -1,0 +1,114 @@
+//! Where a walk stands.
+ghost use Rattle.std.specs.Prelude.{◌≡◌, Some};
+ghost use Rattle.cron_time.specs.Walk.Inner.Placed.{answer_of, reading_of, stand_of, stop_of};
+ghost use Rattle.cron_time.specs.Walk.Inner.Stand as kept;
+ghost use Rattle.cron_moments.specs.Readings.{Reading};
+
+use cron_moments::calendar::KnownMonth;
+use cron_moments::moment::{Moment, moment_numbered};
+use cron_moments::readings::Found;
+use cron_units::way::Way;
+use jiff::Timestamp;
+use jiff::tz::Offset;
+
+/// What a walk has come to: nothing yet, the only reading of a civil second, the earlier or the
+/// later one of two, or the end.
+#[derive(Clone, Copy)]
+pub(crate) enum Stage {
+    Start,
+    Single,
+    Earlier,
+    Later,
+    Ended,
+}
+
+/// The stage of a walk, the readings of its civil second, and the instant that it started from. What
+/// the stage doesn't speak of means nothing. The month is the one that was looked up last.
+#[derive(Clone, Copy)]
+pub struct State {
+    pub(crate) stage: Stage,
+    pub(crate) earlier: Moment,
+    pub(crate) later: Moment,
+    pub(crate) start: jiff_core::Timestamp,
+    pub(crate) month: KnownMonth,
+}
+
+impl State {
+    /// The state of a walk that starts at an instant.
+    pub fn starting(start: Timestamp) -> State
+        ensures { stand_of result ≡ kept.Start start.nanosecond }
+    {
+        let none = moment_numbered(0, Offset::UTC);
+        State {
+            stage: Stage::Start,
+            earlier: none,
+            later: none,
+            start: start.to_plain(),
+            month: KnownMonth::january_1970(),
+        }
+    }
+
+    /// A search led here: to the first of the readings found, in this direction, or to the end.
+    #[inline(always)]
+    pub(crate) fn stop(&mut self, way: Way, found: Option<Found>)
+        ensures { stand_of self.new ≡ stop_of way found }
+    {
+        let Some(
+            Found {
+                first: earlier,
+                second,
+            },
+        ) = found
+        else {
+            self.stage = Stage::Ended;
+            return;
+        };
+        self.earlier = earlier;
+        let Some(later) = second else {
+            self.stage = Stage::Single;
+            return;
+        };
+        self.later = later;
+        self.stage = match way {
+            Way::Ahead => Stage::Earlier,
+            Way::Back => Stage::Later,
+        };
+    }
+
+    /// The state at the later or at the earlier of the readings found.
+    pub(crate) fn standing(self, found: Found, later: bool) -> State
+        requires { (r : Reading) × (reading_of found later ≡ Some r) }
+        ensures { stand_of result ≡ kept.At found later }
+    {
+        let Found {
+            first: earlier,
+            second,
+        } = found;
+        let Some(last) = second else {
+            return State {
+                stage: Stage::Single,
+                earlier,
+                ..self
+            };
+        };
+        let stage = if later { Stage::Later } else { Stage::Earlier };
+        State {
+            stage,
+            earlier,
+            later: last,
+            ..self
+        }
+    }
+
+    /// The reading at which the walk stands, which is what the call that led there answers.
+    #[inline(always)]
+    pub fn answer(&self) -> Option<Moment>
+        ensures { result ≡ answer_of (stand_of self.now) }
+    {
+        match self.stage {
+            Stage::Single | Stage::Earlier => Some(self.earlier),
+            Stage::Later => Some(self.later),
+            Stage::Start | Stage::Ended => None,
+        }
+    }
+}

@@ -1,0 +1,108 @@
+//! One call of a walk in either direction.
+ghost use Rattle.std.specs.Prelude.{◌≡◌, ◌/◌, ◌%◌, ◌<◌, true};
+ghost use Rattle.jiff.specs.Words.{plain_zone};
+ghost use Rattle.cron_moments.specs.Civil.{seconds_in_range};
+ghost use Rattle.cron_moments.specs.CivilDates.{date_numbered};
+ghost use Rattle.cron_time.specs.Walk.Inner.Placed.{stand_of, IsPlaced};
+ghost use Rattle.cron_time.specs.Walk.Inner.Stand as kept;
+ghost use Rattle.cron_time.specs.Search.Inner.Numbers.{beyond, matches_second, way_of};
+ghost use Rattle.cron_time.specs.Walk.Inner.Stop.{IsReached, LeadsTo};
+ghost use Rattle.cron_time.specs.Matches.{matches_date};
+
+use crate::search::days::some_month_has_a_day;
+use crate::search::inquiry::Inquiry;
+use crate::search::onward::search_past;
+use crate::search::search_from;
+use crate::walk::bounds::bound;
+use crate::walk::state::{Stage, State};
+use cron_moments::moment::civil_second;
+use cron_units::fields::ScheduleFields;
+use cron_units::way::Way;
+use jiff::Timestamp;
+use jiff::tz::TimeZone;
+
+// The walk goes to the first item from its bound on.
+fn from_bound(fields: &ScheduleFields, zone: &TimeZone<'_>, way: Way, state: &mut State)
+    ensures { LeadsTo way fields.now (plain_zone zone.now) (kept.Start state.old.start.nanosecond) (stand_of state.new) }
+{
+    match bound(way, Timestamp::from_plain(state.start), zone) {
+        Some(from) => {
+            let mut inquiry = Inquiry::new(fields, zone);
+            let found = search_from(&mut inquiry, way, from);
+            state.month = inquiry.month();
+            state.stop(way, found)
+        }
+        None => state.stop(way, None),
+    }
+}
+
+// The walk goes to the first item from its start, whose bound isn't made where no month has a day of the
+// set.
+#[inline(never)]
+fn from_start(fields: &ScheduleFields, zone: &TimeZone<'_>, way: Way, state: &mut State)
+    ensures { LeadsTo way fields.now (plain_zone zone.now) (kept.Start state.old.start.nanosecond) (stand_of state.new) }
+{
+    let mut inquiry = Inquiry::new(fields, zone);
+    if !some_month_has_a_day(&mut inquiry) {
+        state.stop(way, None);
+        return;
+    }
+    from_bound(fields, zone, way, state)
+}
+
+// The walk goes to the first item past its civil second.
+#[inline(always)]
+fn past_item(fields: &ScheduleFields, zone: &TimeZone<'_>, way: Way, state: &mut State)
+    requires in_range { state.old.earlier.second < seconds_in_range }
+    requires matching { matches_date fields.now (date_numbered (state.old.earlier.second / 86_400)).0
+        ≡ true }
+    requires member { matches_second fields.now (state.old.earlier.second % 86_400) ≡ true }
+    ensures { IsReached way
+        fields.now
+        (plain_zone zone.now)
+        (beyond way state.old.earlier.second)
+        (stand_of state.new) }
+{
+    let item = state.earlier;
+    let found = search_past(fields, zone, way, civil_second(&item), &mut state.month);
+    state.stop(way, found)
+}
+
+// Takes a walk from where it stands to where a call in this direction leads. `BACK` says the way once
+// more, so that each has code of its own.
+fn step_one_way<const BACK: bool>(
+    fields: &ScheduleFields,
+    zone: &TimeZone<'_>,
+    way: Way,
+    state: &mut State,
+)
+    requires tied { way ≡ way_of BACK }
+    requires placed { IsPlaced fields.now (plain_zone zone.now) (stand_of state.old) }
+    ensures { LeadsTo way fields.now (plain_zone zone.now) (stand_of state.old) (stand_of state.new) }
+{
+    match state.stage {
+        Stage::Start => from_start(fields, zone, way, state),
+        Stage::Single => past_item(fields, zone, way, state),
+        Stage::Earlier => match way {
+            Way::Ahead => state.stage = Stage::Later,
+            Way::Back => past_item(fields, zone, way, state),
+        },
+        Stage::Later => match way {
+            Way::Ahead => past_item(fields, zone, way, state),
+            Way::Back => state.stage = Stage::Earlier,
+        },
+        Stage::Ended => {}
+    }
+}
+
+/// Takes a walk from where it stands to where a call in this direction leads.
+#[inline(always)]
+pub fn step(fields: &ScheduleFields, zone: &TimeZone<'_>, way: Way, state: &mut State)
+    requires { IsPlaced fields.now (plain_zone zone.now) (stand_of state.old) }
+    ensures { LeadsTo way fields.now (plain_zone zone.now) (stand_of state.old) (stand_of state.new) }
+{
+    match way {
+        Way::Ahead => step_one_way::<false>(fields, zone, Way::Ahead, state),
+        Way::Back => step_one_way::<true>(fields, zone, Way::Back, state),
+    }
+}

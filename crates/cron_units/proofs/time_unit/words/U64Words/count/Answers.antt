@@ -1,9 +1,0 @@
-use Rattle.std.proofs.Common.{rules}
-use Rattle.cron_units.specs.WordLaws.{bit_count}
-use Rattle.cron_units.proofs.time_unit.words.U64Words.count.Goals as goal
-
-pub returns-clause-value : goal.returns-clause-value
-returns-clause-value c = bit_count c.args.self c.requires.fit
-
-pub returns-clause-within : goal.returns-clause-within
-returns-clause-within c = search rules

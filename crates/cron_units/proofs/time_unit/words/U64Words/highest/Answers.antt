@@ -1,9 +1,0 @@
-use Rattle.std.proofs.Common.{refl, rules}
-use Rattle.cron_units.specs.WordLaws.{highest_bit}
-use Rattle.cron_units.proofs.time_unit.words.U64Words.highest.Goals as goal
-
-pub returns-else-self-eq0 : goal.returns-else-self-eq0
-returns-else-self-eq0 c = highest_bit c.args.self _ c.if-self-eq0.false c.requires refl
-
-pub returns-then-self-eq0 : goal.returns-then-self-eq0
-returns-then-self-eq0 c = search rules

@@ -1,9 +1,0 @@
-use Rattle.std.proofs.Common.{rules}
-use Rattle.cron_units.specs.WordLaws.{lowest_bit}
-use Rattle.cron_units.proofs.time_unit.words.U64Words.lowest.Goals as goal
-
-pub returns-else-self-eq0 : goal.returns-else-self-eq0
-returns-else-self-eq0 c = lowest_bit c.args.self c.if-self-eq0.false c.requires
-
-pub returns-then-self-eq0 : goal.returns-then-self-eq0
-returns-then-self-eq0 c = search rules

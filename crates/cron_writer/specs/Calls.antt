@@ -1,0 +1,50 @@
+-- The calls that reach a watched writer, one by one.
+use Rattle.std.specs.Prelude.{◌≡◌, ℕ, Bool, true, false, List, [], ◌∷◌, ⊤, drop, Result, Ok, Err}
+use Rattle.std.specs.declared.io.Error.{Error}
+use Rattle.cron_writer.specs.Watching.{is_failed_write, is_failed_flush}
+
+-- one write: what was handed in, and what was answered
+pub record Call : Type 0 where
+  pub piece : List ℕ
+  pub answer : Result ℕ Error
+
+-- These writes were made one after another, each only where no call before it has failed. The marks say whether one had, before them and after.
+abbrev pub IsWritten :
+    {W : Type 0} → (W → List ℕ → Result ℕ Error → W → Type 0) → List Call → W → Bool → W → Bool → Type 0
+IsWritten writes [] old was new failed = (new ≡ old) × (failed ≡ was)
+IsWritten {W} writes (c ∷ cs) old was new failed =
+    (was ≡ false) × ((next : W) × writes old c.piece c.answer next × IsWritten writes cs next (is_failed_write c.answer c.piece) new failed)
+
+-- some writes were made, and none of them once a call has failed
+abbrev pub AreWrites : {W : Type 0} → (W → List ℕ → Result ℕ Error → W → Type 0) → W → Bool → W → Bool → Type 0
+AreWrites writes old was new failed = (calls : List Call) × IsWritten writes calls old was new failed
+
+-- how many bytes a write took
+abbrev pub taken : Result ℕ Error → ℕ
+taken (Ok n) = n
+taken (Err e) = 0
+
+-- each write was handed all that those before it left of the text
+abbrev pub AreTries : List ℕ → List Call → List ℕ → Type 0
+AreTries text [] left = left ≡ text
+AreTries text (c ∷ cs) left = (c.piece ≡ text) × AreTries (drop (taken c.answer) text) cs left
+
+-- some writes were made of a text, none of them once a call has failed, and each of all that was left then
+abbrev pub AreTried :
+    {W : Type 0} → (W → List ℕ → Result ℕ Error → W → Type 0) → W → Bool → W → Bool → List ℕ → List ℕ → Type 0
+AreTried writes old was new failed text left = (calls : List Call) × (IsWritten writes calls old was new failed × AreTries text calls left)
+
+-- A text was handed on, and nothing of it is left where no call has failed.
+abbrev pub HandsOn : {W : Type 0} → (W → List ℕ → Result ℕ Error → W → Type 0) → W → Bool → W → Bool → List ℕ → Type 0
+HandsOn writes old was new failed text = (left : List ℕ) × (AreTried writes old was new failed text left × (failed ≡ false → left ≡ []))
+
+-- the writer was flushed once, or left alone where a call had failed
+abbrev pub IsFlushed : {W : Type 0} → (W → Result ⊤ Error → W → Type 0) → W → Bool → W → Bool → Type 0
+IsFlushed flushes old true new failed = (new ≡ old) × (failed ≡ true)
+IsFlushed flushes old false new failed = (answer : Result ⊤ Error) × flushes old answer new × (failed ≡ is_failed_flush answer)
+
+-- some writes and then one flush were made, and none of them once a call has failed
+abbrev pub AreWritesFlushed :
+    {W : Type 0} → (W → List ℕ → Result ℕ Error → W → Type 0) → (W → Result ⊤ Error → W → Type 0) → W → Bool → W → Bool → Type 0
+AreWritesFlushed {W} writes flushes old was new failed =
+    (last : W) × (mark : Bool) × AreWrites writes old was last mark × IsFlushed flushes last mark new failed

@@ -1,0 +1,44 @@
+//! What can be watched: every writer.
+
+ghost use Rattle.std.specs.Prelude.{ℕ, List, ⊤, Result};
+ghost use Rattle.std.specs.Io.KnownBytes.{Keeps, WriteAppends};
+ghost use Rattle.std.specs.Io.{WritesAtMost};
+ghost use Rattle.std.specs.declared.io.Error.{Error};
+
+use std::io::{self, Write};
+
+/// A writer whose calls contracts can tell one by one. What one call may do to a writer is known to
+/// its own type alone: so who promises one call in a contract over any writer can't make two of them,
+/// nor one beside it. Every writer is such.
+pub trait Watchable: Write {
+    // one call of `write`: the writer before it, the piece, the answer, and the writer after it
+    ghost writes: { Self → List ℕ → Result ℕ Error → Self → Type 0 };
+
+    // one call of `flush`
+    ghost flushes: { Self → Result ⊤ Error → Self → Type 0 };
+
+    /// Calls `write` once.
+    fn write_once(&mut self, piece: &[u8]) -> io::Result<usize>
+        ensures bound { WritesAtMost result piece.now }
+        ensures bytes { WriteAppends (Self.contents self.old) (Self.contents self.new) result piece.now }
+        ensures call { writes self.old piece.now result self.new };
+
+    /// Calls `flush` once.
+    fn flush_once(&mut self) -> io::Result<()>
+        ensures bytes { Keeps (Self.contents self.old) (Self.contents self.new) }
+        ensures call { flushes self.old result self.new };
+}
+
+impl<W: Write> Watchable for W {
+    ghost writes = { λ old piece result new. WriteAppends (W.contents old) (W.contents new) result piece };
+
+    ghost flushes = { λ old result new. Keeps (W.contents old) (W.contents new) };
+
+    fn write_once(&mut self, piece: &[u8]) -> io::Result<usize> {
+        self.write(piece)
+    }
+
+    fn flush_once(&mut self) -> io::Result<()> {
+        self.flush()
+    }
+}
