@@ -1,3 +1,4 @@
 pub mod Order
+pub mod Fires
 pub mod Instants
 pub mod Inner
