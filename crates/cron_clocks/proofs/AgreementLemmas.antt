@@ -22,14 +22,14 @@ use Rattle.cron_time.proofs.TimelineLaws.{items_match, stand_once}
 use Rattle.cron_clocks.specs.Clocks.{LookupsAgree, HasInstant, shown_offset}
 use Rattle.cron_clocks.specs.ClockLaws.{InstantsAreApart, ItemsAreTheMatches}
 
-same_offset : (a b : Offset) → a.seconds ≡ b.seconds → a ≡ b
+pub same_offset : (a b : Offset) → a.seconds ≡ b.seconds → a ≡ b
 same_offset a b e =
     λ i. record {
       seconds = e i;
       in_range = is_prop→PathP (λ j. IsOffsetSeconds (e j)) (λ j. hlevel props) a.in_range b.in_range i;
     }
 
-same_reading : (r q : Reading) → r.second ≡ q.second → r.offset ≡ q.offset → r ≡ q
+pub same_reading : (r q : Reading) → r.second ≡ q.second → r.offset ≡ q.offset → r ≡ q
 same_reading r q e o = λ i. record { second = e i; offset = o i }
 
 -- an item is a reading of its civil second

@@ -1,5 +1,5 @@
 -- The nearest of some readings.
-use Rattle.std.proofs.Common.{◌≡◌, ℕ, Bool, true, false, cond, Option, Some, None, ◌⊎◌, inl, inr, refl, sym, ap, ◌∙◌}
+use Rattle.std.proofs.Common.{◌≡◌, Bool, true, false, cond, Option, Some, None, ◌⊎◌, inl, inr, refl}
 use Rattle.cron_units.specs.declared.way.Way.{Way}
 use Rattle.cron_moments.specs.Readings.{Reading}
 use Rattle.cron_instants.specs.Inner.Beyond.{is_nearer, nearer_of, IsBest, IsNoBetter}

@@ -1,5 +1,5 @@
 -- The items of the timeline are the readings of the civil seconds that match; and where one lies among the instants.
-use Rattle.std.proofs.Common.{◌≡◌, ℕ, ◌+◌, ◌<◌, ◌≤◌, ℤ, pos, ◌+ℤ◌, ◌*ℤ◌, ◌≤ℤ◌, ◌<ℤ◌, Bool, true, false, ◌&&◌, cond, Option, Some, List, [], length, nat_lt, ◌⊎◌, inl, inr, refl, sym, ap, subst, ◌∙◌, arith}
+use Rattle.std.proofs.Common.{◌≡◌, ℕ, ◌+◌, ◌<◌, ℤ, pos, Bool, true, false, ◌&&◌, cond, Option, Some, [], nat_lt, inl, inr, refl, sym, ap, subst, ◌∙◌, arith}
 use Rattle.std.specs.Prelude.{slice_get}
 use Rattle.std.specs.Int.{int_div_euclid}
 use Rattle.std.proofs.lemmas.Option.{slice_get_within}
@@ -11,13 +11,12 @@ use Rattle.cron_moments.specs.Civil.{civil, seconds_in_range}
 use Rattle.cron_time.specs.Matches.{matches}
 use Rattle.cron_moments.specs.Readings.{Reading, instant, readings}
 use Rattle.cron_time.specs.Search.{items_of}
-use Rattle.cron_time.specs.Timeline.{timeline}
 use Rattle.cron_time.proofs.JoinedLemmas.{Owner, owner}
 use Rattle.cron_time.proofs.PlaceLemmas.{nothing_in_nil}
 use Rattle.cron_time.proofs.TimelineLemmas.{before, item_in, items_of-second, timeline-joined}
 use Rattle.cron_instants.specs.Instants.{IsItem, IsAfter, IsBy, IsFirstAfter, IsFirstPast, IsLastBy}
 use Rattle.cron_instants.specs.Order.{is_earlier}
-use Rattle.cron_instants.specs.Inner.Beyond.{beyond, is_match, IsBest, IsBeyond, Stands}
+use Rattle.cron_instants.specs.Inner.Beyond.{beyond, IsBest, IsBeyond, Stands}
 use Rattle.cron_instants.proofs.BestLemmas.{best_of_more}
 use Rattle.cron_instants.proofs.MatchLemmas.{match_in_range}
 use Rattle.cron_instants.proofs.OrderLemmas.{before-true, before-less, before-up_to}

@@ -4,3 +4,5 @@ pub mod BestLemmas
 pub mod StretchLemmas
 pub mod ItemLemmas
 pub mod TurnLemmas
+pub mod AscentLemmas
+pub mod FireLemmas

@@ -1,16 +1,15 @@
 -- In UTC the civil seconds that stand are those that match.
-use Rattle.std.proofs.Common.{◌≡◌, ℕ, ◌<◌, ℤ, pos, Bool, true, false, ◌&&◌, cond, List, [], ◌∷◌, Option, Some, None, refl, sym, ap, ◌∙◌, arith, nat_lt}
+use Rattle.std.proofs.Common.{◌≡◌, ℕ, ◌<◌, ℤ, Bool, true, false, ◌&&◌, cond, [], ◌∷◌, refl, sym, ap, ◌∙◌, arith, nat_lt}
 use Rattle.jiff_tz.specs.Zone.{ambiguous_at, utc_offset}
-use Rattle.jiff_tz.specs.declared.timezone.TimeZone.{TimeZone}
 use Rattle.jiff_tz.specs.declared.timezone.TimeZone.TheVariants.{UTC}
 use Rattle.cron_units.specs.declared.way.Way.{Way}
-use Rattle.cron_units.specs.Nearest.{LiesFrom, Precedes, IsNearest, IsNearestAt}
+use Rattle.cron_units.specs.Nearest.{LiesFrom, IsNearestAt}
 use Rattle.cron_units.specs.Sets.{Sets}
 use Rattle.cron_moments.specs.Civil.{civil, seconds_in_range}
 use Rattle.cron_moments.specs.Found.{found_items}
 use Rattle.cron_time.specs.Matches.{matches}
 use Rattle.cron_moments.specs.Readings.{Reading, reading, readings}
-use Rattle.cron_time.specs.Search.{items_of, has_item, stands, IsFound, IsFoundAt}
+use Rattle.cron_time.specs.Search.{items_of, has_item, stands, IsFoundAt}
 use Rattle.cron_moments.specs.declared.readings.Found.{Found}
 use Rattle.cron_instants.specs.Inner.Beyond.{is_match}
 

@@ -7,11 +7,11 @@ use Rattle.cron_time.specs.Timeline.{timeline}
 use Rattle.cron_instants.specs.Order.{is_earlier}
 
 -- a reading put before the first one that it is earlier than
-pub insert : Reading → List Reading → List Reading
+unfoldable pub insert : Reading → List Reading → List Reading
 insert r [] = r ∷ []
 insert r (q ∷ l) = if is_earlier r q then r ∷ q ∷ l else q ∷ insert r l
 
-pub earliest_first : List Reading → List Reading
+unfoldable pub earliest_first : List Reading → List Reading
 earliest_first [] = []
 earliest_first (r ∷ l) = insert r (earliest_first l)
 

@@ -1,4 +1,4 @@
-use Rattle.std.proofs.Common.{rules, inl, inr, arith, rules, FitsSigned, w64, to_z-of_z}
+use Rattle.std.proofs.Common.{rules, arith, rules, FitsSigned, w64, to_z-of_z}
 use Rattle.cron_instants.proofs.StretchLemmas.{none_entered, found_here}
 use Rattle.cron_instants.proofs.search.item_at.Goals as goal
 

@@ -1,4 +1,4 @@
-use Rattle.cron_instants.proofs.StretchLemmas.{best_of_none, best_of_one, best_of_two}
+use Rattle.cron_instants.proofs.StretchLemmas.{best_of_two}
 use Rattle.cron_instants.proofs.search.item_in.Goals as goal
 
 pub returns : goal.returns
