@@ -172,6 +172,55 @@ static void fold(void)
     CHECK(next(&schedule, CHICAGO, &item) == CRON_NOT_AN_ITEM);
 }
 
+static uint32_t fire_after(const cron_schedule *schedule, const char *zone, int64_t instant, cron_item *item)
+{
+    return cron_fire_after(schedule, bytes_of(zone), strlen(zone), instant, item);
+}
+
+static uint32_t fire_by(const cron_schedule *schedule, const char *zone, int64_t instant, cron_item *item)
+{
+    return cron_fire_by(schedule, bytes_of(zone), strlen(zone), instant, item);
+}
+
+/* Items by instants in a fold, where a walk begun anew leaves one out or answers its start. */
+static void fires(void)
+{
+    cron_schedule half_past = parsed("0 30 1 * * *"), last_second = parsed("59 59 1 * * *");
+    cron_item item = {7, 7};
+    CHECK(fire_after(&half_past, CHICAGO, 1667716199, &item) == CRON_OK);
+    CHECK(item.instant == 1667716200 && item.offset == -5 * 3600);
+    CHECK(fire_after(&half_past, CHICAGO, item.instant, &item) == CRON_OK);
+    CHECK(item.instant == 1667719800 && item.offset == -6 * 3600);
+    CHECK(fire_after(&half_past, CHICAGO, item.instant, &item) == CRON_OK);
+    CHECK(shows(&item, "2022-11-07 01:30:00 -06:00"));
+    CHECK(fire_by(&half_past, CHICAGO, 1667719800, &item) == CRON_OK);
+    CHECK(item.instant == 1667719800);
+    CHECK(fire_by(&half_past, CHICAGO, 1667719799, &item) == CRON_OK);
+    CHECK(item.instant == 1667716200);
+    CHECK(after(&last_second, CHICAGO, 1667717999, &item) == CRON_OK);
+    CHECK(item.instant == 1667717999);
+    CHECK(fire_after(&last_second, CHICAGO, 1667717999, &item) == CRON_OK);
+    CHECK(item.instant == 1667721599 && item.offset == -6 * 3600);
+}
+
+/* Zones and instants that aren't any, and the ends of the timeline, by instants. */
+static void ends_of_fires(void)
+{
+    cron_schedule schedule = parsed("0 0 9 * * *");
+    cron_item item = {7, 7};
+    CHECK(fire_after(&schedule, "Mars", 0, &item) == CRON_BAD_ZONE);
+    CHECK(fire_by(&schedule, "\xff", 0, &item) == CRON_BAD_ZONE);
+    CHECK(fire_after(&schedule, "UTC", INT64_C(253402207201), &item) == CRON_BAD_INSTANT);
+    CHECK(fire_by(&schedule, "UTC", INT64_C(-377705023202), &item) == CRON_BAD_INSTANT);
+    CHECK(fire_after(&schedule, "UTC", INT64_C(4133926800), &item) == CRON_NO_ITEM);
+    CHECK(fire_by(&schedule, "UTC", 32399, &item) == CRON_NO_ITEM);
+    CHECK(item.instant == 7 && item.offset == 7);
+    CHECK(fire_after(&schedule, "UTC", INT64_C(-377705023201), &item) == CRON_OK);
+    CHECK(shows(&item, "1970-01-01 09:00:00 +00:00"));
+    CHECK(fire_by(&schedule, "UTC", INT64_C(253402207200), &item) == CRON_OK);
+    CHECK(shows(&item, "2100-12-31 09:00:00 +00:00"));
+}
+
 /* Items at once, as those one by one, and where the timeline ends. */
 static void lists(void)
 {
@@ -220,6 +269,8 @@ int main(void)
     refusals();
     arguments();
     fold();
+    fires();
+    ends_of_fires();
     lists();
     bits();
     printf("examples: %d rows hold\n", held);

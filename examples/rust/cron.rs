@@ -1,8 +1,9 @@
-//! A safe wrapper of the C interface.
+//! A safe wrapper of the C interface, a library of its own.
 
 use std::fmt;
 
 const OK: u32 = 0;
+const NO_ITEM: u32 = 1;
 const REFUSED: u32 = 2;
 
 #[repr(C)]
@@ -30,6 +31,20 @@ unsafe extern "C" {
         message_needed: *mut usize,
     ) -> u32;
     fn cron_after(
+        schedule: *const Sets,
+        zone: *const u8,
+        zone_length: usize,
+        instant: i64,
+        item: *mut Item,
+    ) -> u32;
+    fn cron_fire_after(
+        schedule: *const Sets,
+        zone: *const u8,
+        zone_length: usize,
+        instant: i64,
+        item: *mut Item,
+    ) -> u32;
+    fn cron_fire_by(
         schedule: *const Sets,
         zone: *const u8,
         zone_length: usize,
@@ -77,21 +92,43 @@ impl Schedule {
         }
     }
 
-    /// The items after an instant. `Err` holds the status where the zone or the instant is refused.
+    /// Of the items whose instant comes after this one the earliest. `Err` holds the status where the
+    /// zone or the instant is refused.
+    pub fn fire_after(&self, zone: &str, instant: i64) -> Result<Option<Item>, u32> {
+        let mut item = Item::default();
+        // SAFETY: as above.
+        let status =
+            unsafe { cron_fire_after(&self.0, zone.as_ptr(), zone.len(), instant, &mut item) };
+        found(status, item)
+    }
+
+    /// Of the items whose instant is this one or comes before it the latest.
+    pub fn fire_by(&self, zone: &str, instant: i64) -> Result<Option<Item>, u32> {
+        let mut item = Item::default();
+        // SAFETY: as above.
+        let status =
+            unsafe { cron_fire_by(&self.0, zone.as_ptr(), zone.len(), instant, &mut item) };
+        found(status, item)
+    }
+
+    /// A walk over the items after an instant. `Err` holds the status where the zone or the instant is refused.
     pub fn after<'a>(&self, zone: &'a str, instant: i64) -> Result<Items<'a>, u32> {
         let mut item = Item::default();
         // SAFETY: as above.
         let status = unsafe { cron_after(&self.0, zone.as_ptr(), zone.len(), instant, &mut item) };
-        let next = match status {
-            0 => Some(item),
-            1 => None,
-            other => return Err(other),
-        };
         Ok(Items {
             schedule: *self,
             zone,
-            next,
+            next: found(status, item)?,
         })
+    }
+}
+
+fn found(status: u32, item: Item) -> Result<Option<Item>, u32> {
+    match status {
+        OK => Ok(Some(item)),
+        NO_ITEM => Ok(None),
+        other => Err(other),
     }
 }
 

@@ -1,7 +1,5 @@
 //! The first three items of an expression, and why another is refused.
 
-mod cron;
-
 use cron::Schedule;
 
 fn main() {

@@ -85,6 +85,35 @@ uint32_t cron_parse(const uint8_t *text, size_t text_length,
                     uint8_t *message, size_t message_length, size_t *message_needed);
 
 /*
+ * Which call to use:
+ *
+ *   a scheduler, and whoever asks what was missed    by instants: `cron_fire_after`, `cron_fire_by`
+ *   a calendar, and whoever lists what clocks show   the walk: `cron_after`, `cron_next` and their like
+ *
+ * They differ only where a clock goes back. The walk goes along the times that the clock shows, and
+ * answers both readings of a repeated one before the next. By instants the items come as time passes.
+ */
+
+/*
+ * Writes to `item` the earliest of the items whose instant comes after the given one; or,
+ * `cron_fire_by`, the latest of those whose instant is the given one or comes before it. Each is exact
+ * in every zone, also where a clock goes back, and may be asked anew from the instant of its answer. Two
+ * items share an instant only in zones whose rule contradicts itself; of these `cron_fire_after` answers
+ * the one that shows less, and `cron_fire_by` the other. For an instant with a part of a second give the
+ * second that has begun.
+ *
+ * `zone` is `UTC`, or a rule text as POSIX has it, as `CST6CDT,M3.2.0,M11.1.0`.
+ *
+ * CRON_OK, CRON_NO_ITEM, CRON_BAD_ZONE or CRON_BAD_INSTANT.
+ */
+uint32_t cron_fire_after(const cron_schedule *schedule,
+                         const uint8_t *zone, size_t zone_length,
+                         int64_t instant, cron_item *item);
+uint32_t cron_fire_by(const cron_schedule *schedule,
+                      const uint8_t *zone, size_t zone_length,
+                      int64_t instant, cron_item *item);
+
+/*
  * Writes to `item` the first item from the civil second on that a clock in the zone shows one second
  * after the instant; or, `cron_before`, the last one up to the civil second that it shows one second
  * before. Where the clock shows each second once, an item at the very instant is answered by neither.
@@ -94,9 +123,8 @@ uint32_t cron_parse(const uint8_t *text, size_t text_length,
  * Where a clock goes back, it shows an hour twice, and a search from an instant in it may leave out
  * items after that instant, or answer the instant itself. In Chicago on 2022-11-06 `0 30 1 * * *` after
  * 06:30Z is not the second 01:30, at 07:30Z, but the next day's; and `59 59 1 * * *` after 06:59:59Z is
- * 06:59:59Z. So don't ask anew from an item's instant: `cron_next` goes on from the item itself.
- *
- * `zone` is `UTC`, or a rule text as POSIX has it, as `CST6CDT,M3.2.0,M11.1.0`.
+ * 06:59:59Z. So don't ask anew from an item's instant: `cron_next` goes on from the item itself, and
+ * `cron_fire_after` asks by instants.
  *
  * CRON_OK, CRON_NO_ITEM, CRON_BAD_ZONE or CRON_BAD_INSTANT.
  */

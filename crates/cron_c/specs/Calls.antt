@@ -1,9 +1,10 @@
 -- What each status of a call says.
-use Rattle.std.specs.Prelude.{◌≡◌, ◌<◌, ℕ, ℤ, pos, ◌*ℤ◌, List, Some, None, length}
+use Rattle.std.specs.Prelude.{◌≡◌, ◌<◌, ℕ, ℤ, pos, ◌*ℤ◌, List, Option, Some, None, length}
 use Rattle.std.specs.Str.{IsUtf8}
 use Rattle.jiff_core.specs.Timestamp.{IsTimestampNanos}
 use Rattle.jiff_tz.specs.declared.timezone.TimeZone.{TimeZone}
 use Rattle.cron_units.specs.declared.way.Way.{Way}
+use Rattle.cron_units.specs.declared.way.Way.TheVariants.{Ahead, Back}
 use Rattle.cron_units.specs.Sets.{Sets}
 use Rattle.cron_text.specs.Fault.{IsRefusal}
 use Rattle.cron_text.specs.Meaning.{Means}
@@ -12,6 +13,7 @@ use Rattle.cron_time.specs.Walk.Cursor.{Start, Walk, step}
 use Rattle.cron_moments.specs.MomentText.{moment_text}
 use Rattle.cron_moments.specs.Readings.{Reading}
 use Rattle.cron_time.specs.Walk.Resume.{IsAbsent, IsResumed}
+use Rattle.cron_instants.specs.Instants.{IsFirstAfter, IsLastBy}
 use Rattle.cron_moments.specs.ZoneWords.{IsZoneWord, IsZoneOf}
 use Rattle.cron_c.specs.Buffers.{laid_over}
 use Rattle.cron_c.specs.Statuses.{code_of}
@@ -56,6 +58,21 @@ Searches way s zone second old new NoItem =
 Searches way s zone second old new BadZone = (IsZoneText zone → ⊥) × (new ≡ old)
 Searches way s zone second old new BadInstant = IsZoneText zone × (IsInstant second → ⊥) × (new ≡ old)
 Searches way s zone second old new _ = ⊥
+
+-- Of the items whose instant comes after this one the earliest is written, or of the others the latest; or there is none; or nothing is looked for.
+abbrev pub Fires : (Sets → TimeZone → ℤ → Option Reading → Type 0) → Sets → List ℕ → ℤ → CronItem → CronItem → Status → Type 0
+Fires IsSought s zone second old new Done =
+    (z : TimeZone) × (r : Reading) × IsZoneOf zone z × IsInstant second × IsSought s z (second *ℤ pos 1_000_000_000) (Some r) × IsItem r new
+Fires IsSought s zone second old new NoItem =
+    (z : TimeZone) × IsZoneOf zone z × IsInstant second × IsSought s z (second *ℤ pos 1_000_000_000) None × (new ≡ old)
+Fires IsSought s zone second old new BadZone = (IsZoneText zone → ⊥) × (new ≡ old)
+Fires IsSought s zone second old new BadInstant = IsZoneText zone × (IsInstant second → ⊥) × (new ≡ old)
+Fires IsSought s zone second old new _ = ⊥
+
+-- what is looked for in a direction
+abbrev pub IsNearestFire : Way → Sets → TimeZone → ℤ → Option Reading → Type 0
+IsNearestFire Ahead = IsFirstAfter
+IsNearestFire Back = IsLastBy
 
 -- the walk goes on from the item of a struct
 abbrev pub IsResumedAt : Sets → TimeZone → CronItem → Walk → Type 0

@@ -3,6 +3,7 @@
 #![tactic(auto)]
 
 mod buffer;
+mod firing;
 mod item;
 mod listing;
 mod reading;
@@ -12,6 +13,7 @@ mod status;
 mod text;
 mod zone;
 
+pub use firing::{cron_fire_after, cron_fire_by};
 pub use item::CronItem;
 pub use listing::{cron_list_after, cron_list_before};
 pub use reading::cron_parse;

@@ -1,0 +1,75 @@
+//! Items by an instant, in the order of instants.
+
+ghost use Rattle.jiff.specs.Words.{plain_zone};
+ghost use Rattle.cron_instants.specs.Instants.{IsFirstAfter, IsLastBy};
+ghost use Rattle.cron_c.specs.Calls.{Answers, Fires, IsNearestFire};
+ghost use Rattle.cron_c.specs.Structs.{sets_of};
+
+use crate::item::{CronItem, item_of};
+use crate::schedule::{CronSchedule, fields_of};
+use crate::status::Status;
+use crate::zone::zone_in;
+use cron_instants::instants::{first_after, last_by};
+use cron_moments::moment::Moment;
+use cron_units::way::Way;
+use jiff::Timestamp;
+use jiff::tz::TimeZone;
+
+// The first item after an instant, or the last one by it.
+fn nearest_fire(
+    way: Way,
+    schedule: &CronSchedule,
+    zone: &TimeZone<'_>,
+    now: Timestamp,
+) -> Option<Moment>
+    ensures { IsNearestFire way (sets_of schedule.now) (plain_zone zone.now) now.nanosecond result }
+{
+    let fields = fields_of(schedule);
+    match way {
+        Way::Ahead => first_after(&fields, zone, now),
+        Way::Back => last_by(&fields, zone, now),
+    }
+}
+
+fn fire(way: Way, schedule: &CronSchedule, zone: &[u8], second: i64, item: &mut CronItem) -> Status
+    ensures { Fires (IsNearestFire way) (sets_of schedule.now) zone.now second item.old item.new result }
+{
+    let Some(zone) = zone_in(zone) else {
+        return Status::BadZone;
+    };
+    let Ok(now) = Timestamp::from_second(second) else {
+        return Status::BadInstant;
+    };
+    let Some(found) = nearest_fire(way, schedule, &zone, now) else {
+        return Status::NoItem;
+    };
+    *item = item_of(&found);
+    Status::Done
+}
+
+/// Writes the earliest of the items whose instant comes after this one, which is given by its seconds
+/// since 1970-01-01T00:00:00Z.
+#[unsafe(no_mangle)]
+pub extern "C" fn cron_fire_after(
+    schedule: &CronSchedule,
+    zone: &[u8],
+    instant: i64,
+    item: &mut CronItem,
+) -> u32
+    ensures { Answers (Fires IsFirstAfter (sets_of schedule.now) zone.now instant item.old item.new) result }
+{
+    fire(Way::Ahead, schedule, zone, instant, item).code()
+}
+
+/// Writes the latest of the items whose instant is this one or comes before it.
+#[unsafe(no_mangle)]
+pub extern "C" fn cron_fire_by(
+    schedule: &CronSchedule,
+    zone: &[u8],
+    instant: i64,
+    item: &mut CronItem,
+) -> u32
+    ensures { Answers (Fires IsLastBy (sets_of schedule.now) zone.now instant item.old item.new) result }
+{
+    fire(Way::Back, schedule, zone, instant, item).code()
+}

@@ -1,0 +1,68 @@
+"""The C interface over ctypes."""
+
+import ctypes
+
+OK, NO_ITEM, REFUSED = 0, 1, 2
+
+
+class Schedule(ctypes.Structure):
+    _fields_ = [("words", ctypes.c_uint64 * 10)]
+
+
+class Item(ctypes.Structure):
+    _fields_ = [("instant", ctypes.c_int64), ("offset", ctypes.c_int32)]
+
+
+def load(path):
+    """The library in a shared object."""
+    library = ctypes.CDLL(path)
+    size, pointer = ctypes.c_size_t, ctypes.POINTER
+    text = [ctypes.c_char_p, size]
+    library.cron_parse.argtypes = text + [pointer(Schedule)] + text + [pointer(size)]
+    for name in ("cron_after", "cron_fire_after", "cron_fire_by"):
+        call = getattr(library, name)
+        call.argtypes = [pointer(Schedule)] + text + [ctypes.c_int64, pointer(Item)]
+        call.restype = ctypes.c_uint32
+    library.cron_next.argtypes = [pointer(Schedule)] + text + [pointer(Item)]
+    library.cron_format.argtypes = [pointer(Item)] + text + [pointer(size)]
+    for name in ("cron_parse", "cron_next", "cron_format"):
+        getattr(library, name).restype = ctypes.c_uint32
+    return library
+
+
+def parse(library, text):
+    """The schedule of a text. ValueError tells why it means nothing."""
+    text = text.encode()
+    schedule, needed = Schedule(), ctypes.c_size_t()
+    message = ctypes.create_string_buffer(2 * len(text) + 100)
+    status = library.cron_parse(text, len(text), schedule, message, len(message), needed)
+    if status == REFUSED:
+        raise ValueError(message.raw[: needed.value].decode())
+    if status != OK:
+        raise ValueError(f"status {status}")
+    return schedule
+
+
+def found(call, schedule, zone, instant):
+    """What a call by an instant finds, or None."""
+    zone, item = zone.encode(), Item()
+    status = call(schedule, zone, len(zone), instant, item)
+    if status not in (OK, NO_ITEM):
+        raise ValueError(f"status {status}")
+    return item if status == OK else None
+
+
+def items_after(library, schedule, zone, instant):
+    """A walk over the items after an instant."""
+    item = found(library.cron_after, schedule, zone, instant)
+    zone, status = zone.encode(), OK if item else NO_ITEM
+    while status == OK:
+        yield Item(item.instant, item.offset)
+        status = library.cron_next(schedule, zone, len(zone), item)
+
+
+def text_of(library, item):
+    """The text of an item."""
+    text, length = ctypes.create_string_buffer(32), ctypes.c_size_t()
+    library.cron_format(item, text, len(text), length)
+    return text.raw[: length.value].decode()
