@@ -4,7 +4,7 @@ use Rattle.jiff_tz.specs.declared.timezone.TimeZone.{TimeZone}
 use Rattle.jiff_tz.specs.declared.timezone.TimeZone.TheVariants.{UTC, Unknown, Fixed, Posix, Tzif}
 use Rattle.jiff_tz.specs.Zone.{IsFixed, offset_at, ambiguous_at}
 use Rattle.cron_moments.specs.Civil.{civil, seconds_in_range}
-use Rattle.cron_clocks.specs.ClockLaws.{FixedZonesAgree}
+use Rattle.cron_clocks.specs.Clocks.{FixedZonesAgree}
 use Rattle.cron_clocks.proofs.ToldLemmas.{IsTold, Holds, agree_where_told}
 
 fixed_told : (z : TimeZone) → IsFixed z → (c : ℕ) → c < seconds_in_range → IsTold (Holds z c) (ambiguous_at z (civil c))

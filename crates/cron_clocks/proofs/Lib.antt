@@ -1,4 +1,3 @@
-pub mod AgreementLemmas
 pub mod ToldLemmas
 pub mod FixedZones
 pub mod RuleDays
@@ -9,3 +8,5 @@ pub mod Seasons
 pub mod RuleSeasons
 pub mod RuleTold
 pub mod RuleAgreement
+pub mod SpanLemmas
+pub mod SteadyLemmas

@@ -1,5 +1,5 @@
 -- The seconds of a year among which a rule's turn is in every year.
-use Rattle.std.proofs.Common.{◌≡◌, ℕ, ◌<◌, false, ℤ, pos, ◌+ℤ◌, ◌-ℤ◌, ◌*ℤ◌, ◌≤ℤ◌, int_lt, refl, arith}
+use Rattle.std.proofs.Common.{◌≡◌, ℕ, ◌<◌, ℤ, pos, ◌+ℤ◌, ◌-ℤ◌, ◌*ℤ◌, ◌≤ℤ◌, refl, arith}
 use Rattle.jiff_core.specs.Calendar.{IsWithin}
 use Rattle.jiff_core.specs.Timestamp.{IsOffsetSeconds, nanos_of_seconds}
 use Rattle.jiff_core.proofs.CalendarLemmas.{days_in_year_bounds}

@@ -11,7 +11,6 @@ use Rattle.jiff_tz.specs.declared.timezone.TimeZone.{TimeZone}
 use Rattle.jiff_tz.specs.Zone.{ambiguous_at}
 use Rattle.cron_moments.specs.Civil.{civil, seconds_in_range}
 use Rattle.cron_moments.specs.Readings.{Reading, reading, readings, readings_by, instant}
-use Rattle.cron_time.proofs.PlaceLemmas.{nothing_in_nil}
 use Rattle.cron_clocks.specs.Clocks.{LookupsAgree, HasInstant, shown_offset}
 
 -- the offsets that are told are those that pass
@@ -29,6 +28,10 @@ Holds z c x = shown_offset z (pos c -ℤ x) ≡ x
 record Passes (passes : ℤ → Type 0) (c : ℕ) (r : Reading) : Type 0 where
   second : r.second ≡ c
   offset : passes r.offset.seconds
+
+nothing_in_nil : {A : Type 0} (i : ℕ) (x : A) → slice_get [] i ≡ Some x → ⊥
+nothing_in_nil zero x e = cc
+nothing_in_nil (suc i) x e = cc
 
 module _ (passes : ℤ → Type 0) (c : ℕ) where
   one_passes : (o : Offset) (i : ℕ) (r : Reading) → passes o.seconds → slice_get (reading c o ∷ []) i ≡ Some r → Passes passes c r

@@ -2,7 +2,7 @@
 use Rattle.std.specs.Prelude.{◌≡◌, ℕ, ◌<◌, ℤ, pos, ◌+ℤ◌, List, Some, slice_get}
 use Rattle.jiff_core.specs.Timestamp.{nanos_of_seconds}
 use Rattle.jiff_tz.specs.declared.timezone.TimeZone.{TimeZone}
-use Rattle.jiff_tz.specs.Zone.{offset_at}
+use Rattle.jiff_tz.specs.Zone.{IsFixed, offset_at}
 use Rattle.cron_moments.specs.Civil.{seconds_in_range}
 use Rattle.cron_moments.specs.Readings.{Reading, readings, instant}
 
@@ -36,3 +36,7 @@ ShownAreRead z =
 pub record LookupsAgree (z : TimeZone) : Type 0 where
   pub readings_shown : ReadingsAreShown z
   pub shown_read : ShownAreRead z
+
+-- in UTC, and in every zone with one offset, the look-ups agree
+abbrev pub FixedZonesAgree : Type 0
+FixedZonesAgree = (z : TimeZone) → IsFixed z → LookupsAgree z

@@ -1,3 +1,4 @@
 pub mod Clocks
-pub mod ClockLaws
 pub mod Turns
+pub mod Spans
+pub mod Steady

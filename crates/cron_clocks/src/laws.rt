@@ -1,19 +1,8 @@
-//! Laws over the definitions. No program calls these functions.
+//! A law over the definitions. No program calls this function.
 
-ghost use Rattle.cron_clocks.specs.ClockLaws.{FixedZonesAgree, InstantsAreApart, ItemsAreTheMatches};
+ghost use Rattle.cron_clocks.specs.Clocks.{FixedZonesAgree};
 
 /// In UTC, and in every zone with one offset, the two look-ups agree.
 pub fn fixed_zones_agree()
     ensures { FixedZonesAgree }
-{}
-
-/// Where the look-ups of a zone agree, no two items of a timeline in it share an instant.
-pub fn instants_are_apart()
-    ensures { InstantsAreApart }
-{}
-
-/// Where they agree, an instant shows a matching civil second of the range exactly if an item has
-/// that instant.
-pub fn items_are_the_matches()
-    ensures { ItemsAreTheMatches }
 {}

@@ -1,9 +1,11 @@
-//! When the two look-ups of a zone agree, the offset at an instant and the readings of a civil
-//! second, and what follows for the items of a timeline.
+//! What a zone tells of civil seconds and of instants: when these two look-ups agree, and stretches of
+//! civil seconds that it reads at the same offsets.
 #![tactic(auto)]
 
 mod agreement;
 pub mod laws;
+mod rule;
+pub mod stretch;
 #[cfg(test)]
 mod tests;
 mod turns;

@@ -23,7 +23,7 @@ struct Days {
 
 // Seconds of a year, from the first to the last, counted from its beginning on the wall clock.
 #[derive(Clone, Copy)]
-struct Stretch {
+struct Seconds {
     first: i64,
     last: i64,
 }
@@ -32,8 +32,8 @@ struct Stretch {
 pub fn turns_apart(dst: Dst) -> bool
     ensures { IsTrue result → TurnsAreApart dst }
 {
-    let start = stretch_of(dst.rule.start);
-    let end = stretch_of(dst.rule.end);
+    let start = seconds_of(dst.rule.start);
+    let end = seconds_of(dst.rule.end);
     if !is_inside(start) || !is_inside(end) {
         return false;
     }
@@ -41,15 +41,15 @@ pub fn turns_apart(dst: Dst) -> bool
 }
 
 // Whether the seconds lie a week or more from the edges of every year.
-fn is_inside(stretch: Stretch) -> bool
-    requires { IsWithin 100_000_000 stretch.last }
-    ensures { IsTrue result → IsInside stretch.first stretch.last }
+fn is_inside(seconds: Seconds) -> bool
+    requires { IsWithin 100_000_000 seconds.last }
+    ensures { IsTrue result → IsInside seconds.first seconds.last }
 {
-    WEEK <= stretch.first && stretch.last + WEEK <= YEAR
+    WEEK <= seconds.first && seconds.last + WEEK <= YEAR
 }
 
 // Whether the one ends a week or more before the other begins.
-fn is_before(earlier: Stretch, later: Stretch) -> bool
+fn is_before(earlier: Seconds, later: Seconds) -> bool
     requires { IsWithin 100_000_000 earlier.last }
     ensures { IsTrue result → (earlier.last +ℤ week) ≤ℤ later.first }
 {
@@ -57,12 +57,12 @@ fn is_before(earlier: Stretch, later: Stretch) -> bool
 }
 
 // The seconds of a year among which the turn lies in every year.
-fn stretch_of(turn: DayTime) -> Stretch
+fn seconds_of(turn: DayTime) -> Seconds
     ensures turns { IsInside result.first result.last → AlwaysTurnsWithin result.first result.last turn }
     ensures bound { IsWithin 100_000_000 result.last }
 {
     let days = days_of(turn.date);
-    Stretch {
+    Seconds {
         first: second_of(days.first, turn.time),
         last: second_of(days.last, turn.time),
     }

@@ -2,7 +2,7 @@
 use Rattle.std.proofs.Common.{◌≡◌, ℕ, zero, suc, ◌<◌, Bool, true, false, cond, List, [], ◌∷◌, Option, Some, None, ◌⊎◌, inl, inr, refl, sym, ap, ◌∙◌, arith}
 use Rattle.std.specs.Prelude.{filter, slice_get, MatchOption}
 use Rattle.jiff_core.proofs.SignedLemmas.{signed_arith}
-use Rattle.cron_clocks.proofs.AgreementLemmas.{same_offset, same_reading}
+use Rattle.cron_instants.proofs.AgreementLemmas.{same_offset, same_reading}
 use Rattle.cron_moments.specs.Readings.{Reading, instant}
 use Rattle.cron_time.proofs.PlaceLemmas.{nothing_in_nil}
 use Rattle.cron_units.specs.declared.way.Way.TheVariants.{Ahead}

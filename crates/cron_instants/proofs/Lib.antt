@@ -3,6 +3,6 @@ pub mod OrderLemmas
 pub mod BestLemmas
 pub mod StretchLemmas
 pub mod ItemLemmas
-pub mod TurnLemmas
+pub mod AgreementLemmas
 pub mod AscentLemmas
 pub mod FireLemmas

@@ -4,7 +4,6 @@
 
 pub mod instants;
 mod item;
+pub mod laws;
 mod matching;
-mod rule;
 mod search;
-mod stretch;

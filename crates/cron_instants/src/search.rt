@@ -7,7 +7,8 @@ ghost use Rattle.cron_instants.specs.Inner.Beyond.{IsBest, IsBeyond, IsEntered, 
 
 use crate::item::{instant_of, nearer};
 use crate::matching::nearest_match;
-use crate::stretch::{SECONDS, Stretch};
+use cron_clocks::stretch::Stretch;
+use cron_moments::civil::SECONDS;
 use cron_moments::moment::{Moment, moment_numbered};
 use cron_units::fields::ScheduleFields;
 use cron_units::way::Way;
@@ -31,7 +32,7 @@ fn entrance(way: Way, mark: Mark) -> Option<u32>
     match way {
         Way::Ahead => {
             let from = mark.instant - FURTHEST;
-            if from >= SECONDS as i64 {
+            if from >= SECONDS {
                 return None;
             }
             Some(from.max(0) as u32)
@@ -41,7 +42,7 @@ fn entrance(way: Way, mark: Mark) -> Option<u32>
             if from < 0 {
                 return None;
             }
-            Some(from.min(SECONDS as i64 - 1) as u32)
+            Some(from.min(SECONDS - 1) as u32)
         }
     }
 }
@@ -150,7 +151,7 @@ fn next_past(
 {
     let edge = match way {
         Way::Ahead => {
-            if stretch.end >= SECONDS {
+            if i64::from(stretch.end) >= SECONDS {
                 return None;
             }
             stretch.end

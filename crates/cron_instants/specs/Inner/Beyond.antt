@@ -10,8 +10,8 @@ use Rattle.cron_moments.specs.Civil.{civil, seconds_in_range}
 use Rattle.cron_time.specs.Matches.{matches}
 use Rattle.cron_moments.specs.Readings.{Reading, instant, readings}
 use Rattle.cron_instants.specs.Order.{comes_before, is_earlier}
-use Rattle.cron_instants.specs.Inner.Steady.{readings_at}
-use Rattle.cron_instants.specs.declared.stretch.Stretch.{Stretch}
+use Rattle.cron_clocks.specs.Steady.{readings_at}
+use Rattle.cron_clocks.specs.declared.stretch.Stretch.{Stretch}
 
 -- the reading lies beyond an instant and a civil second, in this direction
 abbrev pub beyond : Way → ℤ → ℕ → Reading → Bool

@@ -11,12 +11,12 @@ returns-then-is_before c =
     λ before.
     let start = c.is_inside.ensures (is_true c.is_inside.result c.if-not-is_inside.false) in
     let end = c.is_inside-else-not-is_inside.ensures (is_true c.is_inside-else-not-is_inside.result c.if-not-is_inside-2.false) in
-    inl (in_order _ _ _ _ _ _ (c.stretch_of-start.ensures.turns start) (c.stretch_of-end.ensures.turns end) start.0 (c.is_before.ensures before) end.1)
+    inl (in_order _ _ _ _ _ _ (c.seconds_of-start.ensures.turns start) (c.seconds_of-end.ensures.turns end) start.0 (c.is_before.ensures before) end.1)
 
 pub returns-else-is_before : goal.returns-else-is_before
 returns-else-is_before c =
     λ before.
     let start = c.is_inside.ensures (is_true c.is_inside.result c.if-not-is_inside.false) in
     let end = c.is_inside-else-not-is_inside.ensures (is_true c.is_inside-else-not-is_inside.result c.if-not-is_inside-2.false) in
-    inr (in_order _ _ _ _ _ _ (c.stretch_of-end.ensures.turns end) (c.stretch_of-start.ensures.turns start) end.0
+    inr (in_order _ _ _ _ _ _ (c.seconds_of-end.ensures.turns end) (c.seconds_of-start.ensures.turns start) end.0
     (c.is_before-else-is_before.ensures before) start.1)

@@ -1,0 +1,228 @@
+//! The civil seconds between the turns of a rule.
+ghost use Rattle.std.specs.Prelude.{◌≡◌, ◌≤◌, ◌<◌, pos, neg_ℤ, ◌+ℤ◌, ◌-ℤ◌, ◌*ℤ◌, ◌≤ℤ◌, ◌<ℤ◌, Some, true};
+ghost use Rattle.jiff_core.specs.Calendar.{IsYear, IsBetween, IsWithin, days_in_year};
+ghost use Rattle.jiff_core.specs.Date.{epoch_day};
+ghost use Rattle.jiff_core.specs.Timestamp.{nanos_of_seconds};
+ghost use Rattle.jiff_tz.specs.PosixDay.{is_rule_day};
+ghost use Rattle.jiff_tz.specs.PosixRule.{clamp_to, rule_day, rule_nanos, sunday_number, weekday_of_month};
+ghost use Rattle.jiff_tz.specs.PosixRule as Rule;
+ghost use Rattle.cron_moments.specs.Civil.{seconds_in_range};
+ghost use Rattle.cron_clocks.specs.Spans.{IsFirstFrom, IsNarrowed, IsToldAlike, IsUnparted};
+
+use cron_moments::civil::{SECONDS, civil_of};
+use jiff_core::civil::{Date, days_in_year, is_leap_year};
+use jiff_tz::posix::{Day, DayTime, Dst, TimeZone};
+
+const DAY: i64 = 86_400;
+
+/// Civil seconds from a first one to an end.
+#[derive(Clone, Copy)]
+pub(crate) struct Span {
+    pub first: i64,
+    pub end: i64,
+}
+
+// The civil seconds of the range.
+const WHOLE: Span = Span {
+    first: 0,
+    end: SECONDS,
+};
+
+// The day number of 1 January.
+fn new_year(year: i16) -> i32
+    requires { IsYear year }
+    ensures value { result ≡ Rule.first_day year }
+    ensures bound { IsBetween (neg_ℤ (pos 4_371_587)) (pos 2_932_896) result }
+{
+    Date::constrain(year, 1, 1).to_unix_epoch_day()
+}
+
+// The civil seconds of a year.
+fn year_span(year: i16) -> Span
+    requires { IsYear year }
+    ensures first { result.first ≡ Rule.first_day year *ℤ pos 86_400 }
+    ensures end { result.end ≡ (Rule.first_day year +ℤ pos (days_in_year year)) *ℤ pos 86_400 }
+    ensures low { IsWithin 400_000_000_000 result.first }
+    ensures high { IsWithin 400_000_000_000 result.end }
+    ensures order { result.first ≤ℤ result.end }
+{
+    let first = i64::from(new_year(year));
+    Span {
+        first: first * DAY,
+        end: (first + i64::from(days_in_year(year))) * DAY,
+    }
+}
+
+// The weekday, from 0 for Sunday.
+fn sunday_zero(date: Date) -> u8
+    ensures value { result ≡ sunday_number (epoch_day date) }
+    ensures bound { result < 7 }
+{
+    (date.weekday().index() + 1) % 7
+}
+
+// The day number of the weekday in the week of the month, where week 5 is the last.
+fn day_of_week(year: i16, month: u8, week: u8, weekday: u8) -> i32
+    requires year_in { IsYear year }
+    requires month_in { (1 ≤ month) × (month ≤ 12) }
+    requires week_in { (1 ≤ week) × (week ≤ 5) }
+    requires weekday_in { weekday ≤ 6 }
+    ensures { result ≡ weekday_of_month year month week weekday }
+{
+    if week == 5 {
+        let last = Date::constrain(year, month, 31);
+        let back = (sunday_zero(last) + 7 - weekday) % 7;
+        last.to_unix_epoch_day() - i32::from(back)
+    } else {
+        let first = Date::constrain(year, month, 1);
+        let ahead = (weekday + 7 - sunday_zero(first)) % 7;
+        first.to_unix_epoch_day() + i32::from(ahead) + 7 * (i32::from(week) - 1)
+    }
+}
+
+// The number of the rule's day in the year, and nothing for day 365 of a year that lacks it.
+fn day_in(day: Day, year: i16) -> Option<i32>
+    requires year_in { IsYear year }
+    requires day_in { is_rule_day day ≡ true }
+    ensures { result ≡ rule_day year day }
+{
+    match day {
+        Day::JulianOne(number) => {
+            let leap_day = if is_leap_year(year) && number >= 60 {
+                1
+            } else {
+                0
+            };
+            Some(new_year(year) + i32::from(number - 1 + leap_day))
+        }
+        Day::JulianZero(number) => {
+            if number >= days_in_year(year) {
+                return None;
+            }
+            Some(new_year(year) + i32::from(number))
+        }
+        Day::WeekdayOfMonth {
+            month,
+            week,
+            weekday,
+        } => Some(day_of_week(year, month, week, weekday)),
+    }
+}
+
+// The second, or the edge of the span that is nearer to it.
+fn kept_within(span: Span, second: i64) -> i64
+    requires { span.first ≤ℤ span.end }
+    ensures value { IsFirstFrom (clamp_to (nanos_of_seconds span.first) (nanos_of_seconds span.end -ℤ pos 1) (nanos_of_seconds second)) result }
+    ensures bound { IsBetween span.first span.end result }
+{
+    if second < span.first {
+        span.first
+    } else if span.end < second {
+        span.end
+    } else {
+        second
+    }
+}
+
+// The civil second that is so many seconds after the day's midnight, or before it.
+fn second_of(day: i32, time: i32) -> i64
+    requires { IsWithin 604_799 time }
+    ensures { result ≡ day *ℤ pos 86_400 +ℤ time }
+{
+    i64::from(day) * DAY + i64::from(time)
+}
+
+// The civil second at which a rule's turn lies in the year, on the clock that turns.
+fn turn_in(turn: DayTime, year: i16) -> i64
+    requires { IsYear year }
+    ensures value { IsFirstFrom (rule_nanos year turn (pos 0)) result }
+    ensures low { (Rule.first_day year *ℤ pos 86_400) ≤ℤ result }
+    ensures high { result ≤ℤ ((Rule.first_day year +ℤ pos (days_in_year year)) *ℤ pos 86_400) }
+    ensures bound { IsWithin 400_000_000_000 result }
+{
+    let span = year_span(year);
+    match day_in(turn.date, year) {
+        Some(day) => kept_within(span, second_of(day, turn.time)),
+        None => span.end,
+    }
+}
+
+// The part of the span that has the second in it, where the span is parted at the turn.
+fn parted(span: Span, second: i64, turn: i64) -> Span
+    requires low { span.first ≤ℤ second }
+    requires high { second <ℤ span.end }
+    ensures low { result.first ≤ℤ second }
+    ensures high { second <ℤ result.end }
+    ensures narrowed { IsNarrowed span.first span.end result.first result.end }
+    ensures unparted { IsUnparted result.first result.end turn }
+{
+    if turn <= span.first || span.end <= turn {
+        span
+    } else if turn <= second {
+        Span {
+            first: turn,
+            end: span.end,
+        }
+    } else {
+        Span {
+            first: span.first,
+            end: turn,
+        }
+    }
+}
+
+// The part of it where it is parted at two turns.
+fn parted_twice(span: Span, second: i64, one: i64, other: i64) -> Span
+    requires low { span.first ≤ℤ second }
+    requires high { second <ℤ span.end }
+    ensures low { result.first ≤ℤ second }
+    ensures high { second <ℤ result.end }
+    ensures narrowed { IsNarrowed span.first span.end result.first result.end }
+    ensures one { IsUnparted result.first result.end one }
+    ensures other { IsUnparted result.first result.end other }
+{
+    parted(parted(span, second, one), second, other)
+}
+
+// How far the clock is ahead in the saving, in seconds.
+fn saving_of(rule: TimeZone, dst: Dst) -> i64
+    ensures value { result ≡ dst.offset.seconds -ℤ rule.std_offset.seconds }
+    ensures bound { IsWithin 200_000 result }
+{
+    i64::from(dst.offset.seconds) - i64::from(rule.std_offset.seconds)
+}
+
+// The civil seconds of the year around this one with no turn between them. At a turn a gap or a fold
+// begins or ends, and so does one as long as the saving after the start of it, and before its end.
+fn between_turns(rule: TimeZone, dst: Dst, second: u32) -> Span
+    requires range { second < seconds_in_range }
+    requires saving { rule.dst ≡ Some dst }
+    ensures alike { IsToldAlike rule second result.first result.end }
+    ensures low { result.first ≤ℤ pos second }
+    ensures high { pos second <ℤ result.end }
+    ensures narrowed { IsNarrowed (pos 0) (pos seconds_in_range) result.first result.end }
+{
+    let at = i64::from(second);
+    let number = civil_of(second).to_plain().date.year;
+    let year = year_span(number);
+    let saving = saving_of(rule, dst);
+    let start = turn_in(dst.rule.start, number);
+    let end = turn_in(dst.rule.end, number);
+    let in_year = parted_twice(WHOLE, at, year.first, year.end);
+    let by_start = parted_twice(in_year, at, start, start + saving);
+    parted_twice(by_start, at, end, end - saving)
+}
+
+/// The civil seconds around this one of which the rule tells what it tells of this one.
+pub(crate) fn span_at(rule: TimeZone, second: u32) -> Span
+    requires { second < seconds_in_range }
+    ensures alike { IsToldAlike rule second result.first result.end }
+    ensures low { result.first ≤ℤ pos second }
+    ensures high { pos second <ℤ result.end }
+    ensures narrowed { IsNarrowed (pos 0) (pos seconds_in_range) result.first result.end }
+{
+    match rule.dst {
+        Some(dst) => between_turns(rule, dst, second),
+        None => WHOLE,
+    }
+}

@@ -1,0 +1,100 @@
+//! Stretches of civil seconds that have their readings at the same offsets.
+ghost use Rattle.std.specs.Prelude.{◌≡◌, ◌+◌, ◌≤◌, ◌<◌};
+ghost use Rattle.jiff.specs.Words.{plain_zone};
+ghost use Rattle.jiff_tz.specs.Zone.{ambiguous_at};
+ghost use Rattle.jiff_tz.specs.declared.timezone.TimeZone.TheVariants.{Posix};
+ghost use Rattle.cron_moments.specs.Civil.{civil, seconds_in_range};
+ghost use Rattle.cron_clocks.specs.Steady.{IsSteady, IsToldBy, whole_range};
+
+use crate::rule::span_at;
+use cron_moments::civil::{SECONDS, civil_of};
+use jiff::tz::{AmbiguousOffset, Offset, TimeZone};
+use jiff_tz::posix;
+
+/// Civil seconds from a first one to an end, each with its readings at the same offsets: none in a
+/// gap; one; or two in a fold, that before the turn and that after it.
+#[derive(Clone, Copy)]
+pub struct Stretch {
+    pub first: u32,
+    pub end: u32,
+    pub earlier: Option<Offset>,
+    pub later: Option<Offset>,
+}
+
+// The whole range at one offset.
+fn whole(offset: Offset) -> Stretch
+    ensures { result ≡ whole_range offset }
+{
+    Stretch {
+        first: 0,
+        end: SECONDS as u32,
+        earlier: Some(offset),
+        later: None,
+    }
+}
+
+// The offsets at which a zone reads a civil second.
+fn offsets_at(zone: &TimeZone<'_>, second: u32) -> (Option<Offset>, Option<Offset>)
+    ensures { IsToldBy (ambiguous_at (plain_zone zone.now) (civil second)) result.0 result.1 }
+{
+    match zone.to_ambiguous_timestamp(civil_of(second)).offset() {
+        AmbiguousOffset::Gap { .. } => (None, None),
+        AmbiguousOffset::Unambiguous { offset } => (Some(offset), None),
+        AmbiguousOffset::Fold { before, after } => {
+            if before == after {
+                return (Some(before), None);
+            }
+            (Some(before), Some(after))
+        }
+    }
+}
+
+// A single civil second, as the zone tells it.
+fn single(zone: &TimeZone<'_>, second: u32) -> Stretch
+    requires { second < seconds_in_range }
+    ensures steady { IsSteady (plain_zone zone.now) result }
+    ensures holds { (result.first ≡ second) × (result.end ≡ second + 1) }
+{
+    let (earlier, later) = offsets_at(zone, second);
+    Stretch {
+        first: second,
+        end: second + 1,
+        earlier,
+        later,
+    }
+}
+
+// The civil seconds around this one of which a rule tells what it tells of this one.
+fn between_turns(zone: &TimeZone<'_>, rule: posix::TimeZone, second: u32) -> Stretch
+    requires range { second < seconds_in_range }
+    requires rule { plain_zone zone.now ≡ Posix rule }
+    ensures steady { IsSteady (plain_zone zone.now) result }
+    ensures low { result.first ≤ second }
+    ensures high { second < result.end }
+{
+    let span = span_at(rule, second);
+    let (earlier, later) = offsets_at(zone, second);
+    Stretch {
+        first: span.first as u32,
+        end: span.end as u32,
+        earlier,
+        later,
+    }
+}
+
+impl Stretch {
+    /// A stretch with this civil second in it.
+    pub fn at(zone: &TimeZone<'_>, second: u32) -> Stretch
+        requires { second < seconds_in_range }
+        ensures steady { IsSteady (plain_zone zone.now) result }
+        ensures low { result.first ≤ second }
+        ensures high { second < result.end }
+    {
+        match zone.to_plain() {
+            jiff_tz::TimeZone::UTC | jiff_tz::TimeZone::Unknown => whole(Offset::UTC),
+            jiff_tz::TimeZone::Fixed(offset) => whole(Offset::from_plain(offset)),
+            jiff_tz::TimeZone::Posix(rule) => between_turns(zone, rule, second),
+            jiff_tz::TimeZone::Tzif(_) => single(zone, second),
+        }
+    }
+}
