@@ -9,7 +9,7 @@ use Rattle.cron_units.specs.declared.way.Way.TheVariants.{Ahead}
 use Rattle.cron_instants.specs.Fires.{insert, earliest_first}
 use Rattle.cron_instants.specs.Instants.{IsEarliest}
 use Rattle.cron_instants.specs.Order.{is_earlier}
-use Rattle.cron_instants.proofs.OrderLemmas.{before-false, before-not_shared, nearer-through, nearer-not_back}
+use Rattle.cron_instants.proofs.OrderLemmas.{before-false, before-not_shared, before-through, nearer-not_back}
 
 -- ---- the order
 
@@ -20,12 +20,7 @@ pub earlier-not_itself : (a : Reading) → is_earlier a a ≡ false
 earlier-not_itself a = before-not_shared (instant a) a.second (instant a) a.second refl (omega arith)
 
 pub earlier-through : (a b c : Reading) → is_earlier a b ≡ true → is_earlier b c ≡ true → is_earlier a c ≡ true
-earlier-through a b c h g = by_test (is_earlier a c) refl
-  where
-    by_test : (t : Bool) → is_earlier a c ≡ t → t ≡ true
-    by_test true is = refl
-    by_test false is =
-        let back : is_earlier a b ≡ false = nearer-through Ahead a c b is (earlier-not_back b c g) in cc
+earlier-through a b c h g = before-through (instant a) (instant b) (instant c) a.second b.second c.second h g
 
 alike_by : (a b : Reading) → instant a ≡ instant b → a.second ≡ b.second → a ≡ b
 alike_by a b e f =

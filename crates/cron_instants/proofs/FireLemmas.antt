@@ -35,10 +35,13 @@ fires-of_item s z r h = earliest_first-among (timeline s z) r h
 pub int_lt-true : (a b : ℤ) → int_lt a b ≡ true → a <ℤ b
 int_lt-true a b h = grind (arith, ints)
 
+pub int_le-true : (a b : ℤ) → int_le a b ≡ true → a ≤ℤ b
+int_le-true a b h = grind (arith, ints)
+
 pub int_le-false : (a b : ℤ) → int_le a b ≡ false → b <ℤ a
 int_le-false a b h = grind (arith, ints)
 
-not_later : (a b : Reading) → is_earlier a b ≡ true → instant a ≤ℤ instant b
+pub not_later : (a b : Reading) → is_earlier a b ≡ true → instant a ≤ℤ instant b
 not_later a b h = elim (before-true (instant a) a.second (instant b) b.second h) [
   | inl less ↦ omega (arith, signed_arith)
   | inr same ↦ let equal = same.0 in omega (arith, signed_arith)

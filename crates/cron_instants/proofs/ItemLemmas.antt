@@ -69,10 +69,10 @@ item_of s z r st =
 
 -- ---- instants
 
-after_beyond : (t i : ℤ) (r : Reading) → i ≡ int_div_euclid t (pos 1_000_000_000) → IsAfter t r → beyond Ahead i 4_294_967_295 r ≡ true
+pub after_beyond : (t i : ℤ) (r : Reading) → i ≡ int_div_euclid t (pos 1_000_000_000) → IsAfter t r → beyond Ahead i 4_294_967_295 r ≡ true
 after_beyond t i r is after = before-less i 4_294_967_295 (instant r) r.second (omega (arith, signed_arith))
 
-beyond_after : (t i : ℤ) (r : Reading) → i ≡ int_div_euclid t (pos 1_000_000_000) → r.second < seconds_in_range
+pub beyond_after : (t i : ℤ) (r : Reading) → i ≡ int_div_euclid t (pos 1_000_000_000) → r.second < seconds_in_range
     → beyond Ahead i 4_294_967_295 r ≡ true → IsAfter t r
 beyond_after t i r is high past = elim (before-true i 4_294_967_295 (instant r) r.second past) [
   | inl less ↦ omega (arith, signed_arith)

@@ -6,3 +6,4 @@ pub mod ItemLemmas
 pub mod AgreementLemmas
 pub mod AscentLemmas
 pub mod FireLemmas
+pub mod RunLemmas

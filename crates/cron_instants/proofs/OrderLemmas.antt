@@ -56,6 +56,14 @@ not_back i j c d h =
       | inr same ↦ let equal = same.0 in let less = same.1 in before-not_shared j d i c (omega (arith, signed_arith)) (omega arith)
     ]
 
+-- and it is passed on
+pub before-through : (i j k : ℤ) (c d e : ℕ) → comes_before i c j d ≡ true → comes_before j d k e ≡ true → comes_before i c k e ≡ true
+before-through i j k c d e h g = by_test (comes_before i c k e) refl
+  where
+    by_test : (t : Bool) → comes_before i c k e ≡ t → t ≡ true
+    by_test true is = refl
+    by_test false is = let back = through i k j c e d is (not_back j k d e g) in cc
+
 pub nearer-through : (way : Way) (a b c : Reading) → is_nearer way a b ≡ false → is_nearer way b c ≡ false → is_nearer way a c ≡ false
 nearer-through Ahead a b c h g = through (instant a) (instant b) (instant c) a.second b.second c.second h g
 nearer-through Back a b c h g = through (instant c) (instant b) (instant a) c.second b.second a.second g h

@@ -2,9 +2,9 @@
 ghost use Rattle.jiff.specs.Words.{plain_zone};
 ghost use Rattle.cron_instants.specs.Instants.{IsFirstAfter, IsFirstPast, IsLastBy};
 
-use crate::item::instant_of;
-use crate::search::{Mark, nearest_item};
-use cron_moments::moment::{Moment, civil_second};
+use crate::mark::Mark;
+use crate::search::nearest_item;
+use cron_moments::moment::Moment;
 use cron_units::fields::ScheduleFields;
 use cron_units::way::Way;
 use jiff::Timestamp;
@@ -14,31 +14,19 @@ use jiff::tz::TimeZone;
 pub fn first_after(fields: &ScheduleFields, zone: &TimeZone<'_>, now: Timestamp) -> Option<Moment>
     ensures { IsFirstAfter fields.now (plain_zone zone.now) now.nanosecond result }
 {
-    let mark = Mark {
-        instant: now.to_plain().floor_second(),
-        second: u32::MAX,
-    };
-    nearest_item(fields, zone, Way::Ahead, mark)
+    nearest_item(fields, zone, Way::Ahead, Mark::behind(now))
 }
 
 /// Of the items that are later than this one the earliest. It may be no item of the timeline.
 pub fn first_past(fields: &ScheduleFields, zone: &TimeZone<'_>, item: &Moment) -> Option<Moment>
     ensures { IsFirstPast fields.now (plain_zone zone.now) item.now result }
 {
-    let mark = Mark {
-        instant: instant_of(item),
-        second: civil_second(item),
-    };
-    nearest_item(fields, zone, Way::Ahead, mark)
+    nearest_item(fields, zone, Way::Ahead, Mark::of(item))
 }
 
 /// Of the items whose instant is `now` or comes before it the latest.
 pub fn last_by(fields: &ScheduleFields, zone: &TimeZone<'_>, now: Timestamp) -> Option<Moment>
     ensures { IsLastBy fields.now (plain_zone zone.now) now.nanosecond result }
 {
-    let mark = Mark {
-        instant: now.to_plain().floor_second(),
-        second: u32::MAX,
-    };
-    nearest_item(fields, zone, Way::Back, mark)
+    nearest_item(fields, zone, Way::Back, Mark::behind(now))
 }

@@ -1,9 +1,11 @@
-//! The items of a timeline by their instants: the earliest after an instant, or later than an item, and
-//! the latest by an instant.
+//! The items of a timeline by their instants: the earliest after an instant, or later than an item, the
+//! latest by an instant, and runs over them.
 #![tactic(auto)]
 
 pub mod instants;
 mod item;
 pub mod laws;
+mod mark;
 mod matching;
+pub mod run;
 mod search;

@@ -1,11 +1,11 @@
 //! The nearest item beyond a place among the instants.
-ghost use Rattle.std.specs.Prelude.{◌≡◌, ◌≤◌, ◌<◌, ℕ, IfSome, Some, pos, neg_ℤ};
+ghost use Rattle.std.specs.Prelude.{◌≡◌, ◌≤◌, ◌<◌, ℕ, IfSome, Some};
 ghost use Rattle.jiff.specs.Words.{plain_zone};
-ghost use Rattle.jiff_core.specs.Calendar.{IsBetween};
 ghost use Rattle.cron_moments.specs.Civil.{seconds_in_range};
 ghost use Rattle.cron_instants.specs.Inner.Beyond.{IsBest, IsBeyond, IsEntered, IsGoneOn, IsMatchAt, IsMatchIn, IsNotPast, IsSought, IsStart, entry_of, left_to_pass};
 
 use crate::item::{instant_of, nearer};
+use crate::mark::Mark;
 use crate::matching::nearest_match;
 use cron_clocks::stretch::Stretch;
 use cron_moments::civil::SECONDS;
@@ -16,14 +16,6 @@ use jiff::tz::{Offset, TimeZone};
 
 // No clock is further from UTC, in seconds.
 const FURTHEST: i64 = 93_599;
-
-/// A place among the instants: an instant in seconds, and a civil second among those that share it.
-#[derive(Clone, Copy)]
-pub(crate) struct Mark {
-    pub instant: i64,
-    pub second: u32,
-    pub ghost bounded: { IsBetween (neg_ℤ (pos 400_000_000_000)) (pos 400_000_000_000) instant },
-}
 
 // The civil second from which on an item can lie beyond the mark, if there is one.
 fn entrance(way: Way, mark: Mark) -> Option<u32>

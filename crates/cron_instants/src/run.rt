@@ -1,0 +1,119 @@
+//! Runs over the items of a timeline, in the order of their instants.
+ghost use Rattle.std.specs.Prelude.{◌≡◌};
+ghost use Rattle.std.specs.Iterator.{YieldsFirst};
+ghost use Rattle.jiff.specs.Words.{plain_zone};
+ghost use Rattle.cron_instants.specs.Fires.{fires_after, fires_between, fires_past};
+ghost use Rattle.cron_instants.specs.Inner.Left as left;
+
+use crate::item::instant_of;
+use crate::mark::Mark;
+use crate::search::nearest_item;
+use cron_moments::moment::Moment;
+use cron_units::fields::ScheduleFields;
+use cron_units::way::Way;
+use jiff::Timestamp;
+use jiff::tz::TimeZone;
+use std::marker::Model;
+
+/// Some of the items of the timeline of seven sets in a zone, the earliest first. Contracts see those
+/// that are left. It takes no memory.
+#[derive(Drop)]
+pub struct Run<'a> {
+    fields: ScheduleFields,
+    zone: &'a TimeZone<'a>,
+    mark: Mark,
+    until: Option<i64>,
+}
+
+impl<'a> Model for Run<'a> {
+    ghost use Rattle.std.specs.Prelude.{List};
+    ghost use Rattle.jiff.specs.Words.{plain_zone};
+    ghost use Rattle.cron_moments.specs.Readings.{Reading};
+    ghost use Rattle.cron_instants.specs.Inner.Left.{left_beyond};
+
+    ghost Value = { List Reading };
+
+    ghost view = { λ r. left_beyond r.fields (plain_zone r.zone.now) r.mark.instant r.mark.second r.until };
+}
+
+// Whether the instant isn't past the last one, if there is a last one.
+#[inline(always)]
+fn is_within(until: Option<i64>, instant: i64) -> bool
+    ensures { result ≡ left.is_within until instant }
+{
+    match until {
+        Some(last) => instant <= last,
+        None => true,
+    }
+}
+
+impl<'a> Run<'a> {
+    /// The items whose instant comes after `start`.
+    pub fn after(fields: ScheduleFields, start: Timestamp, zone: &'a TimeZone<'a>) -> Run<'a>
+        ensures { result ≡ fires_after fields (plain_zone zone.now) start.nanosecond }
+    {
+        Run {
+            fields,
+            zone,
+            mark: Mark::behind(start),
+            until: None,
+        }
+    }
+
+    /// The items that are later than this one, which may be none of the timeline.
+    pub fn after_item(fields: ScheduleFields, item: &Moment, zone: &'a TimeZone<'a>) -> Run<'a>
+        ensures { result ≡ fires_past fields (plain_zone zone.now) item.now }
+    {
+        Run {
+            fields,
+            zone,
+            mark: Mark::of(item),
+            until: None,
+        }
+    }
+
+    /// The items whose instant comes after `last` and not after `now`.
+    pub fn between(
+        fields: ScheduleFields,
+        last: Timestamp,
+        now: Timestamp,
+        zone: &'a TimeZone<'a>,
+    ) -> Run<'a>
+        ensures { result ≡ fires_between fields (plain_zone zone.now) last.nanosecond now.nanosecond }
+    {
+        Run {
+            fields,
+            zone,
+            mark: Mark::behind(last),
+            until: Some(now.to_plain().floor_second()),
+        }
+    }
+
+    // Takes the earliest item that is left.
+    fn take_first(&mut self) -> Option<Moment>
+        ensures { YieldsFirst (λ rest. rest) self.old result self.new }
+    {
+        let Some(item) = nearest_item(&self.fields, self.zone, Way::Ahead, self.mark) else {
+            return None;
+        };
+        if !is_within(self.until, instant_of(&item)) {
+            return None;
+        }
+        self.mark = Mark::of(&item);
+        Some(item)
+    }
+}
+
+impl<'a> Iterator for Run<'a> {
+    type Item = Moment;
+
+    ghost use Rattle.std.specs.Iterator.{YieldsFirst, item_count};
+
+    ghost next_gives = { YieldsFirst (λ rest. rest) };
+
+    ghost remaining = { item_count (λ rest. rest) };
+
+    fn next(&mut self) -> Option<Moment> {
+        self.take_first()
+    }
+}
