@@ -14,7 +14,7 @@ use Rattle.cron_moments.specs.MomentText.{moment_text}
 use Rattle.cron_moments.specs.Readings.{Reading}
 use Rattle.cron_time.specs.Walk.Resume.{IsAbsent, IsResumed}
 use Rattle.cron_instants.specs.Instants.{IsFirstAfter, IsLastBy}
-use Rattle.cron_moments.specs.ZoneWords.{IsZoneWord, IsZoneOf}
+use Rattle.cron_moments.specs.Zones.{NamesZone, IsZoneOf}
 use Rattle.cron_c.specs.Buffers.{laid_over}
 use Rattle.cron_c.specs.Statuses.{code_of}
 use Rattle.cron_c.specs.Structs.{IsItem, IsStructOf, sets_of}
@@ -29,7 +29,7 @@ Answers says number = (status : Status) × says status × (number ≡ code_of st
 
 -- the bytes are a text that names a zone
 abbrev pub IsZoneText : List ℕ → Type 0
-IsZoneText bytes = IsUtf8 bytes × IsZoneWord bytes
+IsZoneText bytes = IsUtf8 bytes × NamesZone bytes
 
 -- the instant, by its seconds since 1970-01-01T00:00:00Z, is in range
 abbrev pub IsInstant : ℤ → Type 0

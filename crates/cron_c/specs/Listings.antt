@@ -5,7 +5,7 @@ use Rattle.cron_units.specs.declared.way.Way.{Way}
 use Rattle.cron_units.specs.Sets.{Sets}
 use Rattle.cron_moments.specs.Readings.{Reading}
 use Rattle.cron_time.specs.Walk.Rest.{rest}
-use Rattle.cron_moments.specs.ZoneWords.{IsZoneOf}
+use Rattle.cron_moments.specs.Zones.{IsZoneOf}
 use Rattle.cron_c.specs.Calls.{IsZoneText, IsInstant, start_at}
 use Rattle.cron_c.specs.Structs.{IsItem}
 use Rattle.cron_c.specs.declared.item.CronItem.{CronItem}

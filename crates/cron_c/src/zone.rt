@@ -2,7 +2,7 @@
 
 ghost use Rattle.std.specs.Prelude.{MatchOption};
 ghost use Rattle.jiff.specs.Words.{plain_zone};
-ghost use Rattle.cron_moments.specs.ZoneWords.{IsZoneOf};
+ghost use Rattle.cron_moments.specs.Zones.{IsZoneOf};
 ghost use Rattle.cron_c.specs.Calls.{IsZoneText};
 
 use cron_moments::zone::zone_of;

@@ -1,5 +1,5 @@
 //! The nearest civil second that matches.
-ghost use Rattle.std.specs.Prelude.{◌≡◌, ℕ, ◌<◌, ◌≤◌, IfSome};
+ghost use Rattle.std.specs.Prelude.{◌<◌, IfSome};
 ghost use Rattle.cron_units.specs.Nearest.{IsNearest};
 ghost use Rattle.cron_moments.specs.Civil.{seconds_in_range};
 ghost use Rattle.cron_instants.specs.Inner.Beyond.{is_match};

@@ -1,5 +1,5 @@
 //! The nearest item beyond a place among the instants.
-ghost use Rattle.std.specs.Prelude.{◌≡◌, ◌≤◌, ◌<◌, ℕ, IfSome, Some};
+ghost use Rattle.std.specs.Prelude.{◌≡◌, ◌≤◌, ◌<◌, IfSome, Some};
 ghost use Rattle.jiff.specs.Words.{plain_zone};
 ghost use Rattle.cron_moments.specs.Civil.{seconds_in_range};
 ghost use Rattle.cron_instants.specs.Inner.Beyond.{IsBest, IsBeyond, IsEntered, IsGoneOn, IsMatchAt, IsMatchIn, IsNotPast, IsSought, IsStart, entry_of, left_to_pass};

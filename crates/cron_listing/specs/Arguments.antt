@@ -3,7 +3,7 @@ use Rattle.std.specs.Prelude.{◌≡◌, ◌<◌, ◌^◌, ℕ, Bool, true, fals
 use Rattle.std.specs.Str.{all_ascii_digits}
 use Rattle.std.specs.Str.Parse.{digits_value}
 use Rattle.jiff.specs.Words.{plain_zone, parse_timestamp}
-use Rattle.cron_moments.specs.ZoneWords.{IsZoneWord, IsZoneOf}
+use Rattle.cron_moments.specs.Zones.{NamesZone, IsZoneOf}
 use Rattle.cron_listing.specs.declared.arguments.Request.{Request}
 
 -- one digit or more, and nothing else, whose number fits 32 bits
@@ -12,7 +12,7 @@ IsCount argument = (all_ascii_digits argument ≡ true) × (0 < length argument)
 
 -- START, ZONE and COUNT can be read
 abbrev pub AreReadable : List ℕ → List ℕ → List ℕ → Type 0
-AreReadable start zone count = IsOk (parse_timestamp start) × IsZoneWord zone × IsCount count
+AreReadable start zone count = IsOk (parse_timestamp start) × NamesZone zone × IsCount count
 
 -- the request is what the arguments say
 pub record IsRead (expression start zone count : List ℕ) (back : Bool) (r : Request) : Type 0 where

@@ -127,7 +127,8 @@ march_day number lacking years h el ey =
           }
     ]
 
-late_in_month : (years rest : ℕ) → (5 * rest + 2) / 153 ≤ 9 → rest + 1 - (153 * ((5 * rest + 2) / 153) + 2) / 5 ≤ length_of (23_630 + 12 * years + (5 * rest + 2) / 153)
+late_in_month : (years rest : ℕ) → (5 * rest + 2) / 153 ≤ 9
+    → rest + 1 - (153 * ((5 * rest + 2) / 153) + 2) / 5 ≤ length_of (23_630 + 12 * years + (5 * rest + 2) / 153)
 late_in_month years rest late =
     let e : (23_630 + 12 * years + (5 * rest + 2) / 153) / 12 ≡ 1969 + years = omega arith in
     let m : (23_630 + 12 * years + (5 * rest + 2) / 153) % 12 + 1 ≡ (5 * rest + 461) / 153 = omega arith in
@@ -183,7 +184,8 @@ lacking_by_year years months h =
     ]
 
 before : (years months : ℕ) → months < 12
-    → (years_before (23_630 + 12 * years + months) ≡ (1461 * years + 1) / 4) × (months_before (23_630 + 12 * years + months) ≡ (153 * months + 2) / 5)
+    → (years_before (23_630 + 12 * years + months) ≡ (1461 * years + 1) / 4)
+    × (months_before (23_630 + 12 * years + months) ≡ (153 * months + 2) / 5)
 before years months h =
     let y : (23_630 + 12 * years + months - 23_630) / 12 ≡ years = omega arith in
     let m : (23_630 + 12 * years + months - 23_630) % 12 ≡ months = omega arith in
@@ -197,7 +199,8 @@ made_of number years rest h d =
     let few : (5 * rest + 2) / 153 < 12 = omega arith in
     let end = march_end number years rest h d in
     let last = in_month years rest d.rest_in in
-    let closed = number_closed (23_630 + 12 * years + (5 * rest + 2) / 153) (rest + 1 - (153 * ((5 * rest + 2) / 153) + 2) / 5) end.0 end.1 (omega arith) last in
+    let closed = number_closed (23_630 + 12 * years + (5 * rest + 2) / 153) (rest + 1 - (153 * ((5 * rest + 2) / 153) + 2) / 5)
+    end.0 end.1 (omega arith) last in
     let b = before years ((5 * rest + 2) / 153) few in
     record {
       low = end.0;
@@ -218,14 +221,17 @@ made_from number lacking years h el ey rest er =
 pub made_rank : (number lacking : ℕ) → number < 47_847 → lacking ≡ lacking_at number
     → (before : ℕ) → before ≡ (1461 * ((4 * (number + 306 + lacking) + 2) / 1461) + 1) / 4
     → (sooner : ℕ) → sooner ≡ (153 * ((5 * (number + 306 + lacking - before) + 2) / 153) + 2) / 5
-    → rank (23_630 + 12 * ((4 * (number + 306 + lacking) + 2) / 1461) + (5 * (number + 306 + lacking - before) + 2) / 153) (number + 306 + lacking - before - sooner + 1)
+    → rank (23_630 + 12 * ((4 * (number + 306 + lacking) + 2) / 1461) + (5 * (number + 306 + lacking - before) + 2) / 153)
+    (number + 306 + lacking - before - sooner + 1)
     ≡ rank_of_date (date_numbered number).0
 made_rank number lacking h el before eb sooner es =
     let rest = number + 306 + lacking - before in
-    let same : rest ≡ number + 306 + lacking - (1461 * ((4 * (number + 306 + lacking) + 2) / 1461) + 1) / 4 = ap (λ b. number + 306 + lacking - b) eb in
+    let same : rest ≡ number + 306 + lacking - (1461 * ((4 * (number + 306 + lacking) + 2) / 1461) + 1) / 4
+    = ap (λ b. number + 306 + lacking - b) eb in
     let made = made_from number lacking ((4 * (number + 306 + lacking) + 2) / 1461) h el refl rest same in
     let at = (number_is _ _ made.low made.high made.first made.last).at in
-    let number_same : rank_of_date (date_numbered (day_number _ _)).0 ≡ rank_of_date (date_numbered number).0 = ap (λ n. rank_of_date (date_numbered n).0) made.number_is in
+    let number_same : rank_of_date (date_numbered (day_number _ _)).0 ≡ rank_of_date (date_numbered number).0
+    = ap (λ n. rank_of_date (date_numbered n).0) made.number_is in
     let day : rest - sooner + 1 ≡ rest + 1 - (153 * ((5 * rest + 2) / 153) + 2) / 5 = omega (arith, es) in
     ap (λ d. rank (23_630 + 12 * ((4 * (number + 306 + lacking) + 2) / 1461) + (5 * rest + 2) / 153) d) day ∙ sym at ∙ number_same
 
@@ -238,7 +244,8 @@ number_on month day low high first last =
     (omega (arith, one, here), (number_is month day low high first last).in_range)
 
 -- one of its first days
-pub known_rank : (month number : ℕ) → first_month ≤ month → month < months_end → day_number month 1 ≤ number → number - day_number month 1 < length_of month
+pub known_rank : (month number : ℕ) → first_month ≤ month → month < months_end → day_number month 1 ≤ number
+    → number - day_number month 1 < length_of month
     → rank month (number - day_number month 1 + 1) ≡ rank_of_date (date_numbered number).0
 known_rank month number low high from near =
     let day = number - day_number month 1 + 1 in

@@ -5,4 +5,4 @@ pub mod Readings
 pub mod Found
 pub mod Parts
 pub mod MomentText
-pub mod ZoneWords
+pub mod Zones

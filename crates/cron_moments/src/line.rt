@@ -1,8 +1,8 @@
 //! The text and the line of an item, made without memory.
 
-ghost use Rattle.std.specs.Prelude.{◌≡◌, ◌≤◌, ◌+◌, ◌++◌, ◌∷◌, []};
+ghost use Rattle.std.specs.Prelude.{◌≡◌, ◌≤◌, ◌+◌, ◌++◌};
 ghost use Rattle.arrayvec.specs.ArrayVec.{array_vec_len};
-ghost use Rattle.cron_moments.specs.MomentText.{two_digits, four_digits, size_of, date_text, time_text, offset_text, moment_text, item_line};
+ghost use Rattle.cron_moments.specs.MomentText.{two_digits, date_text, time_text, offset_text, moment_text, item_line};
 
 use crate::moment::Moment;
 use arrayvec::ArrayVec;

@@ -296,6 +296,21 @@ grown_written is i j tail h =
     list_symbols-snoc is j ∙ (ap (λ (b : List Symbol). before_symbols is ++ b) h
     ∙ (sym (append_assoc (before_symbols is) (item_symbols i) tail) ∙ ap (λ (b : List Symbol). b ++ tail) (sym (list_symbols-snoc is i))))
 
+abbrev grown : FieldState → Token → Item → FieldState
+grown s x i = record { done = s.done; item = i; last = x }
+
+-- a state whose item grew by a connector and a token
+grown_next : (q : TimeUnit) (s z : FieldState) (i : Item) (a : Symbol) (x : Token) → items_in q (state_items s) ≡ true → grown s x i ≡ z
+    → (item_symbols i ≡ item_symbols s.item ++ a ∷ symbol_of x ∷ []) × (item_in q s.item ≡ true → item_in q i ≡ true)
+    → (list_symbols (state_items z) ≡ list_symbols (state_items s) ++ a ∷ symbol_of x ∷ []) × (items_in q (state_items z) ≡ true) × (z.last ≡ x)
+grown_next q s z i a x p e l =
+    let u = items_in-parts q s.done s.item p in (
+      subst (λ (y : FieldState). list_symbols (state_items y) ≡ list_symbols (state_items s) ++ a ∷ symbol_of x ∷ []) e
+          (grown_written s.done s.item i (a ∷ symbol_of x ∷ []) l.0),
+      subst (λ (y : FieldState). items_in q (state_items y) ≡ true) e (items_in-snoc q s.done i u.0 (l.1 u.1)),
+      sym (ap (λ (y : FieldState). y.last) e),
+    )
+
 -- a state after a connector and a token: what it stands for is written with both at the end
 next_written : (q : TimeUnit) (s : FieldState) (a : Symbol) (x : Token) (z : FieldState) → items_in q (state_items s) ≡ true → joined q s a x ≡ Some z
     → (list_symbols (state_items z) ≡ list_symbols (state_items s) ++ a ∷ symbol_of x ∷ []) × (items_in q (state_items z) ≡ true) × (z.last ≡ x)
@@ -312,23 +327,11 @@ next_written q s comma x z p h =
       sym (ap (λ (y : FieldState). y.last) m.2),
     )
 next_written q s dash x z p h =
-    let m = mapped (λ (i : Item). record { done = s.done; item = i; last = x }) (with_end s.item (symbol_of x)) z h in
-    let l = with_end_symbols q s.item m.0 (symbol_of x) m.1 in
-    let u = items_in-parts q s.done s.item p in (
-      subst (λ (y : FieldState). list_symbols (state_items y) ≡ list_symbols (state_items s) ++ dash ∷ symbol_of x ∷ []) m.2
-          (grown_written s.done s.item m.0 (dash ∷ symbol_of x ∷ []) l.0),
-      subst (λ (y : FieldState). items_in q (state_items y) ≡ true) m.2 (items_in-snoc q s.done m.0 u.0 (l.1 u.1)),
-      sym (ap (λ (y : FieldState). y.last) m.2),
-    )
+    let m = mapped (grown s x) (with_end s.item (symbol_of x)) z h in
+    grown_next q s z m.0 dash x p m.2 (with_end_symbols q s.item m.0 (symbol_of x) m.1)
 next_written q s slash x z p h =
-    let m = mapped (λ (i : Item). record { done = s.done; item = i; last = x }) (with_step s.item (symbol_of x)) z h in
-    let l = with_step_symbols q s.item m.0 (symbol_of x) m.1 in
-    let u = items_in-parts q s.done s.item p in (
-      subst (λ (y : FieldState). list_symbols (state_items y) ≡ list_symbols (state_items s) ++ slash ∷ symbol_of x ∷ []) m.2
-          (grown_written s.done s.item m.0 (slash ∷ symbol_of x ∷ []) l.0),
-      subst (λ (y : FieldState). items_in q (state_items y) ≡ true) m.2 (items_in-snoc q s.done m.0 u.0 (l.1 u.1)),
-      sym (ap (λ (y : FieldState). y.last) m.2),
-    )
+    let m = mapped (grown s x) (with_step s.item (symbol_of x)) z h in
+    grown_next q s z m.0 slash x p m.2 (with_step_symbols q s.item m.0 (symbol_of x) m.1)
 next_written q s a x z p h = absurd (cc)
 
 -- the tokens so far, what they are a field of, and the last of them

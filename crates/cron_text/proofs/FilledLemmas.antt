@@ -1,11 +1,11 @@
 -- What a text means are sets of the units, and none of them is empty.
-use Rattle.std.proofs.Common.{◌≡◌, ℕ, ◌≤◌, Bool, true, false, cond, inl, inr, Option, Some, List, [], ◌∷◌, codes, refl, sym, ap, ◌∙◌, subst, arith, le_refl}
+use Rattle.std.proofs.Common.{◌≡◌, ℕ, Bool, true, false, cond, inl, inr, Option, Some, List, [], ◌∷◌, codes, refl, sym, ap, ◌∙◌, subst, arith, le_refl}
 use Rattle.std.specs.List.{AllByRecursion}
 use Rattle.std.specs.Str.{bytes_eq}
 use Rattle.std.proofs.lemmas.Bool.{false≢true}
 use Rattle.cron_units.specs.Denotation.{IsBetween}
 use Rattle.cron_units.specs.Laws.{is_unit-hours, is_unit-days_of_month, is_unit-months, is_unit-days_of_week, is_unit-years}
-use Rattle.cron_units.specs.Units.{TimeUnit, FieldSet, unmarked, IsUnit, whole, contains, set_of, ordinal_of}
+use Rattle.cron_units.specs.Units.{TimeUnit, FieldSet, unmarked, IsUnit, whole, contains, set_of}
 use Rattle.cron_units.specs.Units as units
 use Rattle.cron_units.proofs.SetLemmas.{is_set_from, contains_set, whole_is_all}
 use Rattle.cron_units.proofs.DenotedSets.{denotes_some}

@@ -2,7 +2,7 @@
 use Rattle.std.proofs.Common.{◌≡◌, ℕ, true, ◌&&◌, inl, inr, Some, List, [], ◌∷◌, ◌++◌, refl, sym, ap, ◌∙◌, subst, append-nil}
 use Rattle.std.specs.List.{AllByRecursion}
 use Rattle.cron_units.specs.Laws.{is_unit-seconds, is_unit-minutes, is_unit-hours, is_unit-days_of_month, is_unit-months, is_unit-days_of_week}
-use Rattle.cron_units.specs.Units.{TimeUnit, FieldSet, IsUnit, whole}
+use Rattle.cron_units.specs.Units.{TimeUnit, FieldSet, IsUnit}
 use Rattle.cron_units.specs.Units as units
 use Rattle.cron_units.specs.Denotation.{Denotes}
 use Rattle.cron_units.specs.Refusals.{IsFirstRefusal}

@@ -22,6 +22,7 @@ nothing_meant text ts same short none s (inr h) = none_is_some (shorthand_of (tr
 -- a longhand that was read, or refused with a fault
 pub fault_told : (text : List ℕ) (ts : List Token) → ts ≡ tokens text → MeansNothing text → (read : Result (Unit {0}) Unread) (s : Sets) (fault : List ℕ)
     → OnOk read (DenoteSets six_units ts (field_sets s)) → OnErr read (IsRefusalOf six_units ts fault) → IsRefusal text fault
-fault_told text ts same nothing (Ok u) s fault sets refused = absurd (nothing s (inl (subst (λ (zs : List Token). DenoteSets six_units zs (field_sets s)) same sets)))
+fault_told text ts same nothing (Ok u) s fault sets refused =
+    absurd (nothing s (inl (subst (λ (zs : List Token). DenoteSets six_units zs (field_sets s)) same sets)))
 fault_told text ts same nothing (Err e) s fault sets refused =
     record { nothing = nothing; told = subst (λ (zs : List Token). IsFaultOf six_units zs fault) same refused.told }

@@ -1,6 +1,6 @@
 //! The items that tokens make.
 
-ghost use Rattle.std.specs.Prelude.{◌≡◌, true};
+ghost use Rattle.std.specs.Prelude.{◌≡◌};
 ghost use Rattle.std.specs.Option.{option_map};
 ghost use Rattle.cron_units.specs.Views.{item_view};
 ghost use Rattle.cron_text.specs.Inner.Views.{symbol_view};

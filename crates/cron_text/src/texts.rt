@@ -1,6 +1,6 @@
 //! Whole texts: a shorthand, or six fields and years or none.
 
-ghost use Rattle.std.specs.Prelude.{◌≡◌, ◌≤◌, [], List, false, length, drop, IsTrue, IfOk, IfErr, OnErr, OnOk};
+ghost use Rattle.std.specs.Prelude.{◌≡◌, ◌≤◌, [], List, false, length, drop, IsTrue, OnErr, OnOk};
 ghost use Rattle.cron_text.specs.Fault.{IsRefusal};
 ghost use Rattle.cron_text.specs.FaultText.{fault_text};
 ghost use Rattle.cron_text.specs.Inner.Places.{IsPlace, tokens_from};

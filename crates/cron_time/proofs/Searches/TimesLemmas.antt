@@ -25,6 +25,13 @@ pub record AtTime (way : Way) (s : Sets) (z : TimeZone) (day from time : ℕ) : 
   pub matching : matches_date s (date_numbered day).0 ≡ true
   pub reached : Reaches way 1 (matches_second s) (stands_at s z day) (pos from) (pos from) time
 
+-- it has come to the next time, if there is one
+pub at_next : (way : Way) (s : Sets) (z : TimeZone) (day from time : ℕ) (next : Option ℕ) → next ≡ Some time → day < 47_847
+    → matches_date s (date_numbered day).0 ≡ true → IfSome next (λ n. (0 ≤ n) × (n < 86_400))
+    → ReachesIfAny way 1 (matches_second s) (stands_at s z day) (pos from) (pos from) next → AtTime way s z day from time
+at_next way s z day from time next is day_in matching bound reached =
+    record { day_in = day_in; time_in = (rw is at bound).1; matching = matching; reached = rw is at reached }
+
 found_time : (way : Way) (s : Sets) (z : TimeZone) (day from time : ℕ) (f : Found) → AtTime way s z day from time
     → found_items f ≡ readings z (day * 86_400 + time) → FindsInDay way s z day from (Some (found_items f))
 found_time way s z day from time f at e =

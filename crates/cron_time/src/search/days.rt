@@ -1,6 +1,5 @@
 //! The nearest day whose year, month and day of the month lie in the sets.
-ghost use Rattle.std.specs.Prelude.{◌≡◌, ℕ, ◌+◌, ◌*◌, ◌/◌, ◌%◌, ◌^◌, ◌<◌, ◌≤◌, ◌||◌, ◌==◌, pos, Bool, IfSome, Option, option_map, true, false};
-ghost use Rattle.cron_units.specs.Units.{contains};
+ghost use Rattle.std.specs.Prelude.{◌≡◌, ℕ, ◌+◌, ◌/◌, ◌%◌, ◌<◌, ◌≤◌, ◌||◌, ◌==◌, pos, Bool, IfSome, Option, option_map, true, false};
 ghost use Rattle.cron_units.specs.Nearest.{IsNearest};
 ghost use Rattle.cron_moments.specs.Civil.{seconds_in_range};
 ghost use Rattle.cron_moments.specs.CivilDates.{date_numbered};

@@ -1,5 +1,5 @@
 //! The nearest civil second that stands on a timeline, field by field.
-ghost use Rattle.std.specs.Prelude.{◌≡◌, ℕ, ◌+◌, ◌/◌, ◌%◌, ◌^◌, ◌<◌, pos, true, IfSome, MatchOption, option_map};
+ghost use Rattle.std.specs.Prelude.{◌≡◌, ◌+◌, ◌/◌, ◌%◌, ◌^◌, ◌<◌, pos, true, IfSome, MatchOption, option_map};
 ghost use Rattle.jiff.specs.Words.{plain_zone};
 ghost use Rattle.cron_units.specs.Nearest.{LiesFrom, IsNearest};
 ghost use Rattle.cron_moments.specs.Civil.{days_in_range, seconds_in_range};

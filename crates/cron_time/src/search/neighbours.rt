@@ -3,7 +3,7 @@ ghost use Rattle.std.specs.Prelude.{◌≡◌, ℕ, ◌+◌, ◌*◌, ◌/◌, �
 ghost use Rattle.cron_units.specs.Nearest.{IsNearest};
 ghost use Rattle.cron_units.specs.Sets.{Sets, AreSets};
 ghost use Rattle.cron_units.specs.Units.{contains};
-ghost use Rattle.cron_time.specs.Search.Inner.Inquired.{Inquired, LooksAlone, Asks, AsksFor, AsksPast, outermost};
+ghost use Rattle.cron_time.specs.Search.Inner.Inquired.{LooksAlone, Asks, AsksFor, AsksPast, outermost};
 ghost use Rattle.cron_time.specs.Search.Inner.Numbers.{beyond, beyond_block, matches_month, matches_month_of_year, matches_rest, matches_second};
 ghost use Rattle.cron_moments.specs.Calendar.{first_month, months_end};
 

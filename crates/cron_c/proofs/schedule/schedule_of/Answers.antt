@@ -25,7 +25,8 @@ returns-clause-exact c = record {
   minutes = λ k. c.bits-2.ensures.bits k ∙ held _ _ (λ s. s.minutes) (0 + k) c.fields.view_is;
   hours = λ k. c.bits-3.ensures.bits k ∙ held _ _ (λ s. s.hours) (0 + k) c.fields.view_is;
   days_of_month = λ k. c.bits_of_days.ensures.bits k ∙ held _ _ (λ s. s.days_of_month.ordinals) (1 + k) c.fields.view_is;
-  last_day = c.from.ensures ∙ (byte_is c.last_day.result ∙ (ap (λ (b : Bool). number b) c.last_day.ensures ∙ ap (λ (s : Sets). number s.days_of_month.last_day) c.fields.view_is));
+  last_day = c.from.ensures ∙ (byte_is c.last_day.result ∙ (ap (λ (b : Bool). number b) c.last_day.ensures
+      ∙ ap (λ (s : Sets). number s.days_of_month.last_day) c.fields.view_is));
   months = λ k. c.bits-4.ensures.bits k ∙ held _ _ (λ s. s.months) (1 + k) c.fields.view_is;
   days_of_week = λ k. c.bits-5.ensures.bits k ∙ held _ _ (λ s. s.days_of_week) (1 + k) c.fields.view_is;
   years = λ k. c.three-years_from_1970.ensures.bits k ∙ held _ _ (λ s. s.years) (1970 + k) c.fields.view_is;

@@ -74,7 +74,8 @@ returns-in_err-add_to-in-Next-clause-refused g c =
     let more = c.in-Some-more_at.ensures.more done last seen in
     let on = more.on ∙ ap (λ (x : Growth). furthest u (after_growth done c.loop-growth.item more.token x)
     (tokens_from c.args.text.now c.in-Some-more_at.after)) c.in-Next.is in
-    on_err c.from_residual.result (unread_inside u (tokens_from c.args.text.now c.args.place.now) (tokens_from c.args.text.now c.in-Some-more_at.after) done item
+    on_err c.from_residual.result
+    (unread_inside u (tokens_from c.args.text.now c.args.place.now) (tokens_from c.args.text.now c.in-Some-more_at.after) done item
     (state_view (done ++ item ∷ []) c.in-Next.other more.token) _ (read ∙ ap Some on) refl joined.unrefused c.in_err-add_to-in-Next.ensures.err)
 
 pub returns-in_err-add_to-clause-refused : goal.returns-in_err-add_to-clause-refused
@@ -82,7 +83,8 @@ returns-in_err-add_to-clause-refused g c =
     let u = g.T.TimeUnitField.unit in
     let (done, last, read, joined, seen, here) = c.loop-growth.invariant in
     let state = state_view done c.loop-growth.item last in
-    on_err c.from_residual-in_err-add_to.result (unread_last u (tokens_from c.args.text.now c.args.place.now) (tokens_from c.args.text.now c.loop-growth.next) state _ (read
+    on_err c.from_residual-in_err-add_to.result
+    (unread_last u (tokens_from c.args.text.now c.args.place.now) (tokens_from c.args.text.now c.loop-growth.next) state _ (read
     ∙ ap Some (c.in_default-more_at.ensures.more done last seen)) joined.unrefused c.in_err-add_to.ensures.err)
 
 pub returns-clause-taken : goal.returns-clause-taken

@@ -7,32 +7,37 @@ use Rattle.cron_text.proofs.texts.read_fields.Goals as goal
 
 pub returns-in_err-read_field-clause-refused : goal.returns-in_err-read_field-clause-refused
 returns-in_err-read_field-clause-refused c =
-    on_err c.from_residual.result (unread_by ([]) (units.minutes ∷ units.hours ∷ units.days_of_month ∷ units.months ∷ units.days_of_week ∷ []) units.seconds _ _ _ _
+    on_err c.from_residual.result
+    (unread_by ([]) (units.minutes ∷ units.hours ∷ units.days_of_month ∷ units.months ∷ units.days_of_week ∷ []) units.seconds _ _ _ _
     (start _)
     c.in_err-read_field.ensures.refused)
 
 pub returns-in_err-read_field-2-clause-refused : goal.returns-in_err-read_field-2-clause-refused
 returns-in_err-read_field-2-clause-refused c =
-    on_err c.from_residual-in_err-read_field-2.result (unread_by (units.seconds ∷ []) (units.hours ∷ units.days_of_month ∷ units.months ∷ units.days_of_week ∷ []) units.minutes _ _ _ _
+    on_err c.from_residual-in_err-read_field-2.result
+    (unread_by (units.seconds ∷ []) (units.hours ∷ units.days_of_month ∷ units.months ∷ units.days_of_week ∷ []) units.minutes _ _ _ _
     (next units.seconds _ _ _ _ _ _ c.in_ok-read_field.ensures.taken (start _))
     c.in_err-read_field-2.ensures.refused)
 
 pub returns-in_err-read_field-3-clause-refused : goal.returns-in_err-read_field-3-clause-refused
 returns-in_err-read_field-3-clause-refused c =
-    on_err c.from_residual-in_err-read_field-3.result (unread_by (units.seconds ∷ units.minutes ∷ []) (units.days_of_month ∷ units.months ∷ units.days_of_week ∷ []) units.hours _ _ _ _
+    on_err c.from_residual-in_err-read_field-3.result
+    (unread_by (units.seconds ∷ units.minutes ∷ []) (units.days_of_month ∷ units.months ∷ units.days_of_week ∷ []) units.hours _ _ _ _
     (next units.seconds _ _ _ _ _ _ c.in_ok-read_field.ensures.taken (next units.minutes _ _ _ _ _ _ c.in_ok-read_field-2.ensures.taken (start _)))
     c.in_err-read_field-3.ensures.refused)
 
 pub returns-in_err-read_field-4-clause-refused : goal.returns-in_err-read_field-4-clause-refused
 returns-in_err-read_field-4-clause-refused c =
-    on_err c.from_residual-in_err-read_field-4.result (unread_by (units.seconds ∷ units.minutes ∷ units.hours ∷ []) (units.months ∷ units.days_of_week ∷ []) units.days_of_month _ _ _ _
+    on_err c.from_residual-in_err-read_field-4.result
+    (unread_by (units.seconds ∷ units.minutes ∷ units.hours ∷ []) (units.months ∷ units.days_of_week ∷ []) units.days_of_month _ _ _ _
     (next units.seconds _ _ _ _ _ _ c.in_ok-read_field.ensures.taken
     (next units.minutes _ _ _ _ _ _ c.in_ok-read_field-2.ensures.taken (next units.hours _ _ _ _ _ _ c.in_ok-read_field-3.ensures.taken (start _))))
     c.in_err-read_field-4.ensures.refused)
 
 pub returns-in_err-read_field-5-clause-refused : goal.returns-in_err-read_field-5-clause-refused
 returns-in_err-read_field-5-clause-refused c =
-    on_err c.from_residual-in_err-read_field-5.result (unread_by (units.seconds ∷ units.minutes ∷ units.hours ∷ units.days_of_month ∷ []) (units.days_of_week ∷ []) units.months _ _ _ _
+    on_err c.from_residual-in_err-read_field-5.result
+    (unread_by (units.seconds ∷ units.minutes ∷ units.hours ∷ units.days_of_month ∷ []) (units.days_of_week ∷ []) units.months _ _ _ _
     (next units.seconds _ _ _ _ _ _ c.in_ok-read_field.ensures.taken
     (next units.minutes _ _ _ _ _ _ c.in_ok-read_field-2.ensures.taken
     (next units.hours _ _ _ _ _ _ c.in_ok-read_field-3.ensures.taken
@@ -41,7 +46,8 @@ returns-in_err-read_field-5-clause-refused c =
 
 pub returns-in_err-read_field-6-clause-refused : goal.returns-in_err-read_field-6-clause-refused
 returns-in_err-read_field-6-clause-refused c =
-    on_err c.from_residual-in_err-read_field-6.result (unread_by (units.seconds ∷ units.minutes ∷ units.hours ∷ units.days_of_month ∷ units.months ∷ []) ([]) units.days_of_week _ _ _ _
+    on_err c.from_residual-in_err-read_field-6.result
+    (unread_by (units.seconds ∷ units.minutes ∷ units.hours ∷ units.days_of_month ∷ units.months ∷ []) ([]) units.days_of_week _ _ _ _
     (next units.seconds _ _ _ _ _ _ c.in_ok-read_field.ensures.taken
     (next units.minutes _ _ _ _ _ _ c.in_ok-read_field-2.ensures.taken
     (next units.hours _ _ _ _ _ _ c.in_ok-read_field-3.ensures.taken
@@ -51,7 +57,8 @@ returns-in_err-read_field-6-clause-refused c =
 
 pub returns-in_err-read_years-clause-refused : goal.returns-in_err-read_years-clause-refused
 returns-in_err-read_years-clause-refused c =
-    on_err c.from_residual-in_err-read_years.result (refused_by (units.seconds ∷ units.minutes ∷ units.hours ∷ units.days_of_month ∷ units.months ∷ units.days_of_week ∷ []) [] _ _ _ _
+    on_err c.from_residual-in_err-read_years.result
+    (refused_by (units.seconds ∷ units.minutes ∷ units.hours ∷ units.days_of_month ∷ units.months ∷ units.days_of_week ∷ []) [] _ _ _ _
     (next units.seconds _ _ _ _ _ _ c.in_ok-read_field.ensures.taken
     (next units.minutes _ _ _ _ _ _ c.in_ok-read_field-2.ensures.taken
     (next units.hours _ _ _ _ _ _ c.in_ok-read_field-3.ensures.taken

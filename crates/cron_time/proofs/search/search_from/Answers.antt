@@ -23,8 +23,8 @@ returns-clause-days c =
     let P : ℤ → Type 0 = λ from. Starts c.args.way from c.in_ok-start.start in
     let start : Starts c.args.way c.args.from c.in_ok-start.start = subst P (to_z-of_z fits) c.in_ok-start.ensures in
     let days = c.search_days_either_way.ensures.days in
-    let counted = days_counted c.args.way c.args.inquiry.now.sets c.args.inquiry.now.zone c.args.from c.in_ok-start.start days.count c.search_days_either_way.result
-    start c.search_days_either_way.ensures.found days.tally in
+    let counted = days_counted c.args.way c.args.inquiry.now.sets c.args.inquiry.now.zone c.args.from c.in_ok-start.start days.count
+    c.search_days_either_way.result start c.search_days_either_way.ensures.found days.tally in
     omega (arith, days.is, counted)
 
 pub returns-clause-conversions : goal.returns-clause-conversions

@@ -3,7 +3,7 @@ use Rattle.cron_time.specs.Search.Inner.Blocks.{Reaches}
 use Rattle.cron_time.specs.Search.Inner.Numbers.{matches_second, stands_at}
 use Rattle.cron_time.proofs.Searches.AskedLemmas.{looks_same, same_on, converted}
 use Rattle.cron_time.proofs.Searches.TallyLemmas.{kind_bound, adds_none, adds_more, passed_start, passed_next}
-use Rattle.cron_time.proofs.Searches.TimesLemmas.{AtTime, time_found, time_counted, time_silent, times_start, times_next, time_low}
+use Rattle.cron_time.proofs.Searches.TimesLemmas.{at_next, time_found, time_counted, time_silent, times_start, times_next, time_low}
 use Rattle.cron_time.proofs.search.search_times.Goals as goal
 
 pub loop-next-init : goal.loop-next-init
@@ -29,49 +29,33 @@ readings-found-requires c =
 
 pub returns-then-is_some-clause-found : goal.returns-then-is_some-clause-found
 returns-then-is_some-clause-found c =
-    let s = c.args.inquiry.now.sets in
-    let at : AtTime c.args.way s c.args.inquiry.now.zone c.args.day c.args.from c.in-Some.time = record {
-      day_in = c.requires.in_range;
-      time_in = (rw c.in-Some.is at c.loop-next.invariant.bound).1;
-      matching = c.requires.matching;
-      reached = rw c.in-Some.is at c.loop-next.invariant.reached;
-    } in
-    let readings = rw c.loop-next.invariant.same.zone at c.readings-found.ensures.readings in
-    let asked = converted _ _ c.readings-found.ensures.counted in
+    let kept = c.loop-next.invariant in
+    let at = at_next _ _ _ _ _ _ _ c.in-Some.is c.requires.in_range c.requires.matching kept.bound kept.reached in
+    let readings = rw kept.same.zone at c.readings-found.ensures.readings in
     time_found _ _ _ _ _ _ _ at readings (sym c.if-is_some.ensures)
 
 pub returns-then-is_some-clause-conversions : goal.returns-then-is_some-clause-conversions
 returns-then-is_some-clause-conversions c =
-    let s = c.args.inquiry.now.sets in
-    let at : AtTime c.args.way s c.args.inquiry.now.zone c.args.day c.args.from c.in-Some.time = record {
-      day_in = c.requires.in_range;
-      time_in = (rw c.in-Some.is at c.loop-next.invariant.bound).1;
-      matching = c.requires.matching;
-      reached = rw c.in-Some.is at c.loop-next.invariant.reached;
-    } in
-    let readings = rw c.loop-next.invariant.same.zone at c.readings-found.ensures.readings in
+    let kept = c.loop-next.invariant in
+    let at = at_next _ _ _ _ _ _ _ c.in-Some.is c.requires.in_range c.requires.matching kept.bound kept.reached in
+    let readings = rw kept.same.zone at c.readings-found.ensures.readings in
     let asked = converted _ _ c.readings-found.ensures.counted in
-    let early = rw c.in-Some.is at c.loop-next.invariant.conversions in
+    let early = rw c.in-Some.is at kept.conversions in
     adds_more 86_400 _ _ _ _ _ early asked.more (time_counted _ _ _ _ _ _ _ _ at readings (sym c.if-is_some.ensures) early.tally)
 
 pub loop-next-preserved : goal.loop-next-preserved
 loop-next-preserved c =
-    let s = c.args.inquiry.now.sets in
-    let at : AtTime c.args.way s c.args.inquiry.now.zone c.args.day c.args.from c.in-Some.time = record {
-      day_in = c.requires.in_range;
-      time_in = (rw c.in-Some.is at c.loop-next.invariant.bound).1;
-      matching = c.requires.matching;
-      reached = rw c.in-Some.is at c.loop-next.invariant.reached;
-    } in
-    let readings = rw c.loop-next.invariant.same.zone at c.readings-found.ensures.readings in
+    let kept = c.loop-next.invariant in
+    let at = at_next _ _ _ _ _ _ _ c.in-Some.is c.requires.in_range c.requires.matching kept.bound kept.reached in
+    let readings = rw kept.same.zone at c.readings-found.ensures.readings in
     let asked = converted _ _ c.readings-found.ensures.counted in
-    let early = rw c.in-Some.is at c.loop-next.invariant.conversions in
-    let sets = asked.same.sets ∙ c.loop-next.invariant.same.sets in
+    let early = rw c.in-Some.is at kept.conversions in
+    let sets = asked.same.sets ∙ kept.same.sets in
     let next = rw sets at c.time_past-next.ensures.nearest in
     let looked = c.time_past-next.ensures.same in
     record {
-      same = same_on _ _ _ (same_on _ _ _ c.loop-next.invariant.same asked.same) (looks_same _ _ looked);
-      days = looked.days ∙ asked.days ∙ c.loop-next.invariant.days;
+      same = same_on _ _ _ (same_on _ _ _ kept.same asked.same) (looks_same _ _ looked);
+      days = looked.days ∙ asked.days ∙ kept.days;
       reached = times_next _ _ _ _ _ _ _ at (time_silent _ _ _ _ _ _ _ at readings (sym c.if-is_some.ensures)) next;
       bound = time_low c.time_past-next.result c.time_past-next.ensures.bound;
       conversions = adds_more 86_400 _ _ _ _ _ early (looked.conversions ∙ asked.more)
