@@ -201,7 +201,8 @@ pub among-filter : (p : Reading → Bool) (l : List Reading) (q : Reading) → I
 among-filter p [] q h = absurd (among-none q h)
 among-filter p (r ∷ l) q h = by_test (p r) (among-filter p l q) refl h
   where
-    by_test : (b : Bool) → (IsAmong (filter p l) q → IsAmong l q × (p q ≡ true)) → p r ≡ b → IsAmong (cond b (r ∷ filter p l) (filter p l)) q → IsAmong (r ∷ l) q × (p q ≡ true)
+    by_test : (b : Bool) → (IsAmong (filter p l) q → IsAmong l q × (p q ≡ true)) → p r ≡ b
+        → IsAmong (cond b (r ∷ filter p l) (filter p l)) q → IsAmong (r ∷ l) q × (p q ≡ true)
     by_test true below is k = elim (among-cases r (filter p l) q k) [
       | inl e ↦ ((0, ap Some (sym e)), ap p e ∙ is)
       | inr there ↦ let both = below there in (among-rest r q l both.0, both.1)
