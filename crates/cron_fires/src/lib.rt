@@ -1,4 +1,5 @@
-//! When a schedule fires, by instants: the first fire after now, the last one by now.
+//! When a schedule fires, by instants: the first fire after now, the last one by now, all of them in
+//! order, and those that were missed.
 #![tactic(auto)]
 
 ghost use Rattle.std.specs.Prelude.{◌≡◌};
@@ -12,8 +13,11 @@ use cron_units::fields::ScheduleFields;
 use jiff::Timestamp;
 use jiff::tz::TimeZone;
 
+mod runs;
 #[cfg(test)]
 mod tests;
+
+pub use runs::{Fires, missed};
 
 // The seven sets of a schedule.
 #[inline(always)]
