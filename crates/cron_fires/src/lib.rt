@@ -13,6 +13,7 @@ use cron_units::fields::ScheduleFields;
 use jiff::Timestamp;
 use jiff::tz::TimeZone;
 
+pub mod laws;
 mod runs;
 #[cfg(test)]
 mod tests;

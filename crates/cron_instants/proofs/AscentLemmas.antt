@@ -1,6 +1,7 @@
 -- Lists of readings in the order of their instants.
-use Rattle.std.proofs.Common.{◌≡◌, ℕ, zero, suc, ◌<◌, Bool, true, false, cond, List, [], ◌∷◌, Option, Some, None, ◌⊎◌, inl, inr, refl, sym, ap, ◌∙◌, arith}
+use Rattle.std.proofs.Common.{◌≡◌, ℕ, zero, suc, ◌<◌, Bool, true, false, cond, List, [], ◌∷◌, ◌++◌, subst, Option, Some, None, ◌⊎◌, inl, inr, refl, sym, ap, ◌∙◌, arith}
 use Rattle.std.specs.Prelude.{filter, slice_get, MatchOption}
+use Rattle.std.proofs.lemmas.Bool.{cases_lt}
 use Rattle.jiff_core.proofs.SignedLemmas.{signed_arith}
 use Rattle.cron_instants.proofs.AgreementLemmas.{same_offset, same_reading}
 use Rattle.cron_moments.specs.Readings.{Reading, instant}
@@ -252,3 +253,86 @@ pub first-left : (p : Reading → Bool) (l : List Reading) (answer : Option Read
     → IsEarliest (λ r. IsAmong l r × (p r ≡ true)) answer → MatchOption answer (filter p l ≡ []) (λ r. filter p l ≡ r ∷ filter (is_earlier r) l)
 first-left p l None on up none = filter-none p l (none_by p l none)
 first-left p l (Some r) on up found = first-passing p l r on up found.0.0 found.0.1 (λ q h t. found.1 q (h, t))
+
+-- ---- parts of an ascending list
+
+filter_among-by : (p : Reading → Bool) (r q : Reading) (l m : List Reading) (b : Bool) → p r ≡ b → p q ≡ true → (IsAmong l q → IsAmong m q)
+    → IsAmong (r ∷ l) q → IsAmong (cond b (r ∷ m) m) q
+filter_among-by p r q l m true is passes below h = elim (among-cases r l q h) [
+  | inl e ↦ (0, ap Some (sym e))
+  | inr there ↦ among-rest r q m (below there)
+]
+filter_among-by p r q l m false is passes below h = elim (among-cases r l q h) [
+  | inl e ↦ let same : p r ≡ true = ap p (sym e) ∙ passes in absurd (cc)
+  | inr there ↦ below there
+]
+
+pub filter-among : (p : Reading → Bool) (l : List Reading) (q : Reading) → IsAmong l q → p q ≡ true → IsAmong (filter p l) q
+filter-among p [] q h passes = h
+filter-among p (r ∷ l) q h passes = filter_among-by p r q l (filter p l) (p r) refl passes (λ there. filter-among p l q there passes) h
+
+ascends_filter-by : (p : Reading → Bool) (r : Reading) (l : List Reading) (b : Bool) → Ascends (r ∷ l) → Ascends (filter p l)
+    → Ascends (cond b (r ∷ filter p l) (filter p l))
+ascends_filter-by p r l true up below = (λ q h. up.0 q (among-filter p l q h).0, below)
+ascends_filter-by p r l false up below = below
+
+pub ascends-filter : (p : Reading → Bool) (l : List Reading) → Ascends l → Ascends (filter p l)
+ascends-filter p [] up = up
+ascends-filter p (r ∷ l) up = ascends_filter-by p r l (p r) up (ascends-filter p l up.1)
+
+once_by : (l : List Reading) (i j : ℕ) (x : Reading) → Ascends l → i < j → slice_get l i ≡ Some x → slice_get l j ≡ Some x → ⊥
+once_by l i j x up lt e f = let later = ascends-at l i j x x up lt e f in let itself = earlier-not_itself x in cc
+
+-- a list that ascends has each reading once
+pub once-ascending : (l : List Reading) (i j : ℕ) (x : Reading) → Ascends l → slice_get l i ≡ Some x → slice_get l j ≡ Some x → i ≡ j
+once-ascending l i j x up e f = elim (cases_lt i j) [
+  | inl less ↦ absurd (once_by l i j x up less e f)
+  | inr high ↦ elim (cases_lt j i) [
+    | inl more ↦ absurd (once_by l j i x up more f e)
+    | inr low ↦ omega arith
+  ]
+]
+
+both_filters : (p t : Reading → Bool) (r : Reading) (l : List Reading) (b c : Bool) → p r ≡ b → t r ≡ c → filter p (filter t l) ≡ filter t (filter p l)
+    → filter p (cond c (r ∷ filter t l) (filter t l)) ≡ filter t (cond b (r ∷ filter p l) (filter p l))
+both_filters p t r l true true f g same = filter-passes p r (filter t l) f ∙ ap (λ m. r ∷ m) same ∙ sym (filter-passes t r (filter p l) g)
+both_filters p t r l true false f g same = same ∙ sym (filter-fails t r (filter p l) g)
+both_filters p t r l false true f g same = filter-fails p r (filter t l) f ∙ same
+both_filters p t r l false false f g same = same
+
+pub filter-swap : (p t : Reading → Bool) (l : List Reading) → filter p (filter t l) ≡ filter t (filter p l)
+filter-swap p t [] = refl
+filter-swap p t (r ∷ l) = both_filters p t r l (p r) (t r) refl refl (filter-swap p t l)
+
+within_by : (p t : Reading → Bool) (r : Reading) (l : List Reading) (b c : Bool) → p r ≡ b → t r ≡ c → (t r ≡ true → p r ≡ true) → filter t (filter p l) ≡ filter t l
+    → filter t (cond b (r ∷ filter p l) (filter p l)) ≡ cond c (r ∷ filter t l) (filter t l)
+within_by p t r l true true f g less same = filter-passes t r (filter p l) g ∙ ap (λ m. r ∷ m) same
+within_by p t r l true false f g less same = filter-fails t r (filter p l) g ∙ same
+within_by p t r l false true f g less same = let passes = less g in absurd (cc)
+within_by p t r l false false f g less same = same
+
+-- a test that only passes what another one passes needs no other one before it
+pub filter-within : (p t : Reading → Bool) (l : List Reading) → ((q : Reading) → t q ≡ true → p q ≡ true) → filter t (filter p l) ≡ filter t l
+filter-within p t [] less = refl
+filter-within p t (r ∷ l) less = within_by p t r l (p r) (t r) refl refl (less r) (filter-within p t l less)
+
+among-behind : (done : List Reading) (last : Reading) (rest : List Reading) → IsAmong (done ++ last ∷ rest) last
+among-behind [] last rest = among-first last rest
+among-behind (x ∷ done) last rest = among-rest x last (done ++ last ∷ rest) (among-behind done last rest)
+
+-- what is later than a reading of an ascending list is what stands behind it
+pub later-behind : (done : List Reading) (last : Reading) (rest : List Reading) → Ascends (done ++ last ∷ rest)
+    → filter (is_earlier last) (done ++ last ∷ rest) ≡ rest
+later-behind [] last rest up = filter-fails (is_earlier last) last rest (earlier-not_itself last) ∙ filter-all (is_earlier last) rest up.0
+later-behind (x ∷ done) last rest up =
+    filter-fails (is_earlier last) x (done ++ last ∷ rest) (earlier-not_back x last (up.0 last (among-behind done last rest)))
+    ∙ later-behind done last rest up.1
+
+-- the rest of a list that is cut after a reading, by what is later than it
+pub cut-behind : (l : List Reading) (done : List Reading) (last : Reading) (rest : List Reading) → Ascends l → l ≡ done ++ last ∷ rest
+    → filter (is_earlier last) l ≡ rest
+cut-behind l done last rest up e =
+    let whole : Ascends (done ++ last ∷ rest) = subst Ascends e up in ap (filter (is_earlier last)) e ∙ later-behind done last rest whole
+
+pub among-cut : (l : List Reading) (done : List Reading) (last : Reading) (rest : List Reading) → l ≡ done ++ last ∷ rest → IsAmong l last
+among-cut l done last rest e = let h = among-behind done last rest in (h.0, ap (λ m. slice_get m h.0) e ∙ h.1)

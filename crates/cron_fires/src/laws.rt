@@ -1,0 +1,47 @@
+//! Laws over the definitions. No program calls these functions.
+
+ghost use Rattle.cron_fires.specs.Laws.{AgreeingZonesTellApart, CutRunsGoOn, CutRunsPastGoOn, CutStretchesGoOn, FiresAreTheItems, FiresAscend, LoopsAreRuns, NextIsPast, StretchesAreJoined, StretchesHaveTheirItems};
+
+/// The fires are the items of the timeline, no more and no fewer.
+pub fn fires_are_the_items()
+    ensures { FiresAreTheItems }
+{}
+
+/// Each fire is earlier than those behind it, so none comes twice.
+pub fn fires_ascend()
+    ensures { FiresAscend }
+{}
+
+/// The fires between two instants are the items whose instant comes after the first and not after
+/// the second.
+pub fn stretches_have_their_items()
+    ensures { StretchesHaveTheirItems }
+{}
+
+/// The runs over two stretches that meet are the run over both.
+pub fn joined_stretches()
+    ensures { StretchesAreJoined }
+{}
+
+/// A run after an instant, past an item or between two instants that is cut after an item goes on
+/// from that item as the run uncut.
+pub fn cut_runs()
+    ensures after { CutRunsGoOn }
+    ensures past { CutRunsPastGoOn }
+    ensures between { CutStretchesGoOn }
+{}
+
+/// Where the look-ups of a zone agree, no two items share an instant.
+pub fn own_instants()
+    ensures { AgreeingZonesTellApart }
+{}
+
+/// Where no two items share an instant, the fires after the instant of an item are those past it.
+pub fn next_is_past()
+    ensures { NextIsPast }
+{}
+
+/// There a loop that asks for the first fire after the instant of the one before is a run.
+pub fn loops_are_runs()
+    ensures { LoopsAreRuns }
+{}
