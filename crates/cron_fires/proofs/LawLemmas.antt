@@ -9,9 +9,10 @@ use Rattle.cron_units.specs.Sets.{Sets}
 use Rattle.cron_moments.specs.Readings.{Reading, instant}
 use Rattle.cron_time.specs.Timeline.{timeline}
 use Rattle.cron_instants.specs.Fires.{fires, fires_after, fires_past, fires_between, is_after, is_by}
+use Rattle.cron_instants.specs.Instants.{IsAmong}
 use Rattle.cron_instants.specs.Order.{is_earlier}
 use Rattle.cron_instants.proofs.AgreementLemmas.{instants_apart}
-use Rattle.cron_instants.proofs.AscentLemmas.{Ascends, IsAmong, KeepsOn, among-cases, among-cut, among-filter, ascends-filter, cut-behind, earlier-not_itself, filter-all, filter-alike, filter-among, filter-none, filter-swap, filter-within}
+use Rattle.cron_instants.proofs.AscentLemmas.{Ascends, KeepsOn, among-cases, among-cut, among-filter, ascends-filter, cut-behind, earlier-not_itself, filter-all, filter-alike, filter-among, filter-none, filter-swap, filter-within}
 use Rattle.cron_instants.proofs.FireLemmas.{after-keeps_on, fires-ascend, fires-ascend_at, fires-of_item, first-after, int_le-true, int_lt-true, item-of_fires, past-keeps_on}
 use Rattle.cron_instants.proofs.OrderLemmas.{before-less, before-not_less}
 use Rattle.cron_fires.specs.Laws.{AgreeingZonesTellApart, CutRunsGoOn, CutRunsPastGoOn, CutStretchesGoOn, FiresAreTheItems, FiresAscend, LoopsAreRuns, NextIsPast, StretchesAreJoined, StretchesHaveTheirItems}

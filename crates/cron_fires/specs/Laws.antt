@@ -5,12 +5,8 @@ use Rattle.cron_clocks.specs.Clocks.{LookupsAgree}
 use Rattle.cron_units.specs.Sets.{Sets}
 use Rattle.cron_moments.specs.Readings.{Reading, instant}
 use Rattle.cron_instants.specs.Fires.{fires, fires_after, fires_past, fires_between, is_by}
-use Rattle.cron_instants.specs.Instants.{IsItem, IsAfter, IsBy, IsFirstAfter}
+use Rattle.cron_instants.specs.Instants.{IsAmong, IsItem, IsAfter, IsBy, IsFirstAfter}
 use Rattle.cron_instants.specs.Order.{is_earlier}
-
--- the reading stands in the list
-abbrev pub IsAmong : List Reading → Reading → Type 0
-IsAmong l r = (i : ℕ) × (slice_get l i ≡ Some r)
 
 -- the fires are the items of the timeline ..
 abbrev pub FiresAreTheItems : Type 0

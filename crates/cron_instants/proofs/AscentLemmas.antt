@@ -8,7 +8,7 @@ use Rattle.cron_moments.specs.Readings.{Reading, instant}
 use Rattle.cron_time.proofs.PlaceLemmas.{nothing_in_nil}
 use Rattle.cron_units.specs.declared.way.Way.TheVariants.{Ahead}
 use Rattle.cron_instants.specs.Fires.{insert, earliest_first}
-use Rattle.cron_instants.specs.Instants.{IsEarliest}
+use Rattle.cron_instants.specs.Instants.{IsAmong, IsEarliest}
 use Rattle.cron_instants.specs.Order.{is_earlier}
 use Rattle.cron_instants.proofs.OrderLemmas.{before-false, before-not_shared, before-through, nearer-not_back}
 
@@ -50,10 +50,6 @@ earlier-other a b h apart = by_test (is_earlier b a) refl
     by_test false is = absurd (apart (neither-earlier a b h is))
 
 -- ---- what stands in a list
-
--- the reading stands in the list
-abbrev pub IsAmong : List Reading → Reading → Type 0
-IsAmong l r = (i : ℕ) × (slice_get l i ≡ Some r)
 
 pub among-first : (r : Reading) (l : List Reading) → IsAmong (r ∷ l) r
 among-first r l = (0, refl)
@@ -304,8 +300,8 @@ pub filter-swap : (p t : Reading → Bool) (l : List Reading) → filter p (filt
 filter-swap p t [] = refl
 filter-swap p t (r ∷ l) = both_filters p t r l (p r) (t r) refl refl (filter-swap p t l)
 
-within_by : (p t : Reading → Bool) (r : Reading) (l : List Reading) (b c : Bool) → p r ≡ b → t r ≡ c → (t r ≡ true → p r ≡ true) → filter t (filter p l) ≡ filter t l
-    → filter t (cond b (r ∷ filter p l) (filter p l)) ≡ cond c (r ∷ filter t l) (filter t l)
+within_by : (p t : Reading → Bool) (r : Reading) (l : List Reading) (b c : Bool) → p r ≡ b → t r ≡ c → (t r ≡ true → p r ≡ true)
+    → filter t (filter p l) ≡ filter t l → filter t (cond b (r ∷ filter p l) (filter p l)) ≡ cond c (r ∷ filter t l) (filter t l)
 within_by p t r l true true f g less same = filter-passes t r (filter p l) g ∙ ap (λ m. r ∷ m) same
 within_by p t r l true false f g less same = filter-fails t r (filter p l) g ∙ same
 within_by p t r l false true f g less same = let passes = less g in absurd (cc)

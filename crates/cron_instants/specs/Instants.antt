@@ -1,14 +1,18 @@
 -- Of the items of a timeline the earliest after an instant, and the latest by it.
-use Rattle.std.specs.Prelude.{◌≡◌, ℕ, ℤ, pos, ◌*ℤ◌, ◌≤ℤ◌, ◌<ℤ◌, true, false, Option, Some, MatchOption, slice_get}
+use Rattle.std.specs.Prelude.{◌≡◌, ℕ, ℤ, pos, ◌*ℤ◌, ◌≤ℤ◌, ◌<ℤ◌, true, false, List, Option, Some, MatchOption, slice_get}
 use Rattle.jiff_tz.specs.declared.timezone.TimeZone.{TimeZone}
 use Rattle.cron_units.specs.Sets.{Sets}
 use Rattle.cron_moments.specs.Readings.{Reading, instant}
 use Rattle.cron_time.specs.Timeline.{timeline}
 use Rattle.cron_instants.specs.Order.{is_earlier}
 
+-- the reading stands in the list
+abbrev pub IsAmong : List Reading → Reading → Type 0
+IsAmong l r = (i : ℕ) × (slice_get l i ≡ Some r)
+
 -- the reading stands on the timeline
 abbrev pub IsItem : Sets → TimeZone → Reading → Type 0
-IsItem s z r = (i : ℕ) × (slice_get (timeline s z) i ≡ Some r)
+IsItem s z r = IsAmong (timeline s z) r
 
 -- an item's instant comes after the instant t, which is in nanoseconds since 1970
 abbrev pub IsAfter : ℤ → Reading → Type 0
