@@ -24,7 +24,7 @@ pub use Rattle.cron_time.specs.Search.Times.{TimeOfDay, times_of_day, time_of_pa
 pub use Rattle.cron_moments.specs.MomentText.{moment_text}
 pub use Rattle.cron_text.specs.TextLaws.{IsInGrammar, MeansOnce, MeansSets, LongestFrontsAgree, HasOneFault, MeantEarlier, KeepsItsMeaning}
 pub use Rattle.cron_time.specs.Walk.Laws.{RunsAreJoined, EndIsForEver, NeighboursAreAnswered, SecondsNeverDecrease, SecondsStandTwiceAtMost, ItemsMatch, ItemsStandOnce}
-pub use Rattle.cron_time.specs.Walk.FixedLaws.{Shows, IsAfter, IsLeastAfter, offset_of, FirstIsLeast, NextIsLater}
+pub use Rattle.cron_time.specs.Walk.FixedLaws.{Shows, IsAfter, IsLeastAfter, offset_of, IsReadOnce, HasOneOffset, FixedZonesHaveOneOffset, PlainRulesHaveOneOffset, FirstIsLeast, NextIsLater}
 pub use Rattle.cron.specs.Instants.{IsLeastIfAny, IsNextIfAny}
 pub use Rattle.cron_time.specs.Walk.Resume.{IsAbsent, IsAtItem, IsResumed}
 pub use Rattle.cron_moments.specs.Parts.{HasParts}

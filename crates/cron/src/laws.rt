@@ -2,7 +2,7 @@
 //! and `reread` by what tests the readers.
 
 ghost use Rattle.std.specs.Prelude.{◌≡◌, IfOk, IfErr};
-ghost use Rattle.jiff.specs.Words.{plain_zone, IsFixed};
+ghost use Rattle.jiff.specs.Words.{plain_zone};
 ghost use Rattle.cron_units.specs.ItemLaws.{ItemsAreRefusedOnce, ItemsAreDecided};
 ghost use Rattle.cron_units.specs.Texts.{Tells, IsMemory};
 ghost use Rattle.cron.specs.Examples.{TextsAreCut, ItemsDenote, ItemsAreRefused, CursorsStep, DaysAreNumbered};
@@ -13,7 +13,7 @@ ghost use Rattle.cron.specs.Resumed.{CutRunsAreResumed, ItemsAreInRange};
 ghost use Rattle.cron_text.specs.TextLaws.{MeansOnce, MeansSets, LongestFrontsAgree, HasOneFault, KeepsItsMeaning};
 ghost use Rattle.cron_time.specs.Search.Times.{TimesOfDayMatch};
 ghost use Rattle.cron_time.specs.Search.Counts.{DaysAtMost};
-ghost use Rattle.cron_time.specs.Walk.FixedLaws as fixed;
+ghost use Rattle.cron_time.specs.Walk.FixedLaws as one;
 ghost use Rattle.cron_time.specs.Walk.Laws as law;
 
 use crate::schedule::{Moment, Schedule, Turn};
@@ -64,9 +64,9 @@ pub fn first_instants(
     start: Timestamp,
     zone: &TimeZone<'_>,
 ) -> (Option<Moment>, Option<Moment>)
-    requires { IsFixed (plain_zone zone.now) }
-    ensures first { IsLeastIfAny schedule.now.sets (fixed.offset_of (plain_zone zone.now)) start.nanosecond result.0 }
-    ensures next { IsNextIfAny schedule.now.sets (fixed.offset_of (plain_zone zone.now)) result.0 result.1 }
+    requires { one.HasOneOffset (plain_zone zone.now) (one.offset_of (plain_zone zone.now)) }
+    ensures first { IsLeastIfAny schedule.now.sets (one.offset_of (plain_zone zone.now)) start.nanosecond result.0 }
+    ensures next { IsNextIfAny schedule.now.sets (one.offset_of (plain_zone zone.now)) result.0 result.1 }
 {
     let mut fires = schedule.after(start, zone);
     let first = fires.next();
@@ -191,13 +191,19 @@ pub fn single_items()
     ensures { law.ItemsStandOnce }
 {}
 
+/// UTC and the zones that are made of an offset have one offset, and so has a rule text without a saving.
+pub fn one_offset()
+    ensures zones { one.FixedZonesHaveOneOffset }
+    ensures rules { one.PlainRulesHaveOneOffset }
+{}
+
 /// In a zone with one offset the first call ahead of a start answers the least instant after it
 /// that shows a match.
 pub fn least_instant()
-    ensures { fixed.FirstIsLeast }
+    ensures { one.FirstIsLeast }
 {}
 
 /// In a zone with one offset a call ahead of an item answers a later instant.
 pub fn later_instants()
-    ensures { fixed.NextIsLater }
+    ensures { one.NextIsLater }
 {}

@@ -34,6 +34,7 @@ pub fn first_alarms(schedule: &Schedule, now: Timestamp, offset: Offset) -> Alar
     ensures ascending { IfSome result.second (λ second. IfSome result.first (λ first. first.nanosecond <ℤ second.nanosecond)) }
 {
     let zone = TimeZone::fixed(offset);
+    laws::one_offset();
     let (first, second) = laws::first_instants(schedule, now, &zone);
     Alarms {
         first: instant_of(first),

@@ -114,6 +114,26 @@ fn check_first_two(
     wanted: &str,
 ) -> Result<(), Fail> {
     zone.to_fixed_offset()?;
+    laws::one_offset();
+    let (first, second) = laws::first_instants(schedule, start, zone);
+    check_listed(rt, &[first, second], wanted, wanted)
+}
+
+// The same in the zone of a rule text, which must have no saving.
+fn check_first_two_by_rule(
+    rt: &(impl Abort + AllocGlobal),
+    schedule: &Schedule,
+    start: Timestamp,
+    zone: &TimeZone<'_>,
+    wanted: &str,
+) -> Result<(), Fail> {
+    let jiff_tz::TimeZone::Posix(rule) = zone.to_plain() else {
+        return Err("not a rule text".into());
+    };
+    if rule.dst.is_some() {
+        return Err("a rule with a saving".into());
+    }
+    laws::one_offset();
     let (first, second) = laws::first_instants(schedule, start, zone);
     check_listed(rt, &[first, second], wanted, wanted)
 }
@@ -126,6 +146,30 @@ fn check_first(rt: &(impl Abort + AllocGlobal), row: &str) -> Result<(), Fail> {
     let start = start.parse()?;
     let schedule = Schedule::from_str(rt.alloc(), text)?;
     check_first_two(rt, &schedule, start, &zone, wanted)
+}
+
+// An expression, a rule text without a saving, a start, and the first two answers.
+const FIRST_BY_RULE: &str = "\
+0 30 9 * * * | JST-9 | 2024-02-28T00:30:00Z | 2024-02-29 09:30:00 +09:00, 2024-03-01 09:30:00 +09:00, 
+59 59 23 31 12 ? 2100 | <-0330>3:30 | 2020-01-01T00:00:00Z | 2100-12-31 23:59:59 -03:30, None, ";
+
+fn check_first_by_rule(rt: &(impl Abort + AllocGlobal), row: &str) -> Result<(), Fail> {
+    let (text, rest) = cut(row)?;
+    let (rule, rest) = cut(rest)?;
+    let (start, wanted) = cut(rest)?;
+    let zone = TimeZone::posix(rule)?;
+    let start = start.parse()?;
+    let schedule = Schedule::from_str(rt.alloc(), text)?;
+    check_first_two_by_rule(rt, &schedule, start, &zone, wanted)
+}
+
+#[test]
+fn first_instants_by_rule(rt: HostRuntime) -> Result<(), Fail> {
+    assert_eq!(rt; FIRST_BY_RULE.lines().count(), 2);
+    for row in FIRST_BY_RULE.lines() {
+        check_first_by_rule(&rt, row)?;
+    }
+    Ok(())
 }
 
 #[test]

@@ -12,9 +12,9 @@ use Rattle.jiff_tz.specs.declared.timezone.TimeZone.{TimeZone}
 use Rattle.jiff_tz.specs.declared.timezone.TimeZone.TheVariants.{UTC, Unknown, Fixed, Posix, Tzif}
 use Rattle.jiff_tz.specs.Zone.{IsFixed, offset_at, ambiguous_at, utc_offset}
 use Rattle.cron_time.specs.Walk.Bounds.{bound_ahead, shown_at, is_instant}
-use Rattle.cron_moments.specs.Civil.{civil}
+use Rattle.cron_moments.specs.Civil.{civil, seconds_in_range}
 use Rattle.cron_time.specs.Walk.Cursor.{first_from, go_to, item_at}
-use Rattle.cron_time.specs.Walk.FixedLaws.{offset_of, Shows, IsAfter, IsLeastAfter, FirstIsLeast, NextIsLater}
+use Rattle.cron_time.specs.Walk.FixedLaws.{offset_of, HasOneOffset, IsReadOnce, FixedZonesHaveOneOffset, PlainRulesHaveOneOffset, Shows, IsAfter, IsLeastAfter, FirstIsLeast, NextIsLater}
 use Rattle.cron_moments.specs.Readings.{Reading, reading, readings, instant}
 use Rattle.cron_time.specs.Search.{items_of}
 use Rattle.cron_units.specs.Sets.{Sets}
@@ -27,27 +27,33 @@ use Rattle.cron_time.proofs.TimelineLaws.{never_decrease, items_match}
 
 -- ---- the zone
 
-offset_at-fixed : (z : TimeZone) (n : ℤ) → IsFixed z → offset_at z n ≡ offset_of z
+fixed_shown : (z : TimeZone) (n : ℤ) → IsFixed z → offset_at z n ≡ offset_of z
 unfolding offset_at
-offset_at-fixed UTC n h = refl
-offset_at-fixed Unknown n h = refl
-offset_at-fixed (Fixed o) n h = refl
-offset_at-fixed (Posix p) n h = absurd h
-offset_at-fixed (Tzif p) n h = absurd h
+fixed_shown UTC n h = refl
+fixed_shown Unknown n h = refl
+fixed_shown (Fixed o) n h = refl
+fixed_shown (Posix p) n h = absurd h
+fixed_shown (Tzif p) n h = absurd h
 
--- each civil second has one reading, at that offset
-one_reading : (z : TimeZone) (c : ℕ) → IsFixed z → (o : Offset) × (readings z c ≡ reading c o ∷ []) × (o.seconds ≡ offset_of z)
+fixed_read : (z : TimeZone) (c : ℕ) → IsFixed z → IsReadOnce z (offset_of z) c
 unfolding offset_at readings ambiguous_at
-one_reading UTC c h = (utc_offset, refl, refl)
-one_reading Unknown c h = (utc_offset, refl, refl)
-one_reading (Fixed o) c h = (o, refl, refl)
-one_reading (Posix p) c h = absurd h
-one_reading (Tzif p) c h = absurd h
+fixed_read UTC c h = (utc_offset, refl, refl)
+fixed_read Unknown c h = (utc_offset, refl, refl)
+fixed_read (Fixed o) c h = (o, refl, refl)
+fixed_read (Posix p) c h = absurd h
+fixed_read (Tzif p) c h = absurd h
 
-one_item : (s : Sets) (z : TimeZone) (c : ℕ) → IsFixed z → matches s (civil c) ≡ true
-    → (o : Offset) × (items_of s z c ≡ reading c o ∷ []) × (o.seconds ≡ offset_of z)
+pub fixed_have_one : FixedZonesHaveOneOffset
+fixed_have_one z h = record { shown = λ n. fixed_shown z n h; read = λ c below. fixed_read z c h }
+
+pub plain_rules_have_one : PlainRulesHaveOneOffset
+unfolding offset_at readings ambiguous_at
+plain_rules_have_one rule none = record { shown = λ n. rw none refl; read = λ c below. (rule.std_offset, rw none refl, refl) }
+
+one_item : (s : Sets) (z : TimeZone) (o : ℤ) (c : ℕ) → HasOneOffset z o → c < seconds_in_range → matches s (civil c) ≡ true
+    → (at : Offset) × (items_of s z c ≡ reading c at ∷ []) × (at.seconds ≡ o)
 unfolding items_of
-one_item s z c h m = let one = one_reading z c h in (one.0, rw m one.1, one.2)
+one_item s z o c h below m = let one = h.read c below in (one.0, rw m one.1, one.2)
 
 -- ---- the first item from a number on
 
@@ -100,21 +106,21 @@ module _ {A : Type 0} (p : A → Bool) where
 -- ---- instants
 
 -- what is shown one second after t, against a second n that shows c
-bound_is : (z : TimeZone) (t n : ℤ) (c : ℕ) → IsFixed z → n +ℤ offset_of z ≡ pos c → IsAfter t n → shown_at z (t +ℤ pos 1_000_000_000) ≤ℤ pos c
-bound_is z t n c h is after =
-    rw (offset_at-fixed z (t +ℤ pos 1_000_000_000) h) (omega (arith, signed_arith))
+bound_is : (z : TimeZone) (o t n : ℤ) (c : ℕ) → HasOneOffset z o → n +ℤ o ≡ pos c → IsAfter t n → shown_at z (t +ℤ pos 1_000_000_000) ≤ℤ pos c
+bound_is z o t n c h is after =
+    rw (h.shown (t +ℤ pos 1_000_000_000)) (omega (arith, signed_arith))
 
-bound_back_is : (z : TimeZone) (t n : ℤ) (c : ℕ) → IsFixed z → n +ℤ offset_of z ≡ pos c → shown_at z (t +ℤ pos 1_000_000_000) ≤ℤ pos c → IsAfter t n
-bound_back_is z t n c h is low =
-    let shown = rw (offset_at-fixed z (t +ℤ pos 1_000_000_000) h) at low in
+bound_back_is : (z : TimeZone) (o t n : ℤ) (c : ℕ) → HasOneOffset z o → n +ℤ o ≡ pos c → shown_at z (t +ℤ pos 1_000_000_000) ≤ℤ pos c → IsAfter t n
+bound_back_is z o t n c h is low =
+    let shown = rw (h.shown (t +ℤ pos 1_000_000_000)) at low in
     omega (arith, signed_arith)
 
 -- the offset of an item
-item_offset : (s : Sets) (z : TimeZone) (i : ℕ) (r : Reading) → IsFixed z → slice_get (timeline s z) i ≡ Some r
-    → (r.offset.seconds ≡ offset_of z) × (i ≡ before s z r.second) × (before s z (r.second + 1) ≡ i + 1)
-item_offset s z i r h here =
+item_offset : (s : Sets) (z : TimeZone) (o : ℤ) (i : ℕ) (r : Reading) → HasOneOffset z o → slice_get (timeline s z) i ≡ Some r
+    → (r.offset.seconds ≡ o) × (i ≡ before s z r.second) × (before s z (r.second + 1) ≡ i + 1)
+item_offset s z o i r h here =
     let there = is_in s z i r here in
-    let one = one_item s z r.second h (items_match s z i r here) in
+    let one = one_item s z o r.second h (stands-high s z r.second there.stands) (items_match s z i r here) in
     let next = before-next s z r.second in
     let single : length (items_of s z r.second) ≡ 1 = rw one.1 refl in
     let low = there.low in
@@ -135,10 +141,10 @@ answer_at k None = refl
 answer_at k (Some x) = refl
 
 pub next_is_later : NextIsLater
-next_is_later s z i r q h here e =
+next_is_later s z o i r q h here e =
     let there : slice_get (timeline s z) (i + 1) ≡ Some q = sym (answer_at (i + 1) (slice_get (timeline s z) (i + 1))) ∙ e in
-    let a = item_offset s z i r h here in
-    let b = item_offset s z (i + 1) q h there in
+    let a = item_offset s z o i r h here in
+    let b = item_offset s z o (i + 1) q h there in
     let up = never_decrease s z i (i + 1) r q (omega arith) here there in
     elim (cases_lt r.second q.second) [
       | inl lt ↦ omega (arith, signed_arith, a.0, b.0)
@@ -155,11 +161,11 @@ int_le-to : (b c : ℤ) → int_le b c ≡ true → b ≤ℤ c
 int_le-to b c h = grind (arith, ints)
 
 -- where jiff has no instant one second after t, nothing is shown after t
-none_past_end : (s : Sets) (z : TimeZone) (t : ℤ) → IsFixed z → IsTimestampNanos t → bound_ahead z t ≡ None → (n : ℤ) → IsAfter t n
-    → ¬ (Shows s (offset_of z) n)
+none_past_end : (s : Sets) (z : TimeZone) (o t : ℤ) → HasOneOffset z o → IsTimestampNanos t → bound_ahead z t ≡ None → (n : ℤ) → IsAfter t n
+    → ¬ (Shows s o n)
 unfolding bound_ahead
-none_past_end s z t h here none n after k =
-    let one = one_reading z 0 h in
+none_past_end s z o t h here none n after k =
+    let one = h.read 0 (omega arith) in
     let same = one.2 in
     let is = k.is in
     let below = k.in_range in
@@ -178,24 +184,24 @@ bound_ahead-is z t b e =
     ] e
 
 -- what is shown has its item on the timeline
-shown_item : (s : Sets) (z : TimeZone) (n : ℤ) → IsFixed z → (k : Shows s (offset_of z) n)
+shown_item : (s : Sets) (z : TimeZone) (o n : ℤ) → HasOneOffset z o → (k : Shows s o n)
     → (y : Reading) × (slice_get (timeline s z) (before s z k.second + 0) ≡ Some y) × (y.second ≡ k.second)
-shown_item s z n h k =
-    let one = one_item s z k.second h k.matching in
+shown_item s z o n h k =
+    let one = one_item s z o k.second h k.in_range k.matching in
     let single : length (items_of s z k.second) ≡ 1 = rw one.1 refl in
     (reading k.second one.0, item_in s z k.second 0 k.in_range (omega arith) ∙ ap (λ xs. slice_get xs 0) one.1, refl)
 
-module _ (s : Sets) (z : TimeZone) (t b : ℤ) (h : IsFixed z) (is : b ≡ shown_at z (t +ℤ pos 1_000_000_000)) where
+module _ (s : Sets) (z : TimeZone) (o t b : ℤ) (h : HasOneOffset z o) (is : b ≡ shown_at z (t +ℤ pos 1_000_000_000)) where
   abbrev is_from : Reading → Bool
   is_from r = int_le b (pos r.second)
 
-  shown_passes : (n : ℤ) → IsAfter t n → (k : Shows s (offset_of z) n) → int_le b (pos k.second) ≡ true
-  shown_passes n after k = int_le-from b (pos k.second) (rw is (bound_is z t n k.second h k.is after))
+  shown_passes : (n : ℤ) → IsAfter t n → (k : Shows s o n) → int_le b (pos k.second) ≡ true
+  shown_passes n after k = int_le-from b (pos k.second) (rw is (bound_is z o t n k.second h k.is after))
 
-  least_after : (i : ℕ) → (f : IsFirst is_from (timeline s z) i) → IsLeastAfter s (offset_of z) t f.x
+  least_after : (i : ℕ) → (f : IsFirst is_from (timeline s z) i) → IsLeastAfter s o t f.x
   least_after i f =
-      let off = (item_offset s z i f.x h f.here).0 in
-      let second : instant f.x +ℤ offset_of z ≡ pos f.x.second = omega (arith, signed_arith) in
+      let off = (item_offset s z o i f.x h f.here).0 in
+      let second : instant f.x +ℤ o ≡ pos f.x.second = omega (arith, signed_arith) in
       let low : shown_at z (t +ℤ pos 1_000_000_000) ≤ℤ pos f.x.second = rw (← is) (int_le-to b (pos f.x.second) f.passes) in
       record {
         shows = record {
@@ -204,9 +210,9 @@ module _ (s : Sets) (z : TimeZone) (t b : ℤ) (h : IsFixed z) (is : b ≡ shown
           in_range = stands-high s z f.x.second (is_in s z i f.x f.here).stands;
           matching = items_match s z i f.x f.here;
         };
-        after = bound_back_is z t (instant f.x) f.x.second h second low;
+        after = bound_back_is z o t (instant f.x) f.x.second h second low;
         least = λ n after k.
-            let there = shown_item s z n h k in
+            let there = shown_item s z o n h k in
             let shown = k.is in
             elim (cases_lt k.second f.x.second) [
               | inl lt ↦ elim (cases_lt (before s z k.second + 0) i) [
@@ -219,10 +225,10 @@ module _ (s : Sets) (z : TimeZone) (t b : ℤ) (h : IsFixed z) (is : b ≡ shown
             ];
       }
 
-  by_place : (o : Option ℕ) → position is_from (timeline s z) ≡ o
-      → MatchOption (go_to (timeline s z) o).answer ((n : ℤ) → IsAfter t n → ¬ (Shows s (offset_of z) n)) (IsLeastAfter s (offset_of z) t)
+  by_place : (p : Option ℕ) → position is_from (timeline s z) ≡ p
+      → MatchOption (go_to (timeline s z) p).answer ((n : ℤ) → IsAfter t n → ¬ (Shows s o n)) (IsLeastAfter s o t)
   by_place None e = λ n after k.
-      let there = shown_item s z n h k in
+      let there = shown_item s z o n h k in
       let fails = none_passes is_from 0 (timeline s z) (sym (position_from-zero is_from (timeline s z)) ∙ e) (before s z k.second + 0) there.0 there.1 in
       true≢false (sym (shown_passes n after k) ∙ ap (λ c. int_le b (pos c)) (sym there.2) ∙ fails)
   by_place (Some i) e =
@@ -232,12 +238,12 @@ module _ (s : Sets) (z : TimeZone) (t b : ℤ) (h : IsFixed z) (is : b ≡ shown
       rw here (least_after found.0 found.2)
 
 pub first_is_least : FirstIsLeast
-first_is_least s z t h here = by_bound (bound_ahead z t) refl
+first_is_least s z o t h here = by_bound (bound_ahead z t) refl
   where
-    by_bound : (o : Option ℤ) → bound_ahead z t ≡ o → MatchOption (go_to (timeline s z) (first_from (timeline s z) o)).answer ((n : ℤ) → IsAfter t n
-        → ¬ (Shows s (offset_of z) n)) (IsLeastAfter s (offset_of z) t)
-    by_bound None e = none_past_end s z t h here e
-    by_bound (Some b) e = by_place s z t b h (bound_ahead-is z t b e) (position (λ (r : Reading). int_le b (pos r.second)) (timeline s z)) refl
+    by_bound : (b : Option ℤ) → bound_ahead z t ≡ b → MatchOption (go_to (timeline s z) (first_from (timeline s z) b)).answer ((n : ℤ) → IsAfter t n
+        → ¬ (Shows s o n)) (IsLeastAfter s o t)
+    by_bound None e = none_past_end s z o t h here e
+    by_bound (Some b) e = by_place s z o t b h (bound_ahead-is z t b e) (position (λ (r : Reading). int_le b (pos r.second)) (timeline s z)) refl
 
 -- ---- the item after one
 
@@ -248,10 +254,10 @@ nothing_beyond (x ∷ xs) (suc i) zero y none le at = omega arith
 nothing_beyond (x ∷ xs) (suc i) (suc k) y none le at = nothing_beyond xs i k y none (omega arith) at
 
 -- what is shown after an item has a later place
-later_place : (s : Sets) (z : TimeZone) (i : ℕ) (r : Reading) (n : ℤ) → IsFixed z → slice_get (timeline s z) i ≡ Some r
-    → IsAfter (instant r *ℤ pos 1_000_000_000) n → (k : Shows s (offset_of z) n) → i + 1 ≤ before s z k.second + 0
-later_place s z i r n h here after k =
-    let a = item_offset s z i r h here in
+later_place : (s : Sets) (z : TimeZone) (o : ℤ) (i : ℕ) (r : Reading) (n : ℤ) → HasOneOffset z o → slice_get (timeline s z) i ≡ Some r
+    → IsAfter (instant r *ℤ pos 1_000_000_000) n → (k : Shows s o n) → i + 1 ≤ before s z k.second + 0
+later_place s z o i r n h here after k =
+    let a = item_offset s z o i r h here in
     let off = a.0 in
     let is = k.is in
     let lt : r.second + 1 ≤ k.second = omega (arith, signed_arith) in
@@ -260,20 +266,20 @@ later_place s z i r n h here after k =
     omega arith
 
 -- the item after one is the least later instant that shows a match, and there is none where nothing later does
-pub next_is_least : (s : Sets) (z : TimeZone) (i : ℕ) (r : Reading) → IsFixed z → slice_get (timeline s z) i ≡ Some r
-    → MatchOption (slice_get (timeline s z) (i + 1)) ((n : ℤ) → IsAfter (instant r *ℤ pos 1_000_000_000) n → ¬ (Shows s (offset_of z) n))
-    (IsLeastAfter s (offset_of z) (instant r *ℤ pos 1_000_000_000))
-next_is_least s z i r h here = by_next (slice_get (timeline s z) (i + 1)) refl
+pub next_is_least : (s : Sets) (z : TimeZone) (o : ℤ) (i : ℕ) (r : Reading) → HasOneOffset z o → slice_get (timeline s z) i ≡ Some r
+    → MatchOption (slice_get (timeline s z) (i + 1)) ((n : ℤ) → IsAfter (instant r *ℤ pos 1_000_000_000) n → ¬ (Shows s o n))
+    (IsLeastAfter s o (instant r *ℤ pos 1_000_000_000))
+next_is_least s z o i r h here = by_next (slice_get (timeline s z) (i + 1)) refl
   where
-    by_next : (o : Option Reading) → slice_get (timeline s z) (i + 1) ≡ o
-        → MatchOption o ((n : ℤ) → IsAfter (instant r *ℤ pos 1_000_000_000) n → ¬ (Shows s (offset_of z) n))
-        (IsLeastAfter s (offset_of z) (instant r *ℤ pos 1_000_000_000))
+    by_next : (q : Option Reading) → slice_get (timeline s z) (i + 1) ≡ q
+        → MatchOption q ((n : ℤ) → IsAfter (instant r *ℤ pos 1_000_000_000) n → ¬ (Shows s o n))
+        (IsLeastAfter s o (instant r *ℤ pos 1_000_000_000))
     by_next None none = λ n after k.
-        let there = shown_item s z n h k in
-        nothing_beyond (timeline s z) (i + 1) (before s z k.second + 0) there.0 none (later_place s z i r n h here after k) there.1
+        let there = shown_item s z o n h k in
+        nothing_beyond (timeline s z) (i + 1) (before s z k.second + 0) there.0 none (later_place s z o i r n h here after k) there.1
     by_next (Some q) there =
-        let off = (item_offset s z (i + 1) q h there).0 in
-        let later = next_is_later s z i r q h here (answer_at (i + 1) (slice_get (timeline s z) (i + 1)) ∙ there) in
+        let off = (item_offset s z o (i + 1) q h there).0 in
+        let later = next_is_later s z o i r q h here (answer_at (i + 1) (slice_get (timeline s z) (i + 1)) ∙ there) in
         record {
           shows = record {
             second = q.second;
@@ -283,9 +289,9 @@ next_is_least s z i r h here = by_next (slice_get (timeline s z) (i + 1)) refl
           };
           after = omega (arith, signed_arith);
           least = λ n after k.
-              let shown = shown_item s z n h k in
+              let shown = shown_item s z o n h k in
               let is = k.is in
               let same = shown.2 in
-              let up = never_decrease s z (i + 1) (before s z k.second + 0) q shown.0 (later_place s z i r n h here after k) there shown.1 in
+              let up = never_decrease s z (i + 1) (before s z k.second + 0) q shown.0 (later_place s z o i r n h here after k) there shown.1 in
               omega (arith, signed_arith);
         }

@@ -3,10 +3,10 @@ use Rattle.cron.proofs.laws.first_instants.Goals as goal
 
 pub returns-clause-first : goal.returns-clause-first
 returns-clause-first c =
-    least_first _ _ _ c.after-fires.result _ _ c.after-fires.ensures.sets c.after-fires.ensures.zone c.after-fires.ensures.cursor c.requires
+    least_first _ _ _ _ c.after-fires.result _ _ c.after-fires.ensures.sets c.after-fires.ensures.zone c.after-fires.ensures.cursor c.requires
     c.args.start.in_range c.next-first.ensures.steps.cursor
 
 pub returns-clause-next : goal.returns-clause-next
 returns-clause-next c =
-    next_least _ _ _ c.after-fires.result _ _ _ _ c.after-fires.ensures.sets c.after-fires.ensures.zone c.after-fires.ensures.cursor c.requires
+    next_least _ _ _ _ c.after-fires.result _ _ _ _ c.after-fires.ensures.sets c.after-fires.ensures.zone c.after-fires.ensures.cursor c.requires
     c.next-first.ensures.steps.cursor c.next-second.ensures.steps.cursor

@@ -1,9 +1,14 @@
-use Rattle.std.proofs.Common.{◌≡◌, ℤ, pos, ◌∙◌, subst, ap}
+use Rattle.std.proofs.Common.{◌≡◌, ℤ, pos, ◌∙◌, subst, ap, rules}
 use Rattle.jiff.proofs.ZoneFacts.{offset_at-fixed_zone}
-use Rattle.jiff.specs.Words.{plain_zone}
+use Rattle.jiff.specs.Words.{plain_zone, IsFixed}
 use Rattle.cron.specs.Words.{IsLeastIfAny, offset_of}
 use Rattle.cron_callers.proofs.AlarmLemmas.{first_alarm, second_alarm}
 use Rattle.cron_callers.proofs.instants.first_alarms.Goals as goal
+
+pub first_instants-first-requires : goal.first_instants-first-requires
+first_instants-first-requires c =
+    let fixed : IsFixed (plain_zone c.fixed-zone.result) = search rules in
+    c.one_offset.ensures.zones (plain_zone c.fixed-zone.result) fixed
 
 pub returns-clause-first : goal.returns-clause-first
 returns-clause-first c =
