@@ -221,6 +221,84 @@ static void ends_of_fires(void)
     CHECK(shows(&item, "2100-12-31 09:00:00 +00:00"));
 }
 
+static uint32_t fires_between(const cron_schedule *schedule, const char *zone, int64_t last, int64_t now, cron_item *items,
+                              size_t length, size_t *count)
+{
+    return cron_fires_between(schedule, bytes_of(zone), strlen(zone), last, now, items, length, count);
+}
+
+static uint32_t fires_past(const cron_schedule *schedule, const char *zone, const cron_item *item, int64_t now,
+                           cron_item *items, size_t length, size_t *count)
+{
+    return cron_fires_past(schedule, bytes_of(zone), strlen(zone), item, now, items, length, count);
+}
+
+/* Two items at each of the half past one's of 2022-11-06, in pages of one, and the whole at once. */
+static void runs(void)
+{
+    const int64_t last = 1667716199, now = 1667719800;
+    cron_schedule schedule = parsed("0,1 30 1 * * *");
+    cron_item items[5], item = {7, 7};
+    size_t count = 7;
+    memset(items, 0, sizeof items);
+    CHECK(fires_between(&schedule, CHICAGO, last, now, items, 5, &count) == CRON_OK);
+    CHECK(count == 3 && items[3].instant == 0);
+    CHECK(items[0].instant == 1667716200 && items[1].instant == 1667716201 && items[2].instant == 1667719800);
+    CHECK(items[1].offset == -5 * 3600 && items[2].offset == -6 * 3600);
+    CHECK(fires_between(&schedule, CHICAGO, last, now, items, 3, &count) == CRON_OK && count == 3);
+    CHECK(fires_between(&schedule, CHICAGO, last, now, items, 2, &count) == CRON_MORE && count == 2);
+    item = items[1];
+    CHECK(fires_past(&schedule, CHICAGO, &item, now, items, 1, &count) == CRON_OK && count == 1);
+    CHECK(items[0].instant == 1667719800);
+    CHECK(fires_past(&schedule, CHICAGO, &item, now + 1, items, 1, &count) == CRON_MORE && count == 1);
+    CHECK(fires_past(&schedule, CHICAGO, &item, now + 1, items, 2, &count) == CRON_OK && count == 2);
+    CHECK(fires_past(&schedule, CHICAGO, &item, now - 1, items, 2, &count) == CRON_OK && count == 0);
+    CHECK(fires_between(&schedule, CHICAGO, last, now, items, 0, &count) == CRON_MORE && count == 0);
+    CHECK(fires_between(&schedule, CHICAGO, now, now, items, 5, &count) == CRON_OK && count == 0);
+    CHECK(fires_between(&schedule, CHICAGO, now, last, items, 5, &count) == CRON_OK && count == 0);
+}
+
+/* In this zone half an hour of instants is shared on 2001-04-10: 00:30Z is 23:30 -01:00 and 00:30 +00:00. */
+static void shared_instants(void)
+{
+    const char *zone = "AAA0BBB1,J100/1:30,J100/0";
+    const int64_t last = 986862599, now = 986862600;
+    cron_schedule schedule = parsed("0 30 0,23 * * *");
+    cron_item items[2], item;
+    size_t count = 7;
+    CHECK(fires_between(&schedule, zone, last, now, items, 2, &count) == CRON_OK);
+    CHECK(count == 2 && items[0].instant == now && items[1].instant == now);
+    CHECK(items[0].offset == -3600 && items[1].offset == 0);
+    item = items[0];
+    CHECK(fires_past(&schedule, zone, &item, now, items, 2, &count) == CRON_OK);
+    CHECK(count == 1 && items[0].instant == now && items[0].offset == 0);
+    CHECK(cron_fire_at(&schedule, bytes_of(zone), strlen(zone), now, &item) == CRON_OK);
+    CHECK(item.instant == now && item.offset == 0);
+}
+
+/* Runs and instants whose arguments aren't any. */
+static void arguments_of_runs(void)
+{
+    cron_schedule schedule = parsed("0 0 9 * * *");
+    cron_item items[2], item = {7, 7}, none = {INT64_MAX, 0};
+    size_t count = 7;
+    CHECK(fires_between(&schedule, "Mars", 0, 1, items, 2, &count) == CRON_BAD_ZONE && count == 0);
+    CHECK(fires_between(&schedule, "UTC", INT64_MIN, 1, items, 2, &count) == CRON_BAD_INSTANT && count == 0);
+    CHECK(fires_between(&schedule, "UTC", 0, INT64_MAX, items, 2, &count) == CRON_BAD_INSTANT && count == 0);
+    CHECK(fires_past(&schedule, "\xff", &item, 0, items, 2, &count) == CRON_BAD_ZONE && count == 0);
+    CHECK(fires_past(&schedule, "UTC", &none, 0, items, 2, &count) == CRON_NOT_AN_ITEM && count == 0);
+    CHECK(fires_past(&schedule, "UTC", &item, INT64_MAX, items, 2, &count) == CRON_BAD_INSTANT && count == 0);
+    CHECK(fires_past(&schedule, "UTC", &item, 32400, items, 2, &count) == CRON_OK && count == 1);
+    CHECK(items[0].instant == 32400 && items[0].offset == 0);
+    CHECK(cron_fire_at(&schedule, bytes_of("UTC"), 3, 32400, &item) == CRON_OK);
+    CHECK(item.instant == 32400 && item.offset == 0);
+    CHECK(cron_fire_at(&schedule, bytes_of("UTC"), 3, 32401, &item) == CRON_NO_ITEM);
+    CHECK(cron_fire_at(&schedule, bytes_of("UTC"), 3, 0, &item) == CRON_NO_ITEM);
+    CHECK(cron_fire_at(&schedule, bytes_of("UTC"), 3, INT64_MAX, &item) == CRON_BAD_INSTANT);
+    CHECK(cron_fire_at(&schedule, bytes_of("Mars"), 4, 32400, &item) == CRON_BAD_ZONE);
+    CHECK(item.instant == 32400);
+}
+
 /* Items at once, as those one by one, and where the timeline ends. */
 static void lists(void)
 {
@@ -247,6 +325,37 @@ static void lists(void)
     CHECK(count == 0);
 }
 
+/* Pages of two over a fold, both ways: each item once, as one by one. */
+static void pages(void)
+{
+    cron_schedule schedule = parsed("0 0 * * * *");
+    cron_item items[2], last, item;
+    size_t count = 0;
+    CHECK(after(&schedule, CHICAGO, 1667705400, &item) == CRON_OK);
+    CHECK(cron_list_after(&schedule, bytes_of(CHICAGO), strlen(CHICAGO), 1667705400, items, 2, &count) == CRON_OK);
+    for (int page = 0; page < 5; page++) {
+        CHECK(count == 2);
+        for (size_t place = 0; place < count; place++) {
+            last = items[place];
+            CHECK(last.instant == item.instant && last.offset == item.offset);
+            CHECK(next(&schedule, CHICAGO, &item) == CRON_OK);
+        }
+        CHECK(cron_list_next(&schedule, bytes_of(CHICAGO), strlen(CHICAGO), &last, items, 2, &count) == CRON_OK);
+    }
+    for (int page = 0; page < 5; page++) {
+        CHECK(cron_list_prev(&schedule, bytes_of(CHICAGO), strlen(CHICAGO), &item, items, 2, &count) == CRON_OK);
+        CHECK(count == 2);
+        for (size_t place = 0; place < count; place++) {
+            CHECK(prev(&schedule, CHICAGO, &item) == CRON_OK);
+            CHECK(items[place].instant == item.instant && items[place].offset == item.offset);
+        }
+    }
+    item.instant++;
+    CHECK(cron_list_next(&schedule, bytes_of(CHICAGO), strlen(CHICAGO), &item, items, 2, &count) == CRON_NOT_AN_ITEM);
+    CHECK(count == 0);
+    CHECK(cron_list_prev(&schedule, bytes_of("Mars"), 4, &item, items, 2, &count) == CRON_BAD_ZONE);
+}
+
 /* Bits outside a unit mean nothing. */
 static void bits(void)
 {
@@ -271,7 +380,11 @@ int main(void)
     fold();
     fires();
     ends_of_fires();
+    runs();
+    shared_instants();
+    arguments_of_runs();
     lists();
+    pages();
     bits();
     printf("examples: %d rows hold\n", held);
     return 0;

@@ -21,7 +21,8 @@
 extern "C" {
 #endif
 
-/* What a call answers. Where it isn't CRON_OK, the struct that the call writes to is as it was. */
+/* What a call answers. Where it is neither CRON_OK nor CRON_MORE, the structs that the call writes to are
+ * as they were. */
 enum {
     CRON_OK = 0,          /* What was asked for was written. */
     CRON_NO_ITEM = 1,     /* The timeline has no item there. */
@@ -30,7 +31,8 @@ enum {
     CRON_BAD_ZONE = 4,    /* The zone is neither `UTC` nor a rule text. */
     CRON_BAD_INSTANT = 5, /* The instant is outside -377705023201 to 253402207200. */
     CRON_NOT_AN_ITEM = 6, /* The given item isn't one of this schedule in this zone. */
-    CRON_UNTOLD = 7       /* As CRON_REFUSED, but the message's length doesn't fit size_t. */
+    CRON_UNTOLD = 7,      /* As CRON_REFUSED, but the message's length doesn't fit size_t. */
+    CRON_MORE = 8         /* What was asked for was written as far as it fits, and more is left. */
 };
 
 /*
@@ -87,7 +89,7 @@ uint32_t cron_parse(const uint8_t *text, size_t text_length,
 /*
  * Which call to use:
  *
- *   a scheduler, and whoever asks what was missed    by instants: `cron_fire_after`, `cron_fire_by`
+ *   a scheduler, and whoever asks what was missed    by instants: `cron_fire_after` and its like
  *   a calendar, and whoever lists what clocks show   the walk: `cron_after`, `cron_next` and their like
  *
  * They differ only where a clock goes back. The walk goes along the times that the clock shows, and
@@ -112,6 +114,36 @@ uint32_t cron_fire_after(const cron_schedule *schedule,
 uint32_t cron_fire_by(const cron_schedule *schedule,
                       const uint8_t *zone, size_t zone_length,
                       int64_t instant, cron_item *item);
+
+/*
+ * Writes to `item` the item whose instant is the given one; of two that share it that which shows more.
+ *
+ * CRON_OK, CRON_NO_ITEM, CRON_BAD_ZONE or CRON_BAD_INSTANT.
+ */
+uint32_t cron_fire_at(const cron_schedule *schedule,
+                      const uint8_t *zone, size_t zone_length,
+                      int64_t instant, cron_item *item);
+
+/*
+ * Writes to `items` the items whose instant comes after `last` and not after `now`, the earliest first,
+ * as far as they fit, and to `*count` how many they are. `cron_fires_past` does so with the items that
+ * are later than a given one, which may be none of the timeline: by it a list goes on from the last item
+ * of a page, and a run after a restart from the item that was noted. Copy that item first, since `items`
+ * is written to. No item is left out or comes twice at the seam of two pages, nor at that of two
+ * stretches from one instant to the next.
+ *
+ * CRON_OK where these are all; CRON_MORE where `items` is full and others are left; CRON_BAD_ZONE or
+ * CRON_BAD_INSTANT; or of `cron_fires_past` CRON_NOT_AN_ITEM, where the clock shows a year outside 1970
+ * to 2100 or the offset is longer than 25:59:59. With the last three `*count` is 0.
+ */
+uint32_t cron_fires_between(const cron_schedule *schedule,
+                            const uint8_t *zone, size_t zone_length,
+                            int64_t last, int64_t now,
+                            cron_item *items, size_t items_length, size_t *count);
+uint32_t cron_fires_past(const cron_schedule *schedule,
+                         const uint8_t *zone, size_t zone_length,
+                         const cron_item *item, int64_t now,
+                         cron_item *items, size_t items_length, size_t *count);
 
 /*
  * Writes to `item` the first item from the civil second on that a clock in the zone shows one second
@@ -149,8 +181,7 @@ uint32_t cron_prev(const cron_schedule *schedule,
  * Writes to `items` the first items after the instant, in order; or, `cron_list_before`, the last ones
  * before it, the latest first: as many as fit, and fewer only where the timeline ends. The instant is
  * meant as by `cron_after` and `cron_before`, with what is said there of an hour that comes twice: go on
- * from the last item with `cron_next`, not with a list from its instant. `*count` tells how many were
- * written.
+ * from the last item, and not with a list from its instant. `*count` tells how many were written.
  *
  * CRON_OK, also where there is none; CRON_BAD_ZONE or CRON_BAD_INSTANT, and `*count` is then 0.
  */
@@ -162,6 +193,22 @@ uint32_t cron_list_before(const cron_schedule *schedule,
                           const uint8_t *zone, size_t zone_length,
                           int64_t instant,
                           cron_item *items, size_t items_length, size_t *count);
+
+/*
+ * The same from an item on: `cron_list_next` writes those after it, `cron_list_prev` those before it. So
+ * pages lose nothing where a clock goes back. Copy the last item of a page first, since `items` is
+ * written to.
+ *
+ * CRON_OK, also where there is none; CRON_BAD_ZONE or CRON_NOT_AN_ITEM, and `*count` is then 0.
+ */
+uint32_t cron_list_next(const cron_schedule *schedule,
+                        const uint8_t *zone, size_t zone_length,
+                        const cron_item *item,
+                        cron_item *items, size_t items_length, size_t *count);
+uint32_t cron_list_prev(const cron_schedule *schedule,
+                        const uint8_t *zone, size_t zone_length,
+                        const cron_item *item,
+                        cron_item *items, size_t items_length, size_t *count);
 
 /*
  * Writes the text of an item, as `2022-11-06 01:00:00 -05:00`, to `text`, as far as it fits, and its

@@ -10,14 +10,15 @@ use Rattle.cron_time.specs.Walk.Inner.Stand.{Stand}
 use Rattle.cron_time.specs.Walk.Inner.Stand as Kept
 use Rattle.cron_time.specs.Walk.Inner.Stop.{IsStop}
 use Rattle.cron_moments.specs.Readings.{Reading}
+use Rattle.cron_time.specs.Walk.Resume.{IsAtItem, IsResumed}
 use Rattle.cron_time.specs.Walk.Rest.{rest}
 use Rattle.cron_time.proofs.Walks.RestLemmas.{gives}
-use Rattle.cron_c.specs.Listings.{IsFront, IsListed}
+use Rattle.cron_c.specs.Listings.{IsFront, IsListed, walk_at}
 use Rattle.cron_c.specs.Structs.{IsItem}
 use Rattle.cron_c.specs.declared.item.CronItem.{CronItem}
 
 -- one item more behind those that are written
-front_more : (rs : List Reading) (old now : List CronItem) (r : Reading) (x : CronItem) → IsFront rs old now → length rs < length old → IsItem r x
+pub front_more : (rs : List Reading) (old now : List CronItem) (r : Reading) (x : CronItem) → IsFront rs old now → length rs < length old → IsItem r x
     → IsFront (rs ++ r ∷ []) old (slice_set now (length rs) x)
 unfolding IsFront
 front_more [] [] now r x e l i = absurd (omega arith)
@@ -26,18 +27,14 @@ front_more (q ∷ rs) [] now r x p l i = absurd p
 front_more (q ∷ rs) (a ∷ old) [] r x p l i = absurd p
 front_more (q ∷ rs) (a ∷ old) (b ∷ now) r x p l i = (p.0, front_more rs old now r x p.1 (omega arith) i)
 
-front_none : (old : List CronItem) → IsFront [] old old
+pub front_none : (old : List CronItem) → IsFront [] old old
 unfolding IsFront
 front_none old = refl
-
--- the walk that stands so
-abbrev pub walk_of : Sets → TimeZone → Stand → Walk
-walk_of s z stand = record { sets = s; zone = z; cursor = cursor_of s z stand }
 
 -- so many items of a walk are written, and it stands at the last of them
 pub record IsFilling (way : Way) (s : Sets) (z : TimeZone) (start : Stand) (old now : List CronItem) (stand : Stand) (count : ℕ) : Type 0 where
   pub written : List Reading
-  pub cut : rest way (walk_of s z start) ≡ written ++ rest way (walk_of s z stand)
+  pub cut : rest way (walk_at s z start) ≡ written ++ rest way (walk_at s z stand)
   pub items : IsFront written old now
   pub counted : count ≡ length written
   pub placed : IsPlaced s z stand
@@ -52,12 +49,12 @@ pub filling_goes_on : (way : Way) (s : Sets) (z : TimeZone) (start from to : Sta
     → IsFilling way s z start old now from count → count < length old
     → IsStop way s z (cursor_of s z from) to → Some r ≡ answer_of to → IsItem r x → IsFilling way s z start old (slice_set now count x) to (count + 1)
 filling_goes_on way s z start from to old now count r x f room stop answer item =
-    let first = (gives way s z from to (walk_of s z from) (Some r) f.placed refl stop answer).items in
+    let first = (gives way s z from to (walk_at s z from) (Some r) f.placed refl stop answer).items in
     let more : count + 1 ≡ length (f.written ++ r ∷ []) = omega (arith, f.counted, length-append f.written (r ∷ [])) in
     let within : length f.written < length old = omega (arith, f.counted) in
     record {
       written = f.written ++ r ∷ [];
-      cut = f.cut ∙ (ap (λ (l : List Reading). f.written ++ l) first ∙ sym (append_assoc f.written (r ∷ []) (rest way (walk_of s z to))));
+      cut = f.cut ∙ (ap (λ (l : List Reading). f.written ++ l) first ∙ sym (append_assoc f.written (r ∷ []) (rest way (walk_at s z to))));
       items = subst (λ (n : ℕ). IsFront (f.written ++ r ∷ []) old (slice_set now n x)) (sym f.counted) (front_more f.written old now r x f.items within item);
       counted = more;
       placed = stop.placed;
@@ -65,12 +62,20 @@ filling_goes_on way s z start from to old now count r x f room stop answer item 
 
 pub filling_ends : (way : Way) (s : Sets) (z : TimeZone) (start from to : Stand) (old now : List CronItem) (count : ℕ)
     → IsFilling way s z start old now from count
-    → IsStop way s z (cursor_of s z from) to → None ≡ answer_of to → IsListed (rest way (walk_of s z start)) old now count
+    → IsStop way s z (cursor_of s z from) to → None ≡ answer_of to → IsListed (rest way (walk_at s z start)) old now count
 filling_ends way s z start from to old now count f stop answer =
-    let nothing = (gives way s z from to (walk_of s z from) None f.placed refl stop answer).items in
-    record { written = f.written; left = rest way (walk_of s z from); cut = f.cut; items = f.items; counted = f.counted; most = inl nothing.0 }
+    let nothing = (gives way s z from to (walk_at s z from) None f.placed refl stop answer).items in
+    record { written = f.written; left = rest way (walk_at s z from); cut = f.cut; items = f.items; counted = f.counted; most = inl nothing.0 }
 
 pub filling_is_full : (way : Way) (s : Sets) (z : TimeZone) (start from : Stand) (old now : List CronItem) (count : ℕ)
-    → IsFilling way s z start old now from count → count ≡ length old → IsListed (rest way (walk_of s z start)) old now count
+    → IsFilling way s z start old now from count → count ≡ length old → IsListed (rest way (walk_at s z start)) old now count
 filling_is_full way s z start from old now count f full =
-    record { written = f.written; left = rest way (walk_of s z from); cut = f.cut; items = f.items; counted = f.counted; most = inr full }
+    record { written = f.written; left = rest way (walk_at s z from); cut = f.cut; items = f.items; counted = f.counted; most = inr full }
+
+-- what is listed from where a walk stands that has answered an item
+pub listed_on : (way : Way) (s fields : Sets) (z : TimeZone) (r : Reading) (stand : Stand) (old now : List CronItem) (count : ℕ) → fields ≡ s
+    → IsAtItem fields z r (cursor_of fields z stand) → IsListed (rest way (walk_at fields z stand)) old now count
+    → (w : Walk) × IsResumed s z r w × IsListed (rest way w) old now count
+listed_on way s fields z r stand old now count e at listed =
+    subst (λ (f : Sets). (w : Walk) × IsResumed f z r w × IsListed (rest way w) old now count) e
+    (walk_at fields z stand, record { sets = refl; zone = refl; at = at }, listed)

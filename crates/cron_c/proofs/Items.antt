@@ -39,6 +39,9 @@ item_once a b item p q =
 pub absent_item : (s : Sets) (z : TimeZone) (given r : Reading) (item : CronItem) → IsItem given item → IsAbsent s z given → IsItem r item → IsAbsent s z r
 absent_item s z given r item p absent q = subst (IsAbsent s z) (item_once given r item p q) absent
 
+pub absent_of : (fields s : Sets) (z : TimeZone) (r : Reading) → fields ≡ s → IsAbsent fields z r → IsAbsent s z r
+absent_of fields s z r e absent = subst (λ (f : Sets). IsAbsent f z r) e absent
+
 -- what a struct shows at its offset is the reading that it is of
 pub moment_is : (o : Option Reading) (item : CronItem) (offset : Offset) → offset.seconds ≡ item.offset → IfSome o (ShowsAt item.instant offset)
     → ((r : Reading) → ShowsAt item.instant offset r → o ≡ Some r)

@@ -1,3 +1,4 @@
 pub mod Over
 pub mod Items
 pub mod Filling
+pub mod Running

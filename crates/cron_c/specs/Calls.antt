@@ -11,9 +11,9 @@ use Rattle.cron_text.specs.Meaning.{Means}
 use Rattle.cron_moments.specs.Civil.{seconds_in_range}
 use Rattle.cron_time.specs.Walk.Cursor.{Start, Walk, step}
 use Rattle.cron_moments.specs.MomentText.{moment_text}
-use Rattle.cron_moments.specs.Readings.{Reading}
+use Rattle.cron_moments.specs.Readings.{Reading, instant}
 use Rattle.cron_time.specs.Walk.Resume.{IsAbsent, IsResumed}
-use Rattle.cron_instants.specs.Instants.{IsFirstAfter, IsLastBy}
+use Rattle.cron_instants.specs.Instants.{IsFirstAfter, IsLastBy, IsItem as IsOnTimeline}
 use Rattle.cron_moments.specs.Zones.{NamesZone, IsZoneOf}
 use Rattle.cron_c.specs.Buffers.{laid_over}
 use Rattle.cron_c.specs.Statuses.{code_of}
@@ -73,6 +73,16 @@ Fires IsSought s zone second old new _ = ⊥
 abbrev pub IsNearestFire : Way → Sets → TimeZone → ℤ → Option Reading → Type 0
 IsNearestFire Ahead = IsFirstAfter
 IsNearestFire Back = IsLastBy
+
+-- An item whose instant is this one is written, of two that share it the later; or there is none; or nothing is looked for.
+abbrev pub FiresAt : Sets → List ℕ → ℤ → CronItem → CronItem → Status → Type 0
+FiresAt s zone second old new Done =
+    (z : TimeZone) × (r : Reading) × IsZoneOf zone z × IsLastBy s z (second *ℤ pos 1_000_000_000) (Some r) × (instant r ≡ second) × IsItem r new
+FiresAt s zone second old new NoItem =
+    (z : TimeZone) × IsZoneOf zone z × IsInstant second × ((r : Reading) → IsOnTimeline s z r → instant r ≡ second → ⊥) × (new ≡ old)
+FiresAt s zone second old new BadZone = (IsZoneText zone → ⊥) × (new ≡ old)
+FiresAt s zone second old new BadInstant = IsZoneText zone × (IsInstant second → ⊥) × (new ≡ old)
+FiresAt s zone second old new _ = ⊥
 
 -- the walk goes on from the item of a struct
 abbrev pub IsResumedAt : Sets → TimeZone → CronItem → Walk → Type 0

@@ -3,3 +3,4 @@ pub mod Structs
 pub mod Buffers
 pub mod Calls
 pub mod Listings
+pub mod Runs

@@ -4,13 +4,17 @@ use Rattle.jiff_tz.specs.declared.timezone.TimeZone.{TimeZone}
 use Rattle.cron_units.specs.declared.way.Way.{Way}
 use Rattle.cron_units.specs.Sets.{Sets}
 use Rattle.cron_moments.specs.Readings.{Reading}
+use Rattle.cron_time.specs.Walk.Cursor.{Walk}
+use Rattle.cron_time.specs.Walk.Inner.Placed.{cursor_of}
+use Rattle.cron_time.specs.Walk.Inner.Stand.{Stand}
+use Rattle.cron_time.specs.Walk.Resume.{IsAbsent}
 use Rattle.cron_time.specs.Walk.Rest.{rest}
 use Rattle.cron_moments.specs.Zones.{IsZoneOf}
-use Rattle.cron_c.specs.Calls.{IsZoneText, IsInstant, start_at}
+use Rattle.cron_c.specs.Calls.{IsZoneText, IsInstant, IsResumedAt, start_at}
 use Rattle.cron_c.specs.Structs.{IsItem}
 use Rattle.cron_c.specs.declared.item.CronItem.{CronItem}
 use Rattle.cron_c.specs.declared.status.Status.{Status}
-use Rattle.cron_c.specs.declared.status.Status.TheVariants.{Done, BadZone, BadInstant}
+use Rattle.cron_c.specs.declared.status.Status.TheVariants.{Done, BadZone, BadInstant, NotAnItem}
 
 -- the first places of an array hold these items, and the others what they held
 unfoldable pub IsFront : List Reading → List CronItem → List CronItem → Type 0
@@ -34,3 +38,16 @@ Lists way s zone second old new count Done =
 Lists way s zone second old new count BadZone = (IsZoneText zone → ⊥) × (new ≡ old) × (count ≡ 0)
 Lists way s zone second old new count BadInstant = IsZoneText zone × (IsInstant second → ⊥) × (new ≡ old) × (count ≡ 0)
 Lists way s zone second old new count _ = ⊥
+
+-- The items that are still to come from an item on are written, alike; or the given one is none.
+abbrev pub ListsOn : Way → Sets → List ℕ → CronItem → List CronItem → List CronItem → ℕ → Status → Type 0
+ListsOn way s zone item old new count Done =
+    (z : TimeZone) × (w : Walk) × IsZoneOf zone z × IsResumedAt s z item w × IsListed (rest way w) old new count
+ListsOn way s zone item old new count BadZone = (IsZoneText zone → ⊥) × (new ≡ old) × (count ≡ 0)
+ListsOn way s zone item old new count NotAnItem =
+    (z : TimeZone) × IsZoneOf zone z × ((r : Reading) → IsItem r item → IsAbsent s z r) × (new ≡ old) × (count ≡ 0)
+ListsOn way s zone item old new count _ = ⊥
+
+-- the walk that stands so
+abbrev pub walk_at : Sets → TimeZone → Stand → Walk
+walk_at s z stand = record { sets = s; zone = z; cursor = cursor_of s z stand }

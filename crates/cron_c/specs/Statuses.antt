@@ -1,7 +1,7 @@
 -- The numbers of statuses, as the header names them.
 use Rattle.std.specs.Prelude.{ℕ}
 use Rattle.cron_c.specs.declared.status.Status.{Status}
-use Rattle.cron_c.specs.declared.status.Status.TheVariants.{Done, NoItem, Refused, NotUtf8, BadZone, BadInstant, NotAnItem, Untold}
+use Rattle.cron_c.specs.declared.status.Status.TheVariants.{Done, NoItem, Refused, NotUtf8, BadZone, BadInstant, NotAnItem, Untold, More}
 
 abbrev pub code_of : Status → ℕ
 code_of Done = 0
@@ -12,3 +12,4 @@ code_of BadZone = 4
 code_of BadInstant = 5
 code_of NotAnItem = 6
 code_of Untold = 7
+code_of More = 8

@@ -2,7 +2,7 @@
 
 ghost use Rattle.jiff.specs.Words.{plain_zone};
 ghost use Rattle.cron_instants.specs.Instants.{IsFirstAfter, IsLastBy};
-ghost use Rattle.cron_c.specs.Calls.{Answers, Fires, IsNearestFire};
+ghost use Rattle.cron_c.specs.Calls.{Answers, Fires, FiresAt, IsNearestFire};
 ghost use Rattle.cron_c.specs.Structs.{sets_of};
 
 use crate::item::{CronItem, item_of};
@@ -72,4 +72,37 @@ pub extern "C" fn cron_fire_by(
     ensures { Answers (Fires IsLastBy (sets_of schedule.now) zone.now instant item.old item.new) result }
 {
     fire(Way::Back, schedule, zone, instant, item).code()
+}
+
+fn fire_at(schedule: &CronSchedule, zone: &[u8], second: i64, item: &mut CronItem) -> Status
+    ensures { FiresAt (sets_of schedule.now) zone.now second item.old item.new result }
+{
+    let Some(zone) = zone_in(zone) else {
+        return Status::BadZone;
+    };
+    let Ok(now) = Timestamp::from_second(second) else {
+        return Status::BadInstant;
+    };
+    let Some(found) = nearest_fire(Way::Back, schedule, &zone, now) else {
+        return Status::NoItem;
+    };
+    let last = item_of(&found);
+    if last.instant != second {
+        return Status::NoItem;
+    }
+    *item = last;
+    Status::Done
+}
+
+/// Writes an item whose instant is this one.
+#[unsafe(no_mangle)]
+pub extern "C" fn cron_fire_at(
+    schedule: &CronSchedule,
+    zone: &[u8],
+    instant: i64,
+    item: &mut CronItem,
+) -> u32
+    ensures { Answers (FiresAt (sets_of schedule.now) zone.now instant item.old item.new) result }
+{
+    fire_at(schedule, zone, instant, item).code()
 }

@@ -2,16 +2,17 @@
 
 ghost use Rattle.jiff.specs.Words.{plain_zone};
 ghost use Rattle.cron_units.specs.declared.way.Way.TheVariants.{Ahead, Back};
-ghost use Rattle.cron_time.specs.Walk.Cursor.{Start};
+ghost use Rattle.cron_time.specs.Walk.Inner.Placed.{IsPlaced, stand_of};
 ghost use Rattle.cron_time.specs.Walk.Rest.{rest};
 ghost use Rattle.cron_c.specs.Calls.{Answers};
-ghost use Rattle.cron_c.specs.Listings.{IsListed, Lists};
+ghost use Rattle.cron_c.specs.Listings.{IsListed, Lists, ListsOn, walk_at};
 ghost use Rattle.cron_c.specs.Structs.{sets_of};
 
-use crate::item::{CronItem, item_of};
+use crate::item::{CronItem, item_of, moment_of};
 use crate::schedule::{CronSchedule, fields_of};
 use crate::status::Status;
 use crate::zone::zone_in;
+use cron_time::walk::resume::resumed;
 use cron_time::walk::state::State;
 use cron_time::walk::step::step;
 use cron_units::fields::ScheduleFields;
@@ -19,17 +20,18 @@ use cron_units::way::Way;
 use jiff::Timestamp;
 use jiff::tz::TimeZone;
 
-// Writes the items of a walk that starts at an instant as far as they fit, and counts them.
+// Writes the items that are still to come in a walk as far as they fit, and counts them.
 fn fill(
     way: Way,
     fields: &ScheduleFields,
     zone: &TimeZone<'_>,
-    start: Timestamp,
+    from: State,
     items: &mut [CronItem],
 ) -> usize
-    ensures { IsListed (rest way (record { sets = fields.now; zone = plain_zone zone.now; cursor = Start start.nanosecond })) items.old items.new result }
+    requires { IsPlaced fields.now (plain_zone zone.now) (stand_of from) }
+    ensures { IsListed (rest way (walk_at fields.now (plain_zone zone.now) (stand_of from))) items.old items.new result }
 {
-    let mut state = State::starting(start);
+    let mut state = from;
     for count in 0..items.len() {
         step(fields, zone, way, &mut state);
         let Some(moment) = state.answer() else {
@@ -57,7 +59,38 @@ fn list(
     let Ok(start) = Timestamp::from_second(second) else {
         return Status::BadInstant;
     };
-    *count = fill(way, &fields_of(schedule), &zone, start, items);
+    *count = fill(
+        way,
+        &fields_of(schedule),
+        &zone,
+        State::starting(start),
+        items,
+    );
+    Status::Done
+}
+
+fn list_on(
+    way: Way,
+    schedule: &CronSchedule,
+    zone: &[u8],
+    item: &CronItem,
+    items: &mut [CronItem],
+    count: &mut usize,
+) -> Status
+    ensures { ListsOn way (sets_of schedule.now) zone.now item.now items.old items.new count.new result }
+{
+    *count = 0;
+    let Some(zone) = zone_in(zone) else {
+        return Status::BadZone;
+    };
+    let Some(given) = moment_of(*item) else {
+        return Status::NotAnItem;
+    };
+    let fields = fields_of(schedule);
+    let Some(from) = resumed(&fields, &zone, &given) else {
+        return Status::NotAnItem;
+    };
+    *count = fill(way, &fields, &zone, from, items);
     Status::Done
 }
 
@@ -87,4 +120,32 @@ pub extern "C" fn cron_list_before(
     ensures { Answers (Lists Back (sets_of schedule.now) zone.now instant items.old items.new count.new) result }
 {
     list(Way::Back, schedule, zone, instant, items, count).code()
+}
+
+/// Writes the items after an item as far as they fit, and how many they are.
+#[unsafe(no_mangle)]
+pub extern "C" fn cron_list_next(
+    schedule: &CronSchedule,
+    zone: &[u8],
+    item: &CronItem,
+    items: &mut [CronItem],
+    count: &mut usize,
+) -> u32
+    ensures { Answers (ListsOn Ahead (sets_of schedule.now) zone.now item.now items.old items.new count.new) result }
+{
+    list_on(Way::Ahead, schedule, zone, item, items, count).code()
+}
+
+/// Writes the items before an item, the latest first.
+#[unsafe(no_mangle)]
+pub extern "C" fn cron_list_prev(
+    schedule: &CronSchedule,
+    zone: &[u8],
+    item: &CronItem,
+    items: &mut [CronItem],
+    count: &mut usize,
+) -> u32
+    ensures { Answers (ListsOn Back (sets_of schedule.now) zone.now item.now items.old items.new count.new) result }
+{
+    list_on(Way::Back, schedule, zone, item, items, count).code()
 }

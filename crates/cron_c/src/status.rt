@@ -22,10 +22,12 @@ pub enum Status {
     NotAnItem,
     /// The text means nothing, and the message couldn't be written.
     Untold,
+    /// What was asked for was written as far as it fits, and more is left.
+    More,
 }
 
 impl Status {
-    /// The number, as the header names it: 0 to 7, in the order above.
+    /// The number, as the header names it: 0 to 8, in the order above.
     pub fn code(self) -> u32
         ensures { result ≡ code_of self }
     {
@@ -38,6 +40,7 @@ impl Status {
             Status::BadInstant => 5,
             Status::NotAnItem => 6,
             Status::Untold => 7,
+            Status::More => 8,
         }
     }
 }

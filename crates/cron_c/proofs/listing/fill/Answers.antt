@@ -1,31 +1,19 @@
-use Rattle.std.proofs.Common.{◌≡◌, ◌<◌, refl, sym, subst, ◌∙◌, arith, rules, slice_set}
+use Rattle.std.proofs.Common.{◌≡◌, ◌<◌, refl, sym, ◌∙◌, arith, rules, slice_set}
 use Rattle.std.specs.Prelude.{length}
 use Rattle.jiff.specs.Words.{plain_zone}
 use Rattle.cron_time.specs.Walk.Inner.Placed.{stand_of}
-use Rattle.cron_time.specs.Walk.Inner.Stand.{Stand}
-use Rattle.cron_time.specs.Walk.Rest.{rest}
-use Rattle.cron_c.specs.Listings.{IsListed}
-use Rattle.cron_c.proofs.Filling.{start_is_placed, filling_begins, filling_goes_on, filling_ends, walk_of}
+use Rattle.cron_c.proofs.Filling.{filling_begins, filling_goes_on, filling_ends}
 use Rattle.cron_c.proofs.listing.fill.Goals as goal
 
 pub loop-count-init : goal.loop-count-init
 loop-count-init c =
-    let zone = plain_zone c.args.zone.now in
-    let stand = stand_of c.starting-state.result in (
-      filling_begins c.args.way c.args.fields.now zone stand c.args.items.now
-          (start_is_placed c.args.fields.now zone c.args.start.nanosecond stand c.starting-state.ensures),
-      refl,
-    )
+    (filling_begins c.args.way c.args.fields.now (plain_zone c.args.zone.now) (stand_of c.args.from) c.args.items.now c.requires, refl)
 
 pub returns-in_default : goal.returns-in_default
 returns-in_default c =
-    let zone = plain_zone c.args.zone.now in
-    let filling = c.loop-count.invariant.0 in
-    let ended = filling_ends c.args.way c.args.fields.now zone (stand_of c.starting-state.result) (stand_of c.loop-count.state)
-    (stand_of c.step.new.state) c.args.items.now c.loop-count.items c.loop-count.count filling c.step.ensures (sym c.in_default.is
-    ∙ c.answer.ensures) in
-    subst (λ (x : Stand). IsListed (rest c.args.way (walk_of c.args.fields.now zone x)) c.args.items.now c.loop-count.items c.loop-count.count)
-    c.starting-state.ensures ended
+    filling_ends c.args.way c.args.fields.now (plain_zone c.args.zone.now) (stand_of c.args.from) (stand_of c.loop-count.state)
+    (stand_of c.step.new.state) c.args.items.now c.loop-count.items c.loop-count.count c.loop-count.invariant.0 c.step.ensures
+    (sym c.in_default.is ∙ c.answer.ensures)
 
 pub loop-count-preserved : goal.loop-count-preserved
 loop-count-preserved c =
@@ -33,7 +21,7 @@ loop-count-preserved c =
     let (filling, size) = c.loop-count.invariant in
     let room : c.loop-count.count < length c.args.items.now = omega (arith, c.loop-count-test.true, size) in
     let longer : length (slice_set c.loop-count.items c.loop-count.count c.item_of.result) ≡ length c.args.items.now = search rules in (
-      filling_goes_on c.args.way c.args.fields.now zone (stand_of c.starting-state.result) (stand_of c.loop-count.state) (stand_of c.step.new.state)
+      filling_goes_on c.args.way c.args.fields.now zone (stand_of c.args.from) (stand_of c.loop-count.state) (stand_of c.step.new.state)
           c.args.items.now c.loop-count.items c.loop-count.count c.in-Some.moment c.item_of.result
           filling room c.step.ensures (sym c.in-Some.is ∙ c.answer.ensures) c.item_of.ensures,
       longer,

@@ -24,3 +24,6 @@ returns-in-NotAnItem c = search rules
 
 pub returns-in-Untold : goal.returns-in-Untold
 returns-in-Untold c = search rules
+
+pub returns-in-More : goal.returns-in-More
+returns-in-More c = search rules

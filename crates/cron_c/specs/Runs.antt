@@ -1,0 +1,66 @@
+-- Many items at once, in the order of instants.
+use Rattle.std.specs.Prelude.{◌≡◌, ◌<◌, ℕ, ℤ, pos, ◌*ℤ◌, if◌then◌else◌, List, [], ◌∷◌, ◌++◌, Option, Some, None, MatchOption, filter, length}
+use Rattle.jiff_tz.specs.declared.timezone.TimeZone.{TimeZone}
+use Rattle.cron_units.specs.Sets.{Sets}
+use Rattle.cron_moments.specs.Civil.{seconds_in_range}
+use Rattle.cron_moments.specs.Readings.{Reading}
+use Rattle.cron_moments.specs.Zones.{IsZoneOf}
+use Rattle.cron_instants.specs.Fires.{fires_between, fires_past, is_by}
+use Rattle.cron_c.specs.Calls.{IsZoneText, IsInstant}
+use Rattle.cron_c.specs.Listings.{IsFront}
+use Rattle.cron_c.specs.Structs.{IsItem}
+use Rattle.cron_c.specs.declared.item.CronItem.{CronItem}
+use Rattle.cron_c.specs.declared.status.Status.{Status}
+use Rattle.cron_c.specs.declared.status.Status.TheVariants.{Done, More, BadZone, BadInstant, NotAnItem}
+
+-- all the items are in the array
+abbrev pub IsWhole : List Reading → List CronItem → List CronItem → ℕ → Type 0
+IsWhole all old new count = IsFront all old new × (count ≡ length all)
+
+-- the first of the items fill the array, and others are left
+pub record IsPage (all : List Reading) (old new : List CronItem) (count : ℕ) : Type 0 where
+  pub written : List Reading
+  pub next : Reading
+  pub left : List Reading
+  pub cut : all ≡ written ++ next ∷ left
+  pub items : IsFront written old new
+  pub counted : count ≡ length written
+  pub full : count ≡ length old
+
+-- the items are written as far as they fit, and the status tells whether these are all
+abbrev pub Fills : List Reading → List CronItem → List CronItem → ℕ → Status → Type 0
+Fills all old new count Done = IsWhole all old new count
+Fills all old new count More = IsPage all old new count
+Fills all old new count _ = ⊥
+
+-- the items that are later than one and whose instant is t, which is in nanoseconds since 1970, or comes before it
+abbrev pub fires_past_by : Sets → TimeZone → Reading → ℤ → List Reading
+fires_past_by s z item t = filter (is_by t) (fires_past s z item)
+
+-- The items after one instant and up to and with another are written as far as they fit; or nothing is looked for.
+abbrev pub RunsBetween : Sets → List ℕ → ℤ → ℤ → List CronItem → List CronItem → ℕ → Status → Type 0
+RunsBetween s zone last now old new count BadZone = (IsZoneText zone → ⊥) × (new ≡ old) × (count ≡ 0)
+RunsBetween s zone last now old new count BadInstant = IsZoneText zone × (IsInstant last → IsInstant now → ⊥) × (new ≡ old) × (count ≡ 0)
+RunsBetween s zone last now old new count status =
+    (z : TimeZone) × IsZoneOf zone z × IsInstant last × IsInstant now
+    × Fills (fires_between s z (last *ℤ pos 1_000_000_000) (now *ℤ pos 1_000_000_000)) old new count status
+
+-- The items that are later than the one of a struct and up to and with an instant, alike. That one may be none of the timeline.
+abbrev pub RunsPast : Sets → List ℕ → CronItem → ℤ → List CronItem → List CronItem → ℕ → Status → Type 0
+RunsPast s zone item now old new count BadZone = (IsZoneText zone → ⊥) × (new ≡ old) × (count ≡ 0)
+RunsPast s zone item now old new count NotAnItem =
+    IsZoneText zone × ((r : Reading) → IsItem r item → r.second < seconds_in_range → ⊥) × (new ≡ old) × (count ≡ 0)
+RunsPast s zone item now old new count BadInstant = IsZoneText zone × (IsInstant now → ⊥) × (new ≡ old) × (count ≡ 0)
+RunsPast s zone item now old new count status =
+    (z : TimeZone) × (r : Reading) × IsZoneOf zone z × IsItem r item × IsInstant now
+    × Fills (fires_past_by s z r (now *ℤ pos 1_000_000_000)) old new count status
+
+-- ---- the loop
+
+abbrev pub due_by : ℤ → Option Reading → Option Reading
+due_by t None = None
+due_by t (Some r) = if is_by t r then Some r else None
+
+-- the items begin with this one, and go on with those past it up to and with an instant; or there are none
+abbrev pub BeginsBy : Sets → TimeZone → ℤ → List Reading → Option Reading → Type 0
+BeginsBy s z t all first = MatchOption first (all ≡ []) (λ r. all ≡ r ∷ fires_past_by s z r t)
