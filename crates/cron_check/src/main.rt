@@ -1,0 +1,89 @@
+//! `cron_check [--next START ZONE] [FILE]` tells which lines of a file are no cron expressions.
+#![tactic(auto)]
+
+ghost use Rattle.std.specs.Prelude.{◌≡◌, false};
+ghost use Rattle.cron_writer.specs.Watching.{has_failed};
+
+use cron_checking::arguments::{Request, request_of};
+use cron_checking::check::{Outcome, check};
+use cron_checking::line::Mode;
+use cron_checking::say::say;
+use cron_writer::watchable::Watchable;
+use cron_writer::watched::Watched;
+use std::alloc::Global;
+use std::io::{self, BufReader, ErrorKind, Read};
+use std::process::ExitCode;
+use std::{env, fs};
+
+const USAGE: &str = "usage: cron_check [--next START ZONE] [FILE]\n";
+
+const OUT_OF_MEMORY: &str = "error: out of memory\n";
+
+const UNREADABLE: &str = "error: the file can't be read\n";
+
+// The arguments, with the program's name before them.
+fn arguments_of(rt: &HostRuntime) -> io::Result<Vec<String>> {
+    Ok(env::args(rt)?.collect(rt.alloc())?)
+}
+
+// Writes the usage line, and answers the exit status.
+fn say_usage<W: Watchable>(out: &mut Watched<W>) -> u8
+    requires { has_failed out.old ≡ false }
+{
+    match say(out, USAGE, Outcome::AllRead) {
+        Outcome::WriteFailed => 3,
+        _ => 2,
+    }
+}
+
+fn check_all<R: Read + Drop, W: Watchable>(
+    alloc: Global,
+    mode: &Mode<'_>,
+    reader: R,
+    out: &mut Watched<W>,
+) -> Outcome
+    requires { has_failed out.old ≡ false }
+{
+    match BufReader::new(alloc, reader) {
+        Ok(mut reader) => check(alloc, mode, &mut reader, out),
+        Err(_) => say(out, OUT_OF_MEMORY, Outcome::OutOfMemory),
+    }
+}
+
+// Checks the file that the words name, or standard input.
+fn answer<W: Watchable>(rt: &HostRuntime, request: &Request<'_>, out: &mut Watched<W>) -> Outcome
+    requires { has_failed out.old ≡ false }
+{
+    let Some(path) = request.file else {
+        return check_all(rt.alloc(), &request.mode, rt.reader(), out);
+    };
+    match fs::open(rt, path) {
+        Ok(file) => check_all(rt.alloc(), &request.mode, file, out),
+        Err(_) => say(out, UNREADABLE, Outcome::Unreadable),
+    }
+}
+
+// Answers the words after the program's name, and tells the exit status.
+fn status_of<W: Watchable>(rt: &HostRuntime, words: &[String], out: &mut Watched<W>) -> u8
+    requires { has_failed out.old ≡ false }
+{
+    match request_of(words) {
+        Some(request) => answer(rt, &request, out).code(),
+        None => say_usage(out),
+    }
+}
+
+fn main(rt: HostRuntime) -> ExitCode {
+    let mut out = Watched::new(io::writer(&rt));
+    let status = match arguments_of(&rt) {
+        Ok(arguments) => match arguments.as_slice().split_first() {
+            Some((_, words)) => status_of(&rt, words, &mut out),
+            None => say_usage(&mut out),
+        },
+        Err(error) if error.kind() == ErrorKind::OutOfMemory => {
+            say(&mut out, OUT_OF_MEMORY, Outcome::OutOfMemory).code()
+        }
+        Err(_) => say_usage(&mut out),
+    };
+    ExitCode::from(status)
+}

@@ -1,0 +1,127 @@
+use Rattle.std.proofs.Common.{◌≡◌, ◌+◌, ◌++◌, ℕ, Bool, List, [], ◌∷◌, length, refl, sym, ap, ◌∙◌, subst, append-nil, arith}
+use Rattle.std.proofs.lemmas.List.{length_push}
+use Rattle.std.proofs.KnownBytes.{Consumes-nil}
+use Rattle.cron_checking.specs.Lines.{lines_of}
+use Rattle.cron_checking.specs.Puts.{Puts}
+use Rattle.cron_checking.specs.Reports.{TellsLine}
+use Rattle.cron_checking.specs.declared.line.Mode.{Mode}
+use Rattle.cron_checking.proofs.Putting.{nothing_put, put_on}
+use Rattle.cron_checking.proofs.Telling.{nothing_read, line_read, stopped, all_read, last_read, read_through, line_told, ended_stop, ended_unfailed, line_stops}
+use Rattle.cron_checking.proofs.check.tell_lines.Goals as goal
+
+numbered : (mode : Mode) (n k : ℕ) (line text : List ℕ) (bad : Bool) → n ≡ k → TellsLine mode n line text bad → TellsLine mode k line text bad
+numbered mode n k line text bad e h = subst (λ (m : ℕ). TellsLine mode m line text bad) e h
+
+counted : (n : ℕ) (checked : List (List ℕ)) (line : List ℕ) → n ≡ 1 + length checked → n + 1 ≡ 1 + length (checked ++ line ∷ [])
+counted n checked line e = omega (arith, length_push checked line)
+
+pub loop-number-init : goal.loop-number-init
+loop-number-init g c = ([], [], nothing_read _, (refl, refl), refl, nothing_put _ _ _ _)
+
+pub returns-in-End : goal.returns-in-End
+returns-in-End g c =
+    let (checked, report, read, told, count, puts) = c.loop-number.invariant in
+    record {
+      checked = checked;
+      unchecked = [];
+      report = report;
+      refused = c.loop-number.refused;
+      stop = [];
+      read = all_read _ _ _ checked read c.in-End.ensures.0;
+      tells = told;
+      stops = ended_stop _ _ _ _ _ c.end_of.ensures (read_through _ _ _ _ read.consumed c.in-End.ensures.1);
+      puts = subst (Puts _ _ _ _ _ _) (sym (append-nil report)) puts;
+      failed = ended_unfailed _ _ _ c.end_of.ensures;
+    }
+
+pub returns-in-OutOfMemory : goal.returns-in-OutOfMemory
+returns-in-OutOfMemory g c =
+    let (checked, report, read, told, count, puts) = c.loop-number.invariant in
+    let (piece, consumed, one) = c.in-OutOfMemory.ensures in
+    record {
+      checked = checked;
+      unchecked = lines_of piece;
+      report = report;
+      refused = c.loop-number.refused;
+      stop = [];
+      read = stopped _ _ _ checked _ piece read consumed refl one;
+      tells = told;
+      stops = refl;
+      puts = subst (Puts _ _ _ _ _ _) (sym (append-nil report)) puts;
+      failed = λ f. absurd (cc);
+    }
+
+pub returns-in-Unreadable : goal.returns-in-Unreadable
+returns-in-Unreadable g c =
+    let (checked, report, read, told, count, puts) = c.loop-number.invariant in
+    let (piece, consumed, one) = c.in-Unreadable.ensures in
+    record {
+      checked = checked;
+      unchecked = lines_of piece;
+      report = report;
+      refused = c.loop-number.refused;
+      stop = [];
+      read = stopped _ _ _ checked _ piece read consumed refl one;
+      tells = told;
+      stops = refl;
+      puts = subst (Puts _ _ _ _ _ _) (sym (append-nil report)) puts;
+      failed = λ f. absurd (cc);
+    }
+
+pub returns : goal.returns
+returns g c =
+    let (checked, report, read, told, count, puts) = c.loop-number.invariant in
+    record {
+      checked = checked;
+      unchecked = [];
+      report = report;
+      refused = c.loop-number.refused;
+      stop = [];
+      read = all_read _ _ _ checked read (Consumes-nil _);
+      tells = told;
+      stops = refl;
+      puts = subst (Puts _ _ _ _ _ _) (sym (append-nil report)) puts;
+      failed = λ f. absurd (cc);
+    }
+
+pub returns-in-Err : goal.returns-in-Err
+returns-in-Err g c =
+    let (checked, report, read, told, count, puts) = c.loop-number.invariant in
+    let (piece, consumed, one, more, through) = c.in-Line.ensures in
+    let (put, stops, put_now) = c.in-Err.ensures in
+    line_stops _ _ _ _ _ _ _ _ _ _ _ _ checked report _ _ _ piece put c.in-Err.end read told count puts consumed
+    (one ∙ ap (λ (l : List ℕ). l ∷ []) (sym c.as_slice.ensures.value)) stops put_now
+
+pub returns-then-last : goal.returns-then-last
+returns-then-last g c =
+    let (checked, report, read, told, count, puts) = c.loop-number.invariant in
+    let (piece, consumed, one, more, through) = c.in-Line.ensures in
+    let (put, tells, put_now) = c.in-Ok.ensures in
+    let line = c.as_slice.result.now in
+    record {
+      checked = checked ++ line ∷ [];
+      unchecked = [];
+      report = report ++ put;
+      refused = _;
+      stop = [];
+      read = last_read _ _ _ checked line piece read consumed (one ∙ ap (λ (l : List ℕ). l ∷ []) (sym c.as_slice.ensures.value));
+      tells = line_told _ 1 checked line report put _ _ told (numbered c.args.mode.now _ _ line put c.in-Ok.bad count tells);
+      stops = ended_stop _ _ _ _ _ c.end_of-then-last.ensures (read_through _ _ _ _ read.consumed (through c.if-last.true));
+      puts = subst (Puts _ _ _ _ _ _) (sym (append-nil (report ++ put))) (put_on _ _ _ _ _ _ _ _ report put puts put_now);
+      failed = ended_unfailed _ _ _ c.end_of-then-last.ensures;
+    }
+
+pub loop-number-preserved : goal.loop-number-preserved
+loop-number-preserved g c =
+    let (checked, report, read, told, count, puts) = c.loop-number.invariant in
+    let (piece, consumed, one, more, through) = c.in-Line.ensures in
+    let (put, tells, put_now) = c.in-Ok.ensures in
+    let line = c.as_slice.result.now in (
+      checked ++ line ∷ [],
+      report ++ put,
+      line_read _ _ _ checked line piece read consumed (λ rest. more c.if-last.false rest ∙ ap (λ (l : List ℕ). l ∷ lines_of rest)
+          (sym c.as_slice.ensures.value)),
+      line_told _ 1 checked line report put _ _ told (numbered c.args.mode.now _ _ line put c.in-Ok.bad count tells),
+      counted _ checked line count,
+      put_on _ _ _ _ _ _ _ _ report put puts put_now,
+    )

@@ -1,0 +1,63 @@
+-- What the steps of a check do.
+use Rattle.std.specs.Prelude.{◌≡◌, ◌+◌, ℕ, Bool, true, false, List, [], ◌∷◌, ◌++◌, Option, Some, None, Result, Ok, Err, length, IsUtf8, codes}
+use Rattle.std.specs.declared.io.Error.{Error}
+use Rattle.cron_writer.specs.Watching.{has_failed}
+use Rattle.cron_writer.specs.declared.gathered.Gathered.{Gathered}
+use Rattle.cron_writer.specs.declared.watched.Watched.{Watched}
+use Rattle.cron_checking.specs.Checks.{line_not_utf8}
+use Rattle.cron_checking.specs.Lines.{IsRead, IsReadThrough}
+use Rattle.cron_checking.specs.Puts.{Puts}
+use Rattle.cron_checking.specs.Reports.{TellsLine, TellsLines}
+use Rattle.cron_checking.specs.declared.check.Outcome.{Outcome}
+use Rattle.cron_checking.specs.declared.check.Outcome.TheVariants.{AllRead, SomeRefused, OutOfMemory, WriteFailed, Unreadable, NotUtf8}
+use Rattle.cron_checking.specs.declared.line.Mode.{Mode}
+
+-- what is told of a line that may not be UTF-8
+abbrev pub TellsBytes : Mode → ℕ → List ℕ → List ℕ → Option Bool → Type 0
+TellsBytes mode number bytes text (Some refused) = TellsLine mode number bytes text refused
+TellsBytes mode number bytes text None = (IsUtf8 bytes → ⊥) × (text ≡ line_not_utf8 number)
+
+-- why the check ends at a line, and what was put of it
+abbrev pub StopsAtLine : Mode → ℕ → List ℕ → Outcome → List ℕ → Bool → Type 0
+StopsAtLine mode number line OutOfMemory text failed = text ≡ []
+StopsAtLine mode number line NotUtf8 text failed = (IsUtf8 line → ⊥) × (text ≡ line_not_utf8 number)
+StopsAtLine mode number line WriteFailed text failed = (failed ≡ true) × (bad : Bool) × TellsLine mode number line text bad
+StopsAtLine mode number line _ text failed = ⊥
+
+-- a line was told, or the check ends at it
+abbrev pub TellsNext : Mode → ℕ → List ℕ → Result Bool Outcome → List ℕ → Bool → Type 0
+TellsNext mode number line (Ok bad) text failed = TellsLine mode number line text bad
+TellsNext mode number line (Err end) text failed = StopsAtLine mode number line end text failed
+
+-- why no further line was told, and what was put that is no line's report
+abbrev pub IsStop : Outcome → Option (List ℕ) → Option (List ℕ) → ℕ → List (List ℕ) → Bool → List ℕ → Type 0
+IsStop AllRead given left count unchecked refused stop = IsReadThrough given left × (unchecked ≡ []) × (refused ≡ false) × (stop ≡ [])
+IsStop SomeRefused given left count unchecked refused stop = IsReadThrough given left × (unchecked ≡ []) × (refused ≡ true) × (stop ≡ [])
+IsStop NotUtf8 given left count unchecked refused stop =
+    (line : List ℕ) × (unchecked ≡ line ∷ []) × (IsUtf8 line → ⊥) × (stop ≡ line_not_utf8 (count + 1))
+IsStop _ given left count unchecked refused stop = stop ≡ []
+
+-- the lines that were read were told in order, until this end
+pub record TellsAll {W : Type 0} (mode : Mode) (given left : Option (List ℕ)) (contents : W → Option (List ℕ))
+    (writes : W → List ℕ → Result ℕ Error → W → Type 0) (old : Gathered) (was : Watched W) (new : Gathered) (is : Watched W) (end : Outcome)
+    : Type 0 where
+  pub checked : List (List ℕ)
+  pub unchecked : List (List ℕ)
+  pub report : List ℕ
+  pub refused : Bool
+  pub stop : List ℕ
+  pub read : IsRead given left checked unchecked
+  pub tells : TellsLines mode 1 checked report refused
+  pub stops : IsStop end given left (length checked) unchecked refused stop
+  pub puts : Puts contents writes old was new is (report ++ stop)
+  pub failed : end ≡ WriteFailed → has_failed is ≡ true
+
+-- the line that tells why a check ended, where no report tells it
+abbrev pub closing_line : Outcome → List ℕ
+closing_line OutOfMemory = codes "error: out of memory" ++ 10 ∷ []
+closing_line Unreadable = codes "error: the file can't be read" ++ 10 ∷ []
+closing_line _ = []
+
+abbrev pub end_of : Bool → Outcome
+end_of true = SomeRefused
+end_of false = AllRead

@@ -1,0 +1,6 @@
+pub mod Lines
+pub mod Reports
+pub mod Reading
+pub mod Puts
+pub mod Checks
+pub mod Inner

@@ -1,0 +1,42 @@
+-- What is written of the lines of a file.
+use Rattle.std.specs.Prelude.{◌≡◌, ◌+◌, ◌||◌, ℕ, Bool, true, false, List, [], ◌∷◌, ◌++◌, ◌⊎◌, Option, Some, None, codes}
+use Rattle.std.specs.Fmt.{decimal}
+use Rattle.jiff.specs.Words.{plain_zone}
+use Rattle.cron_units.specs.Sets.{Sets}
+use Rattle.cron_moments.specs.MomentText.{moment_text}
+use Rattle.cron_moments.specs.Readings.{Reading}
+use Rattle.cron_text.specs.Meaning.{Means}
+use Rattle.cron_text.specs.Fault.{IsRefusal}
+use Rattle.cron_instants.specs.Instants.{IsFirstAfter}
+use Rattle.cron_checking.specs.Lines.{is_passed_over}
+use Rattle.cron_checking.specs.declared.line.Mode.{Mode}
+use Rattle.cron_checking.specs.declared.line.Mode.TheVariants.{Faults, Next}
+
+-- `7: `, a text and a line feed
+abbrev pub told : ℕ → List ℕ → List ℕ
+told number text = decimal number ++ (codes ": " ++ (text ++ 10 ∷ []))
+
+abbrev pub item_text : Option Reading → List ℕ
+item_text None = codes "none"
+item_text (Some r) = moment_text r
+
+-- what a mode tells of an expression that means these sets
+abbrev pub TellsSets : Mode → ℕ → Sets → List ℕ → Type 0
+TellsSets Faults number s text = text ≡ []
+TellsSets (Next start zone) number s text =
+    (first : Option Reading) × IsFirstAfter s (plain_zone zone) start.nanosecond first × (text ≡ told number (item_text first))
+
+-- what is told of a line, and whether it is refused
+abbrev pub TellsLine : Mode → ℕ → List ℕ → List ℕ → Bool → Type 0
+TellsLine mode number line text true =
+    (is_passed_over line ≡ false) × (fault : List ℕ) × IsRefusal line fault × (text ≡ told number fault)
+TellsLine mode number line text false =
+    ((is_passed_over line ≡ true) × (text ≡ []))
+    ⊎ ((is_passed_over line ≡ false) × (s : Sets) × Means line s × TellsSets mode number s text)
+
+-- what is told of lines that are numbered from here on, one after another, and whether one of them is refused
+abbrev pub TellsLines : Mode → ℕ → List (List ℕ) → List ℕ → Bool → Type 0
+TellsLines mode number [] text refused = (text ≡ []) × (refused ≡ false)
+TellsLines mode number (line ∷ lines) text refused =
+    (here : List ℕ) × (rest : List ℕ) × (bad : Bool) × (others : Bool) × (text ≡ here ++ rest) × (refused ≡ (bad || others))
+    × TellsLine mode number line here bad × TellsLines mode (number + 1) lines rest others

@@ -1,0 +1,169 @@
+//! A check of the lines that a reader gives.
+
+ghost use Rattle.std.specs.Prelude.{◌≡◌, ℕ, List, Option, true, false};
+ghost use Rattle.cron_checking.specs.Checks.{Checks, Ends, code_of, is_write_failure};
+ghost use Rattle.cron_checking.specs.Inner.{TellsAll, TellsNext, closing_line, end_of};
+ghost use Rattle.cron_checking.specs.Puts.{Puts};
+ghost use Rattle.cron_writer.specs.Calls.{AreWritesFlushed, IsFlushed};
+ghost use Rattle.cron_writer.specs.Watching.{has_failed, writer_of, IsSent};
+ghost use Rattle.cron_checking.specs.declared.check.Outcome.TheVariants.{WriteFailed};
+
+use crate::line::{Mode, tell_line};
+use crate::output::put;
+use crate::reading::{Given, read_line};
+use cron_writer::gathered::Gathered;
+use cron_writer::watchable::Watchable;
+use cron_writer::watched::Watched;
+use std::alloc::Global;
+use std::io::BufRead;
+
+/// How a check ended.
+#[derive(Clone, Copy, Debug, PartialEq, Eq)]
+pub enum Outcome {
+    /// Every line was read, and each that wasn't passed over means something.
+    AllRead,
+    /// Every line was read, and one or more of them were refused.
+    SomeRefused,
+    /// The allocator refused the memory for a line or for what is told of it, and a line that tells so was
+    /// written.
+    OutOfMemory,
+    /// A write or the flush failed, and nothing more was written.
+    WriteFailed,
+    /// A call of the reader failed, and a line that tells so was written.
+    Unreadable,
+    /// A line isn't UTF-8, and a line that tells so was written.
+    NotUtf8,
+}
+
+impl Outcome {
+    /// The exit status: 0 where every line was read and none is refused, 1 where some are refused or memory
+    /// is wanting, 3 where a write failed, 4 where the lines can't be read.
+    pub fn code(self) -> u8
+        ensures { result ≡ code_of self }
+    {
+        match self {
+            Outcome::AllRead => 0,
+            Outcome::SomeRefused | Outcome::OutOfMemory => 1,
+            Outcome::WriteFailed => 3,
+            Outcome::Unreadable | Outcome::NotUtf8 => 4,
+        }
+    }
+}
+
+// How a check ends whose lines were all read.
+fn end_of(refused: bool) -> Outcome
+    ensures { result ≡ end_of refused }
+{
+    if refused {
+        Outcome::SomeRefused
+    } else {
+        Outcome::AllRead
+    }
+}
+
+// Tells of one line, and whether it is refused; or why the check ends at it.
+fn tell_next<W: Watchable>(
+    mode: &Mode<'_>,
+    number: u64,
+    line: &[u8],
+    text: &mut String,
+    gathered: &mut Gathered,
+    out: &mut Watched<W>,
+) -> Result<bool, Outcome>
+    ensures { (put : List ℕ) × TellsNext mode.now number line.now result put (has_failed out.new)
+        × Puts W.contents W.writes gathered.old out.old gathered.new out.new put }
+{
+    let Ok(told) = tell_line(mode, number, line, text) else {
+        return Err(Outcome::OutOfMemory);
+    };
+    put(text.as_bytes(), gathered, out);
+    let Some(refused) = told else {
+        return Err(Outcome::NotUtf8);
+    };
+    if out.failed() {
+        return Err(Outcome::WriteFailed);
+    }
+    Ok(refused)
+}
+
+// Tells of the lines that a reader gives, one after another, until one can't be told.
+fn tell_lines<R: BufRead, W: Watchable>(
+    alloc: Global,
+    mode: &Mode<'_>,
+    reader: &mut R,
+    gathered: &mut Gathered,
+    out: &mut Watched<W>,
+) -> Outcome
+    ensures { TellsAll mode.now (R.remaining reader.old) (R.remaining reader.new) W.contents W.writes gathered.old out.old gathered.new out.new result }
+{
+    let mut line = Vec::new(alloc);
+    let mut text = String::new(alloc);
+    let mut refused = false;
+    for number in 1..u64::MAX {
+        let last = match read_line(reader, &mut line) {
+            Given::Line { last } => last,
+            Given::End => return end_of(refused),
+            Given::OutOfMemory => return Outcome::OutOfMemory,
+            Given::Unreadable => return Outcome::Unreadable,
+        };
+        match tell_next(mode, number, line.as_slice(), &mut text, gathered, out) {
+            Ok(bad) => refused |= bad,
+            Err(end) => return end,
+        }
+        if last {
+            return end_of(refused);
+        }
+    }
+    Outcome::Unreadable
+}
+
+// The line that tells why a check ended, where no report tells it.
+fn closing_line(end: Outcome) -> &'static str
+    ensures { result.now ≡ closing_line end }
+{
+    match end {
+        Outcome::OutOfMemory => "error: out of memory\n",
+        Outcome::Unreadable => "error: the file can't be read\n",
+        _ => "",
+    }
+}
+
+/// Flushes what was written whole, and tells how the check ended.
+pub(crate) fn finish<W: Watchable>(out: &mut Watched<W>, end: Outcome) -> Outcome
+    requires { end ≡ WriteFailed → has_failed out.old ≡ true }
+    ensures ends { (origin : Option (List ℕ)) (text : List ℕ)
+        → IsSent origin (W.contents (writer_of out.old)) (has_failed out.old) text
+        → Ends end text origin (W.contents (writer_of out.new)) result }
+    ensures mark { has_failed out.new ≡ is_write_failure result }
+    ensures calls { IsFlushed W.flushes (writer_of out.old) (has_failed out.old) (writer_of out.new) (has_failed out.new) }
+{
+    if out.failed() {
+        return Outcome::WriteFailed;
+    }
+    let _flushed = out.flush();
+    if out.failed() {
+        return Outcome::WriteFailed;
+    }
+    end
+}
+
+/// Checks the lines that a reader gives, and writes what the mode tells of them. The lines of the report are
+/// handed to the writer many at a time, and the rest of them at the end, before the flush. The memory of
+/// the longest line and of the longest line of the report is kept from line to line.
+pub fn check<R: BufRead, W: Watchable>(
+    alloc: Global,
+    mode: &Mode<'_>,
+    reader: &mut R,
+    out: &mut Watched<W>,
+) -> Outcome
+    requires { has_failed out.old ≡ false }
+    ensures checks { Checks mode.now (R.remaining reader.old) (R.remaining reader.new) (W.contents (writer_of out.old)) (W.contents (writer_of out.new)) result }
+    ensures mark { has_failed out.new ≡ is_write_failure result }
+    ensures calls { AreWritesFlushed W.writes W.flushes (writer_of out.old) (has_failed out.old) (writer_of out.new) (has_failed out.new) }
+{
+    let mut gathered = Gathered::new();
+    let end = tell_lines(alloc, mode, reader, &mut gathered, out);
+    put(closing_line(end).as_bytes(), &mut gathered, out);
+    gathered.send(out);
+    finish(out, end)
+}

@@ -1,0 +1,9 @@
+//! A checker of files whose lines are cron expressions.
+#![tactic(auto)]
+
+pub mod arguments;
+pub mod check;
+pub mod line;
+mod output;
+mod reading;
+pub mod say;

@@ -1,0 +1,104 @@
+//! What is told of one line.
+
+ghost use Rattle.std.specs.Prelude.{◌≡◌, [], IfOk, OnOk};
+ghost use Rattle.std.specs.String.{string_bytes};
+ghost use Rattle.cron_text.specs.Tokens.{is_space};
+ghost use Rattle.cron_checking.specs.Inner.{TellsBytes};
+ghost use Rattle.cron_checking.specs.Lines.{is_passed_over};
+ghost use Rattle.cron_checking.specs.Reports.{TellsLine, TellsSets};
+
+use cron_instants::instants::first_after;
+use cron_moments::line::text_of;
+use cron_text::{fault_of, no_ordinals, read_into};
+use cron_units::fields::ScheduleFields;
+use jiff::Timestamp;
+use jiff::tz::TimeZone;
+use std::alloc::AllocError;
+
+/// What is told of a line besides its fault.
+#[derive(Drop)]
+pub enum Mode<'a> {
+    /// Nothing.
+    Faults,
+    /// The first fire after an instant in a zone, or `none`.
+    Next(Timestamp, TimeZone<'a>),
+}
+
+fn is_space(byte: u8) -> bool
+    ensures { result ≡ is_space byte }
+{
+    byte == b' ' || byte == b'\t' || byte == b'\r' || byte == b'\n'
+}
+
+// White space alone, or a comment.
+fn is_passed_over(line: &[u8]) -> bool
+    ensures { result ≡ is_passed_over line.now }
+{
+    for byte in line {
+        if !is_space(*byte) {
+            return *byte == b'#';
+        }
+    }
+    true
+}
+
+// Tells what a mode tells of an expression that means these sets.
+fn tell_sets(
+    mode: &Mode<'_>,
+    number: u64,
+    fields: &ScheduleFields,
+    text: &mut String,
+) -> Result<(), AllocError>
+    requires { string_bytes text.old ≡ [] }
+    ensures { OnOk result (TellsSets mode.now number fields.now (string_bytes text.new)) }
+{
+    match mode {
+        Mode::Faults => Ok(()),
+        Mode::Next(start, zone) => match first_after(fields, zone, *start) {
+            Some(first) => writeln!(text, "{number}: {first}"),
+            None => writeln!(text, "{number}: none"),
+        },
+    }
+}
+
+// Tells of a line of text.
+fn tell_text(
+    mode: &Mode<'_>,
+    number: u64,
+    line: &str,
+    text: &mut String,
+) -> Result<bool, AllocError>
+    requires { string_bytes text.old ≡ [] }
+    ensures { IfOk result (TellsLine mode.now number line.now (string_bytes text.new)) }
+{
+    if is_passed_over(line.as_bytes()) {
+        return Ok(false);
+    }
+    let mut fields = no_ordinals();
+    if read_into(line, &mut fields) {
+        tell_sets(mode, number, &fields, text)?;
+        return Ok(false);
+    }
+    let fault = fault_of(line);
+    writeln!(text, "{number}: {fault}")?;
+    Ok(true)
+}
+
+/// Makes the text that tells of a line: its fault, or what the mode tells, or that it isn't UTF-8. Whether
+/// the line is refused is answered, `None` where it isn't UTF-8. The text is laid in memory whole, since a
+/// formatter may fail of itself, and no part of it is to be written then.
+pub(crate) fn tell_line(
+    mode: &Mode<'_>,
+    number: u64,
+    line: &[u8],
+    text: &mut String,
+) -> Result<Option<bool>, AllocError>
+    ensures { IfOk result (TellsBytes mode.now number line.now (string_bytes text.new)) }
+{
+    text.clear();
+    let Ok(line) = str::from_utf8(line) else {
+        writeln!(text, "{number}: not UTF-8")?;
+        return Ok(None);
+    };
+    Ok(Some(tell_text(mode, number, line, text)?))
+}

@@ -1,0 +1,56 @@
+//! Lines, read one by one.
+
+ghost use Rattle.std.specs.Prelude.{◌≡◌, ◌==◌, ◌<◌, ◌-◌, length, slice_index};
+ghost use Rattle.std.specs.Io.{StopsAt};
+ghost use Rattle.cron_checking.specs.Reading.{Gives, IsCut};
+
+use std::io::{BufRead, ErrorKind};
+
+/// What a reader gave.
+#[derive(Clone, Copy)]
+pub(crate) enum Given {
+    /// A line, without the line feed that ended it; the last one may lack it.
+    Line { last: bool },
+    /// No line: no byte was left.
+    End,
+    /// The allocator refused the memory for a line.
+    OutOfMemory,
+    /// A call of the reader failed.
+    Unreadable,
+}
+
+// Whether a line feed is the last byte.
+fn has_line_feed(piece: &[u8]) -> bool
+    requires { 0 < length piece.now }
+    ensures { result ≡ (slice_index piece.now (length piece.now - 1) == 10) }
+{
+    piece[piece.len() - 1] == b'\n'
+}
+
+// Takes away the line feed at the end, and tells whether there was one.
+fn cut_line_feed(line: &mut Vec<u8>) -> bool
+    requires some { 0 < length line.old.items }
+    requires one { StopsAt line.old.items 10 }
+    ensures { IsCut line.old.items line.new.items result }
+{
+    if !has_line_feed(line.as_slice()) {
+        return false;
+    }
+    let _line_feed = line.pop();
+    true
+}
+
+/// Reads the next line into a buffer.
+pub(crate) fn read_line<R: BufRead>(reader: &mut R, line: &mut Vec<u8>) -> Given
+    ensures { Gives (R.remaining reader.old) (R.remaining reader.new) line.new.items result }
+{
+    line.clear();
+    match reader.read_until(b'\n', line) {
+        Ok(0) => Given::End,
+        Ok(_) => Given::Line {
+            last: !cut_line_feed(line),
+        },
+        Err(error) if error.kind() == ErrorKind::OutOfMemory => Given::OutOfMemory,
+        Err(_) => Given::Unreadable,
+    }
+}
