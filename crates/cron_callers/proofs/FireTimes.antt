@@ -7,13 +7,13 @@ use Rattle.jiff_core.specs.declared.civil.date.Date.{Date}
 use Rattle.jiff_core.specs.Date.{epoch_day}
 use Rattle.jiff_tz.specs.declared.timezone.TimeZone.{TimeZone}
 use Rattle.cron.specs.Words.{civil, Walk, Start, Reading, rest_ahead, rest_back, Sets}
-use Rattle.cron_callers.specs.Fires.{fires_after, fires_before, is_through}
+use Rattle.cron_callers.specs.Fires.{items_ahead, items_back, is_through}
 
-pub fires_after-walk : (w : Walk) (s : Sets) (z : TimeZone) (t : ℤ) → w.sets ≡ s → w.zone ≡ z → w.cursor ≡ Start t → rest_ahead w ≡ fires_after s z t
-fires_after-walk w s z t sets zone cursor = rw (sets, zone, cursor) refl
+pub items_ahead-walk : (w : Walk) (s : Sets) (z : TimeZone) (t : ℤ) → w.sets ≡ s → w.zone ≡ z → w.cursor ≡ Start t → rest_ahead w ≡ items_ahead s z t
+items_ahead-walk w s z t sets zone cursor = rw (sets, zone, cursor) refl
 
-pub fires_before-walk : (w : Walk) (s : Sets) (z : TimeZone) (t : ℤ) → w.sets ≡ s → w.zone ≡ z → w.cursor ≡ Start t → rest_back w ≡ fires_before s z t
-fires_before-walk w s z t sets zone cursor = rw (sets, zone, cursor) refl
+pub items_back-walk : (w : Walk) (s : Sets) (z : TimeZone) (t : ℤ) → w.sets ≡ s → w.zone ≡ z → w.cursor ≡ Start t → rest_back w ≡ items_back s z t
+items_back-walk w s z t sets zone cursor = rw (sets, zone, cursor) refl
 
 int_le-from : (b c : ℤ) → b ≤ℤ c → int_le b c ≡ true
 int_le-from b c h = grind (arith, ints)

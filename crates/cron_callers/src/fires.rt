@@ -1,15 +1,15 @@
 //! Fire times of a schedule.
 
-ghost use Rattle.std.specs.Prelude.{◌≡◌, IfOk, IsTrue, filter, length, take};
+ghost use Rattle.std.specs.Prelude.{◌≡◌, IfOk, length, take};
 ghost use Rattle.std.specs.List.{take_while};
 ghost use Rattle.jiff.specs.Words.{plain_zone};
+ghost use Rattle.cron_instants.specs.Fires.{fires_between};
 ghost use Rattle.cron_instants.specs.Instants.{IsFirstAfter};
-ghost use Rattle.cron_callers.specs.Fires.{IsTooLate, fires_after, fires_before, is_through};
-ghost use Rattle.cron_callers.specs.Fires as spec;
+ghost use Rattle.cron_callers.specs.Fires.{is_through, items_ahead, items_back};
 
+use cron::Schedule;
 use cron::schedule::Moment;
-use cron::{Schedule, laws};
-use cron_fires::first_fire_after;
+use cron_fires::{first_fire_after, missed};
 use jiff::Timestamp;
 use jiff::civil::Date;
 use jiff::tz::TimeZone;
@@ -33,7 +33,7 @@ pub fn first_fires(
     count: usize,
 ) -> Result<Vec<Moment>, AllocError>
     ensures { IfOk result (λ fires. fires.items
-        ≡ take count (fires_after schedule.now.sets (plain_zone zone.now) start.nanosecond)) }
+        ≡ take count (items_ahead schedule.now.sets (plain_zone zone.now) start.nanosecond)) }
 {
     schedule.after(start, zone).take(count).collect(alloc)
 }
@@ -47,14 +47,14 @@ pub fn last_fires(
     count: usize,
 ) -> Result<Vec<Moment>, AllocError>
     ensures { IfOk result (λ fires. fires.items
-        ≡ take count (fires_before schedule.now.sets (plain_zone zone.now) start.nanosecond)) }
+        ≡ take count (items_back schedule.now.sets (plain_zone zone.now) start.nanosecond)) }
 {
     schedule.after(start, zone).rev().take(count).collect(alloc)
 }
 
 /// How many of the first so many fire times there are: all of them, or those that are left.
 pub fn count_fires(schedule: &Schedule, start: Timestamp, zone: &TimeZone<'_>, most: usize) -> usize
-    ensures { result ≡ length (take most (fires_after schedule.now.sets (plain_zone zone.now) start.nanosecond)) }
+    ensures { result ≡ length (take most (items_ahead schedule.now.sets (plain_zone zone.now) start.nanosecond)) }
 {
     schedule.after(start, zone).take(most).count()
 }
@@ -69,7 +69,7 @@ pub fn fires_of_day(
     zone: &TimeZone<'_>,
 ) -> Result<Vec<Moment>, AllocError>
     ensures { IfOk result (λ fires. fires.items
-        ≡ take_while (is_through date) (fires_after schedule.now.sets (plain_zone zone.now) eve.nanosecond)) }
+        ≡ take_while (is_through date) (items_ahead schedule.now.sets (plain_zone zone.now) eve.nanosecond)) }
 {
     let mut fires = Vec::new(alloc);
     let last = date.to_plain().to_unix_epoch_day();
@@ -82,26 +82,8 @@ pub fn fires_of_day(
     Ok(fires)
 }
 
-// The reach of the offsets, there and back: two times 25:59:59, in nanoseconds.
-const REACH: i128 = 187_198_000_000_000;
-
-// Whether a fire time isn't past now.
-fn is_due(fire: &Moment, now: Timestamp) -> bool
-    ensures { result ≡ spec.is_due now.nanosecond fire.now }
-{
-    fire.timestamp().as_nanosecond() <= now.as_nanosecond()
-}
-
-// Whether nothing from a fire time on is due.
-fn is_too_late(fire: &Moment, now: Timestamp) -> bool
-    ensures { IsTrue result → IsTooLate now.nanosecond fire.now }
-{
-    fire.timestamp().as_nanosecond() > now.as_nanosecond() + REACH
-}
-
-/// The fire times of a walk from the last run whose instants aren't past now, in the order of the
-/// timeline: at a fold the walk may leave out some after the last run, or answer some before it. It
-/// ends where no later item can be due.
+/// The runs that were missed between the last one and now: the fires whose instant comes after `last`
+/// and not after `now`, in the order of their instants, in a fold too.
 pub fn missed_runs(
     alloc: Global,
     schedule: &Schedule,
@@ -110,17 +92,7 @@ pub fn missed_runs(
     zone: &TimeZone<'_>,
 ) -> Result<Vec<Moment>, AllocError>
     ensures { IfOk result (λ missed. missed.items
-        ≡ filter (spec.is_due now.nanosecond) (fires_after schedule.now.sets (plain_zone zone.now) last.nanosecond)) }
+        ≡ fires_between schedule.now.sets (plain_zone zone.now) last.nanosecond now.nanosecond) }
 {
-    laws::ascending_seconds();
-    let mut missed = Vec::new(alloc);
-    for fire in schedule.after(last, zone) {
-        if is_too_late(&fire, now) {
-            break;
-        }
-        if is_due(&fire, now) {
-            missed.push(fire)?;
-        }
-    }
-    Ok(missed)
+    missed(alloc, schedule, last, now, zone)
 }

@@ -117,16 +117,79 @@ fn a_day_with_a_fold_has_an_hour_more(rt: HostRuntime) -> Result<(), Fail> {
     Ok(())
 }
 
+// The missed runs of a schedule in New York between two instants.
+fn check_missed(
+    rt: &(impl Abort + AllocGlobal),
+    text: &str,
+    last: &str,
+    now: &str,
+    wanted: &str,
+) -> Result<(), Fail> {
+    let schedule = Schedule::from_str(rt.alloc(), text)?;
+    let missed = missed_runs(
+        rt.alloc(),
+        &schedule,
+        instant(last)?,
+        instant(now)?,
+        &new_york()?,
+    )?;
+    check_fires(rt, missed.as_slice(), wanted)
+}
+
+// On 2022-11-06 New York goes from -04:00 to -05:00 at 06:00Z, when its clock shows 02:00:00.
 #[test]
-fn runs_of_a_fold_are_missed_by_their_instants(rt: HostRuntime) -> Result<(), Fail> {
-    let (zone, last) = (new_york()?, instant("2022-11-06T04:30:00Z")?);
-    let now = instant("2022-11-06T05:45:00Z")?;
-    let schedule = Schedule::from_str(rt.alloc(), "0 0,30 1 * * *")?;
-    let missed = missed_runs(rt.alloc(), &schedule, last, now, &zone)?;
-    check_fires(
+fn runs_are_missed_before_a_fold(rt: HostRuntime) -> Result<(), Fail> {
+    check_missed(
         &rt,
-        missed.as_slice(),
+        "0 0,30 1 * * *",
+        "2022-11-06T04:30:00Z",
+        "2022-11-06T05:45:00Z",
         "2022-11-06 01:00:00 -04:00, 2022-11-06 01:30:00 -04:00, ",
+    )
+}
+
+#[test]
+fn runs_are_missed_in_a_fold(rt: HostRuntime) -> Result<(), Fail> {
+    check_missed(
+        &rt,
+        "0 0,30 1 * * *",
+        "2022-11-06T05:30:00Z",
+        "2022-11-06T06:30:00Z",
+        "2022-11-06 01:00:00 -05:00, 2022-11-06 01:30:00 -05:00, ",
+    )
+}
+
+#[test]
+fn runs_are_missed_after_a_fold(rt: HostRuntime) -> Result<(), Fail> {
+    check_missed(
+        &rt,
+        "0 0,30 1 * * *",
+        "2022-11-06T06:30:00Z",
+        "2022-11-07T06:00:00Z",
+        "2022-11-07 01:00:00 -05:00, ",
+    )
+}
+
+// On 2022-03-13 it goes from -05:00 to -04:00 at 07:00Z, when its clock shows 02:00:00.
+#[test]
+fn runs_are_missed_across_a_gap(rt: HostRuntime) -> Result<(), Fail> {
+    check_missed(
+        &rt,
+        "0 0,30 1-3 * * *",
+        "2022-03-13T06:30:00Z",
+        "2022-03-13T07:30:00Z",
+        "2022-03-13 03:00:00 -04:00, 2022-03-13 03:30:00 -04:00, ",
+    )
+}
+
+#[test]
+fn runs_are_missed_from_the_end_of_a_gap(rt: HostRuntime) -> Result<(), Fail> {
+    check_missed(
+        &rt,
+        "0 0,30 1-3 * * *",
+        "2022-03-13T07:00:00Z",
+        "2022-03-14T05:00:00Z",
+        "2022-03-13 03:30:00 -04:00, 2022-03-14 01:00:00 -04:00, ",
     )
 }
 

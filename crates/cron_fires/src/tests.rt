@@ -1,4 +1,4 @@
-use crate::{first_fire_after, first_fire_past, last_fire_by};
+use crate::{Fires, first_fire_after, first_fire_past, last_fire_by, missed};
 use cron::Schedule;
 use cron::schedule::Moment;
 use jiff::Timestamp;
@@ -42,5 +42,53 @@ fn the_last_fire_is_the_latest(rt: HostRuntime) -> Result<(), Fail> {
     let schedule = Schedule::from_str(rt.alloc(), "0 0 * 6 11 *")?;
     let last = last_fire_by(&schedule, Timestamp::from_second(LATER + 1799)?, &zone);
     assert_eq!(rt; seconds(last), Some(LATER));
+    Ok(())
+}
+
+#[test]
+fn a_run_has_both_hours_of_a_fold(rt: HostRuntime) -> Result<(), Fail> {
+    let zone = TimeZone::posix(CHICAGO)?;
+    let schedule = Schedule::from_str(rt.alloc(), "0 30 1 6 11 * 2022")?;
+    let mut run = Fires::after(&schedule, Timestamp::from_second(EARLIER)?, &zone);
+    let first = run.next();
+    assert_eq!(rt; seconds(first), Some(HALF_PAST));
+    let mut again = Fires::after_item(&schedule, &first.expect(&rt, "a fire"), &zone);
+    let second = run.next();
+    assert_eq!(rt; seconds(second), Some(HALF_PAST + 3600));
+    assert_eq!(rt; again.next(), second);
+    assert_eq!(rt; run.next(), None);
+    assert_eq!(rt; run.next(), None);
+    assert_eq!(rt; again.next(), None);
+    Ok(())
+}
+
+#[test]
+fn a_stretch_has_its_last_instant(rt: HostRuntime) -> Result<(), Fail> {
+    let zone = TimeZone::posix(CHICAGO)?;
+    let schedule = Schedule::from_str(rt.alloc(), "0 0,30 * * * *")?;
+    let last = Timestamp::from_second(HALF_PAST)?;
+    let now = Timestamp::from_second(HALF_PAST + 3600)?;
+    let fires = missed(rt.alloc(), &schedule, last, now, &zone)?;
+    assert_eq!(rt; fires.len(), 2);
+    let mut run = Fires::between(&schedule, last, now, &zone);
+    assert_eq!(rt; seconds(run.next()), Some(HALF_PAST + 1800));
+    assert_eq!(rt; seconds(run.next()), Some(HALF_PAST + 3600));
+    assert_eq!(rt; run.next(), None);
+    assert_eq!(rt; Fires::between(&schedule, now, last, &zone).next(), None);
+    Ok(())
+}
+
+// From 2001-04-10T00:30Z to 01:00Z two seconds share each instant: 23:30 at -01:00 and 00:30 at +00:00.
+#[test]
+fn both_of_two_at_one_instant_fire(rt: HostRuntime) -> Result<(), Fail> {
+    let zone = TimeZone::posix("AAA0BBB1,J100/1:30,J100/0")?;
+    let schedule = Schedule::from_str(rt.alloc(), "0 30 * * * * 2001")?;
+    let shared = 986_862_600;
+    let mut run = Fires::after(&schedule, Timestamp::from_second(shared - 1)?, &zone);
+    let (first, second) = (run.next(), run.next());
+    assert_eq!(rt; seconds(first), Some(shared));
+    assert_eq!(rt; seconds(second), Some(shared));
+    assert!(rt; first != second);
+    assert_eq!(rt; seconds(run.next()), Some(shared + 3600));
     Ok(())
 }

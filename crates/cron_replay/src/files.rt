@@ -19,10 +19,14 @@ pub(crate) enum Kind {
     FiresAfter,
     /// The last fire by an instant: expression, zone, instant and answer.
     FiresBy,
+    /// The fires between two instants: expression, zone, two instants and answers.
+    FiresBetween,
+    /// The fires between two instants, their number and one number that is made of all of them.
+    FiresCounted,
 }
 
 /// The files, each with its kind.
-pub(crate) const FILES: [(Kind, &str); 40] = [
+pub(crate) const FILES: [(Kind, &str); 43] = [
     (Kind::Texts, "texts_accepted.txt"),
     (Kind::Texts, "texts_refused.txt"),
     (Kind::Texts, "texts_beginnings.txt"),
@@ -63,4 +67,7 @@ pub(crate) const FILES: [(Kind, &str); 40] = [
     (Kind::SearchesBack, "searches_back.txt"),
     (Kind::FiresAfter, "fires_after.txt"),
     (Kind::FiresBy, "fires_by.txt"),
+    (Kind::FiresBetween, "fires_between.txt"),
+    (Kind::FiresBetween, "fires_counted_by_hand.txt"),
+    (Kind::FiresCounted, "fires_of_a_year.txt"),
 ];

@@ -5,6 +5,7 @@
 
 mod answers;
 mod characters;
+mod counted;
 mod files;
 mod fires;
 mod long_texts;
@@ -14,6 +15,7 @@ mod report;
 mod searches;
 mod settings;
 mod short_texts;
+mod stretches;
 mod texts;
 mod walks;
 mod ways;
@@ -34,6 +36,8 @@ fn replay_row(report: &mut Report<'_>, kind: Kind, row: Row<'_>) -> Result<()> {
         Kind::SearchesBack => searches::replay_back(report, row),
         Kind::FiresAfter => fires::replay_after(report, row),
         Kind::FiresBy => fires::replay_by(report, row),
+        Kind::FiresBetween => stretches::replay(report, row),
+        Kind::FiresCounted => counted::replay(report, row),
     }
 }
 

@@ -64,7 +64,7 @@ pub(crate) fn zone_named(name: &str) -> Result<TimeZone<'static>> {
 }
 
 /// An instant, or the instant at which a clock of the zone shows a civil datetime.
-fn start_at(text: &str, zone: &TimeZone<'_>) -> Result<Timestamp> {
+pub(crate) fn start_at(text: &str, zone: &TimeZone<'_>) -> Result<Timestamp> {
     match text {
         "the least instant" => Ok(Timestamp::MIN),
         "the greatest instant" => Ok(Timestamp::MAX),

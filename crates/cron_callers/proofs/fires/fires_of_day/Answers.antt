@@ -3,14 +3,14 @@ use Rattle.jiff_core.specs.Date.{epoch_day}
 use Rattle.std.specs.List.{take_while}
 use Rattle.cron.specs.Words.{rest_ahead}
 use Rattle.cron_callers.specs.Fires.{is_through}
-use Rattle.cron_callers.proofs.FireTimes.{fires_after-walk, is_through-from, is_through-past, taken-more, taken-all, taken-end}
+use Rattle.cron_callers.proofs.FireTimes.{items_ahead-walk, is_through-from, is_through-past, taken-more, taken-all, taken-end}
 use Rattle.cron_callers.proofs.fires.fires_of_day.Goals as goal
 use Rattle.cron_callers.proofs.fires.fires_of_day.Goals.{in-None, in-Some+then-to_unix_epoch_day-last}
 
 pub loop-fire-init : goal.loop-fire-init
 loop-fire-init c =
     let start = ap rest_ahead c.into_iter-fire-iterator.ensures.into_iter_gives
-    ∙ fires_after-walk c.after-fire-items.result _ _ _ c.after-fire-items.ensures.sets c.after-fire-items.ensures.zone
+    ∙ items_ahead-walk c.after-fire-items.result _ _ _ c.after-fire-items.ensures.sets c.after-fire-items.ensures.zone
     c.after-fire-items.ensures.cursor in
     rw c.new-fires.ensures.items (ap (take_while (is_through c.args.date)) (sym start))
 

@@ -2,10 +2,10 @@ use Rattle.std.proofs.Common.{◌≡◌, ◌++◌}
 use Rattle.std.specs.List.{take_while}
 use Rattle.jiff.specs.Words.{plain_zone}
 use Rattle.cron.specs.Words.{rest_ahead}
-use Rattle.cron_callers.specs.Fires.{fires_after, is_through}
+use Rattle.cron_callers.specs.Fires.{items_ahead, is_through}
 use Rattle.cron_callers.proofs.fires.fires_of_day.Given as goal
 
 abbrev pub invariant-loop-fire : goal.invariant-loop-fire
 invariant-loop-fire l =
-    take_while (is_through l.fn.date) (fires_after l.fn.schedule.sets (plain_zone l.fn.zone) l.fn.eve.nanosecond) ≡ l.fires.items
+    take_while (is_through l.fn.date) (items_ahead l.fn.schedule.sets (plain_zone l.fn.zone) l.fn.eve.nanosecond) ≡ l.fires.items
     ++ take_while (is_through l.fn.date) (rest_ahead l.fire-iterator)

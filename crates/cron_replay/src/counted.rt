@@ -1,0 +1,92 @@
+//! The fires of a year. A row has five parts: the expression, the zone, two instants, and of the fires
+//! after the first and not after the second their number and the sum that is made of all of them in order.
+//!
+//! The numbers were made from the zone database of an ordinary system (2025b), of which it was asked for
+//! each second what the clock shows.
+
+use crate::report::{Report, Row, cut};
+use crate::settings::{Setting, case_of, setting_of, start_at};
+use anyhow::Result;
+use cron::schedule::Moment;
+use cron_fires::Fires;
+use jiff::{SignedDuration, Timestamp};
+
+/// The number of some fires, and the sum that tells which they are and in what order.
+#[derive(Clone, Copy)]
+struct Tally {
+    count: u64,
+    sum: i64,
+}
+
+impl Tally {
+    fn add(self, fire: Moment) -> Tally {
+        let moved = self.sum.wrapping_mul(1_000_003);
+        Tally {
+            count: self.count.saturating_add(1),
+            sum: moved.wrapping_add(fire.timestamp().as_second()) % 2_147_483_647,
+        }
+    }
+}
+
+/// The fires of one run.
+fn uncut(setting: &Setting, end: Timestamp) -> Tally {
+    let mut tally = Tally { count: 0, sum: 0 };
+    for fire in Fires::between(&setting.schedule, setting.start, end, &setting.zone) {
+        tally = tally.add(fire);
+    }
+    tally
+}
+
+/// The fires of runs over an hour each.
+fn hour_by_hour(setting: &Setting, end: Timestamp) -> Result<Tally> {
+    let mut tally = Tally { count: 0, sum: 0 };
+    let mut from = setting.start;
+    for _ in 0..u64::MAX {
+        if from >= end {
+            break;
+        }
+        let to = from.saturating_add(SignedDuration::from_hours(1))?.min(end);
+        for fire in Fires::between(&setting.schedule, from, to, &setting.zone) {
+            tally = tally.add(fire);
+        }
+        from = to;
+    }
+    Ok(tally)
+}
+
+/// The fires of runs that are cut after ten, each gone on with from its last fire.
+fn ten_by_ten(setting: &Setting, end: Timestamp) -> Tally {
+    let mut tally = Tally { count: 0, sum: 0 };
+    let mut run = Fires::after(&setting.schedule, setting.start, &setting.zone);
+    for count in 1..u64::MAX {
+        let Some(fire) = run.next() else {
+            break;
+        };
+        if fire.timestamp() > end {
+            break;
+        }
+        tally = tally.add(fire);
+        if count % 10 == 0 {
+            run = Fires::after_item(&setting.schedule, &fire, &setting.zone);
+        }
+    }
+    tally
+}
+
+pub(crate) fn replay(report: &mut Report<'_>, row: Row<'_>) -> Result<()> {
+    let alloc = report.alloc();
+    let case = case_of(row.text)?;
+    let (end, answers) = cut(case.rest)?;
+    let setting = setting_of(alloc, case)?;
+    let end = start_at(end, &setting.zone)?;
+    for (way, tally) in [
+        ("one run", uncut(&setting, end)),
+        ("hour by hour", hour_by_hour(&setting, end)?),
+        ("ten by ten", ten_by_ten(&setting, end)),
+    ] {
+        let (count, sum) = (tally.count, tally.sum);
+        let told = format!(in alloc; "{count}, {sum}")?;
+        report.compare(row, way, answers, told.as_str())?;
+    }
+    Ok(())
+}

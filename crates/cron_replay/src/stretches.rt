@@ -1,0 +1,93 @@
+//! The fires between two instants. A row has five parts: the expression, the zone, the two instants and
+//! the fires after the first and not after the second, or `none`.
+//!
+//! The answers of `fires_between.txt` are those of the zone database of an ordinary system (2025b): of each
+//! second about the turns of 2025 and 2026 it was asked what the clock shows. Those of
+//! `fires_counted_by_hand.txt` were counted by hand, from the offsets of the rule and the ends of the range.
+
+use crate::report::{Report, Row, cut};
+use crate::settings::{Setting, case_of, setting_of, start_at};
+use anyhow::Result;
+use cron::schedule::Moment;
+use cron_fires::{Fires, first_fire_after, first_fire_past, missed};
+use jiff::{SignedDuration, Timestamp};
+use std::alloc::{AllocError, Global};
+use std::fmt::Write;
+
+/// The texts of fires, with a comma between two.
+fn text_of(alloc: Global, fires: &[Moment]) -> Result<String, AllocError> {
+    if fires.is_empty() {
+        return String::from_str(alloc, "none");
+    }
+    let mut text = String::new(alloc);
+    for fire in fires {
+        if !text.is_empty() {
+            text.push_str(", ")?;
+        }
+        write!(text, "{fire}")?;
+    }
+    Ok(text)
+}
+
+/// The fires, asked for one after another: the first after an instant, and then the first past each.
+fn asked_in_turn(alloc: Global, setting: &Setting, now: Timestamp) -> Result<Vec<Moment>> {
+    let mut fires = Vec::new(alloc);
+    let mut next = first_fire_after(&setting.schedule, setting.start, &setting.zone);
+    for _ in 0..u64::MAX {
+        let Some(fire) = next else {
+            break;
+        };
+        if fire.timestamp() > now {
+            break;
+        }
+        fires.push(fire)?;
+        next = first_fire_past(&setting.schedule, &fire, &setting.zone);
+    }
+    Ok(fires)
+}
+
+/// The same by another way: of the items of a walk from three days before to three days after those that
+/// lie between, sorted by their instants. No clock is further from UTC than 26 hours.
+fn sorted_walk(alloc: Global, setting: &Setting, now: Timestamp) -> Result<Vec<Moment>> {
+    let reach = SignedDuration::from_hours(72);
+    let begin = setting.start.saturating_sub(reach)?;
+    let end = now.saturating_add(reach)?;
+    let mut fires = Vec::new(alloc);
+    for item in setting.schedule.after(begin, &setting.zone) {
+        let instant = item.timestamp();
+        if instant > end {
+            break;
+        }
+        if setting.start < instant && instant <= now {
+            fires.push(item)?;
+        }
+    }
+    fires.sort_by_key(|fire| (fire.timestamp().as_second(), fire.datetime()))?;
+    Ok(fires)
+}
+
+pub(crate) fn replay(report: &mut Report<'_>, row: Row<'_>) -> Result<()> {
+    let alloc = report.alloc();
+    let case = case_of(row.text)?;
+    let (now, answers) = cut(case.rest)?;
+    let setting = setting_of(alloc, case)?;
+    let now = start_at(now, &setting.zone)?;
+    let between: Vec<Moment> = Fires::between(
+        &setting.schedule,
+        setting.start,
+        now,
+        &setting.zone,
+    ).collect(alloc)?;
+    let listed = missed(alloc, &setting.schedule, setting.start, now, &setting.zone)?;
+    let asked = asked_in_turn(alloc, &setting, now)?;
+    let sorted = sorted_walk(alloc, &setting, now)?;
+    for (way, fires) in [
+        ("Fires::between", between.as_slice()),
+        ("missed", listed.as_slice()),
+        ("first_fire_past", asked.as_slice()),
+        ("a walk, sorted", sorted.as_slice()),
+    ] {
+        report.compare(row, way, answers, text_of(alloc, fires)?.as_str())?;
+    }
+    Ok(())
+}
