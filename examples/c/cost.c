@@ -1,15 +1,10 @@
 /* What calls cost from C: the least of many turns, in nanoseconds a call. */
 #define _POSIX_C_SOURCE 199309L
-#include "cron.h"
+#include "cron_c.h"
 
 #include <stdio.h>
 #include <string.h>
 #include <time.h>
-
-static const uint8_t *bytes_of(const char *text)
-{
-    return (const uint8_t *)text;
-}
 
 static double nanoseconds(void)
 {
@@ -18,15 +13,15 @@ static double nanoseconds(void)
     return (double)now.tv_sec * 1e9 + (double)now.tv_nsec;
 }
 
-static double cost_of_parse(const char *text, cron_schedule *schedule)
+static double cost_of_parse(const char *text, cron_c_schedule *schedule)
 {
-    uint8_t message[64];
+    char message[64];
     size_t needed;
     double least = 1e300;
     for (int turn = 0; turn < 200; turn++) {
         double begun = nanoseconds();
         for (int call = 0; call < 100; call++) {
-            cron_parse(bytes_of(text), strlen(text), schedule, message, sizeof message, &needed);
+            cron_c_parse(text, strlen(text), schedule, message, sizeof message, &needed);
         }
         double each = (nanoseconds() - begun) / 100;
         least = each < least ? each : least;
@@ -35,20 +30,20 @@ static double cost_of_parse(const char *text, cron_schedule *schedule)
 }
 
 /* A call by an instant is a fresh search; one by an item goes on from it. */
-static double cost_of_items(const cron_schedule *schedule, const char *zone, int fresh)
+static double cost_of_items(const cron_c_schedule *schedule, const char *zone, int fresh)
 {
     const int64_t start = 1514764800; /* 2018-01-01T00:00:00Z */
     const size_t length = strlen(zone);
-    cron_item item;
+    cron_c_item item;
     double least = 1e300;
     for (int turn = 0; turn < 150; turn++) {
-        cron_after(schedule, bytes_of(zone), length, start, &item);
+        cron_c_after(schedule, zone, length, start, &item);
         double begun = nanoseconds();
         for (int call = 0; call < 1000; call++) {
             if (fresh) {
-                cron_after(schedule, bytes_of(zone), length, start, &item);
-            } else if (cron_next(schedule, bytes_of(zone), length, &item) != CRON_OK) {
-                cron_after(schedule, bytes_of(zone), length, start, &item);
+                cron_c_after(schedule, zone, length, start, &item);
+            } else if (cron_c_next(schedule, zone, length, &item) != CRON_C_OK) {
+                cron_c_after(schedule, zone, length, start, &item);
             }
         }
         double each = (nanoseconds() - begun) / 1000;
@@ -62,11 +57,11 @@ int main(void)
     const char *const texts[] = {"0 30 9,12,15 1,15 May-Aug Mon,Wed,Fri 2018/2", "* * * * * *", "0 0 0 * * *"};
     const char *const zones[] = {"UTC", "CST6CDT,M3.2.0,M11.1.0"};
     for (size_t text = 0; text < sizeof texts / sizeof *texts; text++) {
-        cron_schedule schedule;
-        printf("cron_parse | %s | %.1f\n", texts[text], cost_of_parse(texts[text], &schedule));
+        cron_c_schedule schedule;
+        printf("cron_c_parse | %s | %.1f\n", texts[text], cost_of_parse(texts[text], &schedule));
         for (size_t zone = 0; zone < sizeof zones / sizeof *zones; zone++) {
-            printf("cron_after | %s | %s | %.1f\n", zones[zone], texts[text], cost_of_items(&schedule, zones[zone], 1));
-            printf("cron_next | %s | %s | %.1f\n", zones[zone], texts[text], cost_of_items(&schedule, zones[zone], 0));
+            printf("cron_c_after | %s | %s | %.1f\n", zones[zone], texts[text], cost_of_items(&schedule, zones[zone], 1));
+            printf("cron_c_next | %s | %s | %.1f\n", zones[zone], texts[text], cost_of_items(&schedule, zones[zone], 0));
         }
     }
     return 0;

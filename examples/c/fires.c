@@ -1,46 +1,41 @@
 /* What a scheduler asks for: the fires of a job where the clock goes back, and which was the last. */
-#include "cron.h"
+#include "cron_c.h"
 
 #include <stdio.h>
 #include <string.h>
 
-static const uint8_t *bytes_of(const char *text)
+static void print(const char *before, const cron_c_item *item)
 {
-    return (const uint8_t *)text;
-}
-
-static void print(const char *before, const cron_item *item)
-{
-    uint8_t text[32];
+    char text[CRON_C_ITEM_TEXT];
     size_t length;
-    if (cron_format(item, text, sizeof text, &length) == CRON_OK) {
-        printf("%s%.*s\n", before, (int)length, (const char *)text);
+    if (cron_c_format(item, text, sizeof text, &length) == CRON_C_OK) {
+        printf("%s%.*s\n", before, (int)length, text);
     }
 }
 
 int main(void)
 {
     const char *text = "0 30 1 * * *";
-    const uint8_t *zone = bytes_of("CST6CDT,M3.2.0,M11.1.0");
-    const size_t zone_length = strlen((const char *)zone);
+    const char *zone = "CST6CDT,M3.2.0,M11.1.0";
+    const size_t zone_length = strlen(zone);
     int64_t now = 1667649600;            /* 2022-11-05T12:00:00Z */
     const int64_t restarted = 1667779200; /* 2022-11-07T00:00:00Z */
-    cron_schedule schedule;
-    cron_item item;
-    uint8_t message[256];
+    cron_c_schedule schedule;
+    cron_c_item item;
+    char message[256];
     size_t needed;
 
-    if (cron_parse(bytes_of(text), strlen(text), &schedule, message, sizeof message, &needed) != CRON_OK) {
+    if (cron_c_parse(text, strlen(text), &schedule, message, sizeof message, &needed) != CRON_C_OK) {
         return 1;
     }
     for (int left = 3; left > 0; left--) {
-        if (cron_fire_after(&schedule, zone, zone_length, now, &item) != CRON_OK) {
+        if (cron_c_fire_after(&schedule, zone, zone_length, now, &item) != CRON_C_OK) {
             return 1;
         }
         print("", &item); /* sleep until `item.instant`, and run the job */
         now = item.instant;
     }
-    if (cron_fire_by(&schedule, zone, zone_length, restarted, &item) != CRON_OK) {
+    if (cron_c_fire_by(&schedule, zone, zone_length, restarted, &item) != CRON_C_OK) {
         return 1;
     }
     print("last: ", &item);

@@ -1,5 +1,5 @@
 /* Rows that the calls must answer. It prints how many held, and fails at the first that doesn't. */
-#include "cron.h"
+#include "cron_c.h"
 
 #include <stdio.h>
 #include <stdlib.h>
@@ -18,87 +18,82 @@ static void check(int is, const char *what, int line)
 
 #define CHECK(what) check((what), #what, __LINE__)
 
-static const uint8_t *bytes_of(const char *text)
-{
-    return (const uint8_t *)text;
-}
-
 static const char *const CHICAGO = "CST6CDT,M3.2.0,M11.1.0";
 
 /* Reads a text that is accepted. */
-static cron_schedule parsed(const char *text)
+static cron_c_schedule parsed(const char *text)
 {
-    cron_schedule schedule;
-    uint8_t message[1];
+    cron_c_schedule schedule;
+    char message[1];
     size_t needed = 1;
     memset(&schedule, 0, sizeof schedule);
-    CHECK(cron_parse(bytes_of(text), strlen(text), &schedule, message, sizeof message, &needed) == CRON_OK);
+    CHECK(cron_c_parse(text, strlen(text), &schedule, message, sizeof message, &needed) == CRON_C_OK);
     CHECK(needed == 0);
     return schedule;
 }
 
 /* Whether the text of the item is this. */
-static int shows(const cron_item *item, const char *text)
+static int shows(const cron_c_item *item, const char *text)
 {
-    uint8_t shown[32];
+    char shown[CRON_C_ITEM_TEXT];
     size_t length = 0;
-    return cron_format(item, shown, sizeof shown, &length) == CRON_OK && length == strlen(text) &&
+    return cron_c_format(item, shown, sizeof shown, &length) == CRON_C_OK && length == strlen(text) &&
            memcmp(shown, text, length) == 0;
 }
 
-static uint32_t after(const cron_schedule *schedule, const char *zone, int64_t instant, cron_item *item)
+static uint32_t after(const cron_c_schedule *schedule, const char *zone, int64_t instant, cron_c_item *item)
 {
-    return cron_after(schedule, bytes_of(zone), strlen(zone), instant, item);
+    return cron_c_after(schedule, zone, strlen(zone), instant, item);
 }
 
-static uint32_t before(const cron_schedule *schedule, const char *zone, int64_t instant, cron_item *item)
+static uint32_t before(const cron_c_schedule *schedule, const char *zone, int64_t instant, cron_c_item *item)
 {
-    return cron_before(schedule, bytes_of(zone), strlen(zone), instant, item);
+    return cron_c_before(schedule, zone, strlen(zone), instant, item);
 }
 
-static uint32_t next(const cron_schedule *schedule, const char *zone, cron_item *item)
+static uint32_t next(const cron_c_schedule *schedule, const char *zone, cron_c_item *item)
 {
-    return cron_next(schedule, bytes_of(zone), strlen(zone), item);
+    return cron_c_next(schedule, zone, strlen(zone), item);
 }
 
-static uint32_t prev(const cron_schedule *schedule, const char *zone, cron_item *item)
+static uint32_t prev(const cron_c_schedule *schedule, const char *zone, cron_c_item *item)
 {
-    return cron_prev(schedule, bytes_of(zone), strlen(zone), item);
+    return cron_c_prev(schedule, zone, strlen(zone), item);
 }
 
 /* The first run, ahead and back. */
 static void first_run(void)
 {
-    cron_schedule schedule = parsed("0 0,30 9 * * 2");
-    cron_item item = {0, 0};
+    cron_c_schedule schedule = parsed("0 0,30 9 * * 2");
+    cron_c_item item = {0, 0, 0};
     CHECK(schedule.minutes == (UINT64_C(1) | UINT64_C(1) << 30));
     CHECK(schedule.days_of_week == UINT64_C(1) << 1);
-    CHECK(after(&schedule, "UTC", 1704067200, &item) == CRON_OK);
+    CHECK(after(&schedule, "UTC", 1704067200, &item) == CRON_C_OK);
     CHECK(shows(&item, "2024-01-01 09:00:00 +00:00"));
-    CHECK(next(&schedule, "UTC", &item) == CRON_OK);
+    CHECK(next(&schedule, "UTC", &item) == CRON_C_OK);
     CHECK(shows(&item, "2024-01-01 09:30:00 +00:00"));
-    CHECK(next(&schedule, "UTC", &item) == CRON_OK);
+    CHECK(next(&schedule, "UTC", &item) == CRON_C_OK);
     CHECK(shows(&item, "2024-01-08 09:00:00 +00:00"));
-    CHECK(prev(&schedule, "UTC", &item) == CRON_OK);
+    CHECK(prev(&schedule, "UTC", &item) == CRON_C_OK);
     CHECK(shows(&item, "2024-01-01 09:30:00 +00:00"));
-    CHECK(before(&schedule, "UTC", 1704067200, &item) == CRON_OK);
+    CHECK(before(&schedule, "UTC", 1704067200, &item) == CRON_C_OK);
     CHECK(shows(&item, "2023-12-25 09:30:00 +00:00"));
 }
 
 /* The last day of each month, as it is read and as any number but 0 says it. */
 static void last_days(void)
 {
-    cron_schedule schedule = parsed("0 0 0 L * ?");
-    cron_schedule daily = parsed("@daily");
-    cron_item item = {0, 0};
+    cron_c_schedule schedule = parsed("0 0 0 L * ?");
+    cron_c_schedule daily = parsed("@daily");
+    cron_c_item item = {0, 0, 0};
     CHECK(schedule.last_day == 1 && schedule.days_of_month == 0 && daily.last_day == 0);
     schedule.last_day = 512;
-    CHECK(after(&schedule, "UTC", 1705276800, &item) == CRON_OK);
+    CHECK(after(&schedule, "UTC", 1705276800, &item) == CRON_C_OK);
     CHECK(shows(&item, "2024-01-31 00:00:00 +00:00"));
-    CHECK(next(&schedule, "UTC", &item) == CRON_OK);
+    CHECK(next(&schedule, "UTC", &item) == CRON_C_OK);
     CHECK(shows(&item, "2024-02-29 00:00:00 +00:00"));
     schedule.last_day = 0;
-    CHECK(after(&schedule, "UTC", 1705276800, &item) == CRON_NO_ITEM);
+    CHECK(after(&schedule, "UTC", 1705276800, &item) == CRON_C_NO_ITEM);
 }
 
 /* A message that doesn't fit, and texts that aren't read. */
@@ -106,156 +101,156 @@ static void refusals(void)
 {
     const char *told = "Hours must be less than 23. ('25' specified.)";
     const char *text = "0 0 25 * * *";
-    const uint8_t not_utf8[] = {'*', 0xff};
-    cron_schedule schedule;
-    uint8_t message[64];
+    const char not_utf8[] = {'*', (char)0xff};
+    cron_c_schedule schedule;
+    char message[64];
     size_t needed = 0;
     memset(&schedule, 7, sizeof schedule);
     memset(message, '.', sizeof message);
-    CHECK(cron_parse(bytes_of(text), strlen(text), &schedule, message, 5, &needed) == CRON_REFUSED);
+    CHECK(cron_c_parse(text, strlen(text), &schedule, message, 5, &needed) == CRON_C_REFUSED);
     CHECK(needed == strlen(told));
     CHECK(memcmp(message, "Hours.", 6) == 0);
     CHECK(schedule.seconds == UINT64_C(0x0707070707070707));
-    CHECK(cron_parse(bytes_of(text), strlen(text), &schedule, message, 0, &needed) == CRON_REFUSED);
+    CHECK(cron_c_parse(text, strlen(text), &schedule, message, 0, &needed) == CRON_C_REFUSED);
     CHECK(needed == strlen(told));
-    CHECK(cron_parse(bytes_of(text), strlen(text), &schedule, message, sizeof message, &needed) == CRON_REFUSED);
+    CHECK(cron_c_parse(text, strlen(text), &schedule, message, sizeof message, &needed) == CRON_C_REFUSED);
     CHECK(memcmp(message, told, needed) == 0);
     CHECK(message[needed] == '.');
-    CHECK(cron_parse(not_utf8, sizeof not_utf8, &schedule, message, sizeof message, &needed) == CRON_NOT_UTF8);
+    CHECK(cron_c_parse(not_utf8, sizeof not_utf8, &schedule, message, sizeof message, &needed) == CRON_C_NOT_UTF8);
     CHECK(needed == 0);
 }
 
 /* Zones, instants and items that aren't any. */
 static void arguments(void)
 {
-    cron_schedule schedule = parsed("0 0 9 * * *");
-    cron_item item = {7, 7};
-    uint8_t text[32];
+    cron_c_schedule schedule = parsed("0 0 9 * * *");
+    cron_c_item item = {7, 7, 0};
+    char text[CRON_C_ITEM_TEXT];
     size_t needed = 1;
-    CHECK(after(&schedule, "Mars", 0, &item) == CRON_BAD_ZONE);
-    CHECK(next(&schedule, "\xff", &item) == CRON_BAD_ZONE);
-    CHECK(after(&schedule, "UTC", INT64_MAX, &item) == CRON_BAD_INSTANT);
-    CHECK(before(&schedule, "UTC", INT64_MIN, &item) == CRON_BAD_INSTANT);
+    CHECK(after(&schedule, "Mars", 0, &item) == CRON_C_BAD_ZONE);
+    CHECK(next(&schedule, "\xff", &item) == CRON_C_BAD_ZONE);
+    CHECK(after(&schedule, "UTC", INT64_MAX, &item) == CRON_C_BAD_INSTANT);
+    CHECK(before(&schedule, "UTC", INT64_MIN, &item) == CRON_C_BAD_INSTANT);
     CHECK(item.instant == 7 && item.offset == 7);
-    CHECK(next(&schedule, "UTC", &item) == CRON_NOT_AN_ITEM);
+    CHECK(next(&schedule, "UTC", &item) == CRON_C_NOT_AN_ITEM);
     item.instant = INT64_MAX;
     item.offset = INT32_MAX;
-    CHECK(prev(&schedule, "UTC", &item) == CRON_NOT_AN_ITEM);
-    CHECK(cron_format(&item, text, sizeof text, &needed) == CRON_NOT_AN_ITEM);
+    CHECK(prev(&schedule, "UTC", &item) == CRON_C_NOT_AN_ITEM);
+    CHECK(cron_c_format(&item, text, sizeof text, &needed) == CRON_C_NOT_AN_ITEM);
     CHECK(needed == 0);
     item.offset = 0;
-    CHECK(next(&schedule, "UTC", &item) == CRON_NOT_AN_ITEM);
-    CHECK(after(&schedule, "UTC", INT64_C(4133980800), &item) == CRON_NO_ITEM);
-    CHECK(before(&schedule, "UTC", 0, &item) == CRON_NO_ITEM);
-    CHECK(before(&schedule, "UTC", INT64_C(253402207200), &item) == CRON_OK);
+    CHECK(next(&schedule, "UTC", &item) == CRON_C_NOT_AN_ITEM);
+    CHECK(after(&schedule, "UTC", INT64_C(4133980800), &item) == CRON_C_NO_ITEM);
+    CHECK(before(&schedule, "UTC", 0, &item) == CRON_C_NO_ITEM);
+    CHECK(before(&schedule, "UTC", INT64_C(253402207200), &item) == CRON_C_OK);
     CHECK(shows(&item, "2100-12-31 09:00:00 +00:00"));
-    CHECK(next(&schedule, "UTC", &item) == CRON_NO_ITEM);
+    CHECK(next(&schedule, "UTC", &item) == CRON_C_NO_ITEM);
     CHECK(shows(&item, "2100-12-31 09:00:00 +00:00"));
 }
 
 /* Both items of a fold, both ways. */
 static void fold(void)
 {
-    cron_schedule schedule = parsed("0 0 * * * *");
-    cron_item item;
-    CHECK(after(&schedule, CHICAGO, 1667712600, &item) == CRON_OK);
+    cron_c_schedule schedule = parsed("0 0 * * * *");
+    cron_c_item item;
+    CHECK(after(&schedule, CHICAGO, 1667712600, &item) == CRON_C_OK);
     CHECK(item.instant == 1667714400 && item.offset == -5 * 3600);
-    CHECK(next(&schedule, CHICAGO, &item) == CRON_OK);
+    CHECK(next(&schedule, CHICAGO, &item) == CRON_C_OK);
     CHECK(shows(&item, "2022-11-06 01:00:00 -06:00"));
     CHECK(item.instant == 1667718000);
-    CHECK(next(&schedule, CHICAGO, &item) == CRON_OK);
+    CHECK(next(&schedule, CHICAGO, &item) == CRON_C_OK);
     CHECK(shows(&item, "2022-11-06 02:00:00 -06:00"));
-    CHECK(prev(&schedule, CHICAGO, &item) == CRON_OK);
-    CHECK(prev(&schedule, CHICAGO, &item) == CRON_OK);
+    CHECK(prev(&schedule, CHICAGO, &item) == CRON_C_OK);
+    CHECK(prev(&schedule, CHICAGO, &item) == CRON_C_OK);
     CHECK(shows(&item, "2022-11-06 01:00:00 -05:00"));
     item.offset = -6 * 3600;
-    CHECK(next(&schedule, CHICAGO, &item) == CRON_NOT_AN_ITEM);
+    CHECK(next(&schedule, CHICAGO, &item) == CRON_C_NOT_AN_ITEM);
 }
 
-static uint32_t fire_after(const cron_schedule *schedule, const char *zone, int64_t instant, cron_item *item)
+static uint32_t fire_after(const cron_c_schedule *schedule, const char *zone, int64_t instant, cron_c_item *item)
 {
-    return cron_fire_after(schedule, bytes_of(zone), strlen(zone), instant, item);
+    return cron_c_fire_after(schedule, zone, strlen(zone), instant, item);
 }
 
-static uint32_t fire_by(const cron_schedule *schedule, const char *zone, int64_t instant, cron_item *item)
+static uint32_t fire_by(const cron_c_schedule *schedule, const char *zone, int64_t instant, cron_c_item *item)
 {
-    return cron_fire_by(schedule, bytes_of(zone), strlen(zone), instant, item);
+    return cron_c_fire_by(schedule, zone, strlen(zone), instant, item);
 }
 
 /* Items by instants in a fold, where a walk begun anew leaves one out or answers its start. */
 static void fires(void)
 {
-    cron_schedule half_past = parsed("0 30 1 * * *"), last_second = parsed("59 59 1 * * *");
-    cron_item item = {7, 7};
-    CHECK(fire_after(&half_past, CHICAGO, 1667716199, &item) == CRON_OK);
+    cron_c_schedule half_past = parsed("0 30 1 * * *"), last_second = parsed("59 59 1 * * *");
+    cron_c_item item = {7, 7, 0};
+    CHECK(fire_after(&half_past, CHICAGO, 1667716199, &item) == CRON_C_OK);
     CHECK(item.instant == 1667716200 && item.offset == -5 * 3600);
-    CHECK(fire_after(&half_past, CHICAGO, item.instant, &item) == CRON_OK);
+    CHECK(fire_after(&half_past, CHICAGO, item.instant, &item) == CRON_C_OK);
     CHECK(item.instant == 1667719800 && item.offset == -6 * 3600);
-    CHECK(fire_after(&half_past, CHICAGO, item.instant, &item) == CRON_OK);
+    CHECK(fire_after(&half_past, CHICAGO, item.instant, &item) == CRON_C_OK);
     CHECK(shows(&item, "2022-11-07 01:30:00 -06:00"));
-    CHECK(fire_by(&half_past, CHICAGO, 1667719800, &item) == CRON_OK);
+    CHECK(fire_by(&half_past, CHICAGO, 1667719800, &item) == CRON_C_OK);
     CHECK(item.instant == 1667719800);
-    CHECK(fire_by(&half_past, CHICAGO, 1667719799, &item) == CRON_OK);
+    CHECK(fire_by(&half_past, CHICAGO, 1667719799, &item) == CRON_C_OK);
     CHECK(item.instant == 1667716200);
-    CHECK(after(&last_second, CHICAGO, 1667717999, &item) == CRON_OK);
+    CHECK(after(&last_second, CHICAGO, 1667717999, &item) == CRON_C_OK);
     CHECK(item.instant == 1667717999);
-    CHECK(fire_after(&last_second, CHICAGO, 1667717999, &item) == CRON_OK);
+    CHECK(fire_after(&last_second, CHICAGO, 1667717999, &item) == CRON_C_OK);
     CHECK(item.instant == 1667721599 && item.offset == -6 * 3600);
 }
 
 /* Zones and instants that aren't any, and the ends of the timeline, by instants. */
 static void ends_of_fires(void)
 {
-    cron_schedule schedule = parsed("0 0 9 * * *");
-    cron_item item = {7, 7};
-    CHECK(fire_after(&schedule, "Mars", 0, &item) == CRON_BAD_ZONE);
-    CHECK(fire_by(&schedule, "\xff", 0, &item) == CRON_BAD_ZONE);
-    CHECK(fire_after(&schedule, "UTC", INT64_C(253402207201), &item) == CRON_BAD_INSTANT);
-    CHECK(fire_by(&schedule, "UTC", INT64_C(-377705023202), &item) == CRON_BAD_INSTANT);
-    CHECK(fire_after(&schedule, "UTC", INT64_C(4133926800), &item) == CRON_NO_ITEM);
-    CHECK(fire_by(&schedule, "UTC", 32399, &item) == CRON_NO_ITEM);
+    cron_c_schedule schedule = parsed("0 0 9 * * *");
+    cron_c_item item = {7, 7, 0};
+    CHECK(fire_after(&schedule, "Mars", 0, &item) == CRON_C_BAD_ZONE);
+    CHECK(fire_by(&schedule, "\xff", 0, &item) == CRON_C_BAD_ZONE);
+    CHECK(fire_after(&schedule, "UTC", INT64_C(253402207201), &item) == CRON_C_BAD_INSTANT);
+    CHECK(fire_by(&schedule, "UTC", INT64_C(-377705023202), &item) == CRON_C_BAD_INSTANT);
+    CHECK(fire_after(&schedule, "UTC", INT64_C(4133926800), &item) == CRON_C_NO_ITEM);
+    CHECK(fire_by(&schedule, "UTC", 32399, &item) == CRON_C_NO_ITEM);
     CHECK(item.instant == 7 && item.offset == 7);
-    CHECK(fire_after(&schedule, "UTC", INT64_C(-377705023201), &item) == CRON_OK);
+    CHECK(fire_after(&schedule, "UTC", INT64_C(-377705023201), &item) == CRON_C_OK);
     CHECK(shows(&item, "1970-01-01 09:00:00 +00:00"));
-    CHECK(fire_by(&schedule, "UTC", INT64_C(253402207200), &item) == CRON_OK);
+    CHECK(fire_by(&schedule, "UTC", INT64_C(253402207200), &item) == CRON_C_OK);
     CHECK(shows(&item, "2100-12-31 09:00:00 +00:00"));
 }
 
-static uint32_t fires_between(const cron_schedule *schedule, const char *zone, int64_t last, int64_t now, cron_item *items,
+static uint32_t fires_between(const cron_c_schedule *schedule, const char *zone, int64_t last, int64_t now, cron_c_item *items,
                               size_t length, size_t *count)
 {
-    return cron_fires_between(schedule, bytes_of(zone), strlen(zone), last, now, items, length, count);
+    return cron_c_fires_between(schedule, zone, strlen(zone), last, now, items, length, count);
 }
 
-static uint32_t fires_past(const cron_schedule *schedule, const char *zone, const cron_item *item, int64_t now,
-                           cron_item *items, size_t length, size_t *count)
+static uint32_t fires_past(const cron_c_schedule *schedule, const char *zone, const cron_c_item *item, int64_t now,
+                           cron_c_item *items, size_t length, size_t *count)
 {
-    return cron_fires_past(schedule, bytes_of(zone), strlen(zone), item, now, items, length, count);
+    return cron_c_fires_past(schedule, zone, strlen(zone), item, now, items, length, count);
 }
 
 /* Two items at each of the half past one's of 2022-11-06, in pages of one, and the whole at once. */
 static void runs(void)
 {
     const int64_t last = 1667716199, now = 1667719800;
-    cron_schedule schedule = parsed("0,1 30 1 * * *");
-    cron_item items[5], item = {7, 7};
+    cron_c_schedule schedule = parsed("0,1 30 1 * * *");
+    cron_c_item items[5], item = {7, 7, 0};
     size_t count = 7;
     memset(items, 0, sizeof items);
-    CHECK(fires_between(&schedule, CHICAGO, last, now, items, 5, &count) == CRON_OK);
+    CHECK(fires_between(&schedule, CHICAGO, last, now, items, 5, &count) == CRON_C_OK);
     CHECK(count == 3 && items[3].instant == 0);
     CHECK(items[0].instant == 1667716200 && items[1].instant == 1667716201 && items[2].instant == 1667719800);
     CHECK(items[1].offset == -5 * 3600 && items[2].offset == -6 * 3600);
-    CHECK(fires_between(&schedule, CHICAGO, last, now, items, 3, &count) == CRON_OK && count == 3);
-    CHECK(fires_between(&schedule, CHICAGO, last, now, items, 2, &count) == CRON_MORE && count == 2);
+    CHECK(fires_between(&schedule, CHICAGO, last, now, items, 3, &count) == CRON_C_OK && count == 3);
+    CHECK(fires_between(&schedule, CHICAGO, last, now, items, 2, &count) == CRON_C_MORE && count == 2);
     item = items[1];
-    CHECK(fires_past(&schedule, CHICAGO, &item, now, items, 1, &count) == CRON_OK && count == 1);
+    CHECK(fires_past(&schedule, CHICAGO, &item, now, items, 1, &count) == CRON_C_OK && count == 1);
     CHECK(items[0].instant == 1667719800);
-    CHECK(fires_past(&schedule, CHICAGO, &item, now + 1, items, 1, &count) == CRON_MORE && count == 1);
-    CHECK(fires_past(&schedule, CHICAGO, &item, now + 1, items, 2, &count) == CRON_OK && count == 2);
-    CHECK(fires_past(&schedule, CHICAGO, &item, now - 1, items, 2, &count) == CRON_OK && count == 0);
-    CHECK(fires_between(&schedule, CHICAGO, last, now, items, 0, &count) == CRON_MORE && count == 0);
-    CHECK(fires_between(&schedule, CHICAGO, now, now, items, 5, &count) == CRON_OK && count == 0);
-    CHECK(fires_between(&schedule, CHICAGO, now, last, items, 5, &count) == CRON_OK && count == 0);
+    CHECK(fires_past(&schedule, CHICAGO, &item, now + 1, items, 1, &count) == CRON_C_MORE && count == 1);
+    CHECK(fires_past(&schedule, CHICAGO, &item, now + 1, items, 2, &count) == CRON_C_OK && count == 2);
+    CHECK(fires_past(&schedule, CHICAGO, &item, now - 1, items, 2, &count) == CRON_C_OK && count == 0);
+    CHECK(fires_between(&schedule, CHICAGO, last, now, items, 0, &count) == CRON_C_MORE && count == 0);
+    CHECK(fires_between(&schedule, CHICAGO, now, now, items, 5, &count) == CRON_C_OK && count == 0);
+    CHECK(fires_between(&schedule, CHICAGO, now, last, items, 5, &count) == CRON_C_OK && count == 0);
 }
 
 /* In this zone half an hour of instants is shared on 2001-04-10: 00:30Z is 23:30 -01:00 and 00:30 +00:00. */
@@ -263,112 +258,139 @@ static void shared_instants(void)
 {
     const char *zone = "AAA0BBB1,J100/1:30,J100/0";
     const int64_t last = 986862599, now = 986862600;
-    cron_schedule schedule = parsed("0 30 0,23 * * *");
-    cron_item items[2], item;
+    cron_c_schedule schedule = parsed("0 30 0,23 * * *");
+    cron_c_item items[2], item;
     size_t count = 7;
-    CHECK(fires_between(&schedule, zone, last, now, items, 2, &count) == CRON_OK);
+    CHECK(fires_between(&schedule, zone, last, now, items, 2, &count) == CRON_C_OK);
     CHECK(count == 2 && items[0].instant == now && items[1].instant == now);
     CHECK(items[0].offset == -3600 && items[1].offset == 0);
     item = items[0];
-    CHECK(fires_past(&schedule, zone, &item, now, items, 2, &count) == CRON_OK);
+    CHECK(fires_past(&schedule, zone, &item, now, items, 2, &count) == CRON_C_OK);
     CHECK(count == 1 && items[0].instant == now && items[0].offset == 0);
-    CHECK(cron_fire_at(&schedule, bytes_of(zone), strlen(zone), now, &item) == CRON_OK);
+    CHECK(cron_c_fire_at(&schedule, zone, strlen(zone), now, &item) == CRON_C_OK);
     CHECK(item.instant == now && item.offset == 0);
 }
 
 /* Runs and instants whose arguments aren't any. */
 static void arguments_of_runs(void)
 {
-    cron_schedule schedule = parsed("0 0 9 * * *");
-    cron_item items[2], item = {7, 7}, none = {INT64_MAX, 0};
+    cron_c_schedule schedule = parsed("0 0 9 * * *");
+    cron_c_item items[2], item = {7, 7, 0}, none = {INT64_MAX, 0, 0};
     size_t count = 7;
-    CHECK(fires_between(&schedule, "Mars", 0, 1, items, 2, &count) == CRON_BAD_ZONE && count == 0);
-    CHECK(fires_between(&schedule, "UTC", INT64_MIN, 1, items, 2, &count) == CRON_BAD_INSTANT && count == 0);
-    CHECK(fires_between(&schedule, "UTC", 0, INT64_MAX, items, 2, &count) == CRON_BAD_INSTANT && count == 0);
-    CHECK(fires_past(&schedule, "\xff", &item, 0, items, 2, &count) == CRON_BAD_ZONE && count == 0);
-    CHECK(fires_past(&schedule, "UTC", &none, 0, items, 2, &count) == CRON_NOT_AN_ITEM && count == 0);
-    CHECK(fires_past(&schedule, "UTC", &item, INT64_MAX, items, 2, &count) == CRON_BAD_INSTANT && count == 0);
-    CHECK(fires_past(&schedule, "UTC", &item, 32400, items, 2, &count) == CRON_OK && count == 1);
+    CHECK(fires_between(&schedule, "Mars", 0, 1, items, 2, &count) == CRON_C_BAD_ZONE && count == 0);
+    CHECK(fires_between(&schedule, "UTC", INT64_MIN, 1, items, 2, &count) == CRON_C_BAD_INSTANT && count == 0);
+    CHECK(fires_between(&schedule, "UTC", 0, INT64_MAX, items, 2, &count) == CRON_C_BAD_INSTANT && count == 0);
+    CHECK(fires_past(&schedule, "\xff", &item, 0, items, 2, &count) == CRON_C_BAD_ZONE && count == 0);
+    CHECK(fires_past(&schedule, "UTC", &none, 0, items, 2, &count) == CRON_C_NOT_AN_ITEM && count == 0);
+    CHECK(fires_past(&schedule, "UTC", &item, INT64_MAX, items, 2, &count) == CRON_C_BAD_INSTANT && count == 0);
+    CHECK(fires_past(&schedule, "UTC", &item, 32400, items, 2, &count) == CRON_C_OK && count == 1);
     CHECK(items[0].instant == 32400 && items[0].offset == 0);
-    CHECK(cron_fire_at(&schedule, bytes_of("UTC"), 3, 32400, &item) == CRON_OK);
+    CHECK(cron_c_fire_at(&schedule, "UTC", 3, 32400, &item) == CRON_C_OK);
     CHECK(item.instant == 32400 && item.offset == 0);
-    CHECK(cron_fire_at(&schedule, bytes_of("UTC"), 3, 32401, &item) == CRON_NO_ITEM);
-    CHECK(cron_fire_at(&schedule, bytes_of("UTC"), 3, 0, &item) == CRON_NO_ITEM);
-    CHECK(cron_fire_at(&schedule, bytes_of("UTC"), 3, INT64_MAX, &item) == CRON_BAD_INSTANT);
-    CHECK(cron_fire_at(&schedule, bytes_of("Mars"), 4, 32400, &item) == CRON_BAD_ZONE);
+    CHECK(cron_c_fire_at(&schedule, "UTC", 3, 32401, &item) == CRON_C_NO_ITEM);
+    CHECK(cron_c_fire_at(&schedule, "UTC", 3, 0, &item) == CRON_C_NO_ITEM);
+    CHECK(cron_c_fire_at(&schedule, "UTC", 3, INT64_MAX, &item) == CRON_C_BAD_INSTANT);
+    CHECK(cron_c_fire_at(&schedule, "Mars", 4, 32400, &item) == CRON_C_BAD_ZONE);
     CHECK(item.instant == 32400);
 }
 
 /* Items at once, as those one by one, and where the timeline ends. */
 static void lists(void)
 {
-    cron_schedule schedule = parsed("0 0 * * * *"), last = parsed("0 0 0 31 12 * 2099-2100");
-    cron_item items[4], item;
+    cron_c_schedule schedule = parsed("0 0 * * * *"), last = parsed("0 0 0 31 12 * 2099-2100");
+    cron_c_item items[4], item;
     size_t count = 7;
     memset(items, 0, sizeof items);
-    CHECK(cron_list_after(&schedule, bytes_of(CHICAGO), strlen(CHICAGO), 1667712600, items, 3, &count) == CRON_OK);
+    CHECK(cron_c_list_after(&schedule, CHICAGO, strlen(CHICAGO), 1667712600, items, 3, &count) == CRON_C_OK);
     CHECK(count == 3);
-    CHECK(after(&schedule, CHICAGO, 1667712600, &item) == CRON_OK);
+    CHECK(after(&schedule, CHICAGO, 1667712600, &item) == CRON_C_OK);
     for (size_t place = 0; place < count; place++) {
         CHECK(items[place].instant == item.instant && items[place].offset == item.offset);
-        CHECK(next(&schedule, CHICAGO, &item) == CRON_OK);
+        CHECK(next(&schedule, CHICAGO, &item) == CRON_C_OK);
     }
     CHECK(items[3].instant == 0);
-    CHECK(cron_list_before(&last, bytes_of("UTC"), 3, INT64_C(253402207200), items, 4, &count) == CRON_OK);
+    CHECK(cron_c_list_before(&last, "UTC", 3, INT64_C(253402207200), items, 4, &count) == CRON_C_OK);
     CHECK(count == 2);
     CHECK(shows(&items[0], "2100-12-31 00:00:00 +00:00"));
     CHECK(shows(&items[1], "2099-12-31 00:00:00 +00:00"));
-    CHECK(cron_list_after(&last, bytes_of("Mars"), 4, 0, items, 4, &count) == CRON_BAD_ZONE);
+    CHECK(cron_c_list_after(&last, "Mars", 4, 0, items, 4, &count) == CRON_C_BAD_ZONE);
     CHECK(count == 0);
-    CHECK(cron_list_after(&last, bytes_of("UTC"), 3, INT64_MAX, items, 4, &count) == CRON_BAD_INSTANT);
-    CHECK(cron_list_after(&last, bytes_of("UTC"), 3, 0, items, 0, &count) == CRON_OK);
+    CHECK(cron_c_list_after(&last, "UTC", 3, INT64_MAX, items, 4, &count) == CRON_C_BAD_INSTANT);
+    CHECK(cron_c_list_after(&last, "UTC", 3, 0, items, 0, &count) == CRON_C_OK);
     CHECK(count == 0);
 }
 
 /* Pages of two over a fold, both ways: each item once, as one by one. */
 static void pages(void)
 {
-    cron_schedule schedule = parsed("0 0 * * * *");
-    cron_item items[2], last, item;
+    cron_c_schedule schedule = parsed("0 0 * * * *");
+    cron_c_item items[2], last, item;
     size_t count = 0;
-    CHECK(after(&schedule, CHICAGO, 1667705400, &item) == CRON_OK);
-    CHECK(cron_list_after(&schedule, bytes_of(CHICAGO), strlen(CHICAGO), 1667705400, items, 2, &count) == CRON_OK);
+    CHECK(after(&schedule, CHICAGO, 1667705400, &item) == CRON_C_OK);
+    CHECK(cron_c_list_after(&schedule, CHICAGO, strlen(CHICAGO), 1667705400, items, 2, &count) == CRON_C_OK);
     for (int page = 0; page < 5; page++) {
         CHECK(count == 2);
         for (size_t place = 0; place < count; place++) {
             last = items[place];
             CHECK(last.instant == item.instant && last.offset == item.offset);
-            CHECK(next(&schedule, CHICAGO, &item) == CRON_OK);
+            CHECK(next(&schedule, CHICAGO, &item) == CRON_C_OK);
         }
-        CHECK(cron_list_next(&schedule, bytes_of(CHICAGO), strlen(CHICAGO), &last, items, 2, &count) == CRON_OK);
+        CHECK(cron_c_list_next(&schedule, CHICAGO, strlen(CHICAGO), &last, items, 2, &count) == CRON_C_OK);
     }
     for (int page = 0; page < 5; page++) {
-        CHECK(cron_list_prev(&schedule, bytes_of(CHICAGO), strlen(CHICAGO), &item, items, 2, &count) == CRON_OK);
+        CHECK(cron_c_list_prev(&schedule, CHICAGO, strlen(CHICAGO), &item, items, 2, &count) == CRON_C_OK);
         CHECK(count == 2);
         for (size_t place = 0; place < count; place++) {
-            CHECK(prev(&schedule, CHICAGO, &item) == CRON_OK);
+            CHECK(prev(&schedule, CHICAGO, &item) == CRON_C_OK);
             CHECK(items[place].instant == item.instant && items[place].offset == item.offset);
         }
     }
     item.instant++;
-    CHECK(cron_list_next(&schedule, bytes_of(CHICAGO), strlen(CHICAGO), &item, items, 2, &count) == CRON_NOT_AN_ITEM);
+    CHECK(cron_c_list_next(&schedule, CHICAGO, strlen(CHICAGO), &item, items, 2, &count) == CRON_C_NOT_AN_ITEM);
     CHECK(count == 0);
-    CHECK(cron_list_prev(&schedule, bytes_of("Mars"), 4, &item, items, 2, &count) == CRON_BAD_ZONE);
+    CHECK(cron_c_list_prev(&schedule, "Mars", 4, &item, items, 2, &count) == CRON_C_BAD_ZONE);
+}
+
+/* The version, the texts of statuses, the reserved words, and texts that aren't wanted. */
+static void constants(void)
+{
+    const char *text = "0 0 25 * * *";
+    cron_c_schedule schedule;
+    cron_c_item item = {7, 7, 0};
+    size_t needed = 0;
+    memset(&schedule, 0xff, sizeof schedule);
+    CHECK(cron_c_version() == CRON_C_VERSION);
+    CHECK(cron_c_parse(text, strlen(text), &schedule, CRON_C_NO_TEXT, &needed) == CRON_C_REFUSED);
+    CHECK(needed > 0 && needed < CRON_C_MESSAGE(strlen(text)));
+    CHECK(cron_c_parse(CRON_C_TEXT("@daily"), &schedule, CRON_C_NO_TEXT, &needed) == CRON_C_OK);
+    CHECK(schedule.reserved[0] == 0 && schedule.reserved[5] == 0);
+    CHECK(cron_c_fire_after(&schedule, CRON_C_TEXT(CRON_C_UTC), 0, &item) == CRON_C_OK);
+    CHECK(item.instant == 86400 && item.offset == 0 && item.reserved == 0);
+    CHECK(cron_c_format(&item, CRON_C_NO_TEXT, &needed) == CRON_C_OK && needed <= CRON_C_ITEM_TEXT);
+    item.reserved = 1;
+    CHECK(cron_c_format(&item, CRON_C_NO_TEXT, &needed) == CRON_C_NOT_AN_ITEM);
+    CHECK(cron_c_next(&schedule, CRON_C_TEXT(CRON_C_UTC), &item) == CRON_C_NOT_AN_ITEM);
+    for (uint32_t status = CRON_C_OK; status <= CRON_C_MORE; status++) {
+        CHECK(strcmp(cron_c_status_text(status), cron_c_status_text(CRON_C_MORE + 1)) != 0);
+    }
+    CHECK(cron_c_fire_after(&schedule, CRON_C_TEXT(CRON_C_UTC), CRON_C_LEAST_INSTANT, &item) == CRON_C_OK);
+    CHECK(cron_c_fire_by(&schedule, CRON_C_TEXT(CRON_C_UTC), CRON_C_GREATEST_INSTANT, &item) == CRON_C_OK);
+    CHECK(cron_c_fire_by(&schedule, CRON_C_TEXT(CRON_C_UTC), CRON_C_GREATEST_INSTANT + 1, &item) == CRON_C_BAD_INSTANT);
 }
 
 /* Bits outside a unit mean nothing. */
 static void bits(void)
 {
-    cron_schedule schedule, every = parsed("* * * * * *");
-    cron_item item, other;
+    cron_c_schedule schedule, every = parsed("* * * * * *");
+    cron_c_item item, other;
     memset(&schedule, 0xff, sizeof schedule);
-    CHECK(after(&schedule, "UTC", 1704067200, &item) == CRON_OK);
-    CHECK(after(&every, "UTC", 1704067200, &other) == CRON_OK);
+    CHECK(after(&schedule, "UTC", 1704067200, &item) == CRON_C_OK);
+    CHECK(after(&every, "UTC", 1704067200, &other) == CRON_C_OK);
     CHECK(item.instant == 1704067201 && other.instant == 1704067201);
     schedule.months = ~UINT64_C(0xfff);
-    CHECK(after(&schedule, "UTC", 1704067200, &item) == CRON_NO_ITEM);
+    CHECK(after(&schedule, "UTC", 1704067200, &item) == CRON_C_NO_ITEM);
     memset(&schedule, 0, sizeof schedule);
-    CHECK(before(&schedule, "UTC", 1704067200, &item) == CRON_NO_ITEM);
+    CHECK(before(&schedule, "UTC", 1704067200, &item) == CRON_C_NO_ITEM);
 }
 
 int main(void)
@@ -386,6 +408,7 @@ int main(void)
     lists();
     pages();
     bits();
+    constants();
     printf("examples: %d rows hold\n", held);
     return 0;
 }

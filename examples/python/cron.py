@@ -6,11 +6,11 @@ OK, NO_ITEM, REFUSED = 0, 1, 2
 
 
 class Schedule(ctypes.Structure):
-    _fields_ = [("words", ctypes.c_uint64 * 10)]
+    _fields_ = [("words", ctypes.c_uint64 * 16)]
 
 
 class Item(ctypes.Structure):
-    _fields_ = [("instant", ctypes.c_int64), ("offset", ctypes.c_int32)]
+    _fields_ = [("instant", ctypes.c_int64), ("offset", ctypes.c_int32), ("reserved", ctypes.c_uint32)]
 
 
 def load(path):
@@ -18,14 +18,14 @@ def load(path):
     library = ctypes.CDLL(path)
     size, pointer = ctypes.c_size_t, ctypes.POINTER
     text = [ctypes.c_char_p, size]
-    library.cron_parse.argtypes = text + [pointer(Schedule)] + text + [pointer(size)]
-    for name in ("cron_after", "cron_fire_after", "cron_fire_by"):
+    library.cron_c_parse.argtypes = text + [pointer(Schedule)] + text + [pointer(size)]
+    for name in ("cron_c_after", "cron_c_fire_after", "cron_c_fire_by"):
         call = getattr(library, name)
         call.argtypes = [pointer(Schedule)] + text + [ctypes.c_int64, pointer(Item)]
         call.restype = ctypes.c_uint32
-    library.cron_next.argtypes = [pointer(Schedule)] + text + [pointer(Item)]
-    library.cron_format.argtypes = [pointer(Item)] + text + [pointer(size)]
-    for name in ("cron_parse", "cron_next", "cron_format"):
+    library.cron_c_next.argtypes = [pointer(Schedule)] + text + [pointer(Item)]
+    library.cron_c_format.argtypes = [pointer(Item)] + text + [pointer(size)]
+    for name in ("cron_c_parse", "cron_c_next", "cron_c_format"):
         getattr(library, name).restype = ctypes.c_uint32
     return library
 
@@ -35,7 +35,7 @@ def parse(library, text):
     text = text.encode()
     schedule, needed = Schedule(), ctypes.c_size_t()
     message = ctypes.create_string_buffer(2 * len(text) + 100)
-    status = library.cron_parse(text, len(text), schedule, message, len(message), needed)
+    status = library.cron_c_parse(text, len(text), schedule, message, len(message), needed)
     if status == REFUSED:
         raise ValueError(message.raw[: needed.value].decode())
     if status != OK:
@@ -54,15 +54,15 @@ def found(call, schedule, zone, instant):
 
 def items_after(library, schedule, zone, instant):
     """A walk over the items after an instant."""
-    item = found(library.cron_after, schedule, zone, instant)
+    item = found(library.cron_c_after, schedule, zone, instant)
     zone, status = zone.encode(), OK if item else NO_ITEM
     while status == OK:
         yield Item(item.instant, item.offset)
-        status = library.cron_next(schedule, zone, len(zone), item)
+        status = library.cron_c_next(schedule, zone, len(zone), item)
 
 
 def text_of(library, item):
     """The text of an item."""
     text, length = ctypes.create_string_buffer(32), ctypes.c_size_t()
-    library.cron_format(item, text, len(text), length)
+    library.cron_c_format(item, text, len(text), length)
     return text.raw[: length.value].decode()

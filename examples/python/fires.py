@@ -16,10 +16,10 @@ def main():
     restarted = 1667779200  # 2022-11-07T00:00:00Z
     schedule = parse(library, "0 30 1 * * *")
     for _ in range(3):
-        item = found(library.cron_fire_after, schedule, CHICAGO, now)
+        item = found(library.cron_c_fire_after, schedule, CHICAGO, now)
         print(text_of(library, item))  # sleep until `item.instant`, and run the job
         now = item.instant
-    item = found(library.cron_fire_by, schedule, CHICAGO, restarted)
+    item = found(library.cron_c_fire_by, schedule, CHICAGO, restarted)
     print(f"last: {text_of(library, item)}")
 
 

@@ -9,7 +9,7 @@ const REFUSED: u32 = 2;
 #[repr(C)]
 #[derive(Clone, Copy, Default)]
 struct Sets {
-    words: [u64; 10],
+    words: [u64; 16],
 }
 
 /// An item of a timeline: an instant in seconds, and how far the clock is ahead of UTC.
@@ -18,11 +18,12 @@ struct Sets {
 pub struct Item {
     pub instant: i64,
     pub offset: i32,
+    reserved: u32,
 }
 
 #[link(name = "cron_c", kind = "static")]
 unsafe extern "C" {
-    fn cron_parse(
+    fn cron_c_parse(
         text: *const u8,
         text_length: usize,
         schedule: *mut Sets,
@@ -30,34 +31,34 @@ unsafe extern "C" {
         message_length: usize,
         message_needed: *mut usize,
     ) -> u32;
-    fn cron_after(
+    fn cron_c_after(
         schedule: *const Sets,
         zone: *const u8,
         zone_length: usize,
         instant: i64,
         item: *mut Item,
     ) -> u32;
-    fn cron_fire_after(
+    fn cron_c_fire_after(
         schedule: *const Sets,
         zone: *const u8,
         zone_length: usize,
         instant: i64,
         item: *mut Item,
     ) -> u32;
-    fn cron_fire_by(
+    fn cron_c_fire_by(
         schedule: *const Sets,
         zone: *const u8,
         zone_length: usize,
         instant: i64,
         item: *mut Item,
     ) -> u32;
-    fn cron_next(
+    fn cron_c_next(
         schedule: *const Sets,
         zone: *const u8,
         zone_length: usize,
         item: *mut Item,
     ) -> u32;
-    fn cron_format(item: *const Item, text: *mut u8, text_length: usize, needed: *mut usize)
+    fn cron_c_format(item: *const Item, text: *mut u8, text_length: usize, needed: *mut usize)
     -> u32;
 }
 
@@ -73,7 +74,7 @@ impl Schedule {
         let mut needed = 0;
         // SAFETY: the pointers are those of live values that don't overlap, with their lengths.
         let status = unsafe {
-            cron_parse(
+            cron_c_parse(
                 text.as_ptr(),
                 text.len(),
                 &mut sets,
@@ -98,7 +99,7 @@ impl Schedule {
         let mut item = Item::default();
         // SAFETY: as above.
         let status =
-            unsafe { cron_fire_after(&self.0, zone.as_ptr(), zone.len(), instant, &mut item) };
+            unsafe { cron_c_fire_after(&self.0, zone.as_ptr(), zone.len(), instant, &mut item) };
         found(status, item)
     }
 
@@ -107,7 +108,7 @@ impl Schedule {
         let mut item = Item::default();
         // SAFETY: as above.
         let status =
-            unsafe { cron_fire_by(&self.0, zone.as_ptr(), zone.len(), instant, &mut item) };
+            unsafe { cron_c_fire_by(&self.0, zone.as_ptr(), zone.len(), instant, &mut item) };
         found(status, item)
     }
 
@@ -115,7 +116,7 @@ impl Schedule {
     pub fn after<'a>(&self, zone: &'a str, instant: i64) -> Result<Items<'a>, u32> {
         let mut item = Item::default();
         // SAFETY: as above.
-        let status = unsafe { cron_after(&self.0, zone.as_ptr(), zone.len(), instant, &mut item) };
+        let status = unsafe { cron_c_after(&self.0, zone.as_ptr(), zone.len(), instant, &mut item) };
         Ok(Items {
             schedule: *self,
             zone,
@@ -147,7 +148,7 @@ impl Iterator for Items<'_> {
         let mut item = answer;
         // SAFETY: as above.
         let status = unsafe {
-            cron_next(
+            cron_c_next(
                 &self.schedule.0,
                 self.zone.as_ptr(),
                 self.zone.len(),
@@ -164,7 +165,7 @@ impl fmt::Display for Item {
         let mut text = [0; 32];
         let mut needed = 0;
         // SAFETY: as above.
-        let status = unsafe { cron_format(self, text.as_mut_ptr(), text.len(), &mut needed) };
+        let status = unsafe { cron_c_format(self, text.as_mut_ptr(), text.len(), &mut needed) };
         if status != OK {
             return Err(fmt::Error);
         }

@@ -43,18 +43,19 @@ pub absent_of : (fields s : Sets) (z : TimeZone) (r : Reading) → fields ≡ s 
 absent_of fields s z r e absent = subst (λ (f : Sets). IsAbsent f z r) e absent
 
 -- what a struct shows at its offset is the reading that it is of
-pub moment_is : (o : Option Reading) (item : CronItem) (offset : Offset) → offset.seconds ≡ item.offset → IfSome o (ShowsAt item.instant offset)
+pub moment_is : (o : Option Reading) (item : CronItem) (offset : Offset) → item.reserved ≡ 0 → offset.seconds ≡ item.offset
+    → IfSome o (ShowsAt item.instant offset)
     → ((r : Reading) → ShowsAt item.instant offset r → o ≡ Some r)
     → MatchOption o ((r : Reading) → IsItem r item → r.second < seconds_in_range → ⊥) (λ r. IsItem r item × (r.second < seconds_in_range))
-moment_is None item offset e parts only = λ r is high.
+moment_is None item offset zero e parts only = λ r is high.
     let none : None ≡ Some r = only r (record {
       in_range = high;
       instant_is = sym is.instant_is;
       offset_is = offset_once r.offset offset (sym is.offset_is ∙ sym e);
     }) in
     absurd (cc)
-moment_is (Some m) item offset e parts only =
-    (record { instant_is = sym parts.instant_is; offset_is = sym e ∙ ap (λ (o : Offset). o.seconds) (sym parts.offset_is) }, parts.in_range)
+moment_is (Some m) item offset zero e parts only =
+    (record { instant_is = sym parts.instant_is; offset_is = sym e ∙ ap (λ (o : Offset). o.seconds) (sym parts.offset_is); reserved_is = zero }, parts.in_range)
 
 -- ---- a walk that goes on from an item
 

@@ -1,5 +1,5 @@
--- The numbers of statuses, as the header names them.
-use Rattle.std.specs.Prelude.{ℕ}
+-- The numbers of statuses, as the header names them, and of versions.
+use Rattle.std.specs.Prelude.{ℕ, ◌+◌, ◌*◌}
 use Rattle.cron_c.specs.declared.status.Status.{Status}
 use Rattle.cron_c.specs.declared.status.Status.TheVariants.{Done, NoItem, Refused, NotUtf8, BadZone, BadInstant, NotAnItem, Untold, More}
 
@@ -13,3 +13,6 @@ code_of BadInstant = 5
 code_of NotAnItem = 6
 code_of Untold = 7
 code_of More = 8
+
+abbrev pub version_number : ℕ → ℕ → ℕ → ℕ
+version_number major minor patch = major * 10_000 + minor * 100 + patch

@@ -1,5 +1,5 @@
 -- What the structs of numbers say.
-use Rattle.std.specs.Prelude.{not, cond, ◌==◌, ◌≡◌, ℕ, ◌+◌, ◌-◌, List}
+use Rattle.std.specs.Prelude.{not, cond, ◌==◌, ◌≡◌, ℕ, ◌+◌, ◌-◌, List, replicate}
 use Rattle.cron_units.specs.Sets.{Sets}
 use Rattle.cron_units.specs.Units.{TimeUnit, contains, set_of, with_mark}
 use Rattle.cron_units.specs.Units as units
@@ -38,8 +38,10 @@ pub record IsStructOf (sets : Sets) (s : CronSchedule) : Type 0 where
   pub months : IsWordOf units.months sets.months s.months
   pub days_of_week : IsWordOf units.days_of_week sets.days_of_week s.days_of_week
   pub years : (k : ℕ) → bit_of_three s.years_from_1970 s.years_from_2034 s.years_from_2098 k ≡ contains sets.years (units.years.least + k)
+  pub reserved : s.reserved ≡ replicate 6 0
 
 -- the struct is that of the reading: its instant in seconds since 1970-01-01T00:00:00Z, and how far its clock is ahead of UTC
 pub record IsItem (r : Reading) (item : CronItem) : Type 0 where
   pub instant_is : item.instant ≡ instant r
   pub offset_is : item.offset ≡ r.offset.seconds
+  pub reserved_is : item.reserved ≡ 0

@@ -50,7 +50,7 @@ fn fire(way: Way, schedule: &CronSchedule, zone: &[u8], second: i64, item: &mut 
 /// Writes the earliest of the items whose instant comes after this one, which is given by its seconds
 /// since 1970-01-01T00:00:00Z.
 #[unsafe(no_mangle)]
-pub extern "C" fn cron_fire_after(
+pub extern "C" fn cron_c_fire_after(
     schedule: &CronSchedule,
     zone: &[u8],
     instant: i64,
@@ -63,7 +63,7 @@ pub extern "C" fn cron_fire_after(
 
 /// Writes the latest of the items whose instant is this one or comes before it.
 #[unsafe(no_mangle)]
-pub extern "C" fn cron_fire_by(
+pub extern "C" fn cron_c_fire_by(
     schedule: &CronSchedule,
     zone: &[u8],
     instant: i64,
@@ -96,7 +96,7 @@ fn fire_at(schedule: &CronSchedule, zone: &[u8], second: i64, item: &mut CronIte
 
 /// Writes an item whose instant is this one.
 #[unsafe(no_mangle)]
-pub extern "C" fn cron_fire_at(
+pub extern "C" fn cron_c_fire_at(
     schedule: &CronSchedule,
     zone: &[u8],
     instant: i64,

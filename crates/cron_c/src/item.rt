@@ -10,12 +10,14 @@ use cron_moments::parts::moment_at;
 use jiff::tz::Offset;
 
 /// The instant of an item in seconds since 1970-01-01T00:00:00Z, and how far its clock is ahead of
-/// UTC in seconds. What the clock shows is their sum.
+/// UTC in seconds. What the clock shows is their sum. `reserved` is 0, and a struct that has another
+/// number there is none of an item.
 #[repr(C)]
 #[derive(Clone, Copy)]
 pub struct CronItem {
     pub instant: i64,
     pub offset: i32,
+    pub reserved: u32,
 }
 
 /// The struct of a moment.
@@ -25,16 +27,20 @@ pub fn item_of(moment: &Moment) -> CronItem
     CronItem {
         instant: moment.timestamp().as_second(),
         offset: moment.offset().seconds(),
+        reserved: 0,
     }
 }
 
-/// The moment of a struct; `None` where the offset is longer than 25:59:59, or the clock shows a
-/// civil second outside 1970 to 2100.
+/// The moment of a struct; `None` where the offset is longer than 25:59:59, the clock shows a civil
+/// second outside 1970 to 2100, or `reserved` isn't 0.
 pub fn moment_of(item: CronItem) -> Option<Moment>
     ensures { MatchOption result
         ((r : Reading) → IsItem r item → r.second < seconds_in_range → ⊥)
         (λ r. IsItem r item × (r.second < seconds_in_range)) }
 {
+    if item.reserved != 0 {
+        return None;
+    }
     let Ok(offset) = Offset::from_seconds(item.offset) else {
         return None;
     };

@@ -96,7 +96,7 @@ fn list_on(
 
 /// Writes the first items after an instant as far as they fit, and how many they are.
 #[unsafe(no_mangle)]
-pub extern "C" fn cron_list_after(
+pub extern "C" fn cron_c_list_after(
     schedule: &CronSchedule,
     zone: &[u8],
     instant: i64,
@@ -110,7 +110,7 @@ pub extern "C" fn cron_list_after(
 
 /// Writes the last items before an instant, the latest first.
 #[unsafe(no_mangle)]
-pub extern "C" fn cron_list_before(
+pub extern "C" fn cron_c_list_before(
     schedule: &CronSchedule,
     zone: &[u8],
     instant: i64,
@@ -124,7 +124,7 @@ pub extern "C" fn cron_list_before(
 
 /// Writes the items after an item as far as they fit, and how many they are.
 #[unsafe(no_mangle)]
-pub extern "C" fn cron_list_next(
+pub extern "C" fn cron_c_list_next(
     schedule: &CronSchedule,
     zone: &[u8],
     item: &CronItem,
@@ -138,7 +138,7 @@ pub extern "C" fn cron_list_next(
 
 /// Writes the items before an item, the latest first.
 #[unsafe(no_mangle)]
-pub extern "C" fn cron_list_prev(
+pub extern "C" fn cron_c_list_prev(
     schedule: &CronSchedule,
     zone: &[u8],
     item: &CronItem,

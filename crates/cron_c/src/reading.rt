@@ -59,7 +59,7 @@ fn parse(
 /// Reads a text into a schedule; or writes the message that refuses it to a buffer as far as it
 /// fits, and its whole length.
 #[unsafe(no_mangle)]
-pub extern "C" fn cron_parse(
+pub extern "C" fn cron_c_parse(
     text: &[u8],
     schedule: &mut CronSchedule,
     message: &mut [u8],

@@ -111,7 +111,7 @@ fn run_past(
 /// Writes the items whose instant comes after `last` and not after `now`, the earliest first, as far as
 /// they fit, and how many they are.
 #[unsafe(no_mangle)]
-pub extern "C" fn cron_fires_between(
+pub extern "C" fn cron_c_fires_between(
     schedule: &CronSchedule,
     zone: &[u8],
     last: i64,
@@ -126,7 +126,7 @@ pub extern "C" fn cron_fires_between(
 
 /// Writes the items that are later than an item, and whose instant isn't after `now`.
 #[unsafe(no_mangle)]
-pub extern "C" fn cron_fires_past(
+pub extern "C" fn cron_c_fires_past(
     schedule: &CronSchedule,
     zone: &[u8],
     item: &CronItem,

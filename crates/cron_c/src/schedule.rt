@@ -12,7 +12,7 @@ use cron_units::time_unit::layout::{
 /// second 0, day of the month 1 or Sunday; each word of years says from which year on it counts. The
 /// last day of each month is a day too where `last_day` isn't 0. What is given may have any bits, and
 /// one past that of the greatest ordinal means nothing. What is written has none, and `last_day` is 0
-/// or 1.
+/// or 1. What `reserved` holds means nothing, and what is written there is 0.
 #[repr(C)]
 #[derive(Clone, Copy)]
 pub struct CronSchedule {
@@ -26,6 +26,7 @@ pub struct CronSchedule {
     pub years_from_1970: u64,
     pub years_from_2034: u64,
     pub years_from_2098: u64,
+    pub reserved: [u64; 6],
 }
 
 /// The sets that a struct says.
@@ -64,5 +65,6 @@ pub fn schedule_of(fields: &ScheduleFields) -> CronSchedule
         years_from_1970,
         years_from_2034,
         years_from_2098,
+        reserved: [0; 6],
     }
 }

@@ -95,7 +95,7 @@ fn follow(way: Way, schedule: &CronSchedule, zone: &[u8], item: &mut CronItem) -
 
 /// Writes the first item after an instant, which is given by its seconds since 1970-01-01T00:00:00Z.
 #[unsafe(no_mangle)]
-pub extern "C" fn cron_after(
+pub extern "C" fn cron_c_after(
     schedule: &CronSchedule,
     zone: &[u8],
     instant: i64,
@@ -108,7 +108,7 @@ pub extern "C" fn cron_after(
 
 /// Writes the last item before an instant.
 #[unsafe(no_mangle)]
-pub extern "C" fn cron_before(
+pub extern "C" fn cron_c_before(
     schedule: &CronSchedule,
     zone: &[u8],
     instant: i64,
@@ -121,7 +121,7 @@ pub extern "C" fn cron_before(
 
 /// Puts the item after an item in its place.
 #[unsafe(no_mangle)]
-pub extern "C" fn cron_next(schedule: &CronSchedule, zone: &[u8], item: &mut CronItem) -> u32
+pub extern "C" fn cron_c_next(schedule: &CronSchedule, zone: &[u8], item: &mut CronItem) -> u32
     ensures { Answers (Follows Ahead (sets_of schedule.now) zone.now item.old item.new) result }
 {
     follow(Way::Ahead, schedule, zone, item).code()
@@ -129,7 +129,7 @@ pub extern "C" fn cron_next(schedule: &CronSchedule, zone: &[u8], item: &mut Cro
 
 /// Puts the item before an item in its place.
 #[unsafe(no_mangle)]
-pub extern "C" fn cron_prev(schedule: &CronSchedule, zone: &[u8], item: &mut CronItem) -> u32
+pub extern "C" fn cron_c_prev(schedule: &CronSchedule, zone: &[u8], item: &mut CronItem) -> u32
     ensures { Answers (Follows Back (sets_of schedule.now) zone.now item.old item.new) result }
 {
     follow(Way::Back, schedule, zone, item).code()

@@ -23,7 +23,7 @@ fn format(item: &CronItem, text: &mut [u8], text_length: &mut usize) -> Status
 
 /// Writes the text of an item to a buffer as far as it fits, and its whole length.
 #[unsafe(no_mangle)]
-pub extern "C" fn cron_format(item: &CronItem, text: &mut [u8], text_length: &mut usize) -> u32
+pub extern "C" fn cron_c_format(item: &CronItem, text: &mut [u8], text_length: &mut usize) -> u32
     ensures { Answers (Formats item.now text.old text.new text_length.new) result }
 {
     format(item, text, text_length).code()

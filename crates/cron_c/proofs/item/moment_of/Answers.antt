@@ -10,4 +10,5 @@ returns c =
     let offset : c.in-Ok.offset.seconds ≡ c.args.item.offset = search rules in
     let parts : IfSome c.moment_at.result (ShowsAt c.args.item.instant c.in-Ok.offset) = search rules in
     let only : (m : Reading) → ShowsAt c.args.item.instant c.in-Ok.offset m → c.moment_at.result ≡ Some m = search rules in
-    moment_is c.moment_at.result c.args.item c.in-Ok.offset offset parts only
+    let zero : c.args.item.reserved ≡ 0 = search rules in
+    moment_is c.moment_at.result c.args.item c.in-Ok.offset zero offset parts only

@@ -30,4 +30,5 @@ returns-clause-exact c = record {
   months = λ k. c.bits-4.ensures.bits k ∙ held _ _ (λ s. s.months) (1 + k) c.fields.view_is;
   days_of_week = λ k. c.bits-5.ensures.bits k ∙ held _ _ (λ s. s.days_of_week) (1 + k) c.fields.view_is;
   years = λ k. c.three-years_from_1970.ensures.bits k ∙ held _ _ (λ s. s.years) (1970 + k) c.fields.view_is;
+  reserved = refl;
 }

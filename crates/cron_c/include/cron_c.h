@@ -1,0 +1,280 @@
+/*
+ * Cron expressions from C: what a text means, and the items of its timeline in a zone.
+ *
+ * C11 or later, and C++11 or later. Link `libcron_c.a` or `libcron_c.so`, x86-64-v2 code for Linux
+ * (ELF). It needs no other library than that of C, takes no memory, keeps nothing between calls, and
+ * starts no thread. Each call reads and writes what its arguments point to and nothing else, so
+ * calls over different structs may run at the same time.
+ *
+ * Rules for every call, which no proof of the library can see:
+ *   - No pointer may be null, also where its length is 0.
+ *   - A pointer with a length points to so many bytes. A text or a message has no byte 0 at its end.
+ *   - What a call writes to overlaps nothing else that it is given.
+ */
+#ifndef CRON_C_H
+#define CRON_C_H
+
+#include <stddef.h>
+#include <stdint.h>
+
+#ifdef __cplusplus
+extern "C" {
+#endif
+
+/* The version of this header: 10,000 times its first number, 100 times its second, and its third. */
+#define CRON_C_VERSION 10000
+
+/* The version of the archive. Its first number is that of the header, or the structs may differ. */
+uint32_t cron_c_version(void);
+
+/* The name of the zone in which each day has 24 hours. */
+#define CRON_C_UTC "UTC"
+
+/* A literal as the two arguments of a text: its bytes and how many. */
+#define CRON_C_TEXT(literal) (literal), (sizeof(literal) - 1)
+
+/* The arguments for a message or a text that isn't wanted. */
+#define CRON_C_NO_TEXT ((char *)""), 0
+
+/* The least and the greatest instant that a call takes, in seconds since 1970-01-01T00:00:00Z. */
+#define CRON_C_LEAST_INSTANT INT64_C(-377705023201)
+#define CRON_C_GREATEST_INSTANT INT64_C(253402207200)
+
+/* The bytes that hold the text of any item, and the message that refuses a text of so many bytes. */
+#define CRON_C_ITEM_TEXT 29
+#define CRON_C_MESSAGE(text_length) (2 * (text_length) + 100)
+
+/*
+ * What a call answers. Where it is neither CRON_C_OK nor CRON_C_MORE, the structs that the call
+ * writes to are as they were.
+ */
+enum {
+    CRON_C_OK = 0,          /* What was asked for was written. */
+    CRON_C_NO_ITEM = 1,     /* The timeline has no item there. */
+    CRON_C_REFUSED = 2,     /* The text means nothing, and the message says why. */
+    CRON_C_NOT_UTF8 = 3,    /* The text isn't UTF-8. */
+    CRON_C_BAD_ZONE = 4,    /* The zone is neither `UTC` nor a rule text. */
+    CRON_C_BAD_INSTANT = 5, /* The instant is less than the least one, or past the greatest. */
+    CRON_C_NOT_AN_ITEM = 6, /* The given item isn't one of this schedule in this zone. */
+    CRON_C_UNTOLD = 7,      /* As CRON_C_REFUSED, but the message's length doesn't fit size_t. */
+    CRON_C_MORE = 8         /* What was asked for was written as far as it fits, and more is left. */
+};
+
+/* What a status says, in English. */
+static inline const char *cron_c_status_text(uint32_t status)
+{
+    switch (status) {
+    case CRON_C_OK: return "done";
+    case CRON_C_NO_ITEM: return "there is no such item";
+    case CRON_C_REFUSED: return "the text means nothing";
+    case CRON_C_NOT_UTF8: return "the text isn't UTF-8";
+    case CRON_C_BAD_ZONE: return "the zone is neither UTC nor a rule text";
+    case CRON_C_BAD_INSTANT: return "the instant is out of range";
+    case CRON_C_NOT_AN_ITEM: return "the item isn't one of the schedule in the zone";
+    case CRON_C_UNTOLD: return "the text means nothing, and the message has no length";
+    case CRON_C_MORE: return "more is left than fits";
+    default: return "no status";
+    }
+}
+
+/*
+ * A schedule: seven sets, a bit for each ordinal. Copy it and keep it as you like.
+ *
+ *   word            unit                        bits
+ *   seconds         0 to 59                     bit i is second i
+ *   minutes         0 to 59                     bit i is minute i
+ *   hours           0 to 23                     bit i is hour i
+ *   days_of_month   1 to 31                     bit i is day i + 1
+ *   last_day        0 or 1                      any number but 0: the last day of each month too
+ *   months          1 to 12                     bit i is month i + 1
+ *   days_of_week    1 to 7, from Sunday on      bit i is day i + 1
+ *   years_from_N    1970 to 2100                bit i is year N + i
+ *
+ * Every pattern of bits is a schedule. A bit outside the unit means nothing, and `cron_c_parse` sets
+ * none; it writes 0 or 1 as `last_day`. A unit without a bit has no ordinal, and the timeline then
+ * no item, but for days of the month with a `last_day`. What `reserved` holds means nothing yet:
+ * give 0, as `cron_c_parse` writes.
+ */
+typedef struct cron_c_schedule {
+    uint64_t seconds;
+    uint64_t minutes;
+    uint64_t hours;
+    uint64_t days_of_month;
+    uint64_t last_day;
+    uint64_t months;
+    uint64_t days_of_week;
+    uint64_t years_from_1970;
+    uint64_t years_from_2034;
+    uint64_t years_from_2098;
+    uint64_t reserved[6];
+} cron_c_schedule;
+
+/*
+ * An item of a timeline: an instant, in seconds since 1970-01-01T00:00:00Z, and how far the clock of
+ * the zone is ahead of UTC at it, in seconds. What the clock shows is the sum of both. In a fold the
+ * clock shows the same twice, and the two items differ in both numbers. `reserved` is 0. The struct
+ * has no padding, so items are the same where their bytes are.
+ */
+typedef struct cron_c_item {
+    int64_t instant;
+    int32_t offset;
+    uint32_t reserved;
+} cron_c_item;
+
+/*
+ * Reads a text, as `0 0,30 9 * * Mon-Fri` or `@daily`, into `schedule`.
+ *
+ * CRON_C_OK, CRON_C_REFUSED, CRON_C_NOT_UTF8 or CRON_C_UNTOLD. With CRON_C_REFUSED the front of the
+ * message is written to `message`, as far as it fits, and the length of the whole message to
+ * `*message_needed`, which is 0 with each other status. A message is shorter than twice the text and
+ * 100 bytes.
+ */
+uint32_t cron_c_parse(const char *text, size_t text_length,
+                      cron_c_schedule *schedule,
+                      char *message, size_t message_length, size_t *message_needed);
+
+/*
+ * Which call to use:
+ *
+ *   a scheduler, and whoever asks what was missed    by instants: `cron_c_fire_after` and its like
+ *   a calendar, and whoever lists what clocks show   the walk: `cron_c_after` and its like
+ *
+ * They differ only where a clock goes back. The walk goes along the times that the clock shows, and
+ * answers both readings of a repeated one before the next. By instants the items come as time
+ * passes.
+ */
+
+/*
+ * Writes to `item` the earliest of the items whose instant comes after the given one; or,
+ * `cron_c_fire_by`, the latest of those whose instant is the given one or comes before it. Each is
+ * exact in every zone, also where a clock goes back, and may be asked anew from the instant of its
+ * answer. Two items share an instant only in zones whose rule contradicts itself; of these
+ * `cron_c_fire_after` answers the one that shows less, and `cron_c_fire_by` the other. For an
+ * instant with a part of a second give the second that has begun.
+ *
+ * `zone` is `UTC`, or a rule text as POSIX has it, as `CST6CDT,M3.2.0,M11.1.0`.
+ *
+ * CRON_C_OK, CRON_C_NO_ITEM, CRON_C_BAD_ZONE or CRON_C_BAD_INSTANT.
+ */
+uint32_t cron_c_fire_after(const cron_c_schedule *schedule,
+                           const char *zone, size_t zone_length,
+                           int64_t instant, cron_c_item *item);
+uint32_t cron_c_fire_by(const cron_c_schedule *schedule,
+                        const char *zone, size_t zone_length,
+                        int64_t instant, cron_c_item *item);
+
+/*
+ * Writes to `item` the item whose instant is the given one; of two that share it that which shows
+ * more.
+ *
+ * CRON_C_OK, CRON_C_NO_ITEM, CRON_C_BAD_ZONE or CRON_C_BAD_INSTANT.
+ */
+uint32_t cron_c_fire_at(const cron_c_schedule *schedule,
+                        const char *zone, size_t zone_length,
+                        int64_t instant, cron_c_item *item);
+
+/*
+ * Writes to `items` the items whose instant comes after `last` and not after `now`, the earliest
+ * first, as far as they fit, and to `*count` how many they are. `cron_c_fires_past` does so with the
+ * items that are later than a given one, which may be none of the timeline: by it a list goes on
+ * from the last item of a page, and a run after a restart from the item that was noted. Copy that
+ * item first, since `items` is written to. No item is left out or comes twice at the seam of two
+ * pages, nor at that of two stretches from one instant to the next.
+ *
+ * CRON_C_OK where these are all; CRON_C_MORE where `items` is full and others are left;
+ * CRON_C_BAD_ZONE or CRON_C_BAD_INSTANT; or of `cron_c_fires_past` CRON_C_NOT_AN_ITEM, where the
+ * clock shows a year outside 1970 to 2100, the offset is longer than 25:59:59, or `reserved` isn't 0.
+ * With the last three `*count` is 0.
+ */
+uint32_t cron_c_fires_between(const cron_c_schedule *schedule,
+                              const char *zone, size_t zone_length,
+                              int64_t last, int64_t now,
+                              cron_c_item *items, size_t items_length, size_t *count);
+uint32_t cron_c_fires_past(const cron_c_schedule *schedule,
+                           const char *zone, size_t zone_length,
+                           const cron_c_item *item, int64_t now,
+                           cron_c_item *items, size_t items_length, size_t *count);
+
+/*
+ * Writes to `item` the first item from the civil second on that a clock in the zone shows one second
+ * after the instant; or, `cron_c_before`, the last one up to the civil second that it shows one
+ * second before. Where the clock shows each second once, an item at the very instant is answered by
+ * neither. For an instant with a part of a second give `cron_c_after` the second that has begun, and
+ * `cron_c_before` the one after it.
+ *
+ * Where a clock goes back, it shows an hour twice, and a search from an instant in it may leave out
+ * items after that instant, or answer the instant itself. In Chicago on 2022-11-06 `0 30 1 * * *`
+ * after 06:30Z is not the second 01:30, at 07:30Z, but the next day's; and `59 59 1 * * *` after
+ * 06:59:59Z is 06:59:59Z. So don't ask anew from an item's instant: `cron_c_next` goes on from the
+ * item itself, and `cron_c_fire_after` asks by instants.
+ *
+ * CRON_C_OK, CRON_C_NO_ITEM, CRON_C_BAD_ZONE or CRON_C_BAD_INSTANT.
+ */
+uint32_t cron_c_after(const cron_c_schedule *schedule,
+                      const char *zone, size_t zone_length,
+                      int64_t instant, cron_c_item *item);
+uint32_t cron_c_before(const cron_c_schedule *schedule,
+                       const char *zone, size_t zone_length,
+                       int64_t instant, cron_c_item *item);
+
+/*
+ * Puts the item after `*item`, or before it, in its place. Both items of a fold are told apart.
+ *
+ * CRON_C_OK, CRON_C_NO_ITEM, CRON_C_BAD_ZONE or CRON_C_NOT_AN_ITEM.
+ */
+uint32_t cron_c_next(const cron_c_schedule *schedule,
+                     const char *zone, size_t zone_length, cron_c_item *item);
+uint32_t cron_c_prev(const cron_c_schedule *schedule,
+                     const char *zone, size_t zone_length, cron_c_item *item);
+
+/*
+ * Writes to `items` the first items after the instant, in order; or, `cron_c_list_before`, the last
+ * ones before it, the latest first: as many as fit, and fewer only where the timeline ends. The
+ * instant is meant as by `cron_c_after` and `cron_c_before`, with what is said there of an hour that
+ * comes twice: go on from the last item, and not with a list from its instant. `*count` tells how
+ * many were written.
+ *
+ * CRON_C_OK, also where there is none; CRON_C_BAD_ZONE or CRON_C_BAD_INSTANT, and `*count` is then
+ * 0.
+ */
+uint32_t cron_c_list_after(const cron_c_schedule *schedule,
+                           const char *zone, size_t zone_length,
+                           int64_t instant,
+                           cron_c_item *items, size_t items_length, size_t *count);
+uint32_t cron_c_list_before(const cron_c_schedule *schedule,
+                            const char *zone, size_t zone_length,
+                            int64_t instant,
+                            cron_c_item *items, size_t items_length, size_t *count);
+
+/*
+ * The same from an item on: `cron_c_list_next` writes those after it, `cron_c_list_prev` those
+ * before it. So pages lose nothing where a clock goes back. Copy the last item of a page first,
+ * since `items` is written to.
+ *
+ * CRON_C_OK, also where there is none; CRON_C_BAD_ZONE or CRON_C_NOT_AN_ITEM, and `*count` is then
+ * 0.
+ */
+uint32_t cron_c_list_next(const cron_c_schedule *schedule,
+                          const char *zone, size_t zone_length,
+                          const cron_c_item *item,
+                          cron_c_item *items, size_t items_length, size_t *count);
+uint32_t cron_c_list_prev(const cron_c_schedule *schedule,
+                          const char *zone, size_t zone_length,
+                          const cron_c_item *item,
+                          cron_c_item *items, size_t items_length, size_t *count);
+
+/*
+ * Writes the text of an item, as `2022-11-06 01:00:00 -05:00`, to `text`, as far as it fits, and its
+ * whole length to `*text_needed`: 26, or 29 where the offset has seconds.
+ *
+ * CRON_C_OK; or CRON_C_NOT_AN_ITEM where the clock shows a year outside 1970 to 2100, the offset is
+ * longer than 25:59:59, or `reserved` isn't 0, and `*text_needed` is then 0.
+ */
+uint32_t cron_c_format(const cron_c_item *item,
+                       char *text, size_t text_length, size_t *text_needed);
+
+#ifdef __cplusplus
+}
+#endif
+
+#endif

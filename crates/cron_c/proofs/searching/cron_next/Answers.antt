@@ -1,4 +1,0 @@
-use Rattle.cron_c.proofs.searching.cron_next.Goals as goal
-
-pub returns : goal.returns
-returns c = (c.follow.result, c.follow.ensures, c.code.ensures)

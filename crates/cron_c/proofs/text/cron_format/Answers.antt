@@ -1,4 +1,0 @@
-use Rattle.cron_c.proofs.text.cron_format.Goals as goal
-
-pub returns : goal.returns
-returns c = (c.format.result, c.format.ensures, c.code.ensures)

@@ -1,0 +1,17 @@
+"""What can be wrong with what is given."""
+
+
+class CronError(ValueError):
+    """A text, a zone or an instant is refused."""
+
+
+class TextError(CronError):
+    """The text means nothing, and the message says why."""
+
+
+class ZoneError(CronError):
+    """The zone has no file that is known, or none that can be read, or an offset with a part of a second."""
+
+
+class InstantError(CronError):
+    """The instant has no zone."""

@@ -1,0 +1,80 @@
+"""The calls of the shared library."""
+
+from __future__ import annotations
+
+import ctypes
+import pathlib
+from typing import Optional
+
+from .errors import CronError, TextError, ZoneError
+
+OK, NO_ITEM, REFUSED, NOT_UTF8, BAD_ZONE, MORE = 0, 1, 2, 3, 4, 8
+LEAST_INSTANT, GREATEST_INSTANT = -377705023201, 253402207200
+
+
+class Sets(ctypes.Structure):
+    """Seven sets of numbers as words of bits."""
+
+    _fields_ = [("words", ctypes.c_uint64 * 16)]
+
+
+class Item(ctypes.Structure):
+    """An instant in seconds since 1970, and how far the clock is ahead of UTC."""
+
+    _fields_ = [("instant", ctypes.c_int64), ("offset", ctypes.c_int32), ("reserved", ctypes.c_uint32)]
+
+
+def _load() -> ctypes.CDLL:
+    library = ctypes.CDLL(str(pathlib.Path(__file__).with_name("libcron_c.so")))
+    size, pointer, instant = ctypes.c_size_t, ctypes.POINTER, ctypes.c_int64
+    text = [ctypes.c_char_p, size]
+    page = [pointer(Item), size, pointer(size)]
+    library.cron_c_parse.argtypes = text + [pointer(Sets)] + text + [pointer(size)]
+    library.cron_c_fire_after.argtypes = [pointer(Sets)] + text + [instant, pointer(Item)]
+    library.cron_c_fire_by.argtypes = [pointer(Sets)] + text + [instant, pointer(Item)]
+    library.cron_c_fires_between.argtypes = [pointer(Sets)] + text + [instant, instant] + page
+    for call in ("parse", "fire_after", "fire_by", "fires_between"):
+        getattr(library, f"cron_c_{call}").restype = ctypes.c_uint32
+    return library
+
+
+_LIBRARY = _load()
+
+
+def parse(text: str) -> Sets:
+    """The sets that a text means."""
+    told = text.encode("utf-8", "surrogatepass")
+    sets, needed = Sets(), ctypes.c_size_t()
+    message = ctypes.create_string_buffer(2 * len(told) + 100)
+    status = _LIBRARY.cron_c_parse(told, len(told), sets, message, len(message), needed)
+    if status == REFUSED:
+        raise TextError(message.raw[: needed.value].decode())
+    if status == NOT_UTF8:
+        raise TextError("The text isn't UTF-8.")
+    if status != OK:
+        raise CronError(f"status {status}")
+    return sets
+
+
+def _found(status: int, item: Item, zone: bytes) -> Optional[int]:
+    if status == OK:
+        return item.instant
+    if status == NO_ITEM:
+        return None
+    raise ZoneError(f"no zone: {zone!r}") if status == BAD_ZONE else CronError(f"status {status}")
+
+
+def _within(instant: int) -> int:
+    return max(LEAST_INSTANT, min(GREATEST_INSTANT, instant))
+
+
+def fire_after(sets: Sets, zone: bytes, instant: int) -> Optional[int]:
+    """Of the instants after this one at which it fires the earliest."""
+    item = Item()
+    return _found(_LIBRARY.cron_c_fire_after(sets, zone, len(zone), _within(instant), item), item, zone)
+
+
+def fire_by(sets: Sets, zone: bytes, instant: int) -> Optional[int]:
+    """Of the instants up to this one at which it fires the latest."""
+    item = Item()
+    return _found(_LIBRARY.cron_c_fire_by(sets, zone, len(zone), _within(instant), item), item, zone)

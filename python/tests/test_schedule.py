@@ -1,0 +1,100 @@
+"""What a schedule answers, and what it refuses."""
+
+import doctest
+import io
+import itertools
+import unittest
+from datetime import datetime, timedelta, timezone
+from zoneinfo import ZoneInfo
+
+import cron_c
+from cron_c import InstantError, Schedule, TextError, ZoneError
+
+CHICAGO = ZoneInfo("America/Chicago")
+UTC = timezone.utc
+
+
+def chicago(*parts, fold=0):
+    return datetime(*parts, tzinfo=CHICAGO, fold=fold)
+
+
+class Answers(unittest.TestCase):
+    def test_a_fold_has_both_readings(self):
+        schedule = Schedule("0 30 1 * * *")
+        first, second = chicago(2022, 11, 6, 1, 30), chicago(2022, 11, 6, 1, 30, fold=1)
+        self.assertEqual(schedule.after(first).isoformat(), "2022-11-06T01:30:00-06:00")
+        self.assertEqual(schedule.after(second).isoformat(), "2022-11-07T01:30:00-06:00")
+        self.assertEqual(schedule.before(second).isoformat(), "2022-11-06T01:30:00-05:00")
+        self.assertEqual(schedule.before(second.replace(microsecond=1)).fold, 1)
+
+    def test_a_gap_is_passed_over(self):
+        answer = Schedule("0 30 2 * * *").after(chicago(2022, 3, 12, 12))
+        self.assertEqual(answer.isoformat(), "2022-03-14T02:30:00-05:00")
+
+    def test_the_past_has_its_own_clock_changes(self):
+        # In 1974 the clock went forward on 6 January.
+        answers = Schedule("0 0 12 1,10 1 * 1974").between(chicago(1973, 12, 1), chicago(1974, 2, 1))
+        self.assertEqual([it.isoformat() for it in answers], ["1974-01-01T12:00:00-06:00", "1974-01-10T12:00:00-05:00"])
+
+    def test_pages_of_fires_are_the_list(self):
+        schedule, start = Schedule("0 */20 * * * *"), chicago(2022, 11, 6)
+        listed = schedule.between(start, chicago(2022, 11, 6, 6))
+        self.assertEqual(len(listed), 21)
+        self.assertEqual(list(itertools.islice(schedule.fires(start), 21)), listed)
+
+    def test_the_ends(self):
+        schedule = Schedule("0 0 0 1 1 * 1970,2100")
+        self.assertEqual(schedule.after(datetime(1, 1, 2, tzinfo=UTC)), datetime(1970, 1, 1, tzinfo=UTC))
+        self.assertEqual(schedule.before(datetime(9999, 12, 30, tzinfo=UTC)), datetime(2100, 1, 1, tzinfo=UTC))
+        self.assertIsNone(schedule.after(datetime(2100, 1, 1, tzinfo=UTC)))
+        self.assertIsNone(schedule.before(datetime(1970, 1, 1, tzinfo=UTC)))
+        self.assertEqual(list(schedule.fires(chicago(2100, 1, 2))), [])
+
+    def test_offsets(self):
+        zone = timezone(timedelta(hours=5, minutes=45, seconds=30))
+        answer = Schedule("0 0 9 * * *").after(datetime(2024, 1, 1, 9, tzinfo=zone))
+        self.assertEqual(answer.isoformat(), "2024-01-02T09:00:00+05:45:30")
+        west = Schedule("0 0 9 * * *").before(datetime(2024, 1, 1, 9, tzinfo=timezone(-timedelta(hours=3, minutes=30))))
+        self.assertEqual(west.isoformat(), "2023-12-31T09:00:00-03:30")
+
+    def test_same_sets_are_equal(self):
+        self.assertEqual(Schedule("@daily"), Schedule("0 0 0 * * *"))
+        self.assertEqual(len({Schedule("@daily"), Schedule("0 0 0 * * ?")}), 1)
+        self.assertNotEqual(Schedule("@daily"), Schedule("@hourly"))
+        self.assertEqual(repr(Schedule("@daily")), "Schedule('@daily')")
+
+
+def load_tests(loader, tests, pattern):
+    tests.addTests(doctest.DocTestSuite(cron_c))
+    return tests
+
+
+class Refusals(unittest.TestCase):
+    def test_a_text_is_refused_with_its_message(self):
+        with self.assertRaisesRegex(TextError, r"^Hours must be less than 23\. \('25' specified\.\)$"):
+            Schedule("0 0 25 * * *")
+
+    def test_a_lone_surrogate_is_no_text(self):
+        with self.assertRaises(TextError):
+            Schedule("\udc80")
+
+    def test_a_naive_datetime_is_no_instant(self):
+        with self.assertRaises(InstantError):
+            Schedule("@daily").after(datetime(2024, 1, 1))
+        with self.assertRaises(InstantError):
+            Schedule("@daily").between(datetime(2024, 1, 1, tzinfo=UTC), datetime(2024, 1, 2))
+
+    def test_a_zone_without_a_key_is_refused(self):
+        header = b"TZif" + bytes(16) + (0).to_bytes(4, "big") * 4 + (1).to_bytes(4, "big") + (4).to_bytes(4, "big")
+        zone = ZoneInfo.from_file(io.BytesIO(header + bytes(6) + b"UTC\0"))
+        with self.assertRaisesRegex(ZoneError, "the zone has no key"):
+            Schedule("@daily").after(datetime(2024, 1, 1, tzinfo=zone))
+
+    def test_an_offset_with_a_part_of_a_second_is_refused(self):
+        zone = timezone(timedelta(microseconds=1))
+        with self.assertRaisesRegex(ZoneError, "part of a second"):
+            Schedule("@daily").after(datetime(2024, 1, 1, tzinfo=zone))
+
+
+if __name__ == "__main__":
+    unittest.main()
