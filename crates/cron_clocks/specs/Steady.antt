@@ -17,11 +17,15 @@ readings_at c (Some o) (Some p) = reading c o ∷ reading c p ∷ []
 abbrev pub IsToldBy : AmbiguousOffset → Option Offset → Option Offset → Type 0
 IsToldBy a earlier later = (k : ℕ) → readings_at k earlier later ≡ readings_by k a
 
--- each civil second of the stretch has its readings at the offsets of the stretch
+-- each civil second of the stretch, if there is one, has its readings at the offsets of the stretch
+abbrev pub IsKnown : TimeZone → Stretch → Type 0
+IsKnown z st = (k : ℕ) → st.first ≤ k → k < st.end → readings z k ≡ readings_at k st.earlier st.later
+
+-- there is one
 pub record IsSteady (z : TimeZone) (st : Stretch) : Type 0 where
   pub some : st.first < st.end
   pub high : st.end ≤ seconds_in_range
-  pub same : (k : ℕ) → st.first ≤ k → k < st.end → readings z k ≡ readings_at k st.earlier st.later
+  pub same : IsKnown z st
 
 -- the whole range at one offset
 abbrev pub whole_range : Offset → Stretch

@@ -1,13 +1,16 @@
 //! Stretches of civil seconds that have their readings at the same offsets.
-ghost use Rattle.std.specs.Prelude.{◌≡◌, ◌+◌, ◌≤◌, ◌<◌};
+ghost use Rattle.std.specs.Prelude.{◌≡◌, ◌+◌, ◌≤◌, ◌<◌, IsTrue};
 ghost use Rattle.jiff.specs.Words.{plain_zone};
 ghost use Rattle.jiff_tz.specs.Zone.{ambiguous_at};
 ghost use Rattle.jiff_tz.specs.declared.timezone.TimeZone.TheVariants.{Posix};
 ghost use Rattle.cron_moments.specs.Civil.{civil, seconds_in_range};
-ghost use Rattle.cron_clocks.specs.Steady.{IsSteady, IsToldBy, whole_range};
+ghost use Rattle.cron_moments.specs.Found.{items_if_any};
+ghost use Rattle.cron_clocks.specs.Steady.{IsSteady, IsToldBy, readings_at, whole_range};
 
 use crate::rule::span_at;
 use cron_moments::civil::{SECONDS, civil_of};
+use cron_moments::moment::moment_numbered;
+use cron_moments::readings::Found;
 use jiff::tz::{AmbiguousOffset, Offset, TimeZone};
 use jiff_tz::posix;
 
@@ -83,6 +86,41 @@ fn between_turns(zone: &TimeZone<'_>, rule: posix::TimeZone, second: u32) -> Str
 }
 
 impl Stretch {
+    /// No civil second at all.
+    #[inline(always)]
+    pub fn empty() -> Stretch
+        ensures { result.end ≡ 0 }
+    {
+        Stretch {
+            first: 0,
+            end: 0,
+            earlier: None,
+            later: None,
+        }
+    }
+
+    /// Whether the civil second lies in the stretch.
+    #[inline(always)]
+    pub fn has(&self, second: u32) -> bool
+        ensures { IsTrue result → (self.now.first ≤ second) × (second < self.now.end) }
+    {
+        self.first <= second && second < self.end
+    }
+
+    /// The readings of a civil second at the offsets of the stretch.
+    #[inline(always)]
+    pub fn readings(&self, second: u32) -> Option<Found>
+        ensures { items_if_any result ≡ readings_at second self.now.earlier self.now.later }
+    {
+        let earlier = self.earlier?;
+        let first = moment_numbered(second, earlier);
+        let second = match self.later {
+            Some(later) => Some(moment_numbered(second, later)),
+            None => None,
+        };
+        Some(Found { first, second })
+    }
+
     /// A stretch with this civil second in it.
     pub fn at(zone: &TimeZone<'_>, second: u32) -> Stretch
         requires { second < seconds_in_range }

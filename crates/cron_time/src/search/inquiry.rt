@@ -9,7 +9,9 @@ ghost use Rattle.cron_time.specs.Search.Inner.Inquired.{Inquired, unasked, one_d
 ghost use Rattle.cron_moments.specs.Calendar.{day_number, length_of, first_month, months_end};
 ghost use Rattle.cron_moments.specs.Calendar.{weekday_number};
 ghost use Rattle.cron_moments.specs.Readings.{readings};
+ghost use Rattle.cron_clocks.specs.Steady.{IsKnown};
 
+use crate::search::known::Known;
 use cron_moments::calendar::{KnownMonth, weekday_of};
 use cron_moments::readings::{Found, readings_of};
 use cron_units::fields::ScheduleFields;
@@ -34,7 +36,7 @@ pub(crate) enum Unit {
 pub(crate) struct Inquiry<'a> {
     fields: &'a ScheduleFields,
     zone: &'a TimeZone<'a>,
-    month: KnownMonth,
+    known: Known,
     days: u64,
     conversions: u64,
     questions: u64,
@@ -53,28 +55,33 @@ impl<'a> Model for Inquiry<'a> {
       conversions = i.conversions;
       questions = i.questions;
     } };
+
+    ghost use Rattle.cron_clocks.specs.Steady.{IsKnown};
+
+    ghost invariant = { λ i. IsKnown (plain_zone i.zone.now) i.known.stretch };
 }
 
 impl<'a> Inquiry<'a> {
     pub(crate) fn new(fields: &'a ScheduleFields, zone: &'a TimeZone<'a>) -> Inquiry<'a>
         ensures { result ≡ unasked fields.now (plain_zone zone.now) }
     {
-        Inquiry::knowing(fields, zone, KnownMonth::january_1970())
+        Inquiry::knowing(fields, zone, Known::nothing())
     }
 
-    /// Nothing is asked yet, and a month is known from earlier.
+    /// Nothing is asked yet.
     #[inline(always)]
     pub(crate) fn knowing(
         fields: &'a ScheduleFields,
         zone: &'a TimeZone<'a>,
-        month: KnownMonth,
+        known: Known,
     ) -> Inquiry<'a>
+        requires { IsKnown (plain_zone zone.now) known.stretch }
         ensures { result ≡ unasked fields.now (plain_zone zone.now) }
     {
         Inquiry {
             fields,
             zone,
-            month,
+            known,
             days: 0,
             conversions: 0,
             questions: 0,
@@ -84,7 +91,15 @@ impl<'a> Inquiry<'a> {
     /// The month of the date that was made last.
     #[inline(always)]
     pub(crate) fn month(&self) -> KnownMonth {
-        self.month
+        self.known.month
+    }
+
+    /// What the next search may begin with.
+    #[inline(always)]
+    pub(crate) fn known(&self) -> Known
+        ensures { IsKnown self.now.zone result.stretch }
+    {
+        self.known
     }
 
     /// The dates that were made and tested.
@@ -148,8 +163,8 @@ impl<'a> Inquiry<'a> {
         ensures counted { self.new ≡ one_day self.old }
     {
         self.days += 1;
-        self.month = self.month.or_numbered(month);
-        let number = self.month.number_of(day);
+        self.known.month = self.known.month.or_numbered(month);
+        let number = self.known.month.number_of(day);
         if !self.fields.includes_weekday(weekday_of(number)) {
             return None;
         }
@@ -164,6 +179,9 @@ impl<'a> Inquiry<'a> {
         ensures counted { self.new ≡ one_conversion self.old }
     {
         self.conversions += 1;
+        if self.known.stretch.has(second) {
+            return self.known.stretch.readings(second);
+        }
         readings_of(self.zone, second)
     }
 }

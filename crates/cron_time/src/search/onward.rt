@@ -4,6 +4,7 @@ ghost use Rattle.jiff.specs.Words.{plain_zone};
 ghost use Rattle.cron_moments.specs.Civil.{days_in_range, seconds_in_range};
 ghost use Rattle.cron_moments.specs.CivilDates.{date_numbered};
 ghost use Rattle.cron_moments.specs.Found.{found_items};
+ghost use Rattle.cron_clocks.specs.Steady.{IsKnown};
 ghost use Rattle.cron_time.specs.Search.Inner.Blocks.{AllFail};
 ghost use Rattle.cron_time.specs.Search.Inner.DaySearch.{FindsPastDay, FindsTimePast};
 ghost use Rattle.cron_time.specs.Search.Inner.Inquired.{IsSame};
@@ -13,10 +14,10 @@ ghost use Rattle.cron_time.specs.Search.{IsFound};
 
 use crate::search::days::{day_past, day_with};
 use crate::search::inquiry::Inquiry;
+use crate::search::known::Known;
 use crate::search::neighbours::time_past;
 use crate::search::ways::past;
 use crate::search::{SECONDS_PER_DAY, search_candidates, search_times, start_of};
-use cron_moments::calendar::KnownMonth;
 use cron_moments::readings::Found;
 use cron_units::fields::ScheduleFields;
 use cron_units::way::Way;
@@ -63,7 +64,8 @@ fn search_days_past<const BACK: bool>(
     requires matching { matches_date inquiry.old.sets (date_numbered (second / 86_400)).0 ≡ true }
     requires days_room { inquiry.old.days < 2 ^ 60 }
     requires room { inquiry.old.conversions < 2 ^ 60 }
-    ensures { FindsPastDay way inquiry.old.sets inquiry.old.zone second result }
+    ensures finds { FindsPastDay way inquiry.old.sets inquiry.old.zone second result }
+    ensures same { IsSame inquiry.old inquiry.new }
 {
     let start = start_of(way, beyond_day(way, second / SECONDS_PER_DAY))?;
     let first = day_past(inquiry, way, day_with(inquiry.month(), second));
@@ -77,7 +79,8 @@ fn search_days_past_either_way(inquiry: &mut Inquiry<'_>, way: Way, second: u32)
     requires matching { matches_date inquiry.old.sets (date_numbered (second / 86_400)).0 ≡ true }
     requires days_room { inquiry.old.days < 2 ^ 60 }
     requires room { inquiry.old.conversions < 2 ^ 60 }
-    ensures { FindsPastDay way inquiry.old.sets inquiry.old.zone second result }
+    ensures finds { FindsPastDay way inquiry.old.sets inquiry.old.zone second result }
+    ensures same { IsSame inquiry.old inquiry.new }
 {
     match way {
         Way::Ahead => search_days_past::<false>(inquiry, Way::Ahead, second),
@@ -86,22 +89,24 @@ fn search_days_past_either_way(inquiry: &mut Inquiry<'_>, way: Way, second: u32)
 }
 
 // The days past an item's own, in a new inquiry and out of the way of the items of the own day. It begins
-// with the month that the search before knew, and leaves the one that it knows.
+// with what the search before knew, and leaves what it knows.
 #[inline(never)]
 fn days_past(
     fields: &ScheduleFields,
     zone: &TimeZone<'_>,
     way: Way,
     second: u32,
-    month: &mut KnownMonth,
+    known: &mut Known,
 ) -> Option<Found>
     requires in_range { second < seconds_in_range }
     requires matching { matches_date fields.now (date_numbered (second / 86_400)).0 ≡ true }
-    ensures { FindsPastDay way fields.now (plain_zone zone.now) second result }
+    requires known { IsKnown (plain_zone zone.now) known.old.stretch }
+    ensures finds { FindsPastDay way fields.now (plain_zone zone.now) second result }
+    ensures known { IsKnown (plain_zone zone.now) known.new.stretch }
 {
-    let mut inquiry = Inquiry::knowing(fields, zone, *month);
+    let mut inquiry = Inquiry::knowing(fields, zone, *known);
     let found = search_days_past_either_way(&mut inquiry, way, second);
-    *month = inquiry.month();
+    *known = inquiry.known();
     found
 }
 
@@ -113,22 +118,25 @@ pub(crate) fn search_past(
     zone: &TimeZone<'_>,
     way: Way,
     second: u32,
-    month: &mut KnownMonth,
+    known: &mut Known,
 ) -> Option<Found>
     requires in_range { second < seconds_in_range }
     requires matching { matches_date fields.now (date_numbered (second / 86_400)).0 ≡ true }
     requires member { matches_second fields.now (second % 86_400) ≡ true }
-    ensures { IsFound way
+    requires known { IsKnown (plain_zone zone.now) known.old.stretch }
+    ensures found { IsFound way
         fields.now
         (plain_zone zone.now)
         (beyond way second)
         (option_map found_items result) }
+    ensures known { IsKnown (plain_zone zone.now) known.new.stretch }
 {
     let day = second / SECONDS_PER_DAY;
-    let mut inquiry = Inquiry::new(fields, zone);
+    let mut inquiry = Inquiry::knowing(fields, zone, *known);
     let found = search_times_past(&mut inquiry, way, day, second % SECONDS_PER_DAY);
+    *known = inquiry.known();
     if found.is_some() {
         return found;
     }
-    days_past(fields, zone, way, second, month)
+    days_past(fields, zone, way, second, known)
 }

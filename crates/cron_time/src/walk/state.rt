@@ -3,8 +3,10 @@ ghost use Rattle.std.specs.Prelude.{◌≡◌, Some};
 ghost use Rattle.cron_time.specs.Walk.Inner.Placed.{answer_of, reading_of, stand_of, stop_of};
 ghost use Rattle.cron_time.specs.Walk.Inner.Stand as kept;
 ghost use Rattle.cron_moments.specs.Readings.{Reading};
+ghost use Rattle.cron_clocks.specs.Steady.{IsKnown};
+ghost use Rattle.jiff_tz.specs.declared.timezone.TimeZone.{TimeZone};
 
-use cron_moments::calendar::KnownMonth;
+use crate::search::known::Known;
 use cron_moments::moment::{Moment, moment_numbered};
 use cron_moments::readings::Found;
 use cron_units::way::Way;
@@ -23,20 +25,21 @@ pub(crate) enum Stage {
 }
 
 /// The stage of a walk, the readings of its civil second, and the instant that it started from. What
-/// the stage doesn't speak of means nothing. The month is the one that was looked up last.
+/// the stage doesn't speak of means nothing. What is known is what the searches before found out.
 #[derive(Clone, Copy)]
 pub struct State {
     pub(crate) stage: Stage,
     pub(crate) earlier: Moment,
     pub(crate) later: Moment,
     pub(crate) start: jiff_core::Timestamp,
-    pub(crate) month: KnownMonth,
+    pub(crate) known: Known,
 }
 
 impl State {
     /// The state of a walk that starts at an instant.
     pub fn starting(start: Timestamp) -> State
-        ensures { stand_of result ≡ kept.Start start.nanosecond }
+        ensures stand { stand_of result ≡ kept.Start start.nanosecond }
+        ensures known { (z : TimeZone) → IsKnown z result.known.stretch }
     {
         let none = moment_numbered(0, Offset::UTC);
         State {
@@ -44,14 +47,15 @@ impl State {
             earlier: none,
             later: none,
             start: start.to_plain(),
-            month: KnownMonth::january_1970(),
+            known: Known::nothing(),
         }
     }
 
     /// A search led here: to the first of the readings found, in this direction, or to the end.
     #[inline(always)]
     pub(crate) fn stop(&mut self, way: Way, found: Option<Found>)
-        ensures { stand_of self.new ≡ stop_of way found }
+        ensures stand { stand_of self.new ≡ stop_of way found }
+        ensures known { self.new.known ≡ self.old.known }
     {
         let Some(
             Found {
@@ -78,7 +82,8 @@ impl State {
     /// The state at the later or at the earlier of the readings found.
     pub(crate) fn standing(self, found: Found, later: bool) -> State
         requires { (r : Reading) × (reading_of found later ≡ Some r) }
-        ensures { stand_of result ≡ kept.At found later }
+        ensures stand { stand_of result ≡ kept.At found later }
+        ensures known { result.known ≡ self.known }
     {
         let Found {
             first: earlier,

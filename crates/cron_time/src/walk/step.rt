@@ -8,6 +8,7 @@ ghost use Rattle.cron_time.specs.Walk.Inner.Stand as kept;
 ghost use Rattle.cron_time.specs.Search.Inner.Numbers.{beyond, matches_second, way_of};
 ghost use Rattle.cron_time.specs.Walk.Inner.Stop.{IsReached, LeadsTo};
 ghost use Rattle.cron_time.specs.Matches.{matches_date};
+ghost use Rattle.cron_clocks.specs.Steady.{IsKnown};
 
 use crate::search::days::some_month_has_a_day;
 use crate::search::inquiry::Inquiry;
@@ -23,13 +24,15 @@ use jiff::tz::TimeZone;
 
 // The walk goes to the first item from its bound on.
 fn from_bound(fields: &ScheduleFields, zone: &TimeZone<'_>, way: Way, state: &mut State)
-    ensures { LeadsTo way fields.now (plain_zone zone.now) (kept.Start state.old.start.nanosecond) (stand_of state.new) }
+    requires known { IsKnown (plain_zone zone.now) state.old.known.stretch }
+    ensures leads { LeadsTo way fields.now (plain_zone zone.now) (kept.Start state.old.start.nanosecond) (stand_of state.new) }
+    ensures known { IsKnown (plain_zone zone.now) state.new.known.stretch }
 {
     match bound(way, Timestamp::from_plain(state.start), zone) {
         Some(from) => {
-            let mut inquiry = Inquiry::new(fields, zone);
+            let mut inquiry = Inquiry::knowing(fields, zone, state.known);
             let found = search_from(&mut inquiry, way, from);
-            state.month = inquiry.month();
+            state.known = inquiry.known();
             state.stop(way, found)
         }
         None => state.stop(way, None),
@@ -40,7 +43,9 @@ fn from_bound(fields: &ScheduleFields, zone: &TimeZone<'_>, way: Way, state: &mu
 // set.
 #[inline(never)]
 fn from_start(fields: &ScheduleFields, zone: &TimeZone<'_>, way: Way, state: &mut State)
-    ensures { LeadsTo way fields.now (plain_zone zone.now) (kept.Start state.old.start.nanosecond) (stand_of state.new) }
+    requires known { IsKnown (plain_zone zone.now) state.old.known.stretch }
+    ensures leads { LeadsTo way fields.now (plain_zone zone.now) (kept.Start state.old.start.nanosecond) (stand_of state.new) }
+    ensures known { IsKnown (plain_zone zone.now) state.new.known.stretch }
 {
     let mut inquiry = Inquiry::new(fields, zone);
     if !some_month_has_a_day(&mut inquiry) {
@@ -57,14 +62,16 @@ fn past_item(fields: &ScheduleFields, zone: &TimeZone<'_>, way: Way, state: &mut
     requires matching { matches_date fields.now (date_numbered (state.old.earlier.second / 86_400)).0
         ≡ true }
     requires member { matches_second fields.now (state.old.earlier.second % 86_400) ≡ true }
-    ensures { IsReached way
+    requires known { IsKnown (plain_zone zone.now) state.old.known.stretch }
+    ensures reached { IsReached way
         fields.now
         (plain_zone zone.now)
         (beyond way state.old.earlier.second)
         (stand_of state.new) }
+    ensures known { IsKnown (plain_zone zone.now) state.new.known.stretch }
 {
     let item = state.earlier;
-    let found = search_past(fields, zone, way, civil_second(&item), &mut state.month);
+    let found = search_past(fields, zone, way, civil_second(&item), &mut state.known);
     state.stop(way, found)
 }
 
@@ -78,7 +85,9 @@ fn step_one_way<const BACK: bool>(
 )
     requires tied { way ≡ way_of BACK }
     requires placed { IsPlaced fields.now (plain_zone zone.now) (stand_of state.old) }
-    ensures { LeadsTo way fields.now (plain_zone zone.now) (stand_of state.old) (stand_of state.new) }
+    requires known { IsKnown (plain_zone zone.now) state.old.known.stretch }
+    ensures leads { LeadsTo way fields.now (plain_zone zone.now) (stand_of state.old) (stand_of state.new) }
+    ensures known { IsKnown (plain_zone zone.now) state.new.known.stretch }
 {
     match state.stage {
         Stage::Start => from_start(fields, zone, way, state),
@@ -98,8 +107,10 @@ fn step_one_way<const BACK: bool>(
 /// Takes a walk from where it stands to where a call in this direction leads.
 #[inline(always)]
 pub fn step(fields: &ScheduleFields, zone: &TimeZone<'_>, way: Way, state: &mut State)
-    requires { IsPlaced fields.now (plain_zone zone.now) (stand_of state.old) }
-    ensures { LeadsTo way fields.now (plain_zone zone.now) (stand_of state.old) (stand_of state.new) }
+    requires placed { IsPlaced fields.now (plain_zone zone.now) (stand_of state.old) }
+    requires known { IsKnown (plain_zone zone.now) state.old.known.stretch }
+    ensures leads { LeadsTo way fields.now (plain_zone zone.now) (stand_of state.old) (stand_of state.new) }
+    ensures known { IsKnown (plain_zone zone.now) state.new.known.stretch }
 {
     match way {
         Way::Ahead => step_one_way::<false>(fields, zone, Way::Ahead, state),

@@ -24,8 +24,8 @@ pub search_candidates-requires-clause-passes : goal.search_candidates-requires-c
 search_candidates-requires-clause-passes g c =
     rw c.day_past-first.ensures.same.sets (found_passes c.args.way c.args.inquiry.now.sets _ _ c.day_past-first.ensures.range c.day_past-first.ensures.nearest)
 
-pub returns : goal.returns
-returns g c =
+pub returns-clause-finds : goal.returns-clause-finds
+returns-clause-finds g c =
     let s = c.args.inquiry.now.sets in
     let z = c.args.inquiry.now.zone in
     let day = c.args.second / 86_400 in

@@ -4,19 +4,19 @@ use Rattle.cron_time.proofs.Walks.RestLemmas.{start_stop, start_ends}
 use Rattle.cron_time.proofs.Walks.StepLemmas.{reached}
 use Rattle.cron_time.proofs.walk.step.from_bound.Goals as goal
 
-pub returns-in-Some : goal.returns-in-Some
-returns-in-Some c =
+pub returns-in-Some-clause-leads : goal.returns-in-Some-clause-leads
+returns-in-Some-clause-leads c =
     let s = c.args.fields.now in
     let z = plain_zone c.args.zone.now in
     let fits : FitsSigned w64 c.in-Some.from = search rules in
-    let found = rw (to_z-of_z fits, ap (λ q. q.sets) c.new-inquiry.ensures, ap (λ q. q.zone) c.new-inquiry.ensures) at c.search_from-found.ensures.found in
+    let found = rw (to_z-of_z fits, ap (λ q. q.sets) c.knowing-inquiry.ensures, ap (λ q. q.zone) c.knowing-inquiry.ensures) at c.search_from-found.ensures.found in
     let at = sym c.bound.ensures ∙ c.in-Some.is in
-    rw c.stop.ensures (start_stop c.args.way s z _ c.in-Some.from _ (rw c.from_plain.ensures at at)
+    rw c.stop.ensures.stand (start_stop c.args.way s z _ c.in-Some.from _ (rw c.from_plain.ensures at at)
     (reached c.args.way s z c.in-Some.from c.search_from-found.result found))
 
-pub returns-in-None : goal.returns-in-None
-returns-in-None c =
+pub returns-in-None-clause-leads : goal.returns-in-None-clause-leads
+returns-in-None-clause-leads c =
     let s = c.args.fields.now in
     let z = plain_zone c.args.zone.now in
     let at = sym c.bound.ensures ∙ c.in-None.is in
-    rw c.stop-in-None.ensures (start_ends c.args.way s z _ (rw c.from_plain.ensures at at))
+    rw c.stop-in-None.ensures.stand (start_ends c.args.way s z _ (rw c.from_plain.ensures at at))

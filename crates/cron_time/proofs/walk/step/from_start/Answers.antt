@@ -3,9 +3,9 @@ use Rattle.jiff.specs.Words.{plain_zone}
 use Rattle.cron_time.proofs.Walks.RestLemmas.{nowhere, start_nowhere}
 use Rattle.cron_time.proofs.walk.step.from_start.Goals as goal
 
-pub returns-then-not-some_month_has_a_day : goal.returns-then-not-some_month_has_a_day
-returns-then-not-some_month_has_a_day c =
+pub returns-then-not-some_month_has_a_day-clause-leads : goal.returns-then-not-some_month_has_a_day-clause-leads
+returns-then-not-some_month_has_a_day-clause-leads c =
     let s = c.args.fields.now in
     let z = plain_zone c.args.zone.now in
     let none = rw (ap (λ q. q.sets) c.new-inquiry.ensures) at (c.if-not-some_month_has_a_day.ensures.none refl) in
-    rw c.stop.ensures (start_nowhere c.args.way s z _ (nowhere s z none))
+    rw c.stop.ensures.stand (start_nowhere c.args.way s z _ (nowhere s z none))

@@ -60,42 +60,42 @@ past_item-requires-in-Ahead-way-clause-member g c =
     let kept : IsKept s z f true = rw c.in-Later.is at c.requires.placed in
     kept_time s z f true kept
 
-pub returns-in-Single : goal.returns-in-Single
-returns-in-Single g c =
+pub returns-in-Single-clause-leads : goal.returns-in-Single-clause-leads
+returns-in-Single-clause-leads g c =
     let s = c.args.fields.now in
     let z = plain_zone c.args.zone.now in
     let f : Found = record { first = c.args.state.now.earlier; second = None } in
     let kept : IsKept s z f false = rw c.in-Single.is at c.requires.placed in
-    rw c.in-Single.is (last_stop c.args.way s z f false _ kept (single_is_last c.args.way c.args.state.now.earlier) c.past_item.ensures)
+    rw c.in-Single.is (last_stop c.args.way s z f false _ kept (single_is_last c.args.way c.args.state.now.earlier) c.past_item.ensures.reached)
 
-pub returns-in-Ahead : goal.returns-in-Ahead
-returns-in-Ahead g c =
+pub returns-in-Ahead-clause-leads : goal.returns-in-Ahead-clause-leads
+returns-in-Ahead-clause-leads g c =
     let s = c.args.fields.now in
     let z = plain_zone c.args.zone.now in
     let f : Found = record { first = c.args.state.now.earlier; second = Some c.args.state.now.later } in
     let kept : IsKept s z f false = rw c.in-Earlier.is at c.requires.placed in
     rw (c.in-Earlier.is, c.in-Ahead.is) (other_stop Ahead s z f false kept (λ e. cc))
 
-pub returns-in-Back : goal.returns-in-Back
-returns-in-Back g c =
+pub returns-in-Back-clause-leads : goal.returns-in-Back-clause-leads
+returns-in-Back-clause-leads g c =
     let s = c.args.fields.now in
     let z = plain_zone c.args.zone.now in
     let f : Found = record { first = c.args.state.now.earlier; second = Some c.args.state.now.later } in
     let kept : IsKept s z f false = rw c.in-Earlier.is at c.requires.placed in
-    let past = rw c.in-Back.is at c.past_item-in-Back.ensures in
+    let past = rw c.in-Back.is at c.past_item-in-Back.ensures.reached in
     rw (c.in-Earlier.is, c.in-Back.is) (last_stop Back s z f false _ kept refl past)
 
-pub returns-in-Ahead-way : goal.returns-in-Ahead-way
-returns-in-Ahead-way g c =
+pub returns-in-Ahead-way-clause-leads : goal.returns-in-Ahead-way-clause-leads
+returns-in-Ahead-way-clause-leads g c =
     let s = c.args.fields.now in
     let z = plain_zone c.args.zone.now in
     let f : Found = record { first = c.args.state.now.earlier; second = Some c.args.state.now.later } in
     let kept : IsKept s z f true = rw c.in-Later.is at c.requires.placed in
-    let past = rw c.in-Ahead-way.is at c.past_item-in-Ahead-way.ensures in
+    let past = rw c.in-Ahead-way.is at c.past_item-in-Ahead-way.ensures.reached in
     rw (c.in-Later.is, c.in-Ahead-way.is) (last_stop Ahead s z f true _ kept refl past)
 
-pub returns-in-Back-way : goal.returns-in-Back-way
-returns-in-Back-way g c =
+pub returns-in-Back-way-clause-leads : goal.returns-in-Back-way-clause-leads
+returns-in-Back-way-clause-leads g c =
     let s = c.args.fields.now in
     let z = plain_zone c.args.zone.now in
     let f : Found = record { first = c.args.state.now.earlier; second = Some c.args.state.now.later } in
