@@ -17,7 +17,7 @@ use Rattle.cron_clocks.proofs.RuleAgreement.{InYear, in_year}
 use Rattle.cron_clocks.proofs.RuleTurns.{clamp_inside}
 use Rattle.cron_clocks.proofs.RuleYears.{first_day-next, year_of_nanos-is}
 use Rattle.cron_clocks.proofs.Windows.{le_yes, le_no, lt_yes, lt_no}
-use Rattle.cron_clocks.specs.Spans.{IsFirstFrom, IsNarrowed, IsToldAlike, IsUnparted}
+use Rattle.cron_clocks.specs.Spans.{IsAtSecond, IsFirstFrom, IsNarrowed, IsToldAlike, IsUnparted}
 
 -- ---- moments on one side of each turn are told alike
 
@@ -93,20 +93,25 @@ turn_at y turn day first end second is e f g =
 
 pub turn_found : (y : ℤ) (turn : DayTime) (day first end second kept : ℤ) → rule_day y turn.date ≡ Some day
     → first ≡ first_day y *ℤ pos 86_400 → end ≡ year_end y
-    → IsFirstFrom (clamp_to (nanos_of_seconds first) (nanos_of_seconds end -ℤ pos 1) (nanos_of_seconds second)) kept
-    → second ≡ day *ℤ pos 86_400 +ℤ turn.time → IsFirstFrom (rule_nanos y turn (pos 0)) kept
+    → IsAtSecond end (clamp_to (nanos_of_seconds first) (nanos_of_seconds end -ℤ pos 1) (nanos_of_seconds second)) kept
+    → second ≡ day *ℤ pos 86_400 +ℤ turn.time → IsAtSecond (year_end y) (rule_nanos y turn (pos 0)) kept
 turn_found y turn day first end second kept is e f found g =
-    subst (λ (v : ℤ). IsFirstFrom v kept) (turn_at y turn day first end second is e f g) found
+    subst (λ (v : ℤ). IsAtSecond v (rule_nanos y turn (pos 0)) kept) f
+    (subst (λ (v : ℤ). IsAtSecond end v kept) (turn_at y turn day first end second is e f g) found)
 
-last_first : (y end : ℤ) → end ≡ year_end y → IsFirstFrom (last_nanosecond y) end
-last_first y end e = (omega (arith, signed_arith), omega (arith, signed_arith))
+last_there : (y end : ℤ) → end ≡ year_end y → IsAtSecond (year_end y) (last_nanosecond y) end
+last_there y end e = inr (omega (arith, signed_arith), e)
+
+pub first_from : (last moment second : ℤ) → IsAtSecond last moment second → IsFirstFrom moment second
+first_from last moment second (inl there) = let at = there.0 in (omega (arith, signed_arith), omega (arith, signed_arith))
+first_from last moment second (inr before) = let at = before.0 in (omega (arith, signed_arith), omega (arith, signed_arith))
 
 -- a day that the year lacks is its end
-pub turn_lacking : (y : ℤ) (turn : DayTime) (end : ℤ) → rule_day y turn.date ≡ None → end ≡ year_end y → IsFirstFrom (rule_nanos y turn (pos 0)) end
+pub turn_lacking : (y : ℤ) (turn : DayTime) (end : ℤ) → rule_day y turn.date ≡ None → end ≡ year_end y → IsAtSecond (year_end y) (rule_nanos y turn (pos 0)) end
 unfolding rule_nanos
 turn_lacking y turn end none e =
-    subst (λ (o : Option ℤ). IsFirstFrom (match_some o (last_nanosecond y) (λ (k : ℤ). clamp_to (first_nanosecond y) (last_nanosecond y)
-    (k *ℤ nanos_per_day +ℤ nanos_of_seconds (turn.time -ℤ pos 0)))) end) (sym none) (last_first y end e)
+    subst (λ (o : Option ℤ). IsAtSecond (year_end y) (match_some o (last_nanosecond y) (λ (k : ℤ). clamp_to (first_nanosecond y) (last_nanosecond y)
+    (k *ℤ nanos_per_day +ℤ nanos_of_seconds (turn.time -ℤ pos 0)))) end) (sym none) (last_there y end e)
 
 -- ---- a span that no turn parts
 

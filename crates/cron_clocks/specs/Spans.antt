@@ -20,3 +20,8 @@ IsNarrowed first end from to = (first ≤ℤ from) × (to ≤ℤ end)
 -- the rule tells of each of these civil seconds what it tells of the civil second c
 abbrev pub IsToldAlike : TimeZone → ℕ → ℤ → ℤ → Type 0
 IsToldAlike rule c first end = (k : ℕ) → first ≤ℤ pos k → pos k <ℤ end → ambiguous_at rule (civil k) ≡ ambiguous_at rule (civil c)
+
+-- the moment is at that second of a year, or in the nanosecond before it, which ends the year
+abbrev pub IsAtSecond : ℤ → ℤ → ℤ → Type 0
+IsAtSecond last moment second =
+    ((moment ≡ nanos_of_seconds second) × (second <ℤ last)) ⊎ ((moment ≡ nanos_of_seconds second -ℤ pos 1) × (second ≡ last))

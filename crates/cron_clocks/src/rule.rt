@@ -7,7 +7,7 @@ ghost use Rattle.jiff_tz.specs.PosixDay.{is_rule_day};
 ghost use Rattle.jiff_tz.specs.PosixRule.{clamp_to, rule_day, rule_nanos, sunday_number, weekday_of_month};
 ghost use Rattle.jiff_tz.specs.PosixRule as Rule;
 ghost use Rattle.cron_moments.specs.Civil.{seconds_in_range};
-ghost use Rattle.cron_clocks.specs.Spans.{IsFirstFrom, IsNarrowed, IsToldAlike, IsUnparted};
+ghost use Rattle.cron_clocks.specs.Spans.{IsAtSecond, IsNarrowed, IsToldAlike, IsUnparted};
 
 use cron_moments::civil::{SECONDS, civil_of};
 use jiff_core::civil::{Date, days_in_year, is_leap_year};
@@ -44,7 +44,6 @@ fn year_span(year: i16) -> Span
     ensures end { result.end ≡ (Rule.first_day year +ℤ pos (days_in_year year)) *ℤ pos 86_400 }
     ensures low { IsWithin 400_000_000_000 result.first }
     ensures high { IsWithin 400_000_000_000 result.end }
-    ensures order { result.first ≤ℤ result.end }
 {
     let first = i64::from(new_year(year));
     Span {
@@ -111,8 +110,8 @@ fn day_in(day: Day, year: i16) -> Option<i32>
 
 // The second, or the edge of the span that is nearer to it.
 fn kept_within(span: Span, second: i64) -> i64
-    requires { span.first ≤ℤ span.end }
-    ensures value { IsFirstFrom (clamp_to (nanos_of_seconds span.first) (nanos_of_seconds span.end -ℤ pos 1) (nanos_of_seconds second)) result }
+    requires { span.first <ℤ span.end }
+    ensures value { IsAtSecond span.end (clamp_to (nanos_of_seconds span.first) (nanos_of_seconds span.end -ℤ pos 1) (nanos_of_seconds second)) result }
     ensures bound { IsBetween span.first span.end result }
 {
     if second < span.first {
@@ -135,7 +134,7 @@ fn second_of(day: i32, time: i32) -> i64
 // The civil second at which a rule's turn lies in the year, on the clock that turns.
 fn turn_in(turn: DayTime, year: i16) -> i64
     requires { IsYear year }
-    ensures value { IsFirstFrom (rule_nanos year turn (pos 0)) result }
+    ensures value { IsAtSecond ((Rule.first_day year +ℤ pos (days_in_year year)) *ℤ pos 86_400) (rule_nanos year turn (pos 0)) result }
     ensures low { (Rule.first_day year *ℤ pos 86_400) ≤ℤ result }
     ensures high { result ≤ℤ ((Rule.first_day year +ℤ pos (days_in_year year)) *ℤ pos 86_400) }
     ensures bound { IsWithin 400_000_000_000 result }

@@ -4,7 +4,7 @@ use Rattle.jiff_tz.specs.PosixRule.{first_day}
 use Rattle.jiff_tz.proofs.YearLemmas.{back_year}
 use Rattle.cron_moments.specs.Civil.{civil, seconds_in_range}
 use Rattle.cron_clocks.specs.Spans.{IsNarrowed}
-use Rattle.cron_clocks.proofs.SpanLemmas.{fits_back, narrowed, unparted_alike, year_end}
+use Rattle.cron_clocks.proofs.SpanLemmas.{first_from, fits_back, narrowed, unparted_alike, year_end}
 use Rattle.cron_clocks.proofs.rule.between_turns.Goals as goal
 
 pub returns-clause-alike : goal.returns-clause-alike
@@ -45,10 +45,10 @@ returns-clause-alike c =
     let two = narrowed _ _ _ _ _ (c.turn_in-start.result +ℤ saving) on last (ap (λ (k : ℤ). c.turn_in-start.result +ℤ k) saved) in
     let same : IsNarrowed c.parted_twice.result.first c.parted_twice.result.end c.parted_twice.result.first c.parted_twice.result.end =
     (omega (arith, signed_casts), omega (arith, signed_casts)) in
-    let three = narrowed _ _ _ _ _ c.turn_in-end.result by_end.one same (omega (arith, signed_casts)) in
+    let three = narrowed _ _ _ _ _ c.turn_in-end.result by_end.one same (to_z-of_z fits-end) in
     let four = narrowed _ _ _ _ _ (c.turn_in-end.result -ℤ saving) behind same (ap (λ (k : ℤ). c.turn_in-end.result -ℤ k) saved) in
     unparted_alike c.args.rule c.args.dst c.requires.saving c.args.second c.requires.range date.year here _ _ c.turn_in-start.result c.turn_in-end.result
-    in_range low high from to start.value start.low start.high end.value end.low end.high one two three four
+    in_range low high from to (first_from _ _ _ start.value) start.low start.high (first_from _ _ _ end.value) end.low end.high one two three four
 
 pub overflow_sub-end : goal.overflow_sub-end
 overflow_sub-end c =

@@ -1,4 +1,6 @@
-use Rattle.std.proofs.Common.{◌∙◌, sym, rules, FitsSigned, w32, w64, to_z-of_z}
+use Rattle.std.proofs.Common.{◌∙◌, sym, arith, rules, FitsSigned, w32, w64, to_z-of_z}
+use Rattle.jiff_core.proofs.CalendarLemmas.{days_in_year_bounds}
+use Rattle.jiff_core.proofs.SignedLemmas.{signed_arith}
 use Rattle.jiff_tz.proofs.YearLemmas.{back_year}
 use Rattle.cron_clocks.proofs.SpanLemmas.{turn_found, turn_lacking}
 use Rattle.cron_clocks.proofs.rule.turn_in.Goals as goal
@@ -24,3 +26,9 @@ returns-in-None-clause-value c =
     let year = rw back at c.year_span-span.ensures in
     let fits : FitsSigned w64 c.year_span-span.result.end = search rules in
     rw (to_z-of_z fits) (turn_lacking c.args.year c.args.turn c.year_span-span.result.end (sym day ∙ c.in-None.is) year.end)
+
+pub kept_within-requires : goal.kept_within-requires
+kept_within-requires c =
+    let year = rw (back_year c.args.year c.requires) at c.year_span-span.ensures in
+    let length = days_in_year_bounds c.args.year in
+    omega (arith, signed_arith, length, year.first, year.end)
