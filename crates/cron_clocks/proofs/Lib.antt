@@ -10,3 +10,4 @@ pub mod RuleTold
 pub mod RuleAgreement
 pub mod SpanLemmas
 pub mod SteadyLemmas
+pub mod OffsetLemmas

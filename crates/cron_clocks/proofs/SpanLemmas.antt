@@ -9,7 +9,7 @@ use Rattle.jiff_core.proofs.SignedLemmas.{signed_arith}
 use Rattle.jiff_tz.specs.declared.posix.Dst.{Dst}
 use Rattle.jiff_tz.specs.declared.posix.TimeZone.{TimeZone}
 use Rattle.jiff_tz.specs.declared.posix.DayTime.{DayTime}
-use Rattle.jiff_tz.specs.PosixRule.{first_day, first_nanosecond, last_nanosecond, nanos_per_day, clamp_to, match_some, rule_day, rule_nanos, civil_min, civil_max, saturating_add, saturating_sub, shift_between, ambiguous_by, ambiguous_at, ambiguous_at_by}
+use Rattle.jiff_tz.specs.PosixRule.{in_span, in_window, first_day, first_nanosecond, last_nanosecond, nanos_per_day, clamp_to, match_some, rule_day, rule_nanos, civil_min, civil_max, saturating_add, saturating_sub, shift_between, ambiguous_by, ambiguous_at, ambiguous_at_by}
 use Rattle.jiff_tz.proofs.PosixLemmas.{ambiguous_at-some}
 use Rattle.cron_moments.specs.Civil.{civil, seconds_in_range}
 use Rattle.cron_moments.proofs.CivilLemmas.{civil_nanos-civil}
@@ -17,7 +17,9 @@ use Rattle.cron_clocks.proofs.RuleAgreement.{InYear, in_year}
 use Rattle.cron_clocks.proofs.RuleTurns.{clamp_inside}
 use Rattle.cron_clocks.proofs.RuleYears.{first_day-next, year_of_nanos-is}
 use Rattle.cron_clocks.proofs.Windows.{le_yes, le_no, lt_yes, lt_no}
-use Rattle.cron_clocks.specs.Spans.{IsAtSecond, IsFirstFrom, IsNarrowed, IsToldAlike, IsUnparted}
+use Rattle.cron_clocks.specs.Spans.{IsAtSecond, IsFirstFrom, IsNarrowed, IsToldAlike, IsUnparted, PartsAlike}
+use Rattle.cron_clocks.specs.Steady.{IsToldBy}
+use Rattle.std.proofs.lemmas.Int.{by_lt_z}
 
 -- ---- moments on one side of each turn are told alike
 
@@ -42,6 +44,42 @@ on_one_side moment turn first end k c (after, by) (inr late) k_low k_high c_low 
     let c_short : nanos_of_seconds c <ℤ moment = omega (arith, signed_arith) in
     (le_no _ _ k_short ∙ sym (le_no _ _ c_short), lt_yes _ _ k_short ∙ sym (lt_yes _ _ c_short))
 
+-- ---- moments are in the order of their seconds
+
+pub first_from : (last moment second : ℤ) → IsAtSecond last moment second → IsFirstFrom moment second
+first_from last moment second (inl there) = let at = there.0 in (omega (arith, signed_arith), omega (arith, signed_arith))
+first_from last moment second (inr before) = let at = before.0 in (omega (arith, signed_arith), omega (arith, signed_arith))
+
+le_first : (moment second n : ℤ) → IsFirstFrom moment second → int_le moment (nanos_of_seconds n) ≡ int_le second n
+le_first moment second n (after, by) =
+    by_lt_z n second
+    (λ less. le_no moment (nanos_of_seconds n) (omega (arith, signed_arith)) ∙ sym (le_no second n less))
+    (λ more. le_yes moment (nanos_of_seconds n) (omega (arith, signed_arith)) ∙ sym (le_yes second n more))
+
+lt_first : (moment second n : ℤ) → IsFirstFrom moment second → int_lt (nanos_of_seconds n) moment ≡ int_lt n second
+lt_first moment second n (after, by) =
+    by_lt_z n second
+    (λ less. lt_yes (nanos_of_seconds n) moment (omega (arith, signed_arith)) ∙ sym (lt_yes n second less))
+    (λ more. lt_no (nanos_of_seconds n) moment (omega (arith, signed_arith)) ∙ sym (lt_no n second more))
+
+before_in_time : (last a b s t : ℤ) → IsAtSecond last a s → IsAtSecond last b t → t <ℤ s → b <ℤ a
+before_in_time last a b s t (inl (e, h)) (inl (f, k)) less = omega (arith, signed_arith)
+before_in_time last a b s t (inl (e, h)) (inr (f, k)) less = absurd (omega (arith, signed_arith))
+before_in_time last a b s t (inr (e, h)) (inl (f, k)) less = omega (arith, signed_arith)
+before_in_time last a b s t (inr (e, h)) (inr (f, k)) less = absurd (omega (arith, signed_arith))
+
+by_in_time : (last a b s t : ℤ) → IsAtSecond last a s → IsAtSecond last b t → s ≤ℤ t → a ≤ℤ b
+by_in_time last a b s t (inl (e, h)) (inl (f, k)) more = omega (arith, signed_arith)
+by_in_time last a b s t (inl (e, h)) (inr (f, k)) more = omega (arith, signed_arith)
+by_in_time last a b s t (inr (e, h)) (inl (f, k)) more = absurd (omega (arith, signed_arith))
+by_in_time last a b s t (inr (e, h)) (inr (f, k)) more = omega (arith, signed_arith)
+
+same_order : (last a b s t : ℤ) → IsAtSecond last a s → IsAtSecond last b t → int_le a b ≡ int_le s t
+same_order last a b s t one other =
+    by_lt_z t s
+    (λ less. le_no _ _ (before_in_time last a b s t one other less) ∙ sym (le_no _ _ less))
+    (λ more. le_yes _ _ (by_in_time last a b s t one other more) ∙ sym (le_yes _ _ more))
+
 -- ---- the other end of a gap or a fold
 
 abbrev InHand : ℤ → Type 0
@@ -62,6 +100,33 @@ moved_back std dst moment turn near (after, by) =
     let dst_in = dst.in_range in
     let stays = clamp_inside civil_min civil_max (moment -ℤ shift_between std dst) (omega (arith, signed_arith)) (omega (arith, signed_arith)) in
     rw stays (omega (arith, signed_arith), omega (arith, signed_arith))
+
+-- ---- moments part the civil seconds as their seconds do
+
+span_alike : (from to first end n : ℤ) → IsFirstFrom from first → IsFirstFrom to end → in_span from to (nanos_of_seconds n) ≡ in_span first end n
+span_alike from to first end n one other = rw (le_first from first n one, lt_first to end n other) refl
+
+window_alike : (last from to start end n : ℤ) → IsAtSecond last from start → IsAtSecond last to end
+    → in_window (from, to) (nanos_of_seconds n) ≡ in_window (start, end) n
+window_alike last from to start end n one other =
+    let first = first_from last from start one in
+    let second = first_from last to end other in
+    rw (same_order last from to start end one other, le_first from start n first, lt_first to end n second, le_first to end n second, lt_first from start n first) refl
+
+parts_alike : (std dst : Offset) (last from to start end n : ℤ) → InHand start → InHand end → IsAtSecond last from start → IsAtSecond last to end
+    → PartsAlike std dst (from, to) start end (dst.seconds -ℤ std.seconds) n
+parts_alike std dst last from to start end n near near_end one other =
+    let first = first_from last from start one in
+    let second = first_from last to end other in
+    let on = moved_on std dst from start near first in
+    let back = moved_back std dst to end near_end second in
+    record {
+      window = window_alike last from to start end n one other;
+      starts_ahead = span_alike _ _ _ _ n first on;
+      starts_behind = span_alike _ _ _ _ n on first;
+      ends_ahead = span_alike _ _ _ _ n back second;
+      ends_behind = span_alike _ _ _ _ n second back;
+    }
 
 -- ---- the year of a civil second
 
@@ -101,10 +166,6 @@ turn_found y turn day first end second kept is e f found g =
 
 last_there : (y end : ℤ) → end ≡ year_end y → IsAtSecond (year_end y) (last_nanosecond y) end
 last_there y end e = inr (omega (arith, signed_arith), e)
-
-pub first_from : (last moment second : ℤ) → IsAtSecond last moment second → IsFirstFrom moment second
-first_from last moment second (inl there) = let at = there.0 in (omega (arith, signed_arith), omega (arith, signed_arith))
-first_from last moment second (inr before) = let at = before.0 in (omega (arith, signed_arith), omega (arith, signed_arith))
 
 -- a day that the year lacks is its end
 pub turn_lacking : (y : ℤ) (turn : DayTime) (end : ℤ) → rule_day y turn.date ≡ None → end ≡ year_end y → IsAtSecond (year_end y) (rule_nanos y turn (pos 0)) end
@@ -168,6 +229,17 @@ module _ (rule : TimeZone) (d : Dst) (some : rule.dst ≡ Some d) (c : ℕ) (h :
       ambiguous_at-some rule d (civil k) some
       ∙ ap (λ v. ambiguous_by rule.std_offset d.offset (rule_nanos v d.rule.start (pos 0), rule_nanos v d.rule.end (pos 0)) (civil_nanos (civil k))) same
       ∙ ap (λ n. ambiguous_by rule.std_offset d.offset (at_start, at_end) n) moment
+
+  -- where the turns lie tells the offsets of the civil second
+  pub told_among : (start end : ℤ) (a b : Option Offset)
+      → IsAtSecond (year_end y) at_start start → (first_day y *ℤ pos 86_400) ≤ℤ start → start ≤ℤ year_end y
+      → IsAtSecond (year_end y) at_end end → (first_day y *ℤ pos 86_400) ≤ℤ end → end ≤ℤ year_end y
+      → ((w : ℤ × ℤ) → PartsAlike rule.std_offset d.offset w start end saving (pos c) → IsToldBy (ambiguous_by rule.std_offset d.offset w (nanos_of_seconds (pos c))) a b)
+      → IsToldBy (ambiguous_at rule (civil c)) a b
+  told_among start end a b starts start_low start_high ends end_low end_high told =
+      let alike = parts_alike rule.std_offset d.offset (year_end y) at_start at_end start end (pos c)
+      (in_hand start start_low start_high) (in_hand end end_low end_high) starts ends in
+      rw (told_in c h here) (told (at_start, at_end) alike)
 
   module _ (first last start end : ℤ) (range : IsNarrowed (pos 0) (pos seconds_in_range) first last) (low : first ≤ℤ pos c) (high : pos c <ℤ last)
       (from_year : IsUnparted first last (first_day y *ℤ pos 86_400)) (to_year : IsUnparted first last (year_end y)) where

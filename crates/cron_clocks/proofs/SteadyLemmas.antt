@@ -41,6 +41,11 @@ zone_tells : (rule : Rule) (k c : ℕ) → rule_tells rule (civil k) ≡ rule_te
 unfolding ambiguous_at
 zone_tells rule k c e = e
 
+-- what a rule tells its zone does
+pub rule_told : (rule : Rule) (c : ℕ) (a b : Option Offset) → IsToldBy (rule_tells rule (civil c)) a b → IsToldBy (ambiguous_at (Posix rule) (civil c)) a b
+unfolding ambiguous_at
+rule_told rule c a b told = told
+
 pub steady_rule : (z : TimeZone) (rule : Rule) (c first end : ℕ) (from to : ℤ) (a b : Option Offset) → z ≡ Posix rule → from ≡ pos first → to ≡ pos end
     → from ≤ℤ pos c → pos c <ℤ to → IsNarrowed (pos 0) (pos seconds_in_range) from to → IsToldAlike rule c from to → IsToldBy (ambiguous_at z (civil c)) a b
     → IsSteady z (record { first = first; end = end; earlier = a; later = b })

@@ -1,8 +1,9 @@
 -- Civil seconds between the turns of a rule.
-use Rattle.std.specs.Prelude.{◌≡◌, ℕ, ◌⊎◌, ℤ, pos, ◌-ℤ◌, ◌≤ℤ◌, ◌<ℤ◌}
+use Rattle.std.specs.Prelude.{◌≡◌, ℕ, ◌⊎◌, ℤ, ◌+ℤ◌, pos, ◌-ℤ◌, ◌≤ℤ◌, ◌<ℤ◌}
 use Rattle.jiff_core.specs.Timestamp.{nanos_of_seconds}
 use Rattle.jiff_tz.specs.declared.posix.TimeZone.{TimeZone}
-use Rattle.jiff_tz.specs.PosixRule.{ambiguous_at}
+use Rattle.jiff_core.specs.declared.Offset.{Offset}
+use Rattle.jiff_tz.specs.PosixRule.{ambiguous_at, in_span, in_window, saturating_add, saturating_sub, shift_between}
 use Rattle.cron_moments.specs.Civil.{civil}
 
 -- the first second that isn't before the moment, which is in nanoseconds
@@ -25,3 +26,11 @@ IsToldAlike rule c first end = (k : ℕ) → first ≤ℤ pos k → pos k <ℤ e
 abbrev pub IsAtSecond : ℤ → ℤ → ℤ → Type 0
 IsAtSecond last moment second =
     ((moment ≡ nanos_of_seconds second) × (second <ℤ last)) ⊎ ((moment ≡ nanos_of_seconds second -ℤ pos 1) × (second ≡ last))
+
+-- the moments of two turns part the moment of second n as their own seconds part it
+pub record PartsAlike (std dst : Offset) (w : ℤ × ℤ) (start end saving n : ℤ) : Type 0 where
+  pub window : in_window w (nanos_of_seconds n) ≡ in_window (start, end) n
+  pub starts_ahead : in_span w.0 (saturating_add w.0 (shift_between std dst)) (nanos_of_seconds n) ≡ in_span start (start +ℤ saving) n
+  pub starts_behind : in_span (saturating_add w.0 (shift_between std dst)) w.0 (nanos_of_seconds n) ≡ in_span (start +ℤ saving) start n
+  pub ends_ahead : in_span (saturating_sub w.1 (shift_between std dst)) w.1 (nanos_of_seconds n) ≡ in_span (end -ℤ saving) end n
+  pub ends_behind : in_span w.1 (saturating_sub w.1 (shift_between std dst)) (nanos_of_seconds n) ≡ in_span end (end -ℤ saving) n

@@ -4,6 +4,7 @@
 
 mod agreement;
 pub mod laws;
+mod offsets;
 mod rule;
 pub mod stretch;
 #[cfg(test)]

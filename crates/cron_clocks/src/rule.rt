@@ -6,10 +6,13 @@ ghost use Rattle.jiff_core.specs.Timestamp.{nanos_of_seconds};
 ghost use Rattle.jiff_tz.specs.PosixDay.{is_rule_day};
 ghost use Rattle.jiff_tz.specs.PosixRule.{clamp_to, rule_day, rule_nanos, sunday_number, weekday_of_month};
 ghost use Rattle.jiff_tz.specs.PosixRule as Rule;
-ghost use Rattle.cron_moments.specs.Civil.{seconds_in_range};
+ghost use Rattle.cron_moments.specs.Civil.{civil, seconds_in_range};
 ghost use Rattle.cron_clocks.specs.Spans.{IsAtSecond, IsNarrowed, IsToldAlike, IsUnparted};
+ghost use Rattle.cron_clocks.specs.Steady.{IsToldBy};
 
+use crate::offsets::{Placed, offsets_among};
 use cron_moments::civil::{SECONDS, civil_of};
+use jiff::tz::Offset;
 use jiff_core::civil::{Date, days_in_year, is_leap_year};
 use jiff_tz::posix::{Day, DayTime, Dst, TimeZone};
 
@@ -191,15 +194,25 @@ fn saving_of(rule: TimeZone, dst: Dst) -> i64
     i64::from(dst.offset.seconds) - i64::from(rule.std_offset.seconds)
 }
 
+/// What a rule tells of a civil second: the offsets at which it is read, and the civil seconds around
+/// it of which the same is told.
+#[derive(Clone, Copy)]
+pub(crate) struct Told {
+    pub span: Span,
+    pub earlier: Option<Offset>,
+    pub later: Option<Offset>,
+}
+
 // The civil seconds of the year around this one with no turn between them. At a turn a gap or a fold
 // begins or ends, and so does one as long as the saving after the start of it, and before its end.
-fn between_turns(rule: TimeZone, dst: Dst, second: u32) -> Span
+fn between_turns(rule: TimeZone, dst: Dst, second: u32) -> Told
     requires range { second < seconds_in_range }
     requires saving { rule.dst ≡ Some dst }
-    ensures alike { IsToldAlike rule second result.first result.end }
-    ensures low { result.first ≤ℤ pos second }
-    ensures high { pos second <ℤ result.end }
-    ensures narrowed { IsNarrowed (pos 0) (pos seconds_in_range) result.first result.end }
+    ensures alike { IsToldAlike rule second result.span.first result.span.end }
+    ensures low { result.span.first ≤ℤ pos second }
+    ensures high { pos second <ℤ result.span.end }
+    ensures narrowed { IsNarrowed (pos 0) (pos seconds_in_range) result.span.first result.span.end }
+    ensures told { IsToldBy (Rule.ambiguous_at rule (civil second)) result.earlier result.later }
 {
     let at = i64::from(second);
     let number = civil_of(second).to_plain().date.year;
@@ -209,19 +222,40 @@ fn between_turns(rule: TimeZone, dst: Dst, second: u32) -> Span
     let end = turn_in(dst.rule.end, number);
     let in_year = parted_twice(WHOLE, at, year.first, year.end);
     let by_start = parted_twice(in_year, at, start, start + saving);
-    parted_twice(by_start, at, end, end - saving)
+    let span = parted_twice(by_start, at, end, end - saving);
+    let placed = Placed {
+        at,
+        start,
+        end,
+        saving,
+    };
+    let (earlier, later) = offsets_among(
+        Offset::from_plain(rule.std_offset),
+        Offset::from_plain(dst.offset),
+        placed,
+    );
+    Told {
+        span,
+        earlier,
+        later,
+    }
 }
 
-/// The civil seconds around this one of which the rule tells what it tells of this one.
-pub(crate) fn span_at(rule: TimeZone, second: u32) -> Span
+/// What a rule tells of a civil second.
+pub(crate) fn told_at(rule: TimeZone, second: u32) -> Told
     requires { second < seconds_in_range }
-    ensures alike { IsToldAlike rule second result.first result.end }
-    ensures low { result.first ≤ℤ pos second }
-    ensures high { pos second <ℤ result.end }
-    ensures narrowed { IsNarrowed (pos 0) (pos seconds_in_range) result.first result.end }
+    ensures alike { IsToldAlike rule second result.span.first result.span.end }
+    ensures low { result.span.first ≤ℤ pos second }
+    ensures high { pos second <ℤ result.span.end }
+    ensures narrowed { IsNarrowed (pos 0) (pos seconds_in_range) result.span.first result.span.end }
+    ensures told { IsToldBy (Rule.ambiguous_at rule (civil second)) result.earlier result.later }
 {
     match rule.dst {
         Some(dst) => between_turns(rule, dst, second),
-        None => WHOLE,
+        None => Told {
+            span: WHOLE,
+            earlier: Some(Offset::from_plain(rule.std_offset)),
+            later: None,
+        },
     }
 }

@@ -7,7 +7,7 @@ ghost use Rattle.cron_moments.specs.Civil.{civil, seconds_in_range};
 ghost use Rattle.cron_moments.specs.Found.{items_if_any};
 ghost use Rattle.cron_clocks.specs.Steady.{IsSteady, IsToldBy, readings_at, whole_range};
 
-use crate::rule::span_at;
+use crate::rule::told_at;
 use cron_moments::civil::{SECONDS, civil_of};
 use cron_moments::moment::moment_numbered;
 use cron_moments::readings::Found;
@@ -68,20 +68,18 @@ fn single(zone: &TimeZone<'_>, second: u32) -> Stretch
 }
 
 // The civil seconds around this one of which a rule tells what it tells of this one.
-fn between_turns(zone: &TimeZone<'_>, rule: posix::TimeZone, second: u32) -> Stretch
-    requires range { second < seconds_in_range }
-    requires rule { plain_zone zone.now ≡ Posix rule }
-    ensures steady { IsSteady (plain_zone zone.now) result }
+fn between_turns(rule: posix::TimeZone, second: u32) -> Stretch
+    requires { second < seconds_in_range }
+    ensures steady { IsSteady (Posix rule) result }
     ensures low { result.first ≤ second }
     ensures high { second < result.end }
 {
-    let span = span_at(rule, second);
-    let (earlier, later) = offsets_at(zone, second);
+    let told = told_at(rule, second);
     Stretch {
-        first: span.first as u32,
-        end: span.end as u32,
-        earlier,
-        later,
+        first: told.span.first as u32,
+        end: told.span.end as u32,
+        earlier: told.earlier,
+        later: told.later,
     }
 }
 
@@ -131,7 +129,7 @@ impl Stretch {
         match zone.to_plain() {
             jiff_tz::TimeZone::UTC | jiff_tz::TimeZone::Unknown => whole(Offset::UTC),
             jiff_tz::TimeZone::Fixed(offset) => whole(Offset::from_plain(offset)),
-            jiff_tz::TimeZone::Posix(rule) => between_turns(zone, rule, second),
+            jiff_tz::TimeZone::Posix(rule) => between_turns(rule, second),
             jiff_tz::TimeZone::Tzif(_) => single(zone, second),
         }
     }
