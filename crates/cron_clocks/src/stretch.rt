@@ -119,7 +119,9 @@ impl Stretch {
         Some(Found { first, second })
     }
 
-    /// A stretch with this civil second in it.
+    /// A stretch with this civil second in it: all of the range in a zone with one offset, what lies
+    /// between two turns of a rule, and this second alone in a zone from a file.
+    #[inline(never)]
     pub fn at(zone: &TimeZone<'_>, second: u32) -> Stretch
         requires { second < seconds_in_range }
         ensures steady { IsSteady (plain_zone zone.now) result }

@@ -3,6 +3,7 @@ ghost use Rattle.std.specs.Prelude.{◌≡◌, ◌+◌, ◌^◌, ◌<◌, ◌≤
 ghost use Rattle.jiff.specs.Words.{plain_zone};
 ghost use Rattle.cron_units.specs.Nearest.{IsNearest};
 ghost use Rattle.cron_units.specs.Units.{contains};
+ghost use Rattle.cron_moments.specs.Civil.{seconds_in_range};
 ghost use Rattle.cron_moments.specs.CivilDates.{date_numbered};
 ghost use Rattle.cron_moments.specs.Found.{items_if_any};
 ghost use Rattle.cron_time.specs.Search.Inner.Inquired.{Inquired, unasked, one_day, one_conversion, one_question, members, unit_of};
@@ -13,6 +14,7 @@ ghost use Rattle.cron_clocks.specs.Steady.{IsKnown};
 
 use crate::search::known::Known;
 use cron_moments::calendar::{KnownMonth, weekday_of};
+use cron_clocks::stretch::Stretch;
 use cron_moments::readings::{Found, readings_of};
 use cron_units::fields::ScheduleFields;
 use cron_units::way::Way;
@@ -171,9 +173,29 @@ impl<'a> Inquiry<'a> {
         Some(number)
     }
 
+    // The readings of a civil second of which nothing is known yet. Where a zone has more than one
+    // offset, the stretch of civil seconds around this one is known from now on.
+    #[inline(always)]
+    fn readings_anew(&mut self, second: u32) -> Option<Found>
+        requires { second < seconds_in_range }
+        ensures readings { items_if_any result ≡ readings self.old.zone second }
+        ensures unchanged { self.new ≡ self.old }
+    {
+        match self.zone.to_plain() {
+            jiff_tz::TimeZone::UTC | jiff_tz::TimeZone::Unknown | jiff_tz::TimeZone::Fixed(_) => {
+                readings_of(self.zone, second)
+            }
+            _ => {
+                self.known.stretch = Stretch::at(self.zone, second);
+                self.known.stretch.readings(second)
+            }
+        }
+    }
+
     /// Asks the zone for the readings of a civil second: none in a gap.
     #[inline(always)]
     pub(crate) fn readings(&mut self, second: u32) -> Option<Found>
+        requires in_range { second < seconds_in_range }
         requires room { self.old.conversions < 2 ^ 63 }
         ensures readings { items_if_any result ≡ readings self.old.zone second }
         ensures counted { self.new ≡ one_conversion self.old }
@@ -182,6 +204,6 @@ impl<'a> Inquiry<'a> {
         if self.known.stretch.has(second) {
             return self.known.stretch.readings(second);
         }
-        readings_of(self.zone, second)
+        self.readings_anew(second)
     }
 }

@@ -18,6 +18,7 @@ use jiff::tz::TimeZone;
 
 // The items of a civil second, if it stands on the timeline.
 fn items_at(fields: &ScheduleFields, zone: &TimeZone<'_>, second: u32) -> Option<Found>
+    requires { second < seconds_in_range }
     ensures { items_if_any result ≡ items_of fields.now (plain_zone zone.now) second }
 {
     if !matching::includes(fields, civil_of(second)) {

@@ -22,8 +22,13 @@ time_past-next-requires-clause-matching c =
     c.in-Some.time = rw c.in-Some.is at c.loop-next.invariant.reached in
     rw ((converted _ _ c.readings-found.ensures.counted).same.sets ∙ c.loop-next.invariant.same.sets) reached.block
 
-pub readings-found-requires : goal.readings-found-requires
-readings-found-requires c =
+pub readings-found-requires-clause-in_range : goal.readings-found-requires-clause-in_range
+readings-found-requires-clause-in_range c =
+    let bound = (rw c.in-Some.is at c.loop-next.invariant.bound).1 in
+    omega (arith, bound, c.requires.in_range)
+
+pub readings-found-requires-clause-room : goal.readings-found-requires-clause-room
+readings-found-requires-clause-room c =
     let adds = c.loop-next.invariant.conversions in
     omega (arith, adds.is, kind_bound 86_400 _ _ adds.tally, c.requires.room)
 
