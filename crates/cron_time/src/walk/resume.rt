@@ -2,10 +2,9 @@
 ghost use Rattle.std.specs.Prelude.{◌≡◌, ◌<◌, ℕ, Some, MatchOption, slice_get};
 ghost use Rattle.jiff.specs.Words.{plain_zone};
 ghost use Rattle.cron_moments.specs.Found.{found_items, items_if_any};
-ghost use Rattle.cron_time.specs.Walk.Inner.Placed.{IsPlaced, cursor_of, reading_of, stand_of};
+ghost use Rattle.cron_time.specs.Walk.Inner.Placed.{IsPlaced, KnowsZone, cursor_of, reading_of, stand_of};
 ghost use Rattle.cron_time.specs.Walk.Resume.{IsAbsent, IsAtItem};
 ghost use Rattle.cron_time.specs.Search.{items_of};
-ghost use Rattle.cron_clocks.specs.Steady.{IsKnown};
 
 use crate::matching;
 use crate::search::inquiry::Inquiry;
@@ -49,7 +48,7 @@ pub fn resumed(fields: &ScheduleFields, zone: &TimeZone<'_>, moment: &Moment) ->
     ensures { MatchOption result
         (IsAbsent fields.now (plain_zone zone.now) moment.now)
         (λ state. IsPlaced fields.now (plain_zone zone.now) (stand_of state)
-        × IsKnown (plain_zone zone.now) state.known.stretch
+        × KnowsZone (plain_zone zone.now) state
         × IsAtItem fields.now (plain_zone zone.now) moment.now (cursor_of fields.now (plain_zone zone.now) (stand_of state))) }
 {
     let second = civil_second(moment);

@@ -1,9 +1,8 @@
 //! Where a walk stands.
 ghost use Rattle.std.specs.Prelude.{◌≡◌, Some};
-ghost use Rattle.cron_time.specs.Walk.Inner.Placed.{answer_of, reading_of, stand_of, stop_of};
+ghost use Rattle.cron_time.specs.Walk.Inner.Placed.{KnowsZone, answer_of, reading_of, stand_of, stop_of};
 ghost use Rattle.cron_time.specs.Walk.Inner.Stand as kept;
 ghost use Rattle.cron_moments.specs.Readings.{Reading};
-ghost use Rattle.cron_clocks.specs.Steady.{IsKnown};
 ghost use Rattle.jiff_tz.specs.declared.timezone.TimeZone.{TimeZone};
 
 use crate::search::known::Known;
@@ -39,7 +38,7 @@ impl State {
     /// The state of a walk that starts at an instant.
     pub fn starting(start: Timestamp) -> State
         ensures stand { stand_of result ≡ kept.Start start.nanosecond }
-        ensures known { (z : TimeZone) → IsKnown z result.known.stretch }
+        ensures known { (z : TimeZone) → KnowsZone z result }
     {
         let none = moment_numbered(0, Offset::UTC);
         State {

@@ -3,12 +3,11 @@ ghost use Rattle.std.specs.Prelude.{◌≡◌, ◌/◌, ◌%◌, ◌<◌, true};
 ghost use Rattle.jiff.specs.Words.{plain_zone};
 ghost use Rattle.cron_moments.specs.Civil.{seconds_in_range};
 ghost use Rattle.cron_moments.specs.CivilDates.{date_numbered};
-ghost use Rattle.cron_time.specs.Walk.Inner.Placed.{stand_of, IsPlaced};
+ghost use Rattle.cron_time.specs.Walk.Inner.Placed.{stand_of, IsPlaced, KnowsZone};
 ghost use Rattle.cron_time.specs.Walk.Inner.Stand as kept;
 ghost use Rattle.cron_time.specs.Search.Inner.Numbers.{beyond, matches_second, way_of};
 ghost use Rattle.cron_time.specs.Walk.Inner.Stop.{IsReached, LeadsTo};
 ghost use Rattle.cron_time.specs.Matches.{matches_date};
-ghost use Rattle.cron_clocks.specs.Steady.{IsKnown};
 
 use crate::search::days::some_month_has_a_day;
 use crate::search::inquiry::Inquiry;
@@ -24,9 +23,9 @@ use jiff::tz::TimeZone;
 
 // The walk goes to the first item from its bound on.
 fn from_bound(fields: &ScheduleFields, zone: &TimeZone<'_>, way: Way, state: &mut State)
-    requires known { IsKnown (plain_zone zone.now) state.old.known.stretch }
+    requires known { KnowsZone (plain_zone zone.now) state.old }
     ensures leads { LeadsTo way fields.now (plain_zone zone.now) (kept.Start state.old.start.nanosecond) (stand_of state.new) }
-    ensures known { IsKnown (plain_zone zone.now) state.new.known.stretch }
+    ensures known { KnowsZone (plain_zone zone.now) state.new }
 {
     match bound(way, Timestamp::from_plain(state.start), zone) {
         Some(from) => {
@@ -43,9 +42,9 @@ fn from_bound(fields: &ScheduleFields, zone: &TimeZone<'_>, way: Way, state: &mu
 // set.
 #[inline(never)]
 fn from_start(fields: &ScheduleFields, zone: &TimeZone<'_>, way: Way, state: &mut State)
-    requires known { IsKnown (plain_zone zone.now) state.old.known.stretch }
+    requires known { KnowsZone (plain_zone zone.now) state.old }
     ensures leads { LeadsTo way fields.now (plain_zone zone.now) (kept.Start state.old.start.nanosecond) (stand_of state.new) }
-    ensures known { IsKnown (plain_zone zone.now) state.new.known.stretch }
+    ensures known { KnowsZone (plain_zone zone.now) state.new }
 {
     let mut inquiry = Inquiry::new(fields, zone);
     if !some_month_has_a_day(&mut inquiry) {
@@ -62,13 +61,13 @@ fn past_item(fields: &ScheduleFields, zone: &TimeZone<'_>, way: Way, state: &mut
     requires matching { matches_date fields.now (date_numbered (state.old.earlier.second / 86_400)).0
         ≡ true }
     requires member { matches_second fields.now (state.old.earlier.second % 86_400) ≡ true }
-    requires known { IsKnown (plain_zone zone.now) state.old.known.stretch }
+    requires known { KnowsZone (plain_zone zone.now) state.old }
     ensures reached { IsReached way
         fields.now
         (plain_zone zone.now)
         (beyond way state.old.earlier.second)
         (stand_of state.new) }
-    ensures known { IsKnown (plain_zone zone.now) state.new.known.stretch }
+    ensures known { KnowsZone (plain_zone zone.now) state.new }
 {
     let item = state.earlier;
     let found = search_past(fields, zone, way, civil_second(&item), &mut state.known);
@@ -85,9 +84,9 @@ fn step_one_way<const BACK: bool>(
 )
     requires tied { way ≡ way_of BACK }
     requires placed { IsPlaced fields.now (plain_zone zone.now) (stand_of state.old) }
-    requires known { IsKnown (plain_zone zone.now) state.old.known.stretch }
+    requires known { KnowsZone (plain_zone zone.now) state.old }
     ensures leads { LeadsTo way fields.now (plain_zone zone.now) (stand_of state.old) (stand_of state.new) }
-    ensures known { IsKnown (plain_zone zone.now) state.new.known.stretch }
+    ensures known { KnowsZone (plain_zone zone.now) state.new }
 {
     match state.stage {
         Stage::Start => from_start(fields, zone, way, state),
@@ -108,9 +107,9 @@ fn step_one_way<const BACK: bool>(
 #[inline(always)]
 pub fn step(fields: &ScheduleFields, zone: &TimeZone<'_>, way: Way, state: &mut State)
     requires placed { IsPlaced fields.now (plain_zone zone.now) (stand_of state.old) }
-    requires known { IsKnown (plain_zone zone.now) state.old.known.stretch }
+    requires known { KnowsZone (plain_zone zone.now) state.old }
     ensures leads { LeadsTo way fields.now (plain_zone zone.now) (stand_of state.old) (stand_of state.new) }
-    ensures known { IsKnown (plain_zone zone.now) state.new.known.stretch }
+    ensures known { KnowsZone (plain_zone zone.now) state.new }
 {
     match way {
         Way::Ahead => step_one_way::<false>(fields, zone, Way::Ahead, state),

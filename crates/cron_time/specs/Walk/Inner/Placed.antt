@@ -4,6 +4,7 @@ use Rattle.cron_units.specs.declared.way.Way.{Way}
 use Rattle.cron_units.specs.declared.way.Way.TheVariants.{Ahead, Back}
 use Rattle.jiff_tz.specs.declared.timezone.TimeZone.{TimeZone}
 use Rattle.cron_moments.specs.Civil.{seconds_in_range}
+use Rattle.cron_clocks.specs.Steady.{IsKnown}
 use Rattle.cron_time.specs.Walk.Cursor.{Cursor, Start, Place, Ended}
 use Rattle.cron_moments.specs.Found.{found_items}
 use Rattle.cron_moments.specs.Readings.{Reading}
@@ -72,3 +73,7 @@ last_is_later Back f = false
 abbrev pub stop_of : Way → Option Found → Stand
 stop_of way None = Kept.Ended
 stop_of way (Some f) = Kept.At f (last_is_later (opposite way) f)
+
+-- what a walk keeps of its zone, from the searches before, is so
+abbrev pub KnowsZone : TimeZone → State → Type 0
+KnowsZone z state = IsKnown z state.known.stretch
