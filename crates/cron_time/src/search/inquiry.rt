@@ -12,7 +12,6 @@ ghost use Rattle.cron_moments.specs.Calendar.{weekday_number};
 ghost use Rattle.cron_moments.specs.Readings.{readings};
 ghost use Rattle.cron_clocks.specs.Steady.{IsKnown};
 
-use crate::search::known::Known;
 use cron_moments::calendar::{KnownMonth, weekday_of};
 use cron_clocks::stretch::Stretch;
 use cron_moments::readings::{Found, readings_of};
@@ -33,12 +32,15 @@ pub(crate) enum Unit {
 }
 
 /// The sets and the zone that a search asks, and how often it has asked. No two public calls share
-/// one. Its methods alone ask, and each raises its own count by one.
+/// one. Its methods alone ask, and each raises its own count by one. It knows the month of the date that
+/// was made last, and a stretch of civil seconds, perhaps an empty one, that was handed to it or learned.
 #[derive(Drop)]
 pub(crate) struct Inquiry<'a> {
     fields: &'a ScheduleFields,
     zone: &'a TimeZone<'a>,
-    known: Known,
+    month: KnownMonth,
+    stretch: Stretch,
+    learned: bool,
     days: u64,
     conversions: u64,
     questions: u64,
@@ -60,14 +62,14 @@ impl<'a> Model for Inquiry<'a> {
 
     ghost use Rattle.cron_clocks.specs.Steady.{IsKnown};
 
-    ghost invariant = { λ i. IsKnown (plain_zone i.zone.now) i.known.stretch };
+    ghost invariant = { λ i. IsKnown (plain_zone i.zone.now) i.stretch };
 }
 
 impl<'a> Inquiry<'a> {
     pub(crate) fn new(fields: &'a ScheduleFields, zone: &'a TimeZone<'a>) -> Inquiry<'a>
         ensures { result ≡ unasked fields.now (plain_zone zone.now) }
     {
-        Inquiry::knowing(fields, zone, Known::nothing())
+        Inquiry::knowing(fields, zone, KnownMonth::january_1970(), Stretch::empty())
     }
 
     /// Nothing is asked yet.
@@ -75,15 +77,18 @@ impl<'a> Inquiry<'a> {
     pub(crate) fn knowing(
         fields: &'a ScheduleFields,
         zone: &'a TimeZone<'a>,
-        known: Known,
+        month: KnownMonth,
+        stretch: Stretch,
     ) -> Inquiry<'a>
-        requires { IsKnown (plain_zone zone.now) known.stretch }
+        requires { IsKnown (plain_zone zone.now) stretch }
         ensures { result ≡ unasked fields.now (plain_zone zone.now) }
     {
         Inquiry {
             fields,
             zone,
-            known,
+            month,
+            stretch,
+            learned: false,
             days: 0,
             conversions: 0,
             questions: 0,
@@ -93,15 +98,18 @@ impl<'a> Inquiry<'a> {
     /// The month of the date that was made last.
     #[inline(always)]
     pub(crate) fn month(&self) -> KnownMonth {
-        self.known.month
+        self.month
     }
 
-    /// What the next search may begin with.
+    /// Hands the stretch on, if it is another than the one that was handed in.
     #[inline(always)]
-    pub(crate) fn known(&self) -> Known
-        ensures { IsKnown self.now.zone result.stretch }
+    pub(crate) fn hand_on(&self, stretch: &mut Stretch)
+        requires { IsKnown self.now.zone stretch.old }
+        ensures { IsKnown self.now.zone stretch.new }
     {
-        self.known
+        if self.learned {
+            *stretch = self.stretch;
+        }
     }
 
     /// The dates that were made and tested.
@@ -165,8 +173,8 @@ impl<'a> Inquiry<'a> {
         ensures counted { self.new ≡ one_day self.old }
     {
         self.days += 1;
-        self.known.month = self.known.month.or_numbered(month);
-        let number = self.known.month.number_of(day);
+        self.month = self.month.or_numbered(month);
+        let number = self.month.number_of(day);
         if !self.fields.includes_weekday(weekday_of(number)) {
             return None;
         }
@@ -186,8 +194,9 @@ impl<'a> Inquiry<'a> {
                 readings_of(self.zone, second)
             }
             _ => {
-                self.known.stretch = Stretch::at(self.zone, second);
-                self.known.stretch.readings(second)
+                self.stretch = Stretch::at(self.zone, second);
+                self.learned = true;
+                self.stretch.readings(second)
             }
         }
     }
@@ -201,8 +210,8 @@ impl<'a> Inquiry<'a> {
         ensures counted { self.new ≡ one_conversion self.old }
     {
         self.conversions += 1;
-        if self.known.stretch.has(second) {
-            return self.known.stretch.readings(second);
+        if self.stretch.has(second) {
+            return self.stretch.readings(second);
         }
         self.readings_anew(second)
     }

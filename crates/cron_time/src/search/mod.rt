@@ -18,7 +18,6 @@ ghost use Rattle.cron_time.specs.Search.{IsFound};
 pub(crate) mod days;
 pub mod found;
 pub(crate) mod inquiry;
-pub(crate) mod known;
 mod neighbours;
 pub(crate) mod onward;
 pub mod survey;

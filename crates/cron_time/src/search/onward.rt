@@ -14,10 +14,11 @@ ghost use Rattle.cron_time.specs.Search.{IsFound};
 
 use crate::search::days::{day_past, day_with};
 use crate::search::inquiry::Inquiry;
-use crate::search::known::Known;
 use crate::search::neighbours::time_past;
 use crate::search::ways::past;
 use crate::search::{SECONDS_PER_DAY, search_candidates, search_times, start_of};
+use cron_clocks::stretch::Stretch;
+use cron_moments::calendar::KnownMonth;
 use cron_moments::readings::Found;
 use cron_units::fields::ScheduleFields;
 use cron_units::way::Way;
@@ -89,24 +90,26 @@ fn search_days_past_either_way(inquiry: &mut Inquiry<'_>, way: Way, second: u32)
 }
 
 // The days past an item's own, in a new inquiry and out of the way of the items of the own day. It begins
-// with what the search before knew, and leaves what it knows.
+// with the month and the stretch that the search before knew, and leaves those that it knows.
 #[inline(never)]
 fn days_past(
     fields: &ScheduleFields,
     zone: &TimeZone<'_>,
     way: Way,
     second: u32,
-    known: &mut Known,
+    month: &mut KnownMonth,
+    stretch: &mut Stretch,
 ) -> Option<Found>
     requires in_range { second < seconds_in_range }
     requires matching { matches_date fields.now (date_numbered (second / 86_400)).0 ≡ true }
-    requires known { IsKnown (plain_zone zone.now) known.old.stretch }
+    requires known { IsKnown (plain_zone zone.now) stretch.old }
     ensures finds { FindsPastDay way fields.now (plain_zone zone.now) second result }
-    ensures known { IsKnown (plain_zone zone.now) known.new.stretch }
+    ensures known { IsKnown (plain_zone zone.now) stretch.new }
 {
-    let mut inquiry = Inquiry::knowing(fields, zone, *known);
+    let mut inquiry = Inquiry::knowing(fields, zone, *month, *stretch);
     let found = search_days_past_either_way(&mut inquiry, way, second);
-    *known = inquiry.known();
+    *month = inquiry.month();
+    inquiry.hand_on(stretch);
     found
 }
 
@@ -118,25 +121,26 @@ pub(crate) fn search_past(
     zone: &TimeZone<'_>,
     way: Way,
     second: u32,
-    known: &mut Known,
+    month: &mut KnownMonth,
+    stretch: &mut Stretch,
 ) -> Option<Found>
     requires in_range { second < seconds_in_range }
     requires matching { matches_date fields.now (date_numbered (second / 86_400)).0 ≡ true }
     requires member { matches_second fields.now (second % 86_400) ≡ true }
-    requires known { IsKnown (plain_zone zone.now) known.old.stretch }
+    requires known { IsKnown (plain_zone zone.now) stretch.old }
     ensures found { IsFound way
         fields.now
         (plain_zone zone.now)
         (beyond way second)
         (option_map found_items result) }
-    ensures known { IsKnown (plain_zone zone.now) known.new.stretch }
+    ensures known { IsKnown (plain_zone zone.now) stretch.new }
 {
     let day = second / SECONDS_PER_DAY;
-    let mut inquiry = Inquiry::knowing(fields, zone, *known);
+    let mut inquiry = Inquiry::knowing(fields, zone, *month, *stretch);
     let found = search_times_past(&mut inquiry, way, day, second % SECONDS_PER_DAY);
-    *known = inquiry.known();
+    inquiry.hand_on(stretch);
     if found.is_some() {
         return found;
     }
-    days_past(fields, zone, way, second, known)
+    days_past(fields, zone, way, second, month, stretch)
 }

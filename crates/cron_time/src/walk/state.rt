@@ -5,7 +5,8 @@ ghost use Rattle.cron_time.specs.Walk.Inner.Stand as kept;
 ghost use Rattle.cron_moments.specs.Readings.{Reading};
 ghost use Rattle.jiff_tz.specs.declared.timezone.TimeZone.{TimeZone};
 
-use crate::search::known::Known;
+use cron_clocks::stretch::Stretch;
+use cron_moments::calendar::KnownMonth;
 use cron_moments::moment::{Moment, moment_numbered};
 use cron_moments::readings::Found;
 use cron_units::way::Way;
@@ -24,14 +25,16 @@ pub(crate) enum Stage {
 }
 
 /// The stage of a walk, the readings of its civil second, and the instant that it started from. What
-/// the stage doesn't speak of means nothing. What is known is what the searches before found out.
+/// the stage doesn't speak of means nothing. The month is the one that was looked up last, and the stretch,
+/// perhaps an empty one, the one in which a reading was last looked for.
 #[derive(Clone, Copy)]
 pub struct State {
     pub(crate) stage: Stage,
     pub(crate) earlier: Moment,
     pub(crate) later: Moment,
     pub(crate) start: jiff_core::Timestamp,
-    pub(crate) known: Known,
+    pub(crate) month: KnownMonth,
+    pub(crate) stretch: Stretch,
 }
 
 impl State {
@@ -46,7 +49,8 @@ impl State {
             earlier: none,
             later: none,
             start: start.to_plain(),
-            known: Known::nothing(),
+            month: KnownMonth::january_1970(),
+            stretch: Stretch::empty(),
         }
     }
 
@@ -54,7 +58,7 @@ impl State {
     #[inline(always)]
     pub(crate) fn stop(&mut self, way: Way, found: Option<Found>)
         ensures stand { stand_of self.new ≡ stop_of way found }
-        ensures known { self.new.known ≡ self.old.known }
+        ensures known { self.new.stretch ≡ self.old.stretch }
     {
         let Some(
             Found {
@@ -82,7 +86,7 @@ impl State {
     pub(crate) fn standing(self, found: Found, later: bool) -> State
         requires { (r : Reading) × (reading_of found later ≡ Some r) }
         ensures stand { stand_of result ≡ kept.At found later }
-        ensures known { result.known ≡ self.known }
+        ensures known { result.stretch ≡ self.stretch }
     {
         let Found {
             first: earlier,

@@ -29,9 +29,10 @@ fn from_bound(fields: &ScheduleFields, zone: &TimeZone<'_>, way: Way, state: &mu
 {
     match bound(way, Timestamp::from_plain(state.start), zone) {
         Some(from) => {
-            let mut inquiry = Inquiry::knowing(fields, zone, state.known);
+            let mut inquiry = Inquiry::knowing(fields, zone, state.month, state.stretch);
             let found = search_from(&mut inquiry, way, from);
-            state.known = inquiry.known();
+            state.month = inquiry.month();
+            inquiry.hand_on(&mut state.stretch);
             state.stop(way, found)
         }
         None => state.stop(way, None),
@@ -70,7 +71,14 @@ fn past_item(fields: &ScheduleFields, zone: &TimeZone<'_>, way: Way, state: &mut
     ensures known { KnowsZone (plain_zone zone.now) state.new }
 {
     let item = state.earlier;
-    let found = search_past(fields, zone, way, civil_second(&item), &mut state.known);
+    let found = search_past(
+        fields,
+        zone,
+        way,
+        civil_second(&item),
+        &mut state.month,
+        &mut state.stretch,
+    );
     state.stop(way, found)
 }
 

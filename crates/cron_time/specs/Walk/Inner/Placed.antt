@@ -76,4 +76,4 @@ stop_of way (Some f) = Kept.At f (last_is_later (opposite way) f)
 
 -- what a walk keeps of its zone, from the searches before, is so
 abbrev pub KnowsZone : TimeZone → State → Type 0
-KnowsZone z state = IsKnown z state.known.stretch
+KnowsZone z state = IsKnown z state.stretch

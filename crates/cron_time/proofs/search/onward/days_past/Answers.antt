@@ -6,6 +6,3 @@ search_days_past_either_way-found-requires-clause-matching c = rw (ap (λ q. q.s
 
 pub returns-clause-finds : goal.returns-clause-finds
 returns-clause-finds c = rw (ap (λ q. q.sets) c.knowing-inquiry.ensures, ap (λ q. q.zone) c.knowing-inquiry.ensures) at c.search_days_past_either_way-found.ensures.finds
-
-pub returns-clause-known : goal.returns-clause-known
-returns-clause-known c = rw (c.search_days_past_either_way-found.ensures.same.zone, ap (λ q. q.zone) c.knowing-inquiry.ensures) at c.known.ensures

@@ -8,7 +8,6 @@ use Rattle.cron_time.specs.Walk.Inner.Placed.{reading_of}
 use Rattle.cron_time.specs.Search.{items_of}
 use Rattle.cron_time.proofs.Walks.ResumeLemmas.{absent_past, absent_among, absent_nowhere, kept_of, at_item}
 use Rattle.cron_clocks.specs.Steady.{IsKnown}
-use Rattle.cron_time.specs.declared.search.known.Known.{Known}
 use Rattle.cron_time.proofs.walk.resume.resumed.Goals as goal
 
 pub returns-then-second-ge-SECONDS : goal.returns-then-second-ge-SECONDS
@@ -33,6 +32,6 @@ returns c =
     let is : reading_of c.in-Some.found c.in-Some-is_later.later ≡ Some c.args.moment.now = c.in-Some-is_later.ensures in
     let same = ap (items_of c.args.fields.now (plain_zone c.args.zone.now)) c.civil_second-second.ensures in
     let kept = kept_of _ _ c.args.moment.now c.in-Some.found c.in-Some-is_later.later high (c.in-Some.ensures ∙ same) is in
-    let known : IsKnown (plain_zone c.args.zone.now) c.standing.result.known.stretch =
-    rw (ap (λ (k : Known). k.stretch) c.standing.ensures.known) (c.starting.ensures.known (plain_zone c.args.zone.now)) in
+    let known : IsKnown (plain_zone c.args.zone.now) c.standing.result.stretch =
+    rw c.standing.ensures.known (c.starting.ensures.known (plain_zone c.args.zone.now)) in
     rw c.standing.ensures.stand (kept, known, at_item _ _ c.args.moment.now c.in-Some.found c.in-Some-is_later.later kept is)
