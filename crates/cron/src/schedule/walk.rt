@@ -33,7 +33,7 @@ impl<C: Course> Model for Walker<C> {
     } };
 
     ghost invariant = { λ w. IsPlaced (C.sets w.course) (C.zone w.course) (stand_of w.state)
-      × KnowsZone (C.zone w.course) w.state };
+        × KnowsZone (C.zone w.course) w.state };
 }
 
 impl<C: Course> Walker<C> {

@@ -12,8 +12,8 @@ ghost use Rattle.cron_moments.specs.Calendar.{weekday_number};
 ghost use Rattle.cron_moments.specs.Readings.{readings};
 ghost use Rattle.cron_clocks.specs.Steady.{IsKnown};
 
-use cron_moments::calendar::{KnownMonth, weekday_of};
 use cron_clocks::stretch::Stretch;
+use cron_moments::calendar::{KnownMonth, weekday_of};
 use cron_moments::readings::{Found, readings_of};
 use cron_units::fields::ScheduleFields;
 use cron_units::way::Way;

@@ -1,6 +1,7 @@
 //! Where a walk goes on that has answered an item.
 ghost use Rattle.std.specs.Prelude.{◌≡◌, ◌<◌, ℕ, Some, MatchOption, slice_get};
 ghost use Rattle.jiff.specs.Words.{plain_zone};
+ghost use Rattle.cron_moments.specs.Civil.{seconds_in_range};
 ghost use Rattle.cron_moments.specs.Found.{found_items, items_if_any};
 ghost use Rattle.cron_time.specs.Walk.Inner.Placed.{IsPlaced, KnowsZone, cursor_of, reading_of, stand_of};
 ghost use Rattle.cron_time.specs.Walk.Resume.{IsAbsent, IsAtItem};
