@@ -1,4 +1,4 @@
-use Rattle.std.proofs.Common.{ap, Some, None, refl}
+use Rattle.std.proofs.Common.{ap, Some, None, refl, rules}
 use Rattle.cron_time.specs.Search.Times.{time_of_parts}
 use Rattle.cron_time.proofs.Searches.NearestTimeLemmas.{nearest_time}
 use Rattle.cron_time.proofs.search.times.nearest_time.Goals as goal
@@ -14,3 +14,9 @@ returns-in-None-clause-time c =
     let nearest = rw (ap (λ q. q.sets) c.new-inquiry.ensures) at c.in-None.ensures.nearest in
     nearest_time c.args.way c.args.fields.now (time_of_parts (c.args.hour, c.args.minute, c.args.second)) _ None c.requires.sets c.requires.minute
     c.requires.second refl nearest
+
+pub returns-in-Some-clause-questions : goal.returns-in-Some-clause-questions
+returns-in-Some-clause-questions c = search rules
+
+pub returns-in-None-clause-questions : goal.returns-in-None-clause-questions
+returns-in-None-clause-questions c = search rules
