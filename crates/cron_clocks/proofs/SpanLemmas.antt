@@ -111,7 +111,13 @@ window_alike : (last from to start end n : ℤ) → IsAtSecond last from start �
 window_alike last from to start end n one other =
     let first = first_from last from start one in
     let second = first_from last to end other in
-    rw (same_order last from to start end one other, le_first from start n first, lt_first to end n second, le_first to end n second, lt_first from start n first) refl
+    rw (
+      same_order last from to start end one other,
+      le_first from start n first,
+      lt_first to end n second,
+      le_first to end n second,
+      lt_first from start n first,
+    ) refl
 
 parts_alike : (std dst : Offset) (last from to start end n : ℤ) → InHand start → InHand end → IsAtSecond last from start → IsAtSecond last to end
     → PartsAlike std dst (from, to) start end (dst.seconds -ℤ std.seconds) n
@@ -234,7 +240,8 @@ module _ (rule : TimeZone) (d : Dst) (some : rule.dst ≡ Some d) (c : ℕ) (h :
   pub told_among : (start end : ℤ) (a b : Option Offset)
       → IsAtSecond (year_end y) at_start start → (first_day y *ℤ pos 86_400) ≤ℤ start → start ≤ℤ year_end y
       → IsAtSecond (year_end y) at_end end → (first_day y *ℤ pos 86_400) ≤ℤ end → end ≤ℤ year_end y
-      → ((w : ℤ × ℤ) → PartsAlike rule.std_offset d.offset w start end saving (pos c) → IsToldBy (ambiguous_by rule.std_offset d.offset w (nanos_of_seconds (pos c))) a b)
+      → ((w : ℤ × ℤ) → PartsAlike rule.std_offset d.offset w start end saving (pos c)
+      → IsToldBy (ambiguous_by rule.std_offset d.offset w (nanos_of_seconds (pos c))) a b)
       → IsToldBy (ambiguous_at rule (civil c)) a b
   told_among start end a b starts start_low start_high ends end_low end_high told =
       let alike = parts_alike rule.std_offset d.offset (year_end y) at_start at_end start end (pos c)

@@ -27,7 +27,8 @@ returns-clause-alike c =
     let high : pos c.args.second <ℤ c.parted_twice-span.result.end = omega (arith, signed_casts) in
     let in_range : IsNarrowed (pos 0) (pos seconds_in_range) c.parted_twice-span.result.first c.parted_twice-span.result.end =
     (omega (arith, signed_casts), omega (arith, signed_casts)) in
-    let after : IsNarrowed c.parted_twice-in_year.result.first c.parted_twice-in_year.result.end c.parted_twice-span.result.first c.parted_twice-span.result.end =
+    let after : IsNarrowed c.parted_twice-in_year.result.first c.parted_twice-in_year.result.end
+    c.parted_twice-span.result.first c.parted_twice-span.result.end =
     (omega (arith, signed_casts), omega (arith, signed_casts)) in
     let from = narrowed _ _ _ _ _ (first_day date.year *ℤ pos 86_400) in_year.one after (omega (arith, signed_casts)) in
     let to = narrowed _ _ _ _ _ (year_end date.year) in_year.other after (omega (arith, signed_casts)) in
@@ -67,7 +68,15 @@ returns-clause-told c =
     let fits-end : FitsSigned w64 c.turn_in-end.result = search rules in
     let fits-saving : FitsSigned w64 c.saving_of-saving.result = search rules in
     let at : to_z w64 (of_z w64 c.from-at.result) ≡ pos c.args.second = omega (arith, signed_casts, c.from-at.ensures, c.requires.range) in
-    let told = rw (c.from_plain.ensures, c.from_plain-2.ensures, to_z-of_z fits-start, to_z-of_z fits-end, to_z-of_z fits-saving, c.saving_of-saving.ensures.value, at)
+    let told = rw (
+      c.from_plain.ensures,
+      c.from_plain-2.ensures,
+      to_z-of_z fits-start,
+      to_z-of_z fits-end,
+      to_z-of_z fits-saving,
+      c.saving_of-saving.ensures.value,
+      at,
+    )
     at c.offsets_among-earlier.ensures in
     told_among c.args.rule c.args.dst c.requires.saving c.args.second c.requires.range date.year here _ _ _ _
     start.value start.low start.high end.value end.low end.high told
