@@ -8,7 +8,6 @@ use Rattle.cron_time.proofs.Searches.AskedLemmas.{same_on}
 use Rattle.cron_time.proofs.Searches.CountLemmas.{answer_second}
 use Rattle.cron_time.proofs.Searches.SurveyLemmas.{IsSurveyed, survey_starts, survey_more, survey_full, survey_end, survey_bound}
 use Rattle.cron_time.proofs.search.survey.survey.Goals as goal
-use Rattle.cron_time.proofs.search.survey.survey.Goals.{After-counted, After-counted-2}
 
 pub loop-seconds-init : goal.loop-seconds-init
 loop-seconds-init c =

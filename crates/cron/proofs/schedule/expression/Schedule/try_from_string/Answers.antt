@@ -1,4 +1,4 @@
-use Rattle.std.proofs.Common.{ap, ◌∙◌, sym, subst, rules}
+use Rattle.std.proofs.Common.{ap, ◌∙◌, sym, subst}
 use Rattle.std.specs.String.{string_bytes}
 use Rattle.cron_text.specs.Meaning.{MeansNothing}
 use Rattle.cron.proofs.schedule.expression.Schedule.try_from_string.Goals as goal
