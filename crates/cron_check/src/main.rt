@@ -1,4 +1,4 @@
-//! `cron_check [--next START ZONE] [FILE]` tells which lines of a file are no cron expressions.
+//! `cron_check [--sets | --next START ZONE] [FILE]` tells which lines of a file are no cron expressions.
 #![tactic(auto)]
 
 ghost use Rattle.std.specs.Prelude.{◌≡◌, false};
@@ -15,7 +15,7 @@ use std::io::{self, BufReader, ErrorKind, Read};
 use std::process::ExitCode;
 use std::{env, fs};
 
-const USAGE: &str = "usage: cron_check [--next START ZONE] [FILE]\n";
+const USAGE: &str = "usage: cron_check [--sets | --next START ZONE] [FILE]\n";
 
 const OUT_OF_MEMORY: &str = "error: out of memory\n";
 

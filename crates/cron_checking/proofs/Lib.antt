@@ -1,3 +1,5 @@
 pub mod LineLemmas
 pub mod Telling
 pub mod Putting
+pub mod RunLemmas
+pub mod DayLemmas

@@ -1,3 +1,4 @@
+pub mod Short
 pub mod Lines
 pub mod Reports
 pub mod Reading

@@ -9,8 +9,9 @@ use Rattle.cron_text.specs.Meaning.{Means}
 use Rattle.cron_text.specs.Fault.{IsRefusal}
 use Rattle.cron_instants.specs.Instants.{IsFirstAfter}
 use Rattle.cron_checking.specs.Lines.{is_passed_over}
+use Rattle.cron_checking.specs.Short.{sets_text}
 use Rattle.cron_checking.specs.declared.line.Mode.{Mode}
-use Rattle.cron_checking.specs.declared.line.Mode.TheVariants.{Faults, Next}
+use Rattle.cron_checking.specs.declared.line.Mode.TheVariants.{Faults, Short, Next}
 
 -- `7: `, a text and a line feed
 abbrev pub told : ℕ → List ℕ → List ℕ
@@ -23,6 +24,7 @@ item_text (Some r) = moment_text r
 -- what a mode tells of an expression that means these sets
 abbrev pub TellsSets : Mode → ℕ → Sets → List ℕ → Type 0
 TellsSets Faults number s text = text ≡ []
+TellsSets Short number s text = text ≡ told number (sets_text s)
 TellsSets (Next start zone) number s text =
     (first : Option Reading) × IsFirstAfter s (plain_zone zone) start.nanosecond first × (text ≡ told number (item_text first))
 

@@ -24,6 +24,10 @@ fn file_of(words: &[String]) -> Option<Option<&str>> {
 /// can't be read.
 pub fn request_of(words: &[String]) -> Option<Request<'_>> {
     match words {
+        [word, rest @ ..] if word.as_str() == "--sets" => Some(Request {
+            mode: Mode::Short,
+            file: file_of(rest)?,
+        }),
         [word, start, zone, rest @ ..] if word.as_str() == "--next" => Some(Request {
             mode: Mode::Next(start.as_str().parse().ok()?, zone_of(zone.as_str())?),
             file: file_of(rest)?,

@@ -7,3 +7,4 @@ pub mod line;
 mod output;
 mod reading;
 pub mod say;
+pub mod short;

@@ -5,8 +5,10 @@ ghost use Rattle.std.specs.String.{string_bytes};
 ghost use Rattle.cron_text.specs.Tokens.{is_space};
 ghost use Rattle.cron_checking.specs.Inner.{TellsBytes};
 ghost use Rattle.cron_checking.specs.Lines.{is_passed_over};
-ghost use Rattle.cron_checking.specs.Reports.{TellsLine, TellsSets};
+ghost use Rattle.cron_checking.specs.Reports.{TellsLine, TellsSets, told};
+ghost use Rattle.cron_checking.specs.Short.{sets_text};
 
+use crate::short::push_sets;
 use cron_instants::instants::first_after;
 use cron_moments::line::text_of;
 use cron_text::{fault_of, no_ordinals, read_into};
@@ -20,6 +22,8 @@ use std::alloc::AllocError;
 pub enum Mode<'a> {
     /// Nothing.
     Faults,
+    /// The short form of its sets, its canonical text.
+    Short,
     /// The first fire after an instant in a zone, or `none`.
     Next(Timestamp, TimeZone<'a>),
 }
@@ -42,6 +46,15 @@ fn is_passed_over(line: &[u8]) -> bool
     true
 }
 
+fn tell_short(number: u64, fields: &ScheduleFields, text: &mut String) -> Result<(), AllocError>
+    requires { string_bytes text.old ≡ [] }
+    ensures { OnOk result (string_bytes text.new ≡ told number (sets_text fields.now)) }
+{
+    write!(text, "{number}: ")?;
+    push_sets(text, fields)?;
+    write!(text, "\n")
+}
+
 // Tells what a mode tells of an expression that means these sets.
 fn tell_sets(
     mode: &Mode<'_>,
@@ -54,6 +67,7 @@ fn tell_sets(
 {
     match mode {
         Mode::Faults => Ok(()),
+        Mode::Short => tell_short(number, fields, text),
         Mode::Next(start, zone) => match first_after(fields, zone, *start) {
             Some(first) => writeln!(text, "{number}: {first}"),
             None => writeln!(text, "{number}: none"),

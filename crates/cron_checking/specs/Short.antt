@@ -1,0 +1,64 @@
+-- The short form of sets: a canonical text that means them.
+use Rattle.std.specs.Prelude.{◌==◌, ◌+◌, ℕ, List, [], ◌∷◌, ◌++◌, map, codes, if◌then◌else◌}
+use Rattle.std.specs.Fmt.{decimal}
+use Rattle.std.specs.Str.{bytes_eq}
+use Rattle.std.specs.List.{flat_map}
+use Rattle.cron_units.specs.Sets.{Sets}
+use Rattle.cron_units.specs.Units.{TimeUnit, FieldSet, unmarked, whole}
+use Rattle.cron_units.specs.Units as units
+use Rattle.cron_units.specs.Items.{Item, every, single, number_range, plain, name}
+use Rattle.cron_text.specs.Fields.{item_symbols}
+use Rattle.cron_text.specs.Tokens.{Symbol, number, word, star, question, comma, dash, slash, foreign}
+
+-- a number before runs of ascending numbers, each of which is its first and its last
+abbrev pub before_runs : ℕ → List (ℕ × ℕ) → List (ℕ × ℕ)
+before_runs n [] = (n, n) ∷ []
+before_runs n (r ∷ rs) = if n + 1 == r.0 then (n, r.1) ∷ rs else (n, n) ∷ r ∷ rs
+
+-- the runs of ascending numbers
+unfoldable pub runs_of : List ℕ → List (ℕ × ℕ)
+runs_of [] = []
+runs_of (n ∷ ns) = before_runs n (runs_of ns)
+
+-- `5`, or `5-9`
+abbrev pub run_item : ℕ × ℕ → Item
+run_item r = plain (if r.0 == r.1 then single r.0 else number_range r.0 r.1)
+
+-- the items of the numbers of a set: a star for all of them, else their runs
+abbrev pub number_items : TimeUnit → List ℕ → List Item
+number_items u ordinals = if bytes_eq ordinals (whole u) then plain every ∷ [] else map run_item (runs_of ordinals)
+
+-- the items of a set, with the last day of the month behind its numbers
+abbrev pub short_items : TimeUnit → FieldSet → List Item
+short_items u s =
+    if s.last_day then number_items u s.ordinals ++ name (codes "L") ∷ [] else number_items u s.ordinals
+
+abbrev pub symbol_text : Symbol → List ℕ
+symbol_text (number n) = decimal n
+symbol_text (word w) = w
+symbol_text star = codes "*"
+symbol_text question = codes "?"
+symbol_text comma = codes ","
+symbol_text dash = codes "-"
+symbol_text slash = codes "/"
+symbol_text foreign = []
+
+abbrev pub short_item : Item → List ℕ
+short_item i = flat_map symbol_text (item_symbols i)
+
+-- items with a comma between two
+abbrev pub items_text : List Item → List ℕ
+items_text [] = []
+items_text (i ∷ []) = short_item i
+items_text (i ∷ j ∷ is) = short_item i ++ 44 ∷ items_text (j ∷ is)
+
+abbrev pub field_text : TimeUnit → FieldSet → List ℕ
+field_text u s = items_text (short_items u s)
+
+-- the seven fields with a space between two
+unfoldable pub sets_text : Sets → List ℕ
+sets_text s =
+    field_text units.seconds (unmarked s.seconds) ++ 32 ∷ (field_text units.minutes (unmarked s.minutes) ++ 32 ∷ (
+    field_text units.hours (unmarked s.hours) ++ 32 ∷ (field_text units.days_of_month s.days_of_month ++ 32 ∷ (
+    field_text units.months (unmarked s.months) ++ 32 ∷ (field_text units.days_of_week (unmarked s.days_of_week) ++ 32 ∷
+    field_text units.years (unmarked s.years))))))
