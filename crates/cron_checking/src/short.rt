@@ -1,11 +1,13 @@
 //! The short form of sets: a canonical text that means them.
 
-ghost use Rattle.std.specs.Prelude.{◌≡◌, ◌==◌, ◌+◌, ◌++◌, ◌∷◌, [], ℕ, List, IfOk, OnOk, map};
+ghost use Rattle.std.specs.Prelude.{◌≡◌, ◌==◌, ◌+◌, ◌++◌, ◌∷◌, [], ℕ, List, IfOk, IsTrue, OnOk, map};
 ghost use Rattle.std.specs.String.{string_bytes};
 ghost use Rattle.cron_checking.specs.Short.{items_text, field_text, number_items, run_item, runs_of, sets_text, short_item};
+ghost use Rattle.cron_text.specs.Meaning.{Means};
 ghost use Rattle.cron_units.specs.Units as units;
 
 use cron::Schedule;
+use cron_text::{no_ordinals, read_into};
 use cron_units::fields::ScheduleFields;
 use cron_units::time_unit::{DaysOfMonth, Ordinal, OrdinalIter, TimeUnitSpec};
 use std::alloc::{AllocError, Global};
@@ -106,12 +108,26 @@ fn fields_of(schedule: &Schedule) -> ScheduleFields
     }
 }
 
-/// The canonical text of a schedule: seven fields with one space between two, each a star, or its runs of
-/// numbers as `0-4,30`, with `L` last among the days of the month.
-pub fn canonical_text(alloc: Global, schedule: &Schedule) -> Result<String, AllocError>
-    ensures { IfOk result (λ text. string_bytes text ≡ sets_text schedule.now.sets) }
+// Whether a text is read as these sets. No memory is taken.
+fn is_read_as(text: &str, fields: &ScheduleFields) -> bool
+    ensures { IsTrue result → Means text.now fields.now }
 {
+    let mut again = no_ordinals();
+    read_into(text, &mut again) && again == *fields
+}
+
+/// The canonical text of a schedule: seven fields with one space between two, each a star, or its runs of
+/// numbers as `0-4,30`, with `L` last among the days of the month. It is read back before it is answered,
+/// so it means the sets of the schedule. A text that isn't read so would be answered as want of memory.
+pub fn canonical_text(alloc: Global, schedule: &Schedule) -> Result<String, AllocError>
+    ensures text { IfOk result (λ text. string_bytes text ≡ sets_text schedule.now.sets) }
+    ensures means { IfOk result (λ text. Means (string_bytes text) schedule.now.sets) }
+{
+    let fields = fields_of(schedule);
     let mut text = String::new(alloc);
-    push_sets(&mut text, &fields_of(schedule))?;
+    push_sets(&mut text, &fields)?;
+    if !is_read_as(text.as_str(), &fields) {
+        return Err(AllocError);
+    }
     Ok(text)
 }
