@@ -24,5 +24,5 @@ pub returns : goal.returns
 returns c =
     let zone = plain_zone c.in-Some.zone in
     let (walk, resumed, listed) = listed_on c.args.way (sets_of c.args.schedule.now) c.fields_of-fields.result zone c.in-Some-moment_of.given
-    (stand_of c.in-Some-resumed.from) c.args.items.now c.fill.new.items c.fill.result c.fields_of-fields.ensures c.in-Some-resumed.ensures.1 c.fill.ensures in
+    (stand_of c.in-Some-resumed.from) c.args.items.now c.fill.new.items c.fill.result c.fields_of-fields.ensures c.in-Some-resumed.ensures.2 c.fill.ensures in
     (zone, walk, c.in-Some.ensures.1, (c.in-Some-moment_of.given, c.in-Some-moment_of.ensures.0, resumed), listed)

@@ -9,4 +9,4 @@ returns-in-Some c =
     let zone = plain_zone c.args.zone.now in
     resumed_answer c.args.way (sets_of c.args.schedule.now) c.fields_of-fields.result zone c.args.item.now
     (cursor_of c.fields_of-fields.result zone (stand_of c.in-Some.given)) (stand_of c.step.new.state) c.answer.result
-    c.fields_of-fields.ensures c.in-Some.ensures.1 c.step.ensures c.answer.ensures
+    c.fields_of-fields.ensures c.in-Some.ensures.2 c.step.ensures.leads c.answer.ensures
