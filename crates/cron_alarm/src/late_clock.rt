@@ -1,0 +1,33 @@
+//! A clock that wakes late, and takes no time.
+
+use cron_scheduler::AlarmClock;
+use jiff::{Error, Timestamp};
+
+/// How late it wakes, in seconds: by more than an hour, so that two fires of a fold come due at once.
+const LATE: i64 = 4200;
+
+/// A clock that shows a second, and goes on when it is waited for.
+#[derive(Drop)]
+pub(crate) struct LateClock {
+    second: i64,
+}
+
+impl LateClock {
+    /// Shows this second since 1970 at first.
+    pub(crate) fn new(second: i64) -> LateClock {
+        LateClock { second }
+    }
+}
+
+impl AlarmClock for LateClock {
+    type Error = Error;
+
+    fn now(&mut self) -> Result<Timestamp, Error> {
+        Timestamp::from_second(self.second)
+    }
+
+    fn sleep_until(&mut self, instant: Timestamp) -> Result<(), Error> {
+        self.second = instant.as_second().saturating_add(LATE);
+        Ok(())
+    }
+}

@@ -1,0 +1,99 @@
+//! `cron_alarm EXPRESSION ZONE COUNT` prints a line at each of the next fires of a cron expression, when it
+//! comes. With no arguments it shows the fold of Chicago's 2022 on a clock of its own.
+#![tactic(auto)]
+
+mod late_clock;
+
+use anyhow::Result;
+use cron::Schedule;
+use cron::schedule::Moment;
+use cron_moments::zone::zone_of;
+use cron_scheduler::{AlarmClock, MachineClock, Plan, Start};
+use jiff::tz::TimeZone;
+use late_clock::LateClock;
+use std::env;
+use std::error::Error;
+use std::process::ExitCode;
+
+const USAGE: &str = "usage: cron_alarm EXPRESSION ZONE COUNT";
+
+/// The rule of Chicago, where the clock goes back from 02:00 to 01:00 on 2022-11-06.
+const CHICAGO: &str = "CST6CDT,M3.2.0,M11.1.0";
+
+/// 2022-11-06T05:00:00Z, midnight in Chicago.
+const MIDNIGHT: i64 = 1_667_710_800;
+
+/// What is asked for: the first so many fires of an expression in a zone.
+#[derive(Drop)]
+struct Request<'a> {
+    expression: &'a str,
+    zone: TimeZone<'a>,
+    count: u64,
+}
+
+// Reads three arguments, `None` where one of them can't be read. The expression is left as it is.
+fn request_of(arguments: &[String]) -> Option<Request<'_>> {
+    let [expression, zone, count] = arguments else {
+        return None;
+    };
+    Some(Request {
+        expression: expression.as_str(),
+        zone: zone_of(zone.as_str())?,
+        count: count.as_str().parse().ok()?,
+    })
+}
+
+// Prints a line at each fire that was asked for, as the clock goes.
+fn ring<C: AlarmClock>(
+    rt: &(impl Print + AllocGlobal),
+    request: &Request<'_>,
+    clock: &mut C,
+) -> Result<()>
+where
+    C::Error: Error,
+{
+    let schedule = Schedule::from_str(rt.alloc(), request.expression)?;
+    let plan = Plan {
+        schedule: &schedule,
+        zone: &request.zone,
+        start: Start::After(clock.now()?),
+        most: Some(request.count),
+    };
+    plan.run(clock, &mut |fire: Moment| println!(rt; "{fire}"))?;
+    Ok(())
+}
+
+// Both half past ones of a fold and the one of the next day, on a clock that wakes late.
+fn ring_in_the_fold(rt: &(impl Print + AllocGlobal)) -> Result<()> {
+    let request = Request {
+        expression: "0 30 1 * * *",
+        zone: TimeZone::posix(CHICAGO)?,
+        count: 3,
+    };
+    ring(rt, &request, &mut LateClock::new(MIDNIGHT))
+}
+
+fn answer(rt: &HostRuntime) -> Result<ExitCode> {
+    let arguments: Vec<String> = env::args(rt)?.collect(rt.alloc())?;
+    let arguments = arguments.as_slice();
+    if arguments.len() <= 1 {
+        ring_in_the_fold(rt)?;
+        return Ok(ExitCode::SUCCESS);
+    }
+    let Some(request) = request_of(&arguments[1..]) else {
+        println!(rt; "{USAGE}")?;
+        return Ok(ExitCode::from(2));
+    };
+    ring(rt, &request, &mut MachineClock(rt))?;
+    Ok(ExitCode::SUCCESS)
+}
+
+fn main(rt: HostRuntime) -> ExitCode {
+    match answer(&rt) {
+        Ok(code) => code,
+        Err(error) => {
+            let _printed = println!(rt; "error: {error}");
+            ExitCode::FAILURE
+        }
+    }
+}

@@ -1,0 +1,78 @@
+-- Calls one after another.
+use Rattle.std.proofs.Common.{◌≡◌, Option, Some, None, List, [], ◌∷◌, ◌++◌, ◌⊎◌, inl, inr, refl, sym, ap, subst, ◌∙◌}
+use Rattle.std.specs.Prelude.{Result, Ok, Err, ⊤, MatchOption}
+use Rattle.jiff_core.specs.declared.Timestamp.{Timestamp}
+use Rattle.cron_moments.specs.Readings.{Reading}
+use Rattle.cron_scheduler.specs.declared.stop.Stop.{Stop}
+use Rattle.cron_scheduler.specs.Runs.{Event, Wait, Look, Run, Happened, ran, shown, failure, EndsBy, MayFollow}
+
+pub happened_on : {C J E F : Type 0} (shows : C → Result Timestamp E → C → Type 0) (waits : C → Timestamp → Result ⊤ E → C → Type 0)
+    (runs : J → Reading → Result ⊤ F → J → Type 0) (es fs : List (Event E F)) (c : C) (j : J) (c1 : C) (j1 : J) (c2 : C) (j2 : J)
+    → Happened shows waits runs es c j c1 j1 → Happened shows waits runs fs c1 j1 c2 j2 → Happened shows waits runs (es ++ fs) c j c2 j2
+happened_on shows waits runs [] fs c j c1 j1 c2 j2 h k =
+    subst (λ x. Happened shows waits runs fs x j c2 j2) h.0 (subst (λ y. Happened shows waits runs fs c1 y c2 j2) h.1 k)
+happened_on shows waits runs (Wait t answer ∷ es) fs c j c1 j1 c2 j2 h k = (h.0, h.1, happened_on shows waits runs es fs h.0 j c1 j1 c2 j2 h.2 k)
+happened_on shows waits runs (Look answer ∷ es) fs c j c1 j1 c2 j2 h k = (h.0, h.1, happened_on shows waits runs es fs h.0 j c1 j1 c2 j2 h.2 k)
+happened_on shows waits runs (Run r answer ∷ es) fs c j c1 j1 c2 j2 h k = (h.0, h.1, happened_on shows waits runs es fs c h.0 c1 j1 c2 j2 h.2 k)
+
+pub ran-append : {E F : Type 0} (es fs : List (Event E F)) → ran (es ++ fs) ≡ ran es ++ ran fs
+ran-append [] fs = refl
+ran-append (Wait t answer ∷ es) fs = ran-append es fs
+ran-append (Look answer ∷ es) fs = ran-append es fs
+ran-append (Run r answer ∷ es) fs = ap (λ l. r ∷ l) (ran-append es fs)
+
+pub shown-append : {E F : Type 0} (es fs : List (Event E F)) → shown (es ++ fs) ≡ shown es ++ shown fs
+shown-append [] fs = refl
+shown-append (Wait t answer ∷ es) fs = shown-append es fs
+shown-append (Look (Ok t) ∷ es) fs = ap (λ l. t ∷ l) (shown-append es fs)
+shown-append (Look (Err e) ∷ es) fs = shown-append es fs
+shown-append (Run r answer ∷ es) fs = shown-append es fs
+
+-- nothing failed
+abbrev well : (E F : Type 0) → Result ⊤ (Stop E F)
+well E F = Ok tt
+
+ends_by : {E F : Type 0} (f : Option (Stop E F)) (es fs : List (Event E F)) (answer : Result ⊤ (Stop E F))
+    → (EndsBy es (Ok tt) → EndsBy (es ++ fs) answer)
+    → MatchOption f (EndsBy es (Ok tt)) (λ stop. (es ≡ []) × (well E F ≡ Err stop))
+    → MatchOption f (EndsBy (es ++ fs) answer) (λ stop. (es ++ fs ≡ []) × (answer ≡ Err stop))
+ends_by None es fs answer on h = on h
+ends_by (Some stop) es fs answer on h = let apart = h.1 in absurd (cc)
+
+-- nothing has failed before
+pub ends_on : {E F : Type 0} (es fs : List (Event E F)) (answer : Result ⊤ (Stop E F)) → EndsBy es (Ok tt) → EndsBy fs answer → EndsBy (es ++ fs) answer
+ends_on [] fs answer h k = k
+ends_on (e ∷ es) fs answer h k = ends_by (failure e) es fs answer (λ m. ends_on es fs answer m k) h
+
+-- each call was made in its turn
+abbrev pub InTurn : {E F : Type 0} → List Reading → List (Event E F) → Type 0
+InTurn {E} {F} fires calls = (before after : List (Event E F)) (e : Event E F) → calls ≡ before ++ e ∷ after → MayFollow fires before e
+
+nothing_is : {A : Type 0} (before after : List A) (e : A) → [] ≡ before ++ e ∷ after → ⊥
+nothing_is [] after e h = cc
+nothing_is (b ∷ before) after e h = cc
+
+split_last : {A : Type 0} (es before after : List A) (last e : A) → es ++ last ∷ [] ≡ before ++ e ∷ after
+    → ((before ≡ es) × (e ≡ last)) ⊎ ((more : List A) × (es ≡ before ++ e ∷ more))
+split_last [] [] after last e h = let same : e ≡ last = cc in inl (refl, same)
+split_last {A} [] (b ∷ before) after last e h =
+    let none : [] ≡ before ++ e ∷ after = cc in absurd (nothing_is before after e none)
+split_last {A} (x ∷ es) [] after last e h = let same : x ≡ e = cc in inr (es, ap (λ y. y ∷ es) same)
+split_last {A} (x ∷ es) (b ∷ before) after last e h =
+    let same : x ≡ b = cc in
+    let tails : es ++ last ∷ [] ≡ before ++ e ∷ after = cc in
+    elim (split_last es before after last e tails) [
+      | inl here ↦ let place = here.0 in inl (ap (λ l. b ∷ l) place ∙ ap (λ y. y ∷ es) (sym same), here.1)
+      | inr there ↦ inr (there.0, ap (λ y. y ∷ es) same ∙ ap (λ l. b ∷ l) there.1)
+    ]
+
+pub turn_on : {E F : Type 0} (fires : List Reading) (es : List (Event E F)) (last : Event E F) → InTurn fires es → MayFollow fires es last
+    → InTurn fires (es ++ last ∷ [])
+turn_on {E} {F} fires es last turns next before after e h =
+    elim (split_last es before after last e h) [
+      | inl here ↦ subst (λ (x : Event E F). MayFollow fires before x) (sym here.1) (subst (λ (l : List (Event E F)). MayFollow fires l last) (sym here.0) next)
+      | inr there ↦ turns before there.0 e there.1
+    ]
+
+pub none_in_turn : {E F : Type 0} (fires : List Reading) → InTurn {E = E} {F = F} fires []
+none_in_turn fires before after e h = absurd (nothing_is before after e h)

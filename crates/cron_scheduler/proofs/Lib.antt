@@ -1,0 +1,5 @@
+pub mod PlanLemmas
+pub mod PassingLemmas
+pub mod DueLemmas
+pub mod CallLemmas
+pub mod RunLemmas

@@ -1,0 +1,90 @@
+-- What a run does, call by call, and which fires it runs.
+use Rattle.std.specs.Prelude.{◌≡◌, ◌⊎◌, ◌++◌, ◌*ℤ◌, pos, ◌-◌, ◌^◌, Bool, true, false, ◌||◌, Option, Some, None, MatchOption, List, [], ◌∷◌, Result, Ok, Err, ⊤, length, filter, slice_get}
+use Rattle.std.specs.Option.{option_map}
+use Rattle.jiff_core.specs.declared.Timestamp.{Timestamp}
+use Rattle.cron_moments.specs.Readings.{Reading, instant}
+use Rattle.cron_instants.specs.Fires.{is_by}
+use Rattle.cron_scheduler.specs.declared.stop.Stop.{Stop}
+use Rattle.cron_scheduler.specs.declared.stop.Stop.TheVariants.{Clock, Job}
+
+-- one call with its answer: a wait until an instant, a reading of the clock, or the job for a fire
+pub data Event (E F : Type 0) : Type 0 where
+  Wait : Timestamp → Result ⊤ E → Event E F
+  Look : Result Timestamp E → Event E F
+  Run : Reading → Result ⊤ F → Event E F
+
+-- The calls were made one after another: from a clock and a job to what they were afterwards.
+abbrev pub Happened : {C J E F : Type 0} → (C → Result Timestamp E → C → Type 0) → (C → Timestamp → Result ⊤ E → C → Type 0)
+    → (J → Reading → Result ⊤ F → J → Type 0) → List (Event E F) → C → J → C → J → Type 0
+Happened shows waits runs [] c j c' j' = (c' ≡ c) × (j' ≡ j)
+Happened {C} shows waits runs (Wait t answer ∷ es) c j c' j' = (next : C) × waits c t answer next × Happened shows waits runs es next j c' j'
+Happened {C} shows waits runs (Look answer ∷ es) c j c' j' = (next : C) × shows c answer next × Happened shows waits runs es next j c' j'
+Happened {C} {J} shows waits runs (Run r answer ∷ es) c j c' j' = (next : J) × runs j r answer next × Happened shows waits runs es c next c' j'
+
+-- the fires for which the job was run, in order
+abbrev pub ran : {E F : Type 0} → List (Event E F) → List Reading
+ran [] = []
+ran (Wait t answer ∷ es) = ran es
+ran (Look answer ∷ es) = ran es
+ran (Run r answer ∷ es) = r ∷ ran es
+
+-- the times that the clock showed, in order
+abbrev pub shown : {E F : Type 0} → List (Event E F) → List Timestamp
+shown [] = []
+shown (Wait t answer ∷ es) = shown es
+shown (Look (Ok t) ∷ es) = t ∷ shown es
+shown (Look (Err e) ∷ es) = shown es
+shown (Run r answer ∷ es) = shown es
+
+-- one of these times is the fire's instant, or past it
+abbrev pub is_due : List Timestamp → Reading → Bool
+is_due [] r = false
+is_due (t ∷ ts) r = is_by t.nanosecond r || is_due ts r
+
+-- of some fires those up to the greatest time that the clock showed
+abbrev pub due : {E F : Type 0} → List Reading → List (Event E F) → List Reading
+due fires es = filter (is_due (shown es)) fires
+
+-- the first one that wasn't run
+abbrev pub next : {E F : Type 0} → List Reading → List (Event E F) → Option Reading
+next fires es = slice_get fires (length (ran es))
+
+-- What may be done after what was done before.
+abbrev pub MayFollow : {E F : Type 0} → List Reading → List (Event E F) → Event E F → Type 0
+-- once all that is due was run, a wait until the instant of the fire that comes next
+MayFollow fires before (Wait t answer) =
+    (ran before ≡ due fires before) × (option_map (λ r. instant r *ℤ pos 1_000_000_000) (next fires before) ≡ Some t.nanosecond)
+-- after a wait, a look at the clock
+MayFollow {E} {F} fires before (Look answer) =
+    (earlier : List (Event E F)) × (t : Timestamp) × (before ≡ earlier ++ Wait t (Ok tt) ∷ [])
+-- the job for the fire that comes next, if it is due
+MayFollow fires before (Run r answer) = (next fires before ≡ Some r) × (is_due (shown before) r ≡ true)
+
+abbrev pub failure : {E F : Type 0} → Event E F → Option (Stop E F)
+failure (Wait t (Ok done)) = None
+failure (Wait t (Err e)) = Some (Clock e)
+failure (Look (Ok t)) = None
+failure (Look (Err e)) = Some (Clock e)
+failure (Run r (Ok done)) = None
+failure (Run r (Err f)) = Some (Job f)
+
+-- The calls end at the first one that fails, and its failure is the answer.
+abbrev pub EndsBy : {E F : Type 0} → List (Event E F) → Result ⊤ (Stop E F) → Type 0
+EndsBy [] answer = answer ≡ Ok tt
+EndsBy (e ∷ es) answer = MatchOption (failure e) (EndsBy es answer) (λ stop. (es ≡ []) × (answer ≡ Err stop))
+
+-- What was run in the end: all that was due; where nothing failed all of the fires, unless the clock was read 2^64 - 1 times;
+-- and where the job failed a beginning of what was due, since it failed for the last one that was run.
+abbrev pub RunsWhole : {E F : Type 0} → Result ⊤ (Stop E F) → List Reading → List (Event E F) → Type 0
+RunsWhole (Ok done) fires es = (ran es ≡ due fires es) × ((ran es ≡ fires) ⊎ (length (shown es) ≡ 2 ^ 64 - 1))
+RunsWhole (Err (Clock e)) fires es = ran es ≡ due fires es
+RunsWhole (Err (Job f)) fires es = (left : List Reading) × (due fires es ≡ ran es ++ left)
+
+-- A run over some fires: its calls, from a clock and a job to what they were afterwards.
+pub record IsRun {C J E F : Type 0} (shows : C → Result Timestamp E → C → Type 0) (waits : C → Timestamp → Result ⊤ E → C → Type 0)
+    (runs : J → Reading → Result ⊤ F → J → Type 0) (fires : List Reading) (c : C) (j : J) (answer : Result ⊤ (Stop E F)) (c' : C) (j' : J) : Type 0 where
+  pub calls : List (Event E F)
+  pub happened : Happened shows waits runs calls c j c' j'
+  pub in_turn : (before after : List (Event E F)) (e : Event E F) → calls ≡ before ++ e ∷ after → MayFollow fires before e
+  pub ends : EndsBy calls answer
+  pub whole : RunsWhole answer fires calls

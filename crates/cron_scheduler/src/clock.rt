@@ -1,0 +1,27 @@
+//! A clock that can be read, and waits.
+
+ghost use Rattle.std.specs.Prelude.{⊤, Result};
+ghost use Rattle.jiff_core.specs.declared.Timestamp.{Timestamp};
+
+use jiff::Timestamp;
+
+/// A clock that shows the time, and waits until an instant. It may go back, jump ahead, or wake early
+/// or late: nothing is asked of what it shows.
+pub trait AlarmClock {
+    /// Why the clock can't be read, or can't wait.
+    type Error;
+
+    // one reading: the clock before it, the answer, and the clock after it
+    ghost shows: { Self → Result Timestamp Self.Error → Self → Type 0 } = { λ _ _ _. Unit {0} };
+
+    // one wait, until an instant
+    ghost waits: { Self → Timestamp → Result ⊤ Self.Error → Self → Type 0 } = { λ _ _ _ _. Unit {0} };
+
+    /// What the clock shows.
+    fn now(&mut self) -> Result<Timestamp, Self::Error>
+        ensures { shows self.old result self.new };
+
+    /// Waits until the clock shows this instant. It may come back early, or late.
+    fn sleep_until(&mut self, instant: Timestamp) -> Result<(), Self::Error>
+        ensures { waits self.old instant result self.new };
+}

@@ -1,0 +1,18 @@
+//! Runs a job at each fire of a schedule, over any clock that can wait: each fire once, in order, none
+//! before its instant, and none lost, however the clock goes.
+#![tactic(auto)]
+
+mod clock;
+mod job;
+mod machine;
+mod plan;
+mod runs;
+mod stop;
+#[cfg(test)]
+mod tests;
+
+pub use clock::AlarmClock;
+pub use job::Job;
+pub use machine::MachineClock;
+pub use plan::{Plan, Start};
+pub use stop::Stop;

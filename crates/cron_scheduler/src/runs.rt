@@ -1,0 +1,78 @@
+//! Runs the job for the fires of a plan, as the clock goes.
+
+ghost use Rattle.std.specs.Prelude.{◌≡◌};
+ghost use Rattle.jiff.specs.Words.{plain_zone};
+ghost use Rattle.cron_scheduler.specs.Plans.{planned};
+ghost use Rattle.cron_scheduler.specs.Runs.{IsRun};
+ghost use Rattle.cron_scheduler.specs.Inner.Passing.{RunsDue, Wakes};
+
+use crate::clock::AlarmClock;
+use crate::job::Job;
+use crate::plan::{Plan, Rest};
+use crate::stop::Stop;
+use jiff::Timestamp;
+
+// Waits until an instant, and tells what the clock shows then.
+fn wake_at<C: AlarmClock>(clock: &mut C, instant: Timestamp) -> Result<Timestamp, C::Error>
+    ensures { Wakes C.shows C.waits instant clock.old result clock.new }
+{
+    clock.sleep_until(instant)?;
+    clock.now()
+}
+
+// Runs the job for each fire that is due by now, and leaves these fires out.
+fn run_due<J: Job>(
+    plan: &Plan<'_>,
+    rest: &mut Rest,
+    now: Timestamp,
+    job: &mut J,
+) -> Result<(), J::Error>
+    requires { J.can_run job.old }
+    ensures due { RunsDue J.runs now.nanosecond (planned plan.now.schedule.now.sets (plain_zone plan.now.zone.now) rest.old.start rest.old.most) job.old
+        result (planned plan.now.schedule.now.sets (plain_zone plan.now.zone.now) rest.new.start rest.new.most) job.new }
+    ensures stays { J.can_run job.new }
+{
+    while let Some(fire) = plan.first_due(rest, now) {
+        job.run(fire)?;
+        rest.pass(fire);
+    }
+    Ok(())
+}
+
+impl Plan<'_> {
+    /// Runs the job for the fires of the plan, each once, in order, and none before its instant: waits for
+    /// the fire that comes next, reads the clock, runs all that is due by then, and again.
+    ///
+    /// It ends when all of the fires were run; where the clock fails, with all run that was due by the
+    /// greatest time it had shown; and where the job fails. Else it goes on for as long as the schedule
+    /// fires, up to 2^64 - 1 readings of the clock.
+    pub fn run<C: AlarmClock, J: Job>(
+        &self,
+        clock: &mut C,
+        job: &mut J,
+    ) -> Result<(), Stop<C::Error, J::Error>>
+        requires { J.can_run job.old }
+        ensures run { IsRun C.shows C.waits J.runs
+            (planned self.now.schedule.now.sets (plain_zone self.now.zone.now) self.now.start self.now.most)
+            clock.old job.old result clock.new job.new }
+        ensures stays { J.can_run job.new }
+    {
+        let mut rest = Rest {
+            start: self.start,
+            most: self.most,
+        };
+        'rounds: for _ in 0..u64::MAX {
+            let Some(fire) = self.first(&rest) else {
+                return Ok(());
+            };
+            let now = match wake_at(clock, fire.timestamp()) {
+                Ok(now) => now,
+                Err(error) => return Err(Stop::Clock(error)),
+            };
+            if let Err(error) = run_due(self, &mut rest, now, job) {
+                return Err(Stop::Job(error));
+            }
+        }
+        Ok(())
+    }
+}

@@ -1,0 +1,24 @@
+//! What ends a run early.
+
+use std::error::Error;
+use std::fmt;
+
+/// What ended a run before all of its fires were run. It prints as the error that it holds.
+#[derive(Debug, PartialEq, Eq, Drop)]
+pub enum Stop<C, J> {
+    /// The clock couldn't be read, or couldn't wait.
+    Clock(C),
+    /// The job failed.
+    Job(J),
+}
+
+impl<C: fmt::Display, J: fmt::Display> fmt::Display for Stop<C, J> {
+    fn fmt<W: fmt::Write>(&self, f: &mut fmt::Formatter<W>) -> fmt::Result {
+        match self {
+            Stop::Clock(error) => write!(f, "{error}"),
+            Stop::Job(error) => write!(f, "{error}"),
+        }
+    }
+}
+
+impl<C: Error, J: Error> Error for Stop<C, J> {}
