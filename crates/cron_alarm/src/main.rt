@@ -3,17 +3,21 @@
 #![tactic(auto)]
 
 mod late_clock;
+mod printer;
 
 use anyhow::Result;
 use cron::Schedule;
-use cron::schedule::Moment;
 use cron_moments::zone::zone_of;
 use cron_scheduler::{AlarmClock, MachineClock, Plan, Start};
+use cron_writer::watchable::Watchable;
+use cron_writer::watched::Watched;
 use jiff::tz::TimeZone;
 use late_clock::LateClock;
-use std::env;
+use printer::{Printer, print_fires};
+use std::alloc::Global;
 use std::error::Error;
 use std::process::ExitCode;
+use std::{env, io};
 
 const USAGE: &str = "usage: cron_alarm EXPRESSION ZONE COUNT";
 
@@ -44,52 +48,63 @@ fn request_of(arguments: &[String]) -> Option<Request<'_>> {
 }
 
 // Prints a line at each fire that was asked for, as the clock goes.
-fn ring<C: AlarmClock>(
-    rt: &(impl Print + AllocGlobal),
+fn ring<C: AlarmClock, W: Watchable>(
+    alloc: Global,
     request: &Request<'_>,
     clock: &mut C,
+    printer: &mut Printer<W>,
 ) -> Result<()>
 where
     C::Error: Error,
 {
-    let schedule = Schedule::from_str(rt.alloc(), request.expression)?;
+    let schedule = Schedule::from_str(alloc, request.expression)?;
     let plan = Plan {
         schedule: &schedule,
         zone: &request.zone,
         start: Start::After(clock.now()?),
         most: Some(request.count),
     };
-    plan.run(clock, &mut |fire: Moment| println!(rt; "{fire}"))?;
+    print_fires(&plan, clock, printer)?;
     Ok(())
 }
 
 // Both half past ones of a fold and the one of the next day, on a clock that wakes late.
-fn ring_in_the_fold(rt: &(impl Print + AllocGlobal)) -> Result<()> {
+fn ring_in_the_fold<W: Watchable>(alloc: Global, printer: &mut Printer<W>) -> Result<()> {
     let request = Request {
         expression: "0 30 1 * * *",
         zone: TimeZone::posix(CHICAGO)?,
         count: 3,
     };
-    ring(rt, &request, &mut LateClock::new(MIDNIGHT))
+    ring(alloc, &request, &mut LateClock::new(MIDNIGHT), printer)
 }
 
-fn answer(rt: &HostRuntime) -> Result<ExitCode> {
-    let arguments: Vec<String> = env::args(rt)?.collect(rt.alloc())?;
-    let arguments = arguments.as_slice();
-    if arguments.len() <= 1 {
-        ring_in_the_fold(rt)?;
+// Answers the arguments after the program's name.
+fn answer(rt: &HostRuntime, arguments: &[String]) -> Result<ExitCode> {
+    let mut printer = Printer {
+        out: Watched::new(io::writer(rt)),
+    };
+    if arguments.is_empty() {
+        ring_in_the_fold(rt.alloc(), &mut printer)?;
         return Ok(ExitCode::SUCCESS);
     }
-    let Some(request) = request_of(&arguments[1..]) else {
+    let Some(request) = request_of(arguments) else {
         println!(rt; "{USAGE}")?;
         return Ok(ExitCode::from(2));
     };
-    ring(rt, &request, &mut MachineClock(rt))?;
+    ring(rt.alloc(), &request, &mut MachineClock(rt), &mut printer)?;
     Ok(ExitCode::SUCCESS)
 }
 
+fn run(rt: &HostRuntime) -> Result<ExitCode> {
+    let arguments: Vec<String> = env::args(rt)?.collect(rt.alloc())?;
+    match arguments.as_slice().split_first() {
+        Some((_, arguments)) => answer(rt, arguments),
+        None => answer(rt, &[]),
+    }
+}
+
 fn main(rt: HostRuntime) -> ExitCode {
-    match answer(&rt) {
+    match run(&rt) {
         Ok(code) => code,
         Err(error) => {
             let _printed = println!(rt; "error: {error}");

@@ -3,3 +3,4 @@ pub mod PassingLemmas
 pub mod DueLemmas
 pub mod CallLemmas
 pub mod RunLemmas
+pub mod LawLemmas

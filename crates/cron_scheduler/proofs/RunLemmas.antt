@@ -98,7 +98,6 @@ ran_for {C} {J} {E} {F} shows waits runs fires [] left c j c1 j1 j2 calls made w
     }
 ran_for {C} {J} {E} {F} shows waits runs fires (r ∷ rs) left c j c1 j1 j2 calls made went split all =
     let e : Event E F = Run r (Ok tt) in
-    let more = calls ++ e ∷ [] in
     let again : Made shows waits runs fires c j c1 went.0 (calls ++ e ∷ []) =
     made_on shows waits runs fires c j c1 j1 c1 went.0 calls e made (went.0, went.1, (refl, refl))
     (next_is fires (r ∷ (rs ++ left)) (rs ++ left) calls r split refl, all.0) refl in
@@ -149,7 +148,8 @@ spent shows waits runs fires left looks c j c1 j1 st all =
     }
 
 wait_turn : {C J E F : Type 0} (shows : C → Result Timestamp E → C → Type 0) (waits : C → Timestamp → Result ⊤ E → C → Type 0)
-    (runs : J → Reading → Result ⊤ F → J → Type 0) (fires left rest : List Reading) (looks : ℕ) (c : C) (j : J) (c1 : C) (j1 : J) (r : Reading) (t : Timestamp) (answer : Result ⊤ E)
+    (runs : J → Reading → Result ⊤ F → J → Type 0)
+    (fires left rest : List Reading) (looks : ℕ) (c : C) (j : J) (c1 : C) (j1 : J) (r : Reading) (t : Timestamp) (answer : Result ⊤ E)
     (st : Stands shows waits runs fires left looks c j c1 j1) → left ≡ r ∷ rest → t.nanosecond ≡ instant r *ℤ pos 1_000_000_000
     → MayFollow fires st.calls (Wait t answer)
 wait_turn shows waits runs fires left rest looks c j c1 j1 r t answer st first at = (
@@ -166,7 +166,8 @@ quiet fires calls e still dark h =
     same_ran ∙ (h ∙ ap (λ ts. filter (is_due ts) fires) (sym same_shown))
 
 wait_fails : {C J E F : Type 0} (shows : C → Result Timestamp E → C → Type 0) (waits : C → Timestamp → Result ⊤ E → C → Type 0)
-    (runs : J → Reading → Result ⊤ F → J → Type 0) (fires left rest : List Reading) (looks : ℕ) (c : C) (j : J) (c1 : C) (j1 : J) (c2 : C) (r : Reading) (t : Timestamp) (e : E)
+    (runs : J → Reading → Result ⊤ F → J → Type 0)
+    (fires left rest : List Reading) (looks : ℕ) (c : C) (j : J) (c1 : C) (j1 : J) (c2 : C) (r : Reading) (t : Timestamp) (e : E)
     → Stands shows waits runs fires left looks c j c1 j1 → left ≡ r ∷ rest → t.nanosecond ≡ instant r *ℤ pos 1_000_000_000 → waits c1 t (Err e) c2
     → IsRun shows waits runs fires c j (Err (Clock e)) c2 j1
 wait_fails {C} {J} {E} {F} shows waits runs fires left rest looks c j c1 j1 c2 r t e st first at waited =
@@ -176,7 +177,8 @@ wait_fails {C} {J} {E} {F} shows waits runs fires left rest looks c j c1 j1 c2 r
     (quiet fires st.calls call refl refl (whole shows waits runs fires left looks c j c1 j1 st))
 
 after_wait : {C J E F : Type 0} (shows : C → Result Timestamp E → C → Type 0) (waits : C → Timestamp → Result ⊤ E → C → Type 0)
-    (runs : J → Reading → Result ⊤ F → J → Type 0) (fires left rest : List Reading) (looks : ℕ) (c : C) (j : J) (c1 : C) (j1 : J) (c2 : C) (r : Reading) (t : Timestamp)
+    (runs : J → Reading → Result ⊤ F → J → Type 0)
+    (fires left rest : List Reading) (looks : ℕ) (c : C) (j : J) (c1 : C) (j1 : J) (c2 : C) (r : Reading) (t : Timestamp)
     (st : Stands shows waits runs fires left looks c j c1 j1) → left ≡ r ∷ rest → t.nanosecond ≡ instant r *ℤ pos 1_000_000_000 → waits c1 t (Ok tt) c2
     → Made shows waits runs fires c j c2 j1 (st.calls ++ Wait t (Ok tt) ∷ [])
 after_wait {C} {J} {E} {F} shows waits runs fires left rest looks c j c1 j1 c2 r t st first at waited =
@@ -185,7 +187,8 @@ after_wait {C} {J} {E} {F} shows waits runs fires left rest looks c j c1 j1 c2 r
     (wait_turn shows waits runs fires left rest looks c j c1 j1 r t (Ok tt) st first at) refl
 
 look_fails : {C J E F : Type 0} (shows : C → Result Timestamp E → C → Type 0) (waits : C → Timestamp → Result ⊤ E → C → Type 0)
-    (runs : J → Reading → Result ⊤ F → J → Type 0) (fires left rest : List Reading) (looks : ℕ) (c : C) (j : J) (c1 : C) (j1 : J) (c2 c3 : C) (r : Reading) (t : Timestamp) (e : E)
+    (runs : J → Reading → Result ⊤ F → J → Type 0)
+    (fires left rest : List Reading) (looks : ℕ) (c : C) (j : J) (c1 : C) (j1 : J) (c2 c3 : C) (r : Reading) (t : Timestamp) (e : E)
     → Stands shows waits runs fires left looks c j c1 j1 → left ≡ r ∷ rest → t.nanosecond ≡ instant r *ℤ pos 1_000_000_000 → waits c1 t (Ok tt) c2
     → shows c2 (Err e) c3 → IsRun shows waits runs fires c j (Err (Clock e)) c3 j1
 look_fails {C} {J} {E} {F} shows waits runs fires left rest looks c j c1 j1 c2 c3 r t e st first at waited looked =
@@ -197,20 +200,21 @@ look_fails {C} {J} {E} {F} shows waits runs fires left rest looks c j c1 j1 c2 c
 
 -- the clock was waited for and read
 record Looked {C J E F : Type 0} (shows : C → Result Timestamp E → C → Type 0) (waits : C → Timestamp → Result ⊤ E → C → Type 0)
-    (runs : J → Reading → Result ⊤ F → J → Type 0) (fires : List Reading) (c : C) (j : J) (c' : C) (j' : J) (now : Timestamp) (before : List (Event E F)) : Type 0 where
+    (runs : J → Reading → Result ⊤ F → J → Type 0)
+    (fires : List Reading) (c : C) (j : J) (c' : C) (j' : J) (now : Timestamp) (before : List (Event E F)) : Type 0 where
   calls : List (Event E F)
   made : Made shows waits runs fires c j c' j' calls
   ran_is : ran calls ≡ ran before
   shown_is : shown calls ≡ shown before ++ now ∷ []
 
 after_look : {C J E F : Type 0} (shows : C → Result Timestamp E → C → Type 0) (waits : C → Timestamp → Result ⊤ E → C → Type 0)
-    (runs : J → Reading → Result ⊤ F → J → Type 0) (fires left rest : List Reading) (looks : ℕ) (c : C) (j : J) (c1 : C) (j1 : J) (c2 c3 : C) (r : Reading) (t now : Timestamp)
+    (runs : J → Reading → Result ⊤ F → J → Type 0)
+    (fires left rest : List Reading) (looks : ℕ) (c : C) (j : J) (c1 : C) (j1 : J) (c2 c3 : C) (r : Reading) (t now : Timestamp)
     (st : Stands shows waits runs fires left looks c j c1 j1) → left ≡ r ∷ rest → t.nanosecond ≡ instant r *ℤ pos 1_000_000_000 → waits c1 t (Ok tt) c2
     → shows c2 (Ok now) c3 → Looked shows waits runs fires c j c3 j1 now st.calls
 after_look {C} {J} {E} {F} shows waits runs fires left rest looks c j c1 j1 c2 c3 r t now st first at waited looked =
     let wait : Event E F = Wait t (Ok tt) in
     let call : Event E F = Look (Ok now) in
-    let calls = st.calls ++ wait ∷ [] in
     record {
       calls = (st.calls ++ wait ∷ []) ++ call ∷ [];
       made = made_on shows waits runs fires c j c2 j1 c3 j1 (st.calls ++ wait ∷ []) call
@@ -222,7 +226,9 @@ after_look {C} {J} {E} {F} shows waits runs fires left rest looks c j c1 j1 c2 c
     }
 
 pub job_fails : {C J E F : Type 0} (shows : C → Result Timestamp E → C → Type 0) (waits : C → Timestamp → Result ⊤ E → C → Type 0)
-    (runs : J → Reading → Result ⊤ F → J → Type 0) (fires left after rest : List Reading) (looks : ℕ) (c : C) (j : J) (c1 : C) (j1 : J) (c2 : C) (j2 : J) (r : Reading) (t now : Timestamp) (f : F)
+    (runs : J → Reading → Result ⊤ F → J → Type 0)
+    (fires left after rest : List Reading) (looks : ℕ) (c : C) (j : J) (c1 : C) (j1 : J) (c2 : C) (j2 : J) (r : Reading) (t now :
+    Timestamp) (f : F)
     → Stands shows waits runs fires left looks c j c1 j1 → left ≡ r ∷ rest → t.nanosecond ≡ instant r *ℤ pos 1_000_000_000 → Wakes shows waits t c1 (Ok now) c2
     → RunsDue runs now.nanosecond left j1 (Err f) after j2 → IsRun shows waits runs fires c j (Err (Job f)) c2 j2
 job_fails {C} {J} {E} {F} shows waits runs fires left after rest looks c j c1 j1 c2 j2 r t now f st first at wakes ran_due =
@@ -248,18 +254,19 @@ job_fails {C} {J} {E} {F} shows waits runs fires left after rest looks c j c1 j1
     (refl, refl) (
       filter (is_due (shown o.calls)) behind,
       ap (λ ts. filter (is_due ts) fires) same_shown
-          ∙ (filter_begins (is_due (shown o.calls)) fires (ran o.calls ++ q ∷ []) behind parted (pass_on (is_due (shown o.calls)) (ran o.calls) q done_due due_last)
+          ∙ (filter_begins (is_due (shown o.calls)) fires (ran o.calls ++ q ∷ []) behind parted (pass_on (is_due (shown o.calls)) (ran o.calls) q
+          done_due due_last)
           ∙ ap (λ l. l ++ filter (is_due (shown o.calls)) behind) (sym same_ran)),
     )
 
 pub round : {C J E F : Type 0} (shows : C → Result Timestamp E → C → Type 0) (waits : C → Timestamp → Result ⊤ E → C → Type 0)
-    (runs : J → Reading → Result ⊤ F → J → Type 0) (fires left after rest : List Reading) (looks : ℕ) (c : C) (j : J) (c1 : C) (j1 : J) (c2 : C) (j2 : J) (r : Reading) (t now : Timestamp)
+    (runs : J → Reading → Result ⊤ F → J → Type 0)
+    (fires left after rest : List Reading) (looks : ℕ) (c : C) (j : J) (c1 : C) (j1 : J) (c2 : C) (j2 : J) (r : Reading) (t now : Timestamp)
     → Stands shows waits runs fires left looks c j c1 j1 → left ≡ r ∷ rest → t.nanosecond ≡ instant r *ℤ pos 1_000_000_000 → Wakes shows waits t c1 (Ok now) c2
     → RunsDue runs now.nanosecond left j1 (Ok tt) after j2 → Stands shows waits runs fires after (looks + 1) c j c2 j2
 round {C} {J} {E} {F} shows waits runs fires left after rest looks c j c1 j1 c2 j2 r t now st first at wakes ran_due =
     let (rs, went, parts, all, none) = ran_due in
     let l = after_look shows waits runs fires left rest looks c j c1 j1 wakes.0 c2 r t now st first at wakes.1 wakes.2 in
-    let times = shown st.calls ++ now ∷ [] in
     let split : fires ≡ ran l.calls ++ (rs ++ after) = st.split ∙ (ap (λ xs. ran st.calls ++ xs) parts ∙ ap (λ xs. xs ++ (rs ++ after)) (sym l.ran_is)) in
     let now_due = all_last (shown st.calls) now rs all in
     let o = ran_for shows waits runs fires rs after c j c2 j1 j2 l.calls l.made went split

@@ -4,6 +4,7 @@
 
 mod clock;
 mod job;
+pub mod laws;
 mod machine;
 mod plan;
 mod runs;

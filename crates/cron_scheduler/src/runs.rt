@@ -61,7 +61,7 @@ impl Plan<'_> {
             start: self.start,
             most: self.most,
         };
-        'rounds: for _ in 0..u64::MAX {
+        for _ in 0..u64::MAX {
             let Some(fire) = self.first(&rest) else {
                 return Ok(());
             };

@@ -5,53 +5,60 @@ use Rattle.cron_scheduler.specs.Inner.Passing.{planned_past}
 use Rattle.cron_scheduler.proofs.RunLemmas.{at_first, clock_fails, ended, job_fails, round, spent}
 use Rattle.cron_scheduler.proofs.plan.Plan.run.Goals as goal
 
-pub rounds-init : goal.rounds-init
-rounds-init g c =
+pub loop-init : goal.loop-init
+loop-init g c =
     let s = c.args.self.now.schedule.now.sets in
-    let z = plain_zone c.args.self.now.zone.now in
-    (at_first g.C.AlarmClock.shows g.C.AlarmClock.waits g.J.Job.runs (planned s z c.args.self.now.start c.args.self.now.most) c.args.clock.now c.args.job.now, c.requires)
+    let z = plain_zone c.args.self.now.zone.now in (
+      at_first g.C.AlarmClock.shows g.C.AlarmClock.waits g.J.Job.runs (planned s z c.args.self.now.start c.args.self.now.most) c.args.clock.now
+          c.args.job.now,
+      c.requires,
+    )
 
 pub returns-in_default-clause-run : goal.returns-in_default-clause-run
 returns-in_default-clause-run g c =
     let s = c.args.self.now.schedule.now.sets in
     let z = plain_zone c.args.self.now.zone.now in
     let fires = planned s z c.args.self.now.start c.args.self.now.most in
-    let left = planned s z c.rounds.rest.start c.rounds.rest.most in
-    ended g.C.AlarmClock.shows g.C.AlarmClock.waits g.J.Job.runs fires left c.rounds.counter c.args.clock.now c.args.job.now c.rounds.clock c.rounds.job c.rounds.invariant.0 c.in_default.ensures
+    let left = planned s z c.loop.rest.start c.loop.rest.most in
+    ended g.C.AlarmClock.shows g.C.AlarmClock.waits g.J.Job.runs fires left c.loop.counter c.args.clock.now c.args.job.now c.loop.clock
+    c.loop.job c.loop.invariant.0 c.in_default.ensures
 
 pub returns-in-Err-clause-run : goal.returns-in-Err-clause-run
 returns-in-Err-clause-run g c =
     let s = c.args.self.now.schedule.now.sets in
     let z = plain_zone c.args.self.now.zone.now in
     let fires = planned s z c.args.self.now.start c.args.self.now.most in
-    let left = planned s z c.rounds.rest.start c.rounds.rest.most in
-    let rest = planned_past s z c.in-Some.fire c.rounds.rest.most in
-    clock_fails g.C.AlarmClock.shows g.C.AlarmClock.waits g.J.Job.runs fires left rest c.rounds.counter c.args.clock.now c.args.job.now c.rounds.clock c.rounds.job
-    c.wake_at.new.clock c.in-Some.fire c.timestamp.result c.in-Err.error c.rounds.invariant.0 c.in-Some.ensures c.timestamp.ensures c.in-Err.ensures
+    let left = planned s z c.loop.rest.start c.loop.rest.most in
+    let rest = planned_past s z c.in-Some.fire c.loop.rest.most in
+    clock_fails g.C.AlarmClock.shows g.C.AlarmClock.waits g.J.Job.runs fires left rest c.loop.counter c.args.clock.now c.args.job.now
+    c.loop.clock c.loop.job
+    c.wake_at.new.clock c.in-Some.fire c.timestamp.result c.in-Err.error c.loop.invariant.0 c.in-Some.ensures c.timestamp.ensures c.in-Err.ensures
 
 pub returns-in-Err-run_due-clause-run : goal.returns-in-Err-run_due-clause-run
 returns-in-Err-run_due-clause-run g c =
     let s = c.args.self.now.schedule.now.sets in
     let z = plain_zone c.args.self.now.zone.now in
     let fires = planned s z c.args.self.now.start c.args.self.now.most in
-    let left = planned s z c.rounds.rest.start c.rounds.rest.most in
-    let rest = planned_past s z c.in-Some.fire c.rounds.rest.most in
+    let left = planned s z c.loop.rest.start c.loop.rest.most in
+    let rest = planned_past s z c.in-Some.fire c.loop.rest.most in
     let after = planned s z c.run_due.new.rest.start c.run_due.new.rest.most in
-    job_fails g.C.AlarmClock.shows g.C.AlarmClock.waits g.J.Job.runs fires left after rest c.rounds.counter c.args.clock.now c.args.job.now c.rounds.clock c.rounds.job
+    job_fails g.C.AlarmClock.shows g.C.AlarmClock.waits g.J.Job.runs fires left after rest c.loop.counter c.args.clock.now c.args.job.now
+    c.loop.clock c.loop.job
     c.wake_at.new.clock c.run_due.new.job c.in-Some.fire c.timestamp.result c.in-Ok.now c.in-Err-run_due.error
-    c.rounds.invariant.0 c.in-Some.ensures c.timestamp.ensures c.in-Ok.ensures c.in-Err-run_due.ensures.due
+    c.loop.invariant.0 c.in-Some.ensures c.timestamp.ensures c.in-Ok.ensures c.in-Err-run_due.ensures.due
 
-pub rounds-preserved : goal.rounds-preserved
-rounds-preserved g c =
+pub loop-preserved : goal.loop-preserved
+loop-preserved g c =
     let s = c.args.self.now.schedule.now.sets in
     let z = plain_zone c.args.self.now.zone.now in
     let fires = planned s z c.args.self.now.start c.args.self.now.most in
-    let left = planned s z c.rounds.rest.start c.rounds.rest.most in
-    let rest = planned_past s z c.in-Some.fire c.rounds.rest.most in
+    let left = planned s z c.loop.rest.start c.loop.rest.most in
+    let rest = planned_past s z c.in-Some.fire c.loop.rest.most in
     let after = planned s z c.run_due.new.rest.start c.run_due.new.rest.most in (
-      round g.C.AlarmClock.shows g.C.AlarmClock.waits g.J.Job.runs fires left after rest c.rounds.counter c.args.clock.now c.args.job.now c.rounds.clock c.rounds.job
+      round g.C.AlarmClock.shows g.C.AlarmClock.waits g.J.Job.runs fires left after rest c.loop.counter c.args.clock.now c.args.job.now
+          c.loop.clock c.loop.job
           c.wake_at.new.clock c.run_due.new.job c.in-Some.fire c.timestamp.result c.in-Ok.now
-          c.rounds.invariant.0 c.in-Some.ensures c.timestamp.ensures c.in-Ok.ensures c.in_default-run_due.ensures.due,
+          c.loop.invariant.0 c.in-Some.ensures c.timestamp.ensures c.in-Ok.ensures c.in_default-run_due.ensures.due,
       c.run_due.ensures.stays,
     )
 
@@ -60,6 +67,7 @@ returns-clause-run g c =
     let s = c.args.self.now.schedule.now.sets in
     let z = plain_zone c.args.self.now.zone.now in
     let fires = planned s z c.args.self.now.start c.args.self.now.most in
-    let left = planned s z c.rounds.rest.start c.rounds.rest.most in
-    let all : c.rounds.counter ≡ 2 ^ 64 - 1 = omega arith in
-    spent g.C.AlarmClock.shows g.C.AlarmClock.waits g.J.Job.runs fires left c.rounds.counter c.args.clock.now c.args.job.now c.rounds.clock c.rounds.job c.rounds.invariant.0 all
+    let left = planned s z c.loop.rest.start c.loop.rest.most in
+    let all : c.loop.counter ≡ 2 ^ 64 - 1 = omega arith in
+    spent g.C.AlarmClock.shows g.C.AlarmClock.waits g.J.Job.runs fires left c.loop.counter c.args.clock.now c.args.job.now c.loop.clock
+    c.loop.job c.loop.invariant.0 all

@@ -3,8 +3,8 @@ use Rattle.cron_scheduler.specs.Plans.{planned}
 use Rattle.cron_scheduler.proofs.RunLemmas.{Stands}
 use Rattle.cron_scheduler.proofs.plan.Plan.run.Given as goal
 
-abbrev pub invariant-rounds : goal.invariant-rounds
-invariant-rounds g l =
+abbrev pub invariant-loop : goal.invariant-loop
+invariant-loop g l =
     (Stands g.C.AlarmClock.shows g.C.AlarmClock.waits g.J.Job.runs
     (planned l.self.schedule.now.sets (plain_zone l.self.zone.now) l.self.start l.self.most)
     (planned l.self.schedule.now.sets (plain_zone l.self.zone.now) l.rest.start l.rest.most)

@@ -1,0 +1,64 @@
+//! A job that writes a line for each fire.
+
+ghost use Rattle.jiff.specs.Words.{plain_zone};
+ghost use Rattle.cron_scheduler.specs.Plans.{planned};
+ghost use Rattle.cron_alarm.specs.Printing.{Prints, PrintsLine};
+
+use cron::schedule::Moment;
+use cron_moments::line::line_of;
+use cron_scheduler::{AlarmClock, Job, Plan, Stop};
+use cron_writer::watchable::Watchable;
+use cron_writer::watched::{Watched, send};
+use std::error::Error;
+use std::fmt;
+
+/// A write or a flush failed.
+#[derive(Clone, Copy, Debug)]
+pub(crate) struct WriteFailed;
+
+impl fmt::Display for WriteFailed {
+    fn fmt<W: fmt::Write>(&self, f: &mut fmt::Formatter<W>) -> fmt::Result {
+        write!(f, "a write failed")
+    }
+}
+
+impl Error for WriteFailed {}
+
+/// Writes a line for each fire, and flushes. It calls the writer no more once a call has failed.
+#[derive(Drop)]
+pub(crate) struct Printer<W> {
+    pub(crate) out: Watched<W>,
+}
+
+impl<W: Watchable> Job for Printer<W> {
+    ghost use Rattle.cron_alarm.specs.Printing.{PrintsLine};
+
+    type Error = WriteFailed;
+
+    ghost runs = { λ old fire answer new. PrintsLine W.contents old.out fire answer new.out };
+
+    fn run(&mut self, fire: Moment) -> Result<(), WriteFailed> {
+        send(&mut self.out, line_of(&fire).as_slice());
+        if self.out.failed() {
+            return Err(WriteFailed);
+        }
+        let _flushed = self.out.flush();
+        if self.out.failed() {
+            return Err(WriteFailed);
+        }
+        Ok(())
+    }
+}
+
+/// Prints the fires of a plan, each when the clock has come to it.
+pub(crate) fn print_fires<C: AlarmClock, W: Watchable>(
+    plan: &Plan<'_>,
+    clock: &mut C,
+    printer: &mut Printer<W>,
+) -> Result<(), Stop<C::Error, WriteFailed>>
+    ensures { Prints C.shows C.waits (λ old fire answer new. PrintsLine W.contents old.out fire answer new.out) W.contents (λ p. p.out)
+        (planned plan.now.schedule.now.sets (plain_zone plan.now.zone.now) plan.now.start plan.now.most)
+        clock.old printer.old result clock.new printer.new }
+{
+    plan.run(clock, printer)
+}
