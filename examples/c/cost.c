@@ -30,20 +30,19 @@ static double cost_of_parse(const char *text, cron_c_schedule *schedule)
 }
 
 /* A call by an instant is a fresh search; one by an item goes on from it. */
-static double cost_of_items(const cron_c_schedule *schedule, const char *zone, int fresh)
+static double cost_of_items(const cron_c_schedule *schedule, const cron_c_zone *zone, int fresh)
 {
     const int64_t start = 1514764800; /* 2018-01-01T00:00:00Z */
-    const size_t length = strlen(zone);
     cron_c_item item;
     double least = 1e300;
     for (int turn = 0; turn < 150; turn++) {
-        cron_c_after(schedule, zone, length, start, &item);
+        cron_c_after(schedule, zone, start, &item);
         double begun = nanoseconds();
         for (int call = 0; call < 1000; call++) {
             if (fresh) {
-                cron_c_after(schedule, zone, length, start, &item);
-            } else if (cron_c_next(schedule, zone, length, &item) != CRON_C_OK) {
-                cron_c_after(schedule, zone, length, start, &item);
+                cron_c_after(schedule, zone, start, &item);
+            } else if (cron_c_next(schedule, zone, &item) != CRON_C_OK) {
+                cron_c_after(schedule, zone, start, &item);
             }
         }
         double each = (nanoseconds() - begun) / 1000;
@@ -60,8 +59,10 @@ int main(void)
         cron_c_schedule schedule;
         printf("cron_c_parse | %s | %.1f\n", texts[text], cost_of_parse(texts[text], &schedule));
         for (size_t zone = 0; zone < sizeof zones / sizeof *zones; zone++) {
-            printf("cron_c_after | %s | %s | %.1f\n", zones[zone], texts[text], cost_of_items(&schedule, zones[zone], 1));
-            printf("cron_c_next | %s | %s | %.1f\n", zones[zone], texts[text], cost_of_items(&schedule, zones[zone], 0));
+            cron_c_zone prepared;
+            cron_c_zone_parse(zones[zone], strlen(zones[zone]), &prepared);
+            printf("cron_c_after | %s | %s | %.1f\n", zones[zone], texts[text], cost_of_items(&schedule, &prepared, 1));
+            printf("cron_c_next | %s | %s | %.1f\n", zones[zone], texts[text], cost_of_items(&schedule, &prepared, 0));
         }
     }
     return 0;

@@ -16,26 +16,27 @@ static void print(const char *before, const cron_c_item *item)
 int main(void)
 {
     const char *text = "0 30 1 * * *";
-    const char *zone = "CST6CDT,M3.2.0,M11.1.0";
-    const size_t zone_length = strlen(zone);
+    const char *chicago = "CST6CDT,M3.2.0,M11.1.0";
     int64_t now = 1667649600;            /* 2022-11-05T12:00:00Z */
     const int64_t restarted = 1667779200; /* 2022-11-07T00:00:00Z */
     cron_c_schedule schedule;
+    cron_c_zone zone;
     cron_c_item item;
     char message[256];
     size_t needed;
 
-    if (cron_c_parse(text, strlen(text), &schedule, message, sizeof message, &needed) != CRON_C_OK) {
+    if (cron_c_parse(text, strlen(text), &schedule, message, sizeof message, &needed) != CRON_C_OK ||
+        cron_c_zone_parse(chicago, strlen(chicago), &zone) != CRON_C_OK) {
         return 1;
     }
     for (int left = 3; left > 0; left--) {
-        if (cron_c_fire_after(&schedule, zone, zone_length, now, &item) != CRON_C_OK) {
+        if (cron_c_fire_after(&schedule, &zone, now, &item) != CRON_C_OK) {
             return 1;
         }
         print("", &item); /* sleep until `item.instant`, and run the job */
         now = item.instant;
     }
-    if (cron_c_fire_by(&schedule, zone, zone_length, restarted, &item) != CRON_C_OK) {
+    if (cron_c_fire_by(&schedule, &zone, restarted, &item) != CRON_C_OK) {
         return 1;
     }
     print("last: ", &item);

@@ -29,7 +29,7 @@ static void print(const cron_c_item *item)
 
 int main(void)
 {
-    const char *zone = "UTC";
+    const cron_c_zone zone = CRON_C_ZONE_UTC;
     const int64_t start = 1704067200; /* 2024-01-01T00:00:00Z */
     cron_c_schedule schedule;
     cron_c_item item;
@@ -37,10 +37,10 @@ int main(void)
     if (!parse("0 0,30 9 * * 2", &schedule)) {
         return 1;
     }
-    uint32_t status = cron_c_after(&schedule, zone, strlen(zone), start, &item);
+    uint32_t status = cron_c_after(&schedule, &zone, start, &item);
     for (int left = 3; left > 0 && status == CRON_C_OK; left--) {
         print(&item);
-        status = cron_c_next(&schedule, zone, strlen(zone), &item);
+        status = cron_c_next(&schedule, &zone, &item);
     }
     return parse("0 0 25 * * *", &schedule);
 }

@@ -20,6 +20,15 @@ static void check(int is, const char *what, int line)
 
 static const char *const CHICAGO = "CST6CDT,M3.2.0,M11.1.0";
 
+/* The zone of a text, or one of no kind. */
+static const cron_c_zone *named(const char *text)
+{
+    static cron_c_zone zone;
+    zone.kind = 9;
+    cron_c_zone_parse(text, strlen(text), &zone);
+    return &zone;
+}
+
 /* Reads a text that is accepted. */
 static cron_c_schedule parsed(const char *text)
 {
@@ -43,22 +52,22 @@ static int shows(const cron_c_item *item, const char *text)
 
 static uint32_t after(const cron_c_schedule *schedule, const char *zone, int64_t instant, cron_c_item *item)
 {
-    return cron_c_after(schedule, zone, strlen(zone), instant, item);
+    return cron_c_after(schedule, named(zone), instant, item);
 }
 
 static uint32_t before(const cron_c_schedule *schedule, const char *zone, int64_t instant, cron_c_item *item)
 {
-    return cron_c_before(schedule, zone, strlen(zone), instant, item);
+    return cron_c_before(schedule, named(zone), instant, item);
 }
 
 static uint32_t next(const cron_c_schedule *schedule, const char *zone, cron_c_item *item)
 {
-    return cron_c_next(schedule, zone, strlen(zone), item);
+    return cron_c_next(schedule, named(zone), item);
 }
 
 static uint32_t prev(const cron_c_schedule *schedule, const char *zone, cron_c_item *item)
 {
-    return cron_c_prev(schedule, zone, strlen(zone), item);
+    return cron_c_prev(schedule, named(zone), item);
 }
 
 /* The first run, ahead and back. */
@@ -169,12 +178,12 @@ static void fold(void)
 
 static uint32_t fire_after(const cron_c_schedule *schedule, const char *zone, int64_t instant, cron_c_item *item)
 {
-    return cron_c_fire_after(schedule, zone, strlen(zone), instant, item);
+    return cron_c_fire_after(schedule, named(zone), instant, item);
 }
 
 static uint32_t fire_by(const cron_c_schedule *schedule, const char *zone, int64_t instant, cron_c_item *item)
 {
-    return cron_c_fire_by(schedule, zone, strlen(zone), instant, item);
+    return cron_c_fire_by(schedule, named(zone), instant, item);
 }
 
 /* Items by instants in a fold, where a walk begun anew leaves one out or answers its start. */
@@ -219,13 +228,13 @@ static void ends_of_fires(void)
 static uint32_t fires_between(const cron_c_schedule *schedule, const char *zone, int64_t last, int64_t now, cron_c_item *items,
                               size_t length, size_t *count)
 {
-    return cron_c_fires_between(schedule, zone, strlen(zone), last, now, items, length, count);
+    return cron_c_fires_between(schedule, named(zone), last, now, items, length, count);
 }
 
 static uint32_t fires_past(const cron_c_schedule *schedule, const char *zone, const cron_c_item *item, int64_t now,
                            cron_c_item *items, size_t length, size_t *count)
 {
-    return cron_c_fires_past(schedule, zone, strlen(zone), item, now, items, length, count);
+    return cron_c_fires_past(schedule, named(zone), item, now, items, length, count);
 }
 
 /* Two items at each of the half past one's of 2022-11-06, in pages of one, and the whole at once. */
@@ -267,7 +276,7 @@ static void shared_instants(void)
     item = items[0];
     CHECK(fires_past(&schedule, zone, &item, now, items, 2, &count) == CRON_C_OK);
     CHECK(count == 1 && items[0].instant == now && items[0].offset == 0);
-    CHECK(cron_c_fire_at(&schedule, zone, strlen(zone), now, &item) == CRON_C_OK);
+    CHECK(cron_c_fire_at(&schedule, named(zone), now, &item) == CRON_C_OK);
     CHECK(item.instant == now && item.offset == 0);
 }
 
@@ -285,12 +294,12 @@ static void arguments_of_runs(void)
     CHECK(fires_past(&schedule, "UTC", &item, INT64_MAX, items, 2, &count) == CRON_C_BAD_INSTANT && count == 0);
     CHECK(fires_past(&schedule, "UTC", &item, 32400, items, 2, &count) == CRON_C_OK && count == 1);
     CHECK(items[0].instant == 32400 && items[0].offset == 0);
-    CHECK(cron_c_fire_at(&schedule, "UTC", 3, 32400, &item) == CRON_C_OK);
+    CHECK(cron_c_fire_at(&schedule, named("UTC"), 32400, &item) == CRON_C_OK);
     CHECK(item.instant == 32400 && item.offset == 0);
-    CHECK(cron_c_fire_at(&schedule, "UTC", 3, 32401, &item) == CRON_C_NO_ITEM);
-    CHECK(cron_c_fire_at(&schedule, "UTC", 3, 0, &item) == CRON_C_NO_ITEM);
-    CHECK(cron_c_fire_at(&schedule, "UTC", 3, INT64_MAX, &item) == CRON_C_BAD_INSTANT);
-    CHECK(cron_c_fire_at(&schedule, "Mars", 4, 32400, &item) == CRON_C_BAD_ZONE);
+    CHECK(cron_c_fire_at(&schedule, named("UTC"), 32401, &item) == CRON_C_NO_ITEM);
+    CHECK(cron_c_fire_at(&schedule, named("UTC"), 0, &item) == CRON_C_NO_ITEM);
+    CHECK(cron_c_fire_at(&schedule, named("UTC"), INT64_MAX, &item) == CRON_C_BAD_INSTANT);
+    CHECK(cron_c_fire_at(&schedule, named("Mars"), 32400, &item) == CRON_C_BAD_ZONE);
     CHECK(item.instant == 32400);
 }
 
@@ -301,7 +310,7 @@ static void lists(void)
     cron_c_item items[4], item;
     size_t count = 7;
     memset(items, 0, sizeof items);
-    CHECK(cron_c_list_after(&schedule, CHICAGO, strlen(CHICAGO), 1667712600, items, 3, &count) == CRON_C_OK);
+    CHECK(cron_c_list_after(&schedule, named(CHICAGO), 1667712600, items, 3, &count) == CRON_C_OK);
     CHECK(count == 3);
     CHECK(after(&schedule, CHICAGO, 1667712600, &item) == CRON_C_OK);
     for (size_t place = 0; place < count; place++) {
@@ -309,14 +318,14 @@ static void lists(void)
         CHECK(next(&schedule, CHICAGO, &item) == CRON_C_OK);
     }
     CHECK(items[3].instant == 0);
-    CHECK(cron_c_list_before(&last, "UTC", 3, INT64_C(253402207200), items, 4, &count) == CRON_C_OK);
+    CHECK(cron_c_list_before(&last, named("UTC"), INT64_C(253402207200), items, 4, &count) == CRON_C_OK);
     CHECK(count == 2);
     CHECK(shows(&items[0], "2100-12-31 00:00:00 +00:00"));
     CHECK(shows(&items[1], "2099-12-31 00:00:00 +00:00"));
-    CHECK(cron_c_list_after(&last, "Mars", 4, 0, items, 4, &count) == CRON_C_BAD_ZONE);
+    CHECK(cron_c_list_after(&last, named("Mars"), 0, items, 4, &count) == CRON_C_BAD_ZONE);
     CHECK(count == 0);
-    CHECK(cron_c_list_after(&last, "UTC", 3, INT64_MAX, items, 4, &count) == CRON_C_BAD_INSTANT);
-    CHECK(cron_c_list_after(&last, "UTC", 3, 0, items, 0, &count) == CRON_C_OK);
+    CHECK(cron_c_list_after(&last, named("UTC"), INT64_MAX, items, 4, &count) == CRON_C_BAD_INSTANT);
+    CHECK(cron_c_list_after(&last, named("UTC"), 0, items, 0, &count) == CRON_C_OK);
     CHECK(count == 0);
 }
 
@@ -327,7 +336,7 @@ static void pages(void)
     cron_c_item items[2], last, item;
     size_t count = 0;
     CHECK(after(&schedule, CHICAGO, 1667705400, &item) == CRON_C_OK);
-    CHECK(cron_c_list_after(&schedule, CHICAGO, strlen(CHICAGO), 1667705400, items, 2, &count) == CRON_C_OK);
+    CHECK(cron_c_list_after(&schedule, named(CHICAGO), 1667705400, items, 2, &count) == CRON_C_OK);
     for (int page = 0; page < 5; page++) {
         CHECK(count == 2);
         for (size_t place = 0; place < count; place++) {
@@ -335,10 +344,10 @@ static void pages(void)
             CHECK(last.instant == item.instant && last.offset == item.offset);
             CHECK(next(&schedule, CHICAGO, &item) == CRON_C_OK);
         }
-        CHECK(cron_c_list_next(&schedule, CHICAGO, strlen(CHICAGO), &last, items, 2, &count) == CRON_C_OK);
+        CHECK(cron_c_list_next(&schedule, named(CHICAGO), &last, items, 2, &count) == CRON_C_OK);
     }
     for (int page = 0; page < 5; page++) {
-        CHECK(cron_c_list_prev(&schedule, CHICAGO, strlen(CHICAGO), &item, items, 2, &count) == CRON_C_OK);
+        CHECK(cron_c_list_prev(&schedule, named(CHICAGO), &item, items, 2, &count) == CRON_C_OK);
         CHECK(count == 2);
         for (size_t place = 0; place < count; place++) {
             CHECK(prev(&schedule, CHICAGO, &item) == CRON_C_OK);
@@ -346,9 +355,9 @@ static void pages(void)
         }
     }
     item.instant++;
-    CHECK(cron_c_list_next(&schedule, CHICAGO, strlen(CHICAGO), &item, items, 2, &count) == CRON_C_NOT_AN_ITEM);
+    CHECK(cron_c_list_next(&schedule, named(CHICAGO), &item, items, 2, &count) == CRON_C_NOT_AN_ITEM);
     CHECK(count == 0);
-    CHECK(cron_c_list_prev(&schedule, "Mars", 4, &item, items, 2, &count) == CRON_C_BAD_ZONE);
+    CHECK(cron_c_list_prev(&schedule, named("Mars"), &item, items, 2, &count) == CRON_C_BAD_ZONE);
 }
 
 /* The version, the texts of statuses, the reserved words, and texts that aren't wanted. */
@@ -364,18 +373,59 @@ static void constants(void)
     CHECK(needed > 0 && needed < CRON_C_MESSAGE(strlen(text)));
     CHECK(cron_c_parse(CRON_C_TEXT("@daily"), &schedule, CRON_C_NO_TEXT, &needed) == CRON_C_OK);
     CHECK(schedule.reserved[0] == 0 && schedule.reserved[5] == 0);
-    CHECK(cron_c_fire_after(&schedule, CRON_C_TEXT(CRON_C_UTC), 0, &item) == CRON_C_OK);
+    CHECK(cron_c_fire_after(&schedule, named("UTC"), 0, &item) == CRON_C_OK);
     CHECK(item.instant == 86400 && item.offset == 0 && item.reserved == 0);
     CHECK(cron_c_format(&item, CRON_C_NO_TEXT, &needed) == CRON_C_OK && needed <= CRON_C_ITEM_TEXT);
     item.reserved = 1;
     CHECK(cron_c_format(&item, CRON_C_NO_TEXT, &needed) == CRON_C_NOT_AN_ITEM);
-    CHECK(cron_c_next(&schedule, CRON_C_TEXT(CRON_C_UTC), &item) == CRON_C_NOT_AN_ITEM);
+    CHECK(cron_c_next(&schedule, named("UTC"), &item) == CRON_C_NOT_AN_ITEM);
     for (uint32_t status = CRON_C_OK; status <= CRON_C_MORE; status++) {
         CHECK(strcmp(cron_c_status_text(status), cron_c_status_text(CRON_C_MORE + 1)) != 0);
     }
-    CHECK(cron_c_fire_after(&schedule, CRON_C_TEXT(CRON_C_UTC), CRON_C_LEAST_INSTANT, &item) == CRON_C_OK);
-    CHECK(cron_c_fire_by(&schedule, CRON_C_TEXT(CRON_C_UTC), CRON_C_GREATEST_INSTANT, &item) == CRON_C_OK);
-    CHECK(cron_c_fire_by(&schedule, CRON_C_TEXT(CRON_C_UTC), CRON_C_GREATEST_INSTANT + 1, &item) == CRON_C_BAD_INSTANT);
+    CHECK(cron_c_fire_after(&schedule, named("UTC"), CRON_C_LEAST_INSTANT, &item) == CRON_C_OK);
+    CHECK(cron_c_fire_by(&schedule, named("UTC"), CRON_C_GREATEST_INSTANT, &item) == CRON_C_OK);
+    CHECK(cron_c_fire_by(&schedule, named("UTC"), CRON_C_GREATEST_INSTANT + 1, &item) == CRON_C_BAD_INSTANT);
+}
+
+/* Zones as numbers, as they are read, written by hand, and of no zone. */
+static void zones(void)
+{
+    const cron_c_zone utc = CRON_C_ZONE_UTC, fixed = CRON_C_ZONE_FIXED(-6 * 3600);
+    cron_c_schedule schedule = parsed("0 30 9 * * *");
+    cron_c_zone zone, bad;
+    cron_c_item item, other;
+    memset(&zone, 0xff, sizeof zone);
+    CHECK(cron_c_zone_parse(CRON_C_TEXT("CST6CDT,M3.2.0,M11.1.0/1:30"), &zone) == CRON_C_OK);
+    CHECK(zone.kind == 2 && zone.offset == -6 * 3600 && zone.saving == -5 * 3600);
+    CHECK(zone.starts.kind == 3 && zone.starts.month == 3 && zone.starts.week == 2 && zone.starts.day == 0);
+    CHECK(zone.starts.time == 7200 && zone.ends.month == 11 && zone.ends.week == 1 && zone.ends.time == 5400);
+    CHECK(zone.reserved[0] == 0 && zone.reserved[2] == 0);
+    bad = zone;
+    CHECK(cron_c_zone_parse(CRON_C_TEXT("America/Chicago"), &zone) == CRON_C_BAD_ZONE);
+    CHECK(cron_c_zone_parse(CRON_C_TEXT("\xff"), &zone) == CRON_C_BAD_ZONE);
+    CHECK(memcmp(&zone, &bad, sizeof zone) == 0);
+    CHECK(cron_c_zone_parse(CRON_C_TEXT("AAA0BBB,J60/0,364/-167"), &zone) == CRON_C_OK);
+    CHECK(zone.starts.kind == 1 && zone.starts.day == 60 && zone.ends.kind == 2 && zone.ends.day == 364);
+    CHECK(zone.ends.time == -167 * 3600 && zone.saving == 3600);
+    CHECK(cron_c_zone_parse(CRON_C_TEXT("CST6"), &zone) == CRON_C_OK && memcmp(&zone, &fixed, sizeof zone) == 0);
+    CHECK(cron_c_zone_parse(CRON_C_TEXT("UTC"), &zone) == CRON_C_OK && memcmp(&zone, &utc, sizeof zone) == 0);
+    CHECK(cron_c_fire_after(&schedule, &fixed, 1704067200, &item) == CRON_C_OK);
+    CHECK(item.instant == 1704067200 + 15 * 3600 + 1800 && item.offset == -6 * 3600);
+    CHECK(cron_c_after(&schedule, named("CST6"), 1704067200, &other) == CRON_C_OK);
+    CHECK(memcmp(&item, &other, sizeof item) == 0);
+    bad.starts.day = 7;
+    CHECK(cron_c_next(&schedule, &bad, &item) == CRON_C_BAD_ZONE);
+    bad.starts.day = 0;
+    bad.ends.week = 6;
+    CHECK(cron_c_fire_by(&schedule, &bad, 0, &item) == CRON_C_BAD_ZONE);
+    bad.ends.week = 5;
+    bad.ends.time = 604800;
+    CHECK(cron_c_before(&schedule, &bad, 0, &item) == CRON_C_BAD_ZONE);
+    bad.ends.time = 604799;
+    bad.saving = 93600;
+    CHECK(cron_c_fire_at(&schedule, &bad, 0, &item) == CRON_C_BAD_ZONE);
+    bad.saving = 93599;
+    CHECK(cron_c_fire_after(&schedule, &bad, 0, &item) == CRON_C_OK);
 }
 
 /* Bits outside a unit mean nothing. */
@@ -409,6 +459,7 @@ int main(void)
     pages();
     bits();
     constants();
+    zones();
     printf("examples: %d rows hold\n", held);
     return 0;
 }

@@ -13,6 +13,10 @@ class Item(ctypes.Structure):
     _fields_ = [("instant", ctypes.c_int64), ("offset", ctypes.c_int32), ("reserved", ctypes.c_uint32)]
 
 
+class Zone(ctypes.Structure):
+    _fields_ = [("words", ctypes.c_uint32 * 16)]
+
+
 def load(path):
     """The library in a shared object."""
     library = ctypes.CDLL(path)
@@ -21,11 +25,12 @@ def load(path):
     library.cron_c_parse.argtypes = text + [pointer(Schedule)] + text + [pointer(size)]
     for name in ("cron_c_after", "cron_c_fire_after", "cron_c_fire_by"):
         call = getattr(library, name)
-        call.argtypes = [pointer(Schedule)] + text + [ctypes.c_int64, pointer(Item)]
+        call.argtypes = [pointer(Schedule), pointer(Zone), ctypes.c_int64, pointer(Item)]
         call.restype = ctypes.c_uint32
-    library.cron_c_next.argtypes = [pointer(Schedule)] + text + [pointer(Item)]
+    library.cron_c_zone_parse.argtypes = text + [pointer(Zone)]
+    library.cron_c_next.argtypes = [pointer(Schedule), pointer(Zone), pointer(Item)]
     library.cron_c_format.argtypes = [pointer(Item)] + text + [pointer(size)]
-    for name in ("cron_c_parse", "cron_c_next", "cron_c_format"):
+    for name in ("cron_c_parse", "cron_c_zone_parse", "cron_c_next", "cron_c_format"):
         getattr(library, name).restype = ctypes.c_uint32
     return library
 
@@ -43,10 +48,18 @@ def parse(library, text):
     return schedule
 
 
+def zone_of(library, text):
+    """The zone of a text: UTC, or a rule as POSIX has it."""
+    text, zone = text.encode(), Zone()
+    if library.cron_c_zone_parse(text, len(text), zone) != OK:
+        raise ValueError(f"no zone: {text}")
+    return zone
+
+
 def found(call, schedule, zone, instant):
     """What a call by an instant finds, or None."""
-    zone, item = zone.encode(), Item()
-    status = call(schedule, zone, len(zone), instant, item)
+    item = Item()
+    status = call(schedule, zone, instant, item)
     if status not in (OK, NO_ITEM):
         raise ValueError(f"status {status}")
     return item if status == OK else None
@@ -55,10 +68,10 @@ def found(call, schedule, zone, instant):
 def items_after(library, schedule, zone, instant):
     """A walk over the items after an instant."""
     item = found(library.cron_c_after, schedule, zone, instant)
-    zone, status = zone.encode(), OK if item else NO_ITEM
+    status = OK if item else NO_ITEM
     while status == OK:
         yield Item(item.instant, item.offset)
-        status = library.cron_c_next(schedule, zone, len(zone), item)
+        status = library.cron_c_next(schedule, zone, item)
 
 
 def text_of(library, item):

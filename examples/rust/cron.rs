@@ -12,6 +12,26 @@ struct Sets {
     words: [u64; 16],
 }
 
+/// A zone: UTC, or one that follows a rule.
+#[repr(C)]
+#[derive(Clone, Copy, Debug, Default, PartialEq, Eq)]
+pub struct Zone {
+    words: [u32; 16],
+}
+
+impl Zone {
+    /// Every day has 24 hours.
+    pub const UTC: Zone = Zone { words: [0; 16] };
+
+    /// Reads `UTC`, or a rule as POSIX has it. `None` where the text names no zone.
+    pub fn parse(text: &str) -> Option<Zone> {
+        let mut zone = Zone::UTC;
+        // SAFETY: the pointers are those of live values that don't overlap, with their lengths.
+        let status = unsafe { cron_c_zone_parse(text.as_ptr(), text.len(), &mut zone) };
+        (status == OK).then_some(zone)
+    }
+}
+
 /// An item of a timeline: an instant in seconds, and how far the clock is ahead of UTC.
 #[repr(C)]
 #[derive(Clone, Copy, Debug, Default, PartialEq, Eq)]
@@ -31,31 +51,28 @@ unsafe extern "C" {
         message_length: usize,
         message_needed: *mut usize,
     ) -> u32;
+    fn cron_c_zone_parse(text: *const u8, text_length: usize, zone: *mut Zone) -> u32;
     fn cron_c_after(
         schedule: *const Sets,
-        zone: *const u8,
-        zone_length: usize,
+        zone: *const Zone,
         instant: i64,
         item: *mut Item,
     ) -> u32;
     fn cron_c_fire_after(
         schedule: *const Sets,
-        zone: *const u8,
-        zone_length: usize,
+        zone: *const Zone,
         instant: i64,
         item: *mut Item,
     ) -> u32;
     fn cron_c_fire_by(
         schedule: *const Sets,
-        zone: *const u8,
-        zone_length: usize,
+        zone: *const Zone,
         instant: i64,
         item: *mut Item,
     ) -> u32;
     fn cron_c_next(
         schedule: *const Sets,
-        zone: *const u8,
-        zone_length: usize,
+        zone: *const Zone,
         item: *mut Item,
     ) -> u32;
     fn cron_c_format(item: *const Item, text: *mut u8, text_length: usize, needed: *mut usize)
@@ -95,31 +112,31 @@ impl Schedule {
 
     /// Of the items whose instant comes after this one the earliest. `Err` holds the status where the
     /// zone or the instant is refused.
-    pub fn fire_after(&self, zone: &str, instant: i64) -> Result<Option<Item>, u32> {
+    pub fn fire_after(&self, zone: &Zone, instant: i64) -> Result<Option<Item>, u32> {
         let mut item = Item::default();
         // SAFETY: as above.
         let status =
-            unsafe { cron_c_fire_after(&self.0, zone.as_ptr(), zone.len(), instant, &mut item) };
+            unsafe { cron_c_fire_after(&self.0, zone, instant, &mut item) };
         found(status, item)
     }
 
     /// Of the items whose instant is this one or comes before it the latest.
-    pub fn fire_by(&self, zone: &str, instant: i64) -> Result<Option<Item>, u32> {
+    pub fn fire_by(&self, zone: &Zone, instant: i64) -> Result<Option<Item>, u32> {
         let mut item = Item::default();
         // SAFETY: as above.
         let status =
-            unsafe { cron_c_fire_by(&self.0, zone.as_ptr(), zone.len(), instant, &mut item) };
+            unsafe { cron_c_fire_by(&self.0, zone, instant, &mut item) };
         found(status, item)
     }
 
     /// A walk over the items after an instant. `Err` holds the status where the zone or the instant is refused.
-    pub fn after<'a>(&self, zone: &'a str, instant: i64) -> Result<Items<'a>, u32> {
+    pub fn after(&self, zone: &Zone, instant: i64) -> Result<Items, u32> {
         let mut item = Item::default();
         // SAFETY: as above.
-        let status = unsafe { cron_c_after(&self.0, zone.as_ptr(), zone.len(), instant, &mut item) };
+        let status = unsafe { cron_c_after(&self.0, zone, instant, &mut item) };
         Ok(Items {
             schedule: *self,
-            zone,
+            zone: *zone,
             next: found(status, item)?,
         })
     }
@@ -134,13 +151,13 @@ fn found(status: u32, item: Item) -> Result<Option<Item>, u32> {
 }
 
 /// The items of a timeline, from one on.
-pub struct Items<'a> {
+pub struct Items {
     schedule: Schedule,
-    zone: &'a str,
+    zone: Zone,
     next: Option<Item>,
 }
 
-impl Iterator for Items<'_> {
+impl Iterator for Items {
     type Item = Item;
 
     fn next(&mut self) -> Option<Item> {
@@ -150,8 +167,7 @@ impl Iterator for Items<'_> {
         let status = unsafe {
             cron_c_next(
                 &self.schedule.0,
-                self.zone.as_ptr(),
-                self.zone.len(),
+                &self.zone,
                 &mut item,
             )
         };

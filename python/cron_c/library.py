@@ -8,7 +8,7 @@ from typing import Optional
 
 from .errors import CronError, TextError, ZoneError
 
-OK, NO_ITEM, REFUSED, NOT_UTF8, BAD_ZONE, MORE = 0, 1, 2, 3, 4, 8
+OK, NO_ITEM, REFUSED, NOT_UTF8 = 0, 1, 2, 3
 LEAST_INSTANT, GREATEST_INSTANT = -377705023201, 253402207200
 
 
@@ -24,16 +24,21 @@ class Item(ctypes.Structure):
     _fields_ = [("instant", ctypes.c_int64), ("offset", ctypes.c_int32), ("reserved", ctypes.c_uint32)]
 
 
+class Zone(ctypes.Structure):
+    """A zone: UTC, one offset, or a rule."""
+
+    _fields_ = [("words", ctypes.c_uint32 * 16)]
+
+
 def _load() -> ctypes.CDLL:
     library = ctypes.CDLL(str(pathlib.Path(__file__).with_name("libcron_c.so")))
     size, pointer, instant = ctypes.c_size_t, ctypes.POINTER, ctypes.c_int64
     text = [ctypes.c_char_p, size]
-    page = [pointer(Item), size, pointer(size)]
     library.cron_c_parse.argtypes = text + [pointer(Sets)] + text + [pointer(size)]
-    library.cron_c_fire_after.argtypes = [pointer(Sets)] + text + [instant, pointer(Item)]
-    library.cron_c_fire_by.argtypes = [pointer(Sets)] + text + [instant, pointer(Item)]
-    library.cron_c_fires_between.argtypes = [pointer(Sets)] + text + [instant, instant] + page
-    for call in ("parse", "fire_after", "fire_by", "fires_between"):
+    library.cron_c_zone_parse.argtypes = text + [pointer(Zone)]
+    library.cron_c_fire_after.argtypes = [pointer(Sets), pointer(Zone), instant, pointer(Item)]
+    library.cron_c_fire_by.argtypes = [pointer(Sets), pointer(Zone), instant, pointer(Item)]
+    for call in ("parse", "zone_parse", "fire_after", "fire_by"):
         getattr(library, f"cron_c_{call}").restype = ctypes.c_uint32
     return library
 
@@ -56,25 +61,33 @@ def parse(text: str) -> Sets:
     return sets
 
 
-def _found(status: int, item: Item, zone: bytes) -> Optional[int]:
+def parse_zone(text: bytes) -> Zone:
+    """The zone of a text: `UTC`, or a rule as POSIX has it."""
+    zone = Zone()
+    if _LIBRARY.cron_c_zone_parse(text, len(text), zone) != OK:
+        raise ZoneError(f"no zone: {text!r}")
+    return zone
+
+
+def _found(status: int, item: Item) -> Optional[int]:
     if status == OK:
         return item.instant
     if status == NO_ITEM:
         return None
-    raise ZoneError(f"no zone: {zone!r}") if status == BAD_ZONE else CronError(f"status {status}")
+    raise CronError(f"status {status}")
 
 
 def _within(instant: int) -> int:
     return max(LEAST_INSTANT, min(GREATEST_INSTANT, instant))
 
 
-def fire_after(sets: Sets, zone: bytes, instant: int) -> Optional[int]:
+def fire_after(sets: Sets, zone: Zone, instant: int) -> Optional[int]:
     """Of the instants after this one at which it fires the earliest."""
     item = Item()
-    return _found(_LIBRARY.cron_c_fire_after(sets, zone, len(zone), _within(instant), item), item, zone)
+    return _found(_LIBRARY.cron_c_fire_after(sets, zone, _within(instant), item), item)
 
 
-def fire_by(sets: Sets, zone: bytes, instant: int) -> Optional[int]:
+def fire_by(sets: Sets, zone: Zone, instant: int) -> Optional[int]:
     """Of the instants up to this one at which it fires the latest."""
     item = Item()
-    return _found(_LIBRARY.cron_c_fire_by(sets, zone, len(zone), _within(instant), item), item, zone)
+    return _found(_LIBRARY.cron_c_fire_by(sets, zone, _within(instant), item), item)

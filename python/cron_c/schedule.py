@@ -68,7 +68,7 @@ class Schedule:
         eras = eras_of(zone)
         last = _ceiling(moment) - 1
         for era in reversed(eras[: _place(eras, last) + 1]):
-            found = library.fire_by(self._sets, era.text, min(last, era.end - 1))
+            found = library.fire_by(self._sets, era.zone, min(last, era.end - 1))
             if found is not None and found >= era.start:
                 return _moment(found, zone)
         return None
@@ -91,7 +91,7 @@ class Schedule:
                 return
             instant = max(instant, era.start - 1)
             while True:
-                found = library.fire_after(self._sets, era.text, instant)
+                found = library.fire_after(self._sets, era.zone, instant)
                 if found is None or found >= era.end or found > last:
                     break
                 yield found

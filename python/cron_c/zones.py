@@ -11,6 +11,7 @@ from datetime import datetime, timedelta, timezone, tzinfo
 from typing import List, NamedTuple, Tuple
 
 from .errors import ZoneError
+from .library import Zone, parse_zone
 
 EPOCH = datetime(1970, 1, 1, tzinfo=timezone.utc)
 SECOND = timedelta(seconds=1)
@@ -21,22 +22,22 @@ HEADER = struct.Struct(">4sc15x6L")
 
 
 class Era(NamedTuple):
-    """From `start` on and before `end`, in seconds since 1970, the zone is that of a text."""
+    """From `start` on and before `end`, in seconds since 1970, the clock is that of a simple zone."""
 
     start: int
     end: int
-    text: bytes
+    zone: Zone
 
 
-def _fixed_text(offset: timedelta) -> bytes:
-    """The text of the zone with one offset."""
+def _fixed(offset: timedelta) -> Zone:
+    """The zone with one offset."""
     seconds, rest = divmod(offset, SECOND)
     if rest:
         raise ZoneError(f"the offset {offset} has a part of a second")
     minutes, second = divmod(abs(seconds), 60)
     hour, minute = divmod(minutes, 60)
     sign = "-" if seconds > 0 else ""
-    return f"AAA{sign}{hour}:{minute:02}:{second:02}".encode()
+    return parse_zone(f"AAA{sign}{hour}:{minute:02}:{second:02}".encode())
 
 
 def _data_of(key: str) -> bytes:
@@ -83,16 +84,16 @@ def _eras_of_key(zone: zoneinfo.ZoneInfo) -> Tuple[Era, ...]:
         raise ZoneError(f"the file of the zone {zone.key} ends early") from error
     starts = [-ALWAYS, *instants]
     ends = [*instants, ALWAYS]
-    eras = [Era(a, b, _fixed_text(_offset_at(zone, max(a, LEAST)))) for a, b in zip(starts, ends) if a < b]
+    eras = [Era(a, b, _fixed(_offset_at(zone, max(a, LEAST)))) for a, b in zip(starts, ends) if a < b]
     if b"," in rule:
-        eras[-1] = eras[-1]._replace(text=rule)
+        eras[-1] = eras[-1]._replace(zone=parse_zone(rule))
     return tuple(eras)
 
 
 def eras_of(zone: tzinfo) -> Tuple[Era, ...]:
     """The eras of a zone, in order and without a gap."""
     if isinstance(zone, timezone):
-        return (Era(-ALWAYS, ALWAYS, _fixed_text(zone.utcoffset(None))),)
+        return (Era(-ALWAYS, ALWAYS, _fixed(zone.utcoffset(None))),)
     if not isinstance(zone, zoneinfo.ZoneInfo):
         raise ZoneError(f"{zone!r} is neither a ZoneInfo nor a fixed offset")
     if zone.key is None:

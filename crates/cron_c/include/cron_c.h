@@ -27,9 +27,6 @@ extern "C" {
 /* The version of the archive. Its first number is that of the header, or the structs may differ. */
 uint32_t cron_c_version(void);
 
-/* The name of the zone in which each day has 24 hours. */
-#define CRON_C_UTC "UTC"
-
 /* A literal as the two arguments of a text: its bytes and how many. */
 #define CRON_C_TEXT(literal) (literal), (sizeof(literal) - 1)
 
@@ -53,7 +50,7 @@ enum {
     CRON_C_NO_ITEM = 1,     /* The timeline has no item there. */
     CRON_C_REFUSED = 2,     /* The text means nothing, and the message says why. */
     CRON_C_NOT_UTF8 = 3,    /* The text isn't UTF-8. */
-    CRON_C_BAD_ZONE = 4,    /* The zone is neither `UTC` nor a rule text. */
+    CRON_C_BAD_ZONE = 4,    /* The text names no zone, or the numbers are of none. */
     CRON_C_BAD_INSTANT = 5, /* The instant is less than the least one, or past the greatest. */
     CRON_C_NOT_AN_ITEM = 6, /* The given item isn't one of this schedule in this zone. */
     CRON_C_UNTOLD = 7,      /* As CRON_C_REFUSED, but the message's length doesn't fit size_t. */
@@ -68,7 +65,7 @@ static inline const char *cron_c_status_text(uint32_t status)
     case CRON_C_NO_ITEM: return "there is no such item";
     case CRON_C_REFUSED: return "the text means nothing";
     case CRON_C_NOT_UTF8: return "the text isn't UTF-8";
-    case CRON_C_BAD_ZONE: return "the zone is neither UTC nor a rule text";
+    case CRON_C_BAD_ZONE: return "there is no such zone";
     case CRON_C_BAD_INSTANT: return "the instant is out of range";
     case CRON_C_NOT_AN_ITEM: return "the item isn't one of the schedule in the zone";
     case CRON_C_UNTOLD: return "the text means nothing, and the message has no length";
@@ -134,6 +131,52 @@ uint32_t cron_c_parse(const char *text, size_t text_length,
                       char *message, size_t message_length, size_t *message_needed);
 
 /*
+ * When a clock turns each year. The time is in seconds from the midnight that begins the day,
+ * -604,799 to 604,799.
+ *
+ *   kind 1    day 1 to 365 of the year, where 29 February isn't counted
+ *   kind 2    day 0 to 365 of the year
+ *   kind 3    day 0 to 6 of the week, from Sunday on, in week 1 to 5 of the month; 5 is the last
+ */
+typedef struct cron_c_turn {
+    uint32_t kind;
+    uint32_t month;
+    uint32_t week;
+    uint32_t day;
+    int32_t time;
+} cron_c_turn;
+
+/*
+ * A zone. Read it once, copy it and keep it as you like. Offsets are in seconds ahead of UTC, up to
+ * 25:59:59; that of the saving holds each year from `starts` to `ends`. What `reserved` holds means
+ * nothing yet: give 0. Numbers that say no zone are answered by CRON_C_BAD_ZONE.
+ *
+ *   kind 0    UTC
+ *   kind 1    one offset
+ *   kind 2    an offset and a saving
+ */
+typedef struct cron_c_zone {
+    uint32_t kind;
+    int32_t offset;
+    int32_t saving;
+    cron_c_turn starts;
+    cron_c_turn ends;
+    uint32_t reserved[3];
+} cron_c_zone;
+
+/* What a zone is initialized with: UTC, and one offset of so many seconds. */
+#define CRON_C_ZONE_UTC {0, 0, 0, {0, 0, 0, 0, 0}, {0, 0, 0, 0, 0}, {0, 0, 0}}
+#define CRON_C_ZONE_FIXED(seconds) {1, (seconds), 0, {0, 0, 0, 0, 0}, {0, 0, 0, 0, 0}, {0, 0, 0}}
+
+/*
+ * Reads the text of a zone into `zone`: `UTC`, or a rule as POSIX has it, as
+ * `CST6CDT,M3.2.0,M11.1.0`. The names of its times are dropped.
+ *
+ * CRON_C_OK or CRON_C_BAD_ZONE.
+ */
+uint32_t cron_c_zone_parse(const char *text, size_t text_length, cron_c_zone *zone);
+
+/*
  * Which call to use:
  *
  *   a scheduler, and whoever asks what was missed    by instants: `cron_c_fire_after` and its like
@@ -152,15 +195,13 @@ uint32_t cron_c_parse(const char *text, size_t text_length,
  * `cron_c_fire_after` answers the one that shows less, and `cron_c_fire_by` the other. For an
  * instant with a part of a second give the second that has begun.
  *
- * `zone` is `UTC`, or a rule text as POSIX has it, as `CST6CDT,M3.2.0,M11.1.0`.
- *
  * CRON_C_OK, CRON_C_NO_ITEM, CRON_C_BAD_ZONE or CRON_C_BAD_INSTANT.
  */
 uint32_t cron_c_fire_after(const cron_c_schedule *schedule,
-                           const char *zone, size_t zone_length,
+                           const cron_c_zone *zone,
                            int64_t instant, cron_c_item *item);
 uint32_t cron_c_fire_by(const cron_c_schedule *schedule,
-                        const char *zone, size_t zone_length,
+                        const cron_c_zone *zone,
                         int64_t instant, cron_c_item *item);
 
 /*
@@ -170,7 +211,7 @@ uint32_t cron_c_fire_by(const cron_c_schedule *schedule,
  * CRON_C_OK, CRON_C_NO_ITEM, CRON_C_BAD_ZONE or CRON_C_BAD_INSTANT.
  */
 uint32_t cron_c_fire_at(const cron_c_schedule *schedule,
-                        const char *zone, size_t zone_length,
+                        const cron_c_zone *zone,
                         int64_t instant, cron_c_item *item);
 
 /*
@@ -183,15 +224,15 @@ uint32_t cron_c_fire_at(const cron_c_schedule *schedule,
  *
  * CRON_C_OK where these are all; CRON_C_MORE where `items` is full and others are left;
  * CRON_C_BAD_ZONE or CRON_C_BAD_INSTANT; or of `cron_c_fires_past` CRON_C_NOT_AN_ITEM, where the
- * clock shows a year outside 1970 to 2100, the offset is longer than 25:59:59, or `reserved` isn't 0.
- * With the last three `*count` is 0.
+ * clock shows a year outside 1970 to 2100, the offset is longer than 25:59:59, or `reserved` isn't
+ * 0. With the last three `*count` is 0.
  */
 uint32_t cron_c_fires_between(const cron_c_schedule *schedule,
-                              const char *zone, size_t zone_length,
+                              const cron_c_zone *zone,
                               int64_t last, int64_t now,
                               cron_c_item *items, size_t items_length, size_t *count);
 uint32_t cron_c_fires_past(const cron_c_schedule *schedule,
-                           const char *zone, size_t zone_length,
+                           const cron_c_zone *zone,
                            const cron_c_item *item, int64_t now,
                            cron_c_item *items, size_t items_length, size_t *count);
 
@@ -211,10 +252,10 @@ uint32_t cron_c_fires_past(const cron_c_schedule *schedule,
  * CRON_C_OK, CRON_C_NO_ITEM, CRON_C_BAD_ZONE or CRON_C_BAD_INSTANT.
  */
 uint32_t cron_c_after(const cron_c_schedule *schedule,
-                      const char *zone, size_t zone_length,
+                      const cron_c_zone *zone,
                       int64_t instant, cron_c_item *item);
 uint32_t cron_c_before(const cron_c_schedule *schedule,
-                       const char *zone, size_t zone_length,
+                       const cron_c_zone *zone,
                        int64_t instant, cron_c_item *item);
 
 /*
@@ -223,9 +264,9 @@ uint32_t cron_c_before(const cron_c_schedule *schedule,
  * CRON_C_OK, CRON_C_NO_ITEM, CRON_C_BAD_ZONE or CRON_C_NOT_AN_ITEM.
  */
 uint32_t cron_c_next(const cron_c_schedule *schedule,
-                     const char *zone, size_t zone_length, cron_c_item *item);
+                     const cron_c_zone *zone, cron_c_item *item);
 uint32_t cron_c_prev(const cron_c_schedule *schedule,
-                     const char *zone, size_t zone_length, cron_c_item *item);
+                     const cron_c_zone *zone, cron_c_item *item);
 
 /*
  * Writes to `items` the first items after the instant, in order; or, `cron_c_list_before`, the last
@@ -238,11 +279,11 @@ uint32_t cron_c_prev(const cron_c_schedule *schedule,
  * 0.
  */
 uint32_t cron_c_list_after(const cron_c_schedule *schedule,
-                           const char *zone, size_t zone_length,
+                           const cron_c_zone *zone,
                            int64_t instant,
                            cron_c_item *items, size_t items_length, size_t *count);
 uint32_t cron_c_list_before(const cron_c_schedule *schedule,
-                            const char *zone, size_t zone_length,
+                            const cron_c_zone *zone,
                             int64_t instant,
                             cron_c_item *items, size_t items_length, size_t *count);
 
@@ -255,11 +296,11 @@ uint32_t cron_c_list_before(const cron_c_schedule *schedule,
  * 0.
  */
 uint32_t cron_c_list_next(const cron_c_schedule *schedule,
-                          const char *zone, size_t zone_length,
+                          const cron_c_zone *zone,
                           const cron_c_item *item,
                           cron_c_item *items, size_t items_length, size_t *count);
 uint32_t cron_c_list_prev(const cron_c_schedule *schedule,
-                          const char *zone, size_t zone_length,
+                          const cron_c_zone *zone,
                           const cron_c_item *item,
                           cron_c_item *items, size_t items_length, size_t *count);
 

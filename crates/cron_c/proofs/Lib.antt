@@ -2,3 +2,4 @@ pub mod Over
 pub mod Items
 pub mod Filling
 pub mod Running
+pub mod ZoneLemmas

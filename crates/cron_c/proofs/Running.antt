@@ -7,7 +7,8 @@ use Rattle.cron_moments.specs.Readings.{Reading}
 use Rattle.cron_instants.specs.Fires.{fires_after, fires_between, fires_past, is_by}
 use Rattle.cron_instants.specs.Instants.{IsFirstAfter, IsFirstPast}
 use Rattle.cron_instants.proofs.FireLemmas.{first-after, first-past, first-by, none-by}
-use Rattle.cron_moments.specs.Zones.{IsZoneOf}
+use Rattle.cron_c.specs.Zones.{IsZoneIn}
+use Rattle.cron_c.specs.declared.zone.CronZone.{CronZone}
 use Rattle.cron_c.specs.Calls.{IsInstant}
 use Rattle.cron_c.specs.Listings.{IsFront}
 use Rattle.cron_c.specs.Runs.{BeginsBy, Fills, IsPage, IsWhole, RunsBetween, RunsPast, due_by, fires_past_by}
@@ -96,8 +97,8 @@ running_is_full s z t all old now r count f full =
 
 -- ---- what a status says that a full or whole list has
 
-pub between_says : (s : Sets) (zone : List ℕ) (z : TimeZone) (last now : ℤ) (old new : List CronItem) (count : ℕ) (status : Status)
-    → IsZoneOf zone z → IsInstant last → IsInstant now
+pub between_says : (s : Sets) (zone : CronZone) (z : TimeZone) (last now : ℤ) (old new : List CronItem) (count : ℕ) (status : Status)
+    → IsZoneIn zone z → IsInstant last → IsInstant now
     → Fills (fires_between s z (last *ℤ pos 1_000_000_000) (now *ℤ pos 1_000_000_000)) old new count status
     → RunsBetween s zone last now old new count status
 between_says s zone z last now old new count Done of_zone from to f = (z, of_zone, from, to, f)
@@ -110,8 +111,8 @@ between_says s zone z last now old new count BadInstant of_zone from to f = absu
 between_says s zone z last now old new count NotAnItem of_zone from to f = absurd f
 between_says s zone z last now old new count Untold of_zone from to f = absurd f
 
-pub past_says : (s : Sets) (zone : List ℕ) (z : TimeZone) (r : Reading) (item : CronItem) (now : ℤ) (old new : List CronItem) (count : ℕ) (status : Status)
-    → IsZoneOf zone z → IsItem r item → IsInstant now → Fills (fires_past_by s z r (now *ℤ pos 1_000_000_000)) old new count status
+pub past_says : (s : Sets) (zone : CronZone) (z : TimeZone) (r : Reading) (item : CronItem) (now : ℤ) (old new : List CronItem) (count : ℕ) (status : Status)
+    → IsZoneIn zone z → IsItem r item → IsInstant now → Fills (fires_past_by s z r (now *ℤ pos 1_000_000_000)) old new count status
     → RunsPast s zone item now old new count status
 past_says s zone z r item now old new count Done of_zone is to f = (z, r, of_zone, is, to, f)
 past_says s zone z r item now old new count More of_zone is to f = (z, r, of_zone, is, to, f)

@@ -14,7 +14,8 @@ use Rattle.cron_moments.specs.MomentText.{moment_text}
 use Rattle.cron_moments.specs.Readings.{Reading, instant}
 use Rattle.cron_time.specs.Walk.Resume.{IsAbsent, IsResumed}
 use Rattle.cron_instants.specs.Instants.{IsFirstAfter, IsLastBy, IsItem as IsOnTimeline}
-use Rattle.cron_moments.specs.Zones.{NamesZone, IsZoneOf}
+use Rattle.cron_c.specs.Zones.{IsNoZone, IsSomeZone, IsZoneIn}
+use Rattle.cron_c.specs.declared.zone.CronZone.{CronZone}
 use Rattle.cron_c.specs.Buffers.{laid_over}
 use Rattle.cron_c.specs.Statuses.{code_of}
 use Rattle.cron_c.specs.Structs.{IsItem, IsStructOf, sets_of}
@@ -26,10 +27,6 @@ use Rattle.cron_c.specs.declared.status.Status.TheVariants.{Done, NoItem, Refuse
 -- the number is that of a status, and what the status says is so
 abbrev pub Answers : (Status → Type 0) → ℕ → Type 0
 Answers says number = (status : Status) × says status × (number ≡ code_of status)
-
--- the bytes are a text that names a zone
-abbrev pub IsZoneText : List ℕ → Type 0
-IsZoneText bytes = IsUtf8 bytes × NamesZone bytes
 
 -- the instant, by its seconds since 1970-01-01T00:00:00Z, is in range
 abbrev pub IsInstant : ℤ → Type 0
@@ -50,23 +47,23 @@ Parses text old new before after size Untold = IsUtf8 text × (told : List ℕ) 
 Parses text old new before after size _ = ⊥
 
 -- The first item after an instant, or before it, is written; or there is none; or nothing is looked for.
-abbrev pub Searches : Way → Sets → List ℕ → ℤ → CronItem → CronItem → Status → Type 0
+abbrev pub Searches : Way → Sets → CronZone → ℤ → CronItem → CronItem → Status → Type 0
 Searches way s zone second old new Done =
-    (z : TimeZone) × (r : Reading) × IsZoneOf zone z × IsInstant second × ((step way (start_at s z second)).answer ≡ Some r) × IsItem r new
+    (z : TimeZone) × (r : Reading) × IsZoneIn zone z × IsInstant second × ((step way (start_at s z second)).answer ≡ Some r) × IsItem r new
 Searches way s zone second old new NoItem =
-    (z : TimeZone) × IsZoneOf zone z × IsInstant second × ((step way (start_at s z second)).answer ≡ None) × (new ≡ old)
-Searches way s zone second old new BadZone = (IsZoneText zone → ⊥) × (new ≡ old)
-Searches way s zone second old new BadInstant = IsZoneText zone × (IsInstant second → ⊥) × (new ≡ old)
+    (z : TimeZone) × IsZoneIn zone z × IsInstant second × ((step way (start_at s z second)).answer ≡ None) × (new ≡ old)
+Searches way s zone second old new BadZone = IsNoZone zone × (new ≡ old)
+Searches way s zone second old new BadInstant = IsSomeZone zone × (IsInstant second → ⊥) × (new ≡ old)
 Searches way s zone second old new _ = ⊥
 
 -- Of the items whose instant comes after this one the earliest is written, or of the others the latest; or there is none; or nothing is looked for.
-abbrev pub Fires : (Sets → TimeZone → ℤ → Option Reading → Type 0) → Sets → List ℕ → ℤ → CronItem → CronItem → Status → Type 0
+abbrev pub Fires : (Sets → TimeZone → ℤ → Option Reading → Type 0) → Sets → CronZone → ℤ → CronItem → CronItem → Status → Type 0
 Fires IsSought s zone second old new Done =
-    (z : TimeZone) × (r : Reading) × IsZoneOf zone z × IsInstant second × IsSought s z (second *ℤ pos 1_000_000_000) (Some r) × IsItem r new
+    (z : TimeZone) × (r : Reading) × IsZoneIn zone z × IsInstant second × IsSought s z (second *ℤ pos 1_000_000_000) (Some r) × IsItem r new
 Fires IsSought s zone second old new NoItem =
-    (z : TimeZone) × IsZoneOf zone z × IsInstant second × IsSought s z (second *ℤ pos 1_000_000_000) None × (new ≡ old)
-Fires IsSought s zone second old new BadZone = (IsZoneText zone → ⊥) × (new ≡ old)
-Fires IsSought s zone second old new BadInstant = IsZoneText zone × (IsInstant second → ⊥) × (new ≡ old)
+    (z : TimeZone) × IsZoneIn zone z × IsInstant second × IsSought s z (second *ℤ pos 1_000_000_000) None × (new ≡ old)
+Fires IsSought s zone second old new BadZone = IsNoZone zone × (new ≡ old)
+Fires IsSought s zone second old new BadInstant = IsSomeZone zone × (IsInstant second → ⊥) × (new ≡ old)
 Fires IsSought s zone second old new _ = ⊥
 
 -- what is looked for in a direction
@@ -75,13 +72,13 @@ IsNearestFire Ahead = IsFirstAfter
 IsNearestFire Back = IsLastBy
 
 -- An item whose instant is this one is written, of two that share it the later; or there is none; or nothing is looked for.
-abbrev pub FiresAt : Sets → List ℕ → ℤ → CronItem → CronItem → Status → Type 0
+abbrev pub FiresAt : Sets → CronZone → ℤ → CronItem → CronItem → Status → Type 0
 FiresAt s zone second old new Done =
-    (z : TimeZone) × (r : Reading) × IsZoneOf zone z × IsLastBy s z (second *ℤ pos 1_000_000_000) (Some r) × (instant r ≡ second) × IsItem r new
+    (z : TimeZone) × (r : Reading) × IsZoneIn zone z × IsLastBy s z (second *ℤ pos 1_000_000_000) (Some r) × (instant r ≡ second) × IsItem r new
 FiresAt s zone second old new NoItem =
-    (z : TimeZone) × IsZoneOf zone z × IsInstant second × ((r : Reading) → IsOnTimeline s z r → instant r ≡ second → ⊥) × (new ≡ old)
-FiresAt s zone second old new BadZone = (IsZoneText zone → ⊥) × (new ≡ old)
-FiresAt s zone second old new BadInstant = IsZoneText zone × (IsInstant second → ⊥) × (new ≡ old)
+    (z : TimeZone) × IsZoneIn zone z × IsInstant second × ((r : Reading) → IsOnTimeline s z r → instant r ≡ second → ⊥) × (new ≡ old)
+FiresAt s zone second old new BadZone = IsNoZone zone × (new ≡ old)
+FiresAt s zone second old new BadInstant = IsSomeZone zone × (IsInstant second → ⊥) × (new ≡ old)
 FiresAt s zone second old new _ = ⊥
 
 -- the walk goes on from the item of a struct
@@ -89,14 +86,14 @@ abbrev pub IsResumedAt : Sets → TimeZone → CronItem → Walk → Type 0
 IsResumedAt s z item w = (r : Reading) × IsItem r item × IsResumed s z r w
 
 -- The item after an item, or before it, takes its place; or there is none; or the given one is none.
-abbrev pub Follows : Way → Sets → List ℕ → CronItem → CronItem → Status → Type 0
+abbrev pub Follows : Way → Sets → CronZone → CronItem → CronItem → Status → Type 0
 Follows way s zone old new Done =
-    (z : TimeZone) × (w : Walk) × (r : Reading) × IsZoneOf zone z × IsResumedAt s z old w × ((step way w).answer ≡ Some r) × IsItem r new
+    (z : TimeZone) × (w : Walk) × (r : Reading) × IsZoneIn zone z × IsResumedAt s z old w × ((step way w).answer ≡ Some r) × IsItem r new
 Follows way s zone old new NoItem =
-    (z : TimeZone) × (w : Walk) × IsZoneOf zone z × IsResumedAt s z old w × ((step way w).answer ≡ None) × (new ≡ old)
-Follows way s zone old new BadZone = (IsZoneText zone → ⊥) × (new ≡ old)
+    (z : TimeZone) × (w : Walk) × IsZoneIn zone z × IsResumedAt s z old w × ((step way w).answer ≡ None) × (new ≡ old)
+Follows way s zone old new BadZone = IsNoZone zone × (new ≡ old)
 Follows way s zone old new NotAnItem =
-    (z : TimeZone) × IsZoneOf zone z × ((r : Reading) → IsItem r old → IsAbsent s z r) × (new ≡ old)
+    (z : TimeZone) × IsZoneIn zone z × ((r : Reading) → IsItem r old → IsAbsent s z r) × (new ≡ old)
 Follows way s zone old new _ = ⊥
 
 -- The text of an item is laid over a buffer, and its whole length told.

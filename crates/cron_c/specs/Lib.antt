@@ -4,3 +4,4 @@ pub mod Buffers
 pub mod Calls
 pub mod Listings
 pub mod Runs
+pub mod Zones

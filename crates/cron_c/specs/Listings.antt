@@ -9,8 +9,9 @@ use Rattle.cron_time.specs.Walk.Inner.Placed.{cursor_of}
 use Rattle.cron_time.specs.Walk.Inner.Stand.{Stand}
 use Rattle.cron_time.specs.Walk.Resume.{IsAbsent}
 use Rattle.cron_time.specs.Walk.Rest.{rest}
-use Rattle.cron_moments.specs.Zones.{IsZoneOf}
-use Rattle.cron_c.specs.Calls.{IsZoneText, IsInstant, IsResumedAt, start_at}
+use Rattle.cron_c.specs.Zones.{IsNoZone, IsSomeZone, IsZoneIn}
+use Rattle.cron_c.specs.declared.zone.CronZone.{CronZone}
+use Rattle.cron_c.specs.Calls.{IsInstant, IsResumedAt, start_at}
 use Rattle.cron_c.specs.Structs.{IsItem}
 use Rattle.cron_c.specs.declared.item.CronItem.{CronItem}
 use Rattle.cron_c.specs.declared.status.Status.{Status}
@@ -32,20 +33,20 @@ pub record IsListed (all : List Reading) (old new : List CronItem) (count : ℕ)
   pub most : (left ≡ []) ⊎ (count ≡ length old)
 
 -- The items that are still to come from an instant on are written as far as they fit; or nothing is looked for.
-abbrev pub Lists : Way → Sets → List ℕ → ℤ → List CronItem → List CronItem → ℕ → Status → Type 0
+abbrev pub Lists : Way → Sets → CronZone → ℤ → List CronItem → List CronItem → ℕ → Status → Type 0
 Lists way s zone second old new count Done =
-    (z : TimeZone) × IsZoneOf zone z × IsInstant second × IsListed (rest way (start_at s z second)) old new count
-Lists way s zone second old new count BadZone = (IsZoneText zone → ⊥) × (new ≡ old) × (count ≡ 0)
-Lists way s zone second old new count BadInstant = IsZoneText zone × (IsInstant second → ⊥) × (new ≡ old) × (count ≡ 0)
+    (z : TimeZone) × IsZoneIn zone z × IsInstant second × IsListed (rest way (start_at s z second)) old new count
+Lists way s zone second old new count BadZone = IsNoZone zone × (new ≡ old) × (count ≡ 0)
+Lists way s zone second old new count BadInstant = IsSomeZone zone × (IsInstant second → ⊥) × (new ≡ old) × (count ≡ 0)
 Lists way s zone second old new count _ = ⊥
 
 -- The items that are still to come from an item on are written, alike; or the given one is none.
-abbrev pub ListsOn : Way → Sets → List ℕ → CronItem → List CronItem → List CronItem → ℕ → Status → Type 0
+abbrev pub ListsOn : Way → Sets → CronZone → CronItem → List CronItem → List CronItem → ℕ → Status → Type 0
 ListsOn way s zone item old new count Done =
-    (z : TimeZone) × (w : Walk) × IsZoneOf zone z × IsResumedAt s z item w × IsListed (rest way w) old new count
-ListsOn way s zone item old new count BadZone = (IsZoneText zone → ⊥) × (new ≡ old) × (count ≡ 0)
+    (z : TimeZone) × (w : Walk) × IsZoneIn zone z × IsResumedAt s z item w × IsListed (rest way w) old new count
+ListsOn way s zone item old new count BadZone = IsNoZone zone × (new ≡ old) × (count ≡ 0)
 ListsOn way s zone item old new count NotAnItem =
-    (z : TimeZone) × IsZoneOf zone z × ((r : Reading) → IsItem r item → IsAbsent s z r) × (new ≡ old) × (count ≡ 0)
+    (z : TimeZone) × IsZoneIn zone z × ((r : Reading) → IsItem r item → IsAbsent s z r) × (new ≡ old) × (count ≡ 0)
 ListsOn way s zone item old new count _ = ⊥
 
 -- the walk that stands so

@@ -4,9 +4,10 @@ use Rattle.jiff_tz.specs.declared.timezone.TimeZone.{TimeZone}
 use Rattle.cron_units.specs.Sets.{Sets}
 use Rattle.cron_moments.specs.Civil.{seconds_in_range}
 use Rattle.cron_moments.specs.Readings.{Reading}
-use Rattle.cron_moments.specs.Zones.{IsZoneOf}
+use Rattle.cron_c.specs.Zones.{IsNoZone, IsSomeZone, IsZoneIn}
+use Rattle.cron_c.specs.declared.zone.CronZone.{CronZone}
 use Rattle.cron_instants.specs.Fires.{fires_between, fires_past, is_by}
-use Rattle.cron_c.specs.Calls.{IsZoneText, IsInstant}
+use Rattle.cron_c.specs.Calls.{IsInstant}
 use Rattle.cron_c.specs.Listings.{IsFront}
 use Rattle.cron_c.specs.Structs.{IsItem}
 use Rattle.cron_c.specs.declared.item.CronItem.{CronItem}
@@ -38,21 +39,21 @@ abbrev pub fires_past_by : Sets → TimeZone → Reading → ℤ → List Readin
 fires_past_by s z item t = filter (is_by t) (fires_past s z item)
 
 -- The items after one instant and up to and with another are written as far as they fit; or nothing is looked for.
-abbrev pub RunsBetween : Sets → List ℕ → ℤ → ℤ → List CronItem → List CronItem → ℕ → Status → Type 0
-RunsBetween s zone last now old new count BadZone = (IsZoneText zone → ⊥) × (new ≡ old) × (count ≡ 0)
-RunsBetween s zone last now old new count BadInstant = IsZoneText zone × (IsInstant last → IsInstant now → ⊥) × (new ≡ old) × (count ≡ 0)
+abbrev pub RunsBetween : Sets → CronZone → ℤ → ℤ → List CronItem → List CronItem → ℕ → Status → Type 0
+RunsBetween s zone last now old new count BadZone = IsNoZone zone × (new ≡ old) × (count ≡ 0)
+RunsBetween s zone last now old new count BadInstant = IsSomeZone zone × (IsInstant last → IsInstant now → ⊥) × (new ≡ old) × (count ≡ 0)
 RunsBetween s zone last now old new count status =
-    (z : TimeZone) × IsZoneOf zone z × IsInstant last × IsInstant now
+    (z : TimeZone) × IsZoneIn zone z × IsInstant last × IsInstant now
     × Fills (fires_between s z (last *ℤ pos 1_000_000_000) (now *ℤ pos 1_000_000_000)) old new count status
 
 -- The items that are later than the one of a struct and up to and with an instant, alike. That one may be none of the timeline.
-abbrev pub RunsPast : Sets → List ℕ → CronItem → ℤ → List CronItem → List CronItem → ℕ → Status → Type 0
-RunsPast s zone item now old new count BadZone = (IsZoneText zone → ⊥) × (new ≡ old) × (count ≡ 0)
+abbrev pub RunsPast : Sets → CronZone → CronItem → ℤ → List CronItem → List CronItem → ℕ → Status → Type 0
+RunsPast s zone item now old new count BadZone = IsNoZone zone × (new ≡ old) × (count ≡ 0)
 RunsPast s zone item now old new count NotAnItem =
-    IsZoneText zone × ((r : Reading) → IsItem r item → r.second < seconds_in_range → ⊥) × (new ≡ old) × (count ≡ 0)
-RunsPast s zone item now old new count BadInstant = IsZoneText zone × (IsInstant now → ⊥) × (new ≡ old) × (count ≡ 0)
+    IsSomeZone zone × ((r : Reading) → IsItem r item → r.second < seconds_in_range → ⊥) × (new ≡ old) × (count ≡ 0)
+RunsPast s zone item now old new count BadInstant = IsSomeZone zone × (IsInstant now → ⊥) × (new ≡ old) × (count ≡ 0)
 RunsPast s zone item now old new count status =
-    (z : TimeZone) × (r : Reading) × IsZoneOf zone z × IsItem r item × IsInstant now
+    (z : TimeZone) × (r : Reading) × IsZoneIn zone z × IsItem r item × IsInstant now
     × Fills (fires_past_by s z r (now *ℤ pos 1_000_000_000)) old new count status
 
 -- ---- the loop

@@ -8,7 +8,7 @@ ghost use Rattle.cron_c.specs.Structs.{sets_of};
 use crate::item::{CronItem, item_of};
 use crate::schedule::{CronSchedule, fields_of};
 use crate::status::Status;
-use crate::zone::zone_in;
+use crate::zone::{CronZone, zone_in};
 use cron_instants::instants::{first_after, last_by};
 use cron_moments::moment::Moment;
 use cron_units::way::Way;
@@ -31,7 +31,13 @@ fn nearest_fire(
     }
 }
 
-fn fire(way: Way, schedule: &CronSchedule, zone: &[u8], second: i64, item: &mut CronItem) -> Status
+fn fire(
+    way: Way,
+    schedule: &CronSchedule,
+    zone: &CronZone,
+    second: i64,
+    item: &mut CronItem,
+) -> Status
     ensures { Fires (IsNearestFire way) (sets_of schedule.now) zone.now second item.old item.new result }
 {
     let Some(zone) = zone_in(zone) else {
@@ -52,7 +58,7 @@ fn fire(way: Way, schedule: &CronSchedule, zone: &[u8], second: i64, item: &mut 
 #[unsafe(no_mangle)]
 pub extern "C" fn cron_c_fire_after(
     schedule: &CronSchedule,
-    zone: &[u8],
+    zone: &CronZone,
     instant: i64,
     item: &mut CronItem,
 ) -> u32
@@ -65,7 +71,7 @@ pub extern "C" fn cron_c_fire_after(
 #[unsafe(no_mangle)]
 pub extern "C" fn cron_c_fire_by(
     schedule: &CronSchedule,
-    zone: &[u8],
+    zone: &CronZone,
     instant: i64,
     item: &mut CronItem,
 ) -> u32
@@ -74,7 +80,7 @@ pub extern "C" fn cron_c_fire_by(
     fire(Way::Back, schedule, zone, instant, item).code()
 }
 
-fn fire_at(schedule: &CronSchedule, zone: &[u8], second: i64, item: &mut CronItem) -> Status
+fn fire_at(schedule: &CronSchedule, zone: &CronZone, second: i64, item: &mut CronItem) -> Status
     ensures { FiresAt (sets_of schedule.now) zone.now second item.old item.new result }
 {
     let Some(zone) = zone_in(zone) else {
@@ -98,7 +104,7 @@ fn fire_at(schedule: &CronSchedule, zone: &[u8], second: i64, item: &mut CronIte
 #[unsafe(no_mangle)]
 pub extern "C" fn cron_c_fire_at(
     schedule: &CronSchedule,
-    zone: &[u8],
+    zone: &CronZone,
     instant: i64,
     item: &mut CronItem,
 ) -> u32

@@ -11,7 +11,7 @@ ghost use Rattle.cron_c.specs.Structs.{sets_of};
 use crate::item::{CronItem, item_of, moment_of};
 use crate::schedule::{CronSchedule, fields_of};
 use crate::status::Status;
-use crate::zone::zone_in;
+use crate::zone::{CronZone, zone_in};
 use cron_time::walk::resume::resumed;
 use cron_time::walk::state::State;
 use cron_time::walk::step::step;
@@ -46,7 +46,7 @@ fn fill(
 fn list(
     way: Way,
     schedule: &CronSchedule,
-    zone: &[u8],
+    zone: &CronZone,
     second: i64,
     items: &mut [CronItem],
     count: &mut usize,
@@ -73,7 +73,7 @@ fn list(
 fn list_on(
     way: Way,
     schedule: &CronSchedule,
-    zone: &[u8],
+    zone: &CronZone,
     item: &CronItem,
     items: &mut [CronItem],
     count: &mut usize,
@@ -99,7 +99,7 @@ fn list_on(
 #[unsafe(no_mangle)]
 pub extern "C" fn cron_c_list_after(
     schedule: &CronSchedule,
-    zone: &[u8],
+    zone: &CronZone,
     instant: i64,
     items: &mut [CronItem],
     count: &mut usize,
@@ -113,7 +113,7 @@ pub extern "C" fn cron_c_list_after(
 #[unsafe(no_mangle)]
 pub extern "C" fn cron_c_list_before(
     schedule: &CronSchedule,
-    zone: &[u8],
+    zone: &CronZone,
     instant: i64,
     items: &mut [CronItem],
     count: &mut usize,
@@ -127,7 +127,7 @@ pub extern "C" fn cron_c_list_before(
 #[unsafe(no_mangle)]
 pub extern "C" fn cron_c_list_next(
     schedule: &CronSchedule,
-    zone: &[u8],
+    zone: &CronZone,
     item: &CronItem,
     items: &mut [CronItem],
     count: &mut usize,
@@ -141,7 +141,7 @@ pub extern "C" fn cron_c_list_next(
 #[unsafe(no_mangle)]
 pub extern "C" fn cron_c_list_prev(
     schedule: &CronSchedule,
-    zone: &[u8],
+    zone: &CronZone,
     item: &CronItem,
     items: &mut [CronItem],
     count: &mut usize,

@@ -10,7 +10,7 @@ ghost use Rattle.cron_c.specs.Structs.{sets_of};
 use crate::item::{CronItem, item_of, moment_of};
 use crate::schedule::{CronSchedule, fields_of};
 use crate::status::Status;
-use crate::zone::zone_in;
+use crate::zone::{CronZone, zone_in};
 use cron_instants::instants::{first_after, first_past};
 use cron_moments::moment::Moment;
 use cron_units::fields::ScheduleFields;
@@ -60,7 +60,7 @@ fn fill(
 
 fn run_between(
     schedule: &CronSchedule,
-    zone: &[u8],
+    zone: &CronZone,
     last: i64,
     now: i64,
     items: &mut [CronItem],
@@ -85,7 +85,7 @@ fn run_between(
 
 fn run_past(
     schedule: &CronSchedule,
-    zone: &[u8],
+    zone: &CronZone,
     item: &CronItem,
     now: i64,
     items: &mut [CronItem],
@@ -113,7 +113,7 @@ fn run_past(
 #[unsafe(no_mangle)]
 pub extern "C" fn cron_c_fires_between(
     schedule: &CronSchedule,
-    zone: &[u8],
+    zone: &CronZone,
     last: i64,
     now: i64,
     items: &mut [CronItem],
@@ -128,7 +128,7 @@ pub extern "C" fn cron_c_fires_between(
 #[unsafe(no_mangle)]
 pub extern "C" fn cron_c_fires_past(
     schedule: &CronSchedule,
-    zone: &[u8],
+    zone: &CronZone,
     item: &CronItem,
     now: i64,
     items: &mut [CronItem],

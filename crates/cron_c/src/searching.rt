@@ -11,7 +11,7 @@ ghost use Rattle.cron_c.specs.Structs.{sets_of};
 use crate::item::{CronItem, item_of, moment_of};
 use crate::schedule::{CronSchedule, fields_of};
 use crate::status::Status;
-use crate::zone::zone_in;
+use crate::zone::{CronZone, zone_in};
 use cron_moments::moment::Moment;
 use cron_time::walk::resume::resumed;
 use cron_time::walk::state::State;
@@ -55,7 +55,7 @@ fn beside(
 fn search(
     way: Way,
     schedule: &CronSchedule,
-    zone: &[u8],
+    zone: &CronZone,
     second: i64,
     item: &mut CronItem,
 ) -> Status
@@ -74,7 +74,7 @@ fn search(
     Status::Done
 }
 
-fn follow(way: Way, schedule: &CronSchedule, zone: &[u8], item: &mut CronItem) -> Status
+fn follow(way: Way, schedule: &CronSchedule, zone: &CronZone, item: &mut CronItem) -> Status
     ensures { Follows way (sets_of schedule.now) zone.now item.old item.new result }
 {
     let Some(zone) = zone_in(zone) else {
@@ -97,7 +97,7 @@ fn follow(way: Way, schedule: &CronSchedule, zone: &[u8], item: &mut CronItem) -
 #[unsafe(no_mangle)]
 pub extern "C" fn cron_c_after(
     schedule: &CronSchedule,
-    zone: &[u8],
+    zone: &CronZone,
     instant: i64,
     item: &mut CronItem,
 ) -> u32
@@ -110,7 +110,7 @@ pub extern "C" fn cron_c_after(
 #[unsafe(no_mangle)]
 pub extern "C" fn cron_c_before(
     schedule: &CronSchedule,
-    zone: &[u8],
+    zone: &CronZone,
     instant: i64,
     item: &mut CronItem,
 ) -> u32
@@ -121,7 +121,7 @@ pub extern "C" fn cron_c_before(
 
 /// Puts the item after an item in its place.
 #[unsafe(no_mangle)]
-pub extern "C" fn cron_c_next(schedule: &CronSchedule, zone: &[u8], item: &mut CronItem) -> u32
+pub extern "C" fn cron_c_next(schedule: &CronSchedule, zone: &CronZone, item: &mut CronItem) -> u32
     ensures { Answers (Follows Ahead (sets_of schedule.now) zone.now item.old item.new) result }
 {
     follow(Way::Ahead, schedule, zone, item).code()
@@ -129,7 +129,7 @@ pub extern "C" fn cron_c_next(schedule: &CronSchedule, zone: &[u8], item: &mut C
 
 /// Puts the item before an item in its place.
 #[unsafe(no_mangle)]
-pub extern "C" fn cron_c_prev(schedule: &CronSchedule, zone: &[u8], item: &mut CronItem) -> u32
+pub extern "C" fn cron_c_prev(schedule: &CronSchedule, zone: &CronZone, item: &mut CronItem) -> u32
     ensures { Answers (Follows Back (sets_of schedule.now) zone.now item.old item.new) result }
 {
     follow(Way::Back, schedule, zone, item).code()

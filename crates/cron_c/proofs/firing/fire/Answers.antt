@@ -14,7 +14,7 @@ returns c =
     let at = subst (λ (t : ℤ). IsNearestFire c.args.way sets zone t c.nearest_fire.result) nanos c.nearest_fire.ensures in
     let found = subst (λ (o : Option Reading). IsNearestFire c.args.way sets zone (c.args.second *ℤ pos 1_000_000_000) o)
     c.in-Some-nearest_fire.is at in
-    (zone, c.in-Some-nearest_fire.found, c.in-Some.ensures.1, within, found, c.item_of.ensures)
+    (zone, c.in-Some-nearest_fire.found, c.in-Some.ensures, within, found, c.item_of.ensures)
 
 pub returns-in_default : goal.returns-in_default
 returns-in_default c = search rules
@@ -31,4 +31,4 @@ returns-in_default-nearest_fire c =
     let at = subst (λ (t : ℤ). IsNearestFire c.args.way sets zone t c.nearest_fire.result) nanos c.nearest_fire.ensures in
     let none = subst (λ (o : Option Reading). IsNearestFire c.args.way sets zone (c.args.second *ℤ pos 1_000_000_000) o)
     c.in_default-nearest_fire.is at in
-    (zone, c.in-Some.ensures.1, within, none, refl)
+    (zone, c.in-Some.ensures, within, none, refl)

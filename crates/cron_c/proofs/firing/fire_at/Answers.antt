@@ -13,4 +13,4 @@ returns c =
     let last = subst (λ (o : Option Reading). IsLastBy sets zone c.in-Ok.now.nanosecond o) c.in-Some-nearest_fire.is c.nearest_fire.ensures in
     let by_second = subst (λ (t : ℤ). IsLastBy sets zone t (Some c.in-Some-nearest_fire.found)) nanos last in
     let same : c.item_of-last.result.instant ≡ c.args.second = search rules in
-    (zone, c.in-Some-nearest_fire.found, c.in-Some.ensures.1, by_second, sym c.item_of-last.ensures.instant_is ∙ same, c.item_of-last.ensures)
+    (zone, c.in-Some-nearest_fire.found, c.in-Some.ensures, by_second, sym c.item_of-last.ensures.instant_is ∙ same, c.item_of-last.ensures)

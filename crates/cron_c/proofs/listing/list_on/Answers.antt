@@ -10,7 +10,7 @@ use Rattle.cron_c.proofs.listing.list_on.Goals as goal
 pub returns-in_default-moment_of : goal.returns-in_default-moment_of
 returns-in_default-moment_of c =
     let zone = plain_zone c.in-Some.zone in
-    (zone, c.in-Some.ensures.1, λ r is. absent_past (sets_of c.args.schedule.now) zone r (λ high. c.in_default-moment_of.ensures r is high), refl, refl)
+    (zone, c.in-Some.ensures, λ r is. absent_past (sets_of c.args.schedule.now) zone r (λ high. c.in_default-moment_of.ensures r is high), refl, refl)
 
 pub returns-in_default-resumed : goal.returns-in_default-resumed
 returns-in_default-resumed c =
@@ -18,11 +18,11 @@ returns-in_default-resumed c =
     let given = c.in-Some-moment_of.given in
     let absent = absent_of c.fields_of-fields.result (sets_of c.args.schedule.now) zone given c.fields_of-fields.ensures c.in_default-resumed.ensures in
     let is_given = c.in-Some-moment_of.ensures.0 in
-    (zone, c.in-Some.ensures.1, λ r is. absent_item (sets_of c.args.schedule.now) zone given r c.args.item.now is_given absent is, refl, refl)
+    (zone, c.in-Some.ensures, λ r is. absent_item (sets_of c.args.schedule.now) zone given r c.args.item.now is_given absent is, refl, refl)
 
 pub returns : goal.returns
 returns c =
     let zone = plain_zone c.in-Some.zone in
     let (walk, resumed, listed) = listed_on c.args.way (sets_of c.args.schedule.now) c.fields_of-fields.result zone c.in-Some-moment_of.given
     (stand_of c.in-Some-resumed.from) c.args.items.now c.fill.new.items c.fill.result c.fields_of-fields.ensures c.in-Some-resumed.ensures.2 c.fill.ensures in
-    (zone, walk, c.in-Some.ensures.1, (c.in-Some-moment_of.given, c.in-Some-moment_of.ensures.0, resumed), listed)
+    (zone, walk, c.in-Some.ensures, (c.in-Some-moment_of.given, c.in-Some-moment_of.ensures.0, resumed), listed)

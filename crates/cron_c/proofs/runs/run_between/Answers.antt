@@ -25,5 +25,5 @@ returns c =
     c.args.items.now c.fill.new.items c.fill.new.count c.fill.result) last_is of_sets in
     let by_now = subst (λ (t : ℤ). Fills (fires_between sets zone (c.args.last *ℤ pos 1_000_000_000) t)
     c.args.items.now c.fill.new.items c.fill.new.count c.fill.result) now_is after_last in
-    between_says sets c.args.zone.now zone c.args.last c.args.now c.args.items.now c.fill.new.items c.fill.new.count c.fill.result c.in-Some.ensures.1
+    between_says sets c.args.zone.now zone c.args.last c.args.now c.args.items.now c.fill.new.items c.fill.new.count c.fill.result c.in-Some.ensures
     from to by_now

@@ -21,4 +21,4 @@ returns c =
     let by_now = subst (λ (t : ℤ). Fills (fires_past_by sets zone given t)
     c.args.items.now c.fill.new.items c.fill.new.count c.fill.result) now_is of_sets in
     past_says sets c.args.zone.now zone given c.args.item.now c.args.now c.args.items.now c.fill.new.items c.fill.new.count c.fill.result
-    c.in-Some.ensures.1 c.in-Some-moment_of.ensures.0 to by_now
+    c.in-Some.ensures c.in-Some-moment_of.ensures.0 to by_now

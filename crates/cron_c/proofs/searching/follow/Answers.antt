@@ -8,14 +8,14 @@ use Rattle.cron_c.proofs.searching.follow.Goals as goal
 pub returns-in_default-moment_of : goal.returns-in_default-moment_of
 returns-in_default-moment_of c =
     let zone = plain_zone c.in-Some.zone in
-    (zone, c.in-Some.ensures.1, λ r is. absent_past (sets_of c.args.schedule.now) zone r (λ high. c.in_default-moment_of.ensures r is high), refl)
+    (zone, c.in-Some.ensures, λ r is. absent_past (sets_of c.args.schedule.now) zone r (λ high. c.in_default-moment_of.ensures r is high), refl)
 
 pub returns-in_default-beside : goal.returns-in_default-beside
 returns-in_default-beside c =
     let zone = plain_zone c.in-Some.zone in
     let given = c.in-Some-moment_of.given in (
       zone,
-      c.in-Some.ensures.1,
+      c.in-Some.ensures,
       λ r is. absent_item (sets_of c.args.schedule.now) zone given r c.args.item.now c.in-Some-moment_of.ensures.0
           c.in_default-beside.ensures is,
       refl,
@@ -26,7 +26,7 @@ returns-in_default-answer c =
     let (walk, resumed, answer) = c.in-Some-beside.ensures in (
       plain_zone c.in-Some.zone,
       walk,
-      c.in-Some.ensures.1,
+      c.in-Some.ensures,
       (c.in-Some-moment_of.given, c.in-Some-moment_of.ensures.0, resumed),
       sym answer
           ∙ c.in_default-answer.is,
@@ -39,7 +39,7 @@ returns c =
       plain_zone c.in-Some.zone,
       walk,
       c.in-Some-answer.found,
-      c.in-Some.ensures.1,
+      c.in-Some.ensures,
       (c.in-Some-moment_of.given, c.in-Some-moment_of.ensures.0, resumed),
       sym answer ∙ c.in-Some-answer.is,
       c.item_of.ensures,

@@ -13,7 +13,7 @@ returns c =
     let from = λ (t : ℤ). (step c.args.way (record { sets = sets_of c.args.schedule.now; zone = zone; cursor = Start t })).answer in
     let answer : (step c.args.way (start_at (sets_of c.args.schedule.now) zone c.args.second)).answer ≡ Some c.in-Some-first.found = sym (ap from nanos)
     ∙ (sym c.first.ensures ∙ c.in-Some-first.is) in
-    (zone, c.in-Some-first.found, c.in-Some.ensures.1, within, answer, c.item_of.ensures)
+    (zone, c.in-Some-first.found, c.in-Some.ensures, within, answer, c.item_of.ensures)
 
 pub returns-in_default : goal.returns-in_default
 returns-in_default c = search rules

@@ -1,0 +1,258 @@
+/*
+ * Random schedules, zones, instants and texts, and laws that the answers keep. The argument is how many
+ * cases are tried (2,000), a second one where the random numbers begin. It stops at the first law that is
+ * broken. Buffers have the very lengths that are told, so that a sanitizer sees each byte past them.
+ */
+#include "cron_c.h"
+
+#include <stdio.h>
+#include <stdlib.h>
+#include <string.h>
+
+static uint64_t state = 1;
+static unsigned long at_case;
+
+static uint64_t chance(uint64_t below)
+{
+    state ^= state << 13;
+    state ^= state >> 7;
+    state ^= state << 17;
+    return (state * UINT64_C(2685821657736338717) >> 16) % below;
+}
+
+static void law(int holds, const char *what, int line)
+{
+    if (!holds) {
+        printf("fuzz: case %lu, line %d: %s\n", at_case, line, what);
+        exit(1);
+    }
+}
+
+#define LAW(what) law((what), #what, __LINE__)
+
+/* Some bits of a unit: one, some or all. */
+static uint64_t bits(unsigned count)
+{
+    uint64_t all = count == 64 ? UINT64_MAX : (UINT64_C(1) << count) - 1;
+    switch (chance(3)) {
+    case 0: return all;
+    case 1: return UINT64_C(1) << chance(count);
+    default: return ((chance(UINT64_MAX) | (UINT64_C(1) << chance(count))) & all);
+    }
+}
+
+static cron_c_schedule some_schedule(void)
+{
+    cron_c_schedule schedule;
+    memset(&schedule, 0, sizeof schedule);
+    schedule.seconds = bits(60);
+    schedule.minutes = bits(60);
+    schedule.hours = bits(24);
+    schedule.days_of_month = bits(31);
+    schedule.last_day = chance(4) == 0;
+    schedule.months = bits(12);
+    schedule.days_of_week = chance(2) ? 127 : bits(7);
+    schedule.years_from_1970 = bits(64);
+    schedule.years_from_2034 = bits(64);
+    schedule.years_from_2098 = bits(3);
+    return schedule;
+}
+
+static cron_c_zone some_zone(void)
+{
+    static const char *const texts[] = {
+        "UTC", "CST6CDT,M3.2.0,M11.1.0", "IST-1GMT0,M10.5.0,M3.5.0/1", "<+1030>-10:30<+11>-11,M10.1.0,M4.1.0",
+        "AAA0BBB1,J100/1:30,J100/0", "AAA0BBB-1,J100/0,J100/1", "EST5EDT,0/0,J365/25", "<-02>2<-01>,M3.5.0/-1,M10.5.0/0",
+    };
+    cron_c_zone zone = CRON_C_ZONE_UTC;
+    const char *text = texts[chance(sizeof texts / sizeof *texts)];
+    if (chance(4)) {
+        LAW(cron_c_zone_parse(text, strlen(text), &zone) == CRON_C_OK);
+        return zone;
+    }
+    zone.kind = (uint32_t)chance(4);
+    zone.offset = (int32_t)chance(187300) - 93650;
+    zone.saving = zone.offset + (int32_t)chance(7201) - 3600;
+    zone.starts = (cron_c_turn){(uint32_t)chance(4), (uint32_t)chance(14), (uint32_t)chance(7), (uint32_t)chance(8), (int32_t)chance(90000)};
+    zone.ends = (cron_c_turn){(uint32_t)chance(4), (uint32_t)chance(14), (uint32_t)chance(7), (uint32_t)chance(8), (int32_t)chance(90000)};
+    return zone;
+}
+
+static int64_t some_instant(void)
+{
+    switch (chance(20)) {
+    case 0: return CRON_C_LEAST_INSTANT + (int64_t)chance(100000);
+    case 1: return CRON_C_GREATEST_INSTANT - (int64_t)chance(100000);
+    default: return (int64_t)chance(INT64_C(4200000000)) - 30000000;
+    }
+}
+
+static int is_leap(int64_t year)
+{
+    return year % 4 == 0 && (year % 100 != 0 || year % 400 == 0);
+}
+
+static int has(uint64_t word, int64_t bit)
+{
+    return (int)(word >> bit & 1);
+}
+
+/* Whether the clock of an item shows a time of the sets, counted day by day from 1970. */
+static int matches(const cron_c_schedule *schedule, const cron_c_item *item)
+{
+    static const int lengths[] = {31, 28, 31, 30, 31, 30, 31, 31, 30, 31, 30, 31};
+    int64_t shown = item->instant + item->offset, day = shown / 86400, year = 1970, left = day, second = shown % 86400;
+    int month = 0, length = 31;
+    if (shown < 0) {
+        return 0;
+    }
+    for (; left >= 365 + is_leap(year); year++) {
+        left -= 365 + is_leap(year);
+    }
+    for (; left >= (length = lengths[month] + (month == 1 && is_leap(year))); month++) {
+        left -= length;
+    }
+    uint64_t years = year < 2034 ? schedule->years_from_1970 : year < 2098 ? schedule->years_from_2034 : schedule->years_from_2098;
+    int64_t place = year < 2034 ? year - 1970 : year < 2098 ? year - 2034 : year - 2098;
+    return has(schedule->seconds, second % 60) && has(schedule->minutes, second / 60 % 60) &&
+           has(schedule->hours, second / 3600) && has(schedule->months, month) &&
+           (has(schedule->days_of_month, left) || (schedule->last_day && left + 1 == length)) &&
+           has(schedule->days_of_week, (day + 4) % 7) && year <= 2100 && has(years, place);
+}
+
+static int is_same(const cron_c_item *item, const cron_c_item *other)
+{
+    return memcmp(item, other, sizeof *item) == 0;
+}
+
+/* The first fire after an instant: none lies between, and it is found from all sides. */
+static void fires(const cron_c_schedule *schedule, const cron_c_zone *zone, int64_t instant)
+{
+    cron_c_item first, last, at;
+    uint32_t status = cron_c_fire_after(schedule, zone, instant, &first);
+    uint32_t by = cron_c_fire_by(schedule, zone, instant, &last);
+    LAW(by == CRON_C_NO_ITEM || (by == CRON_C_OK && last.instant <= instant && matches(schedule, &last)));
+    if (status == CRON_C_NO_ITEM) {
+        LAW(cron_c_fire_by(schedule, zone, CRON_C_GREATEST_INSTANT, &at) == by && (by != CRON_C_OK || is_same(&at, &last)));
+        return;
+    }
+    LAW(status == CRON_C_OK && first.instant > instant && matches(schedule, &first));
+    LAW(cron_c_fire_at(schedule, zone, first.instant, &at) == CRON_C_OK && at.instant == first.instant);
+    LAW(cron_c_fire_by(schedule, zone, first.instant - 1, &at) == by && (by != CRON_C_OK || is_same(&at, &last)));
+}
+
+/* A run in pages is the run item by item. */
+static void runs(const cron_c_schedule *schedule, const cron_c_zone *zone, int64_t last)
+{
+    const size_t length = 1 + chance(4);
+    const int64_t now = last > CRON_C_GREATEST_INSTANT - 200000 ? last : last + (int64_t)chance(200000);
+    cron_c_item *items = malloc(length * sizeof *items), item = {0, 0, 0}, next = item;
+    size_t count = 9, seen = 0;
+    uint32_t status = cron_c_fires_between(schedule, zone, last, now, items, length, &count);
+    uint32_t found = cron_c_fire_after(schedule, zone, last, &item);
+    while (seen < 40) {
+        LAW(status == CRON_C_OK || (status == CRON_C_MORE && count == length));
+        for (size_t place = 0; place < count; place++, seen++) {
+            LAW(found == CRON_C_OK && is_same(&items[place], &item) && item.instant <= now);
+            size_t one = 0;
+            next = item;
+            uint32_t more = cron_c_fires_past(schedule, zone, &next, CRON_C_GREATEST_INSTANT, &item, 1, &one);
+            found = more == CRON_C_OK && one == 0 ? CRON_C_NO_ITEM : CRON_C_OK;
+        }
+        if (status == CRON_C_OK) {
+            LAW(found == CRON_C_NO_ITEM || item.instant > now);
+            break;
+        }
+        status = cron_c_fires_past(schedule, zone, &next, now, items, length, &count);
+    }
+    free(items);
+}
+
+/* A walk goes back where it came from, and lists are walks. */
+static void walks(const cron_c_schedule *schedule, const cron_c_zone *zone, int64_t instant)
+{
+    cron_c_item first, item, back, items[3];
+    size_t count = 9;
+    uint32_t status = cron_c_after(schedule, zone, instant, &first);
+    LAW(cron_c_list_after(schedule, zone, instant, items, 3, &count) == CRON_C_OK && (count > 0) == (status == CRON_C_OK));
+    if (status != CRON_C_OK) {
+        LAW(status == CRON_C_NO_ITEM);
+        return;
+    }
+    LAW(is_same(&items[0], &first) && matches(schedule, &first));
+    item = first;
+    LAW(cron_c_list_next(schedule, zone, &first, items, 3, &count) == CRON_C_OK);
+    for (size_t place = 0; place < count; place++) {
+        LAW(cron_c_next(schedule, zone, &item) == CRON_C_OK && is_same(&items[place], &item));
+    }
+    for (size_t place = count; place > 0; place--) {
+        LAW(is_same(&items[place - 1], &item) && cron_c_prev(schedule, zone, &item) == CRON_C_OK);
+    }
+    LAW(is_same(&item, &first));
+    back = first;
+    LAW(cron_c_list_prev(schedule, zone, &first, items, 3, &count) == CRON_C_OK);
+    LAW((count > 0) == (cron_c_prev(schedule, zone, &back) == CRON_C_OK) && (count == 0 || is_same(&items[0], &back)));
+    item.instant += 1 + (int64_t)chance(1000000);
+    LAW(cron_c_next(schedule, zone, &item) != CRON_C_BAD_ZONE);
+}
+
+/* Random bytes, or a text with a byte changed, are read without a byte past their end. */
+static void texts(void)
+{
+    static const char letters[] = "0123456789*?,-/ LMonJanuary@dailySat\xff";
+    const char *good = "0 30 9,12,15 1,15,L May-Aug Mon,Wed,Fri 2018/2";
+    const size_t length = chance(60), room = chance(90);
+    char *text = malloc(length + 1), *message = malloc(room + 1);
+    cron_c_schedule schedule;
+    cron_c_zone zone;
+    size_t needed = 7;
+    for (size_t place = 0; place < length; place++) {
+        int kept = place < strlen(good) && chance(12);
+        text[place] = kept ? good[place] : letters[chance(sizeof letters - 1)];
+    }
+    memset(message, '.', room + 1);
+    uint32_t status = cron_c_parse(text, length, &schedule, message, room, &needed);
+    LAW(status == CRON_C_OK || status == CRON_C_REFUSED || status == CRON_C_NOT_UTF8);
+    LAW((needed > 0) == (status == CRON_C_REFUSED) && needed < CRON_C_MESSAGE(length) && message[room] == '.');
+    status = cron_c_zone_parse(text, length, &zone);
+    LAW(status == CRON_C_OK || status == CRON_C_BAD_ZONE);
+    free(text);
+    free(message);
+}
+
+/* The text of an item fits, and no byte past the buffer is written. */
+static void formats(void)
+{
+    cron_c_item item = {some_instant(), (int32_t)chance(200000) - 100000, (uint32_t)(chance(10) == 0)};
+    const size_t room = chance(CRON_C_ITEM_TEXT + 2);
+    char *text = malloc(room + 1);
+    size_t needed = 7;
+    text[room] = '.';
+    uint32_t status = cron_c_format(&item, text, room, &needed);
+    LAW(status == CRON_C_OK ? needed == 26 || needed == 29 : status == CRON_C_NOT_AN_ITEM && needed == 0);
+    LAW(text[room] == '.');
+    free(text);
+}
+
+int main(int count, char **words)
+{
+    const unsigned long cases = count > 1 ? strtoul(words[1], NULL, 10) : 2000;
+    state = count > 2 ? strtoul(words[2], NULL, 10) | 1 : 1;
+    for (at_case = 0; at_case < cases; at_case++) {
+        cron_c_schedule schedule = some_schedule();
+        cron_c_zone zone = some_zone();
+        const int64_t instant = some_instant();
+        cron_c_item item;
+        texts();
+        formats();
+        if (cron_c_fire_after(&schedule, &zone, instant, &item) == CRON_C_BAD_ZONE) {
+            LAW(cron_c_after(&schedule, &zone, instant, &item) == CRON_C_BAD_ZONE);
+            continue;
+        }
+        fires(&schedule, &zone, instant);
+        runs(&schedule, &zone, instant);
+        walks(&schedule, &zone, instant);
+    }
+    printf("examples: %lu random cases keep the laws\n", cases);
+    return 0;
+}
