@@ -1,6 +1,9 @@
 //! `cron_check [--sets | --next START ZONE] [FILE]` tells which lines of a file are no cron expressions.
 #![tactic(auto)]
 
+#[cfg(test)]
+mod tests;
+
 ghost use Rattle.std.specs.Prelude.{◌≡◌, false};
 ghost use Rattle.cron_writer.specs.Watching.{has_failed};
 

@@ -1,0 +1,7 @@
+//! Files of each kind, failing readers and writers, and texts that are read back.
+
+mod canonical;
+mod files;
+mod limited;
+mod words;
+mod writers;

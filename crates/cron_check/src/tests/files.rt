@@ -1,0 +1,167 @@
+//! Files of each kind, and readers that fail.
+
+use cron_checking::check::{Outcome, check};
+use cron_checking::line::Mode;
+use cron_writer::watched::Watched;
+use jiff::tz::TimeZone;
+use std::io::{self, BufReader, ErrorKind, Read};
+use std::process::Abort;
+use std::test::Fail;
+
+// A file is told so, with its faults alone, and the check ends so.
+fn check_faults(rt: &(impl Abort + AllocGlobal), file: &[u8], outcome: Outcome, told: &str) {
+    let count = file.len();
+    let mut reader = file;
+    let mut out = Watched::new(Vec::new(rt.alloc()));
+    let end = check(rt.alloc(), &Mode::Faults, &mut reader, &mut out);
+    assert_eq!(rt; end, outcome, "a file of {count} bytes");
+    assert_eq!(rt;
+        out.into_inner().as_slice(),
+        told.as_bytes(),
+        "a file of {count} bytes"
+    );
+}
+
+// The same with the sets in short form.
+fn check_sets(rt: &(impl Abort + AllocGlobal), file: &[u8], outcome: Outcome, told: &str) {
+    let count = file.len();
+    let mut reader = file;
+    let mut out = Watched::new(Vec::new(rt.alloc()));
+    let end = check(rt.alloc(), &Mode::Short, &mut reader, &mut out);
+    assert_eq!(rt; end, outcome, "a file of {count} bytes");
+    assert_eq!(rt;
+        out.into_inner().as_slice(),
+        told.as_bytes(),
+        "a file of {count} bytes"
+    );
+}
+
+#[test]
+fn lines_end_in_line_feeds(rt: HostRuntime) -> Result<(), Fail> {
+    let read = Outcome::AllRead;
+    check_faults(&rt, b"", read, "");
+    check_faults(&rt, b"\n\n\r\n \t\r\n", read, "");
+    check_faults(&rt, b"# one\r\n  # two", read, "");
+    check_sets(&rt, b"@daily", read, "1: 0 0 0 * * * *\n");
+    check_sets(&rt, b"\r\n@daily\r\n", read, "2: 0 0 0 * * * *\n");
+    check_sets(
+        &rt,
+        b"@daily\n\n@hourly",
+        read,
+        "1: 0 0 0 * * * *\n3: 0 0 * * * * *\n",
+    );
+    Ok(())
+}
+
+#[test]
+fn refused_lines_are_numbered(rt: HostRuntime) -> Result<(), Fail> {
+    let refused = Outcome::SomeRefused;
+    let told = "2: Seconds must be less than 59. ('60' specified.)\n4: Invalid cron expression.\n";
+    let file = b"@daily\n60 * * * * *\n#\n* * * * *\n".as_slice();
+    check_faults(&rt, file, refused, told);
+    check_faults(
+        &rt,
+        b"\0\n\xef\xbb\xbf@daily",
+        refused,
+        "1: Invalid cron expression.\n2: Invalid cron expression.\n",
+    );
+    Ok(())
+}
+
+// The last day of February in 2024 is a Thursday, and no thirtieth is in it.
+#[test]
+fn the_first_fire_or_none_is_told(rt: HostRuntime) -> Result<(), Fail> {
+    let start = "2024-02-01T00:00:00Z".parse()?;
+    let mode = Mode::Next(start, TimeZone::UTC);
+    let file = "0 0 12 L 2 *\n0 0 0 30 2 *\n0 0 0 L 2 Fri\n";
+    let mut reader = file.as_bytes();
+    let mut out = Watched::new(Vec::new(rt.alloc()));
+    let end = check(rt.alloc(), &mode, &mut reader, &mut out);
+    assert_eq!(rt; end, Outcome::AllRead);
+    let told = "1: 2024-02-29 12:00:00 +00:00\n2: none\n3: 2025-02-28 00:00:00 +00:00\n";
+    assert_eq!(rt; out.into_inner().as_slice(), told.as_bytes());
+    Ok(())
+}
+
+#[test]
+fn a_line_that_is_not_utf8_ends_the_check(rt: HostRuntime) -> Result<(), Fail> {
+    let ended = Outcome::NotUtf8;
+    check_faults(&rt, b"@daily\n# \xff\n60", ended, "2: not UTF-8\n");
+    check_sets(
+        &rt,
+        b"@daily\n\xc3",
+        ended,
+        "1: 0 0 0 * * * *\n2: not UTF-8\n",
+    );
+    Ok(())
+}
+
+// A word of a million letters.
+#[test]
+fn a_long_line_is_told_whole(rt: HostRuntime) -> Result<(), Fail> {
+    let mut file = Vec::new(rt.alloc());
+    let mut told = String::from_str(
+        rt.alloc(),
+        "1: The 'Seconds' field does not support using names. '",
+    )?;
+    for _ in 0..1_000_000 {
+        file.push(b'a')?;
+        told.push('a')?;
+    }
+    told.push_str("' specified.\n")?;
+    file.extend_from_slice(b" * * * * *\n")?;
+    check_faults(&rt, file.as_slice(), Outcome::SomeRefused, told.as_str());
+    Ok(())
+}
+
+/// Gives one byte a call, and fails at the end.
+#[derive(Drop)]
+struct Failing<'a> {
+    rest: &'a [u8],
+    kind: ErrorKind,
+}
+
+impl<'a> Read for Failing<'a> {
+    fn read(&mut self, buf: &mut [u8]) -> io::Result<usize> {
+        let Some((first, rest)) = self.rest.split_first() else {
+            return Err(io::Error::from(self.kind));
+        };
+        if buf.is_empty() {
+            return Ok(0);
+        }
+        buf[0] = *first;
+        self.rest = rest;
+        Ok(1)
+    }
+}
+
+fn check_failing(
+    rt: &(impl Abort + AllocGlobal),
+    file: &[u8],
+    kind: ErrorKind,
+    outcome: Outcome,
+    told: &str,
+) -> Result<(), Fail> {
+    let mut reader = BufReader::new(rt.alloc(), Failing { rest: file, kind })?;
+    let mut out = Watched::new(Vec::new(rt.alloc()));
+    let end = check(rt.alloc(), &Mode::Faults, &mut reader, &mut out);
+    assert_eq!(rt; end, outcome);
+    assert_eq!(rt; out.into_inner().as_slice(), told.as_bytes());
+    Ok(())
+}
+
+#[test]
+fn a_failed_read_ends_the_check(rt: HostRuntime) -> Result<(), Fail> {
+    let told = "1: Invalid cron expression.\nerror: the file can't be read\n";
+    let broken = Outcome::Unreadable;
+    check_failing(&rt, b"0\n60 * ", ErrorKind::ConnectionReset, broken, told)?;
+    check_failing(&rt, b"0\n", ErrorKind::IsADirectory, broken, told)?;
+    let wanting = "1: Invalid cron expression.\nerror: out of memory\n";
+    check_failing(
+        &rt,
+        b"0\n1",
+        ErrorKind::OutOfMemory,
+        Outcome::OutOfMemory,
+        wanting,
+    )
+}

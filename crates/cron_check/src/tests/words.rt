@@ -1,0 +1,68 @@
+//! The words of a command line.
+
+use cron_checking::arguments::request_of;
+use cron_checking::line::Mode;
+use std::alloc::{AllocError, Global};
+use std::process::Abort;
+use std::test::Fail;
+
+// The words of a line, which `|` stands between.
+fn words_in(alloc: Global, line: &str) -> Result<Vec<String>, AllocError> {
+    let mut words = Vec::new(alloc);
+    if line.is_empty() {
+        return Ok(words);
+    }
+    for word in line.split('|') {
+        words.push(String::from_str(alloc, word)?)?;
+    }
+    Ok(words)
+}
+
+// The words ask for this file in this mode: `faults`, `sets`, `next`, or `none` where they can't be read.
+fn check_words(
+    rt: &(impl Abort + AllocGlobal),
+    line: &str,
+    mode: &str,
+    file: Option<&str>,
+) -> Result<(), Fail> {
+    let words = words_in(rt.alloc(), line)?;
+    let Some(request) = request_of(words.as_slice()) else {
+        assert_eq!(rt; mode, "none", "{line}");
+        return Ok(());
+    };
+    let found = match request.mode {
+        Mode::Faults => "faults",
+        Mode::Short => "sets",
+        Mode::Next(_, _) => "next",
+    };
+    assert_eq!(rt; found, mode, "{line}");
+    assert_eq!(rt; request.file, file, "{line}");
+    Ok(())
+}
+
+#[test]
+fn a_mode_and_a_path_are_read(rt: HostRuntime) -> Result<(), Fail> {
+    check_words(&rt, "", "faults", None)?;
+    check_words(&rt, "crontab", "faults", Some("crontab"))?;
+    check_words(&rt, "--sets", "sets", None)?;
+    check_words(&rt, "--sets|./--sets", "sets", Some("./--sets"))?;
+    check_words(&rt, "--next|2024-01-01T00:00:00Z|UTC", "next", None)?;
+    check_words(
+        &rt,
+        "--next|2024-01-01T00:00:00Z|UTC|a b",
+        "next",
+        Some("a b"),
+    )?;
+    for line in [
+        "one|two",
+        "--help",
+        "-",
+        "--sets|--sets",
+        "--next",
+        "--next|now|UTC",
+        "--next|2024-01-01T00:00:00Z|Mars",
+    ] {
+        check_words(&rt, line, "none", None)?;
+    }
+    Ok(())
+}
