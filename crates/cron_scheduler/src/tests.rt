@@ -1,6 +1,7 @@
 //! Runs on clocks that are handed in. The expected instants are those of Python's `zoneinfo`.
 
 mod clocks;
+mod machine;
 mod told;
 
 use crate::{Plan, Start, Stop};
