@@ -7,3 +7,5 @@ pub mod AgreementLemmas
 pub mod AscentLemmas
 pub mod FireLemmas
 pub mod RunLemmas
+pub mod CalmLemmas
+pub mod ReachLemmas

@@ -1,5 +1,7 @@
 -- In UTC the civil seconds that stand are those that match.
 use Rattle.std.proofs.Common.{◌≡◌, ℕ, ◌<◌, ℤ, Bool, true, false, ◌&&◌, cond, [], ◌∷◌, refl, sym, ap, ◌∙◌, arith, nat_lt}
+use Rattle.std.proofs.Common.{◌/◌, ◌%◌}
+use Rattle.std.proofs.lemmas.Bool.{and_parts}
 use Rattle.jiff_tz.specs.Zone.{ambiguous_at, utc_offset}
 use Rattle.jiff_tz.specs.declared.timezone.TimeZone.TheVariants.{UTC}
 use Rattle.cron_units.specs.declared.way.Way.{Way}
@@ -7,7 +9,10 @@ use Rattle.cron_units.specs.Nearest.{LiesFrom, IsNearestAt}
 use Rattle.cron_units.specs.Sets.{Sets}
 use Rattle.cron_moments.specs.Civil.{civil, seconds_in_range}
 use Rattle.cron_moments.specs.Found.{found_items}
-use Rattle.cron_time.specs.Matches.{matches}
+use Rattle.cron_moments.specs.CivilDates.{date_numbered}
+use Rattle.cron_time.specs.Matches.{matches, matches_date}
+use Rattle.cron_time.specs.Search.Inner.Numbers.{matches_second}
+use Rattle.cron_time.proofs.Searches.StandLemmas.{matches_at}
 use Rattle.cron_moments.specs.Readings.{Reading, reading, readings}
 use Rattle.cron_time.specs.Search.{items_of, has_item, stands, IsFoundAt}
 use Rattle.cron_moments.specs.declared.readings.Found.{Found}
@@ -66,3 +71,13 @@ pub found_is : (way : Way) (s : Sets) (from : ℤ) (f : Found) → IsFoundAt way
 found_is way s from f h =
     let utc = is_utc way s from f h in
     (match_in_range s f.first.second utc.nearest.passes, utc.nearest)
+
+matches_of : (c : ℕ) (m : Bool) → (nat_lt c seconds_in_range && m) ≡ true → m ≡ true
+matches_of c true h = refl
+matches_of c false h = grind arith
+
+-- the date and the time of a match lie in their sets
+pub match_parts : (s : Sets) (c : ℕ) → is_match s c ≡ true → (matches_date s (date_numbered (c / 86_400)).0 ≡ true) × (matches_second s (c % 86_400) ≡ true)
+match_parts s c h =
+    and_parts (matches_date s (date_numbered (c / 86_400)).0) (matches_second s (c % 86_400))
+    (sym (matches_at s c) ∙ matches_of c (matches s (civil c)) h)

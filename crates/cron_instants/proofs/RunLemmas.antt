@@ -101,3 +101,10 @@ pub left-late : (s : Sets) (z : TimeZone) (i : ℤ) (c : ℕ) (until : Option �
     → is_within until (instant r) ≡ false → left_beyond s z i c until ≡ []
 left-late s z i c until r found late =
     ap (left_until until) (fires-beyond s z i c (Some r) found) ∙ late_until s z until r late
+
+-- and nothing is left beyond such an item either
+pub late-left : (s : Sets) (z : TimeZone) (until : Option ℤ) (r : Reading) → is_within until (instant r) ≡ false
+    → left_beyond s z (instant r) r.second until ≡ []
+late-left s z None r late = cc
+late-left s z (Some last) r late =
+    sym (filter-fails (λ q. int_le (instant q) last) r (fires_past s z r) late) ∙ late_until s z (Some last) r late

@@ -2,10 +2,12 @@
 //! latest by an instant, and runs over them.
 #![tactic(auto)]
 
+mod calm;
 pub mod instants;
 mod item;
 pub mod laws;
 mod mark;
 mod matching;
+mod reach;
 pub mod run;
 mod search;

@@ -1,10 +1,14 @@
 //! The nearest civil second that matches.
-ghost use Rattle.std.specs.Prelude.{◌<◌, IfSome};
+ghost use Rattle.std.specs.Prelude.{◌≡◌, ◌<◌, ◌+ℤ◌, pos, true, IfSome};
+ghost use Rattle.cron_units.specs.declared.way.Way.TheVariants.{Ahead};
 ghost use Rattle.cron_units.specs.Nearest.{IsNearest};
 ghost use Rattle.cron_moments.specs.Civil.{seconds_in_range};
 ghost use Rattle.cron_instants.specs.Inner.Beyond.{is_match};
 
+use cron_clocks::stretch::Stretch;
+use cron_moments::calendar::KnownMonth;
 use cron_moments::moment::civil_second;
+use cron_time::search::onward::search_past;
 use cron_time::search::search;
 use cron_units::fields::ScheduleFields;
 use cron_units::way::Way;
@@ -18,6 +22,33 @@ pub(crate) fn nearest_match(fields: &ScheduleFields, way: Way, from: i64) -> Opt
     ensures bound { IfSome result (λ n. n < seconds_in_range) }
 {
     let Some(found) = search(fields, &TimeZone::UTC, way, from).found else {
+        return None;
+    };
+    let moment = found.first;
+    Some(civil_second(&moment))
+}
+
+/// The nearest civil second that matches past one that does. It begins with the month that an earlier
+/// search knew, and leaves the one that it knows.
+#[inline(always)]
+pub(crate) fn match_past(
+    fields: &ScheduleFields,
+    second: u32,
+    month: &mut KnownMonth,
+) -> Option<u32>
+    requires { is_match fields.now second ≡ true }
+    ensures nearest { IsNearest Ahead (is_match fields.now) (pos second +ℤ pos 1) result }
+    ensures bound { IfSome result (λ n. n < seconds_in_range) }
+{
+    let mut stretch = Stretch::empty();
+    let Some(found) = search_past(
+        fields,
+        &TimeZone::UTC,
+        Way::Ahead,
+        second,
+        month,
+        &mut stretch,
+    ) else {
         return None;
     };
     let moment = found.first;

@@ -5,12 +5,10 @@ ghost use Rattle.jiff.specs.Words.{plain_zone};
 ghost use Rattle.cron_instants.specs.Fires.{fires_after, fires_between, fires_past};
 ghost use Rattle.cron_instants.specs.Inner.Left as left;
 
-use crate::item::instant_of;
+use crate::calm::{Calm, next_item};
 use crate::mark::Mark;
-use crate::search::nearest_item;
 use cron_moments::moment::Moment;
 use cron_units::fields::ScheduleFields;
-use cron_units::way::Way;
 use jiff::Timestamp;
 use jiff::tz::TimeZone;
 use std::marker::Model;
@@ -22,6 +20,7 @@ pub struct Run<'a> {
     fields: ScheduleFields,
     zone: &'a TimeZone<'a>,
     mark: Mark,
+    calm: Option<Calm>,
     until: Option<i64>,
 }
 
@@ -29,11 +28,14 @@ impl<'a> Model for Run<'a> {
     ghost use Rattle.std.specs.Prelude.{List};
     ghost use Rattle.jiff.specs.Words.{plain_zone};
     ghost use Rattle.cron_moments.specs.Readings.{Reading};
+    ghost use Rattle.cron_instants.specs.Inner.Calm.{IsKnown};
     ghost use Rattle.cron_instants.specs.Inner.Left.{left_beyond};
 
     ghost Value = { List Reading };
 
     ghost view = { λ r. left_beyond r.fields (plain_zone r.zone.now) r.mark.instant r.mark.second r.until };
+
+    ghost invariant = { λ r. IsKnown r.fields (plain_zone r.zone.now) r.mark.instant r.mark.second r.calm };
 }
 
 // Whether the instant isn't past the last one, if there is a last one.
@@ -56,6 +58,7 @@ impl<'a> Run<'a> {
             fields,
             zone,
             mark: Mark::behind(start),
+            calm: None,
             until: None,
         }
     }
@@ -68,6 +71,7 @@ impl<'a> Run<'a> {
             fields,
             zone,
             mark: Mark::of(item),
+            calm: None,
             until: None,
         }
     }
@@ -85,6 +89,7 @@ impl<'a> Run<'a> {
             fields,
             zone,
             mark: Mark::behind(last),
+            calm: None,
             until: Some(now.to_plain().floor_second()),
         }
     }
@@ -93,13 +98,15 @@ impl<'a> Run<'a> {
     fn take_first(&mut self) -> Option<Moment>
         ensures { YieldsFirst (λ rest. rest) self.old result self.new }
     {
-        let Some(item) = nearest_item(&self.fields, self.zone, Way::Ahead, self.mark) else {
+        let (next, calm) = next_item(&self.fields, self.zone, self.mark, self.calm);
+        self.calm = calm;
+        let Some(item) = next else {
             return None;
         };
-        if !is_within(self.until, instant_of(&item)) {
+        self.mark = Mark::of(&item);
+        if !is_within(self.until, self.mark.instant) {
             return None;
         }
-        self.mark = Mark::of(&item);
         Some(item)
     }
 }

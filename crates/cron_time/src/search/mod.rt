@@ -19,7 +19,7 @@ pub(crate) mod days;
 pub mod found;
 pub(crate) mod inquiry;
 mod neighbours;
-pub(crate) mod onward;
+pub mod onward;
 pub mod survey;
 pub mod times;
 mod ways;

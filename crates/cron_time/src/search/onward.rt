@@ -114,9 +114,10 @@ fn days_past(
 }
 
 /// The nearest one past a civil second that matches: first in its own day, whose date needn't be made,
-/// and then in the days past it.
+/// and then in the days past it. It begins with the month that an earlier search knew, and leaves the one
+/// that it knows.
 #[inline(always)]
-pub(crate) fn search_past(
+pub fn search_past(
     fields: &ScheduleFields,
     zone: &TimeZone<'_>,
     way: Way,

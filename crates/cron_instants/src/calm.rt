@@ -1,0 +1,106 @@
+//! What is known after an item that lies far from each turn of its zone: the next match is the next item.
+ghost use Rattle.std.specs.Prelude.{◌≡◌, ◌<◌, ◌+ℤ◌, pos, true, IfSome, Some};
+ghost use Rattle.jiff.specs.Words.{plain_zone};
+ghost use Rattle.cron_units.specs.Nearest.{IsNearestAt};
+ghost use Rattle.cron_units.specs.declared.way.Way.TheVariants.{Ahead};
+ghost use Rattle.cron_moments.specs.Civil.{seconds_in_range};
+ghost use Rattle.cron_instants.specs.Inner.Beyond.{is_match};
+ghost use Rattle.cron_instants.specs.Inner.Calm.{IsCalm, IsNext, IsKnown};
+
+use crate::mark::Mark;
+use crate::matching::match_past;
+use crate::reach::reach_of;
+use crate::search::nearest_item;
+use cron_clocks::stretch::Stretch;
+use cron_moments::calendar::KnownMonth;
+use cron_moments::moment::{Moment, civil_second, moment_numbered};
+use cron_units::fields::ScheduleFields;
+use cron_units::way::Way;
+use jiff::tz::{Offset, TimeZone};
+
+/// Matches from an item on are read at one offset alone and lie further from all others than two clocks
+/// of the zone can be apart, up to an end. The month is the one that was looked up last.
+#[derive(Clone, Copy)]
+pub(crate) struct Calm {
+    pub offset: Offset,
+    pub end: u32,
+    pub month: KnownMonth,
+}
+
+// What is known after an item, if it lies far from each turn.
+fn calm_at(zone: &TimeZone<'_>, item: &Moment) -> Option<Calm>
+    requires { item.now.second < seconds_in_range }
+    ensures calm { IfSome result (λ calm. IsCalm (plain_zone zone.now) item.now.second calm.offset calm.end) }
+    ensures offset { IfSome result (λ calm. calm.offset.seconds ≡ item.now.offset.seconds) }
+{
+    let second = civil_second(item);
+    let stretch = Stretch::at(zone, second);
+    let Some(offset) = stretch.earlier else {
+        return None;
+    };
+    if stretch.later.is_some() || offset.seconds() != item.offset().seconds() {
+        return None;
+    }
+    let reach = reach_of(zone);
+    if second < stretch.first + reach || stretch.end < reach {
+        return None;
+    }
+    Some(Calm {
+        offset,
+        end: stretch.end - reach,
+        month: KnownMonth::january_1970(),
+    })
+}
+
+// The next match, if it lies before the end of what is known.
+#[inline(always)]
+fn match_in(fields: &ScheduleFields, second: u32, calm: &mut Calm) -> Option<u32>
+    requires { is_match fields.now second ≡ true }
+    ensures nearest { IfSome result (λ n. IsNearestAt Ahead (is_match fields.now) (pos second +ℤ pos 1) n × (n < calm.old.end)) }
+    ensures offset { calm.new.offset ≡ calm.old.offset }
+    ensures end { calm.new.end ≡ calm.old.end }
+{
+    let Some(next) = match_past(fields, second, &mut calm.month) else {
+        return None;
+    };
+    if next >= calm.end {
+        return None;
+    }
+    Some(next)
+}
+
+// The next item by a search, and what is known after it.
+#[inline(never)]
+fn searched(
+    fields: &ScheduleFields,
+    zone: &TimeZone<'_>,
+    mark: Mark,
+) -> (Option<Moment>, Option<Calm>)
+    ensures { IsNext fields.now (plain_zone zone.now) mark.instant mark.second result.0 result.1 }
+{
+    let Some(item) = nearest_item(fields, zone, Way::Ahead, mark) else {
+        return (None, None);
+    };
+    let calm = calm_at(zone, &item);
+    (Some(item), calm)
+}
+
+/// The nearest item ahead of the place of one, by what is known after that, and what is known after the
+/// answer.
+#[inline(always)]
+pub(crate) fn next_item(
+    fields: &ScheduleFields,
+    zone: &TimeZone<'_>,
+    mark: Mark,
+    known: Option<Calm>,
+) -> (Option<Moment>, Option<Calm>)
+    requires { IsKnown fields.now (plain_zone zone.now) mark.instant mark.second known }
+    ensures { IsNext fields.now (plain_zone zone.now) mark.instant mark.second result.0 result.1 }
+{
+    if let Some(mut calm) = known {
+        if let Some(second) = match_in(fields, mark.second, &mut calm) {
+            return (Some(moment_numbered(second, calm.offset)), Some(calm));
+        }
+    }
+    searched(fields, zone, mark)
+}
