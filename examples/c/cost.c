@@ -29,19 +29,36 @@ static double cost_of_parse(const char *text, cron_c_schedule *schedule)
     return least;
 }
 
-/* A call by an instant is a fresh search; one by an item goes on from it. */
-static double cost_of_items(const cron_c_schedule *schedule, const cron_c_zone *zone, int fresh)
+typedef uint32_t by_instant(const cron_c_schedule *, const cron_c_zone *, int64_t, cron_c_item *);
+
+/* A fresh search by an instant. */
+static double cost_of_search(by_instant *call, const cron_c_schedule *schedule, const cron_c_zone *zone)
 {
     const int64_t start = 1514764800; /* 2018-01-01T00:00:00Z */
     cron_c_item item;
     double least = 1e300;
     for (int turn = 0; turn < 150; turn++) {
+        double begun = nanoseconds();
+        for (int calls = 0; calls < 1000; calls++) {
+            call(schedule, zone, start, &item);
+        }
+        double each = (nanoseconds() - begun) / 1000;
+        least = each < least ? each : least;
+    }
+    return least;
+}
+
+/* A step from an item, which begins anew where the timeline ends. */
+static double cost_of_steps(const cron_c_schedule *schedule, const cron_c_zone *zone)
+{
+    const int64_t start = 1514764800;
+    cron_c_item item;
+    double least = 1e300;
+    for (int turn = 0; turn < 150; turn++) {
         cron_c_after(schedule, zone, start, &item);
         double begun = nanoseconds();
-        for (int call = 0; call < 1000; call++) {
-            if (fresh) {
-                cron_c_after(schedule, zone, start, &item);
-            } else if (cron_c_next(schedule, zone, &item) != CRON_C_OK) {
+        for (int calls = 0; calls < 1000; calls++) {
+            if (cron_c_next(schedule, zone, &item) != CRON_C_OK) {
                 cron_c_after(schedule, zone, start, &item);
             }
         }
@@ -61,8 +78,11 @@ int main(void)
         for (size_t zone = 0; zone < sizeof zones / sizeof *zones; zone++) {
             cron_c_zone prepared;
             cron_c_zone_parse(zones[zone], strlen(zones[zone]), &prepared);
-            printf("cron_c_after | %s | %s | %.1f\n", zones[zone], texts[text], cost_of_items(&schedule, &prepared, 1));
-            printf("cron_c_next | %s | %s | %.1f\n", zones[zone], texts[text], cost_of_items(&schedule, &prepared, 0));
+            const cron_c_zone *in = &prepared;
+            printf("cron_c_fire_after | %s | %s | %.1f\n", zones[zone], texts[text], cost_of_search(cron_c_fire_after, &schedule, in));
+            printf("cron_c_fire_by | %s | %s | %.1f\n", zones[zone], texts[text], cost_of_search(cron_c_fire_by, &schedule, in));
+            printf("cron_c_after | %s | %s | %.1f\n", zones[zone], texts[text], cost_of_search(cron_c_after, &schedule, in));
+            printf("cron_c_next | %s | %s | %.1f\n", zones[zone], texts[text], cost_of_steps(&schedule, in));
         }
     }
     return 0;
