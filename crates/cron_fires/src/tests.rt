@@ -1,3 +1,5 @@
+mod zone_files;
+
 use crate::{Fires, first_fire_after, first_fire_past, last_fire_by, missed};
 use cron::Schedule;
 use cron::schedule::Moment;
