@@ -1,6 +1,7 @@
-//! What the calls of walks cost.
+//! What the calls of walks cost, and those by instants.
 
 use cron::Schedule;
+use cron_fires::{Fires, first_fire_after};
 use jiff::Timestamp;
 use jiff::tz::{Offset, TimeZone};
 use std::io;
@@ -20,7 +21,13 @@ const TEXTS: [&str; 8] = [
 /// A text that no date matches.
 const NEVER: &str = "0 0 0 30 2 *";
 
-const KINDS: [Kind; 3] = [Kind::Next, Kind::NextBack, Kind::FreshNext];
+const KINDS: [Kind; 5] = [
+    Kind::Next,
+    Kind::NextBack,
+    Kind::FreshNext,
+    Kind::Fires,
+    Kind::FirstFire,
+];
 
 /// What is called.
 #[derive(Clone, Copy)]
@@ -29,6 +36,10 @@ enum Kind {
     NextBack,
     /// A walk is begun anew for each call.
     FreshNext,
+    /// By instants, one after another.
+    Fires,
+    /// By instants, each from the same start.
+    FirstFire,
 }
 
 impl Kind {
@@ -37,6 +48,8 @@ impl Kind {
             Kind::Next => "next",
             Kind::NextBack => "next_back",
             Kind::FreshNext => "fresh next",
+            Kind::Fires => "fires",
+            Kind::FirstFire => "first fire",
         }
     }
 }
@@ -80,6 +93,30 @@ fn fresh(schedule: &Schedule, start: Timestamp, zone: &TimeZone<'_>, calls: u32)
     ended
 }
 
+/// Calls `next` of a run of fires so often, begins anew where the run ends, and tells when it last ended.
+fn fires(schedule: &Schedule, start: Timestamp, zone: &TimeZone<'_>, calls: u32) -> u32 {
+    let mut run = Fires::after(schedule, start, zone);
+    let mut ended = 0;
+    for call in 0..calls {
+        if run.next().is_none() {
+            run = Fires::after(schedule, start, zone);
+            ended = call;
+        }
+    }
+    ended
+}
+
+/// Asks for the first fire after the start so often, and tells which call last had none.
+fn first_fires(schedule: &Schedule, start: Timestamp, zone: &TimeZone<'_>, calls: u32) -> u32 {
+    let mut ended = 0;
+    for call in 0..calls {
+        if first_fire_after(schedule, start, zone).is_none() {
+            ended = call;
+        }
+    }
+    ended
+}
+
 /// Prints the least cost of a call in 150 rounds.
 fn time_calls(
     rt: &HostRuntime,
@@ -105,6 +142,8 @@ fn time_calls(
             Kind::Next => ahead(&schedule, start, zone, calls),
             Kind::NextBack => back(&schedule, end, zone, calls),
             Kind::FreshNext => fresh(&schedule, start, zone, calls),
+            Kind::Fires => fires(&schedule, start, zone, calls),
+            Kind::FirstFire => first_fires(&schedule, start, zone, calls),
         };
         best = best.min(begun.elapsed(rt)?.as_nanos());
     }

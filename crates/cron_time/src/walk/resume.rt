@@ -44,7 +44,7 @@ fn is_later(found: &Found, moment: Moment) -> Option<bool>
 }
 
 /// Where a walk stands that has answered a moment; `None` where the moment is no item of the
-/// timeline. It asks the zone at most once.
+/// timeline.
 pub fn resumed(fields: &ScheduleFields, zone: &TimeZone<'_>, moment: &Moment) -> Option<State>
     ensures { MatchOption result
         (IsAbsent fields.now (plain_zone zone.now) moment.now)
