@@ -1,0 +1,277 @@
+//! What varied lines cost. One text that is read again and again lets a processor foresee each branch;
+//! of these, each is another.
+
+ghost use Rattle.std.specs.Prelude.{◌<◌, ◌≤◌};
+
+use cron::Schedule;
+use cron_text::{no_ordinals, read_into};
+use jiff::Timestamp;
+use jiff::tz::TimeZone;
+use std::alloc::{AllocError, Global};
+use std::io;
+use std::time::Instant;
+
+/// How many lines are read.
+const LINES: usize = 100_000;
+
+/// The start of 2018, and the seconds from a line's start to that of the following line.
+const FIRST_START: i64 = 1_514_764_800;
+
+const BETWEEN_STARTS: i64 = 977;
+
+const MONTHS: [&str; 12] = [
+    "Jan", "Feb", "Mar", "Apr", "May", "Jun", "Jul", "Aug", "Sep", "Oct", "Nov", "Dec",
+];
+
+const DAYS: [&str; 7] = ["Mon", "Tue", "Wed", "Thu", "Fri", "Sat", "Sun"];
+
+/// Numbers without a pattern, the same in each run.
+#[derive(Drop)]
+struct Draw {
+    state: u64,
+}
+
+impl Draw {
+    /// A number below a bound.
+    fn below(&mut self, bound: u32) -> u32
+        requires { 0 < bound }
+        ensures { result < bound }
+    {
+        self.state = self
+            .state
+            .wrapping_mul(6_364_136_223_846_793_005)
+            .wrapping_add(1_442_695_040_888_963_407);
+        (self.state >> 33) as u32 % bound
+    }
+
+    /// A number from the least to the greatest.
+    fn number(&mut self, least: u32, greatest: u32) -> u32
+        requires order { least ≤ greatest }
+        requires small { greatest < 1000 }
+        ensures least { least ≤ result }
+        ensures greatest { result ≤ greatest }
+    {
+        least + self.below(greatest - least + 1)
+    }
+}
+
+/// Up to four numbers in ascending order, each once.
+fn push_list(
+    text: &mut String,
+    draw: &mut Draw,
+    least: u32,
+    greatest: u32,
+) -> Result<(), AllocError>
+    requires order { least ≤ greatest }
+    requires small { greatest < 64 }
+{
+    let mut members: u64 = 0;
+    for _ in 0..=draw.below(4) {
+        members |= 1 << draw.number(least, greatest);
+    }
+    let mut separator = "";
+    for member in least..=greatest {
+        if members >> member & 1 == 1 {
+            write!(text, "{separator}{member}")?;
+            separator = ",";
+        }
+    }
+    Ok(())
+}
+
+/// A field of numbers: one, steps, a range, a list, or a star.
+fn push_field(
+    text: &mut String,
+    draw: &mut Draw,
+    least: u32,
+    greatest: u32,
+) -> Result<(), AllocError>
+    requires order { least ≤ greatest }
+    requires room { 2 ≤ greatest }
+    requires small { greatest < 64 }
+{
+    match draw.below(6) {
+        0 => write!(text, "{}", draw.number(least, greatest)),
+        1 => write!(text, "*/{}", draw.number(2, greatest.min(30))),
+        2 => {
+            let first = draw.number(least, greatest);
+            let last = draw.number(first, greatest);
+            write!(text, "{first}-{last}")
+        }
+        3 => push_list(text, draw, least, greatest),
+        _ => text.push_str("*"),
+    }
+}
+
+/// A month's field: a star, a name or numbers.
+fn push_months(text: &mut String, draw: &mut Draw) -> Result<(), AllocError> {
+    if draw.below(3) > 0 {
+        return text.push_str("*");
+    }
+    if draw.below(2) > 0 {
+        return text.push_str(MONTHS[draw.below(12) as usize]);
+    }
+    push_field(text, draw, 1, 12)
+}
+
+/// A field of the days of the week: a star, a name or the working days.
+fn push_days_of_week(text: &mut String, draw: &mut Draw) -> Result<(), AllocError> {
+    if draw.below(2) > 0 {
+        return text.push_str("*");
+    }
+    if draw.below(3) > 0 {
+        return text.push_str(DAYS[draw.below(7) as usize]);
+    }
+    text.push_str("Mon-Fri")
+}
+
+/// A line as a crontab has it, with a field of seconds before it. Most begin with `0`.
+fn varied_line(alloc: Global, draw: &mut Draw) -> Result<String, AllocError> {
+    let mut text = String::new(alloc);
+    if draw.below(10) < 8 {
+        text.push_str("0")?;
+    } else {
+        push_field(&mut text, draw, 0, 59)?;
+    }
+    text.push_str(" ")?;
+    let mut dates = String::new(alloc);
+    if draw.below(3) > 0 {
+        dates.push_str("*")?;
+    } else {
+        push_field(&mut dates, draw, 1, 28)?;
+    }
+    dates.push_str(" ")?;
+    push_months(&mut dates, draw)?;
+    dates.push_str(" ")?;
+    push_days_of_week(&mut dates, draw)?;
+    push_field(&mut text, draw, 0, 59)?;
+    text.push_str(" ")?;
+    push_field(&mut text, draw, 0, 23)?;
+    text.push_str(" ")?;
+    text.push_str(dates.as_str())?;
+    Ok(text)
+}
+
+/// The lines, the same in each run.
+fn varied_lines(alloc: Global) -> Result<Vec<String>, AllocError> {
+    let mut draw = Draw { state: 20_221_106 };
+    let mut lines = Vec::with_capacity(alloc, LINES)?;
+    for _ in 0..LINES {
+        lines.push(varied_line(alloc, &mut draw)?)?;
+    }
+    Ok(lines)
+}
+
+/// Reads each line from its bytes into sets, as a caller from C has it read, and counts those that mean any.
+fn read_all(lines: &[String]) -> u32 {
+    let mut read: u32 = 0;
+    let mut fields = no_ordinals();
+    for line in lines {
+        if let Ok(text) = str::from_utf8(line.as_bytes()) {
+            if read_into(text, &mut fields) {
+                read = read.wrapping_add(1);
+            }
+        }
+    }
+    read
+}
+
+/// Makes a schedule of each line, which keeps a copy of it, and counts them.
+fn keep_all(alloc: Global, lines: &[String]) -> u32 {
+    let mut read: u32 = 0;
+    for line in lines {
+        if Schedule::from_str(alloc, line.as_str()).is_ok() {
+            read = read.wrapping_add(1);
+        }
+    }
+    read
+}
+
+/// Whether a schedule has an item after an instant.
+fn has_item(schedule: &Schedule, start: Timestamp, zone: &TimeZone<'_>) -> bool {
+    schedule.after(start, zone).next().is_some()
+}
+
+/// Finds the first item of each schedule after an instant of its own, and counts those that have one.
+fn find_all(schedules: &[Schedule], zone: &TimeZone<'_>) -> u32 {
+    let mut found: u32 = 0;
+    let mut second = FIRST_START;
+    for schedule in schedules {
+        if let Ok(start) = Timestamp::from_second(second) {
+            if has_item(schedule, start, zone) {
+                found = found.wrapping_add(1);
+            }
+        }
+        second = second.wrapping_add(BETWEEN_STARTS);
+    }
+    found
+}
+
+/// The schedules of the lines.
+fn schedules_of(alloc: Global, lines: &[String]) -> Result<Vec<Schedule>, AllocError> {
+    let mut schedules = Vec::with_capacity(alloc, lines.len())?;
+    for line in lines {
+        if let Ok(schedule) = Schedule::from_str(alloc, line.as_str()) {
+            schedules.push(schedule)?;
+        }
+    }
+    Ok(schedules)
+}
+
+/// Prints the cost of one line of a round over all.
+fn print_cost(rt: &HostRuntime, name: &str, nanoseconds: u128) -> io::Result<()> {
+    let tenths = nanoseconds / (LINES as u128 / 10);
+    let (whole, tenth) = (tenths / 10, tenths % 10);
+    println!(rt; "lines | {name} | {whole}.{tenth}")
+}
+
+/// Prints the least cost in 15 rounds of a line that is read into sets, and of one that is kept.
+fn time_reads(rt: &HostRuntime, lines: &[String]) -> io::Result<()> {
+    let (mut read, mut kept) = (u128::MAX, u128::MAX);
+    for _ in 0..15 {
+        let begun = Instant::now(rt)?;
+        let _read = read_all(lines);
+        read = read.min(begun.elapsed(rt)?.as_nanos());
+        let begun = Instant::now(rt)?;
+        let _kept = keep_all(rt.alloc(), lines);
+        kept = kept.min(begun.elapsed(rt)?.as_nanos());
+    }
+    print_cost(rt, "read", read)?;
+    print_cost(rt, "kept", kept)
+}
+
+/// Prints the least cost in 15 rounds of a first item.
+fn time_firsts(
+    rt: &HostRuntime,
+    name: &str,
+    schedules: &[Schedule],
+    zone: &TimeZone<'_>,
+) -> io::Result<()> {
+    let mut best = u128::MAX;
+    for _ in 0..15 {
+        let begun = Instant::now(rt)?;
+        let _found = find_all(schedules, zone);
+        best = best.min(begun.elapsed(rt)?.as_nanos());
+    }
+    print_cost(rt, name, best)
+}
+
+/// Prints what a line costs that is read, that is kept, and whose first item is found.
+pub fn run(rt: &HostRuntime) -> io::Result<()> {
+    let Ok(chicago) = TimeZone::posix("CST6CDT,M3.2.0,M11.1.0") else {
+        return Ok(());
+    };
+    let lines = varied_lines(rt.alloc())?;
+    time_reads(rt, lines.as_slice())?;
+    let schedules = schedules_of(rt.alloc(), lines.as_slice())?;
+    time_firsts(rt, "first UTC", schedules.as_slice(), &TimeZone::UTC)?;
+    time_firsts(rt, "first Chicago", schedules.as_slice(), &chicago)
+}
+
+/// Prints the lines.
+pub fn print(rt: &HostRuntime) -> io::Result<()> {
+    for line in varied_lines(rt.alloc())?.as_slice() {
+        println!(rt; "{line}")?;
+    }
+    Ok(())
+}
