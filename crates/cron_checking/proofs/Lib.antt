@@ -3,3 +3,6 @@ pub mod Telling
 pub mod Putting
 pub mod RunLemmas
 pub mod DayLemmas
+pub mod ShortTokens
+pub mod ShortSets
+pub mod ShortMeaning

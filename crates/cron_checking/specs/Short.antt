@@ -1,13 +1,14 @@
 -- The short form of sets: a canonical text that means them.
-use Rattle.std.specs.Prelude.{◌==◌, ◌+◌, ℕ, List, [], ◌∷◌, ◌++◌, map, codes, if◌then◌else◌}
+use Rattle.std.specs.Prelude.{◌≡◌, ◌==◌, ◌+◌, ℕ, List, [], ◌∷◌, ◌++◌, map, codes, if◌then◌else◌}
 use Rattle.std.specs.Fmt.{decimal}
 use Rattle.std.specs.Str.{bytes_eq}
 use Rattle.std.specs.List.{flat_map}
-use Rattle.cron_units.specs.Sets.{Sets}
-use Rattle.cron_units.specs.Units.{TimeUnit, FieldSet, unmarked, whole}
+use Rattle.cron_units.specs.Sets.{Sets, AreSets}
+use Rattle.cron_units.specs.Units.{TimeUnit, FieldSet, whole}
 use Rattle.cron_units.specs.Units as units
 use Rattle.cron_units.specs.Items.{Item, every, single, number_range, plain, name}
 use Rattle.cron_text.specs.Fields.{item_symbols}
+use Rattle.cron_text.specs.Meaning.{six_units, field_sets, Means}
 use Rattle.cron_text.specs.Tokens.{Symbol, number, word, star, question, comma, dash, slash, foreign}
 
 -- a number before runs of ascending numbers, each of which is its first and its last
@@ -55,10 +56,22 @@ items_text (i ∷ j ∷ is) = short_item i ++ 44 ∷ items_text (j ∷ is)
 abbrev pub field_text : TimeUnit → FieldSet → List ℕ
 field_text u s = items_text (short_items u s)
 
--- the seven fields with a space between two
+-- the fields of these units and then the years, with a space between two
+abbrev pub fields_text : List TimeUnit → List FieldSet → List ℕ
+fields_text [] (xs ∷ []) = field_text units.years xs
+fields_text (u ∷ us) (xs ∷ xss) = field_text u xs ++ 32 ∷ fields_text us xss
+fields_text _ _ = []
+
+-- the seven fields
 unfoldable pub sets_text : Sets → List ℕ
-sets_text s =
-    field_text units.seconds (unmarked s.seconds) ++ 32 ∷ (field_text units.minutes (unmarked s.minutes) ++ 32 ∷ (
-    field_text units.hours (unmarked s.hours) ++ 32 ∷ (field_text units.days_of_month s.days_of_month ++ 32 ∷ (
-    field_text units.months (unmarked s.months) ++ 32 ∷ (field_text units.days_of_week (unmarked s.days_of_week) ++ 32 ∷
-    field_text units.years (unmarked s.years))))))
+sets_text s = fields_text six_units (field_sets s)
+
+-- ---- laws
+
+-- the short form of sets means them
+abbrev pub ShortFormsMean : Type 0
+ShortFormsMean = (s : Sets) → AreSets s → Means (sets_text s) s
+
+-- sets with one short form are the same
+abbrev pub ShortFormsDiffer : Type 0
+ShortFormsDiffer = (s t : Sets) → AreSets s → AreSets t → sets_text s ≡ sets_text t → s ≡ t

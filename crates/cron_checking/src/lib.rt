@@ -3,6 +3,7 @@
 
 pub mod arguments;
 pub mod check;
+pub mod laws;
 pub mod line;
 mod output;
 mod reading;

@@ -1,13 +1,13 @@
 //! The short form of sets: a canonical text that means them.
 
-ghost use Rattle.std.specs.Prelude.{◌≡◌, ◌==◌, ◌+◌, ◌++◌, ◌∷◌, [], ℕ, List, IfOk, IsTrue, OnOk, map};
+ghost use Rattle.std.specs.Prelude.{◌≡◌, ◌==◌, ◌+◌, ◌++◌, ◌∷◌, [], ℕ, List, IfOk, OnOk, map};
 ghost use Rattle.std.specs.String.{string_bytes};
 ghost use Rattle.cron_checking.specs.Short.{items_text, field_text, number_items, run_item, runs_of, sets_text, short_item};
 ghost use Rattle.cron_text.specs.Meaning.{Means};
 ghost use Rattle.cron_units.specs.Units as units;
 
 use cron::Schedule;
-use cron_text::{no_ordinals, read_into};
+use cron_fires::fields_of;
 use cron_units::fields::ScheduleFields;
 use cron_units::time_unit::{DaysOfMonth, Ordinal, OrdinalIter, TimeUnitSpec};
 use std::alloc::{AllocError, Global};
@@ -93,41 +93,16 @@ pub(crate) fn push_sets(text: &mut String, fields: &ScheduleFields) -> Result<()
     push_numbers(text, &fields.years)
 }
 
-// The seven sets of a schedule.
-fn fields_of(schedule: &Schedule) -> ScheduleFields
-    ensures { result ≡ schedule.now.sets }
-{
-    ScheduleFields {
-        seconds: *schedule.seconds(),
-        minutes: *schedule.minutes(),
-        hours: *schedule.hours(),
-        days_of_month: *schedule.days_of_month(),
-        months: *schedule.months(),
-        days_of_week: *schedule.days_of_week(),
-        years: *schedule.years(),
-    }
-}
-
-// Whether a text is read as these sets. No memory is taken.
-fn is_read_as(text: &str, fields: &ScheduleFields) -> bool
-    ensures { IsTrue result → Means text.now fields.now }
-{
-    let mut again = no_ordinals();
-    read_into(text, &mut again) && again == *fields
-}
-
 /// The canonical text of a schedule: seven fields with one space between two, each a star, or its runs of
-/// numbers as `0-4,30`, with `L` last among the days of the month. It is read back before it is answered,
-/// so it means the sets of the schedule. A text that isn't read so would be answered as want of memory.
+/// numbers as `0-4,30`, with `L` last among the days of the month. It means the sets of the schedule, and
+/// two schedules have one canonical text exactly if their sets are the same.
 pub fn canonical_text(alloc: Global, schedule: &Schedule) -> Result<String, AllocError>
     ensures text { IfOk result (λ text. string_bytes text ≡ sets_text schedule.now.sets) }
     ensures means { IfOk result (λ text. Means (string_bytes text) schedule.now.sets) }
 {
-    let fields = fields_of(schedule);
+    // The source means the sets, so none of them is empty, and their short form means them too.
+    let _source = schedule.source();
     let mut text = String::new(alloc);
-    push_sets(&mut text, &fields)?;
-    if !is_read_as(text.as_str(), &fields) {
-        return Err(AllocError);
-    }
+    push_sets(&mut text, &fields_of(schedule))?;
     Ok(text)
 }

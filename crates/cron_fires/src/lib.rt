@@ -20,9 +20,9 @@ mod tests;
 
 pub use runs::{Fires, missed};
 
-// The seven sets of a schedule.
+/// The seven sets of a schedule, as those take them that search without it.
 #[inline(always)]
-fn fields_of(schedule: &Schedule) -> ScheduleFields
+pub fn fields_of(schedule: &Schedule) -> ScheduleFields
     ensures { result ≡ schedule.now.sets }
 {
     ScheduleFields {

@@ -1,11 +1,17 @@
-use Rattle.std.proofs.Common.{◌≡◌, List, ℕ, subst, rules}
-use Rattle.cron_text.specs.Meaning.{Means}
+use Rattle.std.proofs.Common.{◌≡◌, ◌++◌, ◌∙◌, [], List, ℕ, sym, ap, subst}
 use Rattle.cron_units.specs.Sets.{Sets}
+use Rattle.cron_text.specs.Meaning.{Means}
+use Rattle.cron_text.proofs.FilledLemmas.{means_sets}
+use Rattle.cron_checking.specs.Short.{sets_text}
+use Rattle.cron_checking.proofs.ShortMeaning.{short_forms_mean}
 use Rattle.cron_checking.proofs.short.canonical_text.Goals as goal
 
-same_meaning : (text same : List ℕ) (a b : Sets) → text ≡ same → a ≡ b → Means text a → Means same b
-same_meaning text same a b e f h = subst (λ (s : Sets). Means same s) f (subst (λ (t : List ℕ). Means t a) e h)
+-- the short form of what a source means, pushed to nothing
+means_again : (source before text : List ℕ) (s t : Sets) → Means source s → t ≡ s → before ≡ [] → text ≡ before ++ sets_text t → Means text s
+means_again source before text s t m e empty h =
+    let alone : text ≡ sets_text s = h ∙ (ap (λ (x : List ℕ). x ++ sets_text t) empty ∙ ap sets_text e) in
+    subst (λ (x : List ℕ). Means x s) (sym alone) (short_forms_mean s (means_sets source s m))
 
 pub returns-clause-means : goal.returns-clause-means
 returns-clause-means c =
-    same_meaning _ _ _ _ c.as_str.ensures.value c.fields_of-fields.ensures (c.is_read_as.ensures (search rules))
+    means_again _ _ _ _ _ c.source-source.ensures.means c.fields_of.ensures c.new-text.ensures.bytes c.in_ok-push_sets.ensures
