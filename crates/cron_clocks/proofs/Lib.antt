@@ -11,3 +11,4 @@ pub mod RuleAgreement
 pub mod SpanLemmas
 pub mod SteadyLemmas
 pub mod OffsetLemmas
+pub mod TableLemmas

@@ -2,3 +2,4 @@ pub mod Clocks
 pub mod Turns
 pub mod Spans
 pub mod Steady
+pub mod Tables

@@ -7,6 +7,7 @@ pub mod laws;
 mod offsets;
 mod rule;
 pub mod stretch;
+mod table;
 #[cfg(test)]
 mod tests;
 mod turns;

@@ -25,8 +25,8 @@ pub(crate) struct Span {
     pub end: i64,
 }
 
-// The civil seconds of the range.
-const WHOLE: Span = Span {
+/// The civil seconds of the range.
+pub(crate) const WHOLE: Span = Span {
     first: 0,
     end: SECONDS,
 };
@@ -149,8 +149,8 @@ fn turn_in(turn: DayTime, year: i16) -> i64
     }
 }
 
-// The part of the span that has the second in it, where the span is parted at the turn.
-fn parted(span: Span, second: i64, turn: i64) -> Span
+/// The part of the span that has the second in it, where the span is parted at the turn.
+pub(crate) fn parted(span: Span, second: i64, turn: i64) -> Span
     requires low { span.first ≤ℤ second }
     requires high { second <ℤ span.end }
     ensures low { result.first ≤ℤ second }
@@ -173,8 +173,8 @@ fn parted(span: Span, second: i64, turn: i64) -> Span
     }
 }
 
-// The part of it where it is parted at two turns.
-fn parted_twice(span: Span, second: i64, one: i64, other: i64) -> Span
+/// The part of it where it is parted at two turns.
+pub(crate) fn parted_twice(span: Span, second: i64, one: i64, other: i64) -> Span
     requires low { span.first ≤ℤ second }
     requires high { second <ℤ span.end }
     ensures low { result.first ≤ℤ second }

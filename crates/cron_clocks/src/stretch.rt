@@ -1,17 +1,17 @@
 //! Stretches of civil seconds that have their readings at the same offsets.
-ghost use Rattle.std.specs.Prelude.{◌≡◌, ◌+◌, ◌≤◌, ◌<◌, IsTrue};
+ghost use Rattle.std.specs.Prelude.{◌≡◌, ◌≤◌, ◌<◌, IsTrue};
 ghost use Rattle.jiff.specs.Words.{plain_zone};
-ghost use Rattle.jiff_tz.specs.Zone.{ambiguous_at};
-ghost use Rattle.jiff_tz.specs.declared.timezone.TimeZone.TheVariants.{Posix};
-ghost use Rattle.cron_moments.specs.Civil.{civil, seconds_in_range};
+ghost use Rattle.jiff_tz.specs.declared.timezone.TimeZone.TheVariants.{Posix, Tzif};
+ghost use Rattle.cron_moments.specs.Civil.{seconds_in_range};
 ghost use Rattle.cron_moments.specs.Found.{items_if_any};
-ghost use Rattle.cron_clocks.specs.Steady.{IsSteady, IsToldBy, readings_at, whole_range};
+ghost use Rattle.cron_clocks.specs.Steady.{IsSteady, readings_at, whole_range};
 
 use crate::rule::told_at;
-use cron_moments::civil::{SECONDS, civil_of};
+use crate::table::told_in;
+use cron_moments::civil::SECONDS;
 use cron_moments::moment::moment_numbered;
 use cron_moments::readings::Found;
-use jiff::tz::{AmbiguousOffset, Offset, TimeZone};
+use jiff::tz::{Offset, TimeZone};
 use jiff_tz::posix;
 
 /// Civil seconds from a first one to an end, each with its readings at the same offsets: none in a
@@ -36,37 +36,6 @@ fn whole(offset: Offset) -> Stretch
     }
 }
 
-// The offsets at which a zone reads a civil second.
-fn offsets_at(zone: &TimeZone<'_>, second: u32) -> (Option<Offset>, Option<Offset>)
-    ensures { IsToldBy (ambiguous_at (plain_zone zone.now) (civil second)) result.0 result.1 }
-{
-    match zone.to_ambiguous_timestamp(civil_of(second)).offset() {
-        AmbiguousOffset::Gap { .. } => (None, None),
-        AmbiguousOffset::Unambiguous { offset } => (Some(offset), None),
-        AmbiguousOffset::Fold { before, after } => {
-            if before == after {
-                return (Some(before), None);
-            }
-            (Some(before), Some(after))
-        }
-    }
-}
-
-// A single civil second, as the zone tells it.
-fn single(zone: &TimeZone<'_>, second: u32) -> Stretch
-    requires { second < seconds_in_range }
-    ensures steady { IsSteady (plain_zone zone.now) result }
-    ensures holds { (result.first ≡ second) × (result.end ≡ second + 1) }
-{
-    let (earlier, later) = offsets_at(zone, second);
-    Stretch {
-        first: second,
-        end: second + 1,
-        earlier,
-        later,
-    }
-}
-
 // The civil seconds around this one of which a rule tells what it tells of this one.
 fn between_turns(rule: posix::TimeZone, second: u32) -> Stretch
     requires { second < seconds_in_range }
@@ -75,6 +44,22 @@ fn between_turns(rule: posix::TimeZone, second: u32) -> Stretch
     ensures high { second < result.end }
 {
     let told = told_at(rule, second);
+    Stretch {
+        first: told.span.first as u32,
+        end: told.span.end as u32,
+        earlier: told.earlier,
+        later: told.later,
+    }
+}
+
+// The civil seconds around this one of which a table tells what it tells of this one.
+fn between_rows(table: &jiff_tz::Tzif, second: u32) -> Stretch
+    requires { second < seconds_in_range }
+    ensures steady { IsSteady (Tzif table.entry) result }
+    ensures low { result.first ≤ second }
+    ensures high { second < result.end }
+{
+    let told = told_in(table, second);
     Stretch {
         first: told.span.first as u32,
         end: told.span.end as u32,
@@ -119,8 +104,8 @@ impl Stretch {
         Some(Found { first, second })
     }
 
-    /// A stretch with this civil second in it: all of the range in a zone with one offset, what lies
-    /// between two turns of a rule, and this second alone in a zone from a file.
+    /// A stretch with this civil second in it: all of the range in a zone with one offset, and else what
+    /// lies between two turns of a rule or of a file's table.
     #[inline(never)]
     pub fn at(zone: &TimeZone<'_>, second: u32) -> Stretch
         requires { second < seconds_in_range }
@@ -132,7 +117,7 @@ impl Stretch {
             jiff_tz::TimeZone::UTC | jiff_tz::TimeZone::Unknown => whole(Offset::UTC),
             jiff_tz::TimeZone::Fixed(offset) => whole(Offset::from_plain(offset)),
             jiff_tz::TimeZone::Posix(rule) => between_turns(rule, second),
-            jiff_tz::TimeZone::Tzif(_) => single(zone, second),
+            jiff_tz::TimeZone::Tzif(table) => between_rows(table, second),
         }
     }
 }

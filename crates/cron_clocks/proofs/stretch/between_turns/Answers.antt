@@ -1,6 +1,6 @@
-use Rattle.std.proofs.Common.{refl, rules, pos, ◌≤ℤ◌, FitsSigned, w64, to_z-of_z, arith}
+use Rattle.std.proofs.Common.{rules, pos, ◌≤ℤ◌, FitsSigned, w64, to_z-of_z, arith}
 use Rattle.jiff_core.proofs.SignedLemmas.{signed_arith}
-use Rattle.cron_clocks.proofs.SteadyLemmas.{rule_told, steady_rule}
+use Rattle.cron_clocks.proofs.SteadyLemmas.{steady_rule}
 use Rattle.cron_clocks.proofs.SpanLemmas.{as_number}
 use Rattle.cron_clocks.proofs.stretch.between_turns.Goals as goal
 
@@ -14,5 +14,5 @@ returns-clause-steady c =
     let fits-end : FitsSigned w64 span.end = search rules in
     let end_low : pos 0 ≤ℤ span.end = omega (arith, signed_arith) in
     rw (to_z-of_z fits-first, to_z-of_z fits-end)
-    (steady_rule _ c.args.rule c.args.second _ _ span.first span.end _ _ refl (as_number span.first start) (as_number span.end end_low)
-    around.low high around.narrowed around.alike (rule_told c.args.rule c.args.second _ _ c.told_at-told.ensures.told))
+    (steady_rule c.args.rule c.args.second _ _ span.first span.end _ _ (as_number span.first start) (as_number span.end end_low)
+    around.low high around.narrowed around.alike around.told)

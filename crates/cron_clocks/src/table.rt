@@ -1,0 +1,165 @@
+//! The civil seconds between the turns of a zone's table.
+ghost use Rattle.std.specs.Prelude.{◌≡◌, ◌≤◌, ◌<◌, pos, ◌≤ℤ◌, ◌<ℤ◌, false, int_le, length};
+ghost use Rattle.jiff_tz.specs.Tzif.{ambiguous_at, civil_count_at, civil_start, is_inside, offsets_in, type_after};
+ghost use Rattle.cron_moments.specs.Civil.{civil, seconds_in_range};
+ghost use Rattle.cron_clocks.specs.Spans.{IsNarrowed};
+ghost use Rattle.cron_clocks.specs.Steady.{IsToldBy};
+ghost use Rattle.cron_clocks.specs.Tables.{IsAlikeAround, IsBetweenTurns, IsShortOf, IsToldAlikeIn, IsTurnAround, offsets_around, turns_of};
+
+use crate::rule::{Span, Told, WHOLE, parted, parted_twice, told_at};
+use jiff::tz::Offset;
+use jiff_tz::Tzif;
+use jiff_tz::tzif::Transition;
+
+// How many turns of the table begin at or before the second, on the clock that turns.
+fn turns_by(table: &Tzif, second: i64) -> usize
+    ensures value { result ≡ civil_count_at table.now second }
+    ensures bound { result ≤ length (turns_of table.now) }
+{
+    table.transitions().partition_point(
+        |turn: &Transition| -> bool
+            ensures { result ≡ int_le (civil_start turn.now) second }
+        { turn.civil_start() <= second },
+    )
+}
+
+// The part of the span around this second up to where the turn begins that follows so many.
+fn up_to_next(table: &Tzif, count: usize, at: i64, span: Span) -> Span
+    requires low { span.first ≤ℤ at }
+    requires high { at <ℤ span.end }
+    ensures low { result.first ≤ℤ at }
+    ensures high { at <ℤ result.end }
+    ensures narrowed { IsNarrowed span.first span.end result.first result.end }
+    ensures next { IsShortOf (turns_of table.now) count result.first result.end }
+{
+    let turns = table.transitions();
+    if count >= turns.len() {
+        return span;
+    }
+    parted(span, at, turns[count].civil_start())
+}
+
+// The part of it that lies between where the last of so many turns begins or ends and where the next
+// begins.
+fn between_turns(table: &Tzif, count: usize, at: i64, span: Span) -> Span
+    requires low { span.first ≤ℤ at }
+    requires high { at <ℤ span.end }
+    requires count { count ≤ length (turns_of table.now) }
+    ensures low { result.first ≤ℤ at }
+    ensures high { at <ℤ result.end }
+    ensures narrowed { IsNarrowed span.first span.end result.first result.end }
+    ensures between { IsBetweenTurns (turns_of table.now) count result.first result.end }
+{
+    let ahead = up_to_next(table, count, at, span);
+    if count == 0 {
+        return ahead;
+    }
+    let last = table.transitions()[count - 1];
+    parted_twice(ahead, at, last.civil_start(), last.civil_end())
+}
+
+// The turn in whose gap or fold the second lies, where so many begin at or before it.
+fn turn_around(table: &Tzif, count: usize, at: i64) -> Option<Transition>
+    requires { count ≤ length (turns_of table.now) }
+    ensures { IsTurnAround table.now count at result }
+{
+    if count == 0 {
+        return None;
+    }
+    let last = table.transitions()[count - 1];
+    if at < last.civil_end() {
+        Some(last)
+    } else {
+        None
+    }
+}
+
+// The offsets at which a civil second is read that lies in a turn's gap or fold.
+fn offsets_inside(turn: Transition) -> (Option<Offset>, Option<Offset>)
+    ensures { IsToldBy (offsets_in turn) result.0 result.1 }
+{
+    let (before, after) = (turn.before, turn.after.offset);
+    if before.seconds < after.seconds {
+        return (None, None);
+    }
+    if before.seconds == after.seconds {
+        return (Some(Offset::from_plain(before)), None);
+    }
+    (
+        Some(Offset::from_plain(before)),
+        Some(Offset::from_plain(after)),
+    )
+}
+
+// The offset of the clock past so many turns.
+fn offset_past(table: &Tzif, count: usize) -> Offset
+    requires { count ≤ length (turns_of table.now) }
+    ensures { result ≡ (type_after table.now count).offset }
+{
+    if count == 0 {
+        Offset::from_plain(table.first().offset)
+    } else {
+        Offset::from_plain(table.transitions()[count - 1].after.offset)
+    }
+}
+
+// What is told of a civil second behind the last of so many turns: past all of them by the rule, if
+// there is one.
+fn behind_turns(table: &Tzif, count: usize, second: u32) -> Told
+    requires range { second < seconds_in_range }
+    requires count { count ≤ length (turns_of table.now) }
+    ensures alike { IsAlikeAround table.now count false second result.span.first result.span.end }
+    ensures low { result.span.first ≤ℤ pos second }
+    ensures high { pos second <ℤ result.span.end }
+    ensures narrowed { IsNarrowed (pos 0) (pos seconds_in_range) result.span.first result.span.end }
+    ensures told { IsToldBy (offsets_around table.now count false (civil second)) result.earlier result.later }
+{
+    match table.posix_tz() {
+        Some(rule) if count == table.transitions().len() => told_at(rule, second),
+        _ => Told {
+            span: WHOLE,
+            earlier: Some(offset_past(table, count)),
+            later: None,
+        },
+    }
+}
+
+// What is told of a civil second past so many turns.
+fn told_past(table: &Tzif, count: usize, second: u32) -> Told
+    requires range { second < seconds_in_range }
+    requires count { count ≤ length (turns_of table.now) }
+    ensures alike { IsAlikeAround table.now count (is_inside table.now count (pos second)) second result.span.first result.span.end }
+    ensures low { result.span.first ≤ℤ pos second }
+    ensures high { pos second <ℤ result.span.end }
+    ensures narrowed { IsNarrowed (pos 0) (pos seconds_in_range) result.span.first result.span.end }
+    ensures told { IsToldBy (offsets_around table.now count (is_inside table.now count (pos second)) (civil second)) result.earlier result.later }
+{
+    let Some(turn) = turn_around(table, count, i64::from(second)) else {
+        return behind_turns(table, count, second);
+    };
+    let (earlier, later) = offsets_inside(turn);
+    Told {
+        span: WHOLE,
+        earlier,
+        later,
+    }
+}
+
+/// What a table tells of a civil second.
+pub(crate) fn told_in(table: &Tzif, second: u32) -> Told
+    requires { second < seconds_in_range }
+    ensures alike { IsToldAlikeIn table.now second result.span.first result.span.end }
+    ensures low { result.span.first ≤ℤ pos second }
+    ensures high { pos second <ℤ result.span.end }
+    ensures narrowed { IsNarrowed (pos 0) (pos seconds_in_range) result.span.first result.span.end }
+    ensures told { IsToldBy (ambiguous_at table.now (civil second)) result.earlier result.later }
+{
+    let at = i64::from(second);
+    let count = turns_by(table, at);
+    let told = told_past(table, count, second);
+    Told {
+        span: between_turns(table, count, at, told.span),
+        earlier: told.earlier,
+        later: told.later,
+    }
+}
