@@ -5,13 +5,23 @@ use cron::time_unit::DaysOfMonth;
 use cron::{Schedule, TimeUnitSpec};
 use std::alloc::{AllocError, Global};
 
+/// Lengthens a run by the number, if it follows it.
+fn is_joined(run: Option<&mut (u32, u32)>, ordinal: u32) -> bool {
+    match run {
+        Some((_, last)) if last.checked_add(1) == Some(ordinal) => {
+            *last = ordinal;
+            true
+        }
+        _ => false,
+    }
+}
+
 /// Joins the numbers that follow one another into runs.
 fn runs<T: TimeUnitSpec>(alloc: Global, unit: &T) -> Result<Vec<(u32, u32)>, AllocError> {
-    let mut runs: Vec<(u32, u32)> = Vec::new(alloc);
+    let mut runs = Vec::new(alloc);
     for ordinal in unit.iter() {
-        match runs.last_mut() {
-            Some(run) if run.1.checked_add(1) == Some(ordinal) => run.1 = ordinal,
-            _ => runs.push((ordinal, ordinal))?,
+        if !is_joined(runs.last_mut(), ordinal) {
+            runs.push((ordinal, ordinal))?;
         }
     }
     Ok(runs)

@@ -25,16 +25,27 @@ fn filled(alloc: Global, answer: &str, pieces: &str) -> Result<String, AllocErro
     }
 }
 
+/// The pieces between a front and an end.
+fn enclosed(alloc: Global, front: &str, pieces: &str, end: &str) -> Result<String> {
+    let front = text_meant(alloc, front)?;
+    let end = text_meant(alloc, end)?;
+    Ok(format!(in alloc; "{front}{pieces}{end}")?)
+}
+
+/// All the pieces of a row.
+fn pieces_of(alloc: Global, count: &str, piece: &str) -> Result<String> {
+    let piece = text_meant(alloc, piece)?;
+    Ok(repeated(alloc, piece.as_str(), count.parse::<u32>()?)?)
+}
+
 /// The text of a row, and its answer.
 fn text_and_answer(alloc: Global, row: &str) -> Result<(String, String)> {
     let (count, row) = cut(row)?;
     let (front, row) = cut(row)?;
     let (piece, row) = cut(row)?;
     let (end, answer) = cut(row)?;
-    let piece = text_meant(alloc, piece)?;
-    let pieces = repeated(alloc, piece.as_str(), count.parse::<u32>()?)?;
-    let (front, end) = (text_meant(alloc, front)?, text_meant(alloc, end)?);
-    let text = format!(in alloc; "{front}{pieces}{end}")?;
+    let pieces = pieces_of(alloc, count, piece)?;
+    let text = enclosed(alloc, front, pieces.as_str(), end)?;
     Ok((text, filled(alloc, answer, pieces.as_str())?))
 }
 

@@ -29,6 +29,15 @@ fn text_of(alloc: Global, fires: &[Moment]) -> Result<String, AllocError> {
     Ok(text)
 }
 
+fn between(alloc: Global, setting: &Setting, now: Timestamp) -> Result<Vec<Moment>> {
+    let fires = Fires::between(&setting.schedule, setting.start, now, &setting.zone);
+    Ok(fires.collect(alloc)?)
+}
+
+fn listed(alloc: Global, setting: &Setting, now: Timestamp) -> Result<Vec<Moment>> {
+    Ok(missed(alloc, &setting.schedule, setting.start, now, &setting.zone)?)
+}
+
 /// The fires, asked for one after another: the first after an instant, and then the first past each.
 fn asked_in_turn(alloc: Global, setting: &Setting, now: Timestamp) -> Result<Vec<Moment>> {
     let mut fires = Vec::new(alloc);
@@ -66,28 +75,53 @@ fn sorted_walk(alloc: Global, setting: &Setting, now: Timestamp) -> Result<Vec<M
     Ok(fires)
 }
 
+/// A way to ask for the fires between two instants.
+#[derive(Clone, Copy)]
+enum Way {
+    Between,
+    Missed,
+    InTurn,
+    SortedWalk,
+}
+
+const WAYS: [Way; 4] = [Way::Between, Way::Missed, Way::InTurn, Way::SortedWalk];
+
+impl Way {
+    fn name(self) -> &'static str {
+        match self {
+            Way::Between => "Fires::between",
+            Way::Missed => "missed",
+            Way::InTurn => "first_fire_past",
+            Way::SortedWalk => "a walk, sorted",
+        }
+    }
+
+    /// The fires after the start and not after the other instant.
+    fn fires(self, alloc: Global, setting: &Setting, now: Timestamp) -> Result<Vec<Moment>> {
+        match self {
+            Way::Between => between(alloc, setting, now),
+            Way::Missed => listed(alloc, setting, now),
+            Way::InTurn => asked_in_turn(alloc, setting, now),
+            Way::SortedWalk => sorted_walk(alloc, setting, now),
+        }
+    }
+
+    /// The text of these fires.
+    fn told(self, alloc: Global, setting: &Setting, now: Timestamp) -> Result<String> {
+        let fires = self.fires(alloc, setting, now)?;
+        Ok(text_of(alloc, fires.as_slice())?)
+    }
+}
+
 pub(crate) fn replay(report: &mut Report<'_>, row: Row<'_>) -> Result<()> {
     let alloc = report.alloc();
     let case = case_of(row.text)?;
     let (now, answers) = cut(case.rest)?;
     let setting = setting_of(alloc, case)?;
     let now = start_at(now, &setting.zone)?;
-    let between: Vec<Moment> = Fires::between(
-        &setting.schedule,
-        setting.start,
-        now,
-        &setting.zone,
-    ).collect(alloc)?;
-    let listed = missed(alloc, &setting.schedule, setting.start, now, &setting.zone)?;
-    let asked = asked_in_turn(alloc, &setting, now)?;
-    let sorted = sorted_walk(alloc, &setting, now)?;
-    for (way, fires) in [
-        ("Fires::between", between.as_slice()),
-        ("missed", listed.as_slice()),
-        ("first_fire_past", asked.as_slice()),
-        ("a walk, sorted", sorted.as_slice()),
-    ] {
-        report.compare(row, way, answers, text_of(alloc, fires)?.as_str())?;
+    for way in WAYS {
+        let told = way.told(alloc, &setting, now)?;
+        report.compare(row, way.name(), answers, told.as_str())?;
     }
     Ok(())
 }
