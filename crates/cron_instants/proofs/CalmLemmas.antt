@@ -1,5 +1,5 @@
 -- The next match after an item that lies far from each turn of its zone is the next item.
-use Rattle.std.proofs.Common.{◌≡◌, ℕ, zero, suc, ◌<◌, ◌≤◌, ℤ, pos, ◌+ℤ◌, ◌-ℤ◌, ◌≤ℤ◌, true, false, [], ◌∷◌, Some, inl, inr, refl, sym, ap, ◌∙◌, arith}
+use Rattle.std.proofs.Common.{◌≡◌, ℕ, zero, suc, ◌<◌, ◌≤◌, ℤ, pos, ◌+ℤ◌, ◌-ℤ◌, true, false, [], ◌∷◌, Some, inl, inr, refl, sym, ap, ◌∙◌, arith}
 use Rattle.std.specs.Prelude.{slice_get}
 use Rattle.std.proofs.lemmas.Bool.{cases_lt, both_ways}
 use Rattle.jiff_core.proofs.SignedLemmas.{signed_arith}
@@ -21,105 +21,129 @@ only_reading : (q r : Reading) (i : ℕ) → slice_get (q ∷ []) i ≡ Some r �
 only_reading q r zero e = cc
 only_reading q r (suc i) e = absurd (nothing_in_nil i r e)
 
-module _ (s : Sets) (z : TimeZone) (i : ℤ) (c n : ℕ) (offset : Offset) (end : ℕ) (matching : is_match s c ≡ true) (instant_is : i ≡ pos c -ℤ offset.seconds)
-    (calm : IsCalm z c offset end) (next : IsNearestAt Ahead (is_match s) (pos c +ℤ pos 1) n) (before : n < end) where
-  one_each : (k : ℕ) → calm.stretch.first ≤ k → k < calm.stretch.end → readings z k ≡ reading k offset ∷ []
-  one_each k low high =
-      calm.steady.same k low high ∙ ap (λ o. readings_at k o calm.stretch.later) calm.one ∙ ap (readings_at k (Some offset)) calm.alone
+-- from an item that lies far from each turn behind it to the next match, which lies far from each turn
+module _ (s : Sets) (z : TimeZone) (i : ℤ) (c n : ℕ) (o p : Offset) (last end : ℕ) (matching : is_match s c ≡ true) (instant_is : i ≡ pos c -ℤ o.seconds)
+    (calm : IsCalm z c o last) (next : IsNearestAt Ahead (is_match s) (pos c +ℤ pos 1) n) (there : IsCalm z n p end) (before : n < end) where
+  one_here : (k : ℕ) → calm.stretch.first ≤ k → k < calm.stretch.end → readings z k ≡ reading k o ∷ []
+  one_here k low high =
+      calm.steady.same k low high ∙ ap (λ v. readings_at k v calm.stretch.later) calm.one ∙ ap (readings_at k (Some o)) calm.alone
+
+  one_there : (k : ℕ) → there.stretch.first ≤ k → k < there.stretch.end → readings z k ≡ reading k p ∷ []
+  one_there k low high =
+      there.steady.same k low high ∙ ap (λ v. readings_at k v there.stretch.later) there.one ∙ ap (readings_at k (Some p)) there.alone
 
   later : c < n
   later = let lies = next.lies in omega (arith, signed_arith)
 
-  stands : Stands s z (reading n offset)
+  stands_here : Stands s z (reading c o)
+  stands_here =
+      let low = calm.low in
+      record { matching = matching; place = 0; here = ap (λ l. slice_get l 0) (one_here c (omega arith) calm.inside) }
+
+  stands : Stands s z (reading n p)
   stands =
-      let low = calm.low in
-      let high = calm.high in
-      let after = later in record {
-        matching = next.passes;
-        place = 0;
-        here = ap (λ l. slice_get l 0) (one_each n (omega arith) (omega arith));
-      }
+      let low = there.low in
+      record { matching = next.passes; place = 0; here = ap (λ l. slice_get l 0) (one_there n (omega arith) there.inside) }
 
-  item : IsBeyond Ahead s z i c (reading n offset)
-  item = (stands, let after = later in before-less i c (instant (reading n offset)) n (omega (arith, signed_arith)))
+  -- a reading of a stretch is at its offset
+  at_here : (q : Reading) → Stands s z q → calm.stretch.first ≤ q.second → q.second < calm.stretch.end → q.offset.seconds ≡ o.seconds
+  at_here q h low high =
+      ap (λ (r : Reading). r.offset.seconds) (only_reading (reading q.second o) q h.place (ap (λ l. slice_get l h.place) (sym (one_here q.second low high)) ∙ h.here))
 
-  -- no reading is at an offset far from that of the next item
-  apart_from : (q : Reading) → Stands s z q → (offset.seconds -ℤ q.offset.seconds) ≤ℤ pos calm.reach
-  apart_from q h = calm.apart n q.second stands.place h.place (reading n offset) q stands.here h.here
+  at_there : (q : Reading) → Stands s z q → there.stretch.first ≤ q.second → q.second < there.stretch.end → q.offset.seconds ≡ p.seconds
+  at_there q h low high =
+      ap (λ (r : Reading). r.offset.seconds) (only_reading (reading q.second p) q h.place (ap (λ l. slice_get l h.place) (sym (one_there q.second low high)) ∙ h.here))
 
-  from_apart : (q : Reading) → Stands s z q → (q.offset.seconds -ℤ offset.seconds) ≤ℤ pos calm.reach
-  from_apart q h = calm.apart q.second n h.place stands.place q (reading n offset) h.here stands.here
+  -- one that lies beyond the item is of a later civil second
+  past : (q : Reading) → IsBeyond Ahead s z i c q → c < q.second
+  past q h = elim (cases_lt c q.second) [
+    | inl after ↦ after
+    | inr upto ↦ elim (cases_lt q.second calm.stretch.first) [
+      | inl less ↦
+          let near = calm.apart c q.second stands_here.place h.0.place (reading c o) q stands_here.here h.0.here in
+          let low = calm.low in
+          elim (before-true i c (instant q) q.second h.1) [
+            | inl more ↦ absurd (omega (arith, signed_arith))
+            | inr same ↦ let equal = same.0 in absurd (omega (arith, signed_arith))
+          ]
+      | inr low ↦
+          let inside = calm.inside in
+          let same = at_here q h.0 low (omega arith) in
+          elim (before-true i c (instant q) q.second h.1) [
+            | inl more ↦ absurd (omega (arith, signed_arith))
+            | inr shared ↦ absurd (omega (arith, shared.1))
+          ]
+    ]
+  ]
 
-  -- a reading before the stretch is too early
-  early : (q : Reading) → IsBeyond Ahead s z i c q → q.second < calm.stretch.first → ⊥
-  early q h less =
-      let near = apart_from q h.0 in
-      let low = calm.low in
-      elim (before-true i c (instant q) q.second h.1) [
-        | inl more ↦ omega (arith, signed_arith)
-        | inr same ↦ let equal = same.0 in omega (arith, signed_arith)
-      ]
+  -- the next match does
+  item : IsBeyond Ahead s z i c (reading n p)
+  item =
+      let after = later in (
+        stands,
+        elim (cases_lt c there.stretch.first) [
+          | inl less ↦
+              let near = there.apart n c stands.place stands_here.place (reading n p) (reading c o) stands.here stands_here.here in
+              let low = there.low in
+              before-less i c (instant (reading n p)) n (omega (arith, signed_arith))
+          | inr low ↦
+              let inside = there.inside in
+              let same = at_there (reading c o) stands_here low (omega arith) in
+              before-less i c (instant (reading n p)) n (omega (arith, signed_arith))
+        ],
+      )
 
-  -- one behind it is too late
-  behind : (q : Reading) → Stands s z q → calm.stretch.end ≤ q.second → is_earlier q (reading n offset) ≡ false
-  behind q h past =
-      let near = from_apart q h in
-      let high = calm.high in
-      before-not_less (instant q) q.second (instant (reading n offset)) n (omega (arith, signed_arith))
+  -- and no other is reached before it
+  no_nearer : (q : Reading) → IsBeyond Ahead s z i c q → is_earlier q (reading n p) ≡ false
+  no_nearer q h = elim (cases_lt q.second there.stretch.end) [
+    | inl short ↦ elim (cases_lt q.second n) [
+      | inl less ↦
+          let after = past q h in
+          absurd (both_ways (is_match s q.second) (next.nearest q.second (omega (arith, signed_arith)) less) h.0.matching)
+      | inr from ↦
+          let low = there.low in
+          not_nearer Ahead q (reading n p) (at_there q h.0 (omega arith) short) (λ less. absurd (omega arith))
+    ]
+    | inr over ↦
+        let near = there.apart q.second n h.0.place stands.place q (reading n p) h.0.here stands.here in
+        let high = there.high in
+        before-not_less (instant q) q.second (instant (reading n p)) n (omega (arith, signed_arith))
+  ]
 
-  -- and one of the stretch is no match before the next one
-  within : (q : Reading) → IsBeyond Ahead s z i c q → calm.stretch.first ≤ q.second → q.second < calm.stretch.end → is_earlier q (reading n offset) ≡ false
-  within q h low high =
-      let only : q ≡ reading q.second offset =
-      only_reading (reading q.second offset) q h.0.place (ap (λ l. slice_get l h.0.place) (sym (one_each q.second low high)) ∙ h.0.here) in
-      let same : q.offset.seconds ≡ offset.seconds = ap (λ (r : Reading). r.offset.seconds) only in
-      let past : c < q.second = elim (before-true i c (instant q) q.second h.1) [
-        | inl more ↦ omega (arith, signed_arith)
-        | inr shared ↦ shared.1
-      ] in
-      not_nearer Ahead q (reading n offset) same
-      (λ less. both_ways (is_match s q.second) (next.nearest q.second (omega (arith, signed_arith)) less) h.0.matching)
+  nearest : IsBest Ahead (IsBeyond Ahead s z i c) (Some (reading n p))
+  nearest = (item, no_nearer)
 
-  nearest : IsBest Ahead (IsBeyond Ahead s z i c) (Some (reading n offset))
-  nearest = (
-    item,
-    λ q h. elim (cases_lt q.second calm.stretch.first) [
-      | inl less ↦ absurd (early q h less)
-      | inr low ↦ elim (cases_lt q.second calm.stretch.end) [
-        | inl high ↦ within q h low high
-        | inr past ↦ behind q h.0 past
-      ]
-    ],
-  )
+-- as much is known further on
+still_calm : (z : TimeZone) (c n : ℕ) (o : Offset) (end : ℕ) → IsCalm z c o end → c < n → n < end → IsCalm z n o end
+still_calm z c n o end calm after before =
+    let low = calm.low in
+    let high = calm.high in
+    record {
+      reach = calm.reach;
+      apart = calm.apart;
+      stretch = calm.stretch;
+      steady = calm.steady;
+      one = calm.one;
+      alone = calm.alone;
+      low = omega arith;
+      inside = omega arith;
+      high = calm.high;
+    }
 
-  still_calm : IsCalm z n offset end
-  still_calm =
-      let low = calm.low in
-      let after = later in
-      record { reach = calm.reach; apart = calm.apart; stretch = calm.stretch; steady = calm.steady; one = calm.one; alone = calm.alone; low = omega arith; high = calm.high }
-
--- the month doesn't matter
-same_known : (s : Sets) (z : TimeZone) (i : ℤ) (c : ℕ) (old new : Calm) → IsKnownCalm s z i c old → new.offset ≡ old.offset → new.end ≡ old.end
-    → IsKnownCalm s z i c new
-same_known s z i c old new known same_offset same_end =
-    let seconds : new.offset.seconds ≡ old.offset.seconds = ap (λ (o : Offset). o.seconds) same_offset in
-    let told = known.instant_is in
-    record { matching = known.matching; instant_is = omega (arith, signed_arith); calm = rw (same_offset, same_end) known.calm }
-
-next_known : (s : Sets) (z : TimeZone) (i : ℤ) (c n : ℕ) (k : Calm) → IsKnownCalm s z i c k → IsNearestAt Ahead (is_match s) (pos c +ℤ pos 1) n → n < k.end
-    → IsNext s z i c (Some (reading n k.offset)) (Some k)
-next_known s z i c n k known next before = record {
-  nearest = nearest s z i c n k.offset k.end known.matching known.instant_is known.calm next before;
-  after = record {
-    matching = next.passes;
-    instant_is = refl;
-    calm = still_calm s z i c n k.offset k.end known.matching known.instant_is known.calm next before;
-  };
+-- a match that lies far from each turn, and is the next after one that lies far from those behind it, is the next item
+pub next_apart : (s : Sets) (z : TimeZone) (i : ℤ) (c n : ℕ) (old new : Calm) → IsKnownCalm s z i c old
+    → IsNearestAt Ahead (is_match s) (pos c +ℤ pos 1) n → IsCalm z n new.offset new.end → n < new.end
+    → IsNext s z i c (Some (reading n new.offset)) (Some new)
+next_apart s z i c n old new known next there before = record {
+  nearest = nearest s z i c n old.offset new.offset old.end new.end known.matching known.instant_is known.calm next there before;
+  after = record { matching = next.passes; instant_is = refl; calm = there };
 }
 
--- the next match before the end is the next item, and as much is known after it
+-- and so is the next match before the end
 pub next_calm : (s : Sets) (z : TimeZone) (i : ℤ) (c n : ℕ) (old new : Calm) → IsKnownCalm s z i c old
     → IsNearestAt Ahead (is_match s) (pos c +ℤ pos 1) n → n < old.end → new.offset ≡ old.offset → new.end ≡ old.end
     → IsNext s z i c (Some (reading n new.offset)) (Some new)
 next_calm s z i c n old new known next before same_offset same_end =
-    next_known s z i c n new (same_known s z i c old new known same_offset same_end) next (rw same_end before)
+    let lies = next.lies in
+    next_apart s z i c n old new known next
+    (rw (same_offset, same_end) (still_calm z c n old.offset old.end known.calm (omega (arith, signed_arith)) before)) (rw same_end before)

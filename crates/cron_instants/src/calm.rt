@@ -19,7 +19,8 @@ use cron_units::way::Way;
 use jiff::tz::{Offset, TimeZone};
 
 /// Matches from an item on are read at one offset alone and lie further from all others than two clocks
-/// of the zone can be apart, up to an end. The month is the one that was looked up last.
+/// of the zone can be apart, up to an end, which may lie before the item. The month is the one that was
+/// looked up last.
 #[derive(Clone, Copy)]
 pub(crate) struct Calm {
     pub offset: Offset,
@@ -27,18 +28,16 @@ pub(crate) struct Calm {
     pub month: KnownMonth,
 }
 
-// What is known after an item, if it lies far from each turn.
-fn calm_at(zone: &TimeZone<'_>, item: &Moment) -> Option<Calm>
-    requires { item.now.second < seconds_in_range }
-    ensures calm { IfSome result (λ calm. IsCalm (plain_zone zone.now) item.now.second calm.offset calm.end) }
-    ensures offset { IfSome result (λ calm. calm.offset.seconds ≡ item.now.offset.seconds) }
+// What is known of a civil second that is read at one offset, far from the turn behind it.
+fn calm_around(zone: &TimeZone<'_>, second: u32, month: KnownMonth) -> Option<Calm>
+    requires { second < seconds_in_range }
+    ensures { IfSome result (λ calm. IsCalm (plain_zone zone.now) second calm.offset calm.end) }
 {
-    let second = civil_second(item);
     let stretch = Stretch::at(zone, second);
     let Some(offset) = stretch.earlier else {
         return None;
     };
-    if stretch.later.is_some() || offset.seconds() != item.offset().seconds() {
+    if stretch.later.is_some() {
         return None;
     }
     let reach = reach_of(zone);
@@ -48,25 +47,38 @@ fn calm_at(zone: &TimeZone<'_>, item: &Moment) -> Option<Calm>
     Some(Calm {
         offset,
         end: stretch.end - reach,
-        month: KnownMonth::january_1970(),
+        month,
     })
 }
 
-// The next match, if it lies before the end of what is known.
-#[inline(always)]
-fn match_in(fields: &ScheduleFields, second: u32, calm: &mut Calm) -> Option<u32>
-    requires { is_match fields.now second ≡ true }
-    ensures nearest { IfSome result (λ n. IsNearestAt Ahead (is_match fields.now) (pos second +ℤ pos 1) n × (n < calm.old.end)) }
-    ensures offset { calm.new.offset ≡ calm.old.offset }
-    ensures end { calm.new.end ≡ calm.old.end }
+// What is known after an item, if it lies far from the turn behind it.
+fn calm_at(zone: &TimeZone<'_>, item: &Moment) -> Option<Calm>
+    requires { item.now.second < seconds_in_range }
+    ensures calm { IfSome result (λ calm. IsCalm (plain_zone zone.now) item.now.second calm.offset calm.end) }
+    ensures offset { IfSome result (λ calm. calm.offset.seconds ≡ item.now.offset.seconds) }
 {
-    let Some(next) = match_past(fields, second, &mut calm.month) else {
+    let Some(calm) = calm_around(zone, civil_second(item), KnownMonth::january_1970()) else {
         return None;
     };
-    if next >= calm.end {
+    if calm.offset.seconds() != item.offset().seconds() {
         return None;
     }
-    Some(next)
+    Some(calm)
+}
+
+// What is known after the next match, if that lies far from each turn.
+#[inline(never)]
+fn calm_past(zone: &TimeZone<'_>, second: u32, month: KnownMonth) -> Option<Calm>
+    requires { second < seconds_in_range }
+    ensures { IfSome result (λ calm. IsCalm (plain_zone zone.now) second calm.offset calm.end × (second < calm.end)) }
+{
+    let Some(calm) = calm_around(zone, second, month) else {
+        return None;
+    };
+    if second >= calm.end {
+        return None;
+    }
+    Some(calm)
 }
 
 // The next item by a search, and what is known after it.
@@ -97,10 +109,17 @@ pub(crate) fn next_item(
     requires { IsKnown fields.now (plain_zone zone.now) mark.instant mark.second known }
     ensures { IsNext fields.now (plain_zone zone.now) mark.instant mark.second result.0 result.1 }
 {
-    if let Some(mut calm) = known {
-        if let Some(second) = match_in(fields, mark.second, &mut calm) {
-            return (Some(moment_numbered(second, calm.offset)), Some(calm));
-        }
+    let Some(mut calm) = known else {
+        return searched(fields, zone, mark);
+    };
+    let Some(second) = match_past(fields, mark.second, &mut calm.month) else {
+        return searched(fields, zone, mark);
+    };
+    if second < calm.end {
+        return (Some(moment_numbered(second, calm.offset)), Some(calm));
     }
-    searched(fields, zone, mark)
+    match calm_past(zone, second, calm.month) {
+        Some(there) => (Some(moment_numbered(second, there.offset)), Some(there)),
+        None => searched(fields, zone, mark),
+    }
 }

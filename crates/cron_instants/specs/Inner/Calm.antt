@@ -1,5 +1,5 @@
 -- Items that lie far from each turn of their zone.
-use Rattle.std.specs.Prelude.{◌≡◌, ℕ, ◌+◌, ◌≤◌, ℤ, pos, ◌-ℤ◌, true, Option, Some, None}
+use Rattle.std.specs.Prelude.{◌≡◌, ℕ, ◌+◌, ◌≤◌, ◌<◌, ℤ, pos, ◌-ℤ◌, true, Option, Some, None}
 use Rattle.jiff_core.specs.declared.Offset.{Offset}
 use Rattle.jiff_tz.specs.declared.timezone.TimeZone.{TimeZone}
 use Rattle.cron_units.specs.declared.way.Way.TheVariants.{Ahead}
@@ -11,7 +11,7 @@ use Rattle.cron_instants.specs.Inner.Beyond.{is_match, IsBest, IsBeyond}
 use Rattle.cron_instants.specs.Inner.Reach.{IsReach}
 use Rattle.cron_instants.specs.declared.calm.Calm.{Calm}
 
--- from a civil second up to an end all are read at one offset alone, and so are those as near as two clocks of the zone can be apart
+-- a civil second and those behind it up to an end are read at one offset alone, and so are those as near as two clocks of the zone can be apart
 pub record IsCalm (z : TimeZone) (c : ℕ) (offset : Offset) (end : ℕ) : Type 0 where
   pub reach : ℕ
   pub apart : IsReach z reach
@@ -20,6 +20,7 @@ pub record IsCalm (z : TimeZone) (c : ℕ) (offset : Offset) (end : ℕ) : Type 
   pub one : stretch.earlier ≡ Some offset
   pub alone : stretch.later ≡ None
   pub low : stretch.first + reach ≤ c
+  pub inside : c < stretch.end
   pub high : end + reach ≤ stretch.end
 
 -- what is known after an item, which is named by its instant and its civil second
