@@ -1,3 +1,4 @@
+pub mod Digits
 pub mod Output
 pub mod Arguments
 pub mod Answers

@@ -4,5 +4,6 @@
 
 pub mod answer;
 pub mod arguments;
+mod kept_line;
 pub mod page;
 pub mod run;

@@ -10,10 +10,10 @@ ghost use Rattle.cron_writer.specs.Calls.{AreWrites, AreWritesFlushed, IsFlushed
 ghost use Rattle.cron_writer.specs.Watching.{has_failed, kept_in, writer_of, IsGathered, IsSent};
 ghost use Rattle.cron_listing.specs.declared.run.Outcome.TheVariants.{Refused};
 
+use crate::kept_line::KeptLine;
 use cron::error::{Error, ErrorKind};
 use cron::schedule::Moment;
 use cron::{Schedule, ScheduleIterator};
-use cron_moments::line::line_of;
 use cron_writer::gathered::Gathered;
 use cron_writer::watchable::Watchable;
 use cron_writer::watched::{Watched, send};
@@ -65,12 +65,14 @@ fn gather_items<W: Watchable>(
     ensures last { has_failed out.new ≡ false → result ≡ last_item (answers_of back walk.old count) }
     ensures calls { AreWrites W.writes (writer_of out.old) (has_failed out.old) (writer_of out.new) (has_failed out.new) }
 {
+    let mut line = KeptLine::new();
     let mut last = None;
     for _ in 0..count {
         let Some(moment) = step(walk, back) else {
             return last;
         };
-        lines.push_line(line_of(&moment).as_slice(), out);
+        line.show(&moment);
+        line.push_to(lines, out);
         if out.failed() {
             return last;
         }

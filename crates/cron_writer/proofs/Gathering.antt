@@ -23,15 +23,15 @@ kept_on origin now failed old were kept text line same more g =
       };
     }
 
--- a line is kept alone, after those before it were sent
-pub kept_alone : (origin now : Option (List ℕ)) (failed : Bool) (were kept text line : List ℕ) → were ≡ [] → kept ≡ were ++ line
-    → IsSent origin now failed text → IsGathered origin now failed kept (text ++ line)
-kept_alone origin now failed were kept text line none more s =
+-- what was sent is gathered, and nothing of it is kept
+pub sent_all : (origin now : Option (List ℕ)) (failed : Bool) (kept text : List ℕ) → kept ≡ [] → IsSent origin now failed text
+    → IsGathered origin now failed kept text
+sent_all origin now failed kept text none s =
     record {
-      front = front_more origin now text line s.front;
+      front = s.front;
       rest = λ fresh. record {
         sent = text;
-        cut = ap (λ (t : List ℕ). text ++ t) (sym (more ∙ ap (λ (t : List ℕ). t ++ line) none));
+        cut = sym (ap (λ (t : List ℕ). text ++ t) none ∙ append-nil text);
         appended = s.whole fresh;
       };
     }

@@ -39,7 +39,7 @@ pub record IsSent (old new : Option (List ℕ)) (failed : Bool) (text : List ℕ
 
 -- the bytes that were gathered and are not handed on yet
 abbrev pub kept_in : Gathered → List ℕ
-kept_in g = g.bytes.items
+kept_in g = g.block
 
 -- all of the text but what is kept was appended
 pub record IsKept (old new : Option (List ℕ)) (kept text : List ℕ) : Type 0 where

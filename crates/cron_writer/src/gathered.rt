@@ -1,20 +1,18 @@
 //! Lines gathered in an array, and handed on many at a time.
 
-ghost use Rattle.std.specs.Prelude.{◌≡◌, ◌≤◌, ◌++◌, ℕ, List, [], Option, length, true};
+ghost use Rattle.std.specs.Prelude.{◌≡◌, ◌≤◌, ◌+◌, ◌++◌, ℕ, List, [], Option, length, take, true};
 ghost use Rattle.cron_writer.specs.Calls.{AreWrites, HandsOn};
 ghost use Rattle.cron_writer.specs.Watching.{has_failed, kept_in, writer_of, IsGathered, IsSent};
 
+use crate::block::Block;
+pub use crate::block::WIDTH;
 use crate::watchable::Watchable;
 use crate::watched::{Watched, send};
-use arrayvec::ArrayVec;
-
-/// How many bytes are gathered at most. So many reach a pipe in one piece, also where others write to it.
-const ROOM: usize = 4096;
 
 /// Lines that were gathered and are not handed on yet.
 #[derive(Drop)]
 pub struct Gathered {
-    bytes: ArrayVec<u8, ROOM>,
+    block: Block,
 }
 
 impl Gathered {
@@ -23,7 +21,22 @@ impl Gathered {
         ensures { kept_in result ≡ [] }
     {
         Gathered {
-            bytes: ArrayVec::new(),
+            block: Block::new(),
+        }
+    }
+
+    // Hands on what was gathered where so many more bytes have no room.
+    #[inline(always)]
+    fn make_room<W: Watchable>(&mut self, more: usize, out: &mut Watched<W>)
+        requires { more ≤ 4096 }
+        ensures room { length (kept_in self.new) + more ≤ 4096 }
+        ensures gathered { (origin : Option (List ℕ)) (text : List ℕ)
+            → IsGathered origin (W.contents (writer_of out.old)) (has_failed out.old) (kept_in self.old) text
+            → IsGathered origin (W.contents (writer_of out.new)) (has_failed out.new) (kept_in self.new) text }
+        ensures calls { AreWrites W.writes (writer_of out.old) (has_failed out.old) (writer_of out.new) (has_failed out.new) }
+    {
+        if !self.block.has_room(more) {
+            self.send(out);
         }
     }
 
@@ -35,10 +48,27 @@ impl Gathered {
             → IsGathered origin (W.contents (writer_of out.new)) (has_failed out.new) (kept_in self.new) (before ++ line.now) }
         ensures calls { AreWrites W.writes (writer_of out.old) (has_failed out.old) (writer_of out.new) (has_failed out.new) }
     {
-        if self.bytes.remaining_capacity() < line.len() {
-            self.send(out);
-        }
-        let _has_room = self.bytes.try_extend_from_slice(line);
+        self.make_room(line.len(), out);
+        self.block.push(line);
+    }
+
+    /// Gathers a short line after the others: the first `len` of these bytes, all of which are copied.
+    /// Where it has no room, those before it are handed on first.
+    #[inline(always)]
+    pub fn push_short<W: Watchable>(
+        &mut self,
+        bytes: &[u8; WIDTH],
+        len: usize,
+        out: &mut Watched<W>,
+    )
+        requires { len ≤ 32 }
+        ensures gathered { (origin : Option (List ℕ)) (before : List ℕ)
+            → IsGathered origin (W.contents (writer_of out.old)) (has_failed out.old) (kept_in self.old) before
+            → IsGathered origin (W.contents (writer_of out.new)) (has_failed out.new) (kept_in self.new) (before ++ take len bytes.now) }
+        ensures calls { AreWrites W.writes (writer_of out.old) (has_failed out.old) (writer_of out.new) (has_failed out.new) }
+    {
+        self.make_room(len, out);
+        self.block.push_front(bytes, len);
     }
 
     /// Hands on what was gathered, and nothing once a call has failed. Nothing is gathered then.
@@ -50,7 +80,7 @@ impl Gathered {
         ensures untouched { has_failed out.old ≡ true → out.new ≡ out.old }
         ensures calls { HandsOn W.writes (writer_of out.old) (has_failed out.old) (writer_of out.new) (has_failed out.new) (kept_in self.old) }
     {
-        send(out, self.bytes.as_slice());
-        self.bytes.clear();
+        send(out, self.block.as_slice());
+        self.block.clear();
     }
 }

@@ -1,6 +1,7 @@
 //! A writer that remembers whether it failed, and lines that are gathered before they are handed to it.
 #![tactic(auto)]
 
+mod block;
 pub mod gathered;
 #[cfg(test)]
 mod tests;

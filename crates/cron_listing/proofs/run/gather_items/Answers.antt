@@ -1,5 +1,6 @@
 use Rattle.std.proofs.Common.{◌≡◌, ℕ, ◌+◌, ◌-◌, ◌<◌, Option, Some, List, [], ◌++◌, sym, ap, ◌∙◌, subst, append_assoc, append-nil, arith, rules}
 use Rattle.cron_time.specs.Walk.Cursor.{Walk, Steps}
+use Rattle.cron_moments.specs.MomentText.{item_line}
 use Rattle.cron_moments.specs.Readings.{Reading}
 use Rattle.cron_listing.specs.Output.{direction, answer_line, answers_of, first_there, last_item, lines_of}
 use Rattle.cron_writer.specs.Watching.{IsGathered}
@@ -40,10 +41,10 @@ pub returns-then-failed-clause-lines : goal.returns-then-failed-clause-lines
 returns-then-failed-clause-lines g c =
     let (so_far, split, was, kept, made) = c.loop.invariant in
     let steps = subst (λ (r : Option Reading). Steps (direction c.args.back) c.loop.walk r c.step.new.walk) c.in-Some.is c.step.ensures in
-    let line = c.as_slice.ensures.value ∙ c.line_of.ensures in
-    gathered_part _ _ _ _ _ (so_far ++ c.as_slice.result.now) _
-    (one_more _ so_far c.as_slice.result.now c.loop.walk c.step.new.walk c.args.back c.in-Some.moment c.args.count c.loop.counter c.loop-test.true
-    split steps line) (sym c.failed.ensures ∙ c.if-failed.true) (c.push_line.ensures.gathered _ so_far was)
+    let line = ap item_line c.show.ensures in
+    gathered_part _ _ _ _ _ (so_far ++ item_line c.show.new.self) _
+    (one_more _ so_far (item_line c.show.new.self) c.loop.walk c.step.new.walk c.args.back c.in-Some.moment c.args.count c.loop.counter c.loop-test.true
+    split steps line) (sym c.failed.ensures ∙ c.if-failed.true) (c.push_to.ensures.gathered _ so_far was)
 
 pub loop-init : goal.loop-init
 loop-init g c =
@@ -53,14 +54,14 @@ pub loop-preserved : goal.loop-preserved
 loop-preserved g c =
     let (so_far, split, was, kept, made) = c.loop.invariant in
     let steps = subst (λ (r : Option Reading). Steps (direction c.args.back) c.loop.walk r c.step.new.walk) c.in-Some.is c.step.ensures in
-    let line = c.as_slice.ensures.value ∙ c.line_of.ensures in (
-      so_far ++ c.as_slice.result.now,
-      one_more _ so_far c.as_slice.result.now c.loop.walk c.step.new.walk c.args.back c.in-Some.moment c.args.count c.loop.counter c.loop-test.true split
+    let line = ap item_line c.show.ensures in (
+      so_far ++ item_line c.show.new.self,
+      one_more _ so_far (item_line c.show.new.self) c.loop.walk c.step.new.walk c.args.back c.in-Some.moment c.args.count c.loop.counter c.loop-test.true split
           steps line,
-      c.push_line.ensures.gathered _ so_far was,
+      c.push_to.ensures.gathered _ so_far was,
       last_more c.args.back c.loop.walk c.step.new.walk c.in-Some.moment (c.args.count - (c.loop.counter + 1)) _ c.loop.last
           (still c.args.back c.loop.walk c.args.count c.loop.counter _ c.loop.last c.loop-test.true kept) steps,
-      writes_on _ _ _ _ _ _ _ made c.push_line.ensures.calls,
+      writes_on _ _ _ _ _ _ _ made c.push_to.ensures.calls,
     )
 
 pub returns-clause-lines : goal.returns-clause-lines
@@ -90,7 +91,7 @@ returns-in_default-clause-calls g c = let (so_far, split, was, kept, made) = c.l
 
 pub returns-then-failed-clause-calls : goal.returns-then-failed-clause-calls
 returns-then-failed-clause-calls g c =
-    let (so_far, split, was, kept, made) = c.loop.invariant in writes_on _ _ _ _ _ _ _ made c.push_line.ensures.calls
+    let (so_far, split, was, kept, made) = c.loop.invariant in writes_on _ _ _ _ _ _ _ made c.push_to.ensures.calls
 
 pub returns-clause-calls : goal.returns-clause-calls
 returns-clause-calls g c = let (so_far, split, was, kept, made) = c.loop.invariant in made

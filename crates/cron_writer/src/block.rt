@@ -1,0 +1,91 @@
+//! An array that bytes are gathered in.
+
+ghost use Rattle.std.specs.Prelude.{◌≡◌, ◌≤◌, ◌+◌, ◌++◌, [], length, nat_le, take};
+
+use std::marker::Model;
+
+/// How many bytes are gathered at most. So many reach a pipe in one piece, also where others write to it.
+const ROOM: usize = 4096;
+
+/// How many bytes are copied of a short text, whatever its length: a copy of a known length is a few
+/// instructions.
+pub const WIDTH: usize = 32;
+
+/// So many bytes take the copy of a short text that ends where the room does.
+const SIZE: usize = ROOM + WIDTH;
+
+/// The bytes that were gathered.
+#[derive(Drop)]
+pub(crate) struct Block {
+    bytes: [u8; SIZE],
+    len: usize,
+}
+
+impl Model for Block {
+    ghost use Rattle.std.specs.Prelude.{◌≤◌, ℕ, List, take};
+
+    ghost Value = { List ℕ };
+
+    ghost view = { λ b. take b.len b.bytes };
+
+    ghost invariant = { λ b. b.len ≤ 4096 };
+}
+
+impl Block {
+    /// No byte is gathered yet.
+    pub(crate) fn new() -> Block
+        ensures { result ≡ [] }
+    {
+        Block {
+            bytes: [0; SIZE],
+            len: 0,
+        }
+    }
+
+    /// Whether so many more bytes have room.
+    #[inline(always)]
+    pub(crate) fn has_room(&self, more: usize) -> bool
+        ensures { result ≡ nat_le (length self.now + more) 4096 }
+    {
+        more <= ROOM - self.len
+    }
+
+    /// Gathers a text after the others.
+    #[inline(always)]
+    pub(crate) fn push(&mut self, text: &[u8])
+        requires { length self.old + length text.now ≤ 4096 }
+        ensures { self.new ≡ self.old ++ text.now }
+    {
+        let end = self.len + text.len();
+        self.bytes[self.len..end].copy_from_slice(text);
+        self.len = end;
+    }
+
+    /// Gathers the first bytes of a short text.
+    #[inline(always)]
+    pub(crate) fn push_front(&mut self, text: &[u8; WIDTH], len: usize)
+        requires short { len ≤ 32 }
+        requires room { length self.old + len ≤ 4096 }
+        ensures { self.new ≡ self.old ++ take len text.now }
+    {
+        let end = self.len + WIDTH;
+        self.bytes[self.len..end].copy_from_slice(text);
+        self.len += len;
+    }
+
+    /// The bytes that were gathered.
+    #[inline(always)]
+    pub(crate) fn as_slice(&self) -> &[u8]
+        ensures { result.now ≡ self.now }
+    {
+        &self.bytes[..self.len]
+    }
+
+    /// Forgets what was gathered.
+    #[inline(always)]
+    pub(crate) fn clear(&mut self)
+        ensures { self.new ≡ [] }
+    {
+        self.len = 0;
+    }
+}
