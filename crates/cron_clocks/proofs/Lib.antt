@@ -12,3 +12,4 @@ pub mod SpanLemmas
 pub mod SteadyLemmas
 pub mod OffsetLemmas
 pub mod TableLemmas
+pub mod ClockLemmas

@@ -13,15 +13,15 @@ use Rattle.jiff_tz.specs.declared.ambiguous.AmbiguousOffset.{AmbiguousOffset}
 use Rattle.jiff_tz.specs.declared.posix.Dst.{Dst}
 use Rattle.jiff_tz.specs.declared.posix.TimeZone.{TimeZone}
 use Rattle.jiff_tz.specs.declared.timezone.TimeZone.TheVariants.{Posix}
-use Rattle.jiff_tz.specs.PosixRule.{first_day, rule_nanos, match_some, dst_at_by, ambiguous_by, ambiguous_at_by}
-use Rattle.jiff_tz.specs.Zone.{offset_at, ambiguous_at}
+use Rattle.jiff_tz.specs.PosixRule.{first_day, rule_nanos, ambiguous_by, ambiguous_at_by}
+use Rattle.jiff_tz.specs.Zone.{ambiguous_at}
 use Rattle.jiff_tz.proofs.PosixLemmas.{ambiguous_at-some}
 use Rattle.cron_moments.specs.Civil.{civil, seconds_in_range}
 use Rattle.cron_moments.proofs.CivilLemmas.{epoch_day-civil, civil_nanos-civil, date-civil}
 use Rattle.cron_moments.proofs.DateLemmas.{low_at}
 use Rattle.cron_clocks.specs.Clocks.{LookupsAgree, shown_offset}
 use Rattle.cron_clocks.specs.Turns.{TurnsAreApart, AlwaysInOrder, TurnsAt, year_start}
-use Rattle.cron_clocks.proofs.RuleSeasons.{saving_within, saving_across, shows_either}
+use Rattle.cron_clocks.proofs.RuleSeasons.{saving_within, saving_across, shown_plain, shows_either}
 use Rattle.cron_clocks.proofs.RuleTold.{told_within, told_across}
 use Rattle.cron_clocks.proofs.RuleYears.{first_day-next}
 use Rattle.cron_clocks.proofs.Seasons.{Season, IsAround, around}
@@ -162,15 +162,10 @@ pub apart_agree : (rule : TimeZone) (d : Dst) → rule.dst ≡ Some d → TurnsA
 apart_agree rule d some turns = agree_where_told (Posix rule) (λ c h. told rule d some c h turns)
 
 -- a rule with no saving
-plain_shown : (rule : TimeZone) (n : ℤ) → rule.dst ≡ None → shown_offset (Posix rule) n ≡ rule.std_offset.seconds
-unfolding offset_at
-plain_shown rule n none =
-    ap (λ (o : Option Dst). (match_some (dst_at_by rule.std_offset o (nanos_of_seconds n)) rule.std_offset (λ (e : Dst). e.offset)).seconds) none
-
 plain_told : (rule : TimeZone) (c : ℕ) → rule.dst ≡ None → IsTold (Holds (Posix rule) c) (ambiguous_at (Posix rule) (civil c))
 unfolding ambiguous_at
 plain_told rule c none =
-    let shown = λ (n : ℤ). plain_shown rule n none in
+    let shown = λ (n : ℤ). shown_plain rule (nanos_of_seconds n) none in
     subst (IsTold (Holds (Posix rule) c)) (sym (ap (λ (o : Option Dst). ambiguous_at_by rule.std_offset o (civil c)) none))
     (shown (pos c -ℤ rule.std_offset.seconds), λ x k. sym k ∙ shown (pos c -ℤ x))
 

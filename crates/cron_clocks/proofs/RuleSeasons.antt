@@ -1,5 +1,5 @@
 -- What a clock of a rule shows in a year, from jiff's window of that year.
-use Rattle.std.proofs.Common.{◌≡◌, Bool, true, false, cond, not, ◌⊎◌, inl, inr, ◌&&◌, ℤ, ◌+ℤ◌, ◌-ℤ◌, ◌≤ℤ◌, ◌<ℤ◌, int_le, Option, Some, None, refl, sym, ap, subst, ◌∙◌, arith}
+use Rattle.std.proofs.Common.{◌≡◌, Bool, true, false, cond, not, ◌⊎◌, inl, inr, ◌&&◌, ℤ, pos, ◌+ℤ◌, ◌-ℤ◌, ◌≤ℤ◌, ◌<ℤ◌, int_le, Option, Some, None, refl, sym, ap, subst, ◌∙◌, arith}
 use Rattle.std.proofs.lemmas.Int.{ints}
 use Rattle.jiff_core.specs.Calendar.{IsYear}
 use Rattle.jiff_core.specs.Timestamp.{nanos_of_seconds}
@@ -12,7 +12,7 @@ use Rattle.jiff_tz.specs.PosixRule.{match_some, dst_at_by, in_window, int_same, 
 use Rattle.jiff_tz.specs.Year.{year_of_nanos}
 use Rattle.jiff_tz.specs.Zone.{offset_at}
 use Rattle.cron_clocks.specs.Clocks.{shown_offset}
-use Rattle.cron_clocks.specs.Turns.{TurnsAt, AlwaysInOrder, year_start, week}
+use Rattle.cron_clocks.specs.Turns.{TurnsAt, AlwaysInOrder, year_start}
 use Rattle.cron_clocks.proofs.Seasons.{Season}
 use Rattle.cron_clocks.proofs.Windows.{window_in_order, window_turned, span_inside, span_early, span_late}
 
@@ -27,6 +27,12 @@ not_same a b h = let above : int_le a b ≡ false = grind (arith, ints) in rw ab
 plain_window : (a b f l : ℤ) (left : Bool) → f <ℤ a → ◌≡◌ {A = ℤ × ℤ} (cond (int_same a f && left) (a, l) (a, b)) (a, b)
 plain_window a b f l left h = rw (not_same a f h) refl
 
+-- a rule with no saving
+pub shown_plain : (rule : TimeZone) (t : ℤ) → rule.dst ≡ None → offset_at (Posix rule) t ≡ rule.std_offset.seconds
+unfolding offset_at
+shown_plain rule t none =
+    ap (λ (o : Option Dst). (match_some (dst_at_by rule.std_offset o t) rule.std_offset (λ (e : Dst). e.offset)).seconds) none
+
 module _ (rule : TimeZone) (d : Dst) (some : rule.dst ≡ Some d) where
   abbrev shows : ℤ → ℤ
   shows = shown_offset (Posix rule)
@@ -37,7 +43,7 @@ module _ (rule : TimeZone) (d : Dst) (some : rule.dst ≡ Some d) where
   abbrev dst : ℤ
   dst = d.offset.seconds
 
-  window_is : (y start end : ℤ) → TurnsAt d.rule.start y start → TurnsAt d.rule.end y end → (year_start y +ℤ week) ≤ℤ start
+  window_is : (y start end : ℤ) → TurnsAt d.rule.start y start → TurnsAt d.rule.end y end → (year_start y +ℤ pos 93_600) ≤ℤ start
       → utc_window d y rule.std_offset ≡ (nanos_of_seconds (start -ℤ std), nanos_of_seconds (end -ℤ dst))
   unfolding utc_window
   window_is y start end first second low =
@@ -45,14 +51,13 @@ module _ (rule : TimeZone) (d : Dst) (some : rule.dst ≡ Some d) where
       rw (first std rule.std_offset.in_range, second dst d.offset.in_range)
       (plain_window (nanos_of_seconds (start -ℤ std)) (nanos_of_seconds (end -ℤ dst)) (first_nanosecond y) (last_nanosecond y) _ (omega (arith, signed_arith)))
 
-  pub shows_by : (y start end n : ℤ) → TurnsAt d.rule.start y start → TurnsAt d.rule.end y end → (year_start y +ℤ week) ≤ℤ start
-      → year_of_nanos (nanos_of_seconds n) ≡ y
-      → shows n ≡ cond (in_window (nanos_of_seconds (start -ℤ std), nanos_of_seconds (end -ℤ dst)) (nanos_of_seconds n)) dst std
+  pub shows_by : (y start end t : ℤ) → TurnsAt d.rule.start y start → TurnsAt d.rule.end y end → (year_start y +ℤ pos 93_600) ≤ℤ start
+      → year_of_nanos t ≡ y → offset_at (Posix rule) t ≡ cond (in_window (nanos_of_seconds (start -ℤ std), nanos_of_seconds (end -ℤ dst)) t) dst std
   unfolding offset_at
-  shows_by y start end n first second low year =
-      ap (λ (o : Option Dst). (match_some (dst_at_by rule.std_offset o (nanos_of_seconds n)) rule.std_offset (λ (e : Dst). e.offset)).seconds) some
-      ∙ picked (in_window (utc_window d (year_of_nanos (nanos_of_seconds n)) rule.std_offset) (nanos_of_seconds n)) rule.std_offset d
-      ∙ ap (λ (w : ℤ × ℤ). cond (in_window w (nanos_of_seconds n)) dst std)
+  shows_by y start end t first second low year =
+      ap (λ (o : Option Dst). (match_some (dst_at_by rule.std_offset o t) rule.std_offset (λ (e : Dst). e.offset)).seconds) some
+      ∙ picked (in_window (utc_window d (year_of_nanos t) rule.std_offset) t) rule.std_offset d
+      ∙ ap (λ (w : ℤ × ℤ). cond (in_window w t) dst std)
       (ap (λ (k : ℤ). utc_window d k rule.std_offset) year ∙ window_is y start end first second low)
 
   -- a saving within the year
@@ -67,7 +72,7 @@ module _ (rule : TimeZone) (d : Dst) (some : rule.dst ≡ Some d) where
       let b : ℤ = nanos_of_seconds (turn.second -ℤ dst) in
       let span = λ (n : ℤ). window_in_order a b (nanos_of_seconds n) (omega (arith, signed_arith)) in
       let shown = λ (n : ℤ) (e : year_of_nanos (nanos_of_seconds n) ≡ y).
-      shows_by y turn.first turn.second n turn.first_turns turn.second_turns low e ∙ ap (λ w. cond w dst std) (span n) in
+      shows_by y turn.first turn.second (nanos_of_seconds n) turn.first_turns turn.second_turns (omega (arith, signed_arith)) e ∙ ap (λ w. cond w dst std) (span n) in
       record {
         first = turn.first;
         second = turn.second;
@@ -92,7 +97,7 @@ module _ (rule : TimeZone) (d : Dst) (some : rule.dst ≡ Some d) where
       let b : ℤ = nanos_of_seconds (turn.second -ℤ std) in
       let span = λ (n : ℤ). window_turned b a (nanos_of_seconds n) (omega (arith, signed_arith)) in
       let shown = λ (n : ℤ) (e : year_of_nanos (nanos_of_seconds n) ≡ y).
-      shows_by y turn.second turn.first n turn.second_turns turn.first_turns (omega (arith, signed_arith)) e ∙ ap (λ w. cond w dst std) (span n) in
+      shows_by y turn.second turn.first (nanos_of_seconds n) turn.second_turns turn.first_turns (omega (arith, signed_arith)) e ∙ ap (λ w. cond w dst std) (span n) in
       record {
         first = turn.first;
         second = turn.second;

@@ -1,6 +1,6 @@
 -- What a rule tells of the civil seconds between its turns.
 use Rattle.std.proofs.Common.{◌≡◌, ℕ, ◌<◌, inl, inr, ℤ, pos, negsuc, ◌+ℤ◌, ◌-ℤ◌, ◌*ℤ◌, ◌≤ℤ◌, ◌<ℤ◌, int_le, int_lt, Option, Some, None, refl, sym, ap, subst, ◌∙◌, arith, rules, unsigned_abs, FitsSigned, w64}
-use Rattle.jiff_core.specs.Calendar.{IsYear, IsWithin, days_in_year}
+use Rattle.jiff_core.specs.Calendar.{IsYear, IsWithin}
 use Rattle.jiff_core.specs.DateTime.{civil_nanos}
 use Rattle.jiff_core.specs.Timestamp.{nanos_of_seconds}
 use Rattle.jiff_core.specs.declared.Offset.{Offset}
@@ -17,7 +17,7 @@ use Rattle.cron_clocks.proofs.RuleAgreement.{InYear, in_year}
 use Rattle.cron_clocks.proofs.RuleTurns.{clamp_inside}
 use Rattle.cron_clocks.proofs.RuleYears.{first_day-next, year_of_nanos-is}
 use Rattle.cron_clocks.proofs.Windows.{le_yes, le_no, lt_yes, lt_no}
-use Rattle.cron_clocks.specs.Spans.{IsAtSecond, IsFirstFrom, IsNarrowed, IsToldAlike, IsUnparted, PartsAlike}
+use Rattle.cron_clocks.specs.Spans.{IsAtSecond, IsFirstFrom, IsNarrowed, IsToldAlike, IsUnparted, PartsAlike, year_end}
 use Rattle.cron_clocks.specs.Steady.{IsToldBy}
 use Rattle.std.proofs.lemmas.Int.{by_lt_z}
 
@@ -136,10 +136,7 @@ parts_alike std dst last from to start end n near near_end one other =
 
 -- ---- the year of a civil second
 
-abbrev pub year_end : ℤ → ℤ
-year_end y = (first_day y +ℤ pos (days_in_year y)) *ℤ pos 86_400
-
-same_year : (k : ℕ) (y : ℤ) → k < seconds_in_range → IsYear y → (first_day y *ℤ pos 86_400) ≤ℤ pos k → pos k <ℤ year_end y → (civil k).date.year ≡ y
+pub same_year : (k : ℕ) (y : ℤ) → k < seconds_in_range → IsYear y → (first_day y *ℤ pos 86_400) ≤ℤ pos k → pos k <ℤ year_end y → (civil k).date.year ≡ y
 same_year k y h year low high =
     let place = in_year k h in
     let next = first_day-next y (y +ℤ pos 1) year refl in

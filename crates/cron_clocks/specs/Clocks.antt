@@ -1,5 +1,6 @@
 -- When the two look-ups of a zone agree: what a clock shows at an instant, and at which instants it shows a civil second.
 use Rattle.std.specs.Prelude.{◌≡◌, ℕ, ◌<◌, ℤ, pos, ◌+ℤ◌, List, Some, slice_get}
+use Rattle.std.specs.Int.{int_div_euclid}
 use Rattle.jiff_core.specs.Timestamp.{nanos_of_seconds}
 use Rattle.jiff_tz.specs.declared.timezone.TimeZone.{TimeZone}
 use Rattle.jiff_tz.specs.Zone.{IsFixed, offset_at}
@@ -9,6 +10,10 @@ use Rattle.cron_moments.specs.Readings.{Reading, readings, instant}
 -- how many seconds a clock in the zone is ahead of UTC, n whole seconds after 1970-01-01T00:00:00Z
 abbrev pub shown_offset : TimeZone → ℤ → ℤ
 shown_offset z n = offset_at z (nanos_of_seconds n)
+
+-- in the whole second n of UTC a clock in the zone shows this offset, in seconds
+abbrev pub IsShown : TimeZone → ℤ → ℤ → Type 0
+IsShown z n o = (t : ℤ) → int_div_euclid t (pos 1_000_000_000) ≡ n → offset_at z t ≡ o
 
 -- one of these readings has the instant n
 pub record HasInstant (rs : List Reading) (n : ℤ) : Type 0 where

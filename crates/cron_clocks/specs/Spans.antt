@@ -1,9 +1,12 @@
 -- Civil seconds between the turns of a rule.
-use Rattle.std.specs.Prelude.{◌≡◌, ℕ, ◌⊎◌, ℤ, ◌+ℤ◌, pos, ◌-ℤ◌, ◌≤ℤ◌, ◌<ℤ◌}
+use Rattle.std.specs.Prelude.{◌≡◌, ℕ, ◌⊎◌, ℤ, ◌+ℤ◌, pos, ◌-ℤ◌, ◌*ℤ◌, ◌≤ℤ◌, ◌<ℤ◌}
+use Rattle.jiff_core.specs.Calendar.{IsYear, days_in_year}
 use Rattle.jiff_core.specs.Timestamp.{nanos_of_seconds}
+use Rattle.jiff_tz.specs.declared.posix.DayTime.{DayTime}
+use Rattle.jiff_tz.specs.declared.posix.Dst.{Dst}
 use Rattle.jiff_tz.specs.declared.posix.TimeZone.{TimeZone}
 use Rattle.jiff_core.specs.declared.Offset.{Offset}
-use Rattle.jiff_tz.specs.PosixRule.{ambiguous_at, in_span, in_window, saturating_add, saturating_sub, shift_between}
+use Rattle.jiff_tz.specs.PosixRule.{ambiguous_at, first_day, in_span, in_window, rule_nanos, saturating_add, saturating_sub, shift_between}
 use Rattle.cron_moments.specs.Civil.{civil}
 
 -- the first second that isn't before the moment, which is in nanoseconds
@@ -34,3 +37,26 @@ pub record PartsAlike (std dst : Offset) (w : ℤ × ℤ) (start end saving n : 
   pub starts_behind : in_span (saturating_add w.0 (shift_between std dst)) w.0 (nanos_of_seconds n) ≡ in_span (start +ℤ saving) start n
   pub ends_ahead : in_span (saturating_sub w.1 (shift_between std dst)) w.1 (nanos_of_seconds n) ≡ in_span (end -ℤ saving) end n
   pub ends_behind : in_span w.1 (saturating_sub w.1 (shift_between std dst)) (nanos_of_seconds n) ≡ in_span end (end -ℤ saving) n
+
+-- the civil second that ends the year
+abbrev pub year_end : ℤ → ℤ
+year_end y = (first_day y +ℤ pos (days_in_year y)) *ℤ pos 86_400
+
+-- the turn lies at that second of the year, or beyond the edge at which the second is
+pub record IsTurn (turn : DayTime) (y second : ℤ) : Type 0 where
+  pub value : IsAtSecond (year_end y) (rule_nanos y turn (pos 0)) second
+  pub low : (first_day y *ℤ pos 86_400) ≤ℤ second
+  pub high : second ≤ℤ year_end y
+
+-- these are the civil seconds of a year, and those at which the two turns lie in it
+pub record AreTurns (d : Dst) (first last start end : ℤ) : Type 0 where
+  pub number : ℤ
+  pub year : IsYear number
+  pub from : first ≡ first_day number *ℤ pos 86_400
+  pub to : last ≡ year_end number
+  pub starts : IsTurn d.rule.start number start
+  pub ends : IsTurn d.rule.end number end
+
+-- the turn lies so far from the edges of the year that no clock shows another year
+abbrev pub IsFarInside : ℤ → ℤ → ℤ → Type 0
+IsFarInside first last turn = ((first +ℤ pos 93_600) ≤ℤ turn) × ((turn +ℤ pos 93_600) ≤ℤ last)

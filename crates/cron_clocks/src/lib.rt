@@ -3,6 +3,7 @@
 #![tactic(auto)]
 
 mod agreement;
+pub mod clock;
 pub mod laws;
 mod offsets;
 mod rule;

@@ -22,8 +22,8 @@ pub(crate) struct Placed {
 }
 
 impl Placed {
-    // Whether the saving lasts at the second. It may last over the new year.
-    fn lasts(self) -> bool
+    /// Whether the saving lasts at the second. It may last over the new year.
+    pub(crate) fn lasts(self) -> bool
         ensures { result ≡ in_window (self.start, self.end) self.at }
     {
         if self.start <= self.end {

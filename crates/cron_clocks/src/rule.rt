@@ -1,5 +1,5 @@
 //! The civil seconds between the turns of a rule.
-ghost use Rattle.std.specs.Prelude.{◌≡◌, ◌≤◌, ◌<◌, pos, neg_ℤ, ◌+ℤ◌, ◌-ℤ◌, ◌*ℤ◌, ◌≤ℤ◌, ◌<ℤ◌, Some, true};
+ghost use Rattle.std.specs.Prelude.{◌≡◌, ◌≤◌, ◌<◌, pos, neg_ℤ, ◌+ℤ◌, ◌-ℤ◌, ◌*ℤ◌, ◌≤ℤ◌, ◌<ℤ◌, IsTrue, Some, true};
 ghost use Rattle.jiff_core.specs.Calendar.{IsYear, IsBetween, IsWithin, days_in_year};
 ghost use Rattle.jiff_core.specs.Date.{epoch_day};
 ghost use Rattle.jiff_core.specs.Timestamp.{nanos_of_seconds};
@@ -7,7 +7,7 @@ ghost use Rattle.jiff_tz.specs.PosixDay.{is_rule_day};
 ghost use Rattle.jiff_tz.specs.PosixRule.{clamp_to, rule_day, rule_nanos, sunday_number, weekday_of_month};
 ghost use Rattle.jiff_tz.specs.PosixRule as Rule;
 ghost use Rattle.cron_moments.specs.Civil.{civil, seconds_in_range};
-ghost use Rattle.cron_clocks.specs.Spans.{IsAtSecond, IsNarrowed, IsToldAlike, IsUnparted};
+ghost use Rattle.cron_clocks.specs.Spans.{AreTurns, IsAtSecond, IsNarrowed, IsTurn, IsToldAlike, IsUnparted, year_end};
 ghost use Rattle.cron_clocks.specs.Steady.{IsToldBy};
 
 use crate::offsets::{Placed, offsets_among};
@@ -23,6 +23,15 @@ const DAY: i64 = 86_400;
 pub(crate) struct Span {
     pub first: i64,
     pub end: i64,
+}
+
+impl Span {
+    /// Whether the civil second lies in it.
+    pub(crate) fn has(self, second: i64) -> bool
+        ensures { IsTrue result → (self.first ≤ℤ second) × (second <ℤ self.end) }
+    {
+        self.first <= second && second < self.end
+    }
 }
 
 /// The civil seconds of the range.
@@ -135,18 +144,57 @@ fn second_of(day: i32, time: i32) -> i64
 }
 
 // The civil second at which a rule's turn lies in the year, on the clock that turns.
-fn turn_in(turn: DayTime, year: i16) -> i64
-    requires { IsYear year }
-    ensures value { IsAtSecond ((Rule.first_day year +ℤ pos (days_in_year year)) *ℤ pos 86_400) (rule_nanos year turn (pos 0)) result }
-    ensures low { (Rule.first_day year *ℤ pos 86_400) ≤ℤ result }
-    ensures high { result ≤ℤ ((Rule.first_day year +ℤ pos (days_in_year year)) *ℤ pos 86_400) }
+fn turn_in(turn: DayTime, year: i16, span: Span) -> i64
+    requires year { IsYear year }
+    requires first { span.first ≡ Rule.first_day year *ℤ pos 86_400 }
+    requires end { span.end ≡ year_end year }
+    requires low { IsWithin 400_000_000_000 span.first }
+    requires high { IsWithin 400_000_000_000 span.end }
+    ensures turn { IsTurn turn year result }
     ensures bound { IsWithin 400_000_000_000 result }
 {
-    let span = year_span(year);
     match day_in(turn.date, year) {
         Some(day) => kept_within(span, second_of(day, turn.time)),
         None => span.end,
     }
+}
+
+/// The civil seconds of a year, and those at which the turns of a rule lie in it, each on the clock that
+/// turns.
+#[derive(Clone, Copy)]
+pub(crate) struct Turns {
+    pub year: Span,
+    pub start: i64,
+    pub end: i64,
+    pub ghost first_near: { IsWithin 400_000_000_000 year.first },
+    pub ghost last_near: { IsWithin 400_000_000_000 year.end },
+    pub ghost start_near: { IsWithin 400_000_000_000 start },
+    pub ghost end_near: { IsWithin 400_000_000_000 end },
+}
+
+// The turns of a rule in a year.
+fn turns_of(dst: Dst, number: i16) -> Turns
+    requires { IsYear number }
+    ensures turns { AreTurns dst result.year.first result.year.end result.start result.end }
+    ensures first { result.year.first ≡ Rule.first_day number *ℤ pos 86_400 }
+    ensures end { result.year.end ≡ year_end number }
+{
+    let year = year_span(number);
+    Turns {
+        year,
+        start: turn_in(dst.rule.start, number, year),
+        end: turn_in(dst.rule.end, number, year),
+    }
+}
+
+/// The turns of a rule in the year of a civil second.
+pub(crate) fn turns_around(dst: Dst, second: u32) -> Turns
+    requires { second < seconds_in_range }
+    ensures turns { AreTurns dst result.year.first result.year.end result.start result.end }
+    ensures low { result.year.first ≤ℤ pos second }
+    ensures high { pos second <ℤ result.year.end }
+{
+    turns_of(dst, civil_of(second).to_plain().date.year)
 }
 
 /// The part of the span that has the second in it, where the span is parted at the turn.
@@ -186,8 +234,8 @@ pub(crate) fn parted_twice(span: Span, second: i64, one: i64, other: i64) -> Spa
     parted(parted(span, second, one), second, other)
 }
 
-// How far the clock is ahead in the saving, in seconds.
-fn saving_of(rule: TimeZone, dst: Dst) -> i64
+/// How far the clock is ahead in the saving, in seconds.
+pub(crate) fn saving_of(rule: TimeZone, dst: Dst) -> i64
     ensures value { result ≡ dst.offset.seconds -ℤ rule.std_offset.seconds }
     ensures bound { IsWithin 200_000 result }
 {
@@ -203,23 +251,24 @@ pub(crate) struct Told {
     pub later: Option<Offset>,
 }
 
-// The civil seconds of the year around this one with no turn between them. At a turn a gap or a fold
-// begins or ends, and so does one as long as the saving after the start of it, and before its end.
-fn between_turns(rule: TimeZone, dst: Dst, second: u32) -> Told
+/// What a rule tells of a civil second of the year of the turns, and the civil seconds of the year around
+/// it with no turn between them. At a turn a gap or a fold begins or ends, and so does one as long as the
+/// saving after the start of it, and before its end.
+pub(crate) fn between_turns(rule: TimeZone, dst: Dst, turns: Turns, second: u32) -> Told
     requires range { second < seconds_in_range }
     requires saving { rule.dst ≡ Some dst }
+    requires turns { AreTurns dst turns.year.first turns.year.end turns.start turns.end }
+    requires low { turns.year.first ≤ℤ pos second }
+    requires high { pos second <ℤ turns.year.end }
     ensures alike { IsToldAlike rule second result.span.first result.span.end }
     ensures low { result.span.first ≤ℤ pos second }
     ensures high { pos second <ℤ result.span.end }
     ensures narrowed { IsNarrowed (pos 0) (pos seconds_in_range) result.span.first result.span.end }
     ensures told { IsToldBy (Rule.ambiguous_at rule (civil second)) result.earlier result.later }
 {
+    let Turns { year, start, end } = turns;
     let at = i64::from(second);
-    let number = civil_of(second).to_plain().date.year;
-    let year = year_span(number);
     let saving = saving_of(rule, dst);
-    let start = turn_in(dst.rule.start, number);
-    let end = turn_in(dst.rule.end, number);
     let in_year = parted_twice(WHOLE, at, year.first, year.end);
     let by_start = parted_twice(in_year, at, start, start + saving);
     let span = parted_twice(by_start, at, end, end - saving);
@@ -251,7 +300,7 @@ pub(crate) fn told_at(rule: TimeZone, second: u32) -> Told
     ensures told { IsToldBy (Rule.ambiguous_at rule (civil second)) result.earlier result.later }
 {
     match rule.dst {
-        Some(dst) => between_turns(rule, dst, second),
+        Some(dst) => between_turns(rule, dst, turns_around(dst, second), second),
         None => Told {
             span: WHOLE,
             earlier: Some(Offset::from_plain(rule.std_offset)),

@@ -1,12 +1,14 @@
 //! Stretches of civil seconds that have their readings at the same offsets.
-ghost use Rattle.std.specs.Prelude.{◌≡◌, ◌≤◌, ◌<◌, IsTrue};
+ghost use Rattle.std.specs.Prelude.{◌≡◌, ◌≤◌, ◌<◌, pos, ◌≤ℤ◌, ◌<ℤ◌, IsTrue};
 ghost use Rattle.jiff.specs.Words.{plain_zone};
+ghost use Rattle.jiff_tz.specs.PosixRule as Rule;
 ghost use Rattle.jiff_tz.specs.declared.timezone.TimeZone.TheVariants.{Posix, Tzif};
-ghost use Rattle.cron_moments.specs.Civil.{seconds_in_range};
+ghost use Rattle.cron_moments.specs.Civil.{civil, seconds_in_range};
 ghost use Rattle.cron_moments.specs.Found.{items_if_any};
-ghost use Rattle.cron_clocks.specs.Steady.{IsSteady, readings_at, whole_range};
+ghost use Rattle.cron_clocks.specs.Spans.{IsNarrowed, IsToldAlike};
+ghost use Rattle.cron_clocks.specs.Steady.{IsSteady, IsToldBy, readings_at, whole_range};
 
-use crate::rule::told_at;
+use crate::rule::{Told, told_at};
 use crate::table::told_in;
 use cron_moments::civil::SECONDS;
 use cron_moments::moment::moment_numbered;
@@ -36,14 +38,18 @@ fn whole(offset: Offset) -> Stretch
     }
 }
 
-// The civil seconds around this one of which a rule tells what it tells of this one.
-fn between_turns(rule: posix::TimeZone, second: u32) -> Stretch
-    requires { second < seconds_in_range }
+/// The civil seconds around this one of which a rule tells what it tells of this one.
+pub(crate) fn told_stretch(rule: posix::TimeZone, second: u32, told: Told) -> Stretch
+    requires range { second < seconds_in_range }
+    requires alike { IsToldAlike rule second told.span.first told.span.end }
+    requires low { told.span.first ≤ℤ pos second }
+    requires high { pos second <ℤ told.span.end }
+    requires narrowed { IsNarrowed (pos 0) (pos seconds_in_range) told.span.first told.span.end }
+    requires told { IsToldBy (Rule.ambiguous_at rule (civil second)) told.earlier told.later }
     ensures steady { IsSteady (Posix rule) result }
     ensures low { result.first ≤ second }
     ensures high { second < result.end }
 {
-    let told = told_at(rule, second);
     Stretch {
         first: told.span.first as u32,
         end: told.span.end as u32,
@@ -116,7 +122,7 @@ impl Stretch {
         match zone.to_plain() {
             jiff_tz::TimeZone::UTC | jiff_tz::TimeZone::Unknown => whole(Offset::UTC),
             jiff_tz::TimeZone::Fixed(offset) => whole(Offset::from_plain(offset)),
-            jiff_tz::TimeZone::Posix(rule) => between_turns(rule, second),
+            jiff_tz::TimeZone::Posix(rule) => told_stretch(rule, second, told_at(rule, second)),
             jiff_tz::TimeZone::Tzif(table) => between_rows(table, second),
         }
     }

@@ -1,28 +1,26 @@
 //! From which civil second a walk that starts at an instant goes on.
 ghost use Rattle.std.specs.Prelude.{◌≡◌};
 ghost use Rattle.jiff.specs.Words.{plain_zone};
+ghost use Rattle.cron_clocks.specs.Steady.{IsKnown};
 ghost use Rattle.cron_time.specs.Walk.Bounds as spec;
 ghost use Rattle.cron_time.specs.Walk.Ways as ways;
 
+use cron_clocks::clock::shown_at;
+use cron_clocks::stretch::Stretch;
 use cron_units::way::Way;
 use jiff::Timestamp;
 use jiff::tz::TimeZone;
 
 const SECOND: i128 = 1_000_000_000;
 
-// The number of the civil second that a clock shows at the instant. An offset has no part of a second.
-fn shown_at(instant: Timestamp, zone: &TimeZone<'_>) -> i64
-    ensures { result ≡ spec.shown_at (plain_zone zone.now) instant.nanosecond }
-{
-    instant.to_plain().floor_second() + zone.to_offset(instant).seconds() as i64
-}
-
 // The number of the civil second that a clock shows at the instant, if there is such an instant.
-fn shown_if_any(nanosecond: i128, zone: &TimeZone<'_>) -> Option<i64>
-    ensures { result ≡ spec.shown_if_any (plain_zone zone.now) nanosecond }
+fn shown_if_any(nanosecond: i128, zone: &TimeZone<'_>, stretch: &mut Stretch) -> Option<i64>
+    requires { IsKnown (plain_zone zone.now) stretch.old }
+    ensures shown { result ≡ spec.shown_if_any (plain_zone zone.now) nanosecond }
+    ensures known { IsKnown (plain_zone zone.now) stretch.new }
 {
     match Timestamp::from_nanosecond(nanosecond) {
-        Ok(instant) => Some(shown_at(instant, zone)),
+        Ok(instant) => Some(shown_at(zone, instant, stretch)),
         Err(_) => None,
     }
 }
@@ -35,17 +33,25 @@ fn is_whole(instant: Timestamp, zone: &TimeZone<'_>) -> bool
 }
 
 /// The number of the civil second that a clock shows one second after the start, or of the last
-/// one that it showed whole before the start.
-pub(crate) fn bound(way: Way, start: Timestamp, zone: &TimeZone<'_>) -> Option<i64>
-    ensures { result ≡ ways.bound way (plain_zone zone.now) start.nanosecond }
+/// one that it showed whole before the start. Where a rule is looked up for it, the stretch becomes that of
+/// this civil second, so that it needn't be looked up once more.
+pub(crate) fn bound(
+    way: Way,
+    start: Timestamp,
+    zone: &TimeZone<'_>,
+    stretch: &mut Stretch,
+) -> Option<i64>
+    requires { IsKnown (plain_zone zone.now) stretch.old }
+    ensures bound { result ≡ ways.bound way (plain_zone zone.now) start.nanosecond }
+    ensures known { IsKnown (plain_zone zone.now) stretch.new }
 {
     match way {
-        Way::Ahead => shown_if_any(start.as_nanosecond() + SECOND, zone),
+        Way::Ahead => shown_if_any(start.as_nanosecond() + SECOND, zone, stretch),
         Way::Back => {
             if is_whole(start, zone) {
-                return shown_if_any(start.as_nanosecond() - SECOND, zone);
+                return shown_if_any(start.as_nanosecond() - SECOND, zone, stretch);
             }
-            Some(shown_at(start, zone))
+            Some(shown_at(zone, start, stretch))
         }
     }
 }

@@ -27,7 +27,12 @@ fn from_bound(fields: &ScheduleFields, zone: &TimeZone<'_>, way: Way, state: &mu
     ensures leads { LeadsTo way fields.now (plain_zone zone.now) (kept.Start state.old.start.nanosecond) (stand_of state.new) }
     ensures known { KnowsZone (plain_zone zone.now) state.new }
 {
-    match bound(way, Timestamp::from_plain(state.start), zone) {
+    match bound(
+        way,
+        Timestamp::from_plain(state.start),
+        zone,
+        &mut state.stretch,
+    ) {
         Some(from) => {
             let mut inquiry = Inquiry::knowing(fields, zone, state.month, state.stretch);
             let found = search_from(&mut inquiry, way, from);

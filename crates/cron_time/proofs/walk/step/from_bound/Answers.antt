@@ -11,7 +11,7 @@ returns-in-Some-clause-leads c =
     let fits : FitsSigned w64 c.in-Some.from = search rules in
     let found = rw (to_z-of_z fits, ap (λ q. q.sets) c.knowing-inquiry.ensures, ap (λ q. q.zone) c.knowing-inquiry.ensures)
     at c.search_from-found.ensures.found in
-    let at = sym c.bound.ensures ∙ c.in-Some.is in
+    let at = sym c.bound.ensures.bound ∙ c.in-Some.is in
     rw c.stop.ensures.stand (start_stop c.args.way s z _ c.in-Some.from _ (rw c.from_plain.ensures at at)
     (reached c.args.way s z c.in-Some.from c.search_from-found.result found))
 
@@ -19,5 +19,5 @@ pub returns-in-None-clause-leads : goal.returns-in-None-clause-leads
 returns-in-None-clause-leads c =
     let s = c.args.fields.now in
     let z = plain_zone c.args.zone.now in
-    let at = sym c.bound.ensures ∙ c.in-None.is in
+    let at = sym c.bound.ensures.bound ∙ c.in-None.is in
     rw c.stop-in-None.ensures.stand (start_ends c.args.way s z _ (rw c.from_plain.ensures at at))

@@ -2,12 +2,12 @@ use Rattle.std.proofs.Common.{rules, pos, ◌≤ℤ◌, FitsSigned, w64, to_z-of
 use Rattle.jiff_core.proofs.SignedLemmas.{signed_arith}
 use Rattle.cron_clocks.proofs.SteadyLemmas.{steady_rule}
 use Rattle.cron_clocks.proofs.SpanLemmas.{as_number}
-use Rattle.cron_clocks.proofs.stretch.between_turns.Goals as goal
+use Rattle.cron_clocks.proofs.stretch.told_stretch.Goals as goal
 
 pub returns-clause-steady : goal.returns-clause-steady
 returns-clause-steady c =
-    let span = c.told_at-told.result.span in
-    let around = c.told_at-told.ensures in
+    let span = c.args.told.span in
+    let around = c.requires in
     let start = around.narrowed.0 in
     let high = around.high in
     let fits-first : FitsSigned w64 span.first = search rules in

@@ -1,0 +1,127 @@
+-- What a clock of a rule shows in a second of UTC, from the turns of its year.
+use Rattle.std.proofs.Common.{◌≡◌, inl, inr, cond, ℤ, pos, ◌+ℤ◌, ◌-ℤ◌, ◌*ℤ◌, ◌≤ℤ◌, ◌<ℤ◌, int_le, int_lt, to_z, of_z, w32, w64, FitsSigned, Option, Some, None, refl, sym, ap, ◌∙◌, arith}
+use Rattle.std.proofs.lemmas.Int.{by_lt_z}
+use Rattle.std.specs.Int.{int_div_euclid}
+use Rattle.std.proofs.lemmas.Int.{ints}
+use Rattle.jiff_core.specs.Calendar.{IsWithin}
+use Rattle.jiff_core.specs.Timestamp.{IsOffsetSeconds, nanos_of_seconds}
+use Rattle.jiff_core.proofs.SignedLemmas.{signed_arith}
+use Rattle.jiff_tz.specs.declared.posix.DayTime.{DayTime}
+use Rattle.jiff_tz.specs.declared.posix.Dst.{Dst}
+use Rattle.jiff_tz.specs.declared.posix.TimeZone.{TimeZone}
+use Rattle.jiff_tz.specs.declared.timezone.TimeZone.TheVariants.{Posix}
+use Rattle.jiff_tz.specs.PosixRule.{clamp_to, first_nanosecond, in_window, last_nanosecond, match_some, nanos_per_day, rule_day, rule_nanos}
+use Rattle.jiff_tz.specs.Year.{year_of_day, year_of_nanos}
+use Rattle.jiff_tz.specs.Zone.{offset_at}
+use Rattle.cron_clocks.specs.Spans.{AreTurns, IsAtSecond, IsFarInside, IsTurn, year_end}
+use Rattle.cron_clocks.specs.Turns.{TurnsAt, year_start}
+use Rattle.cron_clocks.proofs.RuleSeasons.{shows_by}
+use Rattle.cron_clocks.proofs.SpanLemmas.{fits_back}
+use Rattle.cron_clocks.proofs.RuleTurns.{clamp_inside}
+use Rattle.cron_clocks.proofs.RuleYears.{first_day-next, year_of_nanos-is}
+use Rattle.cron_clocks.proofs.Windows.{le_yes, le_no, lt_yes, lt_no}
+
+-- ---- a part of a second tells nothing
+
+abbrev second_of : ℤ → ℤ
+second_of t = int_div_euclid t (pos 1_000_000_000)
+
+days_of : (t : ℤ) → int_div_euclid t (pos 86_400_000_000_000) ≡ int_div_euclid (nanos_of_seconds (second_of t)) (pos 86_400_000_000_000)
+days_of t = omega (arith, signed_arith)
+
+le_at : (a t : ℤ) → int_le (nanos_of_seconds a) t ≡ int_le a (second_of t)
+le_at a t =
+    by_lt_z (second_of t) a
+    (λ less. le_no (nanos_of_seconds a) t (omega (arith, signed_arith)) ∙ sym (le_no a (second_of t) less))
+    (λ more. le_yes (nanos_of_seconds a) t (omega (arith, signed_arith)) ∙ sym (le_yes a (second_of t) more))
+
+lt_at : (a t : ℤ) → int_lt t (nanos_of_seconds a) ≡ int_lt (second_of t) a
+lt_at a t =
+    by_lt_z (second_of t) a
+    (λ less. lt_yes t (nanos_of_seconds a) (omega (arith, signed_arith)) ∙ sym (lt_yes (second_of t) a less))
+    (λ more. lt_no t (nanos_of_seconds a) (omega (arith, signed_arith)) ∙ sym (lt_no (second_of t) a more))
+
+same_le : (a b : ℤ) → int_le (nanos_of_seconds a) (nanos_of_seconds b) ≡ int_le a b
+same_le a b =
+    by_lt_z b a
+    (λ less. le_no (nanos_of_seconds a) (nanos_of_seconds b) (omega (arith, signed_arith)) ∙ sym (le_no a b less))
+    (λ more. le_yes (nanos_of_seconds a) (nanos_of_seconds b) (omega (arith, signed_arith)) ∙ sym (le_yes a b more))
+
+window_at : (a b t : ℤ) → in_window (nanos_of_seconds a, nanos_of_seconds b) t ≡ in_window (a, b) (second_of t)
+window_at a b t = rw (same_le a b, le_at a t, lt_at b t, le_at b t, lt_at a t) refl
+
+-- ---- a turn away from the edges of its year is where it is at each offset
+
+at_second : (last moment second : ℤ) → IsAtSecond last moment second → (second +ℤ pos 93_600) ≤ℤ last → moment ≡ nanos_of_seconds second
+at_second last moment second (inl there) far = there.0
+at_second last moment second (inr before) far = let e = before.1 in absurd (omega (arith, signed_arith))
+
+unclamped : (low high n k : ℤ) → clamp_to low high n ≡ k → low <ℤ k → k <ℤ high → n ≡ k
+unclamped low high n k e above below =
+    by_lt_z n low
+    (λ less. let kept : clamp_to low high n ≡ low = rw (lt_yes n low less) refl in absurd (omega (arith, signed_arith)))
+    (λ more. by_lt_z high n
+    (λ over. let kept : clamp_to low high n ≡ high = rw (lt_no n low more, lt_yes high n over) refl in absurd (omega (arith, signed_arith)))
+    (λ under. sym (clamp_inside low high n more under) ∙ e))
+
+turns_by : (y : ℤ) (turn : DayTime) (r : ℤ) (o : Option ℤ) → rule_day y turn.date ≡ o → rule_nanos y turn (pos 0) ≡ nanos_of_seconds r
+    → IsFarInside (year_start y) (year_end y) r → TurnsAt turn y r
+unfolding rule_nanos
+turns_by y turn r None none is far s small =
+    let last : last_nanosecond y ≡ nanos_of_seconds r =
+    sym (ap (λ (o : Option ℤ). match_some o (last_nanosecond y) (λ (k : ℤ). clamp_to (first_nanosecond y) (last_nanosecond y)
+    (k *ℤ nanos_per_day +ℤ nanos_of_seconds (turn.time -ℤ pos 0)))) none) ∙ is in
+    absurd (omega (arith, signed_arith, far.1))
+turns_by y turn r (Some day) some is far s small =
+    let clamped : clamp_to (first_nanosecond y) (last_nanosecond y) (day *ℤ nanos_per_day +ℤ nanos_of_seconds (turn.time -ℤ pos 0)) ≡ nanos_of_seconds r =
+    sym (ap (λ (o : Option ℤ). match_some o (last_nanosecond y) (λ (k : ℤ). clamp_to (first_nanosecond y) (last_nanosecond y)
+    (k *ℤ nanos_per_day +ℤ nanos_of_seconds (turn.time -ℤ pos 0)))) some) ∙ is in
+    let low = far.0 in
+    let high = far.1 in
+    let whole : day *ℤ nanos_per_day +ℤ nanos_of_seconds (turn.time -ℤ pos 0) ≡ nanos_of_seconds r =
+    unclamped (first_nanosecond y) (last_nanosecond y) _ (nanos_of_seconds r) clamped (omega (arith, signed_arith, low)) (omega (arith, signed_arith, high)) in
+    let moved : day *ℤ nanos_per_day +ℤ nanos_of_seconds (turn.time -ℤ s) ≡ nanos_of_seconds (r -ℤ s) = omega (arith, signed_arith, whole) in
+    rw (some, moved)
+    (clamp_inside (first_nanosecond y) (last_nanosecond y) (nanos_of_seconds (r -ℤ s)) (omega (arith, signed_arith, low, small)) (omega (arith, signed_arith, high, small)))
+
+turns_at : (y : ℤ) (turn : DayTime) (r : ℤ) → IsTurn turn y r → IsFarInside (year_start y) (year_end y) r → TurnsAt turn y r
+turns_at y turn r is far = turns_by y turn r (rule_day y turn.date) refl (at_second _ _ _ is.value far.1) far
+
+-- ---- what is shown
+
+pub shown_among : (rule : TimeZone) (d : Dst) (first last start end n : ℤ) → rule.dst ≡ Some d → AreTurns d first last start end
+    → IsFarInside first last start → IsFarInside first last end → first ≤ℤ n → n <ℤ last
+    → (t : ℤ) → int_div_euclid t (pos 1_000_000_000) ≡ n
+    → offset_at (Posix rule) t ≡ cond (in_window (start -ℤ rule.std_offset.seconds, end -ℤ d.offset.seconds) n) d.offset.seconds rule.std_offset.seconds
+shown_among rule d first last start end n some turns start_far end_far low high t e =
+    let y = turns.number in
+    let next = first_day-next y (y +ℤ pos 1) turns.year refl in
+    let to = turns.to in
+    let year : year_of_nanos t ≡ y = ap year_of_day (days_of t) ∙ ap (λ k. year_of_nanos (nanos_of_seconds k)) e
+    ∙ year_of_nanos-is y (y +ℤ pos 1) n turns.year refl (rw (← turns.from) low) (omega (arith, signed_arith)) in
+    let starts = turns_at y d.rule.start start turns.starts (rw (← turns.from, ← turns.to) start_far) in
+    let ends = turns_at y d.rule.end end turns.ends (rw (← turns.from, ← turns.to) end_far) in
+    shows_by rule d some y start end t starts ends (rw (← turns.from) start_far.0) year
+    ∙ ap (λ w. cond w d.offset.seconds rule.std_offset.seconds) (window_at (start -ℤ rule.std_offset.seconds) (end -ℤ d.offset.seconds) t ∙ ap (λ k. in_window (start -ℤ rule.std_offset.seconds, end -ℤ d.offset.seconds) k) e)
+
+-- ---- a turn in UTC
+
+pub fits_utc : (turn s r : ℤ) → IsWithin 400_000_000_000 turn → IsOffsetSeconds s → r ≡ to_z w32 (of_z w32 s)
+    → FitsSigned w64 (to_z w64 (of_z w64 turn) -ℤ to_z w64 (of_z w64 r))
+fits_utc turn s r near small e =
+    let offset : to_z w32 (of_z w32 s) ≡ s = omega (arith, ints, small) in
+    let turn_back : to_z w64 (of_z w64 turn) ≡ turn = omega (arith, ints, near) in
+    let back : to_z w64 (of_z w64 s) ≡ s = omega (arith, ints, small) in
+    rw (turn_back, e, offset, back) (fits_back turn s near (omega (arith, signed_arith, small), omega (arith, signed_arith, small)))
+
+pub in_utc : (turn s r : ℤ) → IsWithin 400_000_000_000 turn → IsOffsetSeconds s → r ≡ to_z w32 (of_z w32 s)
+    → to_z w64 (of_z w64 (to_z w64 (of_z w64 turn) -ℤ to_z w64 (of_z w64 r))) ≡ turn -ℤ s
+in_utc turn s r near small e =
+    let offset : to_z w32 (of_z w32 s) ≡ s = omega (arith, ints, small) in
+    let turn_back : to_z w64 (of_z w64 turn) ≡ turn = omega (arith, ints, near) in
+    let back : to_z w64 (of_z w64 s) ≡ s = omega (arith, ints, small) in
+    rw (turn_back, e, offset, back) (omega (arith, ints, small, near))
+
+pub stays_near : (turn s first last : ℤ) → IsWithin 400_000_000_000 turn → IsOffsetSeconds s → IsWithin 400_000_000_000 first
+    → IsWithin 400_000_000_000 last → IsFarInside first last turn → IsWithin 400_000_000_000 (turn -ℤ s)
+stays_near turn s first last near small from to far = (omega (arith, signed_arith, small, from, far), omega (arith, signed_arith, small, to, far))

@@ -1,0 +1,6 @@
+use Rattle.std.proofs.Common.{sym, ap, ◌∙◌}
+use Rattle.cron_clocks.proofs.RuleSeasons.{shown_plain}
+use Rattle.cron_clocks.proofs.clock.offset_by.Goals as goal
+
+pub returns-in_default-clause-shown : goal.returns-in_default-clause-shown
+returns-in_default-clause-shown c = λ t e. shown_plain c.args.rule t c.in_default.is ∙ sym (ap (λ o. o.seconds) c.from_plain.ensures)

@@ -1,0 +1,152 @@
+//! What a clock in a zone shows at an instant.
+ghost use Rattle.std.specs.Prelude.{◌≡◌, ◌<◌, pos, ◌+ℤ◌, ◌≤ℤ◌, ◌<ℤ◌, IfSome, IsTrue, Some};
+ghost use Rattle.std.specs.Int.{int_div_euclid};
+ghost use Rattle.jiff.specs.Words.{plain_zone};
+ghost use Rattle.jiff_core.specs.Calendar.{IsWithin};
+ghost use Rattle.jiff_tz.specs.Zone.{offset_at};
+ghost use Rattle.jiff_tz.specs.declared.timezone.TimeZone.TheVariants.{Posix};
+ghost use Rattle.cron_moments.specs.Civil.{seconds_in_range};
+ghost use Rattle.cron_clocks.specs.Clocks.{IsShown};
+ghost use Rattle.cron_clocks.specs.Spans.{AreTurns, IsFarInside};
+ghost use Rattle.cron_clocks.specs.Steady.{IsKnown};
+
+use crate::offsets::Placed;
+use crate::rule::{Span, Turns, between_turns, saving_of, turns_around};
+use crate::stretch::{Stretch, told_stretch};
+use cron_moments::civil::SECONDS;
+use jiff::Timestamp;
+use jiff::tz::{Offset, TimeZone};
+use jiff_tz::posix;
+
+// Each clock is nearer to UTC, in seconds.
+const FAR: i64 = 93_600;
+
+// Whether a turn lies so far from the edges of its year that it lies in that year in UTC as well.
+fn is_far_inside(year: Span, turn: i64) -> bool
+    requires first { IsWithin 400_000_000_000 year.first }
+    requires end { IsWithin 400_000_000_000 year.end }
+    ensures { IsTrue result → IsFarInside year.first year.end turn }
+{
+    year.first + FAR <= turn && turn <= year.end - FAR
+}
+
+// Whether both do.
+fn are_far_inside(turns: Turns) -> bool
+    ensures start { IsTrue result → IsFarInside turns.year.first turns.year.end turns.start }
+    ensures end { IsTrue result → IsFarInside turns.year.first turns.year.end turns.end }
+{
+    is_far_inside(turns.year, turns.start) && is_far_inside(turns.year, turns.end)
+}
+
+// The offset that a clock shows in a second of UTC, from the turns of its year. It isn't known where one
+// of them lies at an edge of the year.
+fn offset_among(rule: posix::TimeZone, dst: posix::Dst, turns: Turns, second: u32) -> Option<Offset>
+    requires saving { rule.dst ≡ Some dst }
+    requires turns { AreTurns dst turns.year.first turns.year.end turns.start turns.end }
+    requires low { turns.year.first ≤ℤ pos second }
+    requires high { pos second <ℤ turns.year.end }
+    ensures { IfSome result (λ o. IsShown (Posix rule) (pos second) o.seconds) }
+{
+    if !are_far_inside(turns) {
+        return None;
+    }
+    let placed = Placed {
+        at: i64::from(second),
+        start: turns.start - i64::from(rule.std_offset.seconds),
+        end: turns.end - i64::from(dst.offset.seconds),
+        saving: saving_of(rule, dst),
+    };
+    let shown = if placed.lasts() {
+        dst.offset
+    } else {
+        rule.std_offset
+    };
+    Some(Offset::from_plain(shown))
+}
+
+// The stretch becomes that of a civil second, if this is one of the year of the turns.
+fn learn(rule: posix::TimeZone, dst: posix::Dst, turns: Turns, second: i64, stretch: &mut Stretch)
+    requires saving { rule.dst ≡ Some dst }
+    requires turns { AreTurns dst turns.year.first turns.year.end turns.start turns.end }
+    requires known { IsKnown (Posix rule) stretch.old }
+    ensures { IsKnown (Posix rule) stretch.new }
+{
+    if second < 0 || second >= SECONDS {
+        return;
+    }
+    if turns.year.has(second) {
+        let civil = second as u32;
+        *stretch = told_stretch(rule, civil, between_turns(rule, dst, turns, civil));
+    }
+}
+
+// The offset that a clock shows in a second of UTC by a rule, if it's known from the turns of that year.
+// Where the clock shows the same year, they tell the stretch of the civil second that it shows, too.
+fn offset_by(rule: posix::TimeZone, second: u32, stretch: &mut Stretch) -> Option<Offset>
+    requires range { second < seconds_in_range }
+    requires known { IsKnown (Posix rule) stretch.old }
+    ensures shown { IfSome result (λ o. IsShown (Posix rule) (pos second) o.seconds) }
+    ensures known { IsKnown (Posix rule) stretch.new }
+{
+    let Some(dst) = rule.dst else {
+        return Some(Offset::from_plain(rule.std_offset));
+    };
+    let turns = turns_around(dst, second);
+    let offset = offset_among(rule, dst, turns, second)?;
+    let shown = i64::from(second) + i64::from(offset.seconds());
+    learn(rule, dst, turns, shown, stretch);
+    Some(offset)
+}
+
+// The offset that a clock shows at an instant in a zone with a rule. What its turns don't tell the zone is
+// asked.
+#[inline(never)]
+fn offset_by_rule(
+    zone: &TimeZone<'_>,
+    rule: posix::TimeZone,
+    instant: Timestamp,
+    second: i64,
+    stretch: &mut Stretch,
+) -> Offset
+    requires rule { plain_zone zone.now ≡ Posix rule }
+    requires second { second ≡ int_div_euclid instant.nanosecond (pos 1_000_000_000) }
+    requires known { IsKnown (Posix rule) stretch.old }
+    ensures offset { result.seconds ≡ offset_at (Posix rule) instant.nanosecond }
+    ensures known { IsKnown (Posix rule) stretch.new }
+{
+    if second < 0 || second >= SECONDS {
+        return zone.to_offset(instant);
+    }
+    match offset_by(rule, second as u32, stretch) {
+        Some(offset) => offset,
+        None => zone.to_offset(instant),
+    }
+}
+
+// The offset that a clock shows at an instant, which lies in a second of UTC.
+#[inline(always)]
+fn offset_at(zone: &TimeZone<'_>, instant: Timestamp, second: i64, stretch: &mut Stretch) -> Offset
+    requires second { second ≡ int_div_euclid instant.nanosecond (pos 1_000_000_000) }
+    requires known { IsKnown (plain_zone zone.now) stretch.old }
+    ensures offset { result.seconds ≡ offset_at (plain_zone zone.now) instant.nanosecond }
+    ensures known { IsKnown (plain_zone zone.now) stretch.new }
+{
+    match zone.to_plain() {
+        jiff_tz::TimeZone::Posix(rule) => offset_by_rule(zone, rule, instant, second, stretch),
+        _ => zone.to_offset(instant),
+    }
+}
+
+/// The number of the civil second that a clock in the zone shows at an instant. Where the turns of a rule
+/// are worked out for it, the stretch becomes that of this civil second, if they tell it.
+#[inline(always)]
+pub fn shown_at(zone: &TimeZone<'_>, instant: Timestamp, stretch: &mut Stretch) -> i64
+    requires { IsKnown (plain_zone zone.now) stretch.old }
+    ensures shown { result
+        ≡ int_div_euclid instant.nanosecond (pos 1_000_000_000)
+        +ℤ offset_at (plain_zone zone.now) instant.nanosecond }
+    ensures known { IsKnown (plain_zone zone.now) stretch.new }
+{
+    let second = instant.to_plain().floor_second();
+    second + i64::from(offset_at(zone, instant, second, stretch).seconds())
+}
