@@ -7,6 +7,7 @@ mod printer;
 
 use anyhow::Result;
 use cron::Schedule;
+use cron_listing::arguments::count_of;
 use cron_moments::zone::zone_of;
 use cron_scheduler::{AlarmClock, MachineClock, Plan, Start};
 use cron_writer::watchable::Watchable;
@@ -32,7 +33,7 @@ const MIDNIGHT: i64 = 1_667_710_800;
 struct Request<'a> {
     expression: &'a str,
     zone: TimeZone<'a>,
-    count: u64,
+    count: u32,
 }
 
 // Reads three arguments, `None` where one of them can't be read. The expression is left as it is.
@@ -43,7 +44,7 @@ fn request_of(arguments: &[String]) -> Option<Request<'_>> {
     Some(Request {
         expression: expression.as_str(),
         zone: zone_of(zone.as_str())?,
-        count: count.as_str().parse().ok()?,
+        count: count_of(count.as_str())?,
     })
 }
 
@@ -62,7 +63,7 @@ where
         schedule: &schedule,
         zone: &request.zone,
         start: Start::After(clock.now()?),
-        most: Some(request.count),
+        most: Some(u64::from(request.count)),
     };
     print_fires(&plan, clock, printer)?;
     Ok(())

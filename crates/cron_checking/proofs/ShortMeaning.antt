@@ -1,13 +1,12 @@
 -- The short form of sets means them.
-use Rattle.std.proofs.Common.{◌≡◌, ℕ, Bool, true, false, List, [], ◌∷◌, ◌++◌, inl, inr, refl, sym, ap, ◌∙◌, subst, append-nil, codes}
+use Rattle.std.proofs.Common.{ℕ, Bool, true, false, List, [], ◌∷◌, inl, inr, refl, subst}
 use Rattle.cron_units.specs.Laws.{is_unit-seconds, is_unit-minutes, is_unit-hours, is_unit-days_of_month, is_unit-months, is_unit-days_of_week, is_unit-years}
-use Rattle.cron_units.specs.Sets.{Sets, IsFilled, IsFilledOrMarked, AreSets}
+use Rattle.cron_units.specs.Sets.{IsFilled, IsFilledOrMarked}
 use Rattle.cron_units.specs.Units.{TimeUnit, FieldSet, IsUnit, unmarked, means_last_day}
 use Rattle.cron_units.specs.Units as units
 use Rattle.cron_text.specs.Meaning.{DenoteSets, six_units, field_sets, Means}
-use Rattle.cron_text.specs.Tokens.{Token, tokens, after_gap}
+use Rattle.cron_text.specs.Tokens.{tokens, after_gap}
 use Rattle.cron_text.proofs.MeaningLemmas.{means_once}
-use Rattle.cron_text.proofs.TokenRuns.{tokens-nil}
 use Rattle.cron_checking.specs.Short.{short_items, fields_text, sets_text, ShortFormsMean, ShortFormsDiffer}
 use Rattle.cron_checking.proofs.ShortTokens.{sets_before, last_field}
 use Rattle.cron_checking.proofs.ShortSets.{AreShortItems, short_items_are}

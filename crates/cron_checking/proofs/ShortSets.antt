@@ -1,8 +1,8 @@
 -- The items of a short form denote the set that it is of.
-use Rattle.std.proofs.Common.{◌≡◌, ℕ, ◌+◌, ◌-◌, ◌<◌, ◌≤◌, ◌==◌, Bool, true, false, ◌&&◌, ◌||◌, cond, nat_eq, nat_le, Option, None, Result, Ok, Err, List, [], ◌∷◌, ◌++◌, map, length, inl, inr, refl, sym, ap, ◌∙◌, subst, arith, codes}
-use Rattle.std.proofs.Math.Bool.{and-true, or-false}
+use Rattle.std.proofs.Common.{◌≡◌, ℕ, ◌+◌, ◌-◌, ◌≤◌, ◌==◌, Bool, true, false, ◌&&◌, ◌||◌, cond, nat_eq, nat_le, Option, None, Result, Ok, Err, List, [], ◌∷◌, ◌++◌, map, inl, inr, refl, sym, ap, ◌∙◌, arith, codes}
+use Rattle.std.proofs.Math.Bool.{and-true}
 use Rattle.std.proofs.Math.Nat.{mod-one}
-use Rattle.std.proofs.lemmas.Bool.{cases_lt, cases_eq, false≢true, le-leb, le-ltb, leb-true, eq-eqb, ne_eqb, eqb-true}
+use Rattle.std.proofs.lemmas.Bool.{cases_lt, false≢true, le-leb, le-ltb, eq-eqb, eqb-true}
 use Rattle.std.proofs.lemmas.Bool.Decides.{nat_tests}
 use Rattle.std.proofs.lemmas.List.{nil_from_length}
 use Rattle.std.proofs.lemmas.Slice.Eq.{bytes_eq-Decides}
@@ -10,12 +10,11 @@ use Rattle.std.specs.List.{list_any, AllByRecursion}
 use Rattle.std.specs.Str.{bytes_eq}
 use Rattle.cron_units.specs.Denotation.{IsBetween, Denotes}
 use Rattle.cron_units.specs.Inner.ItemSteps.{Denoted, by_steps, denoted_by, denoted_marks, first_refusal, in_items, items_mark, refusal_of, union_of}
-use Rattle.cron_units.specs.Items.{Item, every, single, number_range, plain, name}
+use Rattle.cron_units.specs.Items.{Item, every, plain, name}
 use Rattle.cron_units.specs.Refusals.{Refusal}
 use Rattle.cron_units.specs.Steps.{in_steps}
 use Rattle.cron_units.specs.Units.{TimeUnit, FieldSet, IsUnit, IsSet, contains, means_last_day, set_of, whole}
 use Rattle.cron_units.proofs.DenotedSets.{denotes_union}
-use Rattle.cron_units.proofs.Progressions.{is_step}
 use Rattle.cron_units.proofs.SetLemmas.{contains_set, contains_before, contains_after, set_same, whole_is_all}
 use Rattle.cron_checking.specs.Short.{before_runs, runs_of, run_item, number_items, short_items}
 use Rattle.cron_checking.proofs.ShortTokens.{IsShortItem}

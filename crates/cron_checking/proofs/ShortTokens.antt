@@ -1,5 +1,5 @@
 -- The tokens of a short form: its items are told apart by what stands between them.
-use Rattle.std.proofs.Common.{◌≡◌, ℕ, zero, suc, ◌-◌, ◌<◌, ◌≤◌, ◌^◌, Bool, true, false, ◌&&◌, ◌||◌, List, [], ◌∷◌, ◌++◌, map, length, get_or, take, drop, refl, sym, ap, subst, ◌∙◌, append_assoc, append-nil, arith}
+use Rattle.std.proofs.Common.{◌≡◌, ℕ, zero, suc, ◌-◌, ◌<◌, Bool, true, false, ◌&&◌, ◌||◌, List, [], ◌∷◌, ◌++◌, map, length, get_or, refl, sym, ap, subst, ◌∙◌, append_assoc, append-nil, arith}
 use Rattle.std.proofs.Math.Seq.{take-append_seam, drop-append_seam, get_or-append_right}
 use Rattle.std.proofs.lemmas.Bool.{le-leb}
 use Rattle.std.proofs.lemmas.Fmt.{decimal_is_IsNumeral}
@@ -8,13 +8,13 @@ use Rattle.std.proofs.lemmas.Str.Parse.{digit_from_value}
 use Rattle.std.specs.Bool.{⊤}
 use Rattle.std.specs.Fmt.{decimal}
 use Rattle.std.specs.List.{list_all, AllByRecursion}
-use Rattle.std.specs.Str.Parse.{AllDigits, digits_value}
+use Rattle.std.specs.Str.Parse.{AllDigits}
 use Rattle.cron_units.specs.Denotation.{Denotes}
 use Rattle.cron_units.specs.Items.{Item, every, single, number_range, plain, name}
 use Rattle.cron_units.specs.Units.{TimeUnit, FieldSet}
-use Rattle.cron_text.specs.Fields.{base_symbols, item_symbols, list_symbols, spacing_fits_all, items_in, IsField}
+use Rattle.cron_text.specs.Fields.{item_symbols, list_symbols, spacing_fits_all, items_in, IsField}
 use Rattle.cron_text.specs.Meaning.{DenoteSets}
-use Rattle.cron_text.specs.Tokens.{Token, Symbol, number, word, star, comma, dash, tokens, symbol_of, is_space, is_digit, is_letter, in_one_run, after_space, after_gap}
+use Rattle.cron_text.specs.Tokens.{Token, Symbol, number, word, star, comma, dash, tokens, symbol_of, is_digit, is_letter, in_one_run, after_space, after_gap}
 use Rattle.cron_text.proofs.Longest.{nothing}
 use Rattle.cron_text.proofs.Places.{small_number, symbol_spaced}
 use Rattle.cron_text.proofs.TokenRuns.{and_parts, digit_no_space, lone_before, run_is_token, tokens-cons, tokens-nil}

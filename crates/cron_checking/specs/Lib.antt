@@ -5,3 +5,4 @@ pub mod Reading
 pub mod Puts
 pub mod Checks
 pub mod Inner
+pub mod Arguments

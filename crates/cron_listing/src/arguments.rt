@@ -18,8 +18,9 @@ pub struct Request<'a> {
     pub back: bool,
 }
 
-// Digits alone; `parse` lets a plus stand before them.
-fn count_of(argument: &str) -> Option<u32>
+/// The number that digits write, and nothing else; `parse` lets a plus stand before them. `None` where 32 bits
+/// do not hold it.
+pub fn count_of(argument: &str) -> Option<u32>
     ensures { SomeIff result (IsCount argument.now) (digits_value 10 argument.now) }
 {
     if argument.starts_with('+') {
