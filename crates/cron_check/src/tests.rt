@@ -2,6 +2,5 @@
 
 mod canonical;
 mod files;
-mod limited;
 mod words;
 mod writers;
