@@ -68,6 +68,36 @@ static double cost_of_steps(const cron_c_schedule *schedule, const cron_c_zone *
     return least;
 }
 
+enum { ERAS = 237 };
+
+/* Two clock changes a year up to autumn 2007, and then a rule, as the zone's file of Chicago has it. */
+static void make_eras(cron_c_era *eras, const cron_c_zone *rule)
+{
+    for (int place = 0; place < ERAS; place++) {
+        cron_c_zone fixed = CRON_C_ZONE_FIXED(place % 2 ? -5 * 3600 : -6 * 3600);
+        eras[place].starts = INT64_C(1194159600) - (int64_t)(ERAS - 1 - place) * 15778800;
+        eras[place].zone = fixed;
+    }
+    eras[ERAS - 1].zone = *rule;
+}
+
+/* The same over the last eras of a history. */
+static double cost_of_history(const cron_c_schedule *schedule, const cron_c_era *eras, size_t length)
+{
+    const int64_t start = 1514764800;
+    cron_c_item item;
+    double least = 1e300;
+    for (int turn = 0; turn < 150; turn++) {
+        double begun = nanoseconds();
+        for (int calls = 0; calls < 1000; calls++) {
+            cron_c_history_fire_after(schedule, eras + ERAS - length, length, start, &item);
+        }
+        double each = (nanoseconds() - begun) / 1000;
+        least = each < least ? each : least;
+    }
+    return least;
+}
+
 int main(void)
 {
     const char *const texts[] = {"0 30 9,12,15 1,15 May-Aug Mon,Wed,Fri 2018/2", "* * * * * *", "0 0 0 * * *"};
@@ -84,6 +114,12 @@ int main(void)
             printf("cron_c_after | %s | %s | %.1f\n", zones[zone], texts[text], cost_of_search(cron_c_after, &schedule, in));
             printf("cron_c_next | %s | %s | %.1f\n", zones[zone], texts[text], cost_of_steps(&schedule, in));
         }
+        cron_c_zone rule;
+        cron_c_era eras[ERAS];
+        cron_c_zone_parse(zones[1], strlen(zones[1]), &rule);
+        make_eras(eras, &rule);
+        printf("cron_c_history_fire_after | the last era | %s | %.1f\n", texts[text], cost_of_history(&schedule, eras, 1));
+        printf("cron_c_history_fire_after | %d eras | %s | %.1f\n", ERAS, texts[text], cost_of_history(&schedule, eras, ERAS));
     }
     return 0;
 }

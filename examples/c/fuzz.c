@@ -168,6 +168,37 @@ static void runs(const cron_c_schedule *schedule, const cron_c_zone *zone, int64
     free(items);
 }
 
+/* A history of one era is its zone, and one of two goes over from the first zone to the other. */
+static void histories(const cron_c_schedule *schedule, const cron_c_zone *zone, int64_t last)
+{
+    cron_c_era *eras = malloc(2 * sizeof *eras);
+    const int64_t now = last > CRON_C_GREATEST_INSTANT - 200000 ? last : last + (int64_t)chance(200000), seam = last + (int64_t)chance(100000);
+    cron_c_item mine[3], items[3], item;
+    size_t count = 9, others = 9;
+    eras[0] = (cron_c_era){INT64_MIN, *zone};
+    eras[1] = (cron_c_era){seam, some_zone()};
+    uint32_t status = cron_c_history_fires_between(schedule, eras, 1, last, now, mine, 3, &count);
+    LAW(status == cron_c_fires_between(schedule, zone, last, now, items, 3, &others));
+    LAW(count == others && memcmp(mine, items, count * sizeof *items) == 0);
+    status = cron_c_history_fires_between(schedule, eras, 2, last, now, mine, 3, &count);
+    if (status == CRON_C_BAD_ZONE) {
+        LAW(cron_c_fire_after(schedule, &eras[1].zone, last, &item) == CRON_C_BAD_ZONE);
+        free(eras);
+        return;
+    }
+    for (size_t place = 0; place < count; place++) {
+        const cron_c_zone *in = mine[place].instant < seam ? zone : &eras[1].zone;
+        LAW(cron_c_history_fire_after(schedule, eras, 2, mine[place].instant - 1, &item) == CRON_C_OK && item.instant == mine[place].instant);
+        LAW(cron_c_history_fire_by(schedule, eras, 2, mine[place].instant, &item) == CRON_C_OK && item.instant == mine[place].instant);
+        LAW(cron_c_history_fire_at(schedule, eras, 2, mine[place].instant, &item) == CRON_C_OK && item.instant == mine[place].instant);
+        LAW(cron_c_fires_between(schedule, in, item.instant - 1, item.instant, items, 1, &others) != CRON_C_BAD_ZONE && others == 1);
+        LAW(cron_c_history_fires_past(schedule, eras, 2, &mine[place], now, &item, 1, &others) <= CRON_C_MORE);
+        LAW(place + 1 == count ? others == (status == CRON_C_MORE) : is_same(&item, &mine[place + 1]));
+    }
+    LAW(status == CRON_C_OK || count == 3);
+    free(eras);
+}
+
 /* A walk goes back where it came from, and lists are walks. */
 static void walks(const cron_c_schedule *schedule, const cron_c_zone *zone, int64_t instant)
 {
@@ -252,6 +283,7 @@ int main(int count, char **words)
         fires(&schedule, &zone, instant);
         runs(&schedule, &zone, instant);
         walks(&schedule, &zone, instant);
+        histories(&schedule, &zone, instant);
     }
     printf("examples: %lu random cases keep the laws\n", cases);
     return 0;

@@ -443,6 +443,90 @@ static void bits(void)
     CHECK(before(&schedule, "UTC", 1704067200, &item) == CRON_C_NO_ITEM);
 }
 
+/* Chicago's clock from autumn 1973 to autumn 1975, when its saving began on other days. */
+static const cron_c_era SEVENTIES[] = {
+    {INT64_MIN, CRON_C_ZONE_FIXED(-6 * 3600)}, {126691200, CRON_C_ZONE_FIXED(-5 * 3600)},
+    {152089200, CRON_C_ZONE_FIXED(-6 * 3600)}, {162374400, CRON_C_ZONE_FIXED(-5 * 3600)},
+    {183538800, CRON_C_ZONE_FIXED(-6 * 3600)},
+};
+enum { ERAS = sizeof SEVENTIES / sizeof *SEVENTIES };
+
+/* The clock changes of those years, as the zone database tells them. */
+static void histories(void)
+{
+    cron_c_schedule half_past = parsed("0 30 1 * * *"), in_gap = parsed("0 30 2 * * *");
+    cron_c_item item = {7, 7, 0};
+    CHECK(cron_c_history_fire_after(&half_past, SEVENTIES, ERAS, 126603000, &item) == CRON_C_OK);
+    CHECK(item.instant == 126689400 && item.offset == -6 * 3600);
+    CHECK(cron_c_history_fire_after(&half_past, SEVENTIES, ERAS, item.instant, &item) == CRON_C_OK);
+    CHECK(item.instant == 126772200 && shows(&item, "1974-01-07 01:30:00 -05:00"));
+    CHECK(cron_c_history_fire_after(&in_gap, SEVENTIES, ERAS, 126606600, &item) == CRON_C_OK);
+    CHECK(item.instant == 126775800 && shows(&item, "1974-01-07 02:30:00 -05:00"));
+    CHECK(cron_c_history_fire_after(&half_past, SEVENTIES, ERAS, 152087399, &item) == CRON_C_OK);
+    CHECK(item.instant == 152087400 && shows(&item, "1974-10-27 01:30:00 -05:00"));
+    CHECK(cron_c_history_fire_after(&half_past, SEVENTIES, ERAS, item.instant, &item) == CRON_C_OK);
+    CHECK(item.instant == 152091000 && shows(&item, "1974-10-27 01:30:00 -06:00"));
+    CHECK(cron_c_history_fire_by(&half_past, SEVENTIES, ERAS, 152091000, &item) == CRON_C_OK && item.instant == 152091000);
+    CHECK(cron_c_history_fire_by(&half_past, SEVENTIES, ERAS, 152090999, &item) == CRON_C_OK);
+    CHECK(item.instant == 152087400 && item.offset == -5 * 3600);
+    CHECK(cron_c_history_fire_by(&in_gap, SEVENTIES, ERAS, 126775799, &item) == CRON_C_OK);
+    CHECK(item.instant == 126606600 && shows(&item, "1974-01-05 02:30:00 -06:00"));
+    CHECK(cron_c_history_fire_at(&in_gap, SEVENTIES, ERAS, 126775800, &item) == CRON_C_OK && item.offset == -5 * 3600);
+    CHECK(cron_c_history_fire_at(&in_gap, SEVENTIES, ERAS, 126693000, &item) == CRON_C_NO_ITEM);
+    CHECK(cron_c_history_fire_by(&half_past, SEVENTIES, ERAS, 0, &item) == CRON_C_NO_ITEM);
+    item.instant = 152091000;
+    CHECK(cron_c_history_fire_after(&half_past, SEVENTIES, 0, 0, &item) == CRON_C_NO_ITEM);
+    CHECK(cron_c_history_fire_after(&half_past, SEVENTIES, ERAS, INT64_MIN, &item) == CRON_C_BAD_INSTANT);
+    CHECK(item.instant == 152091000);
+}
+
+/* All the items of 18 months, in pages and at once: how many they are, and the sum of their instants. */
+static void runs_of_histories(void)
+{
+    const int64_t last = 123552000, now = 170812800;
+    cron_c_schedule half_past = parsed("0 30 1 * * *");
+    cron_c_item all[600], page[7], item;
+    size_t count = 9, seen = 0;
+    int64_t sum = 0;
+    CHECK(cron_c_history_fires_between(&half_past, SEVENTIES, ERAS, last, now, all, 600, &count) == CRON_C_OK);
+    CHECK(count == 548 && all[0].instant == 123579000 && all[547].instant == 170749800);
+    for (size_t place = 0; place < count; place++) {
+        sum += all[place].instant;
+    }
+    CHECK(sum == INT64_C(80650594800));
+    uint32_t status = cron_c_history_fires_between(&half_past, SEVENTIES, ERAS, last, now, page, 7, &count);
+    for (; status == CRON_C_MORE && count == 7; seen += 7) {
+        CHECK(memcmp(page, all + seen, sizeof page) == 0);
+        item = page[6];
+        status = cron_c_history_fires_past(&half_past, SEVENTIES, ERAS, &item, now, page, 7, &count);
+    }
+    CHECK(status == CRON_C_OK && seen + count == 548 && memcmp(page, all + seen, count * sizeof *page) == 0);
+}
+
+/* Eras that aren't any, and what a refused call leaves as it was. */
+static void arguments_of_histories(void)
+{
+    cron_c_schedule daily = parsed("@daily");
+    cron_c_era eras[2] = {{0, CRON_C_ZONE_UTC}, {0, CRON_C_ZONE_UTC}};
+    cron_c_item item = {7, 7, 0}, items[2] = {{7, 7, 7}, {7, 7, 7}};
+    size_t count = 9;
+    CHECK(cron_c_history_fire_after(&daily, eras, 2, 0, &item) == CRON_C_BAD_ZONE);
+    eras[1].starts = 86401;
+    CHECK(cron_c_history_fire_after(&daily, eras, 2, -5, &item) == CRON_C_OK && item.instant == 0);
+    eras[1].zone.kind = 9;
+    CHECK(cron_c_history_fire_after(&daily, eras, 2, -5, &item) == CRON_C_BAD_ZONE);
+    CHECK(cron_c_history_fires_between(&daily, eras, 2, 0, 99999, items, 2, &count) == CRON_C_BAD_ZONE && count == 0);
+    eras[1] = (cron_c_era){INT64_MAX, CRON_C_ZONE_FIXED(3600)};
+    item.reserved = 1;
+    CHECK(cron_c_history_fires_past(&daily, eras, 2, &item, 99999, items, 2, &count) == CRON_C_NOT_AN_ITEM && count == 0);
+    CHECK(cron_c_history_fires_between(&daily, eras, 2, 0, INT64_MAX, items, 2, &count) == CRON_C_BAD_INSTANT && count == 0);
+    CHECK(items[0].instant == 7 && items[1].reserved == 7);
+    CHECK(cron_c_history_fires_between(&daily, eras, 2, CRON_C_LEAST_INSTANT, CRON_C_GREATEST_INSTANT, items, 2, &count) == CRON_C_MORE);
+    CHECK(count == 2 && items[0].instant == 0 && items[1].instant == 86400);
+    item = (cron_c_item){4133894400, 0, 0};
+    CHECK(cron_c_history_fires_past(&daily, eras, 2, &item, CRON_C_GREATEST_INSTANT, items, 2, &count) == CRON_C_OK && count == 0);
+}
+
 int main(void)
 {
     first_run();
@@ -460,6 +544,9 @@ int main(void)
     bits();
     constants();
     zones();
+    histories();
+    runs_of_histories();
+    arguments_of_histories();
     printf("examples: %d rows hold\n", held);
     return 0;
 }

@@ -4,7 +4,7 @@ from __future__ import annotations
 
 import ctypes
 import pathlib
-from typing import Optional
+from typing import Optional, Sequence
 
 from .errors import CronError, TextError, ZoneError
 
@@ -30,15 +30,24 @@ class Zone(ctypes.Structure):
     _fields_ = [("words", ctypes.c_uint32 * 16)]
 
 
+class Era(ctypes.Structure):
+    """From `starts` on, in seconds since 1970, the clock is that of the zone, until the next era starts."""
+
+    _fields_ = [("starts", ctypes.c_int64), ("zone", Zone)]
+
+
+History = ctypes.Array  # of Era
+
+
 def _load() -> ctypes.CDLL:
     library = ctypes.CDLL(str(pathlib.Path(__file__).with_name("libcron_c.so")))
     size, pointer, instant = ctypes.c_size_t, ctypes.POINTER, ctypes.c_int64
     text = [ctypes.c_char_p, size]
     library.cron_c_parse.argtypes = text + [pointer(Sets)] + text + [pointer(size)]
     library.cron_c_zone_parse.argtypes = text + [pointer(Zone)]
-    library.cron_c_fire_after.argtypes = [pointer(Sets), pointer(Zone), instant, pointer(Item)]
-    library.cron_c_fire_by.argtypes = [pointer(Sets), pointer(Zone), instant, pointer(Item)]
-    for call in ("parse", "zone_parse", "fire_after", "fire_by"):
+    for call in ("history_fire_after", "history_fire_by"):
+        getattr(library, f"cron_c_{call}").argtypes = [pointer(Sets), pointer(Era), size, instant, pointer(Item)]
+    for call in ("parse", "zone_parse", "history_fire_after", "history_fire_by"):
         getattr(library, f"cron_c_{call}").restype = ctypes.c_uint32
     return library
 
@@ -81,13 +90,18 @@ def _within(instant: int) -> int:
     return max(LEAST_INSTANT, min(GREATEST_INSTANT, instant))
 
 
-def fire_after(sets: Sets, zone: Zone, instant: int) -> Optional[int]:
+def history(eras: Sequence[Era]) -> History:
+    """Eras in the order of their starts, as the calls take them."""
+    return (Era * len(eras))(*eras)
+
+
+def fire_after(sets: Sets, eras: History, instant: int) -> Optional[int]:
     """Of the instants after this one at which it fires the earliest."""
     item = Item()
-    return _found(_LIBRARY.cron_c_fire_after(sets, zone, _within(instant), item), item)
+    return _found(_LIBRARY.cron_c_history_fire_after(sets, eras, len(eras), _within(instant), item), item)
 
 
-def fire_by(sets: Sets, zone: Zone, instant: int) -> Optional[int]:
+def fire_by(sets: Sets, eras: History, instant: int) -> Optional[int]:
     """Of the instants up to this one at which it fires the latest."""
     item = Item()
-    return _found(_LIBRARY.cron_c_fire_by(sets, zone, _within(instant), item), item)
+    return _found(_LIBRARY.cron_c_history_fire_by(sets, eras, len(eras), _within(instant), item), item)

@@ -2,16 +2,13 @@
 
 from __future__ import annotations
 
-from bisect import bisect_right
 from datetime import datetime, timedelta, tzinfo
-from typing import Iterator, List, Optional, Tuple
+from itertools import takewhile
+from typing import Iterator, List, Optional
 
 from . import library
 from .errors import InstantError
-from .zones import EPOCH, SECOND, Era, eras_of
-
-# A fire is never later than this: the end of the year 2100 on the clock that is furthest behind.
-LAST_FIRE = 4133980800 + 100_000
+from .zones import EPOCH, SECOND, eras_of
 
 
 def _zone_of(moment: datetime) -> tzinfo:
@@ -23,11 +20,6 @@ def _zone_of(moment: datetime) -> tzinfo:
 def _floor(moment: datetime) -> int:
     """The second since 1970 that has begun."""
     return (moment - EPOCH) // SECOND
-
-
-def _place(eras: Tuple[Era, ...], instant: int) -> int:
-    """Which era the instant is in."""
-    return bisect_right(eras, instant, key=lambda era: era.start) - 1 if len(eras) > 1 else 0
 
 
 class Schedule:
@@ -65,37 +57,25 @@ class Schedule:
     def before(self, moment: datetime) -> Optional[datetime]:
         """When it fired last before a datetime, in its zone; None where it hasn't fired."""
         zone = _zone_of(moment)
-        eras = eras_of(zone)
-        last = _ceiling(moment) - 1
-        for era in reversed(eras[: _place(eras, last) + 1]):
-            found = library.fire_by(self._sets, era.zone, min(last, era.end - 1))
-            if found is not None and found >= era.start:
-                return _moment(found, zone)
-        return None
+        found = library.fire_by(self._sets, eras_of(zone), _ceiling(moment) - 1)
+        return None if found is None else _moment(found, zone)
 
     def between(self, start: datetime, end: datetime) -> List[datetime]:
         """When it fires after one datetime and up to and with another, in the zone of the first."""
         _zone_of(end)
         zone, last = _zone_of(start), _floor(end)
-        return [_moment(it, zone) for it in self._instants(eras_of(zone), _floor(start), last)]
+        return [_moment(it, zone) for it in takewhile(lambda it: it <= last, self._instants(eras_of(zone), _floor(start)))]
 
     def fires(self, start: datetime) -> Iterator[datetime]:
         """When it fires after a datetime, in its zone, one after the other."""
         zone = _zone_of(start)
-        return (_moment(it, zone) for it in self._instants(eras_of(zone), _floor(start), LAST_FIRE))
+        return (_moment(it, zone) for it in self._instants(eras_of(zone), _floor(start)))
 
-    def _instants(self, eras: Tuple[Era, ...], start: int, last: int) -> Iterator[int]:
-        instant = start
-        for era in eras[_place(eras, start + 1) :]:
-            if era.start > last:
-                return
-            instant = max(instant, era.start - 1)
-            while True:
-                found = library.fire_after(self._sets, era.zone, instant)
-                if found is None or found >= era.end or found > last:
-                    break
-                yield found
-                instant = found
+    def _instants(self, eras: library.History, start: int) -> Iterator[int]:
+        found = library.fire_after(self._sets, eras, start)
+        while found is not None:
+            yield found
+            found = library.fire_after(self._sets, eras, found)
 
 
 def _ceiling(moment: datetime) -> int:

@@ -1,4 +1,4 @@
-"""The stretches of time in which a zone has one offset or follows one rule."""
+"""The eras of a zone: the stretches of time in which it has one offset or follows one rule."""
 
 from __future__ import annotations
 
@@ -8,10 +8,10 @@ import os
 import struct
 import zoneinfo
 from datetime import datetime, timedelta, timezone, tzinfo
-from typing import List, NamedTuple, Tuple
+from typing import List, Tuple
 
 from .errors import ZoneError
-from .library import Zone, parse_zone
+from .library import Era, History, Zone, history, parse_zone
 
 EPOCH = datetime(1970, 1, 1, tzinfo=timezone.utc)
 SECOND = timedelta(seconds=1)
@@ -19,14 +19,6 @@ ALWAYS = 1 << 62
 # The first and the last instant of `datetime`, a day away from the ends of its years.
 LEAST, GREATEST = -62135510400, 253402214400
 HEADER = struct.Struct(">4sc15x6L")
-
-
-class Era(NamedTuple):
-    """From `start` on and before `end`, in seconds since 1970, the clock is that of a simple zone."""
-
-    start: int
-    end: int
-    zone: Zone
 
 
 def _fixed(offset: timedelta) -> Zone:
@@ -77,23 +69,23 @@ def _offset_at(zone: tzinfo, instant: int) -> timedelta:
 
 
 @functools.lru_cache(maxsize=256)
-def _eras_of_key(zone: zoneinfo.ZoneInfo) -> Tuple[Era, ...]:
+def _eras_of_key(zone: zoneinfo.ZoneInfo) -> History:
     try:
         instants, rule = _turns(_data_of(zone.key))
     except struct.error as error:
         raise ZoneError(f"the file of the zone {zone.key} ends early") from error
     starts = [-ALWAYS, *instants]
     ends = [*instants, ALWAYS]
-    eras = [Era(a, b, _fixed(_offset_at(zone, max(a, LEAST)))) for a, b in zip(starts, ends) if a < b]
+    eras = [Era(a, _fixed(_offset_at(zone, max(a, LEAST)))) for a, b in zip(starts, ends) if a < b]
     if b"," in rule:
-        eras[-1] = eras[-1]._replace(zone=parse_zone(rule))
-    return tuple(eras)
+        eras[-1].zone = parse_zone(rule)
+    return history(eras)
 
 
-def eras_of(zone: tzinfo) -> Tuple[Era, ...]:
+def eras_of(zone: tzinfo) -> History:
     """The eras of a zone, in order and without a gap."""
     if isinstance(zone, timezone):
-        return (Era(-ALWAYS, ALWAYS, _fixed(zone.utcoffset(None))),)
+        return history([Era(-ALWAYS, _fixed(zone.utcoffset(None)))])
     if not isinstance(zone, zoneinfo.ZoneInfo):
         raise ZoneError(f"{zone!r} is neither a ZoneInfo nor a fixed offset")
     if zone.key is None:

@@ -22,7 +22,7 @@ extern "C" {
 #endif
 
 /* The version of this header: 10,000 times its first number, 100 times its second, and its third. */
-#define CRON_C_VERSION 10000
+#define CRON_C_VERSION 10100
 
 /* The version of the archive. Its first number is that of the header, or the structs may differ. */
 uint32_t cron_c_version(void);
@@ -235,6 +235,48 @@ uint32_t cron_c_fires_past(const cron_c_schedule *schedule,
                            const cron_c_zone *zone,
                            const cron_c_item *item, int64_t now,
                            cron_c_item *items, size_t items_length, size_t *count);
+
+/*
+ * An era: from `starts` on, in seconds since 1970-01-01T00:00:00Z, the clock is that of `zone`, until
+ * the next era starts. The last era has no end. What starts before every instant is given INT64_MIN.
+ *
+ * Eras one after another are a zone with a history, as a zone's file tells it: for each clock change
+ * of its table an era of CRON_C_ZONE_FIXED, and the zone of its rule for the last one. An item of the
+ * history is an item of an era's zone whose instant lies in that era. So no item lies before the
+ * first era, and without an era there is none. The last eras of a list, from any of them on, are a
+ * history too, and cheaper for calls that ask of no earlier instant.
+ */
+typedef struct cron_c_era {
+    int64_t starts;
+    cron_c_zone zone;
+} cron_c_era;
+
+/*
+ * The calls by instants over a history. They answer as those over a zone do, `cron_c_fire_after` and
+ * its like, also at the seams of eras: no item is left out there or comes twice, and where the clock
+ * goes back from one era to the next, both items come, each at its instant.
+ *
+ * Statuses are the same, with CRON_C_BAD_ZONE where the numbers of any era's zone say no zone, or an
+ * era doesn't start later than the one before it. `cron_c_history_fires_past` takes an item of this
+ * history or any other.
+ */
+uint32_t cron_c_history_fire_after(const cron_c_schedule *schedule,
+                                   const cron_c_era *eras, size_t eras_length,
+                                   int64_t instant, cron_c_item *item);
+uint32_t cron_c_history_fire_by(const cron_c_schedule *schedule,
+                                const cron_c_era *eras, size_t eras_length,
+                                int64_t instant, cron_c_item *item);
+uint32_t cron_c_history_fire_at(const cron_c_schedule *schedule,
+                                const cron_c_era *eras, size_t eras_length,
+                                int64_t instant, cron_c_item *item);
+uint32_t cron_c_history_fires_between(const cron_c_schedule *schedule,
+                                      const cron_c_era *eras, size_t eras_length,
+                                      int64_t last, int64_t now,
+                                      cron_c_item *items, size_t items_length, size_t *count);
+uint32_t cron_c_history_fires_past(const cron_c_schedule *schedule,
+                                   const cron_c_era *eras, size_t eras_length,
+                                   const cron_c_item *item, int64_t now,
+                                   cron_c_item *items, size_t items_length, size_t *count);
 
 /*
  * Writes to `item` the first item from the civil second on that a clock in the zone shows one second

@@ -25,7 +25,7 @@ use Rattle.cron_c.specs.declared.item.CronItem.{CronItem}
 int_decides : (a b : ℤ) → a ≡ b → int_eq a b ≡ true
 int_decides a b e = (Decides-int_eq a b).1 e
 
-offset_once : (a b : Offset) → a.seconds ≡ b.seconds → a ≡ b
+pub offset_once : (a b : Offset) → a.seconds ≡ b.seconds → a ≡ b
 offset_once a b e = ap (λ (r : Reading). r.offset) (same_reading (reading 0 a) (reading 0 b) (rw (int_decides a.seconds b.seconds e) refl))
 
 -- a struct is that of one reading

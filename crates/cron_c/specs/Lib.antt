@@ -5,3 +5,4 @@ pub mod Calls
 pub mod Listings
 pub mod Runs
 pub mod Zones
+pub mod Histories

@@ -1,8 +1,8 @@
 //! An item as plain numbers.
 
-ghost use Rattle.std.specs.Prelude.{◌<◌, MatchOption};
+ghost use Rattle.std.specs.Prelude.{◌≡◌, ◌<◌, MatchOption};
 ghost use Rattle.cron_moments.specs.Civil.{seconds_in_range};
-ghost use Rattle.cron_moments.specs.Readings.{Reading};
+ghost use Rattle.cron_moments.specs.Readings.{Reading, instant};
 ghost use Rattle.cron_c.specs.Structs.{IsItem};
 
 use cron_moments::moment::Moment;
@@ -20,12 +20,19 @@ pub struct CronItem {
     pub reserved: u32,
 }
 
+/// The instant of a moment, in seconds since 1970-01-01T00:00:00Z.
+pub fn instant_of(moment: &Moment) -> i64
+    ensures { result ≡ instant moment.now }
+{
+    moment.timestamp().as_second()
+}
+
 /// The struct of a moment.
 pub fn item_of(moment: &Moment) -> CronItem
     ensures { IsItem moment.now result }
 {
     CronItem {
-        instant: moment.timestamp().as_second(),
+        instant: instant_of(moment),
         offset: moment.offset().seconds(),
         reserved: 0,
     }

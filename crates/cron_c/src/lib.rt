@@ -3,7 +3,10 @@
 #![tactic(auto)]
 
 mod buffer;
+mod era;
 mod firing;
+mod history;
+mod history_calls;
 mod item;
 mod listing;
 mod named;
@@ -16,7 +19,12 @@ mod text;
 mod version;
 mod zone;
 
+pub use era::CronEra;
 pub use firing::{cron_c_fire_after, cron_c_fire_at, cron_c_fire_by};
+pub use history_calls::{
+    cron_c_history_fire_after, cron_c_history_fire_at, cron_c_history_fire_by,
+    cron_c_history_fires_between, cron_c_history_fires_past,
+};
 pub use item::CronItem;
 pub use listing::{cron_c_list_after, cron_c_list_before, cron_c_list_next, cron_c_list_prev};
 pub use named::cron_c_zone_parse;

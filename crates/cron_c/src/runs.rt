@@ -17,8 +17,8 @@ use cron_units::fields::ScheduleFields;
 use jiff::Timestamp;
 use jiff::tz::TimeZone;
 
-// What was found, where its instant isn't past `now`.
-fn due(found: Option<Moment>, now: Timestamp) -> Option<Moment>
+/// What was found, where its instant isn't past `now`.
+pub fn due(found: Option<Moment>, now: Timestamp) -> Option<Moment>
     ensures { result ≡ due_by now.nanosecond found }
 {
     let Some(moment) = found else {

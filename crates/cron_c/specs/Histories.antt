@@ -1,0 +1,117 @@
+-- Zones with a history: eras one after another.
+use Rattle.std.specs.Prelude.{◌≡◌, ◌+◌, ◌<◌, ℕ, ℤ, pos, ◌*ℤ◌, ◌<ℤ◌, ◌≤ℤ◌, int_le, Bool, true, false, List, [], ◌∷◌, Option, Some, None, slice_get, length}
+use Rattle.jiff_tz.specs.declared.timezone.TimeZone.{TimeZone}
+use Rattle.cron_units.specs.Sets.{Sets}
+use Rattle.cron_moments.specs.Civil.{seconds_in_range}
+use Rattle.cron_moments.specs.Readings.{Reading, instant}
+use Rattle.cron_instants.specs.Instants.{IsAfter, IsBy, IsEarliest, IsLatest, IsItem as IsOnTimeline}
+use Rattle.cron_instants.specs.Order.{is_earlier}
+use Rattle.cron_c.specs.Zones.{IsSomeZone, IsZoneIn}
+use Rattle.cron_c.specs.Calls.{IsInstant}
+use Rattle.cron_c.specs.Listings.{IsFront}
+use Rattle.cron_c.specs.Structs.{IsItem}
+use Rattle.cron_c.specs.declared.era.CronEra.{CronEra}
+use Rattle.cron_c.specs.declared.history.Begin.{Begin}
+use Rattle.cron_c.specs.declared.history.Begin.TheVariants.{After, Past}
+use Rattle.cron_c.specs.declared.item.CronItem.{CronItem}
+use Rattle.cron_c.specs.declared.status.Status.{Status}
+use Rattle.cron_c.specs.declared.status.Status.TheVariants.{Done, NoItem, BadZone, BadInstant, NotAnItem, More}
+
+-- each era says a zone, and starts later than the one before it
+pub record IsHistory (eras : List CronEra) : Type 0 where
+  pub zones : (i : ℕ) (e : CronEra) → slice_get eras i ≡ Some e → IsSomeZone e.zone
+  pub order : (i : ℕ) (a b : CronEra) → slice_get eras i ≡ Some a → slice_get eras (i + 1) ≡ Some b → a.starts <ℤ b.starts
+
+abbrev pub started_by : Option CronEra → ℤ → Bool
+started_by None t = false
+started_by (Some e) t = int_le e.starts t
+
+-- the era at this place has started by a second
+abbrev pub has_started : List CronEra → ℕ → ℤ → Bool
+has_started eras at t = started_by (slice_get eras at) t
+
+-- the second era starts no later than the first
+abbrev pub meets : Option CronEra → Option CronEra → Bool
+meets (Some a) (Some b) = int_le b.starts a.starts
+meets (Some a) None = false
+meets None b = false
+
+-- an item in the zone of the era, not before its start
+abbrev pub IsEraItem : Sets → CronEra → Reading → Type 0
+IsEraItem s e r = ((z : TimeZone) × IsZoneIn e.zone z × IsOnTimeline s z r) × (e.starts ≤ℤ instant r)
+
+-- an item of the history: one of an era, before the next one starts
+abbrev pub IsHistoryItem : Sets → List CronEra → Reading → Type 0
+IsHistoryItem s eras r =
+    (i : ℕ) × (e : CronEra) × (slice_get eras i ≡ Some e) × IsEraItem s e r × (has_started eras (i + 1) (instant r) ≡ false)
+
+-- of the items whose instant comes after t the earliest, and of those whose instant is t or comes before it the latest
+abbrev pub IsFirstInAfter : Sets → List CronEra → ℤ → Option Reading → Type 0
+IsFirstInAfter s eras t = IsEarliest (λ q. IsHistoryItem s eras q × IsAfter t q)
+
+abbrev pub IsLastInBy : Sets → List CronEra → ℤ → Option Reading → Type 0
+IsLastInBy s eras t = IsLatest (λ q. IsHistoryItem s eras q × IsBy t q)
+
+-- Of the items of the history the one that is looked for by an instant is written; or there is none; or nothing is looked for.
+abbrev pub FiresIn : (Sets → List CronEra → ℤ → Option Reading → Type 0) → Sets → List CronEra → ℤ → CronItem → CronItem → Status → Type 0
+FiresIn IsWanted s eras second old new Done =
+    (r : Reading) × IsHistory eras × IsInstant second × IsWanted s eras (second *ℤ pos 1_000_000_000) (Some r) × IsItem r new
+FiresIn IsWanted s eras second old new NoItem =
+    IsHistory eras × IsInstant second × IsWanted s eras (second *ℤ pos 1_000_000_000) None × (new ≡ old)
+FiresIn IsWanted s eras second old new BadZone = (IsHistory eras → ⊥) × (new ≡ old)
+FiresIn IsWanted s eras second old new BadInstant = IsHistory eras × (IsInstant second → ⊥) × (new ≡ old)
+FiresIn IsWanted s eras second old new _ = ⊥
+
+-- An item of the history whose instant is this one is written, of two that share it the later; or there is none; or nothing is looked for.
+abbrev pub FiresInAt : Sets → List CronEra → ℤ → CronItem → CronItem → Status → Type 0
+FiresInAt s eras second old new Done =
+    (r : Reading) × IsHistory eras × IsLastInBy s eras (second *ℤ pos 1_000_000_000) (Some r) × (instant r ≡ second) × IsItem r new
+FiresInAt s eras second old new NoItem =
+    IsHistory eras × IsInstant second × ((r : Reading) → IsHistoryItem s eras r → instant r ≡ second → ⊥) × (new ≡ old)
+FiresInAt s eras second old new BadZone = (IsHistory eras → ⊥) × (new ≡ old)
+FiresInAt s eras second old new BadInstant = IsHistory eras × (IsInstant second → ⊥) × (new ≡ old)
+FiresInAt s eras second old new _ = ⊥
+
+-- the readings are the earliest with a property, one after another, and `next` comes after them, if there is another
+unfoldable pub Leads : (Reading → Type 0) → List Reading → Option Reading → Type 0
+Leads P [] next = IsEarliest P next
+Leads P (r ∷ rs) next = IsEarliest P (Some r) × Leads (λ q. P q × (is_earlier r q ≡ true)) rs next
+
+-- the first of the readings with a property are in the array, before what it held, and this one comes next
+abbrev pub IsFilled : (Reading → Type 0) → List CronItem → List CronItem → ℕ → Option Reading → Type 0
+IsFilled P old new count next = (written : List Reading) × Leads P written next × IsFront written old new × (count ≡ length written)
+
+-- they are written as far as they fit, and the status tells whether these are all
+abbrev pub FillsOf : (Reading → Type 0) → List CronItem → List CronItem → ℕ → Status → Type 0
+FillsOf P old new count Done = IsFilled P old new count None
+FillsOf P old new count More = (next : Reading) × IsFilled P old new count (Some next) × (count ≡ length old)
+FillsOf P old new count _ = ⊥
+
+-- The items of the history after one instant and up to and with another are written as far as they fit; or nothing is looked for.
+abbrev pub RunsInBetween : Sets → List CronEra → ℤ → ℤ → List CronItem → List CronItem → ℕ → Status → Type 0
+RunsInBetween s eras last now old new count BadZone = (IsHistory eras → ⊥) × (new ≡ old) × (count ≡ 0)
+RunsInBetween s eras last now old new count BadInstant = IsHistory eras × (IsInstant last → IsInstant now → ⊥) × (new ≡ old) × (count ≡ 0)
+RunsInBetween s eras last now old new count status =
+    IsHistory eras × IsInstant last × IsInstant now
+    × FillsOf (λ r. IsHistoryItem s eras r × IsAfter (last *ℤ pos 1_000_000_000) r × IsBy (now *ℤ pos 1_000_000_000) r) old new count status
+
+-- The items of the history that are later than the one of a struct and up to and with an instant, alike. That one may be none of the history.
+abbrev pub RunsInPast : Sets → List CronEra → CronItem → ℤ → List CronItem → List CronItem → ℕ → Status → Type 0
+RunsInPast s eras item now old new count BadZone = (IsHistory eras → ⊥) × (new ≡ old) × (count ≡ 0)
+RunsInPast s eras item now old new count NotAnItem =
+    IsHistory eras × ((r : Reading) → IsItem r item → r.second < seconds_in_range → ⊥) × (new ≡ old) × (count ≡ 0)
+RunsInPast s eras item now old new count BadInstant = IsHistory eras × (IsInstant now → ⊥) × (new ≡ old) × (count ≡ 0)
+RunsInPast s eras item now old new count status =
+    (r : Reading) × IsHistory eras × IsItem r item × IsInstant now
+    × FillsOf (λ q. IsHistoryItem s eras q × (is_earlier r q ≡ true) × IsBy (now *ℤ pos 1_000_000_000) q) old new count status
+
+-- ---- the search
+
+-- the reading lies where a search looks
+abbrev pub IsBeyond : Begin → Reading → Type 0
+IsBeyond (After t) r = IsAfter t.nanosecond r
+IsBeyond (Past item) r = is_earlier item r ≡ true
+
+-- the item of the history lies there
+abbrev pub IsSought : Sets → List CronEra → Begin → Reading → Type 0
+IsSought s eras begin r = IsHistoryItem s eras r × IsBeyond begin r

@@ -1,0 +1,214 @@
+//! Items of a zone with a history, by instants.
+
+ghost use Rattle.std.specs.Prelude.{◌≡◌};
+ghost use Rattle.cron_instants.specs.Instants.{IsBy};
+ghost use Rattle.cron_c.specs.Calls.{Answers};
+ghost use Rattle.cron_c.specs.Histories.{FillsOf, FiresIn, FiresInAt, IsBeyond, IsFirstInAfter, IsHistory, IsHistoryItem, IsLastInBy, RunsInBetween, RunsInPast};
+ghost use Rattle.cron_c.specs.Structs.{sets_of};
+
+use crate::era::{CronEra, is_history};
+use crate::history::{Begin, first_of_history, last_of_history};
+use crate::item::{CronItem, item_of, moment_of};
+use crate::runs::due;
+use crate::schedule::{CronSchedule, fields_of};
+use crate::status::Status;
+use cron_units::fields::ScheduleFields;
+use jiff::Timestamp;
+
+fn fire_after(schedule: &CronSchedule, eras: &[CronEra], second: i64, item: &mut CronItem) -> Status
+    ensures { FiresIn IsFirstInAfter (sets_of schedule.now) eras.now second item.old item.new result }
+{
+    if !is_history(eras) {
+        return Status::BadZone;
+    }
+    let Ok(now) = Timestamp::from_second(second) else {
+        return Status::BadInstant;
+    };
+    let Some(found) = first_of_history(&fields_of(schedule), eras, &Begin::After(now)) else {
+        return Status::NoItem;
+    };
+    *item = item_of(&found);
+    Status::Done
+}
+
+fn fire_by(schedule: &CronSchedule, eras: &[CronEra], second: i64, item: &mut CronItem) -> Status
+    ensures { FiresIn IsLastInBy (sets_of schedule.now) eras.now second item.old item.new result }
+{
+    if !is_history(eras) {
+        return Status::BadZone;
+    }
+    let Ok(now) = Timestamp::from_second(second) else {
+        return Status::BadInstant;
+    };
+    let Some(found) = last_of_history(&fields_of(schedule), eras, now) else {
+        return Status::NoItem;
+    };
+    *item = item_of(&found);
+    Status::Done
+}
+
+fn fire_at(schedule: &CronSchedule, eras: &[CronEra], second: i64, item: &mut CronItem) -> Status
+    ensures { FiresInAt (sets_of schedule.now) eras.now second item.old item.new result }
+{
+    if !is_history(eras) {
+        return Status::BadZone;
+    }
+    let Ok(now) = Timestamp::from_second(second) else {
+        return Status::BadInstant;
+    };
+    let Some(found) = last_of_history(&fields_of(schedule), eras, now) else {
+        return Status::NoItem;
+    };
+    let last = item_of(&found);
+    if last.instant != second {
+        return Status::NoItem;
+    }
+    *item = last;
+    Status::Done
+}
+
+// Writes the items from where a search begins on, up to and with `now`, as far as they fit.
+fn fill(
+    fields: &ScheduleFields,
+    eras: &[CronEra],
+    begin: &Begin,
+    now: Timestamp,
+    items: &mut [CronItem],
+    count: &mut usize,
+) -> Status
+    requires { IsHistory eras.now }
+    ensures { FillsOf (λ r. IsHistoryItem fields.now eras.now r × IsBeyond begin.now r × IsBy now.nanosecond r) items.old items.new count.new result }
+{
+    let mut next = due(first_of_history(fields, eras, begin), now);
+    for at in 0..items.len() {
+        let Some(moment) = next else {
+            *count = at;
+            return Status::Done;
+        };
+        items[at] = item_of(&moment);
+        next = due(first_of_history(fields, eras, &Begin::Past(moment)), now);
+    }
+    *count = items.len();
+    match next {
+        Some(_) => Status::More,
+        None => Status::Done,
+    }
+}
+
+fn run_between(
+    schedule: &CronSchedule,
+    eras: &[CronEra],
+    last: i64,
+    now: i64,
+    items: &mut [CronItem],
+    count: &mut usize,
+) -> Status
+    ensures { RunsInBetween (sets_of schedule.now) eras.now last now items.old items.new count.new result }
+{
+    *count = 0;
+    if !is_history(eras) {
+        return Status::BadZone;
+    }
+    let Ok(last) = Timestamp::from_second(last) else {
+        return Status::BadInstant;
+    };
+    let Ok(now) = Timestamp::from_second(now) else {
+        return Status::BadInstant;
+    };
+    let begin = Begin::After(last);
+    fill(&fields_of(schedule), eras, &begin, now, items, count)
+}
+
+fn run_past(
+    schedule: &CronSchedule,
+    eras: &[CronEra],
+    item: &CronItem,
+    now: i64,
+    items: &mut [CronItem],
+    count: &mut usize,
+) -> Status
+    ensures { RunsInPast (sets_of schedule.now) eras.now item.now now items.old items.new count.new result }
+{
+    *count = 0;
+    if !is_history(eras) {
+        return Status::BadZone;
+    }
+    let Some(given) = moment_of(*item) else {
+        return Status::NotAnItem;
+    };
+    let Ok(now) = Timestamp::from_second(now) else {
+        return Status::BadInstant;
+    };
+    let begin = Begin::Past(given);
+    fill(&fields_of(schedule), eras, &begin, now, items, count)
+}
+
+/// Writes the earliest of the items of a history whose instant comes after this one.
+#[unsafe(no_mangle)]
+pub extern "C" fn cron_c_history_fire_after(
+    schedule: &CronSchedule,
+    eras: &[CronEra],
+    instant: i64,
+    item: &mut CronItem,
+) -> u32
+    ensures { Answers (FiresIn IsFirstInAfter (sets_of schedule.now) eras.now instant item.old item.new) result }
+{
+    fire_after(schedule, eras, instant, item).code()
+}
+
+/// Writes the latest of the items of a history whose instant is this one or comes before it.
+#[unsafe(no_mangle)]
+pub extern "C" fn cron_c_history_fire_by(
+    schedule: &CronSchedule,
+    eras: &[CronEra],
+    instant: i64,
+    item: &mut CronItem,
+) -> u32
+    ensures { Answers (FiresIn IsLastInBy (sets_of schedule.now) eras.now instant item.old item.new) result }
+{
+    fire_by(schedule, eras, instant, item).code()
+}
+
+/// Writes an item of a history whose instant is this one.
+#[unsafe(no_mangle)]
+pub extern "C" fn cron_c_history_fire_at(
+    schedule: &CronSchedule,
+    eras: &[CronEra],
+    instant: i64,
+    item: &mut CronItem,
+) -> u32
+    ensures { Answers (FiresInAt (sets_of schedule.now) eras.now instant item.old item.new) result }
+{
+    fire_at(schedule, eras, instant, item).code()
+}
+
+/// Writes the items of a history whose instant comes after `last` and not after `now`, the earliest
+/// first, as far as they fit, and how many they are.
+#[unsafe(no_mangle)]
+pub extern "C" fn cron_c_history_fires_between(
+    schedule: &CronSchedule,
+    eras: &[CronEra],
+    last: i64,
+    now: i64,
+    items: &mut [CronItem],
+    count: &mut usize,
+) -> u32
+    ensures { Answers (RunsInBetween (sets_of schedule.now) eras.now last now items.old items.new count.new) result }
+{
+    run_between(schedule, eras, last, now, items, count).code()
+}
+
+/// Writes the items of a history that are later than an item, and whose instant isn't after `now`.
+#[unsafe(no_mangle)]
+pub extern "C" fn cron_c_history_fires_past(
+    schedule: &CronSchedule,
+    eras: &[CronEra],
+    item: &CronItem,
+    now: i64,
+    items: &mut [CronItem],
+    count: &mut usize,
+) -> u32
+    ensures { Answers (RunsInPast (sets_of schedule.now) eras.now item.now now items.old items.new count.new) result }
+{
+    run_past(schedule, eras, item, now, items, count).code()
+}
