@@ -16,7 +16,7 @@ low_digit n w k l =
     sym (ap (λ (m : ℕ). bit_at m k) split ∙ bit_at_cat_low (n / 2 ^ w) w (n % 2 ^ w) k l)
 
 -- the bits of a word that is shifted to the left
-shifted : (n s k : ℕ) → k < 64 → has_bit (n * 2 ^ s % 2 ^ 64) k ≡ (nat_le s k && has_bit n (k - s))
+pub shifted : (n s k : ℕ) → k < 64 → has_bit (n * 2 ^ s % 2 ^ 64) k ≡ (nat_le s k && has_bit n (k - s))
 shifted n s k l =
     let none : n * 2 ^ s ≡ n * 2 ^ s + 0 = omega arith in
     let low : bit_at (n * 2 ^ s % 2 ^ 64) k ≡ bit_at (n * 2 ^ s + 0) k = low_digit (n * 2 ^ s) 64 k l ∙ ap (λ (m : ℕ). bit_at m k) none in

@@ -51,7 +51,7 @@ bit_or_test n m k = elim (cases_lt k 64) [
   | inr g ↦ rw (le-ltb k 64 g) refl
 ]
 
-bit_and_test : (n m k : ℕ) → has_bit (bit_and n m) k ≡ (has_bit n k && has_bit m k)
+pub bit_and_test : (n m k : ℕ) → has_bit (bit_and n m) k ≡ (has_bit n k && has_bit m k)
 bit_and_test n m k = elim (cases_lt k 64) [
   | inl l ↦ rw (lt-ltb k 64 l, bit_at_and n m k) (min_test (bit_at n k) (bit_at m k) (bit_at-lt n k) (bit_at-lt m k))
   | inr g ↦ rw (le-ltb k 64 g) refl

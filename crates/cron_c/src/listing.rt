@@ -2,7 +2,7 @@
 
 ghost use Rattle.jiff.specs.Words.{plain_zone};
 ghost use Rattle.cron_units.specs.declared.way.Way.TheVariants.{Ahead, Back};
-ghost use Rattle.cron_time.specs.Walk.Inner.Placed.{IsPlaced, KnowsZone, stand_of};
+ghost use Rattle.cron_time.specs.Walk.Inner.Placed.{IsPlaced, Knows, stand_of};
 ghost use Rattle.cron_time.specs.Walk.Rest.{rest};
 ghost use Rattle.cron_c.specs.Calls.{Answers};
 ghost use Rattle.cron_c.specs.Listings.{IsListed, Lists, ListsOn, walk_at};
@@ -29,7 +29,7 @@ fn fill(
     items: &mut [CronItem],
 ) -> usize
     requires placed { IsPlaced fields.now (plain_zone zone.now) (stand_of from) }
-    requires known { KnowsZone (plain_zone zone.now) from }
+    requires known { Knows fields.now (plain_zone zone.now) from }
     ensures { IsListed (rest way (walk_at fields.now (plain_zone zone.now) (stand_of from))) items.old items.new result }
 {
     let mut state = from;

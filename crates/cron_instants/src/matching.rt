@@ -8,6 +8,7 @@ ghost use Rattle.cron_instants.specs.Inner.Beyond.{is_match};
 use cron_clocks::stretch::Stretch;
 use cron_moments::calendar::KnownMonth;
 use cron_moments::moment::civil_second;
+use cron_time::search::month_days::MonthDays;
 use cron_time::search::onward::search_past;
 use cron_time::search::search;
 use cron_units::fields::ScheduleFields;
@@ -40,17 +41,17 @@ pub(crate) fn match_past(
     ensures nearest { IsNearest Ahead (is_match fields.now) (pos second +ℤ pos 1) result }
     ensures bound { IfSome result (λ n. n < seconds_in_range) }
 {
+    let mut days = MonthDays::unknown(*month);
     let mut stretch = Stretch::empty();
-    let Some(found) = search_past(
+    let found = search_past(
         fields,
         &TimeZone::UTC,
         Way::Ahead,
         second,
-        month,
+        &mut days,
         &mut stretch,
-    ) else {
-        return None;
-    };
-    let moment = found.first;
+    );
+    *month = days.month();
+    let moment = found?.first;
     Some(civil_second(&moment))
 }

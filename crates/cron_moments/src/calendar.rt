@@ -142,6 +142,25 @@ impl KnownMonth {
         KnownMonth { month, first }
     }
 
+    /// The number of the month.
+    #[inline(always)]
+    pub fn number(self) -> u32
+        ensures number { result ≡ self }
+        ensures bound { (first_month ≤ result) × (result < months_end) }
+    {
+        self.month
+    }
+
+    /// The number of its first day.
+    #[inline(always)]
+    pub fn first_day(self) -> u32
+        ensures number { result ≡ day_number self 1 }
+        ensures bound { result < days_in_range }
+        ensures month { (first_month ≤ self) × (self < months_end) }
+    {
+        self.number_of(1)
+    }
+
     /// The first month of the range.
     pub fn january_1970() -> KnownMonth
         ensures { result ≡ first_month }

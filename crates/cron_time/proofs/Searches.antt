@@ -13,5 +13,8 @@ pub mod SearchLemmas
 pub mod OwnDayLemmas
 pub mod DayLemmas
 pub mod LastDayLemmas
+pub mod WeekLemmas
+pub mod MonthDayLemmas
+pub mod DaysPastLemmas
 pub mod TimeOfDayLemmas
 pub mod NearestTimeLemmas

@@ -22,7 +22,7 @@ pub type OwnedScheduleIterator<'z> = Walker<Owned<'z>>;
 
 impl<C: Course> Model for Walker<C> {
     ghost use Rattle.cron_time.specs.Walk.Cursor.{Walk};
-    ghost use Rattle.cron_time.specs.Walk.Inner.Placed.{cursor_of, stand_of, IsPlaced, KnowsZone};
+    ghost use Rattle.cron_time.specs.Walk.Inner.Placed.{cursor_of, stand_of, IsPlaced, Knows};
 
     ghost Value = { Walk };
 
@@ -33,14 +33,14 @@ impl<C: Course> Model for Walker<C> {
     } };
 
     ghost invariant = { λ w. IsPlaced (C.sets w.course) (C.zone w.course) (stand_of w.state)
-        × KnowsZone (C.zone w.course) w.state };
+        × Knows (C.sets w.course) (C.zone w.course) w.state };
 }
 
 impl<C: Course> Walker<C> {
     ghost use Rattle.std.specs.Prelude.{◌≡◌};
     ghost use Rattle.cron_units.specs.declared.way.Way.TheVariants.{Back};
     ghost use Rattle.cron_time.specs.Walk.Cursor.{Start};
-    ghost use Rattle.cron_time.specs.Walk.Inner.Placed.{cursor_of, stand_of, IsPlaced, KnowsZone};
+    ghost use Rattle.cron_time.specs.Walk.Inner.Placed.{cursor_of, stand_of, IsPlaced, Knows};
     ghost use Rattle.cron_time.specs.Walk.Rest.{Gives};
 
     /// A walk whose cursor is at a start.
@@ -58,7 +58,7 @@ impl<C: Course> Walker<C> {
     /// A walk that stands at a place.
     pub(crate) fn at(course: C, state: State) -> Walker<C>
         requires placed { IsPlaced (C.sets course) (C.zone course) (stand_of state) }
-        requires known { KnowsZone (C.zone course) state }
+        requires known { Knows (C.sets course) (C.zone course) state }
         ensures sets { result.sets ≡ C.sets course }
         ensures zone { result.zone ≡ C.zone course }
         ensures cursor { result.cursor ≡ cursor_of (C.sets course) (C.zone course) (stand_of state) }

@@ -83,7 +83,7 @@ rank_candidate s d low =
     rw parts (rw e refl)
 
 -- a day is a candidate exactly if its rank is
-candidate_rank : (s : Sets) (j : ℕ) → j < 47_847 → matches_rank s (rank_of_date (date_numbered j).0) ≡ is_candidate s (date_numbered j).0
+pub candidate_rank : (s : Sets) (j : ℕ) → j < 47_847 → matches_rank s (rank_of_date (date_numbered j).0) ≡ is_candidate s (date_numbered j).0
 candidate_rank s j h = rank_candidate s (date_numbered j).0 (low_at j h)
 
 pub candidate_fails : (s : Sets) (j : ℕ) → (j < 47_847 → matches_rank s (rank_of_date (date_numbered j).0) ≡ false) → candidate_day s j ≡ false
@@ -167,20 +167,39 @@ is_candidate_rank s d range h =
     let n = number_of_rank s d range h in
     sym (candidate_rank s (number_of d) n.in_range) ∙ ap (matches_rank s) n.at ∙ h
 
+-- what fails by its rank, and what is out of range, fails by its number
+number_fails : (ranked numbered : ℕ → Bool) (j : ℕ)
+    → ((i : ℕ) → i < 47_847 → ranked (rank_of_date (date_numbered i).0) ≡ numbered i)
+    → (j < 47_847 → ranked (rank_of_date (date_numbered j).0) ≡ false) → (nat_lt j 47_847 && numbered j) ≡ false
+number_fails ranked numbered j same h =
+    elim (cases_lt j 47_847) [
+      | inl lt ↦ and_right (nat_lt j 47_847) (numbered j) (sym (same j lt) ∙ h lt)
+      | inr ge ↦ and_left (nat_lt j 47_847) (numbered j) (le-ltb j 47_847 ge)
+    ]
+
 -- the nearest day by ranks is the nearest by numbers
+pub by_numbers : (way : Way) (ranked numbered : ℕ → Bool) (places numbers : ℤ) (found : Option Day)
+    → ((j : ℕ) → j < 47_847 → ranked (rank_of_date (date_numbered j).0) ≡ numbered j)
+    → ((d : Day) → IsInRange d → ranked (day_rank d) ≡ true → d.day ≤ length_of d.month)
+    → ((j : ℕ) → j < 47_847 → LiesFrom way numbers j → LiesFrom way places (rank_of_date (date_numbered j).0))
+    → ((j : ℕ) → j < 47_847 → LiesFrom way places (rank_of_date (date_numbered j).0) → LiesFrom way numbers j) → IfSome found IsInRange
+    → IsNearest way ranked places (option_map day_rank found) → IsNearest way (λ n. nat_lt n 47_847 && numbered n) numbers (option_map number_of found)
+by_numbers way ranked numbered places numbers None same fits to back range h = λ k lies. number_fails ranked numbered k same (λ lt. h _ (to k lt lies))
+by_numbers way ranked numbered places numbers (Some d) same fits to back range h =
+    let n = number_is d.month d.day range.0 range.1 range.2 (fits d range h.passes) in
+    let P : ℕ → Type 0 = λ p. LiesFrom way places p in
+    record {
+      passes = and_from (nat_lt (number_of d) 47_847) (numbered (number_of d)) (lt-ltb (number_of d) 47_847 n.in_range)
+          (sym (same (number_of d) n.in_range) ∙ ap ranked n.at ∙ h.passes);
+      lies = back (number_of d) n.in_range (subst P (sym n.at) h.lies);
+      nearest = λ k lies early. number_fails ranked numbered k same (λ lt.
+          let Q : ℕ → Type 0 = λ p. Precedes way (rank_of_date (date_numbered k).0) p in
+          h.nearest _ (to k lt lies) (subst Q n.at (precedes_rank way k (number_of d) lt n.in_range early)));
+    }
+
 pub by_number : (way : Way) (s : Sets) (places numbers : ℤ) (found : Option Day)
     → ((j : ℕ) → j < 47_847 → LiesFrom way numbers j → LiesFrom way places (rank_of_date (date_numbered j).0))
     → ((j : ℕ) → j < 47_847 → LiesFrom way places (rank_of_date (date_numbered j).0) → LiesFrom way numbers j) → IfSome found IsInRange
     → IsNearest way (matches_rank s) places (option_map day_rank found) → IsNearest way (candidate_day s) numbers (option_map number_of found)
-by_number way s places numbers None to back range h = λ k lies. candidate_fails s k (λ lt. h _ (to k lt lies))
-by_number way s places numbers (Some d) to back range h =
-    let n = number_of_rank s d range h.passes in
-    let P : ℕ → Type 0 = λ p. LiesFrom way places p in
-    record {
-      passes = and_from (nat_lt (number_of d) 47_847) (is_candidate s (date_numbered (number_of d)).0) (lt-ltb (number_of d) 47_847 n.in_range)
-          (sym (candidate_rank s (number_of d) n.in_range) ∙ ap (matches_rank s) n.at ∙ h.passes);
-      lies = back (number_of d) n.in_range (subst P (sym n.at) h.lies);
-      nearest = λ k lies early. candidate_fails s k (λ lt.
-          let Q : ℕ → Type 0 = λ p. Precedes way (rank_of_date (date_numbered k).0) p in
-          h.nearest _ (to k lt lies) (subst Q n.at (precedes_rank way k (number_of d) lt n.in_range early)));
-    }
+by_number way s places numbers found to back range h =
+    by_numbers way (matches_rank s) (λ n. is_candidate s (date_numbered n).0) places numbers found (candidate_rank s) (day_fits s) to back range h

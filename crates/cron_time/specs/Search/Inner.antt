@@ -6,3 +6,4 @@ pub mod DaySearch
 pub mod Starts
 pub mod Inquired
 pub mod Filled
+pub mod MonthDays

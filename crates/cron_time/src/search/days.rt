@@ -68,9 +68,9 @@ pub(crate) fn some_month_has_a_day(inquiry: &mut Inquiry<'_>) -> bool
     false
 }
 
-// The nearest one past a month that lies in the sets: first in its own year, which isn't asked for.
+/// The nearest one past a month that lies in the sets: first in its own year, which isn't asked for.
 #[inline(always)]
-fn month_past(inquiry: &mut Inquiry<'_>, way: Way, month: u32) -> Option<u32>
+pub(crate) fn month_past(inquiry: &mut Inquiry<'_>, way: Way, month: u32) -> Option<u32>
     requires range { (first_month ≤ month) × (month < months_end) }
     requires matching { matches_month inquiry.old.sets month ≡ true }
     ensures nearest { IsNearest way (matches_month inquiry.old.sets) (beyond way month) result }

@@ -6,33 +6,24 @@ ghost use Rattle.cron_moments.specs.CivilDates.{date_numbered};
 ghost use Rattle.cron_moments.specs.Found.{found_items};
 ghost use Rattle.cron_clocks.specs.Steady.{IsKnown};
 ghost use Rattle.cron_time.specs.Search.Inner.Blocks.{AllFail};
-ghost use Rattle.cron_time.specs.Search.Inner.DaySearch.{FindsPastDay, FindsTimePast};
-ghost use Rattle.cron_time.specs.Search.Inner.Inquired.{IsSame};
-ghost use Rattle.cron_time.specs.Search.Inner.Numbers.{beyond, beyond_day, matches_second, stands_at, way_of};
+ghost use Rattle.cron_time.specs.Search.Inner.DaySearch.{FindsInDay, FindsPastDay, FindsTimePast};
+ghost use Rattle.cron_time.specs.Search.Inner.Inquired.{IsSame, outermost};
+ghost use Rattle.cron_time.specs.Search.Inner.MonthDays.{KnowsDays};
+ghost use Rattle.cron_time.specs.Search.Inner.Numbers.{beyond, matches_second, stands_at, way_of};
 ghost use Rattle.cron_time.specs.Matches.{matches_date};
 ghost use Rattle.cron_time.specs.Search.{IsFound};
 
-use crate::search::days::{day_past, day_with};
 use crate::search::inquiry::Inquiry;
-use crate::search::neighbours::time_past;
-use crate::search::ways::past;
-use crate::search::{SECONDS_PER_DAY, search_candidates, search_times, start_of};
+use crate::search::month_days::MonthDays;
+use crate::search::neighbours::{Neighbours, TimesOfDay, time_past};
+use crate::search::ways::{extreme, past};
+use crate::search::{SECONDS_PER_DAY, search_times};
 use cron_clocks::stretch::Stretch;
 use cron_moments::calendar::KnownMonth;
 use cron_moments::readings::Found;
 use cron_units::fields::ScheduleFields;
 use cron_units::way::Way;
 use jiff::tz::TimeZone;
-
-// The number past the civil seconds of a day.
-fn beyond_day(way: Way, day: u32) -> i64
-    ensures { result ≡ beyond_day way day }
-{
-    match way {
-        Way::Ahead => (day as i64 + 1) * 86_400,
-        Way::Back => day as i64 * 86_400 - 1,
-    }
-}
 
 // The times of the day past one of them, if there are any.
 #[inline(always)]
@@ -53,95 +44,121 @@ fn search_times_past(inquiry: &mut Inquiry<'_>, way: Way, day: u32, time: u32) -
     search_times(inquiry, way, day, from, first)
 }
 
-// The days past that of a civil second whose date matches. Its year and month needn't be asked for.
+// The times of a day whose date matches, in an inquiry of their own.
 #[inline(always)]
-fn search_days_past<const BACK: bool>(
-    inquiry: &mut Inquiry<'_>,
-    way: Way,
-    second: u32,
-) -> Option<Found>
-    requires tied { way ≡ way_of BACK }
-    requires in_range { second < seconds_in_range }
-    requires matching { matches_date inquiry.old.sets (date_numbered (second / 86_400)).0 ≡ true }
-    requires days_room { inquiry.old.days < 2 ^ 60 }
-    requires room { inquiry.old.conversions < 2 ^ 60 }
-    ensures finds { FindsPastDay way inquiry.old.sets inquiry.old.zone second result }
-    ensures same { IsSame inquiry.old inquiry.new }
-{
-    let start = start_of(way, beyond_day(way, second / SECONDS_PER_DAY))?;
-    let first = day_past(inquiry, way, day_with(inquiry.month(), second));
-    search_candidates::<BACK>(inquiry, way, start, first)
-}
-
-// Each direction has code of its own.
-#[inline(always)]
-fn search_days_past_either_way(inquiry: &mut Inquiry<'_>, way: Way, second: u32) -> Option<Found>
-    requires in_range { second < seconds_in_range }
-    requires matching { matches_date inquiry.old.sets (date_numbered (second / 86_400)).0 ≡ true }
-    requires days_room { inquiry.old.days < 2 ^ 60 }
-    requires room { inquiry.old.conversions < 2 ^ 60 }
-    ensures finds { FindsPastDay way inquiry.old.sets inquiry.old.zone second result }
-    ensures same { IsSame inquiry.old inquiry.new }
-{
-    match way {
-        Way::Ahead => search_days_past::<false>(inquiry, Way::Ahead, second),
-        Way::Back => search_days_past::<true>(inquiry, Way::Back, second),
-    }
-}
-
-// The days past an item's own, in a new inquiry and out of the way of the items of the own day. It begins
-// with the month and the stretch that the search before knew, and leaves those that it knows.
-#[inline(never)]
-fn days_past(
+fn search_day_times(
     fields: &ScheduleFields,
     zone: &TimeZone<'_>,
     way: Way,
-    second: u32,
-    month: &mut KnownMonth,
+    day: u32,
     stretch: &mut Stretch,
 ) -> Option<Found>
-    requires in_range { second < seconds_in_range }
-    requires matching { matches_date fields.now (date_numbered (second / 86_400)).0 ≡ true }
+    requires in_range { day < days_in_range }
+    requires matching { matches_date fields.now (date_numbered day).0 ≡ true }
     requires known { IsKnown (plain_zone zone.now) stretch.old }
-    ensures finds { FindsPastDay way fields.now (plain_zone zone.now) second result }
+    ensures found { FindsInDay way
+        fields.now
+        (plain_zone zone.now)
+        day
+        (outermost way 86_400)
+        (option_map found_items result) }
     ensures known { IsKnown (plain_zone zone.now) stretch.new }
 {
-    let mut inquiry = Inquiry::knowing(fields, zone, *month, *stretch);
-    let found = search_days_past_either_way(&mut inquiry, way, second);
-    *month = inquiry.month();
+    let mut inquiry = Inquiry::knowing(fields, zone, KnownMonth::january_1970(), *stretch);
+    let from = extreme(way, SECONDS_PER_DAY);
+    let first = TimesOfDay::nearest(&mut inquiry, way, from);
+    let found = search_times(&mut inquiry, way, day, from, first);
     inquiry.hand_on(stretch);
     found
 }
 
+// The days past that of a civil second whose date matches, out of the way of the items of the own day. It
+// begins with the days and the stretch that the search before knew, and leaves those that it knows. `BACK`
+// says the way once more, so that each has code of its own.
+#[inline(never)]
+fn days_past<const BACK: bool>(
+    fields: &ScheduleFields,
+    zone: &TimeZone<'_>,
+    way: Way,
+    second: u32,
+    days: &mut MonthDays,
+    stretch: &mut Stretch,
+) -> Option<Found>
+    requires tied { way ≡ way_of BACK }
+    requires in_range { second < seconds_in_range }
+    requires matching { matches_date fields.now (date_numbered (second / 86_400)).0 ≡ true }
+    requires days { KnowsDays fields.now days.old }
+    requires known { IsKnown (plain_zone zone.now) stretch.old }
+    ensures finds { FindsPastDay way fields.now (plain_zone zone.now) second result }
+    ensures days { KnowsDays fields.now days.new }
+    ensures known { IsKnown (plain_zone zone.now) stretch.new }
+{
+    let mut day = second / SECONDS_PER_DAY;
+    while let Some(next) = days.day_past(fields, way, day) {
+        let found = search_day_times(fields, zone, way, next, stretch);
+        if found.is_some() {
+            return found;
+        }
+        day = next;
+    }
+    None
+}
+
+// Each direction has code of its own.
+#[inline(always)]
+fn days_past_either_way(
+    fields: &ScheduleFields,
+    zone: &TimeZone<'_>,
+    way: Way,
+    second: u32,
+    days: &mut MonthDays,
+    stretch: &mut Stretch,
+) -> Option<Found>
+    requires in_range { second < seconds_in_range }
+    requires matching { matches_date fields.now (date_numbered (second / 86_400)).0 ≡ true }
+    requires days { KnowsDays fields.now days.old }
+    requires known { IsKnown (plain_zone zone.now) stretch.old }
+    ensures finds { FindsPastDay way fields.now (plain_zone zone.now) second result }
+    ensures days { KnowsDays fields.now days.new }
+    ensures known { IsKnown (plain_zone zone.now) stretch.new }
+{
+    match way {
+        Way::Ahead => days_past::<false>(fields, zone, Way::Ahead, second, days, stretch),
+        Way::Back => days_past::<true>(fields, zone, Way::Back, second, days, stretch),
+    }
+}
+
 /// The nearest one past a civil second that matches: first in its own day, whose date needn't be made,
-/// and then in the days past it. It begins with the month that an earlier search knew, and leaves the one
-/// that it knows.
+/// and then in the days past it. It begins with the days of a month that an earlier search knew, and leaves
+/// those that it knows.
 #[inline(always)]
 pub fn search_past(
     fields: &ScheduleFields,
     zone: &TimeZone<'_>,
     way: Way,
     second: u32,
-    month: &mut KnownMonth,
+    days: &mut MonthDays,
     stretch: &mut Stretch,
 ) -> Option<Found>
     requires in_range { second < seconds_in_range }
     requires matching { matches_date fields.now (date_numbered (second / 86_400)).0 ≡ true }
     requires member { matches_second fields.now (second % 86_400) ≡ true }
+    requires days { KnowsDays fields.now days.old }
     requires known { IsKnown (plain_zone zone.now) stretch.old }
     ensures found { IsFound way
         fields.now
         (plain_zone zone.now)
         (beyond way second)
         (option_map found_items result) }
+    ensures days { KnowsDays fields.now days.new }
     ensures known { IsKnown (plain_zone zone.now) stretch.new }
 {
     let day = second / SECONDS_PER_DAY;
-    let mut inquiry = Inquiry::knowing(fields, zone, *month, *stretch);
+    let mut inquiry = Inquiry::knowing(fields, zone, days.month(), *stretch);
     let found = search_times_past(&mut inquiry, way, day, second % SECONDS_PER_DAY);
     inquiry.hand_on(stretch);
     if found.is_some() {
         return found;
     }
-    days_past(fields, zone, way, second, month, stretch)
+    days_past_either_way(fields, zone, way, second, days, stretch)
 }

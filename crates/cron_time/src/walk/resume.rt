@@ -3,7 +3,7 @@ ghost use Rattle.std.specs.Prelude.{◌≡◌, ◌<◌, ℕ, Some, MatchOption, 
 ghost use Rattle.jiff.specs.Words.{plain_zone};
 ghost use Rattle.cron_moments.specs.Civil.{seconds_in_range};
 ghost use Rattle.cron_moments.specs.Found.{found_items, items_if_any};
-ghost use Rattle.cron_time.specs.Walk.Inner.Placed.{IsPlaced, KnowsZone, cursor_of, reading_of, stand_of};
+ghost use Rattle.cron_time.specs.Walk.Inner.Placed.{IsPlaced, Knows, cursor_of, reading_of, stand_of};
 ghost use Rattle.cron_time.specs.Walk.Resume.{IsAbsent, IsAtItem};
 ghost use Rattle.cron_time.specs.Search.{items_of};
 
@@ -49,7 +49,7 @@ pub fn resumed(fields: &ScheduleFields, zone: &TimeZone<'_>, moment: &Moment) ->
     ensures { MatchOption result
         (IsAbsent fields.now (plain_zone zone.now) moment.now)
         (λ state. IsPlaced fields.now (plain_zone zone.now) (stand_of state)
-        × KnowsZone (plain_zone zone.now) state
+        × Knows fields.now (plain_zone zone.now) state
         × IsAtItem fields.now (plain_zone zone.now) moment.now (cursor_of fields.now (plain_zone zone.now) (stand_of state))) }
 {
     let second = civil_second(moment);

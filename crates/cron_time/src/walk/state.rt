@@ -1,10 +1,12 @@
 //! Where a walk stands.
 ghost use Rattle.std.specs.Prelude.{◌≡◌, Some};
-ghost use Rattle.cron_time.specs.Walk.Inner.Placed.{KnowsZone, answer_of, reading_of, stand_of, stop_of};
+ghost use Rattle.cron_units.specs.Sets.{Sets};
+ghost use Rattle.cron_time.specs.Walk.Inner.Placed.{Knows, answer_of, reading_of, stand_of, stop_of};
 ghost use Rattle.cron_time.specs.Walk.Inner.Stand as kept;
 ghost use Rattle.cron_moments.specs.Readings.{Reading};
 ghost use Rattle.jiff_tz.specs.declared.timezone.TimeZone.{TimeZone};
 
+use crate::search::month_days::MonthDays;
 use cron_clocks::stretch::Stretch;
 use cron_moments::calendar::KnownMonth;
 use cron_moments::moment::{Moment, moment_numbered};
@@ -25,15 +27,15 @@ pub(crate) enum Stage {
 }
 
 /// The stage of a walk, the readings of its civil second, and the instant that it started from. What
-/// the stage doesn't speak of means nothing. The month is the one that was looked up last, and the stretch,
-/// perhaps an empty one, the one in which a reading was last looked for.
+/// the stage doesn't speak of means nothing. The days are those of the month that was looked up last, as far
+/// as they are known, and the stretch, perhaps an empty one, is the one in which a reading was last looked for.
 #[derive(Clone, Copy)]
 pub struct State {
     pub(crate) stage: Stage,
     pub(crate) earlier: Moment,
     pub(crate) later: Moment,
     pub(crate) start: jiff_core::Timestamp,
-    pub(crate) month: KnownMonth,
+    pub(crate) days: MonthDays,
     pub(crate) stretch: Stretch,
 }
 
@@ -41,7 +43,7 @@ impl State {
     /// The state of a walk that starts at an instant.
     pub fn starting(start: Timestamp) -> State
         ensures stand { stand_of result ≡ kept.Start start.nanosecond }
-        ensures known { (z : TimeZone) → KnowsZone z result }
+        ensures known { (s : Sets) (z : TimeZone) → Knows s z result }
     {
         let none = moment_numbered(0, Offset::UTC);
         State {
@@ -49,7 +51,7 @@ impl State {
             earlier: none,
             later: none,
             start: start.to_plain(),
-            month: KnownMonth::january_1970(),
+            days: MonthDays::unknown(KnownMonth::january_1970()),
             stretch: Stretch::empty(),
         }
     }
@@ -58,7 +60,8 @@ impl State {
     #[inline(always)]
     pub(crate) fn stop(&mut self, way: Way, found: Option<Found>)
         ensures stand { stand_of self.new ≡ stop_of way found }
-        ensures known { self.new.stretch ≡ self.old.stretch }
+        ensures days { self.new.days ≡ self.old.days }
+        ensures stretch { self.new.stretch ≡ self.old.stretch }
     {
         let Some(
             Found {
@@ -86,7 +89,8 @@ impl State {
     pub(crate) fn standing(self, found: Found, later: bool) -> State
         requires { (r : Reading) × (reading_of found later ≡ Some r) }
         ensures stand { stand_of result ≡ kept.At found later }
-        ensures known { result.stretch ≡ self.stretch }
+        ensures days { result.days ≡ self.days }
+        ensures stretch { result.stretch ≡ self.stretch }
     {
         let Found {
             first: earlier,

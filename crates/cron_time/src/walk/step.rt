@@ -3,7 +3,7 @@ ghost use Rattle.std.specs.Prelude.{◌≡◌, ◌/◌, ◌%◌, ◌<◌, true};
 ghost use Rattle.jiff.specs.Words.{plain_zone};
 ghost use Rattle.cron_moments.specs.Civil.{seconds_in_range};
 ghost use Rattle.cron_moments.specs.CivilDates.{date_numbered};
-ghost use Rattle.cron_time.specs.Walk.Inner.Placed.{stand_of, IsPlaced, KnowsZone};
+ghost use Rattle.cron_time.specs.Walk.Inner.Placed.{stand_of, IsPlaced, Knows};
 ghost use Rattle.cron_time.specs.Walk.Inner.Stand as kept;
 ghost use Rattle.cron_time.specs.Search.Inner.Numbers.{beyond, matches_second, way_of};
 ghost use Rattle.cron_time.specs.Walk.Inner.Stop.{IsReached, LeadsTo};
@@ -11,6 +11,7 @@ ghost use Rattle.cron_time.specs.Matches.{matches_date};
 
 use crate::search::days::some_month_has_a_day;
 use crate::search::inquiry::Inquiry;
+use crate::search::month_days::MonthDays;
 use crate::search::onward::search_past;
 use crate::search::search_from;
 use crate::walk::bounds::bound;
@@ -23,9 +24,9 @@ use jiff::tz::TimeZone;
 
 // The walk goes to the first item from its bound on.
 fn from_bound(fields: &ScheduleFields, zone: &TimeZone<'_>, way: Way, state: &mut State)
-    requires known { KnowsZone (plain_zone zone.now) state.old }
+    requires known { Knows fields.now (plain_zone zone.now) state.old }
     ensures leads { LeadsTo way fields.now (plain_zone zone.now) (kept.Start state.old.start.nanosecond) (stand_of state.new) }
-    ensures known { KnowsZone (plain_zone zone.now) state.new }
+    ensures known { Knows fields.now (plain_zone zone.now) state.new }
 {
     match bound(
         way,
@@ -34,9 +35,9 @@ fn from_bound(fields: &ScheduleFields, zone: &TimeZone<'_>, way: Way, state: &mu
         &mut state.stretch,
     ) {
         Some(from) => {
-            let mut inquiry = Inquiry::knowing(fields, zone, state.month, state.stretch);
+            let mut inquiry = Inquiry::knowing(fields, zone, state.days.month(), state.stretch);
             let found = search_from(&mut inquiry, way, from);
-            state.month = inquiry.month();
+            state.days = MonthDays::unknown(inquiry.month());
             inquiry.hand_on(&mut state.stretch);
             state.stop(way, found)
         }
@@ -48,9 +49,9 @@ fn from_bound(fields: &ScheduleFields, zone: &TimeZone<'_>, way: Way, state: &mu
 // set.
 #[inline(never)]
 fn from_start(fields: &ScheduleFields, zone: &TimeZone<'_>, way: Way, state: &mut State)
-    requires known { KnowsZone (plain_zone zone.now) state.old }
+    requires known { Knows fields.now (plain_zone zone.now) state.old }
     ensures leads { LeadsTo way fields.now (plain_zone zone.now) (kept.Start state.old.start.nanosecond) (stand_of state.new) }
-    ensures known { KnowsZone (plain_zone zone.now) state.new }
+    ensures known { Knows fields.now (plain_zone zone.now) state.new }
 {
     let mut inquiry = Inquiry::new(fields, zone);
     if !some_month_has_a_day(&mut inquiry) {
@@ -67,13 +68,13 @@ fn past_item(fields: &ScheduleFields, zone: &TimeZone<'_>, way: Way, state: &mut
     requires matching { matches_date fields.now (date_numbered (state.old.earlier.second / 86_400)).0
         ≡ true }
     requires member { matches_second fields.now (state.old.earlier.second % 86_400) ≡ true }
-    requires known { KnowsZone (plain_zone zone.now) state.old }
+    requires known { Knows fields.now (plain_zone zone.now) state.old }
     ensures reached { IsReached way
         fields.now
         (plain_zone zone.now)
         (beyond way state.old.earlier.second)
         (stand_of state.new) }
-    ensures known { KnowsZone (plain_zone zone.now) state.new }
+    ensures known { Knows fields.now (plain_zone zone.now) state.new }
 {
     let item = state.earlier;
     let found = search_past(
@@ -81,7 +82,7 @@ fn past_item(fields: &ScheduleFields, zone: &TimeZone<'_>, way: Way, state: &mut
         zone,
         way,
         civil_second(&item),
-        &mut state.month,
+        &mut state.days,
         &mut state.stretch,
     );
     state.stop(way, found)
@@ -97,9 +98,9 @@ fn step_one_way<const BACK: bool>(
 )
     requires tied { way ≡ way_of BACK }
     requires placed { IsPlaced fields.now (plain_zone zone.now) (stand_of state.old) }
-    requires known { KnowsZone (plain_zone zone.now) state.old }
+    requires known { Knows fields.now (plain_zone zone.now) state.old }
     ensures leads { LeadsTo way fields.now (plain_zone zone.now) (stand_of state.old) (stand_of state.new) }
-    ensures known { KnowsZone (plain_zone zone.now) state.new }
+    ensures known { Knows fields.now (plain_zone zone.now) state.new }
 {
     match state.stage {
         Stage::Start => from_start(fields, zone, way, state),
@@ -120,9 +121,9 @@ fn step_one_way<const BACK: bool>(
 #[inline(always)]
 pub fn step(fields: &ScheduleFields, zone: &TimeZone<'_>, way: Way, state: &mut State)
     requires placed { IsPlaced fields.now (plain_zone zone.now) (stand_of state.old) }
-    requires known { KnowsZone (plain_zone zone.now) state.old }
+    requires known { Knows fields.now (plain_zone zone.now) state.old }
     ensures leads { LeadsTo way fields.now (plain_zone zone.now) (stand_of state.old) (stand_of state.new) }
-    ensures known { KnowsZone (plain_zone zone.now) state.new }
+    ensures known { Knows fields.now (plain_zone zone.now) state.new }
 {
     match way {
         Way::Ahead => step_one_way::<false>(fields, zone, Way::Ahead, state),

@@ -1,7 +1,7 @@
 use Rattle.std.proofs.Common.{◌≡◌}
 use Rattle.std.specs.Prelude.{length}
 use Rattle.jiff.specs.Words.{plain_zone}
-use Rattle.cron_time.specs.Walk.Inner.Placed.{KnowsZone, stand_of}
+use Rattle.cron_time.specs.Walk.Inner.Placed.{Knows, stand_of}
 use Rattle.cron_c.proofs.Filling.{IsFilling}
 use Rattle.cron_c.proofs.listing.fill.Given as goal
 
@@ -10,4 +10,4 @@ abbrev pub invariant-loop-count : goal.invariant-loop-count
 invariant-loop-count l =
     IsFilling l.way l.fields (plain_zone l.zone) (stand_of l.initial.state) l.initial.items l.items (stand_of l.state) l.count
     × (length l.items ≡ length l.initial.items)
-    × KnowsZone (plain_zone l.zone) l.state
+    × Knows l.fields (plain_zone l.zone) l.state

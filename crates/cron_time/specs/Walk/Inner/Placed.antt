@@ -9,6 +9,7 @@ use Rattle.cron_time.specs.Walk.Cursor.{Cursor, Start, Place, Ended}
 use Rattle.cron_moments.specs.Found.{found_items}
 use Rattle.cron_moments.specs.Readings.{Reading}
 use Rattle.cron_time.specs.Search.{items_of}
+use Rattle.cron_time.specs.Search.Inner.MonthDays.{KnowsDays}
 use Rattle.cron_units.specs.Sets.{Sets}
 use Rattle.cron_time.specs.Timeline.{items_below}
 use Rattle.cron_moments.specs.declared.readings.Found.{Found}
@@ -74,6 +75,6 @@ abbrev pub stop_of : Way → Option Found → Stand
 stop_of way None = Kept.Ended
 stop_of way (Some f) = Kept.At f (last_is_later (opposite way) f)
 
--- what a walk keeps of its zone, from the searches before, is so
-abbrev pub KnowsZone : TimeZone → State → Type 0
-KnowsZone z state = IsKnown z state.stretch
+-- what a walk keeps from the searches before, the days of a month and a stretch of civil seconds, is so
+abbrev pub Knows : Sets → TimeZone → State → Type 0
+Knows s z state = KnowsDays s state.days × IsKnown z state.stretch

@@ -19,4 +19,4 @@ returns-clause-found c =
     let s = c.args.fields.now in
     let z = plain_zone c.args.zone.now in
     let found = rw (ap (λ q. q.sets) c.knowing-inquiry.ensures, ap (λ q. q.zone) c.knowing-inquiry.ensures) at c.search_times_past-found.ensures.found in
-    later_day c.args.way s z c.args.second _ (own_none c.args.way s z c.args.second _ (sym c.if-is_some.ensures) found) c.days_past.ensures.finds
+    later_day c.args.way s z c.args.second _ (own_none c.args.way s z c.args.second _ (sym c.if-is_some.ensures) found) c.days_past_either_way.ensures.finds

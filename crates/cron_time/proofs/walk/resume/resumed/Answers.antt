@@ -4,10 +4,9 @@ use Rattle.jiff_core.proofs.SignedLemmas.{signed_arith}
 use Rattle.jiff.specs.Words.{plain_zone}
 use Rattle.cron_moments.specs.Civil.{seconds_in_range}
 use Rattle.cron_moments.specs.Found.{found_items}
-use Rattle.cron_time.specs.Walk.Inner.Placed.{reading_of}
+use Rattle.cron_time.specs.Walk.Inner.Placed.{Knows, reading_of}
 use Rattle.cron_time.specs.Search.{items_of}
 use Rattle.cron_time.proofs.Walks.ResumeLemmas.{absent_past, absent_among, absent_nowhere, kept_of, at_item}
-use Rattle.cron_clocks.specs.Steady.{IsKnown}
 use Rattle.cron_time.proofs.walk.resume.resumed.Goals as goal
 
 pub returns-then-second-ge-SECONDS : goal.returns-then-second-ge-SECONDS
@@ -32,6 +31,8 @@ returns c =
     let is : reading_of c.in-Some.found c.in-Some-is_later.later ≡ Some c.args.moment.now = c.in-Some-is_later.ensures in
     let same = ap (items_of c.args.fields.now (plain_zone c.args.zone.now)) c.civil_second-second.ensures in
     let kept = kept_of _ _ c.args.moment.now c.in-Some.found c.in-Some-is_later.later high (c.in-Some.ensures ∙ same) is in
-    let known : IsKnown (plain_zone c.args.zone.now) c.standing.result.stretch =
-    rw c.standing.ensures.known (c.starting.ensures.known (plain_zone c.args.zone.now)) in
+    let s = c.args.fields.now in
+    let z = plain_zone c.args.zone.now in
+    let begun = c.starting.ensures.known s z in
+    let known : Knows s z c.standing.result = (rw c.standing.ensures.days begun.0, rw c.standing.ensures.stretch begun.1) in
     rw c.standing.ensures.stand (kept, known, at_item _ _ c.args.moment.now c.in-Some.found c.in-Some-is_later.later kept is)

@@ -21,3 +21,8 @@ returns-in-None-clause-leads c =
     let z = plain_zone c.args.zone.now in
     let at = sym c.bound.ensures.bound ∙ c.in-None.is in
     rw c.stop-in-None.ensures.stand (start_ends c.args.way s z _ (rw c.from_plain.ensures at at))
+
+pub returns-in-Some-clause-known : goal.returns-in-Some-clause-known
+returns-in-Some-clause-known c =
+    let zone = c.search_from-found.ensures.same.zone ∙ ap (λ q. q.zone) c.knowing-inquiry.ensures in
+    (rw c.stop.ensures.days (c.unknown-state.ensures c.args.fields.now), rw c.stop.ensures.stretch (rw zone at c.hand_on.ensures))

@@ -1,0 +1,40 @@
+use Rattle.std.proofs.Common.{◌+◌, inr, sym, ◌∙◌, arith}
+use Rattle.cron_time.proofs.Searches.BlockLemmas.{reach_on}
+use Rattle.cron_time.proofs.Searches.MonthDayLemmas.{bits_nearest, longest_31, matching_fits, month_fails, month_found, own_next, split_matching}
+use Rattle.cron_time.proofs.search.month_days.MonthDays.months_past.Goals as goal
+
+pub loop-next-init : goal.loop-next-init
+loop-next-init c = record {
+  known = inr c.requires.days;
+  reached = own_next c.args.way c.args.fields.now c.args.self.now.month c.args.place c.next_month-next.result c.requires.bound c.requires.month
+      (λ k lies. sym (c.requires.days k) ∙ c.requires.none k lies) (rw c.number.ensures.number at c.next_month-next.ensures.nearest);
+  bound = c.next_month-next.ensures.bound;
+}
+
+pub returns-in-Some-first_bit-clause-nearest : goal.returns-in-Some-first_bit-clause-nearest
+returns-in-Some-first_bit-clause-nearest c =
+    let days = rw (c.of-there.ensures.month, c.numbered.ensures) at c.of-there.ensures.days in
+    month_found c.args.way c.args.fields.now c.args.self.now.month c.args.place c.in-Some.month c.in-Some-first_bit.first c.requires.bound
+    (rw c.in-Some.is at c.loop-next.invariant.reached) (bits_nearest c.args.way _ _ _ _ days (rw c.in-Some-first_bit.is at c.first_bit.ensures))
+
+pub returns-in-Some-first_bit-clause-range : goal.returns-in-Some-first_bit-clause-range
+returns-in-Some-first_bit-clause-range c =
+    let days = rw (c.of-there.ensures.month, c.numbered.ensures) at c.of-there.ensures.days in
+    let first = rw c.in-Some-first_bit.is at c.first_bit.ensures in
+    let fits = matching_fits c.args.fields.now c.in-Some.month (c.in-Some-first_bit.first + 1) (sym (days c.in-Some-first_bit.first) ∙ first.passes) in
+    let short = longest_31 c.in-Some.month in
+    let bound = rw c.in-Some.is at c.loop-next.invariant.bound in
+    ((bound.0, bound.1, fits.0, omega (arith, fits, short)), c.of-there.ensures.month ∙ c.numbered.ensures)
+
+pub loop-next-preserved : goal.loop-next-preserved
+loop-next-preserved c =
+    let days = rw (c.of-there.ensures.month, c.numbered.ensures) at c.of-there.ensures.days in
+    let none = rw c.in_default-first_bit.is at c.first_bit.ensures in
+    record {
+      known = c.loop-next.invariant.known;
+      reached = reach_on c.args.way 100 _ _ _ _ c.in-Some.month c.next_month-next-in-Some.result (split_matching c.args.fields.now).block_fails
+          (rw c.in-Some.is at c.loop-next.invariant.reached)
+          (month_fails c.args.way c.args.fields.now c.in-Some.month _ (λ k lies. sym (days k) ∙ none k lies))
+          c.next_month-next-in-Some.ensures.nearest;
+      bound = c.next_month-next-in-Some.ensures.bound;
+    }

@@ -1,0 +1,231 @@
+//! The days of a month whose dates match, a bit for each.
+ghost use Rattle.std.specs.Prelude.{◌≡◌, ℕ, ◌+◌, ◌%◌, ◌<◌, ◌≤◌, pos, IfSome, option_map, true, false};
+ghost use Rattle.jiff.specs.Words.{plain_zone};
+ghost use Rattle.cron_bits.specs.Words.{has_bit};
+ghost use Rattle.cron_units.specs.Nearest.{IsNearest, LiesFrom};
+ghost use Rattle.cron_units.specs.Sets.{Sets};
+ghost use Rattle.cron_units.specs.Units.{contains};
+ghost use Rattle.cron_moments.specs.Calendar.{day_number, first_month, months_end, rank, rank_of_date};
+ghost use Rattle.cron_moments.specs.Civil.{days_in_range};
+ghost use Rattle.cron_moments.specs.CivilDates.{date_numbered};
+ghost use Rattle.cron_time.specs.Matches.{matches_date};
+ghost use Rattle.cron_time.specs.Search.Inner.Days.{day_rank, IsInRange};
+ghost use Rattle.cron_time.specs.Search.Inner.Inquired.{outermost};
+ghost use Rattle.cron_time.specs.Search.Inner.MonthDays.{AreDaysOf, KnowsDays, matches_ranked, matching_day};
+ghost use Rattle.cron_time.specs.Search.Inner.Numbers.{beyond, matches_day, matches_month, way_of};
+
+use crate::search::days::{Day, month_past};
+use crate::search::inquiry::Inquiry;
+use cron_bits::words::Words;
+use cron_moments::calendar::{KnownMonth, length_of};
+use cron_units::fields::ScheduleFields;
+use cron_units::time_unit::layout::{bits, bits_of_days};
+use cron_units::way::Way;
+use jiff::tz::TimeZone;
+
+/// A month, and a bit for each of its days, the first one for the first day: 1 where the date matches.
+/// If no bit is 1, nobody may have looked.
+#[derive(Clone, Copy)]
+pub struct MonthDays {
+    month: KnownMonth,
+    days: u64,
+}
+
+// The days of a month that lie in their set: by their numbers, and the last one where it is marked.
+#[inline(always)]
+fn days_in_set(fields: &ScheduleFields, month: u32) -> u64
+    requires { month < months_end }
+    ensures { (k : ℕ) → has_bit result k ≡ matches_day fields.now month (k + 1) }
+{
+    let last = length_of(month);
+    let numbered = bits_of_days(&fields.days_of_month).below(last);
+    if fields.days_of_month.last_day() {
+        return numbered.with(last - 1);
+    }
+    numbered
+}
+
+// The days of the week from that of a day on: 1 where the day of the week lies in its set.
+#[inline(always)]
+fn weekdays_from(fields: &ScheduleFields, day: u32) -> u64
+    requires { day < days_in_range }
+    ensures { (k : ℕ) → k < 32 → has_bit result k ≡ contains fields.now.days_of_week ((day + k + 4) % 7 + 1) }
+{
+    let week = bits(&fields.days_of_week).below(7);
+    let two = week | week << 7;
+    let four = two | two << 14;
+    let eight = four | four << 28;
+    eight >> ((day + 4) % 7)
+}
+
+// The month past one that lies in the sets. It asks no zone.
+#[inline(always)]
+fn next_month(fields: &ScheduleFields, way: Way, month: u32) -> Option<u32>
+    requires range { (first_month ≤ month) × (month < months_end) }
+    requires matching { matches_month fields.now month ≡ true }
+    ensures nearest { IsNearest way (matches_month fields.now) (beyond way month) result }
+    ensures bound { IfSome result (λ n. (first_month ≤ n) × (n < months_end)) }
+{
+    let zone = TimeZone::UTC;
+    let mut inquiry = Inquiry::new(fields, &zone);
+    month_past(&mut inquiry, way, month)
+}
+
+// The nearest bit past a place.
+#[inline(always)]
+fn bit_past(way: Way, word: u64, place: u32) -> Option<u32>
+    requires { place < 64 }
+    ensures { IsNearest way (has_bit word) (beyond way place) result }
+{
+    match way {
+        Way::Ahead => word.at_least(place + 1).lowest(),
+        Way::Back => word.below(place).highest(),
+    }
+}
+
+// The first bit in this direction.
+#[inline(always)]
+fn first_bit(way: Way, word: u64) -> Option<u32>
+    ensures { IsNearest way (has_bit word) (pos (outermost way 100)) result }
+{
+    match way {
+        Way::Ahead => word.lowest(),
+        Way::Back => word.highest(),
+    }
+}
+
+impl MonthDays {
+    /// Nothing is known of the days of this month.
+    #[inline(always)]
+    pub fn unknown(month: KnownMonth) -> MonthDays
+        ensures { (s : Sets) → KnowsDays s result }
+    {
+        MonthDays { month, days: 0 }
+    }
+
+    /// The month that was looked up last.
+    #[inline(always)]
+    pub fn month(&self) -> KnownMonth {
+        self.month
+    }
+
+    // The days of a month whose year and month lie in their sets.
+    #[inline(always)]
+    fn of(fields: &ScheduleFields, month: KnownMonth) -> MonthDays
+        ensures month { result.month ≡ month }
+        ensures days { AreDaysOf fields.now result }
+    {
+        let days = days_in_set(fields, month.number()) & weekdays_from(fields, month.first_day());
+        MonthDays { month, days }
+    }
+
+    // The place of a day among the bits, if its bit is 1.
+    #[inline(always)]
+    fn place_of(&self, day: u32) -> Option<u32>
+        ensures set { IfSome result (λ k. (has_bit self.now.days k ≡ true) × (day ≡ day_number self.now.month 1 + k)) }
+        ensures month { (first_month ≤ self.now.month) × (self.now.month < months_end) }
+    {
+        let first = self.month.first_day();
+        if day < first || !self.days.contains(day - first) {
+            return None;
+        }
+        Some(day - first)
+    }
+
+    // The days of the month of a day, and the place of the day among them.
+    #[inline(never)]
+    fn looked_up(&mut self, fields: &ScheduleFields, day: u32) -> u32
+        requires in_range { day < days_in_range }
+        requires matching { matches_date fields.now (date_numbered day).0 ≡ true }
+        ensures place { rank self.new.month (result + 1) ≡ rank_of_date (date_numbered day).0 }
+        ensures bound { result < 31 }
+        ensures month { matches_month fields.now self.new.month ≡ true }
+        ensures days { AreDaysOf fields.now self.new }
+    {
+        let (month, day_of_month) = self.month.month_and_day(day);
+        *self = MonthDays::of(fields, self.month.or_numbered(month));
+        day_of_month - 1
+    }
+
+    // The place of a day whose date matches, in its month, whose days are known from now on.
+    #[inline(always)]
+    fn entered(&mut self, fields: &ScheduleFields, day: u32) -> u32
+        requires in_range { day < days_in_range }
+        requires matching { matches_date fields.now (date_numbered day).0 ≡ true }
+        requires known { KnowsDays fields.now self.old }
+        ensures place { rank self.new.month (result + 1) ≡ rank_of_date (date_numbered day).0 }
+        ensures bound { result < 31 }
+        ensures month { matches_month fields.now self.new.month ≡ true }
+        ensures days { AreDaysOf fields.now self.new }
+    {
+        match self.place_of(day) {
+            Some(place) => place,
+            None => self.looked_up(fields, day),
+        }
+    }
+
+    // The first matching day of the months past this one, of whose own days none is left.
+    #[inline(always)]
+    fn months_past(&mut self, fields: &ScheduleFields, way: Way, place: u32) -> Option<Day>
+        requires bound { place < 31 }
+        requires month { matches_month fields.now self.old.month ≡ true }
+        requires days { AreDaysOf fields.now self.old }
+        requires none { (k : ℕ) → LiesFrom way (beyond way place) k → has_bit self.old.days k ≡ false }
+        ensures nearest { IsNearest way
+            (matches_ranked fields.now)
+            (beyond way (rank self.old.month (place + 1)))
+            (option_map day_rank result) }
+        ensures range { IfSome result (λ d. IsInRange d × (self.new.month ≡ d.month)) }
+        ensures known { KnowsDays fields.now self.new }
+    {
+        let mut next = next_month(fields, way, self.month.number());
+        while let Some(month) = next {
+            let there = MonthDays::of(fields, KnownMonth::numbered(month));
+            if let Some(first) = first_bit(way, there.days) {
+                *self = there;
+                return Some(Day {
+                    month,
+                    day: first + 1,
+                });
+            }
+            next = next_month(fields, way, month);
+        }
+        None
+    }
+
+    // The nearest matching day past one of the month, by the ranks of the dates.
+    #[inline(always)]
+    fn ranked_past(&mut self, fields: &ScheduleFields, way: Way, place: u32) -> Option<Day>
+        requires bound { place < 31 }
+        requires month { matches_month fields.now self.old.month ≡ true }
+        requires days { AreDaysOf fields.now self.old }
+        ensures nearest { IsNearest way
+            (matches_ranked fields.now)
+            (beyond way (rank self.old.month (place + 1)))
+            (option_map day_rank result) }
+        ensures range { IfSome result (λ d. IsInRange d × (self.new.month ≡ d.month)) }
+        ensures known { KnowsDays fields.now self.new }
+    {
+        if let Some(next) = bit_past(way, self.days, place) {
+            return Some(Day {
+                month: self.month.number(),
+                day: next + 1,
+            });
+        }
+        self.months_past(fields, way, place)
+    }
+
+    /// The nearest day past one whose date matches.
+    #[inline(always)]
+    pub(crate) fn day_past(&mut self, fields: &ScheduleFields, way: Way, day: u32) -> Option<u32>
+        requires in_range { day < days_in_range }
+        requires matching { matches_date fields.now (date_numbered day).0 ≡ true }
+        requires known { KnowsDays fields.now self.old }
+        ensures nearest { IsNearest way (matching_day fields.now) (beyond way day) result }
+        ensures known { KnowsDays fields.now self.new }
+    {
+        let place = self.entered(fields, day);
+        let next = self.ranked_past(fields, way, place)?;
+        Some(self.month.number_of(next.day))
+    }
+}
