@@ -43,15 +43,17 @@ pub(crate) fn match_past(
 {
     let mut days = MonthDays::unknown(*month);
     let mut stretch = Stretch::empty();
-    let found = search_past(
+    let Some(found) = search_past(
         fields,
         &TimeZone::UTC,
         Way::Ahead,
         second,
         &mut days,
         &mut stretch,
-    );
+    ) else {
+        return None;
+    };
     *month = days.month();
-    let moment = found?.first;
+    let moment = found.first;
     Some(civil_second(&moment))
 }

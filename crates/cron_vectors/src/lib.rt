@@ -10,6 +10,8 @@ mod last_days;
 #[cfg(test)]
 mod laws;
 #[cfg(test)]
+mod matching_days;
+#[cfg(test)]
 mod moments;
 #[cfg(test)]
 mod month_lengths;

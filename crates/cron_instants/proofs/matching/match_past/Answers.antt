@@ -9,6 +9,9 @@ search_past-requires-clause-matching c = (match_parts c.args.fields.now c.args.s
 pub search_past-requires-clause-member : goal.search_past-requires-clause-member
 search_past-requires-clause-member c = (match_parts c.args.fields.now c.args.second c.requires).1
 
+pub search_past-requires-clause-days : goal.search_past-requires-clause-days
+search_past-requires-clause-days c = c.unknown-days.ensures c.args.fields.now
+
 pub returns-in_default-clause-nearest : goal.returns-in_default-clause-nearest
 returns-in_default-clause-nearest c =
     none_matches Ahead c.args.fields.now (pos c.args.second +ℤ pos 1) (rw c.in_default.is at c.search_past.ensures.found)
