@@ -1,0 +1,4 @@
+use Rattle.cron_c.proofs.listing.list.Goals as goal
+
+pub fill-requires-clause-known : goal.fill-requires-clause-known
+fill-requires-clause-known c = c.starting.ensures.known _ _
