@@ -1,0 +1,65 @@
+//! The calls of the checker of lines.
+
+use crate::support::{ACCEPTED, is_accepted, tell, tell_early};
+use cron::Schedule;
+use cron_checking::check::{Outcome, check};
+use cron_checking::line::Mode;
+use cron_checking::short::canonical_text;
+use cron_writer::watched::Watched;
+use jiff::Timestamp;
+use jiff::tz::TimeZone;
+use std::io::Cursor;
+use std::process::Abort;
+use std::test::Fail;
+
+#[test]
+fn canonical_text_of_a_schedule(rt: HostRuntime) -> Result<(), Fail> {
+    let Ok(schedule) = Schedule::from_str(rt.alloc(), ACCEPTED) else {
+        return tell_early(&rt);
+    };
+    match canonical_text(rt.alloc(), &schedule) {
+        Ok(text) => assert_eq!(rt; text.as_str(), "1 2 3 4 5 * 2015"),
+        Err(_refused) => tell(&rt)?,
+    }
+    assert!(rt; is_accepted(&schedule));
+    Ok(())
+}
+
+const FILE: &str = "@daily\n60 * * * * *\n\n0 30 9-17 15,L 1-6 Mon-Fri 2024-2030\n";
+
+// The first fires after the beginning of 2024, whose 15 January is a Monday.
+const TOLD: [&str; 3] = [
+    "1: 2024-01-02 00:00:00 +00:00\n",
+    "2: Seconds must be less than 59. ('60' specified.)\n",
+    "4: 2024-01-15 09:30:00 +00:00\n",
+];
+
+// How many of the lines stand at the beginning of a text, one after another, and what stands behind them.
+fn past_lines(mut text: &str) -> (usize, &str) {
+    let mut count = 0_usize;
+    for line in TOLD {
+        let Some(rest) = text.strip_prefix(line) else {
+            break;
+        };
+        count = count.saturating_add(1);
+        text = rest;
+    }
+    (count, text)
+}
+
+#[test]
+fn check_of_three_lines(rt: HostRuntime) -> Result<(), Fail> {
+    let mode = Mode::Next("2024-01-01T00:00:00Z".parse::<Timestamp>()?, TimeZone::UTC);
+    let mut room = [0_u8; 256];
+    let mut reader = FILE.as_bytes();
+    let mut out = Watched::new(Cursor::new(room.as_mut_slice()));
+    let end = check(rt.alloc(), &mode, &mut reader, &mut out);
+    let (count, rest) = past_lines(str::from_utf8(&room)?.trim_end_matches('\0'));
+    if end == Outcome::OutOfMemory {
+        assert_eq!(rt; rest, "error: out of memory\n");
+        return tell(&rt);
+    }
+    assert_eq!(rt; end, Outcome::SomeRefused);
+    assert_eq!(rt; (count, rest), (TOLD.len(), ""));
+    Ok(())
+}
