@@ -12,7 +12,7 @@ use std::io;
 use std::time::Instant;
 
 /// How many lines are read.
-const LINES: usize = 100_000;
+pub const LINES: usize = 100_000;
 
 /// The start of 2018, and the seconds from a line's start to that of the following line.
 const FIRST_START: i64 = 1_514_764_800;
@@ -153,7 +153,7 @@ fn varied_line(alloc: Global, draw: &mut Draw) -> Result<String, AllocError> {
 }
 
 /// The lines, the same in each run.
-fn varied_lines(alloc: Global) -> Result<Vec<String>, AllocError> {
+pub fn varied_lines(alloc: Global) -> Result<Vec<String>, AllocError> {
     let mut draw = Draw { state: 20_221_106 };
     let mut lines = Vec::with_capacity(alloc, LINES)?;
     for _ in 0..LINES {
@@ -218,9 +218,9 @@ fn schedules_of(alloc: Global, lines: &[String]) -> Result<Vec<Schedule>, AllocE
     Ok(schedules)
 }
 
-/// Prints the cost of one line of a round over all.
-fn print_cost(rt: &HostRuntime, name: &str, nanoseconds: u128) -> io::Result<()> {
-    let tenths = nanoseconds / (LINES as u128 / 10);
+/// Prints the cost of one line of a round over so many.
+pub fn print_cost(rt: &HostRuntime, name: &str, nanoseconds: u128, lines: usize) -> io::Result<()> {
+    let tenths = nanoseconds.saturating_mul(10) / (lines as u128).max(1);
     let (whole, tenth) = (tenths / 10, tenths % 10);
     println!(rt; "lines | {name} | {whole}.{tenth}")
 }
@@ -236,8 +236,8 @@ fn time_reads(rt: &HostRuntime, lines: &[String]) -> io::Result<()> {
         let _kept = keep_all(rt.alloc(), lines);
         kept = kept.min(begun.elapsed(rt)?.as_nanos());
     }
-    print_cost(rt, "read", read)?;
-    print_cost(rt, "kept", kept)
+    print_cost(rt, "read", read, LINES)?;
+    print_cost(rt, "kept", kept, LINES)
 }
 
 /// Prints the least cost in 15 rounds of a first item.
@@ -253,7 +253,7 @@ fn time_firsts(
         let _found = find_all(schedules, zone);
         best = best.min(begun.elapsed(rt)?.as_nanos());
     }
-    print_cost(rt, name, best)
+    print_cost(rt, name, best, LINES)
 }
 
 /// Prints what a line costs that is read, that is kept, and whose first item is found.

@@ -1,8 +1,9 @@
 //! `cron_bench run` prints what a parse and a call of a walk cost, in nanoseconds; `cron_bench growth`
 //! what parses of longer and longer lists cost; `cron_bench lines` what each of 100,000 varied lines
-//! costs, and `cron_bench print` those lines. With no word it prints nothing.
+//! costs, and of the lines that `cron_check` checks; and `cron_bench print` those lines. With no word it prints nothing.
 #![tactic(auto)]
 
+mod checks;
 mod lines;
 mod parses;
 mod walks;
@@ -17,7 +18,10 @@ fn main(rt: HostRuntime) -> io::Result<()> {
             walks::run(&rt)
         }
         [_, word] if word.as_str() == "growth" => parses::grow(&rt),
-        [_, word] if word.as_str() == "lines" => lines::run(&rt),
+        [_, word] if word.as_str() == "lines" => {
+            lines::run(&rt)?;
+            checks::run(&rt)
+        }
         [_, word] if word.as_str() == "print" => lines::print(&rt),
         _ => Ok(()),
     }

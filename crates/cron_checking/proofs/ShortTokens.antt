@@ -185,7 +185,8 @@ in_every_unit u (name w ∷ is) p = in_every_unit u is p.1
 in_every_unit u (i ∷ is) p = absurd p.0
 
 -- the tokens of short items are a field of any unit, with white space before it or without
-short_field : (u : TimeUnit) (b : Bool) (is : List Item) → AllByRecursion IsShortItem is → (is ≡ [] → ⊥) → IsField u (after_gap b (map written_as (list_symbols is))) is
+short_field : (u : TimeUnit) (b : Bool) (is : List Item) → AllByRecursion IsShortItem is → (is ≡ [] → ⊥)
+    → IsField u (after_gap b (map written_as (list_symbols is))) is
 short_field u b is p some =
     record {
       written = gap_seen b (map written_as (list_symbols is)) ∙ items_seen is p;
@@ -203,7 +204,8 @@ gap_before false xs ts n = refl
 pub field_tokens : (u : TimeUnit) (b : Bool) (is : List Item) (rest : List ℕ) → AllByRecursion IsShortItem is → (is ≡ [] → ⊥) → Stops rest
     → after_gap b (tokens (items_text is ++ rest)) ≡ after_gap b (map written_as (list_symbols is)) ++ tokens rest
 field_tokens u b is rest p some s =
-    let unlike : map written_as (list_symbols is) ≡ [] → ⊥ = λ e. nothing u is (subst (λ (ts : List Token). IsField u ts is) e (short_field u false is p some)) in
+    let unlike : map written_as (list_symbols is) ≡ [] → ⊥ = λ e. nothing u is
+    (subst (λ (ts : List Token). IsField u ts is) e (short_field u false is p some)) in
     ap (after_gap b) (items_tokens is rest p s) ∙ gap_before b (map written_as (list_symbols is)) (tokens rest) unlike
 
 -- a field of short items before other fields
@@ -222,7 +224,8 @@ sets_before u us xs xss b is rest p some d more =
     )
 
 -- a field of short items at the end
-pub last_field : (u : TimeUnit) (b : Bool) (is : List Item) → AllByRecursion IsShortItem is → (is ≡ [] → ⊥) → IsField u (after_gap b (tokens (items_text is))) is
+pub last_field : (u : TimeUnit) (b : Bool) (is : List Item) → AllByRecursion IsShortItem is → (is ≡ [] → ⊥)
+    → IsField u (after_gap b (tokens (items_text is))) is
 last_field u b is p some =
     let alone : tokens (items_text is) ≡ map written_as (list_symbols is) =
     ap tokens (sym (append-nil (items_text is))) ∙ (items_tokens is [] p stops_end

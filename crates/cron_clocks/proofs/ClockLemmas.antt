@@ -82,7 +82,8 @@ turns_by y turn r (Some day) some is far s small =
     unclamped (first_nanosecond y) (last_nanosecond y) _ (nanos_of_seconds r) clamped (omega (arith, signed_arith, low)) (omega (arith, signed_arith, high)) in
     let moved : day *ℤ nanos_per_day +ℤ nanos_of_seconds (turn.time -ℤ s) ≡ nanos_of_seconds (r -ℤ s) = omega (arith, signed_arith, whole) in
     rw (some, moved)
-    (clamp_inside (first_nanosecond y) (last_nanosecond y) (nanos_of_seconds (r -ℤ s)) (omega (arith, signed_arith, low, small)) (omega (arith, signed_arith, high, small)))
+    (clamp_inside (first_nanosecond y) (last_nanosecond y) (nanos_of_seconds (r -ℤ s)) (omega (arith, signed_arith, low, small))
+    (omega (arith, signed_arith, high, small)))
 
 turns_at : (y : ℤ) (turn : DayTime) (r : ℤ) → IsTurn turn y r → IsFarInside (year_start y) (year_end y) r → TurnsAt turn y r
 turns_at y turn r is far = turns_by y turn r (rule_day y turn.date) refl (at_second _ _ _ is.value far.1) far
@@ -102,7 +103,9 @@ shown_among rule d first last start end n some turns start_far end_far low high 
     let starts = turns_at y d.rule.start start turns.starts (rw (← turns.from, ← turns.to) start_far) in
     let ends = turns_at y d.rule.end end turns.ends (rw (← turns.from, ← turns.to) end_far) in
     shows_by rule d some y start end t starts ends (rw (← turns.from) start_far.0) year
-    ∙ ap (λ w. cond w d.offset.seconds rule.std_offset.seconds) (window_at (start -ℤ rule.std_offset.seconds) (end -ℤ d.offset.seconds) t ∙ ap (λ k. in_window (start -ℤ rule.std_offset.seconds, end -ℤ d.offset.seconds) k) e)
+    ∙ ap (λ w. cond w d.offset.seconds rule.std_offset.seconds)
+    (window_at (start -ℤ rule.std_offset.seconds) (end -ℤ d.offset.seconds) t
+    ∙ ap (λ k. in_window (start -ℤ rule.std_offset.seconds, end -ℤ d.offset.seconds) k) e)
 
 -- ---- a turn in UTC
 

@@ -72,7 +72,8 @@ module _ (rule : TimeZone) (d : Dst) (some : rule.dst ≡ Some d) where
       let b : ℤ = nanos_of_seconds (turn.second -ℤ dst) in
       let span = λ (n : ℤ). window_in_order a b (nanos_of_seconds n) (omega (arith, signed_arith)) in
       let shown = λ (n : ℤ) (e : year_of_nanos (nanos_of_seconds n) ≡ y).
-      shows_by y turn.first turn.second (nanos_of_seconds n) turn.first_turns turn.second_turns (omega (arith, signed_arith)) e ∙ ap (λ w. cond w dst std) (span n) in
+      shows_by y turn.first turn.second (nanos_of_seconds n) turn.first_turns turn.second_turns (omega (arith, signed_arith)) e
+      ∙ ap (λ w. cond w dst std) (span n) in
       record {
         first = turn.first;
         second = turn.second;
@@ -97,7 +98,8 @@ module _ (rule : TimeZone) (d : Dst) (some : rule.dst ≡ Some d) where
       let b : ℤ = nanos_of_seconds (turn.second -ℤ std) in
       let span = λ (n : ℤ). window_turned b a (nanos_of_seconds n) (omega (arith, signed_arith)) in
       let shown = λ (n : ℤ) (e : year_of_nanos (nanos_of_seconds n) ≡ y).
-      shows_by y turn.second turn.first (nanos_of_seconds n) turn.second_turns turn.first_turns (omega (arith, signed_arith)) e ∙ ap (λ w. cond w dst std) (span n) in
+      shows_by y turn.second turn.first (nanos_of_seconds n) turn.second_turns turn.first_turns (omega (arith, signed_arith)) e
+      ∙ ap (λ w. cond w dst std) (span n) in
       record {
         first = turn.first;
         second = turn.second;

@@ -57,12 +57,14 @@ turn_of z ts i t same is l =
     let size = turns_length z in
     turn_here z ts i t same is l ∙ turn_is z i (omega arith)
 
-count_by_text : (k : ℤ) (ts : List Transition) → prefix_len (λ t. int_le (civil_start t) k) ts ≡ prefix_len (λ r. int_le (Text.civil_start r) k) (map transition_text ts)
+count_by_text : (k : ℤ) (ts : List Transition)
+    → prefix_len (λ t. int_le (civil_start t) k) ts ≡ prefix_len (λ r. int_le (Text.civil_start r) k) (map transition_text ts)
 count_by_text k [] = refl
 count_by_text k (t ∷ ts) = ap (λ n. cond (int_le (civil_start t) k) (1 + n) 0) (count_by_text k ts)
 
 -- a search of such a list counts the turns of the table
-pub counted : (z : Tzif) (k : ℤ) (ts : List Transition) → map transition_text ts ≡ turns_of z → prefix_len (λ t. int_le (civil_start t) k) ts ≡ civil_count_at z k
+pub counted : (z : Tzif) (k : ℤ) (ts : List Transition) → map transition_text ts ≡ turns_of z
+    → prefix_len (λ t. int_le (civil_start t) k) ts ≡ civil_count_at z k
 counted z k ts same =
     count_by_text k ts ∙ ap (λ rows. prefix_len (λ r. int_le (Text.civil_start r) k) rows) same ∙ sym (count_by_text k z.transitions.items)
 
@@ -88,7 +90,8 @@ turn_alike y a b s same =
     let time : a.time ≡ b.time = ap (λ p. p.1) same in
     rw (day, time) refl
 
-dst_alike : (std : Offset) (a b : Option Dst) (dt : DateTime) → option_map dst_view a ≡ option_map dst_view b → ambiguous_at_by std a dt ≡ ambiguous_at_by std b dt
+dst_alike : (std : Offset) (a b : Option Dst) (dt : DateTime) → option_map dst_view a ≡ option_map dst_view b
+    → ambiguous_at_by std a dt ≡ ambiguous_at_by std b dt
 dst_alike std None None dt same = refl
 dst_alike std None (Some e) dt same = absurd (cc)
 dst_alike std (Some d) None dt same = absurd (cc)
@@ -104,7 +107,8 @@ rule_alike r s dt same =
     let std = same_offset r.std_offset s.std_offset (ap (λ (v : TzText). v.std_seconds) same) in
     ap (λ o. ambiguous_at_by o r.dst dt) std ∙ dst_alike s.std_offset r.dst s.dst dt (ap (λ (v : TzText). v.dst) same)
 
-by_rule : (z : Tzif) (n : ℕ) (r : Rule) (o : Option Rule) (dt : DateTime) → z.posix_tz ≡ o → option_map tz_view (Some r) ≡ option_map tz_view o → n ≡ length z.transitions.items
+by_rule : (z : Tzif) (n : ℕ) (r : Rule) (o : Option Rule) (dt : DateTime) → z.posix_tz ≡ o → option_map tz_view (Some r) ≡ option_map tz_view o
+    → n ≡ length z.transitions.items
     → ambiguous_after z n dt ≡ Posix.ambiguous_at r dt
 by_rule z n r None dt is same all = absurd (cc)
 by_rule z n r (Some s) dt is same all =
@@ -151,8 +155,10 @@ ahead_of first end turn c k (inl before) low high by below = absurd (omega (arit
 ahead_of first end turn c k (inr late) low high by below = omega (arith, signed_arith)
 
 short_alike : (first end turn c k : ℤ) → IsUnparted first end turn → first ≤ℤ c → c <ℤ end → first ≤ℤ k → k <ℤ end → int_lt k turn ≡ int_lt c turn
-short_alike first end turn c k (inl before) c_low c_high k_low k_high = lt_no k turn (omega (arith, signed_arith)) ∙ sym (lt_no c turn (omega (arith, signed_arith)))
-short_alike first end turn c k (inr late) c_low c_high k_low k_high = lt_yes k turn (omega (arith, signed_arith)) ∙ sym (lt_yes c turn (omega (arith, signed_arith)))
+short_alike first end turn c k (inl before) c_low c_high k_low k_high =
+    lt_no k turn (omega (arith, signed_arith)) ∙ sym (lt_no c turn (omega (arith, signed_arith)))
+short_alike first end turn c k (inr late) c_low c_high k_low k_high =
+    lt_yes k turn (omega (arith, signed_arith)) ∙ sym (lt_yes c turn (omega (arith, signed_arith)))
 
 -- ---- what the turns around a civil second tell of those between them
 

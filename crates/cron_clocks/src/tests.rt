@@ -1,5 +1,7 @@
 //! Zones whose two look-ups agree, and rules where they don't.
 
+mod turns;
+
 use super::lookups_agree;
 use jiff::tz::{Offset, TimeZone};
 use std::process::Abort;

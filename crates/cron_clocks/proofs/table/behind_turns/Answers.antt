@@ -10,7 +10,8 @@ use Rattle.cron_clocks.proofs.table.behind_turns.Goals as goal
 pub returns-in-Some-clause-alike : goal.returns-in-Some-clause-alike
 returns-in-Some-clause-alike c k above below =
     let by : (dt : DateTime) → ambiguous_after c.args.table.now c.args.count dt ≡ ambiguous_at c.in-Some.rule dt =
-    λ dt. past_all c.args.table.now c.args.count c.in-Some.rule c.posix_tz.result c.transitions.result.now dt c.posix_tz.ensures c.in-Some.is c.transitions.ensures
+    λ dt. past_all c.args.table.now c.args.count c.in-Some.rule c.posix_tz.result c.transitions.result.now dt c.posix_tz.ensures c.in-Some.is
+    c.transitions.ensures
     c.if-count-transitions.true in
     by (civil k) ∙ c.told_at.ensures.alike k above below ∙ sym (by (civil c.args.second))
 

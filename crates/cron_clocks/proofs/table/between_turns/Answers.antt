@@ -8,7 +8,8 @@ use Rattle.cron_clocks.proofs.table.between_turns.Goals as goal
 pub returns-clause-between : goal.returns-clause-between
 returns-clause-between c =
     let some : 0 < c.args.count = omega (arith, c.if-count-eq0.false) in
-    let same = turn_here c.args.table.now c.transitions.result.now (c.args.count - 1) c.index-transitions-count.result c.transitions.ensures c.index-transitions-count.is
+    let same = turn_here c.args.table.now c.transitions.result.now (c.args.count - 1) c.index-transitions-count.result c.transitions.ensures
+    c.index-transitions-count.is
     (omega (arith, some, c.requires.count)) in
     let fits-start : FitsSigned w64 c.civil_start.result = search rules in
     let fits-end : FitsSigned w64 c.civil_end.result = search rules in

@@ -14,7 +14,8 @@ returns-then-count-eq0 c =
 pub returns-else-count-eq0 : goal.returns-else-count-eq0
 returns-else-count-eq0 c =
     let some : 0 < c.args.count = omega (arith, c.if-count-eq0.false) in
-    let same = turn_of c.args.table.now c.transitions.result.now (c.args.count - 1) c.index-transitions-count.result c.transitions.ensures c.index-transitions-count.is
+    let same = turn_of c.args.table.now c.transitions.result.now (c.args.count - 1) c.index-transitions-count.result c.transitions.ensures
+    c.index-transitions-count.is
     (omega (arith, some, c.requires)) in
     c.from_plain-else-count-eq0.ensures
     ∙ ap (λ (t : Transition). t.after.offset) (sym c.index-transitions-count.is)

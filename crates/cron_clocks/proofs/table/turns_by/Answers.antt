@@ -14,7 +14,8 @@ returns-clause-value c =
     let same : map transition_text turns ≡ turns_of z = c.transitions.ensures in
     let ordered : is_ordered z.first.offset.seconds (map transition_text turns) ≡ true =
     subst (λ l. is_ordered z.first.offset.seconds l ≡ true) (sym same) z.ordered in
-    let point = c.partition_point.ensures.partitioned (λ t. int_le (civil_start t) c.args.second) (always_returns_same _ _ _ (λ a r f k. search (rules, of_calls)))
+    let point = c.partition_point.ensures.partitioned (λ t. int_le (civil_start t) c.args.second)
+    (always_returns_same _ _ _ (λ a r f k. search (rules, of_calls)))
     (λ i j d l m up. le_below _ _ _ (starts_rise z.first.offset.seconds turns d ordered i j l m) up) in
     sym (prefix_from_point (λ t. int_le (civil_start t) c.args.second) turns c.partition_point.result (no_transition z) c.partition_point.ensures.bound point)
     ∙ counted z c.args.second turns same

@@ -29,6 +29,7 @@ invariant_of-self-2 c =
           let bytes = ap (λ (i : Inside). i.bytes) w.self-inside-is in (
             rw len fits,
             rw len (same_but_second c.self.inside.moment c.args.moment.now c.civil_second-was.result c.civil_second-now.result _ _ c.self.inside.len
-                c.if-now-was-2.self-inside.bytes c.put_two-2.new.bytes known w.if-now-was-2.false (ap (λ l. take c.self.inside.len l) bytes ∙ kept) c.put_two-2.ensures),
+                c.if-now-was-2.self-inside.bytes c.put_two-2.new.bytes known w.if-now-was-2.false (ap (λ l. take c.self.inside.len l) bytes ∙ kept)
+                c.put_two-2.ensures),
           )
     ]

@@ -1,0 +1,78 @@
+//! What checks of lines cost.
+
+use crate::lines::{LINES, print_cost, varied_lines};
+use cron_checking::arguments::request_of;
+use cron_checking::check::{Outcome, check};
+use cron_checking::line::Mode;
+use cron_writer::watched::Watched;
+use std::alloc::{AllocError, Global};
+use std::io::{self, Cursor};
+use std::time::Instant;
+
+/// How many short lines are checked, in digits and as a number.
+const SHORT_LINES: [(&str, usize); 3] = [
+    ("10,000 short checked", 10_000),
+    ("100,000 short checked", 100_000),
+    ("1,000,000 short checked", 1_000_000),
+];
+
+/// The lines of a file: so many times a short one.
+fn short_file(alloc: Global, count: usize) -> Result<String, AllocError> {
+    let mut file = String::new(alloc);
+    for _ in 0..count {
+        file.push_str("@daily\n")?;
+    }
+    Ok(file)
+}
+
+/// The lines of a file: the varied ones.
+fn varied_file(alloc: Global) -> Result<String, AllocError> {
+    let mut file = String::new(alloc);
+    for line in varied_lines(alloc)?.as_slice() {
+        file.push_str(line.as_str())?;
+        file.push_str("\n")?;
+    }
+    Ok(file)
+}
+
+/// Whether each line of a file is read.
+fn are_read(alloc: Global, mode: &Mode<'_>, file: &str) -> bool {
+    let mut room = [0_u8; 64];
+    let mut out = Watched::new(Cursor::new(room.as_mut_slice()));
+    let mut reader = file.as_bytes();
+    check(alloc, mode, &mut reader, &mut out) == Outcome::AllRead
+}
+
+/// Prints the least cost in 15 rounds of a line of a file, each of which is read.
+fn time_check(
+    rt: &HostRuntime,
+    name: &str,
+    mode: &Mode<'_>,
+    file: &str,
+    lines: usize,
+) -> io::Result<()> {
+    let mut best = u128::MAX;
+    for _ in 0..15 {
+        let begun = Instant::now(rt)?;
+        if !are_read(rt.alloc(), mode, file) {
+            return println!(rt; "lines | {name} | refused");
+        }
+        best = best.min(begun.elapsed(rt)?.as_nanos());
+    }
+    print_cost(rt, name, best, lines)
+}
+
+/// Prints what a line of a file costs that is checked: of varied ones, and of more and more short ones.
+pub fn run(rt: &HostRuntime) -> io::Result<()> {
+    let words: Vec<String> = Vec::new(rt.alloc());
+    let Some(request) = request_of(words.as_slice()) else {
+        return Ok(());
+    };
+    let varied = varied_file(rt.alloc())?;
+    time_check(rt, "checked", &request.mode, varied.as_str(), LINES)?;
+    for (name, count) in SHORT_LINES {
+        let short = short_file(rt.alloc(), count)?;
+        time_check(rt, name, &request.mode, short.as_str(), count)?;
+    }
+    Ok(())
+}
