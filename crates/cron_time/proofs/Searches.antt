@@ -15,6 +15,7 @@ pub mod DayLemmas
 pub mod LastDayLemmas
 pub mod WeekLemmas
 pub mod MonthDayLemmas
+pub mod LeapLemmas
 pub mod DaysPastLemmas
 pub mod TimeOfDayLemmas
 pub mod NearestTimeLemmas

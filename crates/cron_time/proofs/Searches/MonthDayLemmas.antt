@@ -1,5 +1,5 @@
 -- The days of a month whose dates match: by the bits of a word, by their ranks and by their numbers.
-use Rattle.std.proofs.Common.{◌≡◌, ℕ, zero, suc, ◌+◌, ◌-◌, ◌*◌, ◌/◌, ◌%◌, ◌<◌, ◌≤◌, ◌&&◌, ◌||◌, true, false, nat_lt, nat_le, nat_eq, Bool, ℤ, pos, Option, Some, None, option_map, IfSome, refl, sym, ap, subst, ◌∙◌, inl, inr, arith, bit_and}
+use Rattle.std.proofs.Common.{◌≡◌, ℕ, zero, suc, ◌+◌, ◌-◌, ◌*◌, ◌/◌, ◌%◌, ◌<◌, ◌≤◌, ◌&&◌, ◌||◌, true, false, nat_lt, nat_le, nat_eq, Bool, ℤ, pos, Option, option_map, IfSome, refl, sym, ap, subst, ◌∙◌, inl, inr, arith, bit_and}
 use Rattle.std.proofs.lemmas.Bool.{both_ways, cases_Bool, cases_eq, and_parts, cases_lt, lt-ltb, le-ltb, leb-true, le-leb, lt-leb, eq-eqb, ne_eqb}
 use Rattle.jiff_core.proofs.SignedLemmas.{signed_arith}
 use Rattle.jiff_core.proofs.CalendarLemmas.{days_in_month_bounds}
@@ -15,7 +15,7 @@ use Rattle.cron_moments.specs.CivilDates.{date_numbered}
 use Rattle.cron_moments.proofs.DateLemmas.{epoch_at}
 use Rattle.cron_moments.proofs.MarchLemmas.{IsMade, lacking_at, made_from, number_on}
 use Rattle.cron_moments.proofs.NumberLemmas.{number_is, weekday_by_number}
-use Rattle.cron_time.specs.Search.Inner.Blocks.{IsSplit, Reaches, ReachesIfAny, AllFail}
+use Rattle.cron_time.specs.Search.Inner.Blocks.{IsSplit, Reaches, AllFail}
 use Rattle.cron_time.specs.Search.Inner.Days.{day_rank, has_number, number_of, IsInRange}
 use Rattle.cron_time.specs.Search.Inner.Inquired.{outermost}
 use Rattle.cron_time.specs.Search.Inner.MonthDays.{AreDaysOf, KnowsDays, has_matching, matches_ranked, matches_weekday, matching_day}
@@ -23,7 +23,7 @@ use Rattle.cron_time.specs.Search.Inner.Numbers.{beyond, matches_day, matches_mo
 use Rattle.cron_time.specs.Matches.{has_day, matches_date}
 use Rattle.cron_time.specs.declared.search.days.Day.{Day}
 use Rattle.cron_time.specs.declared.search.month_days.MonthDays.{MonthDays}
-use Rattle.cron_time.proofs.Searches.BlockLemmas.{both_split, BlockFails, precedes_split, reach_end, reach_next}
+use Rattle.cron_time.proofs.Searches.BlockLemmas.{both_split, BlockFails, precedes_split}
 use Rattle.cron_time.proofs.Searches.DayLemmas.{by_numbers, candidate_rank, own_month, past_rank, rank_past}
 use Rattle.cron_time.proofs.Searches.LastDayLemmas.{marked_day}
 use Rattle.cron_time.proofs.Searches.WayLemmas.{lies_self}
@@ -164,18 +164,6 @@ pub own_fails : (way : Way) (s : Sets) (month place : ℕ) → place < 31
     → BlockFails way 100 (matches_ranked s) (beyond way (rank month (place + 1))) month
 own_fails way s month place small none n lies e =
     fails_in s month n e (by_place s month (n % 100) (λ k f. none k (own_rest way month place n k small lies e f)))
-
--- where none is left in the own month, a search goes on with the next month that lies in the sets
-pub own_next : (way : Way) (s : Sets) (month place : ℕ) (next : Option ℕ) → place < 31 → matches_month s month ≡ true
-    → ((k : ℕ) → LiesFrom way (beyond way place) k → has_matching s month (k + 1) ≡ false)
-    → IsNearest way (matches_month s) (beyond way month) next
-    → ReachesIfAny way 100 (matches_month s) (matches_ranked s) (beyond way (rank month (place + 1))) (beyond way month) next
-own_next way s month place None small h none far =
-    reach_end way 100 _ _ _ _ month (split_matching s).block_fails (own_reached way s month place small h) (own_fails way s month place small none) far
-own_next way s month place (Some next) small h none near =
-    let r = reach_next way 100 _ _ _ _ month next (split_matching s).block_fails (own_reached way s month place small h)
-    (own_fails way s month place small none) near in
-    record { block = r.block; lies = near.lies; failed = r.failed }
 
 -- within the own month
 own_lies : (way : Way) (month place next : ℕ) → LiesFrom way (beyond way place) next

@@ -7,3 +7,4 @@ pub mod Starts
 pub mod Inquired
 pub mod Filled
 pub mod MonthDays
+pub mod LeapDays

@@ -18,6 +18,7 @@ ghost use Rattle.cron_time.specs.Search.{IsFound};
 pub(crate) mod days;
 pub mod found;
 pub(crate) mod inquiry;
+mod leap_days;
 pub mod month_days;
 mod neighbours;
 pub mod onward;

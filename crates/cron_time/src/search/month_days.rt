@@ -11,11 +11,13 @@ ghost use Rattle.cron_moments.specs.CivilDates.{date_numbered};
 ghost use Rattle.cron_time.specs.Matches.{matches_date};
 ghost use Rattle.cron_time.specs.Search.Inner.Days.{day_rank, IsInRange};
 ghost use Rattle.cron_time.specs.Search.Inner.Inquired.{outermost};
-ghost use Rattle.cron_time.specs.Search.Inner.MonthDays.{AreDaysOf, KnowsDays, matches_ranked, matching_day};
+ghost use Rattle.cron_time.specs.Search.Inner.MonthDays.{AreDaysOf, KnowsDays, LeadsOn, matches_ranked, matching_day};
 ghost use Rattle.cron_time.specs.Search.Inner.Numbers.{beyond, matches_day, matches_month, way_of};
 
 use crate::search::days::{Day, month_past};
 use crate::search::inquiry::Inquiry;
+use crate::search::leap_days::{leap_february, wants_leap_days};
+use crate::search::neighbours::{Months, Neighbours};
 use cron_bits::words::Words;
 use cron_moments::calendar::{KnownMonth, length_of};
 use cron_units::fields::ScheduleFields;
@@ -58,16 +60,20 @@ fn weekdays_from(fields: &ScheduleFields, day: u32) -> u64
     eight >> ((day + 4) % 7)
 }
 
-// The month past one that lies in the sets. It asks no zone.
+// A month past one that lies in the sets. Where 29 February alone is wanted, the years between two leap
+// years are passed. It asks no zone.
 #[inline(always)]
 fn next_month(fields: &ScheduleFields, way: Way, month: u32) -> Option<u32>
     requires range { (first_month ≤ month) × (month < months_end) }
     requires matching { matches_month fields.now month ≡ true }
-    ensures nearest { IsNearest way (matches_month fields.now) (beyond way month) result }
+    ensures leads { LeadsOn way fields.now month result }
     ensures bound { IfSome result (λ n. (first_month ≤ n) × (n < months_end)) }
 {
     let zone = TimeZone::UTC;
     let mut inquiry = Inquiry::new(fields, &zone);
+    if wants_leap_days(fields) {
+        return Months::nearest(&mut inquiry, way, leap_february(way, month));
+    }
     month_past(&mut inquiry, way, month)
 }
 

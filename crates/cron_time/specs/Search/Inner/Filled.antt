@@ -9,7 +9,7 @@ use Rattle.cron_time.specs.Search.Inner.Numbers.{matches_month, matches_rest, ma
 use Rattle.cron_moments.specs.Calendar.{months_end}
 
 -- a member of a filtered stretch lies in the stretch
-within : (p : ℕ → Bool) (a n x : ℕ) → contains (filter p (range_with_len a n)) x ≡ true → (a ≤ x) × (x < a + n)
+pub within : (p : ℕ → Bool) (a n x : ℕ) → contains (filter p (range_with_len a n)) x ≡ true → (a ≤ x) × (x < a + n)
 within p a zero x h = cc
 within p a (suc n) x h =
     elim (p a) as (λ b. contains (cond b (a ∷ filter p (range_with_len (a + 1) n)) (filter p (range_with_len (a + 1) n))) x ≡ true

@@ -1,13 +1,15 @@
 -- The days of a month whose dates match, and the days of the range whose dates do.
-use Rattle.std.specs.Prelude.{◌≡◌, ℕ, ◌+◌, ◌/◌, ◌%◌, ◌⊎◌, Bool, ◌&&◌, nat_le, nat_lt}
+use Rattle.std.specs.Prelude.{◌≡◌, ℕ, ◌+◌, ◌/◌, ◌%◌, ◌⊎◌, Bool, true, false, ◌&&◌, nat_le, nat_lt, Option, MatchOption}
 use Rattle.cron_bits.specs.Words.{has_bit}
+use Rattle.cron_units.specs.declared.way.Way.{Way}
+use Rattle.cron_units.specs.Nearest.{LiesFrom, Precedes}
 use Rattle.cron_units.specs.Sets.{Sets}
 use Rattle.cron_units.specs.Units.{contains}
 use Rattle.cron_moments.specs.Calendar.{day_number, weekday_number}
 use Rattle.cron_moments.specs.Civil.{days_in_range}
 use Rattle.cron_moments.specs.CivilDates.{date_numbered}
 use Rattle.cron_time.specs.Matches.{matches_date}
-use Rattle.cron_time.specs.Search.Inner.Numbers.{matches_day, matches_month}
+use Rattle.cron_time.specs.Search.Inner.Numbers.{beyond, matches_day, matches_month}
 use Rattle.cron_time.specs.declared.search.month_days.MonthDays.{MonthDays}
 
 -- the day of the week of a day of a month lies in its set
@@ -33,3 +35,17 @@ AreDaysOf s m = (k : ℕ) → has_bit m.days k ≡ has_matching s m.month (k + 1
 -- so they do, or no bit is 1
 abbrev pub KnowsDays : Sets → MonthDays → Type 0
 KnowsDays s m = (m.days ≡ 0) ⊎ AreDaysOf s m
+
+-- no day of the month has a date that matches
+abbrev pub IsBare : Sets → ℕ → Type 0
+IsBare s month = (day : ℕ) → (matches_month s month && has_matching s month day) ≡ false
+
+-- a month past another lies in the sets, and those between them are bare
+pub record IsNextMonth (way : Way) (s : Sets) (month next : ℕ) : Type 0 where
+  pub wanted : matches_month s next ≡ true
+  pub lies : LiesFrom way (beyond way month) next
+  pub between : (k : ℕ) → LiesFrom way (beyond way month) k → Precedes way k next → IsBare s k
+
+-- or there is none, and all past it are bare
+abbrev pub LeadsOn : Way → Sets → ℕ → Option ℕ → Type 0
+LeadsOn way s month next = MatchOption next ((k : ℕ) → LiesFrom way (beyond way month) k → IsBare s k) (IsNextMonth way s month)

@@ -1,13 +1,13 @@
 use Rattle.std.proofs.Common.{◌+◌, inr, sym, ◌∙◌, arith}
-use Rattle.cron_time.proofs.Searches.BlockLemmas.{reach_on}
-use Rattle.cron_time.proofs.Searches.MonthDayLemmas.{bits_nearest, longest_31, matching_fits, month_fails, month_found, own_next, split_matching}
+use Rattle.cron_time.proofs.Searches.LeapLemmas.{leads_reach, own_next}
+use Rattle.cron_time.proofs.Searches.MonthDayLemmas.{bits_nearest, longest_31, matching_fits, month_fails, month_found}
 use Rattle.cron_time.proofs.search.month_days.MonthDays.months_past.Goals as goal
 
 pub loop-next-init : goal.loop-next-init
 loop-next-init c = record {
   known = inr c.requires.days;
   reached = own_next c.args.way c.args.fields.now c.args.self.now.month c.args.place c.next_month-next.result c.requires.bound c.requires.month
-      (λ k lies. sym (c.requires.days k) ∙ c.requires.none k lies) (rw c.number.ensures.number at c.next_month-next.ensures.nearest);
+      (λ k lies. sym (c.requires.days k) ∙ c.requires.none k lies) (rw c.number.ensures.number at c.next_month-next.ensures.leads);
   bound = c.next_month-next.ensures.bound;
 }
 
@@ -32,9 +32,9 @@ loop-next-preserved c =
     let none = rw c.in_default-first_bit.is at c.first_bit.ensures in
     record {
       known = c.loop-next.invariant.known;
-      reached = reach_on c.args.way 100 _ _ _ _ c.in-Some.month c.next_month-next-in-Some.result (split_matching c.args.fields.now).block_fails
+      reached = leads_reach c.args.way c.args.fields.now _ _ c.in-Some.month c.next_month-next-in-Some.result
           (rw c.in-Some.is at c.loop-next.invariant.reached)
           (month_fails c.args.way c.args.fields.now c.in-Some.month _ (λ k lies. sym (days k) ∙ none k lies))
-          c.next_month-next-in-Some.ensures.nearest;
+          c.next_month-next-in-Some.ensures.leads;
       bound = c.next_month-next-in-Some.ensures.bound;
     }

@@ -1,0 +1,10 @@
+-- Sets of which 29 February alone can match.
+use Rattle.std.specs.Prelude.{◌≡◌, ℕ, ◌<◌, true, false}
+use Rattle.cron_units.specs.Sets.{Sets}
+use Rattle.cron_units.specs.Units.{contains}
+
+-- of the months February alone, and no day that February has in each year
+pub record WantsLeapDays (s : Sets) : Type 0 where
+  pub months : (m : ℕ) → contains s.months m ≡ true → m ≡ 2
+  pub days : (d : ℕ) → d < 29 → contains s.days_of_month.ordinals d ≡ false
+  pub unmarked : s.days_of_month.last_day ≡ false
