@@ -16,6 +16,8 @@ pub mod LastDayLemmas
 pub mod WeekLemmas
 pub mod MonthDayLemmas
 pub mod LeapLemmas
+pub mod EachDateLemmas
+pub mod OnwardLemmas
 pub mod DaysPastLemmas
 pub mod TimeOfDayLemmas
 pub mod NearestTimeLemmas

@@ -1,10 +1,12 @@
 -- The civil datetimes that lie in the seven sets of a schedule.
-use Rattle.std.specs.Prelude.{ℕ, ◌==◌, ℤ, pos, negsuc, Bool, false, ◌&&◌, ◌||◌, List}
+use Rattle.std.specs.Prelude.{◌≡◌, ℕ, ◌<◌, ◌==◌, ℤ, pos, negsuc, Bool, true, false, ◌&&◌, ◌||◌, List}
 use Rattle.jiff_core.specs.declared.civil.date.Date.{Date}
 use Rattle.jiff_core.specs.declared.civil.time.Time.{Time}
 use Rattle.jiff_core.specs.declared.civil.datetime.DateTime.{DateTime}
 use Rattle.jiff_core.specs.Calendar.{days_in_month}
 use Rattle.cron_moments.specs.Calendar.{weekday_number}
+use Rattle.cron_moments.specs.Civil.{days_in_range}
+use Rattle.cron_moments.specs.CivilDates.{date_numbered}
 use Rattle.cron_units.specs.Sets.{Sets}
 use Rattle.cron_units.specs.Units.{FieldSet, contains}
 
@@ -28,6 +30,10 @@ is_candidate s d = contains_year s.years d.year && contains s.months d.month && 
 -- the day of the week lies in its set too
 abbrev pub matches_date : Sets → Date → Bool
 matches_date s d = is_candidate s d && contains s.days_of_week (weekday_number d)
+
+-- each date of the range does
+abbrev pub IncludesEachDate : Sets → Type 0
+IncludesEachDate s = (day : ℕ) → day < days_in_range → matches_date s (date_numbered day).0 ≡ true
 
 -- hour, minute and second lie in their sets
 abbrev pub matches_time : Sets → Time → Bool

@@ -1,10 +1,14 @@
 //! Which dates and times lie in the seven sets.
 
-ghost use Rattle.std.specs.Prelude.{◌≡◌};
-ghost use Rattle.cron_time.specs.Matches.{matches, is_candidate, matches_date, matches_day_of_month, matches_time};
+ghost use Rattle.std.specs.Prelude.{◌≡◌, ℕ, ◌+◌, ◌<◌, ◌≤◌, true};
+ghost use Rattle.cron_bits.specs.Words.{has_bit};
+ghost use Rattle.cron_units.specs.Units.{contains};
+ghost use Rattle.cron_time.specs.Matches.{IncludesEachDate, matches, is_candidate, matches_date, matches_day_of_month, matches_time};
 
+use cron_bits::words::Words;
 use cron_units::fields::ScheduleFields;
 use cron_units::time_unit::TimeUnitSpec;
+use cron_units::time_unit::layout::{bits, bits_of_days, three};
 use jiff::civil::{Date, DateTime, Time};
 
 // Whether the day of the month lies in its set: by its number, or as the last day of its month.
@@ -49,4 +53,45 @@ pub fn includes(fields: &ScheduleFields, date_time: DateTime) -> bool
     ensures { result ≡ matches fields.now date_time }
 {
     includes_date(fields, date_time.date()) && includes_time(fields, date_time.time())
+}
+
+// Whether so many bits are 1, and no others.
+#[inline(always)]
+fn is_full(word: u64, count: u32) -> bool
+    requires { count ≤ 64 }
+    ensures { result ≡ true → (k : ℕ) → k < count → has_bit word k ≡ true }
+{
+    word == u64::full().below(count)
+}
+
+// Whether each year of the range lies in its set.
+#[inline(always)]
+fn includes_each_year(fields: &ScheduleFields) -> bool
+    ensures { result ≡ true → (k : ℕ) → k < 131 → contains fields.now.years (1970 + k) ≡ true }
+{
+    let (first, second, third) = three(&fields.years);
+    if !is_full(first, 64) {
+        return false;
+    }
+    if !is_full(second, 64) {
+        return false;
+    }
+    is_full(third, 3)
+}
+
+/// Whether each date of the range lies in the four sets of dates, since each of them is whole.
+#[inline(always)]
+pub(crate) fn includes_each_date(fields: &ScheduleFields) -> bool
+    ensures { result ≡ true → IncludesEachDate fields.now }
+{
+    if !is_full(bits_of_days(&fields.days_of_month), 31) {
+        return false;
+    }
+    if !is_full(bits(&fields.months), 12) {
+        return false;
+    }
+    if !is_full(bits(&fields.days_of_week), 7) {
+        return false;
+    }
+    includes_each_year(fields)
 }

@@ -65,7 +65,7 @@ block_past Back w m positive n lies =
     ]
 
 -- and the numbers of these blocks lie past it
-past_block : (way : Way) (w m n : ℕ) → 0 < w → Precedes way m (n / w) → LiesFrom way (beyond_block way w m) n
+pub past_block : (way : Way) (w m n : ℕ) → 0 < w → Precedes way m (n / w) → LiesFrom way (beyond_block way w m) n
 past_block Ahead w m n positive lt =
     let more = mul-le (m + 1) w (n / w) w (omega arith) (omega arith) in omega (arith, signed_arith, div-add-mod' n w, more)
 past_block Back w m n positive gt =

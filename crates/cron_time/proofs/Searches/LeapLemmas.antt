@@ -11,16 +11,16 @@ use Rattle.cron_units.specs.declared.way.Way.TheVariants.{Ahead, Back}
 use Rattle.cron_units.specs.Nearest.{LiesFrom, Precedes, IsNearest}
 use Rattle.cron_units.specs.Sets.{Sets}
 use Rattle.cron_units.specs.Units.{contains, days_of_month, months, set_of, whole}
-use Rattle.cron_moments.specs.Calendar.{length_of, month_of, rank, year_of}
+use Rattle.cron_moments.specs.Calendar.{length_of, month_of, year_of}
 use Rattle.cron_time.specs.Matches.{has_day}
 use Rattle.cron_time.specs.Search.Inner.Blocks.{Reaches, ReachesIfAny}
 use Rattle.cron_time.specs.Search.Inner.Filled.{within}
 use Rattle.cron_time.specs.Search.Inner.LeapDays.{WantsLeapDays}
 use Rattle.cron_time.specs.Search.Inner.MonthDays.{IsBare, LeadsOn, has_matching, matches_ranked, matches_weekday}
-use Rattle.cron_time.specs.Search.Inner.Numbers.{beyond, matches_day, matches_month}
+use Rattle.cron_time.specs.Search.Inner.Numbers.{beyond, beyond_block, matches_day, matches_month}
 use Rattle.cron_time.proofs.Searches.BlockLemmas.{BlockFails}
 use Rattle.cron_time.proofs.Searches.DayLemmas.{by_number_alone}
-use Rattle.cron_time.proofs.Searches.MonthDayLemmas.{matching_fits, own_fails, own_reached}
+use Rattle.cron_time.proofs.Searches.MonthDayLemmas.{matching_fits}
 use Rattle.cron_time.proofs.Searches.WayLemmas.{side, before, same, after, lies_past, lies_or_before}
 
 -- ---- months past one another
@@ -35,6 +35,10 @@ nearest_leads way s month (Some n) h =
 
 bare_fails : (s : Sets) (n : ℕ) → IsBare s (n / 100) → matches_ranked s n ≡ false
 bare_fails s n bare = bare (n % 100)
+
+past_month : (way : Way) (month n : ℕ) → LiesFrom way (beyond_block way 100 month) n → LiesFrom way (beyond way month) (n / 100)
+past_month Ahead month n h = omega (arith, signed_arith)
+past_month Back month n h = omega (arith, signed_arith)
 
 -- a search that has come to a month goes on where it leads
 pub leads_reach : (way : Way) (s : Sets) (start first : ℤ) (month : ℕ) (next : Option ℕ)
@@ -56,15 +60,15 @@ leads_reach way s start first month (Some next) reached here h = record {
   ];
 }
 
--- where none is left in the own month, a search goes on where it leads
-pub own_next : (way : Way) (s : Sets) (month place : ℕ) (next : Option ℕ) → place < 31 → matches_month s month ≡ true
-    → ((k : ℕ) → LiesFrom way (beyond way place) k → has_matching s month (k + 1) ≡ false) → LeadsOn way s month next
-    → ReachesIfAny way 100 (matches_month s) (matches_ranked s) (beyond way (rank month (place + 1))) (beyond way month) next
-own_next way s month place None small h none far =
-    leads_reach way s _ _ month None (own_reached way s month place small h) (own_fails way s month place small none) far
-own_next way s month place (Some next) small h none near =
-    let r = leads_reach way s _ _ month (Some next) (own_reached way s month place small h) (own_fails way s month place small none) near in
-    record { block = r.block; lies = near.lies; failed = r.failed }
+-- past a month a search comes to where it leads
+pub leads_start : (way : Way) (s : Sets) (month : ℕ) (next : Option ℕ) → LeadsOn way s month next
+    → ReachesIfAny way 100 (matches_month s) (matches_ranked s) (beyond_block way 100 month) (beyond way month) next
+leads_start way s month None h = λ n lies. bare_fails s n (h (n / 100) (past_month way month n lies))
+leads_start way s month (Some next) h = record {
+  block = h.wanted;
+  lies = h.lies;
+  failed = λ n lies early. bare_fails s n (h.between (n / 100) (past_month way month n lies) early);
+}
 
 -- ---- 29 February alone
 

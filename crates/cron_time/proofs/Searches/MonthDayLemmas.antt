@@ -1,10 +1,11 @@
 -- The days of a month whose dates match: by the bits of a word, by their ranks and by their numbers.
-use Rattle.std.proofs.Common.{◌≡◌, ℕ, zero, suc, ◌+◌, ◌-◌, ◌*◌, ◌/◌, ◌%◌, ◌<◌, ◌≤◌, ◌&&◌, ◌||◌, true, false, nat_lt, nat_le, nat_eq, Bool, ℤ, pos, Option, option_map, IfSome, refl, sym, ap, subst, ◌∙◌, inl, inr, arith, bit_and}
+use Rattle.std.proofs.Common.{◌≡◌, ℕ, zero, suc, ◌+◌, ◌-◌, ◌*◌, ◌/◌, ◌%◌, ◌^◌, ◌<◌, ◌≤◌, ◌&&◌, ◌||◌, true, false, nat_lt, nat_le, nat_eq, Bool, ℤ, pos, Option, option_map, IfSome, refl, sym, ap, subst, ◌∙◌, inl, inr, arith, bit_and}
 use Rattle.std.proofs.lemmas.Bool.{both_ways, cases_Bool, cases_eq, and_parts, cases_lt, lt-ltb, le-ltb, leb-true, le-leb, lt-leb, eq-eqb, ne_eqb}
 use Rattle.jiff_core.proofs.SignedLemmas.{signed_arith}
 use Rattle.jiff_core.proofs.CalendarLemmas.{days_in_month_bounds}
 use Rattle.cron_bits.specs.Words.{has_bit}
-use Rattle.cron_bits.proofs.WordLemmas.{bit_and_test, bit_none}
+use Rattle.cron_bits.proofs.Doubling.{shifted}
+use Rattle.cron_bits.proofs.WordLemmas.{bit_and_test, bit_none, bit_past}
 use Rattle.cron_units.specs.declared.way.Way.{Way}
 use Rattle.cron_units.specs.declared.way.Way.TheVariants.{Ahead, Back}
 use Rattle.cron_units.specs.Nearest.{LiesFrom, Precedes, IsNearest, IsNearestAt}
@@ -19,12 +20,12 @@ use Rattle.cron_time.specs.Search.Inner.Blocks.{IsSplit, Reaches, AllFail}
 use Rattle.cron_time.specs.Search.Inner.Days.{day_rank, has_number, number_of, IsInRange}
 use Rattle.cron_time.specs.Search.Inner.Inquired.{outermost}
 use Rattle.cron_time.specs.Search.Inner.MonthDays.{AreDaysOf, KnowsDays, has_matching, matches_ranked, matches_weekday, matching_day}
-use Rattle.cron_time.specs.Search.Inner.Numbers.{beyond, matches_day, matches_month, matches_rank}
+use Rattle.cron_time.specs.Search.Inner.Numbers.{beyond, beyond_block, matches_day, matches_month, matches_rank}
 use Rattle.cron_time.specs.Matches.{has_day, matches_date}
 use Rattle.cron_time.specs.declared.search.days.Day.{Day}
 use Rattle.cron_time.specs.declared.search.month_days.MonthDays.{MonthDays}
 use Rattle.cron_time.proofs.Searches.BlockLemmas.{both_split, BlockFails, precedes_split}
-use Rattle.cron_time.proofs.Searches.DayLemmas.{by_numbers, candidate_rank, own_month, past_rank, rank_past}
+use Rattle.cron_time.proofs.Searches.DayLemmas.{by_numbers, candidate_rank, lies_rank, own_month, past_rank, rank_lies, rank_past}
 use Rattle.cron_time.proofs.Searches.LastDayLemmas.{marked_day}
 use Rattle.cron_time.proofs.Searches.WayLemmas.{lies_self}
 
@@ -105,6 +106,29 @@ matching_fits s month day h =
     let day_in = and_parts (matches_day s month day) (matches_weekday s month day) parts.1 in
     (leb-true 1 day parts.0, fits_month s month day day_in.0)
 
+-- the same bits by the numbers of the days
+pub bit_by_day : (s : Sets) (month word day : ℕ) → ((k : ℕ) → has_bit word k ≡ has_matching s month (k + 1))
+    → has_bit (word * 2 ^ 1 % 2 ^ 64) day ≡ has_matching s month day
+bit_by_day s month word day days =
+    elim (cases_lt day 64) [
+      | inl l ↦ shifted word 1 day l ∙ by_day (nat_le 1 day) refl
+      | inr g ↦ bit_past (word * 2 ^ 1 % 2 ^ 64) day g ∙ sym (too_late (has_matching s month day) g refl)
+    ]
+  where
+    by_day : (b : Bool) → nat_le 1 day ≡ b → (b && has_bit word (day - 1)) ≡ has_matching s month day
+    by_day false e = rw e refl
+    by_day true e =
+        let some : 1 ≤ day = leb-true 1 day e in
+        let is : day - 1 + 1 ≡ day = omega arith in
+        days (day - 1) ∙ ap (has_matching s month) is
+
+    too_late : (b : Bool) → 64 ≤ day → has_matching s month day ≡ b → has_matching s month day ≡ false
+    too_late false g e = e
+    too_late true g e =
+        let fits = matching_fits s month day e in
+        let short = longest_31 month in
+        absurd (omega (arith, fits, short))
+
 -- a day whose bit is 1 has its place in the month that is known
 pub known_place : (s : Sets) (m : MonthDays) (day place : ℕ) → first_month ≤ m.month → m.month < months_end → KnowsDays s m
     → has_bit m.days place ≡ true → day ≡ day_number m.month 1 + place
@@ -137,6 +161,12 @@ own_reached way s month place small h = record {
   lies = lies_self way month;
   failed = λ n lies early. absurd (own_early way month place n small lies early);
 }
+
+-- what lies past the month lies past its days
+pub own_out : (way : Way) (month place n : ℕ) → place < 31 → LiesFrom way (beyond_block way 100 month) n
+    → LiesFrom way (beyond way (rank month (place + 1))) n
+own_out Ahead month place n small h = omega (arith, signed_arith)
+own_out Back month place n small h = omega (arith, signed_arith)
 
 own_rest : (way : Way) (month place n k : ℕ) → place < 31 → LiesFrom way (beyond way (rank month (place + 1))) n → n / 100 ≡ month → n % 100 ≡ k + 1
     → LiesFrom way (beyond way place) k
@@ -207,26 +237,26 @@ pub month_fails : (way : Way) (s : Sets) (month : ℕ) (start : ℤ)
 month_fails way s month start none n lies e =
     fails_in s month n e (by_place s month (n % 100) (λ k f. none k (all_places way n k f)))
 
-later_lies : (way : Way) (month place later next : ℕ) → place < 31 → next < 31 → LiesFrom way (beyond way month) later
-    → LiesFrom way (beyond way (rank month (place + 1))) (later * 100 + (next + 1))
-later_lies Ahead month place later next small less h = omega (arith, signed_arith)
-later_lies Back month place later next small less h = omega (arith, signed_arith)
+later_lies : (way : Way) (month later next : ℕ) → next < 31 → LiesFrom way (beyond way month) later
+    → LiesFrom way (beyond_block way 100 month) (later * 100 + (next + 1))
+later_lies Ahead month later next less h = omega (arith, signed_arith)
+later_lies Back month later next less h = omega (arith, signed_arith)
 
 rest_before : (way : Way) (next n k : ℕ) → n % 100 ≡ k + 1 → Precedes way (n % 100) (next + 1) → Precedes way k next
 rest_before Ahead next n k f lt = omega arith
 rest_before Back next n k f gt = omega arith
 
-pub month_found : (way : Way) (s : Sets) (month place later next : ℕ) → place < 31
-    → Reaches way 100 (matches_month s) (matches_ranked s) (beyond way (rank month (place + 1))) (beyond way month) later
+pub month_found : (way : Way) (s : Sets) (month later next : ℕ)
+    → Reaches way 100 (matches_month s) (matches_ranked s) (beyond_block way 100 month) (beyond way month) later
     → IsNearestAt way (λ k. has_matching s later (k + 1)) (pos (outermost way 100)) next
-    → IsNearestAt way (matches_ranked s) (beyond way (rank month (place + 1))) (rank later (next + 1))
-month_found way s month place later next small reached found =
+    → IsNearestAt way (matches_ranked s) (beyond_block way 100 month) (rank later (next + 1))
+month_found way s month later next reached found =
     let fits = matching_fits s later (next + 1) found.passes in
     let short = longest_31 later in
     let less : next < 31 = omega (arith, fits, short) in
     record {
       passes = (split_matching s).passes later (next + 1) (omega arith) reached.block found.passes;
-      lies = later_lies way month place later next small less reached.lies;
+      lies = later_lies way month later next less reached.lies;
       nearest = λ n lies early. elim (precedes_split way 100 later (next + 1) n (omega arith) early) [
         | inl b ↦ reached.failed n lies b
         | inr (e, b) ↦ fails_in s later n e (by_place s later (n % 100) (λ k f.
@@ -237,12 +267,12 @@ month_found way s month place later next small reached found =
 -- ---- by numbers
 
 -- the month and the day of a number
-record Dated (number : ℕ) : Type 0 where
-  month : ℕ
-  day : ℕ
-  is : IsMade number month day
+pub record Dated (number : ℕ) : Type 0 where
+  pub month : ℕ
+  pub day : ℕ
+  pub is : IsMade number month day
 
-dated : (number : ℕ) → number < 47_847 → Dated number
+pub dated : (number : ℕ) → number < 47_847 → Dated number
 dated number h =
     let lacking = lacking_at number in
     let years = (4 * (number + 306 + lacking) + 2) / 1461 in
@@ -289,6 +319,16 @@ matching_past way s day month place found small e range h =
     let P : ℕ → Type 0 = λ p. IsNearest way (matches_ranked s) (beyond way p) (option_map day_rank found) in
     by_numbers way (matches_ranked s) (λ n. matches_date s (date_numbered n).0) _ _ found (matching_rank s) (ranked_fits s)
     (λ j lt lies. past_rank way day j small lt lies) (λ j lt lies. rank_past way day j small lt lies) range (subst P e h)
+
+-- the nearest one from a day on, by numbers
+pub matching_from : (way : Way) (s : Sets) (day : ℕ) (start : Day) (found : Option Day) → day < 47_847
+    → day_rank start ≡ rank_of_date (date_numbered day).0 → IfSome found IsInRange
+    → IsNearest way (matches_ranked s) (pos (day_rank start)) (option_map day_rank found)
+    → IsNearest way (matching_day s) (pos day) (option_map number_of found)
+matching_from way s day start found small e range h =
+    let P : ℕ → Type 0 = λ p. IsNearest way (matches_ranked s) (pos p) (option_map day_rank found) in
+    by_numbers way (matches_ranked s) (λ n. matches_date s (date_numbered n).0) _ _ found (matching_rank s) (ranked_fits s)
+    (λ j lt lies. lies_rank way day j small lt lies) (λ j lt lies. rank_lies way day j small lt lies) range (subst P e h)
 
 -- tests that agree
 pub bits_nearest : (way : Way) (p r : ℕ → Bool) (start : ℤ) (n : ℕ) → ((k : ℕ) → p k ≡ r k) → IsNearestAt way p start n → IsNearestAt way r start n

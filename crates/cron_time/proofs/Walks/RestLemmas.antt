@@ -1,5 +1,5 @@
 -- A call takes the first of the items that are still to come in its direction.
-use Rattle.std.proofs.Common.{◌≡◌, ℕ, zero, suc, ◌+◌, ◌/◌, ◌<◌, ℤ, pos, int_le, Bool, false, List, [], ◌∷◌, ◌++◌, drop, take, reverse, length, Option, Some, None, refl, sym, ap, subst, ◌∙◌, arith}
+use Rattle.std.proofs.Common.{◌≡◌, ℕ, zero, suc, ◌+◌, ◌<◌, ℤ, pos, int_le, Bool, false, List, [], ◌∷◌, ◌++◌, drop, take, reverse, length, Option, Some, None, refl, sym, ap, subst, ◌∙◌, arith}
 use Rattle.std.specs.Prelude.{MatchOption, slice_get}
 use Rattle.std.specs.Iterator.{YieldsFirst}
 use Rattle.std.proofs.lemmas.Iterator.{YieldsList}
@@ -21,10 +21,7 @@ use Rattle.cron_time.specs.Walk.Inner.Stand.{Stand}
 use Rattle.cron_time.specs.Walk.Inner.Stand as Kept
 use Rattle.cron_time.proofs.PlaceLemmas.{position-in}
 use Rattle.cron_time.proofs.Walks.StepLemmas.{kept_in, reached_none}
-use Rattle.cron_time.proofs.Searches.DayLemmas.{no_day}
-use Rattle.cron_time.proofs.Searches.StandLemmas.{split_stands}
 use Rattle.cron_time.specs.Search.{stands}
-use Rattle.cron_time.specs.Search.Inner.Numbers.{matches_rank}
 
 -- the step goes from one list of items to come to the next
 abbrev Takes : Way → List Reading → TimeZone → List Reading → Step → Type 0
@@ -162,7 +159,3 @@ start_nowhere way s z t none = by_bound (bound way z t) refl
     by_bound : (b : Option ℤ) → bound way z t ≡ b → IsStop way s z (Start t) Kept.Ended
     by_bound None e = start_ends way s z t e
     by_bound (Some b) e = start_stop way s z t b Kept.Ended e (reached_none way s z b (λ k lies. none k))
-
--- where no month has a day of the set, no civil second stands
-pub nowhere : (s : Sets) (z : TimeZone) → ((p : ℕ) → matches_rank s p ≡ false) → (k : ℕ) → stands s z k ≡ false
-nowhere s z none k = (split_stands s z).block_fails k (no_day s none (k / 86_400))

@@ -12,18 +12,23 @@ ghost use Rattle.cron_time.specs.Matches.{matches_date};
 ghost use Rattle.cron_time.specs.Search.Inner.Days.{day_rank, IsInRange};
 ghost use Rattle.cron_time.specs.Search.Inner.Inquired.{outermost};
 ghost use Rattle.cron_time.specs.Search.Inner.MonthDays.{AreDaysOf, KnowsDays, LeadsOn, matches_ranked, matching_day};
-ghost use Rattle.cron_time.specs.Search.Inner.Numbers.{beyond, matches_day, matches_month, way_of};
+ghost use Rattle.cron_time.specs.Search.Inner.Numbers.{beyond, beyond_block, matches_day, matches_month, way_of};
 
+use crate::matching::includes_each_date;
 use crate::search::days::{Day, month_past};
 use crate::search::inquiry::Inquiry;
 use crate::search::leap_days::{leap_february, wants_leap_days};
 use crate::search::neighbours::{Months, Neighbours};
+use crate::search::ways::{entry, past_below};
 use cron_bits::words::Words;
 use cron_moments::calendar::{KnownMonth, length_of};
 use cron_units::fields::ScheduleFields;
 use cron_units::time_unit::layout::{bits, bits_of_days};
 use cron_units::way::Way;
 use jiff::tz::TimeZone;
+
+/// The end of the days of the range.
+const DAYS: u32 = 47_847;
 
 /// A month, and a bit for each of its days, the first one for the first day: 1 where the date matches.
 /// If no bit is 1, nobody may have looked.
@@ -75,6 +80,30 @@ fn next_month(fields: &ScheduleFields, way: Way, month: u32) -> Option<u32>
         return Months::nearest(&mut inquiry, way, leap_february(way, month));
     }
     month_past(&mut inquiry, way, month)
+}
+
+// The nearest month from one on that lies in the sets. It asks no zone.
+fn wanted_month(fields: &ScheduleFields, way: Way, month: u32) -> Option<u32>
+    requires { month < months_end }
+    ensures nearest { IsNearest way (matches_month fields.now) (pos month) result }
+    ensures bound { IfSome result (λ n. (first_month ≤ n) × (n < months_end)) }
+{
+    let zone = TimeZone::UTC;
+    let mut inquiry = Inquiry::new(fields, &zone);
+    Months::nearest(&mut inquiry, way, month)
+}
+
+// The nearest bit from a place on.
+#[inline(always)]
+fn bit_from(way: Way, word: u64, place: u32) -> Option<u32>
+    requires { place < 100 }
+    ensures nearest { IsNearest way (has_bit word) (pos place) result }
+    ensures bound { IfSome result (λ n. n < 64) }
+{
+    match way {
+        Way::Ahead => word.at_least(place).lowest(),
+        Way::Back => word.below(place + 1).highest(),
+    }
 }
 
 // The nearest bit past a place.
@@ -170,21 +199,17 @@ impl MonthDays {
         }
     }
 
-    // The first matching day of the months past this one, of whose own days none is left.
+    // The first matching day of the months past one that lies in the sets.
     #[inline(always)]
-    fn months_past(&mut self, fields: &ScheduleFields, way: Way, place: u32) -> Option<Day>
-        requires bound { place < 31 }
-        requires month { matches_month fields.now self.old.month ≡ true }
-        requires days { AreDaysOf fields.now self.old }
-        requires none { (k : ℕ) → LiesFrom way (beyond way place) k → has_bit self.old.days k ≡ false }
-        ensures nearest { IsNearest way
-            (matches_ranked fields.now)
-            (beyond way (rank self.old.month (place + 1)))
-            (option_map day_rank result) }
+    fn months_past(&mut self, fields: &ScheduleFields, way: Way, month: u32) -> Option<Day>
+        requires range { (first_month ≤ month) × (month < months_end) }
+        requires matching { matches_month fields.now month ≡ true }
+        requires known { KnowsDays fields.now self.old }
+        ensures nearest { IsNearest way (matches_ranked fields.now) (beyond_block way 100 month) (option_map day_rank result) }
         ensures range { IfSome result (λ d. IsInRange d × (self.new.month ≡ d.month)) }
         ensures known { KnowsDays fields.now self.new }
     {
-        let mut next = next_month(fields, way, self.month.number());
+        let mut next = next_month(fields, way, month);
         while let Some(month) = next {
             let there = MonthDays::of(fields, KnownMonth::numbered(month));
             if let Some(first) = first_bit(way, there.days) {
@@ -218,7 +243,40 @@ impl MonthDays {
                 day: next + 1,
             });
         }
-        self.months_past(fields, way, place)
+        self.months_past(fields, way, self.month.number())
+    }
+
+    // The nearest matching day from one on, by the ranks of the dates.
+    #[inline(always)]
+    fn ranked_from(&mut self, fields: &ScheduleFields, way: Way, from: Day) -> Option<Day>
+        requires in_range { IsInRange from }
+        requires known { KnowsDays fields.now self.old }
+        ensures nearest { IsNearest way (matches_ranked fields.now) (pos (day_rank from)) (option_map day_rank result) }
+        ensures range { IfSome result (λ d. IsInRange d × (self.new.month ≡ d.month)) }
+        ensures known { KnowsDays fields.now self.new }
+    {
+        let month = wanted_month(fields, way, from.month)?;
+        *self = MonthDays::of(fields, self.month.or_numbered(month));
+        let start = entry(way, 100, from.month, from.day, month);
+        if let Some(day) = bit_from(way, self.days << 1, start) {
+            return Some(Day { month, day });
+        }
+        self.months_past(fields, way, month)
+    }
+
+    /// The nearest day from one on whose date matches.
+    pub(crate) fn day_from(&mut self, fields: &ScheduleFields, way: Way, day: u32) -> Option<u32>
+        requires in_range { day < days_in_range }
+        requires known { KnowsDays fields.now self.old }
+        ensures nearest { IsNearest way (matching_day fields.now) (pos day) result }
+        ensures known { KnowsDays fields.now self.new }
+    {
+        if includes_each_date(fields) {
+            return Some(day);
+        }
+        let (month, day) = self.month.month_and_day(day);
+        let next = self.ranked_from(fields, way, Day { month, day })?;
+        Some(self.month.number_of(next.day))
     }
 
     /// The nearest day past one whose date matches.
@@ -230,6 +288,9 @@ impl MonthDays {
         ensures nearest { IsNearest way (matching_day fields.now) (beyond way day) result }
         ensures known { KnowsDays fields.now self.new }
     {
+        if includes_each_date(fields) {
+            return past_below(way, day, DAYS);
+        }
         let place = self.entered(fields, day);
         let next = self.ranked_past(fields, way, place)?;
         Some(self.month.number_of(next.day))

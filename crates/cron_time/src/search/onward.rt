@@ -1,5 +1,5 @@
 //! The nearest civil second past an item, which lies in its own day or in one past it.
-ghost use Rattle.std.specs.Prelude.{◌≡◌, ◌+◌, ◌/◌, ◌%◌, ◌^◌, ◌<◌, ◌≤◌, true, MatchOption, option_map};
+ghost use Rattle.std.specs.Prelude.{◌≡◌, ◌+◌, ◌/◌, ◌%◌, ◌^◌, ◌<◌, ◌≤◌, pos, true, MatchOption, option_map};
 ghost use Rattle.jiff.specs.Words.{plain_zone};
 ghost use Rattle.cron_moments.specs.Civil.{days_in_range, seconds_in_range};
 ghost use Rattle.cron_moments.specs.CivilDates.{date_numbered};
@@ -7,17 +7,18 @@ ghost use Rattle.cron_moments.specs.Found.{found_items};
 ghost use Rattle.cron_clocks.specs.Steady.{IsKnown};
 ghost use Rattle.cron_time.specs.Search.Inner.Blocks.{AllFail};
 ghost use Rattle.cron_time.specs.Search.Inner.DaySearch.{FindsInDay, FindsPastDay, FindsTimePast};
-ghost use Rattle.cron_time.specs.Search.Inner.Inquired.{IsSame, outermost};
+ghost use Rattle.cron_time.specs.Search.Inner.Inquired.{IsSame};
 ghost use Rattle.cron_time.specs.Search.Inner.MonthDays.{KnowsDays};
 ghost use Rattle.cron_time.specs.Search.Inner.Numbers.{beyond, matches_second, stands_at, way_of};
 ghost use Rattle.cron_time.specs.Matches.{matches_date};
 ghost use Rattle.cron_time.specs.Search.{IsFound};
 
+use crate::search::days::some_month_has_a_day;
 use crate::search::inquiry::Inquiry;
 use crate::search::month_days::MonthDays;
 use crate::search::neighbours::{Neighbours, TimesOfDay, time_past};
-use crate::search::ways::{extreme, past};
-use crate::search::{SECONDS_PER_DAY, search_times};
+use crate::search::ways::{entry, extreme, past};
+use crate::search::{SECONDS_PER_DAY, search_times, start_of};
 use cron_clocks::stretch::Stretch;
 use cron_moments::calendar::KnownMonth;
 use cron_moments::readings::Found;
@@ -44,58 +45,60 @@ fn search_times_past(inquiry: &mut Inquiry<'_>, way: Way, day: u32, time: u32) -
     search_times(inquiry, way, day, from, first)
 }
 
-// The times of a day whose date matches, in an inquiry of their own.
+// The times of a day whose date matches from one on, in an inquiry of their own.
 #[inline(always)]
 fn search_day_times(
     fields: &ScheduleFields,
     zone: &TimeZone<'_>,
     way: Way,
     day: u32,
+    from: u32,
     stretch: &mut Stretch,
 ) -> Option<Found>
     requires in_range { day < days_in_range }
+    requires from { from < 86_400 }
     requires matching { matches_date fields.now (date_numbered day).0 ≡ true }
     requires known { IsKnown (plain_zone zone.now) stretch.old }
     ensures found { FindsInDay way
         fields.now
         (plain_zone zone.now)
         day
-        (outermost way 86_400)
+        from
         (option_map found_items result) }
     ensures known { IsKnown (plain_zone zone.now) stretch.new }
 {
     let mut inquiry = Inquiry::knowing(fields, zone, KnownMonth::january_1970(), *stretch);
-    let from = extreme(way, SECONDS_PER_DAY);
     let first = TimesOfDay::nearest(&mut inquiry, way, from);
     let found = search_times(&mut inquiry, way, day, from, first);
     inquiry.hand_on(stretch);
     found
 }
 
-// The days past that of a civil second whose date matches, out of the way of the items of the own day. It
-// begins with the days and the stretch that the search before knew, and leaves those that it knows. `BACK`
-// says the way once more, so that each has code of its own.
+// The days past one whose date matches, out of the way of the items of the own day. It begins with the days
+// and the stretch that the search before knew, and leaves those that it knows. `BACK` says the way once more,
+// so that each has code of its own.
 #[inline(never)]
 fn days_past<const BACK: bool>(
     fields: &ScheduleFields,
     zone: &TimeZone<'_>,
     way: Way,
-    second: u32,
+    own: u32,
     days: &mut MonthDays,
     stretch: &mut Stretch,
 ) -> Option<Found>
     requires tied { way ≡ way_of BACK }
-    requires in_range { second < seconds_in_range }
-    requires matching { matches_date fields.now (date_numbered (second / 86_400)).0 ≡ true }
+    requires in_range { own < days_in_range }
+    requires matching { matches_date fields.now (date_numbered own).0 ≡ true }
     requires days { KnowsDays fields.now days.old }
     requires known { IsKnown (plain_zone zone.now) stretch.old }
-    ensures finds { FindsPastDay way fields.now (plain_zone zone.now) second result }
+    ensures finds { FindsPastDay way fields.now (plain_zone zone.now) own result }
     ensures days { KnowsDays fields.now days.new }
     ensures known { IsKnown (plain_zone zone.now) stretch.new }
 {
-    let mut day = second / SECONDS_PER_DAY;
+    let mut day = own;
     while let Some(next) = days.day_past(fields, way, day) {
-        let found = search_day_times(fields, zone, way, next, stretch);
+        let from = extreme(way, SECONDS_PER_DAY);
+        let found = search_day_times(fields, zone, way, next, from, stretch);
         if found.is_some() {
             return found;
         }
@@ -110,21 +113,21 @@ fn days_past_either_way(
     fields: &ScheduleFields,
     zone: &TimeZone<'_>,
     way: Way,
-    second: u32,
+    own: u32,
     days: &mut MonthDays,
     stretch: &mut Stretch,
 ) -> Option<Found>
-    requires in_range { second < seconds_in_range }
-    requires matching { matches_date fields.now (date_numbered (second / 86_400)).0 ≡ true }
+    requires in_range { own < days_in_range }
+    requires matching { matches_date fields.now (date_numbered own).0 ≡ true }
     requires days { KnowsDays fields.now days.old }
     requires known { IsKnown (plain_zone zone.now) stretch.old }
-    ensures finds { FindsPastDay way fields.now (plain_zone zone.now) second result }
+    ensures finds { FindsPastDay way fields.now (plain_zone zone.now) own result }
     ensures days { KnowsDays fields.now days.new }
     ensures known { IsKnown (plain_zone zone.now) stretch.new }
 {
     match way {
-        Way::Ahead => days_past::<false>(fields, zone, Way::Ahead, second, days, stretch),
-        Way::Back => days_past::<true>(fields, zone, Way::Back, second, days, stretch),
+        Way::Ahead => days_past::<false>(fields, zone, Way::Ahead, own, days, stretch),
+        Way::Back => days_past::<true>(fields, zone, Way::Back, own, days, stretch),
     }
 }
 
@@ -160,5 +163,75 @@ pub fn search_past(
     if found.is_some() {
         return found;
     }
-    days_past_either_way(fields, zone, way, second, days, stretch)
+    days_past_either_way(fields, zone, way, day, days, stretch)
+}
+
+// The days from that of a civil second on: in the first one whose date matches the times from a start on, and
+// then the days past it.
+fn days_from<const BACK: bool>(
+    fields: &ScheduleFields,
+    zone: &TimeZone<'_>,
+    way: Way,
+    start: u32,
+    days: &mut MonthDays,
+    stretch: &mut Stretch,
+) -> Option<Found>
+    requires tied { way ≡ way_of BACK }
+    requires in_range { start < seconds_in_range }
+    requires days { KnowsDays fields.now days.old }
+    requires known { IsKnown (plain_zone zone.now) stretch.old }
+    ensures found { IsFound way fields.now (plain_zone zone.now) (pos start) (option_map found_items result) }
+    ensures days { KnowsDays fields.now days.new }
+    ensures known { IsKnown (plain_zone zone.now) stretch.new }
+{
+    let own = start / SECONDS_PER_DAY;
+    let day = days.day_from(fields, way, own)?;
+    let from = entry(way, SECONDS_PER_DAY, own, start % SECONDS_PER_DAY, day);
+    let found = search_day_times(fields, zone, way, day, from, stretch);
+    if found.is_some() {
+        return found;
+    }
+    days_past::<BACK>(fields, zone, way, day, days, stretch)
+}
+
+/// The nearest one from a number on, with no counts. It begins with the days of a month and the stretch that
+/// an earlier search knew, and leaves those that it knows.
+pub fn search_onward(
+    fields: &ScheduleFields,
+    zone: &TimeZone<'_>,
+    way: Way,
+    from: i64,
+    days: &mut MonthDays,
+    stretch: &mut Stretch,
+) -> Option<Found>
+    requires days { KnowsDays fields.now days.old }
+    requires known { IsKnown (plain_zone zone.now) stretch.old }
+    ensures found { IsFound way fields.now (plain_zone zone.now) from (option_map found_items result) }
+    ensures days { KnowsDays fields.now days.new }
+    ensures known { IsKnown (plain_zone zone.now) stretch.new }
+{
+    let start = start_of(way, from)?;
+    match way {
+        Way::Ahead => days_from::<false>(fields, zone, Way::Ahead, start, days, stretch),
+        Way::Back => days_from::<true>(fields, zone, Way::Back, start, days, stretch),
+    }
+}
+
+/// The nearest one from a number on, with no counts, where nothing is known. It ends at once where no month
+/// has a day of the set.
+pub fn search_anew(
+    fields: &ScheduleFields,
+    zone: &TimeZone<'_>,
+    way: Way,
+    from: i64,
+) -> Option<Found>
+    ensures { IsFound way fields.now (plain_zone zone.now) from (option_map found_items result) }
+{
+    let mut inquiry = Inquiry::new(fields, zone);
+    if !some_month_has_a_day(&mut inquiry) {
+        return None;
+    }
+    let mut days = MonthDays::unknown(KnownMonth::january_1970());
+    let mut stretch = Stretch::empty();
+    search_onward(fields, zone, way, from, &mut days, &mut stretch)
 }

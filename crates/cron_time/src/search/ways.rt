@@ -1,5 +1,5 @@
 //! Numbers in a direction.
-ghost use Rattle.std.specs.Prelude.{◌≡◌, ℕ, ◌+◌, ◌*◌, ◌^◌, ◌<◌, ◌⊎◌, pos, MatchOption};
+ghost use Rattle.std.specs.Prelude.{◌≡◌, ℕ, ◌+◌, ◌*◌, ◌^◌, ◌<◌, ◌≤◌, ◌⊎◌, pos, MatchOption};
 ghost use Rattle.cron_units.specs.Nearest.{LiesFrom};
 ghost use Rattle.cron_time.specs.Search.Inner.Blocks.{Enters, IsExtreme};
 ghost use Rattle.cron_time.specs.Search.Inner.Inquired.{outermost};
@@ -17,6 +17,25 @@ pub(crate) fn past(way: Way, n: u32) -> Option<u32>
 {
     match way {
         Way::Ahead => Some(n + 1),
+        Way::Back => n.checked_sub(1),
+    }
+}
+
+/// The number after this one or the one before it, if it is below an end.
+#[inline(always)]
+pub(crate) fn past_below(way: Way, n: u32, end: u32) -> Option<u32>
+    requires { n < end }
+    ensures { MatchOption result
+        ((k : ℕ) → LiesFrom way (beyond way n) k → end ≤ k)
+        (λ m. (pos m ≡ beyond way n) × (m < end)) }
+{
+    match way {
+        Way::Ahead => {
+            if n + 1 == end {
+                return None;
+            }
+            Some(n + 1)
+        }
         Way::Back => n.checked_sub(1),
     }
 }

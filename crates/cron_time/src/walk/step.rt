@@ -11,9 +11,7 @@ ghost use Rattle.cron_time.specs.Matches.{matches_date};
 
 use crate::search::days::some_month_has_a_day;
 use crate::search::inquiry::Inquiry;
-use crate::search::month_days::MonthDays;
-use crate::search::onward::search_past;
-use crate::search::search_from;
+use crate::search::onward::{search_onward, search_past};
 use crate::walk::bounds::bound;
 use crate::walk::state::{Stage, State};
 use cron_moments::moment::civil_second;
@@ -35,10 +33,7 @@ fn from_bound(fields: &ScheduleFields, zone: &TimeZone<'_>, way: Way, state: &mu
         &mut state.stretch,
     ) {
         Some(from) => {
-            let mut inquiry = Inquiry::knowing(fields, zone, state.days.month(), state.stretch);
-            let found = search_from(&mut inquiry, way, from);
-            state.days = MonthDays::unknown(inquiry.month());
-            inquiry.hand_on(&mut state.stretch);
+            let found = search_onward(fields, zone, way, from, &mut state.days, &mut state.stretch);
             state.stop(way, found)
         }
         None => state.stop(way, None),

@@ -78,6 +78,6 @@ pub record Searches (way : Way) (start : ℕ) (answer : Option Found) (old new :
   pub days : Adds days_in_range (IsPassedTo way (candidate_day old.sets) (pos (start / 86_400)) (day_of answer)) old.days new.days
   pub conversions : Adds seconds_in_range (IsAsked way old.sets (pos start) (second_of answer)) old.conversions new.conversions
 
--- past the day of a civil second this is found
+-- past a day this is found
 abbrev pub FindsPastDay : Way → Sets → TimeZone → ℕ → Option Found → Type 0
-FindsPastDay way s z second found = IsFound way s z (beyond_day way (second / 86_400)) (option_map found_items found)
+FindsPastDay way s z day found = IsFound way s z (beyond_day way day) (option_map found_items found)

@@ -1,4 +1,4 @@
-use Rattle.std.proofs.Common.{◌/◌, pos, Some}
+use Rattle.std.proofs.Common.{pos, Some}
 use Rattle.jiff.specs.Words.{plain_zone}
 use Rattle.cron_clocks.specs.Steady.{IsKnown}
 use Rattle.cron_time.specs.Search.{stands}
@@ -12,9 +12,9 @@ abbrev pub invariant-loop-next : goal.invariant-loop-next
 invariant-loop-next g l = record {
   days : KnowsDays l.fields l.days;
   known : IsKnown (plain_zone l.zone) l.stretch;
-  reached : Reaches l.way 86_400 (matching_day l.fields) (stands l.fields (plain_zone l.zone)) (beyond_day l.way (l.second / 86_400))
-      (pos (l.second / 86_400)) l.day;
-  fails : BlockFails l.way 86_400 (stands l.fields (plain_zone l.zone)) (beyond_day l.way (l.second / 86_400)) l.day;
+  reached : Reaches l.way 86_400 (matching_day l.fields) (stands l.fields (plain_zone l.zone)) (beyond_day l.way l.own)
+      (pos l.own) l.day;
+  fails : BlockFails l.way 86_400 (stands l.fields (plain_zone l.zone)) (beyond_day l.way l.own) l.day;
 }
 
 abbrev pub decreases-loop-next : goal.decreases-loop-next

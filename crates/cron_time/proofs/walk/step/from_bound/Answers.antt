@@ -1,4 +1,4 @@
-use Rattle.std.proofs.Common.{FitsSigned, w64, to_z-of_z, rules, sym, ap, ◌∙◌}
+use Rattle.std.proofs.Common.{FitsSigned, w64, to_z-of_z, rules, sym, ◌∙◌}
 use Rattle.jiff.specs.Words.{plain_zone}
 use Rattle.cron_time.proofs.Walks.RestLemmas.{start_stop, start_ends}
 use Rattle.cron_time.proofs.Walks.StepLemmas.{reached}
@@ -9,11 +9,10 @@ returns-in-Some-clause-leads c =
     let s = c.args.fields.now in
     let z = plain_zone c.args.zone.now in
     let fits : FitsSigned w64 c.in-Some.from = search rules in
-    let found = rw (to_z-of_z fits, ap (λ q. q.sets) c.knowing-inquiry.ensures, ap (λ q. q.zone) c.knowing-inquiry.ensures)
-    at c.search_from-found.ensures.found in
+    let found = rw (to_z-of_z fits) at c.search_onward-found.ensures.found in
     let at = sym c.bound.ensures.bound ∙ c.in-Some.is in
     rw c.stop.ensures.stand (start_stop c.args.way s z _ c.in-Some.from _ (rw c.from_plain.ensures at at)
-    (reached c.args.way s z c.in-Some.from c.search_from-found.result found))
+    (reached c.args.way s z c.in-Some.from c.search_onward-found.result found))
 
 pub returns-in-None-clause-leads : goal.returns-in-None-clause-leads
 returns-in-None-clause-leads c =
@@ -21,8 +20,3 @@ returns-in-None-clause-leads c =
     let z = plain_zone c.args.zone.now in
     let at = sym c.bound.ensures.bound ∙ c.in-None.is in
     rw c.stop-in-None.ensures.stand (start_ends c.args.way s z _ (rw c.from_plain.ensures at at))
-
-pub returns-in-Some-clause-known : goal.returns-in-Some-clause-known
-returns-in-Some-clause-known c =
-    let zone = c.search_from-found.ensures.same.zone ∙ ap (λ q. q.zone) c.knowing-inquiry.ensures in
-    (rw c.stop.ensures.days (c.unknown-state.ensures c.args.fields.now), rw c.stop.ensures.stretch (rw zone at c.hand_on.ensures))

@@ -1,6 +1,7 @@
 use Rattle.std.proofs.Common.{ap, refl}
 use Rattle.jiff.specs.Words.{plain_zone}
-use Rattle.cron_time.proofs.Walks.RestLemmas.{nowhere, start_nowhere}
+use Rattle.cron_time.proofs.Searches.OnwardLemmas.{nowhere}
+use Rattle.cron_time.proofs.Walks.RestLemmas.{start_nowhere}
 use Rattle.cron_time.proofs.walk.step.from_start.Goals as goal
 
 pub returns-then-not-some_month_has_a_day-clause-leads : goal.returns-then-not-some_month_has_a_day-clause-leads

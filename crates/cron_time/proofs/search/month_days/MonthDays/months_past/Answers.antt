@@ -1,20 +1,19 @@
-use Rattle.std.proofs.Common.{◌+◌, inr, sym, ◌∙◌, arith}
-use Rattle.cron_time.proofs.Searches.LeapLemmas.{leads_reach, own_next}
+use Rattle.std.proofs.Common.{◌+◌, sym, ◌∙◌, arith}
+use Rattle.cron_time.proofs.Searches.LeapLemmas.{leads_reach, leads_start}
 use Rattle.cron_time.proofs.Searches.MonthDayLemmas.{bits_nearest, longest_31, matching_fits, month_fails, month_found}
 use Rattle.cron_time.proofs.search.month_days.MonthDays.months_past.Goals as goal
 
 pub loop-next-init : goal.loop-next-init
 loop-next-init c = record {
-  known = inr c.requires.days;
-  reached = own_next c.args.way c.args.fields.now c.args.self.now.month c.args.place c.next_month-next.result c.requires.bound c.requires.month
-      (λ k lies. sym (c.requires.days k) ∙ c.requires.none k lies) (rw c.number.ensures.number at c.next_month-next.ensures.leads);
+  known = c.requires.known;
+  reached = leads_start c.args.way c.args.fields.now c.args.month c.next_month-next.result c.next_month-next.ensures.leads;
   bound = c.next_month-next.ensures.bound;
 }
 
 pub returns-in-Some-first_bit-clause-nearest : goal.returns-in-Some-first_bit-clause-nearest
 returns-in-Some-first_bit-clause-nearest c =
     let days = rw (c.of-there.ensures.month, c.numbered.ensures) at c.of-there.ensures.days in
-    month_found c.args.way c.args.fields.now c.args.self.now.month c.args.place c.in-Some.month c.in-Some-first_bit.first c.requires.bound
+    month_found c.args.way c.args.fields.now c.args.month c.in-Some.month c.in-Some-first_bit.first
     (rw c.in-Some.is at c.loop-next.invariant.reached) (bits_nearest c.args.way _ _ _ _ days (rw c.in-Some-first_bit.is at c.first_bit.ensures))
 
 pub returns-in-Some-first_bit-clause-range : goal.returns-in-Some-first_bit-clause-range
