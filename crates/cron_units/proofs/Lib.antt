@@ -1,5 +1,6 @@
 pub mod SetLemmas
 pub mod PlaceLemmas
+pub mod KeyLemmas
 pub mod NameLemmas
 mod Marks
 pub mod Denoting

@@ -9,6 +9,7 @@ pub mod Views
 pub mod Texts
 pub mod Tables
 pub mod Bounds
+pub mod Keys
 pub mod Laws
 pub mod ItemLaws
 pub mod Places

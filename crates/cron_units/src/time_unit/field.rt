@@ -116,7 +116,7 @@ pub trait TimeUnitField: Copy {
         ensures within { IfSome result (λ n. (unit.least ≤ n) × (n ≤ unit.greatest)) }
     {
         let names = Self::definition().names?;
-        ordinal_named(names.ordinals, name)
+        ordinal_named(names, name)
     }
 
     /// Tells whether a name means the last day of the month, in any case of its letters.

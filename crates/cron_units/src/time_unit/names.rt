@@ -1,92 +1,201 @@
-//! The names of ordinals, in small letters, each with its key, and the look-up in any case of letters.
+//! The names of ordinals, in small letters, and the look-up in any case of letters: by one comparison of numbers.
 
-ghost use Rattle.std.specs.Prelude.{◌≡◌, true};
+ghost use Rattle.std.specs.Prelude.{◌≡◌, ◌∷◌, ◌++◌, [], ℕ, List, true, false, MatchOption};
+ghost use Rattle.std.specs.List.{list_all};
+ghost use Rattle.cron_units.specs.Keys.{IsKey, is_letter};
 ghost use Rattle.cron_units.specs.Units.{named_in};
-ghost use Rattle.cron_units.specs.Tables.{ordinals_view, key_of, are_keyed};
+ghost use Rattle.cron_units.specs.Tables.{ordinals_view, are_keyed};
 
 use super::Ordinal;
 
-/// The first three letters of a name by their numbers in the alphabet, a byte each. A key tells most
-/// names apart without a comparison of texts.
-pub type Key = u32;
+/// The letters of a name by their numbers in the alphabet, five bits each. Of more letters than any name
+/// has it is some number that is no name's.
+pub type Key = u64;
+
+/// What no key of a name reaches.
+const LONG_KEY: Key = 1 << 55;
 
 /// The names of a unit's ordinals.
 #[derive(Clone, Copy)]
 pub struct Names {
     /// What messages call such a name.
     pub noun: &'static str,
-    /// Each name, in small letters, with its ordinal and its key.
-    pub ordinals: &'static [(&'static str, Ordinal, Key)],
+    /// Each name, in small letters, with its ordinal.
+    pub ordinals: &'static [(&'static str, Ordinal)],
+    /// The names' keys with their ordinals, each in the slot that its key gives. Where no name's key gives
+    /// a slot, the first name stands there once more.
+    pub slots: &'static [(Key, Ordinal)],
+    /// The slot of a key is the first five bits of its product with this number.
+    pub spread: u64,
 }
 
-/// The key of a name in any case of its letters; 0 if it is shorter than three.
+/// The key of a name with one more letter.
 #[inline(always)]
-fn key_of(name: &[u8]) -> Key
-    ensures { result ≡ key_of name.now }
+pub fn with_letter(key: Key, letter: u8) -> Key
+    ensures { (name : List ℕ) → IsKey name key → IsKey (name ++ letter ∷ []) result }
 {
-    if name.len() < 3 {
-        return 0;
+    if key >= LONG_KEY {
+        return key;
     }
-    u32::from(name[0] % 32) * 65536 + u32::from(name[1] % 32) * 256 + u32::from(name[2] % 32)
+    key * 32 + u64::from(letter % 32)
+}
+
+/// The key of a name, which is of letters alone.
+#[inline(always)]
+fn key_of(name: &[u8]) -> Option<Key>
+    ensures { MatchOption result (list_all is_letter name.now ≡ false) (λ key. (list_all is_letter name.now ≡ true) × IsKey name.now key) }
+{
+    let mut key = 0;
+    for letter in name {
+        if !letter.is_ascii_alphabetic() {
+            return None;
+        }
+        key = with_letter(key, *letter);
+    }
+    Some(key)
+}
+
+/// Finds the ordinal of a name by its key.
+#[inline(always)]
+pub(super) fn ordinal_keyed(names: Names, key: Key) -> Option<Ordinal>
+    requires { are_keyed names ≡ true }
+    ensures { (name : List ℕ) → list_all is_letter name ≡ true → IsKey name key → result ≡ named_in (ordinals_view names.ordinals.now) name }
+{
+    let slot = (key.wrapping_mul(names.spread) >> 59) as usize;
+    let (found, ordinal) = names.slots[slot];
+    if found == key { Some(ordinal) } else { None }
 }
 
 /// Finds the ordinal of a name, in any case of its letters.
-pub(super) fn ordinal_named(names: &[(&'static str, Ordinal, Key)], sought: &str) -> Option<Ordinal>
-    requires { are_keyed names.now ≡ true }
-    ensures { result ≡ named_in (ordinals_view names.now) sought.now }
+#[inline(always)]
+pub(super) fn ordinal_named(names: Names, sought: &str) -> Option<Ordinal>
+    requires { are_keyed names ≡ true }
+    ensures { result ≡ named_in (ordinals_view names.ordinals.now) sought.now }
 {
-    let sought_key = key_of(sought.as_bytes());
-    for (name, ordinal, key) in names {
-        if *key == sought_key && name.eq_ignore_ascii_case(sought) {
-            return Some(*ordinal);
-        }
-    }
-    None
+    ordinal_keyed(names, key_of(sought.as_bytes())?)
 }
 
 /// The months' names.
-pub(super) const MONTH_NAMES: [(&str, Ordinal, Key); 23] = [
-    ("jan", 1, 0x0a_01_0e),
-    ("january", 1, 0x0a_01_0e),
-    ("feb", 2, 0x06_05_02),
-    ("february", 2, 0x06_05_02),
-    ("mar", 3, 0x0d_01_12),
-    ("march", 3, 0x0d_01_12),
-    ("apr", 4, 0x01_10_12),
-    ("april", 4, 0x01_10_12),
-    ("may", 5, 0x0d_01_19),
-    ("jun", 6, 0x0a_15_0e),
-    ("june", 6, 0x0a_15_0e),
-    ("jul", 7, 0x0a_15_0c),
-    ("july", 7, 0x0a_15_0c),
-    ("aug", 8, 0x01_15_07),
-    ("august", 8, 0x01_15_07),
-    ("sep", 9, 0x13_05_10),
-    ("september", 9, 0x13_05_10),
-    ("oct", 10, 0x0f_03_14),
-    ("october", 10, 0x0f_03_14),
-    ("nov", 11, 0x0e_0f_16),
-    ("november", 11, 0x0e_0f_16),
-    ("dec", 12, 0x04_05_03),
-    ("december", 12, 0x04_05_03),
+pub(super) const MONTH_NAMES: [(&str, Ordinal); 23] = [
+    ("jan", 1),
+    ("january", 1),
+    ("feb", 2),
+    ("february", 2),
+    ("mar", 3),
+    ("march", 3),
+    ("apr", 4),
+    ("april", 4),
+    ("may", 5),
+    ("jun", 6),
+    ("june", 6),
+    ("jul", 7),
+    ("july", 7),
+    ("aug", 8),
+    ("august", 8),
+    ("sep", 9),
+    ("september", 9),
+    ("oct", 10),
+    ("october", 10),
+    ("nov", 11),
+    ("november", 11),
+    ("dec", 12),
+    ("december", 12),
+];
+
+/// What spreads the keys of the months' names.
+pub(super) const MONTH_SPREAD: u64 = 6_599_389_479_065_819_167;
+
+/// The months' names by their keys.
+pub(super) const MONTH_SLOTS: [(Key, Ordinal); 32] = [
+    (0x21465688b2, 12), // december
+    (0x282e, 1),
+    (0x282e, 1),
+    (0x2aac, 7), // jul
+    (0x73ec5688b2, 11), // november
+    (0x55599, 7), // july
+    (0x282e, 1),
+    (0x18492c, 4), // april
+    (0x6a7, 8), // aug
+    (0x3432, 3), // mar
+    (0x282e, 1),
+    (0x39f6, 11), // nov
+    (0xd0c868, 3), // march
+    (0x4cb0, 9), // sep
+    (0x282e, 1),
+    (0x353d674, 8), // august
+    (0x282e, 1),
+    (0x282ea8659, 1), // january
+    (0x282e, 1),
+    (0x3c74, 10), // oct
+    (0x282e, 1),
+    (0x10a3, 12), // dec
+    (0x132c285688b2, 9), // september
+    (0x3c74788b2, 10), // october
+    (0x31452a8659, 2), // february
+    (0x3439, 5), // may
+    (0x2aae, 6), // jun
+    (0x282e, 1), // jan
+    (0x555c5, 6), // june
+    (0x282e, 1),
+    (0x612, 4), // apr
+    (0x18a2, 2), // feb
 ];
 
 /// The names of the days of the week.
-pub(super) const DAY_NAMES: [(&str, Ordinal, Key); 16] = [
-    ("sun", 1, 0x13_15_0e),
-    ("sunday", 1, 0x13_15_0e),
-    ("mon", 2, 0x0d_0f_0e),
-    ("monday", 2, 0x0d_0f_0e),
-    ("tue", 3, 0x14_15_05),
-    ("tues", 3, 0x14_15_05),
-    ("tuesday", 3, 0x14_15_05),
-    ("wed", 4, 0x17_05_04),
-    ("wednesday", 4, 0x17_05_04),
-    ("thu", 5, 0x14_08_15),
-    ("thurs", 5, 0x14_08_15),
-    ("thursday", 5, 0x14_08_15),
-    ("fri", 6, 0x06_12_09),
-    ("friday", 6, 0x06_12_09),
-    ("sat", 7, 0x13_01_14),
-    ("saturday", 7, 0x13_01_14),
+pub(super) const DAY_NAMES: [(&str, Ordinal); 16] = [
+    ("sun", 1),
+    ("sunday", 1),
+    ("mon", 2),
+    ("monday", 2),
+    ("tue", 3),
+    ("tues", 3),
+    ("tuesday", 3),
+    ("wed", 4),
+    ("wednesday", 4),
+    ("thu", 5),
+    ("thurs", 5),
+    ("thursday", 5),
+    ("fri", 6),
+    ("friday", 6),
+    ("sat", 7),
+    ("saturday", 7),
+];
+
+/// What spreads the keys of the names of the days of the week.
+pub(super) const DAY_SPREAD: u64 = 7_277_246_382_921_750_567;
+
+/// The names of the days of the week by their keys.
+pub(super) const DAY_SLOTS: [(Key, Ordinal); 32] = [
+    (0x4eae, 1), // sun
+    (0x4eae, 1),
+    (0x4eae, 1),
+    (0x27571039, 1), // sunday
+    (0x4eae, 1),
+    (0x4eae, 1),
+    (0x9869591039, 7), // saturday
+    (0x1445653, 5), // thurs
+    (0x4eae, 1),
+    (0x4eae, 1),
+    (0x4eae, 1),
+    (0xa22b299039, 5), // thursday
+    (0x1af71039, 2), // monday
+    (0x4eae, 1),
+    (0x52a5, 3), // tue
+    (0x35ee, 2), // mon
+    (0x4eae, 1),
+    (0x4eae, 1),
+    (0x1a49, 6), // fri
+    (0x4eae, 1),
+    (0x5115, 5), // thu
+    (0xa54b3, 3), // tues
+    (0x17291c599039, 4), // wednesday
+    (0xd249039, 6), // friday
+    (0x4eae, 1),
+    (0x4eae, 1),
+    (0x4eae, 1),
+    (0x4eae, 1),
+    (0x4eae, 1),
+    (0x4c34, 7), // sat
+    (0x52a599039, 3), // tuesday
+    (0x5ca4, 4), // wed
 ];

@@ -1,6 +1,6 @@
 //! The seven units.
 
-use super::names::{DAY_NAMES, MONTH_NAMES};
+use super::names::{DAY_NAMES, DAY_SLOTS, DAY_SPREAD, MONTH_NAMES, MONTH_SLOTS, MONTH_SPREAD};
 use super::{Definition, Names, Ordinals, UnitTable};
 use cron_bits::wide::Wide;
 
@@ -170,6 +170,8 @@ impl UnitTable<u64> for MonthsTable {
             names: Some(Names {
                 noun: "month name",
                 ordinals: &MONTH_NAMES,
+                slots: &MONTH_SLOTS,
+                spread: MONTH_SPREAD,
             }),
             question_mark: false,
             last_day: None,
@@ -207,6 +209,8 @@ impl UnitTable<u64> for DaysOfWeekTable {
             names: Some(Names {
                 noun: "day of the week",
                 ordinals: &DAY_NAMES,
+                slots: &DAY_SLOTS,
+                spread: DAY_SPREAD,
             }),
             question_mark: true,
             last_day: None,
