@@ -1,9 +1,11 @@
 -- How a field goes on at a connector and a token.
 use Rattle.std.proofs.Common.{◌≡◌, Bool, true, false, not, cond, ◌&&◌, ◌||◌, Option, Some, None, List, [], ◌∷◌, refl, sym, ap, ◌∙◌, subst}
 use Rattle.std.specs.Option.{option_map_or}
+use Rattle.std.proofs.lemmas.Bool.{false≢true}
 use Rattle.cron_units.specs.Units.{TimeUnit}
 use Rattle.cron_text.specs.Fields.{is_connector, is_wildcard, spacing_fits}
 use Rattle.cron_text.specs.Inner.FieldReading.{FieldState, joined, next_state, furthest}
+use Rattle.cron_text.specs.Inner.Places.{NoConnector}
 use Rattle.cron_text.specs.Inner.Views.{connector_view}
 use Rattle.cron_text.specs.Tokens.{Token, Symbol, symbol_of, comma, dash, slash, after_space, after_gap}
 use Rattle.cron_text.proofs.FieldStates.{grows}
@@ -92,3 +94,18 @@ far_gap u s b ts e w = rw e (far u s ts w)
 
 pub far_end : (u : TimeUnit) (s : FieldState) (ts : List Token) → ts ≡ [] → furthest u s ts ≡ (s, ts)
 far_end u s ts e = rw e refl
+
+-- ---- no connector
+
+not_joined : (u : TimeUnit) (s : FieldState) (a : Symbol) (x : Token) → is_connector a ≡ false → joined u s a x ≡ None
+not_joined u s comma x h = absurd (false≢true (sym h))
+not_joined u s dash x h = absurd (false≢true (sym h))
+not_joined u s slash x h = absurd (false≢true (sym h))
+not_joined u s a x h = refl
+
+-- a field doesn't go on where no connector stands
+pub stays_alone : (u : TimeUnit) (s : FieldState) (ts : List Token) → NoConnector ts → furthest u s ts ≡ (s, ts)
+stays_alone u s [] h = refl
+stays_alone u s (c ∷ []) h = refl
+stays_alone u s (c ∷ x ∷ ts) h =
+    stuck u s c x ts (none_both (spacing_fits s.last c && spacing_fits c x) (joined u s (symbol_of c) x) (not_joined u s (symbol_of c) x h))

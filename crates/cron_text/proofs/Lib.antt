@@ -8,6 +8,8 @@ pub mod Trims
 pub mod TextLemmas
 pub mod FieldSets
 pub mod Stars
+mod PlainItems
+mod PlainWords
 pub mod Results
 pub mod TextRefusals
 pub mod Prefixes

@@ -4,3 +4,4 @@ pub mod Views
 pub mod Places
 pub mod Faults
 pub mod Numbers
+pub mod PlainReading

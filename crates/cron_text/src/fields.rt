@@ -17,6 +17,7 @@ ghost use Rattle.cron_units.specs.Units.{with_mark};
 
 use super::faults::Fault;
 use super::items::{lone_item, with_end, with_step};
+use super::plain::read_plain;
 use super::symbols::{Symbol, lone_star_at, token_at};
 use super::tokens::{Place, skip_space};
 use cron_units::specifier::{Base, Item, RefusedItem, add_item};
@@ -44,7 +45,7 @@ fn connector_of(byte: u8) -> Option<Connector>
 
 /// The connector at a place.
 #[inline(always)]
-fn connector_at(text: &[u8], place: Place) -> Option<Connector>
+pub fn connector_at(text: &[u8], place: Place) -> Option<Connector>
     requires { IsPlace text.now place }
     ensures connector { MatchOption result (NoConnector (tokens_from text.now place)) (IsConnector text.now place) }
     ensures within { IfSome result (λ _. place.at < length text.now) }
@@ -165,8 +166,8 @@ fn read_star<T: TimeUnitField>(text: &str, place: Place, set: &mut T) -> Option<
     }
 }
 
-/// Reads the longest field at a place item by item.
-#[inline(always)]
+/// Reads the longest field at a place item by item. Few fields come here.
+#[inline(never)]
 fn read_items<'a, T: TimeUnitField>(
     text: &'a str,
     place: &mut Place,
@@ -221,7 +222,11 @@ pub fn read_field<'a, T: TimeUnitField>(
     ensures place { OnOk result (IsPlace text.now place.new) }
     ensures refused { OnErr result (IsUnread T.unit (tokens_from text.now place.old) fault.new) }
 {
-    if let Some(behind) = read_star(text, *place, set) {
+    let read = match read_star(text, *place, set) {
+        Some(behind) => Some(behind),
+        None => read_plain(text, *place, set),
+    };
+    if let Some(behind) = read {
         place.at = behind.at;
         place.spaced = behind.spaced;
         return Ok(());

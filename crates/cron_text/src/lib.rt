@@ -4,6 +4,7 @@
 mod faults;
 mod fields;
 mod items;
+mod plain;
 mod shorthands;
 mod symbols;
 mod texts;

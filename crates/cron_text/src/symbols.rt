@@ -63,7 +63,7 @@ fn number(value: u64) -> Symbol<'static>
 
 /// The number that begins at an index, and where it ends. Each digit is looked at once.
 #[inline(always)]
-fn number_at(text: &str, at: usize) -> (Symbol<'_>, usize)
+pub fn number_at(text: &str, at: usize) -> (Symbol<'_>, usize)
     requires within { at < length text.now }
     requires digit { is_digit (slice_index text.now at) ≡ true }
     ensures { IsTokenAt text.now at result.0 result.1 }

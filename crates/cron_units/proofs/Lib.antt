@@ -5,6 +5,7 @@ pub mod NameLemmas
 mod Marks
 pub mod Denoting
 pub mod DenotedSets
+mod NamedSets
 pub mod Laid
 pub mod Remaining
 pub mod Progressions

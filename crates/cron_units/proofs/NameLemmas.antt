@@ -2,14 +2,16 @@
 use Rattle.std.proofs.Common.{◌≡◌, ℕ, ◌<◌, ◌≤◌, Bool, true, false, ◌&&◌, cond, List, [], ◌∷◌, Option, Some, None, refl, sym, ap, ◌∙◌, subst, arith, Bor, length, get_or, nat_eq, nat_lt, inl, inr}
 use Rattle.std.specs.Prelude.{IfSome}
 use Rattle.std.specs.List.{AllByRecursion, list_all}
+use Rattle.std.specs.Option.{option_map}
 use Rattle.std.specs.Str.{str_eq_ignore_ascii_case, str_to_ascii_lowercase}
 use Rattle.std.proofs.lemmas.Bool.{cases_eq, cases_lt, eq-eqb, eqb-true, ne_eqb, false_from_ne_true, true_from_ne_false, ltb-true, true≢false}
 use Rattle.std.proofs.lemmas.List.Folds.{list_all_at}
 use Rattle.std.proofs.lemmas.Slice.Eq.{bytes_eq-Decides}
 use Rattle.cron_units.specs.Keys.{is_letter, key_of, slot_of, IsKey}
-use Rattle.cron_units.specs.Tables.{ordinals_view, keyed_in, is_just, is_slotted, are_keyed}
+use Rattle.cron_units.specs.Tables.{definition_view, names_view, ordinals_view, keyed_in, is_just, is_slotted, are_keyed}
 use Rattle.cron_units.specs.Units.{TimeUnit, IsUnit, Names, named_in, named_by, named_ordinals, ordinal_of}
 use Rattle.cron_units.specs.declared.time_unit.names.Names as table
+use Rattle.cron_units.specs.declared.time_unit.definition.Definition.{Definition}
 use Rattle.cron_units.proofs.KeyLemmas.{key_injective, lower_key, lower_letters}
 
 within_cond : (b : Bool) (P : ℕ → Type 0) (n : ℕ) (o : Option ℕ) → P n → IfSome o P → IfSome (cond b (Some n) o) P
@@ -29,6 +31,21 @@ named_by_within P (Some names) sought h = named_within P names.ordinals sought h
 -- What a name stands for is an ordinal of the unit.
 pub ordinal_within : (u : TimeUnit) (sought : List ℕ) → IsUnit u → IfSome (ordinal_of u sought) (λ n. (u.least ≤ n) × (n ≤ u.greatest))
 ordinal_within u sought h = named_by_within (λ n. (u.least ≤ n) × (n ≤ u.greatest)) u.names sought h.names
+
+keyed_within : (P : ℕ → Type 0) (es : List (Bor (List ℕ) × ℕ)) (k : ℕ) → AllByRecursion (λ e. P e.1) (ordinals_view es) → IfSome (keyed_in es k) P
+keyed_within P [] k h = tt
+keyed_within P (e ∷ es) k h = within_cond (nat_eq (key_of e.0.now) k) P e.1 (keyed_in es k) h.0 (keyed_within P es k h.1)
+
+-- What a key stands for is an ordinal of the unit.
+pub key_within : (u : TimeUnit) (d : Definition) (names : table.Names) (k : ℕ) (o : Option ℕ) → IsUnit u → definition_view d ≡ u → d.names ≡ Some names
+    → IfSome o (λ n. keyed_in names.ordinals.now k ≡ Some n) → IfSome o (λ n. (u.least ≤ n) × (n ≤ u.greatest))
+key_within u d names k None is e was h = tt
+key_within u d names k (Some n) is e was h =
+    let same : named_ordinals u.names ≡ ordinals_view names.ordinals.now =
+    ap (λ (v : TimeUnit). named_ordinals v.names) (sym e) ∙ ap (λ (o : Option table.Names). named_ordinals (option_map names_view o)) was in
+    let all = subst (AllByRecursion (λ x. (u.least ≤ x.1) × (x.1 ≤ u.greatest))) same is.names in
+    subst (λ (o : Option ℕ). IfSome o (λ m. (u.least ≤ m) × (m ≤ u.greatest))) h
+    (keyed_within (λ m. (u.least ≤ m) × (m ≤ u.greatest)) names.ordinals.now k all)
 
 -- ---- names by their keys
 
@@ -148,3 +165,12 @@ missed_by_key n w key keyed letters is other =
       | inl small ↦ ap (keyed_in n.ordinals.now) (sym (is.same small)) ∙ keyed_none n.slots.now n.spread n.ordinals.now key t.1 other
       | inr large ↦ keyed_long n.slots.now n.spread n.ordinals.now (key_of w) t.1 large
     ])
+
+-- and the ordinal of a name
+pub slot_keyed : (n : table.Names) (key : ℕ) (d : ℕ × ℕ) → are_keyed n ≡ true → slot_of n.spread key < 32
+    → (get_or n.slots.now (slot_of n.spread key) d).0 ≡ key → keyed_in n.ordinals.now key ≡ Some (get_or n.slots.now (slot_of n.spread key) d).1
+slot_keyed n key d keyed within found =
+    let t = tests n keyed in
+    let slot = get_or n.slots.now (slot_of n.spread key) d in
+    ap (keyed_in n.ordinals.now) (sym found) ∙ just (keyed_in n.ordinals.now slot.0) slot.1
+    (passes (λ s. is_just (keyed_in n.ordinals.now s.0) s.1) n.slots.now (slot_of n.spread key) d (omega (arith, within, t.0)) t.2)

@@ -1,16 +1,18 @@
 //! The items of a field, and what they denote. A step too large is refused here.
 
-ghost use Rattle.std.specs.Prelude.{◌≡◌, ◌≤◌, ◌<◌, IfOk, IfErr, MatchResult, OnOk, OnErr, Ok, Err};
+ghost use Rattle.std.specs.Prelude.{◌≡◌, ◌≤◌, ◌<◌, IfOk, IfErr, MatchResult, OnOk, OnErr, Ok, Err, IsTrue, List, ℕ, true};
+ghost use Rattle.std.specs.List.{list_all};
 ghost use Rattle.cron_units.specs.Denotation.{AddsItem};
 ghost use Rattle.cron_units.specs.Inner.ItemSteps.{names_last_day, ordinal, ends, steps_of};
 ghost use Rattle.cron_units.specs.Items as items;
+ghost use Rattle.cron_units.specs.Keys.{IsKey, is_letter};
 ghost use Rattle.cron_units.specs.Refusals.{IsRefusedFor};
 ghost use Rattle.cron_units.specs.Units.{with_mark};
 ghost use Rattle.cron_units.specs.Views.{base_view, item_view, refusal_view, steps_view};
 
 mod messages;
 
-use crate::time_unit::{Ordinal, TimeUnitField, add_steps};
+use crate::time_unit::{Key, Ordinal, TimeUnitField, add_steps};
 pub use messages::{RefusedItem, refused, text_error};
 
 /// What an item ranges over before its step.
@@ -169,4 +171,40 @@ pub fn add_item<'a, T: TimeUnitField>(set: &mut T, item: Item<'a>) -> Result<(),
     let Progression { first, last, every } = steps_of::<T>(item)?;
     add_steps(set, first, last, every);
     Ok(())
+}
+
+/// Adds the ordinal of a name of letters to a set, by the key of the name. A unit with a word for the last
+/// day of the month has no such names.
+#[inline(always)]
+pub fn add_name<T: TimeUnitField>(set: &mut T, key: Key) -> bool
+    ensures { IsTrue result → (word : List ℕ) → list_all is_letter word ≡ true → IsKey word key → AddsItem T.unit (items.name word) (with_mark (T.members set.old) (T.marked set.old)) (with_mark (T.members set.new) (T.marked set.new)) }
+{
+    if T::definition().last_day.is_some() {
+        return false;
+    }
+    let Some(only) = T::ordinal_from_key(key) else {
+        return false;
+    };
+    set.known();
+    add_steps(set, only, only, 1);
+    true
+}
+
+/// Adds the ordinals from one name of letters to another to a set, by the keys of the names.
+#[inline(always)]
+pub fn add_names<T: TimeUnitField>(set: &mut T, from: Key, to: Key) -> bool
+    ensures { IsTrue result → (v w : List ℕ) → list_all is_letter v ≡ true → list_all is_letter w ≡ true → IsKey v from → IsKey w to → AddsItem T.unit (items.plain (items.name_range v w)) (with_mark (T.members set.old) (T.marked set.old)) (with_mark (T.members set.new) (T.marked set.new)) }
+{
+    let Some(first) = T::ordinal_from_key(from) else {
+        return false;
+    };
+    let Some(last) = T::ordinal_from_key(to) else {
+        return false;
+    };
+    if first > last {
+        return false;
+    }
+    set.known();
+    add_steps(set, first, last, 1);
+    true
 }

@@ -17,7 +17,7 @@ pub use field::TimeUnitField;
 pub use iterators::{OrdinalIter, OrdinalRangeIter};
 pub(crate) use makers::add_steps;
 pub use makers::{empty, only, whole};
-pub use names::Names;
+pub use names::{Key, Names, with_letter};
 pub use ordinals::{Ordinals, UnitTable};
 pub use units::{
     DaysOfWeek, DaysOfWeekTable, Hours, HoursTable, Minutes, MinutesTable, Months, MonthsTable,

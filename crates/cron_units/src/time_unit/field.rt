@@ -1,12 +1,14 @@
 //! What every unit has, written once for all of them.
 
-ghost use Rattle.std.specs.Prelude.{◌≡◌, ◌≤◌, ◌<◌, ◌&&◌, ◌||◌, [], List, ℕ, Bool, false, pos, length, nat_eq, nat_le, IfSome, is_some};
+ghost use Rattle.std.specs.Prelude.{◌≡◌, ◌≤◌, ◌<◌, ◌&&◌, ◌||◌, [], List, ℕ, Bool, true, false, pos, length, nat_eq, nat_le, IfSome, is_some};
+ghost use Rattle.std.specs.List.{list_all};
+ghost use Rattle.cron_units.specs.Keys.{IsKey, is_letter};
 ghost use Rattle.cron_units.specs.Steps.{in_steps};
 ghost use Rattle.cron_units.specs.Nearest.{IsNearest};
 ghost use Rattle.cron_units.specs.Tables.{definition_view, AreKeyed};
 ghost use Rattle.cron_units.specs.Units.{TimeUnit, IsUnit, IsSet, contains, set_of, ordinal_of, means_last_day};
 
-use super::names::ordinal_named;
+use super::names::{Key, ordinal_keyed, ordinal_named};
 use super::{Definition, Ordinal, OrdinalIter};
 use crate::way::Way;
 
@@ -117,6 +119,16 @@ pub trait TimeUnitField: Copy {
     {
         let names = Self::definition().names?;
         ordinal_named(names, name)
+    }
+
+    /// Finds the ordinal of a name of letters by its key.
+    #[inline(always)]
+    final fn ordinal_from_key(key: Key) -> Option<Ordinal>
+        ensures value { (name : List ℕ) → list_all is_letter name ≡ true → IsKey name key → result ≡ ordinal_of unit name }
+        ensures within { IfSome result (λ n. (unit.least ≤ n) × (n ≤ unit.greatest)) }
+    {
+        let names = Self::definition().names?;
+        ordinal_keyed(names, key)
     }
 
     /// Tells whether a name means the last day of the month, in any case of its letters.

@@ -1,10 +1,10 @@
 //! The names of ordinals, in small letters, and the look-up in any case of letters: by one comparison of numbers.
 
-ghost use Rattle.std.specs.Prelude.{◌≡◌, ◌∷◌, ◌++◌, [], ℕ, List, true, false, MatchOption};
+ghost use Rattle.std.specs.Prelude.{◌≡◌, ◌∷◌, ◌++◌, [], ℕ, List, true, false, Some, IfSome, MatchOption};
 ghost use Rattle.std.specs.List.{list_all};
 ghost use Rattle.cron_units.specs.Keys.{IsKey, is_letter};
 ghost use Rattle.cron_units.specs.Units.{named_in};
-ghost use Rattle.cron_units.specs.Tables.{ordinals_view, are_keyed};
+ghost use Rattle.cron_units.specs.Tables.{ordinals_view, are_keyed, keyed_in};
 
 use super::Ordinal;
 
@@ -59,7 +59,8 @@ fn key_of(name: &[u8]) -> Option<Key>
 #[inline(always)]
 pub(super) fn ordinal_keyed(names: Names, key: Key) -> Option<Ordinal>
     requires { are_keyed names ≡ true }
-    ensures { (name : List ℕ) → list_all is_letter name ≡ true → IsKey name key → result ≡ named_in (ordinals_view names.ordinals.now) name }
+    ensures value { (name : List ℕ) → list_all is_letter name ≡ true → IsKey name key → result ≡ named_in (ordinals_view names.ordinals.now) name }
+    ensures found { IfSome result (λ n. keyed_in names.ordinals.now key ≡ Some n) }
 {
     let slot = (key.wrapping_mul(names.spread) >> 59) as usize;
     let (found, ordinal) = names.slots[slot];

@@ -1,0 +1,170 @@
+//! Fields as most are written: numbers and names, ranges and steps with commas between them, and white
+//! space behind them alone. They are added to a set as they are read. Any other field, and one that is
+//! refused, is left to the reader of tokens.
+
+ghost use Rattle.std.specs.Prelude.{◌≡◌, ◌<◌, ℕ, IfSome, IsTrue, length, slice_index};
+ghost use Rattle.cron_units.specs.Units.{TimeUnit, with_mark};
+ghost use Rattle.cron_units.specs.Items as items;
+ghost use Rattle.cron_units.specs.Views.{base_view, item_view};
+ghost use Rattle.cron_text.specs.Fault.{TakesField};
+ghost use Rattle.cron_text.specs.Tokens.{number};
+ghost use Rattle.cron_text.specs.Inner.Places.{IsPlace, tokens_from};
+ghost use Rattle.cron_text.specs.Inner.PlainReading.{IsAddedAt, IsBehind, IsItemAt, IsSymbolAt, IsWordAt};
+
+use super::fields::connector_at;
+use super::symbols::{Symbol, number_at};
+use super::tokens::{Place, is_digit, is_letter, skip_space};
+use cron_units::specifier::{Base, Item, add_item, add_name, add_names};
+use cron_units::time_unit::{Key, TimeUnitField, empty, with_letter};
+
+/// The number at an index, and where it ends.
+#[inline(always)]
+fn number_from(text: &str, at: usize) -> Option<(u32, usize)>
+    ensures { IfSome result (λ r. IsSymbolAt text.now at (number r.0) r.1) }
+{
+    let bytes = text.as_bytes();
+    if at >= bytes.len() {
+        return None;
+    }
+    if !is_digit(bytes[at]) {
+        return None;
+    }
+    match number_at(text, at) {
+        (Symbol::Number(value), end) => Some((value, end)),
+        _ => None,
+    }
+}
+
+/// Tells whether a byte stands at an index.
+#[inline(always)]
+fn stands(text: &[u8], at: usize, byte: u8) -> bool
+    ensures { IsTrue result → (at < length text.now) × (slice_index text.now at ≡ byte) }
+{
+    at < text.len() && text[at] == byte
+}
+
+/// The number behind a byte at an index, and where it ends.
+#[inline(always)]
+fn number_behind(text: &str, at: usize, byte: u8) -> Option<(u32, usize)>
+    ensures { IfSome result (λ r. IsBehind text.now at byte (number r.0) r.1) }
+{
+    if !stands(text.as_bytes(), at, byte) {
+        return None;
+    }
+    number_from(text, at + 1)
+}
+
+/// The item that a base is, with the step behind it, where one stands there.
+#[inline(always)]
+fn item_of(text: &str, base: Base<'static>, end: usize) -> (Item<'static>, usize)
+    ensures { (u : TimeUnit) (at : ℕ) → IsItemAt u text.now at (items.plain (base_view base.entry)) end → IsItemAt u text.now at (item_view result.0) result.1 }
+{
+    match number_behind(text, end, b'/') {
+        Some((step, end)) => (Item::Stepped(base, step), end),
+        None => (Item::Plain(base), end),
+    }
+}
+
+/// The item of numbers at an index, and where it ends.
+#[inline(always)]
+fn numbers_at(text: &str, at: usize) -> Option<(Item<'static>, usize)>
+    ensures { IfSome result (λ r. (u : TimeUnit) → IsItemAt u text.now at (item_view r.0) r.1) }
+{
+    let (first, end) = number_from(text, at)?;
+    match number_behind(text, end, b'-') {
+        Some((last, end)) => Some(item_of(text, Base::NumberRange(first, last), end)),
+        None => Some(item_of(text, Base::Single(first), end)),
+    }
+}
+
+/// The item of a star with a step at an index, and where it ends. A star without one is left.
+#[inline(always)]
+fn star_at(text: &str, at: usize) -> Option<(Item<'static>, usize)>
+    ensures { IfSome result (λ r. (u : TimeUnit) → IsItemAt u text.now at (item_view r.0) r.1) }
+{
+    if !stands(text.as_bytes(), at, b'*') {
+        return None;
+    }
+    let (step, end) = number_behind(text, at + 1, b'/')?;
+    Some((Item::Stepped(Base::Every, step), end))
+}
+
+/// The key of the word at an index, and where the word ends.
+#[inline(always)]
+fn word_from(text: &[u8], at: usize) -> Option<(Key, usize)>
+    ensures { IfSome result (λ r. IsWordAt text.now at r.0 r.1) }
+{
+    if at >= text.len() {
+        return None;
+    }
+    if !is_letter(text[at]) {
+        return None;
+    }
+    let mut key = with_letter(0, text[at]);
+    for end in at + 1..text.len() {
+        if !is_letter(text[end]) {
+            return Some((key, end));
+        }
+        key = with_letter(key, text[end]);
+    }
+    Some((key, text.len()))
+}
+
+/// Adds what the name or the range of names at an index denotes, and finds where it ends.
+#[inline(always)]
+fn add_words<T: TimeUnitField>(text: &[u8], at: usize, set: &mut T) -> Option<usize>
+    ensures { IfSome result (λ end. IsAddedAt T.unit text.now at end (with_mark (T.members set.old) (T.marked set.old)) (with_mark (T.members set.new) (T.marked set.new))) }
+{
+    let (first, end) = word_from(text, at)?;
+    if !stands(text, end, b'-') {
+        return if add_name(set, first) {
+            Some(end)
+        } else {
+            None
+        };
+    }
+    let (last, end) = word_from(text, end + 1)?;
+    if add_names(set, first, last) {
+        Some(end)
+    } else {
+        None
+    }
+}
+
+/// Adds what the item at an index denotes, and finds where it ends.
+#[inline(always)]
+fn add_plain<T: TimeUnitField>(text: &str, at: usize, set: &mut T) -> Option<usize>
+    ensures { IfSome result (λ end. IsAddedAt T.unit text.now at end (with_mark (T.members set.old) (T.marked set.old)) (with_mark (T.members set.new) (T.marked set.new))) }
+{
+    let found = match numbers_at(text, at) {
+        Some(found) => Some(found),
+        None => star_at(text, at),
+    };
+    match found {
+        Some((item, end)) => match add_item::<T>(set, item) {
+            Ok(()) => Some(end),
+            Err(_) => None,
+        },
+        None => add_words(text.as_bytes(), at, set),
+    }
+}
+
+/// Reads a field of such items into a set, and finds the place after it.
+#[inline(always)]
+pub fn read_plain<T: TimeUnitField>(text: &str, place: Place, set: &mut T) -> Option<Place>
+    ensures taken { IfSome result (λ after. TakesField T.unit (tokens_from text.now place) (with_mark (T.members set.new) (T.marked set.new)) (tokens_from text.now after)) }
+    ensures place { IfSome result (IsPlace text.now) }
+{
+    let bytes = text.as_bytes();
+    let mut joined: T = empty();
+    let mut end = add_plain(text, place.at, &mut joined)?;
+    while stands(bytes, end, b',') {
+        end = add_plain(text, end + 1, &mut joined)?;
+    }
+    let after = skip_space(bytes, end);
+    if connector_at(bytes, after).is_some() {
+        return None;
+    }
+    *set = joined;
+    Some(after)
+}
