@@ -19,7 +19,7 @@ use Rattle.cron_c.specs.declared.history.Begin.{Begin}
 use Rattle.cron_c.specs.declared.history.Begin.TheVariants.{After, Past}
 use Rattle.cron_c.specs.declared.item.CronItem.{CronItem}
 use Rattle.cron_c.specs.declared.status.Status.{Status}
-use Rattle.cron_c.specs.declared.status.Status.TheVariants.{Done, NoItem, Refused, NotUtf8, BadZone, BadInstant, NotAnItem, Untold, More}
+use Rattle.cron_c.specs.declared.status.Status.TheVariants.{Done, NoItem, Refused, NotUtf8, BadZone, BadInstant, NotAnItem, Untold, More, NoMemory}
 use Rattle.cron_c.proofs.Eras.{alike, not_before}
 use Rattle.cron_c.proofs.Filling.{front_more, front_none}
 
@@ -111,6 +111,7 @@ in_between_says s eras last now old new count BadZone h from to f = absurd f
 in_between_says s eras last now old new count BadInstant h from to f = absurd f
 in_between_says s eras last now old new count NotAnItem h from to f = absurd f
 in_between_says s eras last now old new count Untold h from to f = absurd f
+in_between_says s eras last now old new count NoMemory h from to f = absurd f
 
 pub in_past_says : (s : Sets) (eras : List CronEra) (r : Reading) (item : CronItem) (now : ℤ) (old new : List CronItem) (count : ℕ) (status : Status)
     → IsHistory eras → IsItem r item → IsInstant now
@@ -125,3 +126,4 @@ in_past_says s eras r item now old new count BadZone h is to f = absurd f
 in_past_says s eras r item now old new count BadInstant h is to f = absurd f
 in_past_says s eras r item now old new count NotAnItem h is to f = absurd f
 in_past_says s eras r item now old new count Untold h is to f = absurd f
+in_past_says s eras r item now old new count NoMemory h is to f = absurd f

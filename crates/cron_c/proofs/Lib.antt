@@ -7,3 +7,7 @@ mod AnyZone
 mod Eras
 mod HistoryFilling
 mod ErasBack
+pub mod TableEras
+pub mod TableItems
+pub mod EraFilling
+pub mod ZoneFileLemmas

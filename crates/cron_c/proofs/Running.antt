@@ -15,7 +15,7 @@ use Rattle.cron_c.specs.Runs.{BeginsBy, Fills, IsPage, IsWhole, RunsBetween, Run
 use Rattle.cron_c.specs.Structs.{IsItem}
 use Rattle.cron_c.specs.declared.item.CronItem.{CronItem}
 use Rattle.cron_c.specs.declared.status.Status.{Status}
-use Rattle.cron_c.specs.declared.status.Status.TheVariants.{Done, NoItem, Refused, NotUtf8, BadZone, BadInstant, NotAnItem, Untold, More}
+use Rattle.cron_c.specs.declared.status.Status.TheVariants.{Done, NoItem, Refused, NotUtf8, BadZone, BadInstant, NotAnItem, Untold, More, NoMemory}
 use Rattle.cron_c.proofs.Filling.{front_more, front_none}
 
 -- ---- what is due of what is left
@@ -110,6 +110,7 @@ between_says s zone z last now old new count BadZone of_zone from to f = absurd 
 between_says s zone z last now old new count BadInstant of_zone from to f = absurd f
 between_says s zone z last now old new count NotAnItem of_zone from to f = absurd f
 between_says s zone z last now old new count Untold of_zone from to f = absurd f
+between_says s zone z last now old new count NoMemory of_zone from to f = absurd f
 
 pub past_says : (s : Sets) (zone : CronZone) (z : TimeZone) (r : Reading) (item : CronItem) (now : ℤ) (old new : List CronItem) (count : ℕ) (status : Status)
     → IsZoneIn zone z → IsItem r item → IsInstant now → Fills (fires_past_by s z r (now *ℤ pos 1_000_000_000)) old new count status
@@ -123,3 +124,4 @@ past_says s zone z r item now old new count BadZone of_zone is to f = absurd f
 past_says s zone z r item now old new count BadInstant of_zone is to f = absurd f
 past_says s zone z r item now old new count NotAnItem of_zone is to f = absurd f
 past_says s zone z r item now old new count Untold of_zone is to f = absurd f
+past_says s zone z r item now old new count NoMemory of_zone is to f = absurd f

@@ -6,3 +6,4 @@ pub mod Listings
 pub mod Runs
 pub mod Zones
 pub mod Histories
+pub mod ZoneFiles

@@ -15,9 +15,11 @@ mod runs;
 mod schedule;
 mod searching;
 mod status;
+mod table;
 mod text;
 mod version;
 mod zone;
+mod zone_file;
 
 pub use era::CronEra;
 pub use firing::{cron_c_fire_after, cron_c_fire_at, cron_c_fire_by};
@@ -35,3 +37,4 @@ pub use searching::{cron_c_after, cron_c_before, cron_c_next, cron_c_prev};
 pub use text::cron_c_format;
 pub use version::cron_c_version;
 pub use zone::{CronTurn, CronZone};
+pub use zone_file::cron_c_history_read;

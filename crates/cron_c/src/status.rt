@@ -24,10 +24,12 @@ pub enum Status {
     Untold,
     /// What was asked for was written as far as it fits, and more is left.
     More,
+    /// Memory is wanting.
+    NoMemory,
 }
 
 impl Status {
-    /// The number, as the header names it: 0 to 8, in the order above.
+    /// The number, as the header names it: 0 to 9, in the order above.
     pub fn code(self) -> u32
         ensures { result ≡ code_of self }
     {
@@ -41,6 +43,7 @@ impl Status {
             Status::NotAnItem => 6,
             Status::Untold => 7,
             Status::More => 8,
+            Status::NoMemory => 9,
         }
     }
 }

@@ -210,8 +210,8 @@ fn fixed(kind: u32, offset: i32) -> CronZone
     }
 }
 
-// The struct of a rule.
-fn struct_of(rule: posix::TimeZone) -> CronZone
+/// The struct of a rule.
+pub fn struct_of(rule: posix::TimeZone) -> CronZone
     ensures { IsZoneIn result (Posix rule) }
 {
     match rule.dst {

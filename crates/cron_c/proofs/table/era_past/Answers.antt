@@ -1,0 +1,13 @@
+use Rattle.std.proofs.Common.{◌∙◌, FitsSigned, rules, to_z-of_z, w64}
+use Rattle.cron_c.proofs.TableEras.{says_too}
+use Rattle.cron_c.proofs.table.era_past.Goals as goal
+
+pub returns : goal.returns
+returns c =
+    let fits : FitsSigned w64 c.start_past.result = search rules in
+    record {
+      rule = c.rule_past.ensures.own;
+      start = to_z-of_z fits ∙ c.start_past.ensures;
+      said = says_too c.struct_of.result c.rule_past.result c.rule_past.ensures.own c.rule_past.ensures.view c.struct_of.ensures;
+      past = c.rule_past.ensures.past;
+    }

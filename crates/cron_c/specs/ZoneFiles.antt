@@ -1,0 +1,125 @@
+-- Zones from the bytes of a compiled zone file, as eras.
+use Rattle.std.specs.Prelude.{◌≡◌, ◌+◌, ◌-◌, ◌<◌, ◌==◌, ◌↔◌, ◌⊎◌, ℕ, ℤ, pos, neg_ℤ, ◌≤ℤ◌, true, false, if◌then◌else◌, List, ◌++◌, drop, Some, Ok, Err, IfSome, slice_get, length}
+use Rattle.jiff_core.specs.Timestamp.{IsTimestampNanos, nanos_of_seconds}
+use Rattle.jiff_core.specs.declared.error.TzifFault.{TzifFault}
+use Rattle.jiff_tz.specs.TzifReader.{TzifText, read_tzif}
+use Rattle.jiff_tz.specs.Tzif.{HasBadRule, RuleAgrees, count_at, floor_second, transition_at, tzif_view}
+use Rattle.jiff_tz.specs.PosixText.{tz_view}
+use Rattle.jiff_tz.specs.Tzif as Table
+use Rattle.jiff_tz.specs.Zone as Zone
+use Rattle.jiff_tz.specs.declared.posix.TimeZone.{TimeZone as PosixRule}
+use Rattle.jiff_tz.specs.declared.timezone.TimeZone.{TimeZone}
+use Rattle.jiff_tz.specs.declared.timezone.TimeZone.TheVariants.{Posix}
+use Rattle.jiff_tz.specs.declared.tzif.Tzif.{Tzif}
+use Rattle.cron_units.specs.Sets.{Sets}
+use Rattle.cron_moments.specs.Civil.{civil, seconds_in_range}
+use Rattle.cron_moments.specs.Readings.{Reading, instant}
+use Rattle.cron_clocks.specs.Clocks.{LookupsAgree}
+use Rattle.cron_time.specs.Matches.{matches}
+use Rattle.cron_c.specs.Zones.{IsZoneIn}
+use Rattle.cron_c.specs.Histories.{IsHistory, IsHistoryItem, has_started}
+use Rattle.cron_c.specs.declared.era.CronEra.{CronEra}
+use Rattle.cron_c.specs.declared.zone.CronZone.{CronZone}
+use Rattle.cron_c.specs.declared.status.Status.{Status}
+use Rattle.cron_c.specs.declared.status.Status.TheVariants.{Done, BadZone, More, NoMemory}
+
+-- ---- what the bytes say
+
+-- the bytes are a zone file that says this table, and the rule behind the table agrees with its last row
+abbrev pub IsFileOf : List ℕ → Tzif → Type 0
+IsFileOf bytes t = (read_tzif bytes ≡ Ok (tzif_view t)) × RuleAgrees t
+
+-- they are none: they break the format, or the rule doesn't agree with the table
+abbrev pub IsNoFile : List ℕ → Type 0
+IsNoFile bytes = ((fault : TzifFault) × (read_tzif bytes ≡ Err fault)) ⊎ HasBadRule (read_tzif bytes)
+
+-- how many turns the table has
+abbrev pub turn_count : Tzif → ℕ
+turn_count t = length t.transitions.items
+
+-- two turns of the table lie at the same second
+abbrev pub HasDoubleTurn : Tzif → Type 0
+HasDoubleTurn t = (i : ℕ) × (i + 1 < turn_count t) × ((transition_at t i).second ≡ (transition_at t (i + 1)).second)
+
+-- ---- what the eras say
+
+-- the era at this place holds the second
+pub record HoldsSecond (eras : List CronEra) (place : ℕ) (e : CronEra) (second : ℤ) : Type 0 where
+  pub here : slice_get eras place ≡ Some e
+  pub begun : e.starts ≤ℤ second
+  pub lasts : has_started eras (place + 1) second ≡ false
+
+-- a clock in the zone of the struct is so many seconds ahead of UTC at the instant
+abbrev pub ShowsAt : CronZone → ℤ → ℤ → Type 0
+ShowsAt c n seconds = (z : TimeZone) × IsZoneIn c z × (Zone.offset_at z n ≡ seconds)
+
+-- the civil second of the reading matches, and at its instant the clock of the table is at its offset
+abbrev pub IsShownItem : Sets → Tzif → Reading → Type 0
+IsShownItem s t r =
+    (r.second < seconds_in_range)
+    × (matches s (civil r.second) ≡ true)
+    × ((Table.offset_at t (nanos_of_seconds (instant r))).seconds ≡ r.offset.seconds)
+
+-- the look-ups of the rule behind the table agree, if there is one
+abbrev pub RuleIsCalm : Tzif → Type 0
+RuleIsCalm t = IfSome t.posix_tz (λ rule. LookupsAgree (Posix rule))
+
+-- The eras mean the zone of the table: at each instant the era that holds it has the table's offset. The items of this history are then
+-- the readings that match and are shown.
+pub record IsHistoryOf (t : Tzif) (eras : List CronEra) : Type 0 where
+  pub history : IsHistory eras
+  pub counted : length eras ≡ turn_count t + 1
+  pub begins : (n : ℤ) → IsTimestampNanos n → has_started eras 0 (floor_second n) ≡ true
+  pub clocks : (n : ℤ) (i : ℕ) (e : CronEra) → HoldsSecond eras i e (floor_second n) → ShowsAt e.zone n (Table.offset_at t n).seconds
+  pub items : RuleIsCalm t → (s : Sets) (r : Reading) → IsHistoryItem s eras r ↔ IsShownItem s t r
+
+-- ---- what each status says
+
+-- the eras are in the array, before what it held
+abbrev pub AreInFront : List CronEra → List CronEra → List CronEra → Type 0
+AreInFront written old new = new ≡ written ++ drop (length written) old
+
+-- The eras of the table are in the array; or it is too short; or two turns lie at the same second.
+abbrev pub WritesEras : Tzif → List CronEra → List CronEra → ℕ → Status → Type 0
+WritesEras t old new count Done = (written : List CronEra) × IsHistoryOf t written × AreInFront written old new × (count ≡ length written)
+WritesEras t old new count More = ¬ (HasDoubleTurn t) × (length old < count) × (new ≡ old) × (count ≡ turn_count t + 1)
+WritesEras t old new count BadZone = HasDoubleTurn t × (new ≡ old) × (count ≡ 0)
+WritesEras t old new count _ = ⊥
+
+-- The bytes are those of a zone file, and its eras are in the array; or the array is too short; or they are none, or none that eras mean;
+-- or memory is wanting for what they say.
+abbrev pub ReadsHistory : List ℕ → List CronEra → List CronEra → ℕ → Status → Type 0
+ReadsHistory bytes old new count NoMemory = (text : TzifText) × (read_tzif bytes ≡ Ok text) × (new ≡ old) × (count ≡ 0)
+ReadsHistory bytes old new count BadZone =
+    (IsNoFile bytes ⊎ ((t : Tzif) × IsFileOf bytes t × HasDoubleTurn t)) × (new ≡ old) × (count ≡ 0)
+ReadsHistory bytes old new count status = (t : Tzif) × IsFileOf bytes t × WritesEras t old new count status
+
+-- ---- inner
+
+-- where the era past so many turns starts
+abbrev pub start_of : Tzif → ℕ → ℤ
+start_of t count = if count == 0 then neg_ℤ (pos 9_223_372_036_854_775_808) else (transition_at t (count - 1)).second
+
+-- past so many turns the clock of the table is that of the rule, whose look-ups agree if those of the rule behind the table do
+pub record IsRulePast (t : Tzif) (count : ℕ) (rule : PosixRule) : Type 0 where
+  pub shown : (n : ℤ) → count_at t (floor_second n) ≡ count → Zone.offset_at (Posix rule) n ≡ (Table.offset_at t n).seconds
+  pub calm : RuleIsCalm t → LookupsAgree (Posix rule)
+
+-- the rule reads the same
+pub record SaysRulePast (t : Tzif) (count : ℕ) (rule : PosixRule) : Type 0 where
+  pub own : PosixRule
+  pub view : tz_view rule ≡ tz_view own
+  pub past : IsRulePast t count own
+
+-- the era is the one past so many turns
+pub record IsEraOf (t : Tzif) (count : ℕ) (e : CronEra) : Type 0 where
+  pub rule : PosixRule
+  pub start : e.starts ≡ start_of t count
+  pub said : IsZoneIn e.zone (Posix rule)
+  pub past : IsRulePast t count rule
+
+-- the eras past none, one and more turns, n in all, are in the array, before what it held
+pub record AreErasIn (t : Tzif) (n : ℕ) (old new : List CronEra) : Type 0 where
+  pub size : length new ≡ length old
+  pub eras : (i : ℕ) (e : CronEra) → i < n → slice_get new i ≡ Some e → IsEraOf t i e
+  pub rest : drop n new ≡ drop n old

@@ -1,0 +1,38 @@
+//! Zones from the bytes of a compiled zone file.
+
+ghost use Rattle.cron_c.specs.Calls.{Answers};
+ghost use Rattle.cron_c.specs.ZoneFiles.{ReadsHistory};
+
+use crate::era::CronEra;
+use crate::status::Status;
+use crate::table::write_eras;
+use jiff_core::Error;
+use jiff_tz::Tzif;
+use std::alloc::Global;
+
+fn read_history(alloc: Global, bytes: &[u8], eras: &mut [CronEra], count: &mut usize) -> Status
+    ensures { ReadsHistory bytes.now eras.old eras.new count.new result }
+{
+    *count = 0;
+    match Tzif::parse(alloc, None, bytes) {
+        Ok(table) => write_eras(&table, eras, count),
+        Err(error) => match error {
+            Error::OutOfMemory => Status::NoMemory,
+            _ => Status::BadZone,
+        },
+    }
+}
+
+/// Reads the bytes of a compiled zone file, and writes the eras that mean its zone, where there is room
+/// for all of them, and how many they are. The memory that it takes is given back before it returns.
+#[unsafe(no_mangle)]
+pub extern "C" fn cron_c_history_read(
+    alloc: Global,
+    bytes: &[u8],
+    eras: &mut [CronEra],
+    count: &mut usize,
+) -> u32
+    ensures { Answers (ReadsHistory bytes.now eras.old eras.new count.new) result }
+{
+    read_history(alloc, bytes, eras, count).code()
+}
