@@ -4,6 +4,7 @@
  * broken. Buffers have the very lengths that are told, so that a sanitizer sees each byte past them.
  */
 #include "cron_c.h"
+#include "pyongyang.h"
 
 #include <stdio.h>
 #include <stdlib.h>
@@ -251,6 +252,34 @@ static void texts(void)
     free(message);
 }
 
+/* The bytes of a zone file with some of them changed are eras, or refused. */
+static void zone_files(const cron_c_schedule *schedule)
+{
+    const size_t length = chance(4) ? sizeof PYONGYANG : chance(sizeof PYONGYANG + 20), room = chance(8);
+    uint8_t *bytes = malloc(length + 1);
+    cron_c_era *eras = malloc((room + 1) * sizeof *eras), kept;
+    cron_c_item item;
+    size_t count = 9999;
+    for (size_t place = 0; place < length; place++) {
+        bytes[place + 1] = place < sizeof PYONGYANG ? PYONGYANG[place] : (uint8_t)chance(256);
+    }
+    for (uint64_t left = length == 0 ? 0 : chance(4); left > 0; left--) {
+        bytes[chance(length) + 1] = (uint8_t)(chance(2) ? chance(256) : chance(6));
+    }
+    memset(eras, 0x5a, (room + 1) * sizeof *eras);
+    memset(&kept, 0x5a, sizeof kept);
+    uint32_t status = cron_c_history_read(bytes + 1, length, eras + 1, room, &count);
+    LAW(status == CRON_C_OK || status == CRON_C_BAD_ZONE || status == CRON_C_MORE);
+    LAW(status == CRON_C_OK ? count >= 1 && count <= room : status == CRON_C_MORE ? count > room : count == 0);
+    for (size_t place = status == CRON_C_OK ? count : 0; place < room; place++) {
+        LAW(memcmp(eras + 1 + place, &kept, sizeof kept) == 0);
+    }
+    LAW(status != CRON_C_OK || (eras[1].starts == INT64_MIN && eras[1].zone.kind == 1) || (count == 1 && eras[1].zone.kind == 2));
+    LAW(status != CRON_C_OK || cron_c_history_fire_after(schedule, eras + 1, count, some_instant(), &item) <= CRON_C_NO_ITEM);
+    free(bytes);
+    free(eras);
+}
+
 /* The text of an item fits, and no byte past the buffer is written. */
 static void formats(void)
 {
@@ -276,6 +305,7 @@ int main(int count, char **words)
         cron_c_item item;
         texts();
         formats();
+        zone_files(&schedule);
         if (cron_c_fire_after(&schedule, &zone, instant, &item) == CRON_C_BAD_ZONE) {
             LAW(cron_c_after(&schedule, &zone, instant, &item) == CRON_C_BAD_ZONE);
             continue;

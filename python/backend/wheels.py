@@ -27,12 +27,12 @@ Generator: {NAME}
 Root-Is-Purelib: false
 Tag: {TAG}
 """
-MISSING = "no archive at {}: make it by `rt lib` in crates/cron_c, or name one in CRON_C_ARCHIVE"
+MISSING = "no archive at {}: make it by crates/cron_c/archive, or name one in CRON_C_ARCHIVE"
 
 
 def archive():
     """The path of the archive."""
-    path = os.environ.get("CRON_C_ARCHIVE") or HERE.parent / "crates" / NAME / "out" / f"lib{NAME}.a"
+    path = os.environ.get("CRON_C_ARCHIVE") or HERE.parent / "crates" / NAME / "out" / "whole" / f"lib{NAME}.a"
     if not os.path.exists(path):
         raise FileNotFoundError(MISSING.format(path))
     return os.fspath(path)

@@ -8,7 +8,7 @@ from typing import Optional, Sequence
 
 from .errors import CronError, TextError, ZoneError
 
-OK, NO_ITEM, REFUSED, NOT_UTF8 = 0, 1, 2, 3
+OK, NO_ITEM, REFUSED, NOT_UTF8, BAD_ZONE, MORE = 0, 1, 2, 3, 4, 8
 LEAST_INSTANT, GREATEST_INSTANT = -377705023201, 253402207200
 
 
@@ -47,7 +47,8 @@ def _load() -> ctypes.CDLL:
     library.cron_c_zone_parse.argtypes = text + [pointer(Zone)]
     for call in ("history_fire_after", "history_fire_by"):
         getattr(library, f"cron_c_{call}").argtypes = [pointer(Sets), pointer(Era), size, instant, pointer(Item)]
-    for call in ("parse", "zone_parse", "history_fire_after", "history_fire_by"):
+    library.cron_c_history_read.argtypes = [ctypes.c_char_p, size, pointer(Era), size, pointer(size)]
+    for call in ("parse", "zone_parse", "history_read", "history_fire_after", "history_fire_by"):
         getattr(library, f"cron_c_{call}").restype = ctypes.c_uint32
     return library
 
@@ -93,6 +94,20 @@ def _within(instant: int) -> int:
 def history(eras: Sequence[Era]) -> History:
     """Eras in the order of their starts, as the calls take them."""
     return (Era * len(eras))(*eras)
+
+
+def read_history(data: bytes) -> History:
+    """The eras of a compiled zone file."""
+    eras, count = history([]), ctypes.c_size_t()
+    status = _LIBRARY.cron_c_history_read(data, len(data), eras, len(eras), count)
+    if status == MORE:
+        eras = (Era * count.value)()
+        status = _LIBRARY.cron_c_history_read(data, len(data), eras, len(eras), count)
+    if status == BAD_ZONE:
+        raise ZoneError("the zone's file is none")
+    if status != OK:
+        raise CronError(f"status {status}")
+    return eras
 
 
 def fire_after(sets: Sets, eras: History, instant: int) -> Optional[int]:

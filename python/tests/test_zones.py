@@ -1,10 +1,13 @@
 """Each zone of the machine against `zoneinfo`: the quarters of an hour on its clock around its clock changes."""
 
+import struct
 import unittest
 import zoneinfo
 from datetime import datetime, timedelta, timezone
 
-from cron_c import Schedule
+from cron_c import Schedule, ZoneError
+from cron_c.library import read_history
+from cron_c.zones import _data_of, eras_of
 
 YEARS = (1970, 1974, 2025, 2037)
 DAY, QUARTER = timedelta(days=1), timedelta(minutes=15)
@@ -42,7 +45,29 @@ def quarters(zone, start, end):
     return sorted(found)
 
 
+HEADER = struct.Struct(">4sc15x6L")
+
+
+def count_of_changes(data):
+    """How many clock changes the table of a zone's file has: that of its second block, if it has one."""
+    _, version, utc, wall, leap, turns, types, letters = HEADER.unpack_from(data)
+    if version >= b"2":
+        turns = HEADER.unpack_from(data, HEADER.size + turns * 5 + types * 6 + letters + leap * 8 + wall + utc)[5]
+    return turns
+
+
 class Zones(unittest.TestCase):
+    def test_each_file_has_an_era_for_each_change_and_one_before(self):
+        for key in sorted(zoneinfo.available_timezones() - {"localtime"}):
+            eras = eras_of(zoneinfo.ZoneInfo(key))
+            self.assertEqual(len(eras), count_of_changes(_data_of(key)) + 1, key)
+            self.assertEqual(eras[0].starts, -(1 << 63), key)
+
+    def test_bytes_of_no_file_are_refused(self):
+        for data in (b"", b"TZif", _data_of("America/Chicago")[:-1], _data_of("America/Chicago")[:2000]):
+            with self.assertRaises(ZoneError):
+                read_history(data)
+
     def test_each_zone_fires_as_its_clock_shows(self):
         schedule = Schedule("0 */15 * * * *")
         count = 0

@@ -2,9 +2,10 @@
  * Cron expressions from C: what a text means, and the items of its timeline in a zone.
  *
  * C11 or later, and C++11 or later. Link `libcron_c.a` or `libcron_c.so`, x86-64-v2 code for Linux
- * (ELF). It needs no other library than that of C, takes no memory, keeps nothing between calls, and
- * starts no thread. Each call reads and writes what its arguments point to and nothing else, so
- * calls over different structs may run at the same time.
+ * (ELF). It needs no other library than that of C, keeps nothing between calls, and starts no
+ * thread. Each call reads and writes what its arguments point to and nothing else, so calls over
+ * different structs may run at the same time. None takes memory but `cron_c_history_read`, which
+ * gives back what it took before it returns.
  *
  * Rules for every call, which no proof of the library can see:
  *   - No pointer may be null, also where its length is 0.
@@ -22,7 +23,7 @@ extern "C" {
 #endif
 
 /* The version of this header: 10,000 times its first number, 100 times its second, and its third. */
-#define CRON_C_VERSION 10100
+#define CRON_C_VERSION 10200
 
 /* The version of the archive. Its first number is that of the header, or the structs may differ. */
 uint32_t cron_c_version(void);
@@ -50,11 +51,12 @@ enum {
     CRON_C_NO_ITEM = 1,     /* The timeline has no item there. */
     CRON_C_REFUSED = 2,     /* The text means nothing, and the message says why. */
     CRON_C_NOT_UTF8 = 3,    /* The text isn't UTF-8. */
-    CRON_C_BAD_ZONE = 4,    /* The text names no zone, or the numbers are of none. */
+    CRON_C_BAD_ZONE = 4,    /* The text names no zone, or the numbers or the bytes are of none. */
     CRON_C_BAD_INSTANT = 5, /* The instant is less than the least one, or past the greatest. */
     CRON_C_NOT_AN_ITEM = 6, /* The given item isn't one of this schedule in this zone. */
     CRON_C_UNTOLD = 7,      /* As CRON_C_REFUSED, but the message's length doesn't fit size_t. */
-    CRON_C_MORE = 8         /* What was asked for was written as far as it fits, and more is left. */
+    CRON_C_MORE = 8,        /* What was asked for was written as far as it fits, and more is left. */
+    CRON_C_NO_MEMORY = 9    /* Memory is wanting. */
 };
 
 /* What a status says, in English. */
@@ -70,6 +72,7 @@ static inline const char *cron_c_status_text(uint32_t status)
     case CRON_C_NOT_AN_ITEM: return "the item isn't one of the schedule in the zone";
     case CRON_C_UNTOLD: return "the text means nothing, and the message has no length";
     case CRON_C_MORE: return "more is left than fits";
+    case CRON_C_NO_MEMORY: return "memory is wanting";
     default: return "no status";
     }
 }
@@ -250,6 +253,25 @@ typedef struct cron_c_era {
     int64_t starts;
     cron_c_zone zone;
 } cron_c_era;
+
+/* Enough eras for each file of the time zone database 2025b, the longest of which have 311. */
+#define CRON_C_ERAS 400
+
+/*
+ * Reads the bytes of a compiled zone file (TZif, RFC 9636), as /usr/share/zoneinfo holds them, writes
+ * to `eras` the eras that mean its zone, and to `*count` how many they are. At each instant the era
+ * that holds it has the offset that the file tells for it. The first one starts before every instant,
+ * and the last one has the rule on the last line of the file, if there is one. Leap seconds that a
+ * file tells are passed over.
+ *
+ * CRON_C_OK; CRON_C_MORE where they are more than `eras_length`, and nothing is written but their
+ * number in `*count`; or, with 0 in `*count`, CRON_C_BAD_ZONE where the bytes are none of such a file,
+ * a name of its times has more than 15 bytes, two of its clock changes share a second, or its rule
+ * says another time at the last of them than the table; CRON_C_NO_MEMORY where malloc has no room for
+ * what the bytes say. Not to be called from a signal handler.
+ */
+uint32_t cron_c_history_read(const uint8_t *bytes, size_t bytes_length,
+                             cron_c_era *eras, size_t eras_length, size_t *count);
 
 /*
  * The calls by instants over a history. They answer as those over a zone do, `cron_c_fire_after` and
