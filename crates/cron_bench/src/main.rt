@@ -1,11 +1,13 @@
 //! `cron_bench run` prints what a parse and a call of a walk cost, in nanoseconds; `cron_bench growth`
 //! what parses of longer and longer lists cost; `cron_bench lines` what each of 100,000 varied lines
-//! costs, and of the lines that `cron_check` checks; and `cron_bench print` those lines. With no word it prints nothing.
+//! costs, and of the lines that `cron_check` checks; `cron_bench print` those lines; and `cron_bench turn
+//! FILE` what runs cost around a turn of the zone in a file. With no word it prints nothing.
 #![tactic(auto)]
 
 mod checks;
 mod lines;
 mod parses;
+mod turns;
 mod walks;
 
 use std::{env, io};
@@ -23,6 +25,7 @@ fn main(rt: HostRuntime) -> io::Result<()> {
             checks::run(&rt)
         }
         [_, word] if word.as_str() == "print" => lines::print(&rt),
+        [_, word, path] if word.as_str() == "turn" => turns::run(&rt, path.as_str()),
         _ => Ok(()),
     }
 }

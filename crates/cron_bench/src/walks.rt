@@ -55,7 +55,7 @@ impl Kind {
 }
 
 /// Calls `next` so often, begins anew where the walk ends, and tells when it last ended.
-fn ahead(schedule: &Schedule, start: Timestamp, zone: &TimeZone<'_>, calls: u32) -> u32 {
+pub fn ahead(schedule: &Schedule, start: Timestamp, zone: &TimeZone<'_>, calls: u32) -> u32 {
     let mut walk = schedule.after(start, zone);
     let mut ended = 0;
     for call in 0..calls {
@@ -81,7 +81,7 @@ fn back(schedule: &Schedule, end: Timestamp, zone: &TimeZone<'_>, calls: u32) ->
 }
 
 /// Calls `next` once on each of so many walks, and tells which one last had no item.
-fn fresh(schedule: &Schedule, start: Timestamp, zone: &TimeZone<'_>, calls: u32) -> u32 {
+pub fn fresh(schedule: &Schedule, start: Timestamp, zone: &TimeZone<'_>, calls: u32) -> u32 {
     let mut walk = schedule.after(start, zone);
     let mut ended = 0;
     for call in 0..calls {
@@ -94,7 +94,7 @@ fn fresh(schedule: &Schedule, start: Timestamp, zone: &TimeZone<'_>, calls: u32)
 }
 
 /// Calls `next` of a run of fires so often, begins anew where the run ends, and tells when it last ended.
-fn fires(schedule: &Schedule, start: Timestamp, zone: &TimeZone<'_>, calls: u32) -> u32 {
+pub fn fires(schedule: &Schedule, start: Timestamp, zone: &TimeZone<'_>, calls: u32) -> u32 {
     let mut run = Fires::after(schedule, start, zone);
     let mut ended = 0;
     for call in 0..calls {
@@ -107,7 +107,7 @@ fn fires(schedule: &Schedule, start: Timestamp, zone: &TimeZone<'_>, calls: u32)
 }
 
 /// Asks for the first fire after the start so often, and tells which call last had none.
-fn first_fires(schedule: &Schedule, start: Timestamp, zone: &TimeZone<'_>, calls: u32) -> u32 {
+pub fn first_fires(schedule: &Schedule, start: Timestamp, zone: &TimeZone<'_>, calls: u32) -> u32 {
     let mut ended = 0;
     for call in 0..calls {
         if first_fire_after(schedule, start, zone).is_none() {
