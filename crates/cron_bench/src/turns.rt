@@ -4,9 +4,8 @@ use crate::walks::{ahead, fires, first_fires, fresh};
 use cron::Schedule;
 use jiff::Timestamp;
 use jiff::tz::{TimeZone, Tzif};
-use std::io;
 use std::time::Instant;
-use std::fs;
+use std::{fs, io};
 
 /// How many fires a run has, and how often a first one is asked for.
 const FIRES: u32 = 1_000_000;
