@@ -158,7 +158,7 @@ reach_on way w outer test start first m None fails reached here h = reach_end wa
 reach_on way w outer test start first m (Some next) fails reached here h = reach_next way w outer test start first m next fails reached here h
 
 -- blocks of one number each
-one_each : (n : ℕ) → n / 1 ≡ n
+pub one_each : (n : ℕ) → n / 1 ≡ n
 one_each n = omega arith
 
 pub starts_each : (way : Way) (start : ℤ) → BlocksLieFrom way 1 start start

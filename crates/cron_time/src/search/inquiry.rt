@@ -12,9 +12,10 @@ ghost use Rattle.cron_moments.specs.Calendar.{weekday_number};
 ghost use Rattle.cron_moments.specs.Readings.{readings};
 ghost use Rattle.cron_clocks.specs.Steady.{IsKnown};
 
+use crate::search::reading::readings_within;
 use cron_clocks::stretch::Stretch;
 use cron_moments::calendar::{KnownMonth, weekday_of};
-use cron_moments::readings::{Found, readings_of};
+use cron_moments::readings::Found;
 use cron_units::fields::ScheduleFields;
 use cron_units::way::Way;
 use jiff::tz::TimeZone;
@@ -33,14 +34,13 @@ pub(crate) enum Unit {
 
 /// The sets and the zone that a search asks, and how often it has asked. No two public calls share
 /// one. Its methods alone ask, and each raises its own count by one. It knows the month of the date that
-/// was made last, and a stretch of civil seconds, perhaps an empty one, that was handed to it or learned.
+/// was made last, and the stretch of civil seconds, at first an empty one, in which it looked for a reading last.
 #[derive(Drop)]
 pub(crate) struct Inquiry<'a> {
     fields: &'a ScheduleFields,
     zone: &'a TimeZone<'a>,
     month: KnownMonth,
     stretch: Stretch,
-    learned: bool,
     days: u64,
     conversions: u64,
     questions: u64,
@@ -66,29 +66,16 @@ impl<'a> Model for Inquiry<'a> {
 }
 
 impl<'a> Inquiry<'a> {
-    pub(crate) fn new(fields: &'a ScheduleFields, zone: &'a TimeZone<'a>) -> Inquiry<'a>
-        ensures { result ≡ unasked fields.now (plain_zone zone.now) }
-    {
-        Inquiry::knowing(fields, zone, KnownMonth::january_1970(), Stretch::empty())
-    }
-
     /// Nothing is asked yet.
     #[inline(always)]
-    pub(crate) fn knowing(
-        fields: &'a ScheduleFields,
-        zone: &'a TimeZone<'a>,
-        month: KnownMonth,
-        stretch: Stretch,
-    ) -> Inquiry<'a>
-        requires { IsKnown (plain_zone zone.now) stretch }
+    pub(crate) fn new(fields: &'a ScheduleFields, zone: &'a TimeZone<'a>) -> Inquiry<'a>
         ensures { result ≡ unasked fields.now (plain_zone zone.now) }
     {
         Inquiry {
             fields,
             zone,
-            month,
-            stretch,
-            learned: false,
+            month: KnownMonth::january_1970(),
+            stretch: Stretch::empty(),
             days: 0,
             conversions: 0,
             questions: 0,
@@ -99,17 +86,6 @@ impl<'a> Inquiry<'a> {
     #[inline(always)]
     pub(crate) fn month(&self) -> KnownMonth {
         self.month
-    }
-
-    /// Hands the stretch on, if it is another than the one that was handed in.
-    #[inline(always)]
-    pub(crate) fn hand_on(&self, stretch: &mut Stretch)
-        requires { IsKnown self.now.zone stretch.old }
-        ensures { IsKnown self.now.zone stretch.new }
-    {
-        if self.learned {
-            *stretch = self.stretch;
-        }
     }
 
     /// The dates that were made and tested.
@@ -181,26 +157,6 @@ impl<'a> Inquiry<'a> {
         Some(number)
     }
 
-    // The readings of a civil second of which nothing is known yet. Where a zone has more than one
-    // offset, the stretch of civil seconds around this one is known from now on.
-    #[inline(always)]
-    fn readings_anew(&mut self, second: u32) -> Option<Found>
-        requires { second < seconds_in_range }
-        ensures readings { items_if_any result ≡ readings self.old.zone second }
-        ensures unchanged { self.new ≡ self.old }
-    {
-        match self.zone.to_plain() {
-            jiff_tz::TimeZone::UTC | jiff_tz::TimeZone::Unknown | jiff_tz::TimeZone::Fixed(_) => {
-                readings_of(self.zone, second)
-            }
-            _ => {
-                self.stretch = Stretch::at(self.zone, second);
-                self.learned = true;
-                self.stretch.readings(second)
-            }
-        }
-    }
-
     /// Asks the zone for the readings of a civil second: none in a gap.
     #[inline(always)]
     pub(crate) fn readings(&mut self, second: u32) -> Option<Found>
@@ -210,9 +166,6 @@ impl<'a> Inquiry<'a> {
         ensures counted { self.new ≡ one_conversion self.old }
     {
         self.conversions += 1;
-        if self.stretch.has(second) {
-            return self.stretch.readings(second);
-        }
-        self.readings_anew(second)
+        readings_within(self.zone, second, &mut self.stretch)
     }
 }

@@ -17,11 +17,13 @@ ghost use Rattle.cron_time.specs.Search.{IsFound};
 
 pub(crate) mod days;
 pub mod found;
+mod heard;
 pub(crate) mod inquiry;
 mod leap_days;
 pub mod month_days;
 mod neighbours;
 pub mod onward;
+mod reading;
 pub mod survey;
 pub mod times;
 mod ways;

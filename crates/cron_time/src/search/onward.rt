@@ -7,18 +7,18 @@ ghost use Rattle.cron_moments.specs.Found.{found_items};
 ghost use Rattle.cron_clocks.specs.Steady.{IsKnown};
 ghost use Rattle.cron_time.specs.Search.Inner.Blocks.{AllFail};
 ghost use Rattle.cron_time.specs.Search.Inner.DaySearch.{FindsInDay, FindsPastDay, FindsTimePast};
-ghost use Rattle.cron_time.specs.Search.Inner.Inquired.{IsSame};
 ghost use Rattle.cron_time.specs.Search.Inner.MonthDays.{KnowsDays};
 ghost use Rattle.cron_time.specs.Search.Inner.Numbers.{beyond, matches_second, stands_at, way_of};
 ghost use Rattle.cron_time.specs.Matches.{matches_date};
 ghost use Rattle.cron_time.specs.Search.{IsFound};
 
 use crate::search::days::some_month_has_a_day;
+use crate::search::heard::search_heard;
 use crate::search::inquiry::Inquiry;
 use crate::search::month_days::MonthDays;
 use crate::search::neighbours::{Neighbours, TimesOfDay, time_past};
 use crate::search::ways::{entry, extreme, past};
-use crate::search::{SECONDS_PER_DAY, search_times, start_of};
+use crate::search::{SECONDS_PER_DAY, start_of};
 use cron_clocks::stretch::Stretch;
 use cron_moments::calendar::KnownMonth;
 use cron_moments::readings::Found;
@@ -28,24 +28,31 @@ use jiff::tz::TimeZone;
 
 // The times of the day past one of them, if there are any.
 #[inline(always)]
-fn search_times_past(inquiry: &mut Inquiry<'_>, way: Way, day: u32, time: u32) -> Option<Found>
+fn search_times_past(
+    fields: &ScheduleFields,
+    zone: &TimeZone<'_>,
+    way: Way,
+    day: u32,
+    time: u32,
+    stretch: &mut Stretch,
+) -> Option<Found>
     requires in_range { day < days_in_range }
     requires time { time < 86_400 }
-    requires matching { matches_date inquiry.old.sets (date_numbered day).0 ≡ true }
-    requires member { matches_second inquiry.old.sets time ≡ true }
-    requires room { inquiry.old.conversions < 2 ^ 62 }
+    requires matching { matches_date fields.now (date_numbered day).0 ≡ true }
+    requires member { matches_second fields.now time ≡ true }
+    requires known { IsKnown (plain_zone zone.now) stretch.old }
     ensures found { MatchOption (option_map found_items result)
-        (AllFail way (stands_at inquiry.old.sets inquiry.old.zone day) (beyond way time))
-        (FindsTimePast way inquiry.old.sets inquiry.old.zone day time) }
-    ensures same { IsSame inquiry.old inquiry.new }
-    ensures few { (inquiry.new.days ≡ inquiry.old.days) × (inquiry.new.conversions ≤ inquiry.old.conversions + 86_400) }
+        (AllFail way (stands_at fields.now (plain_zone zone.now) day) (beyond way time))
+        (FindsTimePast way fields.now (plain_zone zone.now) day time) }
+    ensures known { IsKnown (plain_zone zone.now) stretch.new }
 {
     let from = past(way, time)?;
-    let first = time_past(inquiry, way, time);
-    search_times(inquiry, way, day, from, first)
+    let mut inquiry = Inquiry::new(fields, zone);
+    let first = time_past(&mut inquiry, way, time);
+    search_heard(fields, zone, way, day, from, first, stretch)
 }
 
-// The times of a day whose date matches from one on, in an inquiry of their own.
+// The times of a day whose date matches from one on.
 #[inline(always)]
 fn search_day_times(
     fields: &ScheduleFields,
@@ -67,11 +74,9 @@ fn search_day_times(
         (option_map found_items result) }
     ensures known { IsKnown (plain_zone zone.now) stretch.new }
 {
-    let mut inquiry = Inquiry::knowing(fields, zone, KnownMonth::january_1970(), *stretch);
+    let mut inquiry = Inquiry::new(fields, zone);
     let first = TimesOfDay::nearest(&mut inquiry, way, from);
-    let found = search_times(&mut inquiry, way, day, from, first);
-    inquiry.hand_on(stretch);
-    found
+    search_heard(fields, zone, way, day, from, first, stretch)
 }
 
 // The days past one whose date matches, out of the way of the items of the own day. It begins with the days
@@ -157,9 +162,7 @@ pub fn search_past(
     ensures known { IsKnown (plain_zone zone.now) stretch.new }
 {
     let day = second / SECONDS_PER_DAY;
-    let mut inquiry = Inquiry::knowing(fields, zone, days.month(), *stretch);
-    let found = search_times_past(&mut inquiry, way, day, second % SECONDS_PER_DAY);
-    inquiry.hand_on(stretch);
+    let found = search_times_past(fields, zone, way, day, second % SECONDS_PER_DAY, stretch);
     if found.is_some() {
         return found;
     }
