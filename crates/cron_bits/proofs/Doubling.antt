@@ -1,14 +1,14 @@
 -- Bits that stand at equal distances.
-use Rattle.std.proofs.Common.{◌≡◌, ℕ, ◌+◌, ◌-◌, ◌*◌, ◌/◌, ◌%◌, ◌^◌, ◌<◌, ◌≤◌, Bool, false, ◌&&◌, refl, sym, ap, ◌∙◌, arith, inl, inr, bit_or}
+use Rattle.std.proofs.Common.{◌≡◌, ℕ, ◌+◌, ◌-◌, ◌*◌, ◌/◌, ◌%◌, ◌^◌, ◌<◌, ◌≤◌, Bool, true, false, ◌&&◌, ◌||◌, cond, List, get_or, refl, sym, ap, ◌∙◌, arith, inl, inr, zero, suc}
 use Rattle.std.specs.Prelude.{nat_eq, nat_lt, nat_le}
 use Rattle.std.specs.Int.{bit_at}
-use Rattle.std.proofs.Math.Bool.{or-false}
-use Rattle.std.proofs.Math.Nat.{add-mod_right, add-mul-mod_self_right, mod-add-div', mod-eq_of_lt, mod-lt}
+use Rattle.std.proofs.Math.Nat.{zero-mod, add-mod_right, add-mul-mod_self_right, mod-add-div', mod-eq_of_lt}
 use Rattle.std.proofs.lemmas.Nat.{pow_pos, mod-mul-add}
 use Rattle.std.proofs.lemmas.Nat.Bits.{bit_at_above, bit_at_cat_high, bit_at_cat_low, bit_at-zero}
-use Rattle.std.proofs.lemmas.Bool.{cases_eq, cases_lt, lt-ltb, le-ltb, le-leb, lt-leb, ne_eqb, and_right}
+use Rattle.std.proofs.lemmas.Bool.{cases_eq, cases_lt, lt-ltb, le-ltb, le-leb, lt-leb, ne_eqb, eqb-true, leb-true, false≢true}
 use Rattle.cron_bits.specs.Words.{has_bit, then_bits}
-use Rattle.cron_bits.proofs.WordLemmas.{bit_none, bit_or_test, bit_past}
+use Rattle.cron_bits.specs.Inner.Rows.{all_below, multiple_digit, are_multiples}
+use Rattle.cron_bits.proofs.WordLemmas.{bit_none, bit_past}
 
 low_digit : (n w k : ℕ) → k < w → bit_at (n % 2 ^ w) k ≡ bit_at n k
 low_digit n w k l =
@@ -25,56 +25,56 @@ shifted n s k l =
       | inr g ↦ rw (lt-ltb k 64 l, low, bit_at_cat_high n s 0 k (pow_pos s) g, le-leb s k g, lt-ltb (k - s) 64 (omega arith)) refl
     ]
 
--- ---- the word that is doubled
+-- ---- the table of multiples
 
--- the multiples below a number
-abbrev pub multiple_below : ℕ → ℕ → ℕ → Bool
-multiple_below every reach k = nat_lt k reach && nat_eq (k % every) 0
+first_true : (a b : Bool) → (a && b) ≡ true → a ≡ true
+first_true true b h = refl
+first_true false b h = h
 
-pub first_multiple : (every k : ℕ) → 0 < every → has_bit 1 k ≡ multiple_below every every k
-first_multiple every k pos = elim (cases_eq k 0) [
-  | inl e ↦ let none : 0 % every ≡ 0 = mod-eq_of_lt pos in rw (e, none, lt-ltb 0 every pos) refl
-  | inr d ↦
-      let one : bit_at 1 k ≡ 0 = bit_at_above 1 1 k (omega arith) (omega (arith, d)) in
-      ap (λ (n : ℕ). nat_lt k 64 && nat_eq n 1) one ∙ (and_right (nat_lt k 64) false refl ∙ elim (cases_lt k every) [
-        | inl l ↦
-            let same : k % every ≡ k = mod-eq_of_lt l in
-            sym (and_right (nat_lt k every) (nat_eq (k % every) 0) (ne_eqb (k % every) 0 (λ e. d (sym same ∙ e))))
-        | inr g ↦ sym (ap (λ (b : Bool). b && nat_eq (k % every) 0) (le-ltb k every g))
-      ])
+rest_true : (a b : Bool) → (a && b) ≡ true → b ≡ true
+rest_true true b h = h
+rest_true false b h = absurd cc
+
+is_below : (p : ℕ → Bool) (n k : ℕ) → all_below p n ≡ true → k < n → p k ≡ true
+is_below p zero k h l = absurd (omega arith)
+is_below p (suc n) k h l = elim (cases_lt k n) [
+  | inl less ↦ is_below p n k (rest_true (p n) (all_below p n) h) less
+  | inr last ↦ let same : k ≡ n = omega (arith, l, last) in rw same (first_true (p n) (all_below p n) h)
 ]
 
--- a number, and another less by a multiple
-less_multiple : (every reach k : ℕ) → reach % every ≡ 0 → reach ≤ k → (k - reach) % every ≡ k % every
-less_multiple every reach k e g =
-    let whole : reach / every * every ≡ reach = omega (arith, mod-add-div' reach every, e) in
-    let again : k - reach + reach / every * every ≡ k = omega (arith, whole, g) in
-    sym (add-mul-mod_self_right (k - reach) (reach / every) every) ∙ ap (λ (n : ℕ). n % every) again
+other_true : (a b : Bool) → a ≡ false → (a || b) ≡ true → b ≡ true
+other_true true b e h = absurd cc
+other_true false b e h = h
 
-pub doubled : (word reach every k : ℕ) → k < 64 → reach % every ≡ 0 → ((j : ℕ) → j < 64 → has_bit word j ≡ multiple_below every reach j)
-    → has_bit (bit_or word (word * 2 ^ reach % 2 ^ 64)) k ≡ multiple_below every (reach * 2) k
-doubled word reach every k l e bits =
-    bit_or_test word (word * 2 ^ reach % 2 ^ 64) k ∙ elim (cases_lt k reach) [
-      | inl h ↦ rw (shifted word reach k l, lt-leb reach k h, bits k l, lt-ltb k reach h, lt-ltb k (reach * 2) (omega arith)) (or-false (nat_eq (k % every) 0))
-      | inr g ↦
-          let same : (k - reach) % every ≡ k % every = less_multiple every reach k e g in
-          let before : nat_lt (k - reach) reach ≡ nat_lt k (reach * 2) = elim (cases_lt (k - reach) reach) [
-            | inl a ↦ rw (lt-ltb (k - reach) reach a, lt-ltb k (reach * 2) (omega (arith, a, g))) refl
-            | inr a ↦ rw (le-ltb (k - reach) reach a, le-ltb k (reach * 2) (omega (arith, a, g))) refl
-          ] in
-          rw (shifted word reach k l, le-leb reach k g, bits k l, le-ltb k reach g, bits (k - reach) (omega arith), before, same) refl
-    ]
+digit_test : (b : Bool) → nat_eq (cond b 1 0) 1 ≡ b
+digit_test true = refl
+digit_test false = refl
 
-pub doubled_reach : (reach every : ℕ) → reach % every ≡ 0 → reach * 2 % every ≡ 0
-doubled_reach reach every e =
-    let twice : reach * 2 - reach ≡ reach = omega arith in
-    sym (less_multiple every reach (reach * 2) e (omega arith)) ∙ (ap (λ (n : ℕ). n % every) twice ∙ e)
+pub row_bits : (rows : List ℕ) (every k : ℕ) → are_multiples rows ≡ true → 0 < every → every < 64
+    → has_bit (get_or rows every 0) k ≡ (nat_lt k 64 && nat_eq (k % every) 0)
+row_bits rows every k all pos l = elim (cases_lt k 64) [
+  | inl small ↦
+      let row = other_true (nat_eq every 0) _ (ne_eqb every 0 (λ e. omega (arith, pos, e)))
+      (is_below (λ n. nat_eq n 0 || all_below (λ j. nat_eq (bit_at (get_or rows n 0) j) (multiple_digit n j)) 64) 64 every all l) in
+      let digit : bit_at (get_or rows every 0) k ≡ multiple_digit every k =
+      eqb-true (bit_at (get_or rows every 0) k) (multiple_digit every k)
+      (is_below (λ j. nat_eq (bit_at (get_or rows every 0) j) (multiple_digit every j)) 64 k row small) in
+      ap (λ (n : ℕ). nat_lt k 64 && nat_eq n 1) digit ∙ ap (λ (b : Bool). nat_lt k 64 && b) (digit_test (nat_eq (k % every) 0))
+  | inr g ↦ rw (le-ltb k 64 g) refl
+]
 
-pub all_multiples : (word reach every : ℕ) → 64 ≤ reach → ((j : ℕ) → j < 64 → has_bit word j ≡ multiple_below every reach j) → (k : ℕ)
-    → has_bit word k ≡ (nat_lt k 64 && nat_eq (k % every) 0)
-all_multiples word reach every g bits k = elim (cases_lt k 64) [
-  | inl l ↦ bits k l ∙ rw (lt-ltb k reach (omega arith), lt-ltb k 64 l) refl
-  | inr h ↦ bit_past word k h ∙ sym (ap (λ (b : Bool). b && nat_eq (k % every) 0) (le-ltb k 64 h))
+-- a number that is no less than 64 has no multiple below it but zero
+pub far_multiples : (every k : ℕ) → 64 ≤ every → has_bit 1 k ≡ (nat_lt k 64 && nat_eq (k % every) 0)
+far_multiples every k g = elim (cases_lt k 64) [
+  | inr past ↦ rw (le-ltb k 64 past) refl
+  | inl small ↦
+      let same : k % every ≡ k = mod-eq_of_lt (omega (arith, small, g)) in
+      elim (cases_eq k 0) [
+        | inl e ↦ rw (same, e) refl
+        | inr d ↦
+            let one : bit_at 1 k ≡ 0 = bit_at_above 1 1 k (omega arith) (omega (arith, d)) in
+            ap (λ (n : ℕ). nat_lt k 64 && nat_eq n 1) one ∙ sym (ap (λ (b : Bool). nat_lt k 64 && b) (ne_eqb (k % every) 0 (λ e. d (sym same ∙ e))))
+      ]
 ]
 
 -- ---- from a place on
@@ -120,21 +120,69 @@ rest_far first every k g =
       | inr h ↦ rw (apart, le-leb (first - 64) k h, le-leb first (k + 64) (omega (arith, h, g))) refl
     ]
 
-pub rest_near : (first every k later : ℕ) → 0 < every → first < 64 → later ≡ every - 1 - (63 - first) % every
+-- the last place before 64 others end
+pub record IsLastPlace (first every last : ℕ) : Type 0 where
+  pub within : last < 64
+  pub from : first ≤ last
+  pub steps : (last - first) % every ≡ 0
+  pub next : 64 ≤ last + every
+
+nth_true : (first every k : ℕ) → nth_place first every k ≡ true → (first ≤ k) × ((k - first) % every ≡ 0)
+nth_true first every k h = (
+  leb-true first k (first_true (nat_le first k) (nat_eq ((k - first) % every) 0) h),
+  eqb-true ((k - first) % every) 0 (rest_true (nat_le first k) (nat_eq ((k - first) % every) 0) h),
+)
+
+true_nth : (first every k : ℕ) → first ≤ k → (k - first) % every ≡ 0 → nth_place first every k ≡ true
+true_nth first every k l e = rw (le-leb first k l, e) refl
+
+-- the last one of a word whose ones are such places
+pub last_place : (low first every last : ℕ) → 0 < every → ((k : ℕ) → has_bit low k ≡ (nat_lt k 64 && nth_place first every k)) → last < 64
+    → has_bit low last ≡ true → ((k : ℕ) → last < k → has_bit low k ≡ false) → IsLastPlace first every last
+last_place low first every last pos bits l one none =
+    let here = nth_true first every last (sym (bits last ∙ ap (λ (b : Bool). b && nth_place first every last) (lt-ltb last 64 l)) ∙ one) in
+    let again : (last + every - first) % every ≡ 0 =
+    let apart : last + every - first ≡ last - first + every = omega (arith, here.0) in
+    ap (λ (n : ℕ). n % every) apart ∙ (add-mod_right (last - first) every ∙ here.1) in
+    let next : 64 ≤ last + every = elim (cases_lt (last + every) 64) [
+      | inr g ↦ g
+      | inl less ↦
+          let there : has_bit low (last + every) ≡ true = bits (last + every)
+          ∙ rw (lt-ltb (last + every) 64 less, true_nth first every (last + every) (omega (arith, here.0)) again) refl in
+          absurd (false≢true (sym (none (last + every) (omega (arith, pos))) ∙ there))
+    ] in
+    record { within = l; from = here.0; steps = here.1; next = next }
+
+-- A word without ones ends before the first place.
+pub first_far : (low first every : ℕ) → ((k : ℕ) → has_bit low k ≡ (nat_lt k 64 && nth_place first every k)) → ((k : ℕ) → has_bit low k ≡ false)
+    → 64 ≤ first
+first_far low first every bits none = elim (cases_lt first 64) [
+  | inr g ↦ g
+  | inl less ↦
+      let zero_apart : first - first ≡ 0 = omega arith in
+      let start : (first - first) % every ≡ 0 = rw zero_apart (zero-mod every) in
+      let there : has_bit low first ≡ true = bits first ∙ rw (lt-ltb first 64 less, true_nth first every first (omega arith) start) refl in
+      absurd (false≢true (sym (none first) ∙ there))
+]
+
+pub rest_near : (first every k last later : ℕ) → IsLastPlace first every last → later ≡ every - (64 - last)
     → nth_place later every k ≡ nth_place first every (k + 64)
-rest_near first every k later pos l e =
-    let m : ℕ = (63 - first) % every in
-    let q : ℕ = (63 - first) / every in
-    let small : m < every = mod-lt (63 - first) pos in
-    let split : m + q * every ≡ 63 - first = mod-add-div' (63 - first) every in
+rest_near first every k last later p e =
+    let q : ℕ = (last - first) / every in
+    let split : (last - first) % every + q * every ≡ last - first = mod-add-div' (last - first) every in
     elim (cases_lt k later) [
       | inl before ↦
-          let far : k + 64 - first ≡ q * every + (m + k + 1) = omega (arith, split, l) in
-          let rest : (k + 64 - first) % every ≡ m + k + 1 = ap (λ (n : ℕ). n % every) far ∙ mod-mul-add q every (m + k + 1) (omega (arith, small, before, e)) in
-          rw (lt-leb later k before, le-leb first (k + 64) (omega (arith, l)), ne_eqb ((k + 64 - first) % every) 0 (λ i. omega (arith, rest, i))) refl
+          let r : ℕ = k + 64 - last in
+          let far : k + 64 - first ≡ q * every + r = omega (arith, split, p.steps, p.from, p.within) in
+          let rest : (k + 64 - first) % every ≡ r = ap (λ (n : ℕ). n % every) far ∙ mod-mul-add q every r (omega (arith, before, e, p.within, p.next)) in
+          rw (
+            lt-leb later k before,
+            le-leb first (k + 64) (omega (arith, p.from, p.within)),
+            ne_eqb ((k + 64 - first) % every) 0 (λ i. omega (arith, rest, i, p.within)),
+          ) refl
       | inr past ↦
-          let far : k + 64 - first ≡ k - later + q * every + every = omega (arith, split, l, small, past, e) in
+          let far : k + 64 - first ≡ k - later + q * every + every = omega (arith, split, p.steps, p.from, p.within, p.next, past, e) in
           let rest : (k + 64 - first) % every ≡ (k - later) % every =
           ap (λ (n : ℕ). n % every) far ∙ (add-mod_right (k - later + q * every) every ∙ add-mul-mod_self_right (k - later) q every) in
-          rw (le-leb later k past, le-leb first (k + 64) (omega (arith, l)), rest) refl
+          rw (le-leb later k past, le-leb first (k + 64) (omega (arith, p.from, p.within)), rest) refl
     ]

@@ -259,9 +259,10 @@ impl<R: Extensible> Words for Longer<R> {
     }
 
     fn every_nth(first: u32, every: u32) -> Longer<R> {
+        let low = u64::every_nth(first, every);
         Longer {
-            low: u64::every_nth(first, every),
-            rest: R::every_nth(place_in_rest(first, every), every),
+            low,
+            rest: R::every_nth(place_in_rest(low, first, every), every),
         }
     }
 
