@@ -11,3 +11,4 @@ pub mod TableEras
 pub mod TableItems
 pub mod EraFilling
 pub mod ZoneFileLemmas
+mod RulesAlike

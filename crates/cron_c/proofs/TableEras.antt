@@ -72,7 +72,7 @@ steady_past t count rule none offset plain = record {
       ∙ ap (λ (o : Offset). o.seconds) offset
       ∙ sym (ap (λ (o : Option PosixRule). (match_some o (type_after t count).offset (λ z. Rule.offset_at z n)).seconds) none)
       ∙ sym (ap (λ (k : ℕ). (match_some (rule_after t k) (type_after t k).offset (λ z. Rule.offset_at z n)).seconds) e);
-  calm = λ h. plain_agree rule plain;
+  agree = λ h. plain_agree rule plain;
 }
 
 no_rule_yet : (t : Tzif) (count : ℕ) → count < turn_count t → rule_after t count ≡ None
@@ -105,7 +105,7 @@ by_rule t count own is all =
       shown = λ n e.
           sym (ap (λ (o : Option PosixRule). (match_some o (type_after t count).offset (λ z. Rule.offset_at z n)).seconds) after)
           ∙ sym (ap (λ (k : ℕ). (match_some (rule_after t k) (type_after t k).offset (λ z. Rule.offset_at z n)).seconds) e);
-      calm = λ h. subst (λ (o : Option PosixRule). IfSome o (λ rule. LookupsAgree (Posix rule))) is h;
+      agree = λ h. subst (λ (o : Option PosixRule). IfSome o (λ rule. LookupsAgree (Posix rule))) is h;
     }
 
 pub last_says : (t : Tzif) (count : ℕ) (rule : PosixRule) (o : Option PosixRule) → t.posix_tz ≡ o → option_map tz_view (Some rule) ≡ option_map tz_view o

@@ -18,7 +18,7 @@ use Rattle.cron_instants.proofs.AgreementLemmas.{same_offset, same_reading}
 use Rattle.cron_instants.proofs.ItemLemmas.{item_of, stands_of}
 use Rattle.cron_instants.proofs.MatchLemmas.{match_in_range}
 use Rattle.cron_c.specs.Histories.{IsHistoryItem}
-use Rattle.cron_c.specs.ZoneFiles.{HasDoubleTurn, IsEraOf, IsHistoryOf, IsShownItem, RuleIsCalm, turn_count}
+use Rattle.cron_c.specs.ZoneFiles.{HasDoubleTurn, IsEraOf, IsHistoryOf, IsShownItem, RuleLookupsAgree, turn_count}
 use Rattle.cron_c.specs.declared.era.CronEra.{CronEra}
 use Rattle.cron_c.proofs.TableEras.{begins_all, floor_of, holder, in_order, place_is, shows_all}
 use Rattle.cron_c.proofs.AnyZone.{item_in_any}
@@ -27,19 +27,19 @@ use Rattle.cron_c.proofs.AnyZone.{item_in_any}
 
 item_shown : (s : Sets) (z : TimeZone) (r : Reading) → LookupsAgree z → IsItem s z r
     → (r.second < seconds_in_range) × (matches s (civil r.second) ≡ true) × (shown_offset z (instant r) ≡ r.offset.seconds)
-item_shown s z r calm item =
+item_shown s z r agree item =
     let st = stands_of s z r item in
     let range = match_in_range s r.second st.matching in
-    (range, (and_parts _ _ st.matching).1, calm.readings_shown r.second st.place r range st.here)
+    (range, (and_parts _ _ st.matching).1, agree.readings_shown r.second st.place r range st.here)
 
 is_match_of : (c : ℕ) (m : Bool) → c < seconds_in_range → m ≡ true → (nat_lt c seconds_in_range && m) ≡ true
 is_match_of c m range is = rw is (grind arith)
 
 shown_item : (s : Sets) (z : TimeZone) (r : Reading) → LookupsAgree z → r.second < seconds_in_range → matches s (civil r.second) ≡ true
     → shown_offset z (instant r) ≡ r.offset.seconds → IsItem s z r
-shown_item s z r calm range matching shown =
-    let there = calm.shown_read r.second (instant r) range (omega (arith, signed_arith)) in
-    let own = calm.readings_shown r.second there.place there.at_place range there.here in
+shown_item s z r agree range matching shown =
+    let there = agree.shown_read r.second (instant r) range (omega (arith, signed_arith)) in
+    let own = agree.readings_shown r.second there.place there.at_place range there.here in
     let is = there.is in
     let offset : there.at_place.offset.seconds ≡ r.offset.seconds = sym own ∙ ap (shown_offset z) is ∙ shown in
     let second : there.at_place.second ≡ r.second = omega (arith, signed_arith) in
@@ -53,12 +53,12 @@ shown_item s z r calm range matching shown =
 -- ---- the eras of a table
 
 module _ (t : Tzif) (eras : List CronEra) (size : length eras ≡ turn_count t + 1) (are : (i : ℕ) (e : CronEra) → slice_get eras i ≡ Some e → IsEraOf t i e)
-    (calm : RuleIsCalm t) (s : Sets) (r : Reading) where
+    (agree : RuleLookupsAgree t) (s : Sets) (r : Reading) where
   from_history : IsHistoryItem s eras r → IsShownItem s t r
   from_history (i, e, get, ((z, of_zone, item), begun), lasts) =
       let era = are i e get in
       let own = item_in_any s e.zone z (Posix era.rule) r of_zone era.said item in
-      let (range, matching, shown) = item_shown s (Posix era.rule) r (era.past.calm calm) own in
+      let (range, matching, shown) = item_shown s (Posix era.rule) r (era.past.agree agree) own in
       let place = place_is t eras size are (instant r) i e (record { here = get; begun = begun; lasts = lasts }) in
       let told = era.past.shown (nanos_of_seconds (instant r)) (ap (count_at t) (floor_of (instant r)) ∙ place) in
       (range, matching, sym told ∙ shown)
@@ -69,7 +69,7 @@ module _ (t : Tzif) (eras : List CronEra) (size : length eras ≡ turn_count t +
       let (e, held) = holder t eras size are (instant r) (omega (arith, signed_arith)) in
       let era = are (count_at t (instant r)) e held.here in
       let told = era.past.shown (nanos_of_seconds (instant r)) (ap (count_at t) (floor_of (instant r))) in
-      let item = shown_item s (Posix era.rule) r (era.past.calm calm) range matching (told ∙ shown) in
+      let item = shown_item s (Posix era.rule) r (era.past.agree agree) range matching (told ∙ shown) in
       (count_at t (instant r), e, held.here, ((Posix era.rule, era.said, item), held.begun), held.lasts)
 
 -- such a list means the zone of the table
@@ -80,5 +80,5 @@ means_table t eras apart size are = record {
   counted = size;
   begins = begins_all t eras size are;
   clocks = shows_all t eras size are;
-  items = λ calm s r. (from_history t eras size are calm s r, to_history t eras size are calm s r);
+  items = λ agree s r. (from_history t eras size are agree s r, to_history t eras size are agree s r);
 }

@@ -5,9 +5,10 @@ use Rattle.jiff_core.specs.declared.error.Error.TheVariants.{OutOfMemory, Tzif a
 use Rattle.jiff_tz.specs.Tzif.{IsParseFailure, IsRefused}
 use Rattle.jiff_tz.specs.TzifReader.{Parsed, TzifText, read_tzif}
 use Rattle.jiff_tz.specs.declared.tzif.Tzif.{Tzif}
-use Rattle.cron_c.specs.ZoneFiles.{IsFileOf, IsNoFile, ReadsHistory, WritesEras}
+use Rattle.cron_c.specs.ZoneFiles.{IsFileOf, ReadsHistory, WritesEras}
 use Rattle.cron_c.specs.declared.era.CronEra.{CronEra}
 use Rattle.cron_c.specs.declared.status.Status.{Status}
+use Rattle.cron_c.proofs.RulesAlike.{IsNoFile, double_too}
 use Rattle.cron_c.specs.declared.status.Status.TheVariants.{Done, NoItem, Refused, NotUtf8, BadZone, BadInstant, NotAnItem, Untold, More, NoMemory}
 
 no_memory_by : (read : Parsed TzifText) (answer : Result Tzif Error) → IsRefused read answer → answer ≡ Err OutOfMemory → (text : TzifText) × (read ≡ Ok text)
@@ -28,7 +29,7 @@ pub reads : (bytes : List ℕ) (t : Tzif) (old new : List CronEra) (count : ℕ)
     → ReadsHistory bytes old new count status
 reads bytes t old new count Done file w = (t, file, w)
 reads bytes t old new count More file w = (t, file, w)
-reads bytes t old new count BadZone file w = (inr (t, file, w.0), w.1, w.2)
+reads bytes t old new count BadZone file w = (λ u other. double_too bytes t u file other w.0, w.1, w.2)
 reads bytes t old new count NoItem file w = absurd w
 reads bytes t old new count Refused file w = absurd w
 reads bytes t old new count NotUtf8 file w = absurd w

@@ -1,7 +1,6 @@
 -- Zones from the bytes of a compiled zone file, as eras.
-use Rattle.std.specs.Prelude.{◌≡◌, ◌+◌, ◌-◌, ◌<◌, ◌==◌, ◌↔◌, ◌⊎◌, ℕ, ℤ, pos, neg_ℤ, ◌≤ℤ◌, true, false, if◌then◌else◌, List, ◌++◌, drop, Some, Ok, Err, IfSome, slice_get, length}
+use Rattle.std.specs.Prelude.{◌≡◌, ◌+◌, ◌-◌, ◌<◌, ◌==◌, ◌↔◌, ℕ, ℤ, pos, neg_ℤ, ◌≤ℤ◌, true, false, if◌then◌else◌, List, ◌++◌, drop, Some, Ok, IfSome, slice_get, length}
 use Rattle.jiff_core.specs.Timestamp.{IsTimestampNanos, nanos_of_seconds}
-use Rattle.jiff_core.specs.declared.error.TzifFault.{TzifFault}
 use Rattle.jiff_tz.specs.TzifReader.{TzifText, read_tzif}
 use Rattle.jiff_tz.specs.Tzif.{HasBadRule, RuleAgrees, count_at, floor_second, transition_at, tzif_view}
 use Rattle.jiff_tz.specs.PosixText.{tz_view}
@@ -28,10 +27,6 @@ use Rattle.cron_c.specs.declared.status.Status.TheVariants.{Done, BadZone, More,
 -- the bytes are a zone file that says this table, and the rule behind the table agrees with its last row
 abbrev pub IsFileOf : List ℕ → Tzif → Type 0
 IsFileOf bytes t = (read_tzif bytes ≡ Ok (tzif_view t)) × RuleAgrees t
-
--- they are none: they break the format, or the rule doesn't agree with the table
-abbrev pub IsNoFile : List ℕ → Type 0
-IsNoFile bytes = ((fault : TzifFault) × (read_tzif bytes ≡ Err fault)) ⊎ HasBadRule (read_tzif bytes)
 
 -- how many turns the table has
 abbrev pub turn_count : Tzif → ℕ
@@ -61,8 +56,8 @@ IsShownItem s t r =
     × ((Table.offset_at t (nanos_of_seconds (instant r))).seconds ≡ r.offset.seconds)
 
 -- the look-ups of the rule behind the table agree, if there is one
-abbrev pub RuleIsCalm : Tzif → Type 0
-RuleIsCalm t = IfSome t.posix_tz (λ rule. LookupsAgree (Posix rule))
+abbrev pub RuleLookupsAgree : Tzif → Type 0
+RuleLookupsAgree t = IfSome t.posix_tz (λ rule. LookupsAgree (Posix rule))
 
 -- The eras mean the zone of the table: at each instant the era that holds it has the table's offset. The items of this history are then
 -- the readings that match and are shown.
@@ -71,7 +66,7 @@ pub record IsHistoryOf (t : Tzif) (eras : List CronEra) : Type 0 where
   pub counted : length eras ≡ turn_count t + 1
   pub begins : (n : ℤ) → IsTimestampNanos n → has_started eras 0 (floor_second n) ≡ true
   pub clocks : (n : ℤ) (i : ℕ) (e : CronEra) → HoldsSecond eras i e (floor_second n) → ShowsAt e.zone n (Table.offset_at t n).seconds
-  pub items : RuleIsCalm t → (s : Sets) (r : Reading) → IsHistoryItem s eras r ↔ IsShownItem s t r
+  pub items : RuleLookupsAgree t → (s : Sets) (r : Reading) → IsHistoryItem s eras r ↔ IsShownItem s t r
 
 -- ---- what each status says
 
@@ -90,8 +85,7 @@ WritesEras t old new count _ = ⊥
 -- or memory is wanting for what they say.
 abbrev pub ReadsHistory : List ℕ → List CronEra → List CronEra → ℕ → Status → Type 0
 ReadsHistory bytes old new count NoMemory = (text : TzifText) × (read_tzif bytes ≡ Ok text) × (new ≡ old) × (count ≡ 0)
-ReadsHistory bytes old new count BadZone =
-    (IsNoFile bytes ⊎ ((t : Tzif) × IsFileOf bytes t × HasDoubleTurn t)) × (new ≡ old) × (count ≡ 0)
+ReadsHistory bytes old new count BadZone = ((t : Tzif) → IsFileOf bytes t → HasDoubleTurn t) × (new ≡ old) × (count ≡ 0)
 ReadsHistory bytes old new count status = (t : Tzif) × IsFileOf bytes t × WritesEras t old new count status
 
 -- ---- inner
@@ -103,7 +97,7 @@ start_of t count = if count == 0 then neg_ℤ (pos 9_223_372_036_854_775_808) el
 -- past so many turns the clock of the table is that of the rule, whose look-ups agree if those of the rule behind the table do
 pub record IsRulePast (t : Tzif) (count : ℕ) (rule : PosixRule) : Type 0 where
   pub shown : (n : ℤ) → count_at t (floor_second n) ≡ count → Zone.offset_at (Posix rule) n ≡ (Table.offset_at t n).seconds
-  pub calm : RuleIsCalm t → LookupsAgree (Posix rule)
+  pub agree : RuleLookupsAgree t → LookupsAgree (Posix rule)
 
 -- the rule reads the same
 pub record SaysRulePast (t : Tzif) (count : ℕ) (rule : PosixRule) : Type 0 where

@@ -2,7 +2,6 @@
 
 ghost use Rattle.std.specs.Prelude.{◌≡◌, ◌≤◌, ◌<◌, ◌↔◌, ◌+◌, None, true, length};
 ghost use Rattle.jiff_tz.specs.Tzif.{transition_at, type_after};
-ghost use Rattle.cron_clocks.specs.Tables.{turns_of};
 ghost use Rattle.cron_c.specs.ZoneFiles.{AreErasIn, HasDoubleTurn, IsEraOf, SaysRulePast, WritesEras, start_of, turn_count};
 
 use crate::era::CronEra;
@@ -13,7 +12,7 @@ use jiff_tz::{Abbreviation, Tzif, posix};
 
 // The second of the turn at this place.
 fn second_of(table: &Tzif, at: usize) -> i64
-    requires { at < length (turns_of table.now) }
+    requires { at < turn_count table.now }
     ensures { result ≡ (transition_at table.now at).second }
 {
     table.transitions()[at].second
@@ -21,7 +20,7 @@ fn second_of(table: &Tzif, at: usize) -> i64
 
 // Where the era past so many turns starts.
 fn start_past(table: &Tzif, count: usize) -> i64
-    requires { count ≤ length (turns_of table.now) }
+    requires { count ≤ turn_count table.now }
     ensures { result ≡ start_of table.now count }
 {
     if count == 0 {
@@ -33,7 +32,7 @@ fn start_past(table: &Tzif, count: usize) -> i64
 
 // The offset of the clock past so many turns.
 fn offset_past(table: &Tzif, count: usize) -> Offset
-    requires { count ≤ length (turns_of table.now) }
+    requires { count ≤ turn_count table.now }
     ensures { result ≡ (type_after table.now count).offset }
 {
     if count == 0 {
@@ -57,7 +56,7 @@ fn steady(offset: Offset) -> posix::TimeZone
 
 // The rule of the clock past so many turns: past all of them that of the table, if it has one.
 fn rule_past(table: &Tzif, count: usize) -> posix::TimeZone
-    requires { count ≤ length (turns_of table.now) }
+    requires { count ≤ turn_count table.now }
     ensures { SaysRulePast table.now count result }
 {
     if count < table.transitions().len() {
@@ -71,7 +70,7 @@ fn rule_past(table: &Tzif, count: usize) -> posix::TimeZone
 
 // The era past so many turns.
 fn era_past(table: &Tzif, count: usize) -> CronEra
-    requires { count ≤ length (turns_of table.now) }
+    requires { count ≤ turn_count table.now }
     ensures { IsEraOf table.now count result }
 {
     CronEra {

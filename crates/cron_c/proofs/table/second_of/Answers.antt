@@ -3,13 +3,15 @@ use mir.Val.{to_z, of_z}
 use Rattle.jiff_core.proofs.SignedLemmas.{signed_arith}
 use Rattle.jiff_tz.specs.declared.tzif.transition.Transition.{Transition}
 use Rattle.jiff_tz.specs.TzifText.{TransitionText}
-use Rattle.cron_clocks.proofs.TableLemmas.{turn_of}
+use Rattle.cron_clocks.proofs.TableLemmas.{turn_of, turns_length}
 use Rattle.cron_c.proofs.table.second_of.Goals as goal
 
 pub returns : goal.returns
 returns c =
+    let size = turns_length c.args.table.now in
     let same =
-    turn_of c.args.table.now c.transitions.result.now c.args.at c.index-transitions-at.result c.transitions.ensures c.index-transitions-at.is c.requires in
+    turn_of c.args.table.now c.transitions.result.now c.args.at c.index-transitions-at.result c.transitions.ensures c.index-transitions-at.is
+    (omega (arith, size, c.requires)) in
     let (least, most) = c.index-transitions-at.result.second_in in
     let fits : FitsSigned w64 c.index-transitions-at.result.second = omega (arith, signed_arith) in
     ap (λ (t : Transition). to_z w64 (of_z w64 t.second)) (sym c.index-transitions-at.is)

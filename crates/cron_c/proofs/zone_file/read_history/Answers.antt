@@ -1,4 +1,5 @@
-use Rattle.std.proofs.Common.{◌∙◌, Err, ap, inl, refl}
+use Rattle.std.proofs.Common.{◌∙◌, Err, ap, refl}
+use Rattle.cron_c.proofs.RulesAlike.{none_said}
 use Rattle.cron_c.proofs.ZoneFileLemmas.{no_file, no_memory, reads}
 use Rattle.cron_c.proofs.zone_file.read_history.Goals as goal
 
@@ -8,7 +9,9 @@ returns-in-Ok c =
     (c.in-Ok.ensures.value, c.in-Ok.ensures.agrees) c.write_eras.ensures
 
 pub returns-in_default : goal.returns-in_default
-returns-in_default c = (inl (no_file c.args.bytes.now c.in-Err.error c.in-Err.ensures.err c.in_default.not-OutOfMemory), refl, refl)
+returns-in_default c =
+    let none = no_file c.args.bytes.now c.in-Err.error c.in-Err.ensures.err c.in_default.not-OutOfMemory in
+    (λ t file. absurd (none_said c.args.bytes.now none t file), refl, refl)
 
 pub returns-in-OutOfMemory : goal.returns-in-OutOfMemory
 returns-in-OutOfMemory c =
