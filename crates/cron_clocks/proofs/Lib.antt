@@ -13,3 +13,5 @@ pub mod SteadyLemmas
 pub mod OffsetLemmas
 pub mod TableLemmas
 pub mod ClockLemmas
+pub mod CalmLemmas
+pub mod SeasonLemmas

@@ -6,6 +6,7 @@ use Rattle.jiff_core.specs.Timestamp.{nanos_of_seconds}
 use Rattle.jiff_core.specs.declared.Offset.{Offset}
 use Rattle.jiff_core.proofs.CalendarLemmas.{days_in_year_bounds}
 use Rattle.jiff_core.proofs.SignedLemmas.{signed_arith}
+use Rattle.jiff_tz.specs.declared.ambiguous.AmbiguousOffset.{AmbiguousOffset}
 use Rattle.jiff_tz.specs.declared.posix.Dst.{Dst}
 use Rattle.jiff_tz.specs.declared.posix.TimeZone.{TimeZone}
 use Rattle.jiff_tz.specs.declared.posix.DayTime.{DayTime}
@@ -244,6 +245,18 @@ module _ (rule : TimeZone) (d : Dst) (some : rule.dst ≡ Some d) (c : ℕ) (h :
       let alike = parts_alike rule.std_offset d.offset (year_end y) at_start at_end start end (pos c)
       (in_hand start start_low start_high) (in_hand end end_low end_high) starts ends in
       rw (told_in c h here) (told (at_start, at_end) alike)
+
+  -- and what it tells of it
+  pub told_as : (start end : ℤ) (a : AmbiguousOffset)
+      → IsAtSecond (year_end y) at_start start → (first_day y *ℤ pos 86_400) ≤ℤ start → start ≤ℤ year_end y
+      → IsAtSecond (year_end y) at_end end → (first_day y *ℤ pos 86_400) ≤ℤ end → end ≤ℤ year_end y
+      → ((w : ℤ × ℤ) → PartsAlike rule.std_offset d.offset w start end saving (pos c)
+      → ambiguous_by rule.std_offset d.offset w (nanos_of_seconds (pos c)) ≡ a)
+      → ambiguous_at rule (civil c) ≡ a
+  told_as start end a starts start_low start_high ends end_low end_high told =
+      let alike = parts_alike rule.std_offset d.offset (year_end y) at_start at_end start end (pos c)
+      (in_hand start start_low start_high) (in_hand end end_low end_high) starts ends in
+      told_in c h here ∙ told (at_start, at_end) alike
 
   module _ (first last start end : ℤ) (range : IsNarrowed (pos 0) (pos seconds_in_range) first last) (low : first ≤ℤ pos c) (high : pos c <ℤ last)
       (from_year : IsUnparted first last (first_day y *ℤ pos 86_400)) (to_year : IsUnparted first last (year_end y)) where

@@ -3,3 +3,4 @@ pub mod Turns
 pub mod Spans
 pub mod Steady
 pub mod Tables
+pub mod Seasons

@@ -12,7 +12,8 @@ ghost use Rattle.cron_clocks.specs.Steady.{IsKnown};
 
 use crate::offsets::Placed;
 use crate::rule::{Span, Turns, between_turns, saving_of, turns_around};
-use crate::stretch::{Stretch, told_stretch};
+use crate::season::season_at;
+use crate::stretch::{Stretch, season_stretch, told_stretch};
 use cron_moments::civil::SECONDS;
 use jiff::Timestamp;
 use jiff::tz::{Offset, TimeZone};
@@ -82,6 +83,27 @@ fn learn(rule: posix::TimeZone, dst: posix::Dst, turns: Turns, second: i64, stre
 
 // The offset that a clock shows in a second of UTC by a rule, if it's known from the turns of that year.
 // Where the clock shows the same year, they tell the stretch of the civil second that it shows, too.
+fn offset_by_turns(
+    rule: posix::TimeZone,
+    dst: posix::Dst,
+    second: u32,
+    stretch: &mut Stretch,
+) -> Option<Offset>
+    requires range { second < seconds_in_range }
+    requires saving { rule.dst ≡ Some dst }
+    requires known { IsKnown (Posix rule) stretch.old }
+    ensures shown { IfSome result (λ o. IsShown (Posix rule) (pos second) o.seconds) }
+    ensures known { IsKnown (Posix rule) stretch.new }
+{
+    let turns = turns_around(dst, second);
+    let offset = offset_among(rule, dst, turns, second)?;
+    let shown = i64::from(second) + i64::from(offset.seconds());
+    learn(rule, dst, turns, shown, stretch);
+    Some(offset)
+}
+
+// The offset that a clock shows in a second of UTC by a rule, if it's known from the season of the second,
+// or else from the turns of its year. The stretch becomes that of the season.
 fn offset_by(rule: posix::TimeZone, second: u32, stretch: &mut Stretch) -> Option<Offset>
     requires range { second < seconds_in_range }
     requires known { IsKnown (Posix rule) stretch.old }
@@ -91,11 +113,14 @@ fn offset_by(rule: posix::TimeZone, second: u32, stretch: &mut Stretch) -> Optio
     let Some(dst) = rule.dst else {
         return Some(Offset::from_plain(rule.std_offset));
     };
-    let turns = turns_around(dst, second);
-    let offset = offset_among(rule, dst, turns, second)?;
-    let shown = i64::from(second) + i64::from(offset.seconds());
-    learn(rule, dst, turns, shown, stretch);
-    Some(offset)
+    match season_at(rule, dst, second) {
+        Some(season) => {
+            let offset = season.offset;
+            *stretch = season_stretch(season);
+            Some(offset)
+        }
+        None => offset_by_turns(rule, dst, second, stretch),
+    }
 }
 
 // The offset that a clock shows at an instant in a zone with a rule. What its turns don't tell the zone is

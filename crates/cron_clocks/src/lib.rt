@@ -7,6 +7,7 @@ pub mod clock;
 pub mod laws;
 mod offsets;
 mod rule;
+mod season;
 pub mod stretch;
 mod table;
 #[cfg(test)]

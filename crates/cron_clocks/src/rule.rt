@@ -289,22 +289,3 @@ pub(crate) fn between_turns(rule: TimeZone, dst: Dst, turns: Turns, second: u32)
         later,
     }
 }
-
-/// What a rule tells of a civil second.
-pub(crate) fn told_at(rule: TimeZone, second: u32) -> Told
-    requires { second < seconds_in_range }
-    ensures alike { IsToldAlike rule second result.span.first result.span.end }
-    ensures low { result.span.first ≤ℤ pos second }
-    ensures high { pos second <ℤ result.span.end }
-    ensures narrowed { IsNarrowed (pos 0) (pos seconds_in_range) result.span.first result.span.end }
-    ensures told { IsToldBy (Rule.ambiguous_at rule (civil second)) result.earlier result.later }
-{
-    match rule.dst {
-        Some(dst) => between_turns(rule, dst, turns_around(dst, second), second),
-        None => Told {
-            span: WHOLE,
-            earlier: Some(Offset::from_plain(rule.std_offset)),
-            later: None,
-        },
-    }
-}

@@ -1,14 +1,17 @@
 //! Stretches of civil seconds that have their readings at the same offsets.
-ghost use Rattle.std.specs.Prelude.{◌≡◌, ◌≤◌, ◌<◌, pos, ◌≤ℤ◌, ◌<ℤ◌, IsTrue};
+ghost use Rattle.std.specs.Prelude.{◌≡◌, ℕ, ◌≤◌, ◌<◌, pos, ◌≤ℤ◌, ◌<ℤ◌, IsTrue};
 ghost use Rattle.jiff.specs.Words.{plain_zone};
 ghost use Rattle.jiff_tz.specs.PosixRule as Rule;
+ghost use Rattle.jiff_tz.specs.declared.posix.TimeZone.{TimeZone as PlainRule};
 ghost use Rattle.jiff_tz.specs.declared.timezone.TimeZone.TheVariants.{Posix, Tzif};
 ghost use Rattle.cron_moments.specs.Civil.{civil, seconds_in_range};
 ghost use Rattle.cron_moments.specs.Found.{items_if_any};
 ghost use Rattle.cron_clocks.specs.Spans.{IsNarrowed, IsToldAlike};
-ghost use Rattle.cron_clocks.specs.Steady.{IsSteady, IsToldBy, readings_at, whole_range};
+ghost use Rattle.cron_clocks.specs.Seasons.{IsSeason};
+ghost use Rattle.cron_clocks.specs.Steady.{IsKnown, IsSteady, IsToldBy, readings_at, whole_range};
 
-use crate::rule::{Told, told_at};
+use crate::rule::Told;
+use crate::season::{Season, told_at};
 use crate::table::told_in;
 use cron_moments::civil::SECONDS;
 use cron_moments::moment::moment_numbered;
@@ -55,6 +58,18 @@ pub(crate) fn told_stretch(rule: posix::TimeZone, second: u32, told: Told) -> St
         end: told.span.end as u32,
         earlier: told.earlier,
         later: told.later,
+    }
+}
+
+/// The civil seconds of a season.
+pub(crate) fn season_stretch(season: Season) -> Stretch
+    ensures { (rule : PlainRule) (n : ℕ) → IsSeason rule n season.first season.end season.offset → IsKnown (Posix rule) result }
+{
+    Stretch {
+        first: season.first,
+        end: season.end,
+        earlier: Some(season.offset),
+        later: None,
     }
 }
 

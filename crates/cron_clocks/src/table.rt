@@ -6,7 +6,8 @@ ghost use Rattle.cron_clocks.specs.Spans.{IsNarrowed};
 ghost use Rattle.cron_clocks.specs.Steady.{IsToldBy};
 ghost use Rattle.cron_clocks.specs.Tables.{IsAlikeAround, IsBetweenTurns, IsShortOf, IsToldAlikeIn, IsTurnAround, offsets_around, turns_of};
 
-use crate::rule::{Span, Told, WHOLE, parted, parted_twice, told_at};
+use crate::rule::{Span, Told, WHOLE, parted, parted_twice};
+use crate::season::told_at;
 use jiff::tz::Offset;
 use jiff_tz::Tzif;
 use jiff_tz::tzif::Transition;

@@ -21,11 +21,11 @@ struct Days {
     last: u16,
 }
 
-// Seconds of a year, from the first to the last, counted from its beginning on the wall clock.
+/// Seconds of a year, from the first to the last, counted from its beginning on the wall clock.
 #[derive(Clone, Copy)]
-struct Seconds {
-    first: i64,
-    last: i64,
+pub(crate) struct Seconds {
+    pub first: i64,
+    pub last: i64,
 }
 
 // Whether the two turns lie a week or more from each other and from the edges of every year.
@@ -40,25 +40,26 @@ pub fn turns_apart(dst: Dst) -> bool
     is_before(start, end) || is_before(end, start)
 }
 
-// Whether the seconds lie a week or more from the edges of every year.
-fn is_inside(seconds: Seconds) -> bool
+/// Whether the seconds lie a week or more from the edges of every year.
+pub(crate) fn is_inside(seconds: Seconds) -> bool
     requires { IsWithin 100_000_000 seconds.last }
     ensures { IsTrue result → IsInside seconds.first seconds.last }
 {
     WEEK <= seconds.first && seconds.last + WEEK <= YEAR
 }
 
-// Whether the one ends a week or more before the other begins.
-fn is_before(earlier: Seconds, later: Seconds) -> bool
+/// Whether the one ends a week or more before the other begins.
+pub(crate) fn is_before(earlier: Seconds, later: Seconds) -> bool
     requires { IsWithin 100_000_000 earlier.last }
     ensures { IsTrue result → (earlier.last +ℤ week) ≤ℤ later.first }
 {
     earlier.last + WEEK <= later.first
 }
 
-// The seconds of a year among which the turn lies in every year.
-fn seconds_of(turn: DayTime) -> Seconds
+/// The seconds of a year among which the turn lies in every year.
+pub(crate) fn seconds_of(turn: DayTime) -> Seconds
     ensures turns { IsInside result.first result.last → AlwaysTurnsWithin result.first result.last turn }
+    ensures order { result.first ≤ℤ result.last }
     ensures bound { IsWithin 100_000_000 result.last }
 {
     let days = days_of(turn.date);
@@ -80,6 +81,7 @@ fn second_of(day: u16, time: i32) -> i64
 fn days_of(day: Day) -> Days
     requires { IsTrue (is_rule_day day) }
     ensures among { result.last < 365 → IsAlwaysAmong result.first result.last day }
+    ensures order { result.first ≤ result.last }
     ensures bound { result.last < 500 }
 {
     match day {
@@ -101,6 +103,7 @@ fn days_of_week(month: u8, week: u8) -> Days
     requires month_in { (1 ≤ month) × (month ≤ 12) }
     requires week_in { (1 ≤ week) × (week ≤ 5) }
     ensures among { (weekday : ℕ) → IsAlwaysAmong result.first result.last (Day.WeekdayOfMonth month week weekday) }
+    ensures order { result.first ≤ result.last }
     ensures bound { result.last < 500 }
 {
     let months = u16::from(month) - 1;

@@ -1,4 +1,5 @@
-//! Each second around the turns of rules, as this crate tells it and as `jiff` does.
+//! Each second around the turns of rules, and those around the ends of stretches, as this crate tells them
+//! and as `jiff` does.
 
 use crate::clock::shown_at;
 use crate::stretch::Stretch;
@@ -52,12 +53,19 @@ const STARTS: [i64; 4] = [0, 945_000_000, 1_701_388_800, 4_039_372_800];
 // The new years of 1971, 2000, 2024 and 2100.
 const NEW_YEARS: [i64; 4] = [31_536_000, 946_684_800, 1_704_067_200, 4_102_444_800];
 
-// The seconds that are compared on either side.
+// The seconds that are compared on either side of a turn, and of the end of a stretch.
 const AROUND: i64 = 1_900;
 
+const NARROW: i64 = 3;
+
 // What clocks show at each second around an instant.
-fn check_instants(rt: &impl Abort, zone: &TimeZone<'_>, instant: i64) -> Result<(), Fail> {
-    for second in instant.saturating_sub(AROUND)..instant.saturating_add(AROUND) {
+fn check_instants(
+    rt: &impl Abort,
+    zone: &TimeZone<'_>,
+    instant: i64,
+    around: i64,
+) -> Result<(), Fail> {
+    for second in instant.saturating_sub(around)..instant.saturating_add(around) {
         let at = Timestamp::from_second(second)?;
         let mut stretch = Stretch::empty();
         let shown = shown_at(zone, at, &mut stretch);
@@ -67,8 +75,13 @@ fn check_instants(rt: &impl Abort, zone: &TimeZone<'_>, instant: i64) -> Result<
 }
 
 // The readings of each civil second around one.
-fn check_civil_seconds(rt: &impl Abort, zone: &TimeZone<'_>, civil: i64) -> Result<(), Fail> {
-    let (first, end) = (civil.saturating_sub(AROUND), civil.saturating_add(AROUND));
+fn check_civil_seconds(
+    rt: &impl Abort,
+    zone: &TimeZone<'_>,
+    civil: i64,
+    around: i64,
+) -> Result<(), Fail> {
+    let (first, end) = (civil.saturating_sub(around), civil.saturating_add(around));
     for second in first.max(0)..end.min(SECONDS) {
         let Ok(second) = u32::try_from(second) else {
             continue;
@@ -83,9 +96,9 @@ fn check_civil_seconds(rt: &impl Abort, zone: &TimeZone<'_>, civil: i64) -> Resu
 fn check_around(rt: &impl Abort, zone: &TimeZone<'_>, instant: i64) -> Result<(), Fail> {
     let before = Timestamp::from_second(instant.saturating_sub(1))?;
     let at = Timestamp::from_second(instant)?;
-    check_instants(rt, zone, instant)?;
-    check_civil_seconds(rt, zone, civil_number(zone.to_datetime(before)))?;
-    check_civil_seconds(rt, zone, civil_number(zone.to_datetime(at)))
+    check_instants(rt, zone, instant, AROUND)?;
+    check_civil_seconds(rt, zone, civil_number(zone.to_datetime(before)), AROUND)?;
+    check_civil_seconds(rt, zone, civil_number(zone.to_datetime(at)), AROUND)
 }
 
 // The first three turns after an instant, which each rule has.
@@ -99,10 +112,28 @@ fn check_turns(rt: &impl Abort, zone: &TimeZone<'_>, start: i64) -> Result<(), F
     Ok(())
 }
 
+// The seconds around the ends of stretches, one after another from a civil second on. Where a stretch ends
+// with no turn, the next second is looked up in another way.
+fn check_stretches(rt: &impl Abort, zone: &TimeZone<'_>, start: i64) -> Result<(), Fail> {
+    let mut second = u32::try_from(start).unwrap_or(0);
+    for _ in 0..24 {
+        if i64::from(second) >= SECONDS {
+            return Ok(());
+        }
+        let end = Stretch::at(zone, second).end;
+        check_instants(rt, zone, i64::from(end), NARROW)?;
+        check_civil_seconds(rt, zone, i64::from(end), NARROW)?;
+        assert!(rt; second < end);
+        second = end;
+    }
+    Ok(())
+}
+
 fn check_rule(rt: &impl Abort, text: &str) -> Result<(), Fail> {
     let zone = TimeZone::posix(text)?;
     for start in STARTS {
         check_turns(rt, &zone, start)?;
+        check_stretches(rt, &zone, start)?;
     }
     for year in NEW_YEARS {
         check_around(rt, &zone, year)?;

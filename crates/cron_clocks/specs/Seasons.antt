@@ -1,0 +1,62 @@
+-- Times of the year in which a rule tells one offset in every year.
+use Rattle.std.specs.Prelude.{◌≡◌, ℕ, ◌+◌, ◌<◌, ◌≤◌, ℤ, pos, ◌+ℤ◌, ◌≤ℤ◌, ◌<ℤ◌}
+use Rattle.jiff_core.specs.Calendar.{IsYear}
+use Rattle.jiff_core.specs.declared.Offset.{Offset}
+use Rattle.jiff_tz.specs.declared.posix.TimeZone.{TimeZone}
+use Rattle.jiff_tz.specs.declared.timezone.TimeZone.TheVariants.{Posix}
+use Rattle.jiff_tz.specs.declared.ambiguous.AmbiguousOffset.TheVariants.{Unambiguous}
+use Rattle.jiff_tz.specs.PosixRule.{ambiguous_at}
+use Rattle.cron_moments.specs.Civil.{civil, seconds_in_range}
+use Rattle.cron_clocks.specs.Clocks.{IsShown}
+use Rattle.cron_clocks.specs.Spans.{year_end}
+use Rattle.cron_clocks.specs.Turns.{year_start, week, common_year}
+
+-- the second n of the range, which is of UTC or civil, lies in the year y
+pub record IsYearAt (y : ℤ) (n : ℕ) : Type 0 where
+  pub in_range : n < seconds_in_range
+  pub year : IsYear y
+  pub low : year_start y ≤ℤ pos n
+  pub high : pos n <ℤ year_end y
+
+-- the year of the second n begins at this one, and has as many days in the range as the shorter years
+pub record IsYearOf (first n : ℕ) : Type 0 where
+  pub number : ℤ
+  pub low_year : pos 1970 ≤ℤ number
+  pub high_year : number ≤ℤ pos 2100
+  pub from : pos first ≡ year_start number
+  pub has : IsYearAt number n
+  pub room : first + 31_536_000 ≤ seconds_in_range
+
+-- the rule tells this offset alone of the civil second n, and a clock shows it in the second n of UTC
+pub record TellsOne (rule : TimeZone) (n : ℕ) (o : Offset) : Type 0 where
+  pub told : ambiguous_at rule (civil n) ≡ Unambiguous o
+  pub shown : IsShown (Posix rule) (pos n) o.seconds
+
+-- seconds of a year from a to b, and others from e to f, lie a week or more from each other and from the year's edges
+pub record AreInOrder (a b e f : ℤ) : Type 0 where
+  pub low : week ≤ℤ a
+  pub one : a ≤ℤ b
+  pub apart : (b +ℤ week) ≤ℤ e
+  pub other : e ≤ℤ f
+  pub high : (f +ℤ week) ≤ℤ common_year
+
+-- in every year the rule tells the one offset before the second a of the year and from f on, and the other from b to e
+pub record IsCourse (rule : TimeZone) (a b e f : ℕ) (outer inner : Offset) : Type 0 where
+  pub before : (y : ℤ) (n : ℕ) → IsYearAt y n → pos n <ℤ (year_start y +ℤ pos a) → TellsOne rule n outer
+  pub between : (y : ℤ) (n : ℕ) → IsYearAt y n → (year_start y +ℤ pos b) ≤ℤ pos n → pos n <ℤ (year_start y +ℤ pos e) → TellsOne rule n inner
+  pub after : (y : ℤ) (n : ℕ) → IsYearAt y n → (year_start y +ℤ pos f) ≤ℤ pos n → TellsOne rule n outer
+
+-- these seconds of a year come one after the other, a day or more from its beginning
+pub record AreOrdered (a b e f : ℕ) : Type 0 where
+  pub low : 86_400 ≤ a
+  pub one : a ≤ b
+  pub apart : b ≤ e
+  pub other : e ≤ f
+  pub high : f ≤ 31_536_000
+
+-- the second n lies among these seconds of the range, of each of which the rule tells this offset alone
+pub record IsSeason (rule : TimeZone) (n first end : ℕ) (o : Offset) : Type 0 where
+  pub low : first ≤ n
+  pub high : n < end
+  pub range : end ≤ seconds_in_range
+  pub tells : (k : ℕ) → first ≤ k → k < end → TellsOne rule k o

@@ -1,0 +1,171 @@
+//! Seasons: the times of the year in which a rule tells one offset in every year.
+//!
+//! A year's turns are some work to find. But where they lie apart, most seconds are far from each second
+//! at which a turn can lie in any year, and of those the place in the year tells what the clock shows.
+ghost use Rattle.std.specs.Prelude.{◌≡◌, ◌<◌, ◌≤◌, pos, ◌+ℤ◌, ◌-ℤ◌, ◌≤ℤ◌, ◌<ℤ◌, IfSome, Some, None};
+ghost use Rattle.jiff_tz.specs.PosixRule as Rule;
+ghost use Rattle.jiff_tz.specs.declared.posix.TimeZone.{TimeZone};
+ghost use Rattle.jiff_tz.specs.declared.timezone.TimeZone.TheVariants.{Posix};
+ghost use Rattle.cron_moments.specs.Civil.{civil, seconds_in_range};
+ghost use Rattle.cron_clocks.specs.Seasons.{AreInOrder, AreOrdered, IsCourse, IsSeason, IsYearOf};
+ghost use Rattle.cron_clocks.specs.Spans.{IsNarrowed, IsToldAlike};
+ghost use Rattle.cron_clocks.specs.Steady.{IsToldBy};
+
+use crate::rule::{Span, Told, WHOLE, between_turns, turns_around};
+use crate::turns::{Seconds, is_before, is_inside, seconds_of};
+use cron_moments::civil::SECONDS;
+use jiff::tz::Offset;
+use jiff_tz::posix::{Dst, TimeZone};
+
+const DAY: u32 = 86_400;
+
+// The seconds of the shorter years.
+const YEAR: u32 = 365 * DAY;
+
+// Two clocks are nearer to each other, in seconds.
+const FAR: i64 = 187_200;
+
+/// Seconds of the range from a first one to an end, and the one offset that a rule tells of them.
+#[derive(Clone, Copy)]
+pub(crate) struct Season {
+    pub first: u32,
+    pub end: u32,
+    pub offset: Offset,
+}
+
+impl Season {
+    // What a rule tells of a civil second of the season.
+    fn told(self) -> Told
+        ensures first { result.span.first ≡ pos self.first }
+        ensures end { result.span.end ≡ pos self.end }
+        ensures earlier { result.earlier ≡ Some self.offset }
+        ensures later { result.later ≡ None }
+    {
+        Told {
+            span: Span {
+                first: i64::from(self.first),
+                end: i64::from(self.end),
+            },
+            earlier: Some(self.offset),
+            later: None,
+        }
+    }
+}
+
+// The course of a year by a rule: the seconds of every year up to which the one offset is shown, from
+// which the other is, up to which it is, and from which the one is again. What isn't among them is known
+// from the turns of the year alone.
+#[derive(Clone, Copy)]
+struct Course {
+    ended: u32,
+    begun: u32,
+    left: u32,
+    come: u32,
+    outer: Offset,
+    inner: Offset,
+    ghost order: { AreOrdered ended begun left come },
+}
+
+// The course of a year whose two turns lie among these seconds.
+fn course_among(earlier: Seconds, later: Seconds, outer: Offset, inner: Offset) -> Course
+    requires { AreInOrder earlier.first earlier.last later.first later.last }
+    ensures ended { pos result.ended ≡ earlier.first -ℤ pos 187_200 }
+    ensures begun { pos result.begun ≡ earlier.last +ℤ pos 187_200 }
+    ensures left { pos result.left ≡ later.first -ℤ pos 187_200 }
+    ensures come { pos result.come ≡ later.last +ℤ pos 187_200 }
+    ensures outer { result.outer ≡ outer }
+    ensures inner { result.inner ≡ inner }
+{
+    Course {
+        ended: (earlier.first - FAR) as u32,
+        begun: (earlier.last + FAR) as u32,
+        left: (later.first - FAR) as u32,
+        come: (later.last + FAR) as u32,
+        outer,
+        inner,
+    }
+}
+
+// The course of a year by a rule whose turns lie apart.
+fn course_of(rule: TimeZone, dst: Dst) -> Option<Course>
+    requires { rule.dst ≡ Some dst }
+    ensures { IfSome result (λ c. IsCourse rule c.ended c.begun c.left c.come c.outer c.inner) }
+{
+    let start = seconds_of(dst.rule.start);
+    let end = seconds_of(dst.rule.end);
+    if !is_inside(start) || !is_inside(end) {
+        return None;
+    }
+    let standard = Offset::from_plain(rule.std_offset);
+    let saving = Offset::from_plain(dst.offset);
+    if is_before(start, end) {
+        Some(course_among(start, end, standard, saving))
+    } else if is_before(end, start) {
+        Some(course_among(end, start, saving, standard))
+    } else {
+        None
+    }
+}
+
+// The second that begins the year of a second. Each fourth year from 1972 on is longer: 2100, which isn't,
+// is the last one.
+fn year_of(second: u32) -> u32
+    requires { second < seconds_in_range }
+    ensures { IsYearOf result second }
+{
+    let years = (4 * (second / DAY) + 2) / 1461;
+    (1461 * years + 1) / 4 * DAY
+}
+
+// The season of a second, if it lies in one, from the second that begins its year. Those at the edges of
+// the year go on in the years beside it, which are no shorter than the shorter years.
+fn season_among(course: Course, year: u32, second: u32) -> Option<Season>
+    requires { IsYearOf year second }
+    ensures { (rule : TimeZone) → IsCourse rule course.ended course.begun course.left course.come course.outer course.inner
+        → IfSome result (λ s. IsSeason rule second s.first s.end s.offset) }
+{
+    let (ended, begun) = (year + course.ended, year + course.begun);
+    let (left, come) = (year + course.left, year + course.come);
+    let (first, end, offset) = if second < ended {
+        (come.saturating_sub(YEAR), ended, course.outer)
+    } else if begun <= second && second < left {
+        (begun, left, course.inner)
+    } else if come <= second {
+        (come, (ended + YEAR).min(SECONDS as u32), course.outer)
+    } else {
+        return None;
+    };
+    Some(Season { first, end, offset })
+}
+
+/// The season of a second of UTC, or of a civil second, if the place in its year tells it.
+pub(crate) fn season_at(rule: TimeZone, dst: Dst, second: u32) -> Option<Season>
+    requires range { second < seconds_in_range }
+    requires saving { rule.dst ≡ Some dst }
+    ensures { IfSome result (λ s. IsSeason rule second s.first s.end s.offset) }
+{
+    let course = course_of(rule, dst)?;
+    season_among(course, year_of(second), second)
+}
+
+/// What a rule tells of a civil second.
+pub(crate) fn told_at(rule: TimeZone, second: u32) -> Told
+    requires { second < seconds_in_range }
+    ensures alike { IsToldAlike rule second result.span.first result.span.end }
+    ensures low { result.span.first ≤ℤ pos second }
+    ensures high { pos second <ℤ result.span.end }
+    ensures narrowed { IsNarrowed (pos 0) (pos seconds_in_range) result.span.first result.span.end }
+    ensures told { IsToldBy (Rule.ambiguous_at rule (civil second)) result.earlier result.later }
+{
+    let Some(dst) = rule.dst else {
+        return Told {
+            span: WHOLE,
+            earlier: Some(Offset::from_plain(rule.std_offset)),
+            later: None,
+        };
+    };
+    match season_at(rule, dst, second) {
+        Some(season) => season.told(),
+        None => between_turns(rule, dst, turns_around(dst, second), second),
+    }
+}
