@@ -2,10 +2,8 @@
 use Rattle.std.proofs.Common.{◌≡◌, ℕ, ◌+◌, ◌-◌, ◌<◌, ◌≤◌, ◌&&◌, true, List, pos, Some, None, sym, ap, subst, ◌∙◌, arith}
 use Rattle.std.specs.Prelude.{nat_le, nat_lt}
 use Rattle.std.proofs.lemmas.Bool.{and_from, and_left, le-leb, lt-ltb, le-ltb, or_left}
-use Rattle.jiff_core.proofs.SignedLemmas.{signed_arith}
 use Rattle.cron_units.specs.declared.way.Way.{Way}
-use Rattle.cron_units.specs.declared.way.Way.TheVariants.{Ahead, Back}
-use Rattle.cron_units.specs.Nearest.{LiesFrom, Precedes, IsNearest}
+use Rattle.cron_units.specs.Nearest.{LiesFrom, IsNearest}
 use Rattle.cron_units.specs.Sets.{Sets}
 use Rattle.cron_units.specs.Units.{contains}
 use Rattle.cron_moments.specs.Calendar.{day_number, first_month, length_of, month_of, months_end, rank, rank_of_date, weekday_number, year_of}
@@ -15,7 +13,7 @@ use Rattle.cron_time.specs.Matches.{IncludesEachDate, has_day, matches_date}
 use Rattle.cron_time.specs.Search.Inner.MonthDays.{matches_ranked, matches_weekday, matching_day}
 use Rattle.cron_time.specs.Search.Inner.Numbers.{beyond, matches_day}
 use Rattle.cron_time.proofs.Searches.MonthDayLemmas.{dated, longest_31, matching_rank, split_matching}
-use Rattle.cron_time.proofs.Searches.WayLemmas.{lies_not_before, lies_self}
+use Rattle.cron_time.proofs.Searches.WayLemmas.{lies_next, lies_not_before, lies_self, not_between}
 
 -- the members from a least one on
 has_from : (xs : List ℕ) (least count n : ℕ) → ((k : ℕ) → k < count → contains xs (least + k) ≡ true) → least ≤ n → n < least + count → contains xs n ≡ true
@@ -60,14 +58,6 @@ matches_each s day each small = and_from (nat_lt day 47_847) (matches_date s (da
 pub each_own : (way : Way) (s : Sets) (day : ℕ) → IncludesEachDate s → day < 47_847 → IsNearest way (matching_day s) (pos day) (Some day)
 each_own way s day each small =
     record { passes = matches_each s day each small; lies = lies_self way day; nearest = λ k lies early. lies_not_before way day k lies early }
-
-not_between : (way : Way) (day next k : ℕ) → pos next ≡ beyond way day → LiesFrom way (beyond way day) k → Precedes way k next → ⊥
-not_between Ahead day next k e lies early = omega (arith, signed_arith, e)
-not_between Back day next k e lies early = omega (arith, signed_arith, e)
-
-lies_next : (way : Way) (day next : ℕ) → pos next ≡ beyond way day → LiesFrom way (beyond way day) next
-lies_next Ahead day next e = omega (arith, signed_arith, e)
-lies_next Back day next e = omega (arith, signed_arith, e)
 
 pub each_next : (way : Way) (s : Sets) (day next : ℕ) → IncludesEachDate s → pos next ≡ beyond way day → next < 47_847
     → IsNearest way (matching_day s) (beyond way day) (Some next)

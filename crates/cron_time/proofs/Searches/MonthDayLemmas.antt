@@ -25,7 +25,7 @@ use Rattle.cron_time.specs.Matches.{has_day, matches_date}
 use Rattle.cron_time.specs.declared.search.days.Day.{Day}
 use Rattle.cron_time.specs.declared.search.month_days.MonthDays.{MonthDays}
 use Rattle.cron_time.proofs.Searches.BlockLemmas.{both_split, BlockFails, precedes_split}
-use Rattle.cron_time.proofs.Searches.DayLemmas.{by_numbers, candidate_rank, lies_rank, own_month, past_rank, rank_lies, rank_past}
+use Rattle.cron_time.proofs.Searches.DayLemmas.{by_number_alone, by_numbers, candidate_rank, lies_rank, own_month, past_rank, rank_lies, rank_past}
 use Rattle.cron_time.proofs.Searches.LastDayLemmas.{marked_day}
 use Rattle.cron_time.proofs.Searches.WayLemmas.{lies_self}
 
@@ -65,6 +65,35 @@ pub marked_bit : (s : Sets) (month last k : ℕ) (days word all : ℕ) → last 
 marked_bit s month last k days word all e some marked numbers cut set =
     set k ∙ rw (numbered_bit s last k days word numbers cut, last_place k last some) (marked_day s month last (k + 1) e marked)
 
+-- without the mark, by its number alone
+unmarked_bit : (s : Sets) (month k : ℕ) → s.days_of_month.last_day ≡ false
+    → matches_day s month (k + 1) ≡ has_number s.days_of_month.ordinals (length_of month) (k + 1)
+unmarked_bit s month k unmarked =
+    ap (λ (b : Bool). b && nat_le (k + 1) (length_of month)) (by_number_alone s.days_of_month (length_of month) (k + 1) unmarked)
+
+pub cut_bit : (s : Sets) (month last k : ℕ) (days word : ℕ) → last ≡ length_of month → s.days_of_month.last_day ≡ false
+    → ((j : ℕ) → has_bit days j ≡ contains s.days_of_month.ordinals (1 + j))
+    → ((j : ℕ) → has_bit word j ≡ (nat_lt j last && has_bit days j)) → has_bit word k ≡ matches_day s month (k + 1)
+cut_bit s month last k days word e unmarked numbers cut =
+    numbered_bit s last k days word numbers cut ∙ ap (λ (n : ℕ). has_number s.days_of_month.ordinals n (k + 1)) e ∙ sym (unmarked_bit s month k unmarked)
+
+-- where no day is wanted that a month may lack, the numbered days are those of each month
+pub short_bit : (s : Sets) (month k : ℕ) (days late : ℕ) → s.days_of_month.last_day ≡ false → 28 ≤ length_of month
+    → ((j : ℕ) → has_bit days j ≡ contains s.days_of_month.ordinals (1 + j))
+    → ((j : ℕ) → has_bit late j ≡ (nat_le 28 j && has_bit days j)) → late ≡ 0 → has_bit days k ≡ matches_day s month (k + 1)
+short_bit s month k days late unmarked long numbers cut none =
+    sym (unmarked_bit s month k unmarked ∙ elim (cases_lt k 28) [
+      | inl l ↦ rw (le-leb (k + 1) (length_of month) (omega arith), swap (contains s.days_of_month.ordinals (k + 1)) true)
+          (sym (numbers k ∙ ap (contains s.days_of_month.ordinals) (next_is k)))
+      | inr g ↦
+          let P : ℕ → Type 0 = λ w. has_bit w k ≡ has_bit days k in
+          let same : has_bit late k ≡ has_bit days k = cut k ∙ rw (le-leb 28 k g) refl in
+          let out : has_bit days k ≡ false = sym (subst P none same) ∙ bit_none k in
+          let unwanted : contains s.days_of_month.ordinals (k + 1) ≡ false =
+          sym (numbers k ∙ ap (contains s.days_of_month.ordinals) (next_is k)) ∙ out in
+          rw (unwanted, out) refl
+    ])
+
 -- ---- and whose weekdays lie in theirs
 
 pub fits_month : (s : Sets) (month day : ℕ) → matches_day s month day ≡ true → day ≤ length_of month
@@ -73,6 +102,9 @@ fits_month s month day h =
 
 pub longest_31 : (month : ℕ) → length_of month ≤ 31
 longest_31 month = omega (arith, days_in_month_bounds (pos (year_of month)) (month_of month))
+
+pub shortest_28 : (month : ℕ) → 28 ≤ length_of month
+shortest_28 month = omega (arith, days_in_month_bounds (pos (year_of month)) (month_of month))
 
 weekday_at : (s : Sets) (month k : ℕ) → first_month ≤ month → month < months_end → k + 1 ≤ length_of month
     → contains s.days_of_week ((day_number month 1 + k + 4) % 7 + 1) ≡ matches_weekday s month (k + 1)

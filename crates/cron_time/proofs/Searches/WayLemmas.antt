@@ -87,3 +87,12 @@ lies_mod Ahead w from n eq lies =
     let e : n / w * w ≡ from / w * w = rw eq refl in omega (arith, signed_arith, div-add-mod' from w, div-add-mod' n w, e)
 lies_mod Back w from n eq lies =
     let e : n / w * w ≡ from / w * w = rw eq refl in omega (arith, signed_arith, div-add-mod' from w, div-add-mod' n w, e)
+
+-- nothing lies between a number and the next one
+pub not_between : (way : Way) (n next k : ℕ) → pos next ≡ beyond way n → LiesFrom way (beyond way n) k → Precedes way k next → ⊥
+not_between Ahead n next k e lies early = omega (arith, signed_arith, e)
+not_between Back n next k e lies early = omega (arith, signed_arith, e)
+
+pub lies_next : (way : Way) (n next : ℕ) → pos next ≡ beyond way n → LiesFrom way (beyond way n) next
+lies_next Ahead n next e = omega (arith, signed_arith, e)
+lies_next Back n next e = omega (arith, signed_arith, e)

@@ -21,8 +21,9 @@ use crate::search::leap_days::{leap_february, wants_leap_days};
 use crate::search::neighbours::{Months, Neighbours};
 use crate::search::ways::{entry, past_below};
 use cron_bits::words::Words;
-use cron_moments::calendar::{KnownMonth, length_of};
+use cron_moments::calendar::{KnownMonth, SHORTEST, length_of};
 use cron_units::fields::ScheduleFields;
+use cron_units::time_unit::TimeUnitSpec;
 use cron_units::time_unit::layout::{bits, bits_of_days};
 use cron_units::way::Way;
 use jiff::tz::TimeZone;
@@ -38,18 +39,22 @@ pub struct MonthDays {
     days: u64,
 }
 
-// The days of a month that lie in their set: by their numbers, and the last one where it is marked.
+// The days of a month that lie in their set: by their numbers, and the last one where it is marked. The length
+// of the month matters for the last numbers alone.
 #[inline(always)]
 fn days_in_set(fields: &ScheduleFields, month: u32) -> u64
     requires { month < months_end }
     ensures { (k : ℕ) → has_bit result k ≡ matches_day fields.now month (k + 1) }
 {
-    let last = length_of(month);
-    let numbered = bits_of_days(&fields.days_of_month).below(last);
+    let numbered = bits_of_days(&fields.days_of_month);
     if fields.days_of_month.last_day() {
-        return numbered.with(last - 1);
+        let last = length_of(month);
+        return numbered.below(last).with(last - 1);
     }
-    numbered
+    if numbered.at_least(SHORTEST) == 0 {
+        return numbered;
+    }
+    numbered.below(length_of(month))
 }
 
 // The days of the week from that of a day on: 1 where the day of the week lies in its set.
@@ -65,6 +70,31 @@ fn weekdays_from(fields: &ScheduleFields, day: u32) -> u64
     eight >> ((day + 4) % 7)
 }
 
+// The month beside one in its year, if it lies in the set.
+#[inline(always)]
+fn month_beside(fields: &ScheduleFields, way: Way, month: u32) -> Option<u32>
+    requires range { (first_month ≤ month) × (month < months_end) }
+    requires matching { matches_month fields.now month ≡ true }
+    ensures beside { IfSome result (λ n. (matches_month fields.now n ≡ true) × (pos n ≡ beyond way month)) }
+    ensures bound { IfSome result (λ n. (first_month ≤ n) × (n < months_end)) }
+{
+    let before = month % 12;
+    match way {
+        Way::Ahead => {
+            if before == 11 || !fields.months.includes(before + 2) {
+                return None;
+            }
+            Some(month + 1)
+        }
+        Way::Back => {
+            if before == 0 || !fields.months.includes(before) {
+                return None;
+            }
+            Some(month - 1)
+        }
+    }
+}
+
 // A month past one that lies in the sets. Where 29 February alone is wanted, the years between two leap
 // years are passed. It asks no zone.
 #[inline(always)]
@@ -74,6 +104,10 @@ fn next_month(fields: &ScheduleFields, way: Way, month: u32) -> Option<u32>
     ensures leads { LeadsOn way fields.now month result }
     ensures bound { IfSome result (λ n. (first_month ≤ n) × (n < months_end)) }
 {
+    let beside = month_beside(fields, way, month);
+    if beside.is_some() {
+        return beside;
+    }
     let zone = TimeZone::UTC;
     let mut inquiry = Inquiry::new(fields, &zone);
     if wants_leap_days(fields) {
@@ -83,6 +117,7 @@ fn next_month(fields: &ScheduleFields, way: Way, month: u32) -> Option<u32>
 }
 
 // The nearest month from one on that lies in the sets. It asks no zone.
+#[inline(always)]
 fn wanted_month(fields: &ScheduleFields, way: Way, month: u32) -> Option<u32>
     requires { month < months_end }
     ensures nearest { IsNearest way (matches_month fields.now) (pos month) result }
@@ -265,6 +300,7 @@ impl MonthDays {
     }
 
     /// The nearest day from one on whose date matches.
+    #[inline(always)]
     pub(crate) fn day_from(&mut self, fields: &ScheduleFields, way: Way, day: u32) -> Option<u32>
         requires in_range { day < days_in_range }
         requires known { KnowsDays fields.now self.old }
