@@ -6,8 +6,8 @@ use Rattle.std.proofs.lemmas.List.{get_or-drop, length-drop}
 use Rattle.std.specs.Char.{digit_value}
 use Rattle.std.specs.List.{list_all, slice_range}
 use Rattle.std.specs.Str.Parse.{digits_value}
-use Rattle.cron_text.specs.Tokens.{is_digit, symbol_of}
-use Rattle.cron_text.specs.Inner.Numbers.{number_symbol}
+use Rattle.cron_text.specs.Tokens.{number, is_digit, symbol_of}
+use Rattle.cron_text.specs.Inner.Numbers.{IsCapped, number_symbol}
 use Rattle.cron_text.specs.Inner.Places.{token_between}
 use Rattle.cron_text.proofs.Places.{small_number, large_number}
 
@@ -37,4 +37,11 @@ number_seen text at end digits = elim (cases_lt (digits_value 10 (slice_range te
   | inl small ↦ rw (lt-ltb (digits_value 10 (slice_range text at end)) 4294967296 small) (sym (small_number (slice_range text at end) digits small))
   | inr large ↦ rw (le-ltb (digits_value 10 (slice_range text at end)) 4294967296 large)
       (sym (large_number (slice_range text at end) digits (λ small. absurd (omega (arith, small, large)))))
+]
+
+-- a value that 32 bits hold is the number itself
+pub small_seen : (n value : ℕ) → IsCapped n value → value < 4294967296 → number_symbol n ≡ number value
+small_seen n value h l = elim (cases_lt n 4294967296) [
+  | inl small ↦ rw (lt-ltb n 4294967296 small) (ap number (sym (h.same small)))
+  | inr large ↦ absurd (omega (arith, l, h.past large))
 ]

@@ -224,7 +224,7 @@ pub fn read_field<'a, T: TimeUnitField>(
 {
     let read = match read_star(text, *place, set) {
         Some(behind) => Some(behind),
-        None => read_plain(text, *place, set),
+        None => read_plain(text.as_bytes(), *place, set),
     };
     if let Some(behind) = read {
         place.at = behind.at;

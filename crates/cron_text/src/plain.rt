@@ -12,26 +12,26 @@ ghost use Rattle.cron_text.specs.Inner.Places.{IsPlace, tokens_from};
 ghost use Rattle.cron_text.specs.Inner.PlainReading.{IsAddedAt, IsBehind, IsItemAt, IsSymbolAt, IsWordAt};
 
 use super::fields::connector_at;
-use super::symbols::{Symbol, number_at};
+use super::symbols::digits_at;
 use super::tokens::{Place, is_digit, is_letter, skip_space};
 use cron_units::specifier::{Base, Item, add_item, add_name, add_names};
 use cron_units::time_unit::{Key, TimeUnitField, empty, with_letter};
 
 /// The number at an index, and where it ends.
 #[inline(always)]
-fn number_from(text: &str, at: usize) -> Option<(u32, usize)>
+fn number_from(text: &[u8], at: usize) -> Option<(u32, usize)>
     ensures { IfSome result (λ r. IsSymbolAt text.now at (number r.0) r.1) }
 {
-    let bytes = text.as_bytes();
-    if at >= bytes.len() {
+    if at >= text.len() {
         return None;
     }
-    if !is_digit(bytes[at]) {
+    if !is_digit(text[at]) {
         return None;
     }
-    match number_at(text, at) {
-        (Symbol::Number(value), end) => Some((value, end)),
-        _ => None,
+    let (value, end) = digits_at(text, at);
+    match u32::try_from(value) {
+        Ok(value) => Some((value, end)),
+        Err(_) => None,
     }
 }
 
@@ -45,10 +45,10 @@ fn stands(text: &[u8], at: usize, byte: u8) -> bool
 
 /// The number behind a byte at an index, and where it ends.
 #[inline(always)]
-fn number_behind(text: &str, at: usize, byte: u8) -> Option<(u32, usize)>
+fn number_behind(text: &[u8], at: usize, byte: u8) -> Option<(u32, usize)>
     ensures { IfSome result (λ r. IsBehind text.now at byte (number r.0) r.1) }
 {
-    if !stands(text.as_bytes(), at, byte) {
+    if !stands(text, at, byte) {
         return None;
     }
     number_from(text, at + 1)
@@ -56,7 +56,7 @@ fn number_behind(text: &str, at: usize, byte: u8) -> Option<(u32, usize)>
 
 /// The item that a base is, with the step behind it, where one stands there.
 #[inline(always)]
-fn item_of(text: &str, base: Base<'static>, end: usize) -> (Item<'static>, usize)
+fn item_of(text: &[u8], base: Base<'static>, end: usize) -> (Item<'static>, usize)
     ensures { (u : TimeUnit) (at : ℕ) → IsItemAt u text.now at (items.plain (base_view base.entry)) end → IsItemAt u text.now at (item_view result.0) result.1 }
 {
     match number_behind(text, end, b'/') {
@@ -67,7 +67,7 @@ fn item_of(text: &str, base: Base<'static>, end: usize) -> (Item<'static>, usize
 
 /// The item of numbers at an index, and where it ends.
 #[inline(always)]
-fn numbers_at(text: &str, at: usize) -> Option<(Item<'static>, usize)>
+fn numbers_at(text: &[u8], at: usize) -> Option<(Item<'static>, usize)>
     ensures { IfSome result (λ r. (u : TimeUnit) → IsItemAt u text.now at (item_view r.0) r.1) }
 {
     let (first, end) = number_from(text, at)?;
@@ -79,10 +79,10 @@ fn numbers_at(text: &str, at: usize) -> Option<(Item<'static>, usize)>
 
 /// The item of a star with a step at an index, and where it ends. A star without one is left.
 #[inline(always)]
-fn star_at(text: &str, at: usize) -> Option<(Item<'static>, usize)>
+fn star_at(text: &[u8], at: usize) -> Option<(Item<'static>, usize)>
     ensures { IfSome result (λ r. (u : TimeUnit) → IsItemAt u text.now at (item_view r.0) r.1) }
 {
-    if !stands(text.as_bytes(), at, b'*') {
+    if !stands(text, at, b'*') {
         return None;
     }
     let (step, end) = number_behind(text, at + 1, b'/')?;
@@ -133,7 +133,7 @@ fn add_words<T: TimeUnitField>(text: &[u8], at: usize, set: &mut T) -> Option<us
 
 /// Adds what the item at an index denotes, and finds where it ends.
 #[inline(always)]
-fn add_plain<T: TimeUnitField>(text: &str, at: usize, set: &mut T) -> Option<usize>
+fn add_plain<T: TimeUnitField>(text: &[u8], at: usize, set: &mut T) -> Option<usize>
     ensures { IfSome result (λ end. IsAddedAt T.unit text.now at end (with_mark (T.members set.old) (T.marked set.old)) (with_mark (T.members set.new) (T.marked set.new))) }
 {
     let found = match numbers_at(text, at) {
@@ -145,24 +145,23 @@ fn add_plain<T: TimeUnitField>(text: &str, at: usize, set: &mut T) -> Option<usi
             Ok(()) => Some(end),
             Err(_) => None,
         },
-        None => add_words(text.as_bytes(), at, set),
+        None => add_words(text, at, set),
     }
 }
 
 /// Reads a field of such items into a set, and finds the place after it.
 #[inline(always)]
-pub fn read_plain<T: TimeUnitField>(text: &str, place: Place, set: &mut T) -> Option<Place>
+pub fn read_plain<T: TimeUnitField>(text: &[u8], place: Place, set: &mut T) -> Option<Place>
     ensures taken { IfSome result (λ after. TakesField T.unit (tokens_from text.now place) (with_mark (T.members set.new) (T.marked set.new)) (tokens_from text.now after)) }
     ensures place { IfSome result (IsPlace text.now) }
 {
-    let bytes = text.as_bytes();
     let mut joined: T = empty();
     let mut end = add_plain(text, place.at, &mut joined)?;
-    while stands(bytes, end, b',') {
+    while stands(text, end, b',') {
         end = add_plain(text, end + 1, &mut joined)?;
     }
-    let after = skip_space(bytes, end);
-    if connector_at(bytes, after).is_some() {
+    let after = skip_space(text, end);
+    if connector_at(text, after).is_some() {
         return None;
     }
     *set = joined;

@@ -4,7 +4,7 @@ ghost use Rattle.std.specs.Prelude.{◌≡◌, ◌<◌, ◌+◌, ◌*◌, [], �
 ghost use Rattle.std.specs.Char.{digit_value};
 ghost use Rattle.cron_text.specs.Tokens.{is_digit, is_letter, is_space, sign_of};
 ghost use Rattle.cron_text.specs.Inner.Numbers.{IsCapped, number_symbol};
-ghost use Rattle.cron_text.specs.Inner.Places.{IsPlace, tokens_from, IsTokenAt, IsRead, IsLoneStar};
+ghost use Rattle.cron_text.specs.Inner.Places.{IsPlace, tokens_from, AreDigitsAt, IsTokenAt, IsRead, IsLoneStar};
 ghost use Rattle.cron_text.specs.Inner.Views.{symbol_view};
 
 use super::tokens::{Place, is_digit, is_letter, letters_end, skip_space};
@@ -61,22 +61,32 @@ fn number(value: u64) -> Symbol<'static>
     }
 }
 
-/// The number that begins at an index, and where it ends. Each digit is looked at once.
+/// The value of the digits that begin at an index, and where they end. Each digit is looked at once.
 #[inline(always)]
-pub fn number_at(text: &str, at: usize) -> (Symbol<'_>, usize)
+pub fn digits_at(text: &[u8], at: usize) -> (u64, usize)
+    requires within { at < length text.now }
+    requires digit { is_digit (slice_index text.now at) ≡ true }
+    ensures { AreDigitsAt text.now at result.0 result.1 }
+{
+    let mut value = u64::from(text[at] - b'0');
+    for end in at + 1..text.len() {
+        if !is_digit(text[end]) {
+            return (value, end);
+        }
+        value = with_digit(value, text[end]);
+    }
+    (value, text.len())
+}
+
+/// The number that begins at an index, and where it ends.
+#[inline(always)]
+fn number_at(text: &str, at: usize) -> (Symbol<'_>, usize)
     requires within { at < length text.now }
     requires digit { is_digit (slice_index text.now at) ≡ true }
     ensures { IsTokenAt text.now at result.0 result.1 }
 {
-    let bytes = text.as_bytes();
-    let mut value = u64::from(bytes[at] - b'0');
-    for end in at + 1..bytes.len() {
-        if !is_digit(bytes[end]) {
-            return (number(value), end);
-        }
-        value = with_digit(value, bytes[end]);
-    }
-    (number(value), bytes.len())
+    let (value, end) = digits_at(text.as_bytes(), at);
+    (number(value), end)
 }
 
 /// The word that begins at an index, and where it ends.

@@ -1,13 +1,16 @@
 -- Places of a text, and what is read there. These are words of the reader's inner functions; no public contract cites
 -- them.
-use Rattle.std.specs.Prelude.{◌≡◌, ◌+◌, ◌<◌, ◌≤◌, ℕ, Bool, false, List, [], ◌∷◌, length, drop, slice_range}
+use Rattle.std.specs.Prelude.{◌≡◌, ◌+◌, ◌<◌, ◌≤◌, ℕ, Bool, true, false, List, [], ◌∷◌, length, drop, slice_range}
+use Rattle.std.specs.List.{list_all}
+use Rattle.std.specs.Str.Parse.{digits_value}
 use Rattle.cron_units.specs.Units.{TimeUnit}
 use Rattle.cron_units.specs.declared.specifier.Item.{Item}
 use Rattle.cron_text.specs.Fields as field
 use Rattle.cron_text.specs.Fields.{is_connector, is_wildcard}
 use Rattle.cron_text.specs.Tokens as spec
-use Rattle.cron_text.specs.Tokens.{tokens, symbol_of, star, after_gap, BeginsNoSpace}
+use Rattle.cron_text.specs.Tokens.{tokens, is_digit, symbol_of, star, after_gap, BeginsNoSpace}
 use Rattle.cron_text.specs.Inner.FieldReading.{FieldState, furthest}
+use Rattle.cron_text.specs.Inner.Numbers.{IsCapped}
 use Rattle.cron_text.specs.Inner.Views.{symbol_view, connector_view, after_growth}
 use Rattle.cron_text.specs.declared.fields.Connector.{Connector}
 use Rattle.cron_text.specs.declared.fields.Growth.{Growth}
@@ -33,6 +36,14 @@ pub record IsTokenAt (text : List ℕ) (at : ℕ) (symbol : Symbol) (end : ℕ) 
   pub further : at < end
   pub within : end ≤ length text
   pub seen : symbol_view symbol ≡ symbol_of (token_between text at end)
+  pub rest : tokens (drop at text) ≡ token_between text at end ∷ tokens (drop end text)
+
+-- digits begin at the index and end before the other, and this is their value, as far as it is told
+pub record AreDigitsAt (text : List ℕ) (at value end : ℕ) : Type 0 where
+  pub further : at < end
+  pub within : end ≤ length text
+  pub digits : list_all is_digit (token_between text at end).text ≡ true
+  pub value_is : IsCapped (digits_value 10 (slice_range text at end)) value
   pub rest : tokens (drop at text) ≡ token_between text at end ∷ tokens (drop end text)
 
 -- a token stands at the place, of which the code keeps this, and then comes the next place

@@ -16,7 +16,7 @@ loop-joined-init g c =
 pub loop-joined-preserved : goal.loop-joined-preserved
 loop-joined-preserved g c =
     let text = c.args.text.now in
-    let comma = rw c.as_bytes-bytes.ensures.value at (c.stands.ensures c.loop-joined-test.true) in
+    let comma = c.stands.ensures c.loop-joined-test.true in
     list_next g.T.TimeUnitField.unit (tokens_from text c.args.place) text c.loop-joined.end c.in_ok-end-2.end _ _ c.loop-joined.invariant comma.0 comma.1
     c.in_ok-end-2.ensures
 
@@ -28,7 +28,6 @@ pub returns-clause-taken : goal.returns-clause-taken
 returns-clause-taken g c =
     let text = c.args.text.now in
     let after = c.skip_space-after.result in
-    let same = rw c.as_bytes-bytes.ensures.value at c.skip_space-after.ensures.same in
     let apart : NoConnector (tokens_from text after) =
-    rw c.as_bytes-bytes.ensures.value at (none_there c.connector_at.result _ _ (sym c.is_some.ensures ∙ c.if-is_some.false) c.connector_at.ensures.connector) in
-    list_taken g.T.TimeUnitField.unit (tokens_from text c.args.place) text c.loop-joined.end _ (tokens_from text after) c.loop-joined.invariant same apart
+    none_there c.connector_at.result _ _ (sym c.is_some.ensures ∙ c.if-is_some.false) c.connector_at.ensures.connector in
+    list_taken g.T.TimeUnitField.unit (tokens_from text c.args.place) text c.loop-joined.end _ (tokens_from text after) c.loop-joined.invariant c.skip_space-after.ensures.same apart

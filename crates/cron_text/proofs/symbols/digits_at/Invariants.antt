@@ -3,7 +3,7 @@ use Rattle.std.specs.List.{slice_range}
 use Rattle.std.specs.Str.Parse.{digits_value}
 use Rattle.cron_text.specs.Tokens.{is_digit}
 use Rattle.cron_text.specs.Inner.Numbers.{IsCapped}
-use Rattle.cron_text.proofs.symbols.number_at.Given as goal
+use Rattle.cron_text.proofs.symbols.digits_at.Given as goal
 
 -- digits stand before the index, and spell the value
 abbrev pub invariant-loop-end : goal.invariant-loop-end
