@@ -1,23 +1,37 @@
 -- The days of a year among which a rule's day is in every year.
-use Rattle.std.proofs.Common.{◌≡◌, ℕ, zero, suc, ◌+◌, ◌-◌, ◌*◌, ◌%◌, ◌<◌, ◌≤◌, Bool, true, false, cond, ◌&&◌, nat_le, ℤ, pos, ◌+ℤ◌, ◌-ℤ◌, ◌≤ℤ◌, refl, arith, min, ◌==◌, nat_lt}
+use Rattle.std.proofs.Common.{◌≡◌, ℕ, zero, suc, ◌+◌, ◌-◌, ◌*◌, ◌/◌, ◌%◌, ◌<◌, ◌≤◌, Bool, true, false, cond, ◌&&◌, nat_le, ℤ, pos, ◌+ℤ◌, ◌-ℤ◌, ◌≤ℤ◌, refl, arith, min, ◌==◌, nat_lt}
 use Rattle.std.proofs.lemmas.Bool.Decides.{nat_tests}
 use Rattle.std.proofs.lemmas.Bool.{lt-ltb}
 use Rattle.jiff_core.specs.Calendar.{days_from_civil, days_in_month, days_in_year, is_leap_year, days_of_months}
 use Rattle.jiff_core.proofs.CalendarLemmas.{days_from_civil-day_count, day_count-day_of_year, days_in_month_bounds, days_in_year_bounds}
 use Rattle.jiff_core.proofs.DateLemmas.{days_from_civil-day}
+use Rattle.jiff_core.proofs.MarchLemmas.{days_of_months-late, leap_day}
 use Rattle.jiff_core.proofs.SignedLemmas.{signed_arith}
 use Rattle.jiff_tz.specs.declared.posix.Day.TheVariants.{JulianOne, JulianZero, WeekdayOfMonth}
 use Rattle.jiff_tz.specs.PosixRule.{first_day, rule_day, sunday_number, nth_weekday, last_weekday}
 use Rattle.cron_clocks.specs.Turns.{IsAmong}
 
--- the months have from 28 to 31 days each
-months_days : (y : ℤ) (n : ℕ) → (28 * n ≤ days_of_months y n) × (days_of_months y n ≤ 31 * n)
+-- the days before a month, in the shorter years and in each
+leap_few : (y : ℤ) → leap_day y ≤ 1
+leap_few y = few (is_leap_year y)
+  where
+    few : (b : Bool) → cond b 1 0 ≤ 1
+    few true = omega arith
+    few false = omega arith
+
+pub days_early : (y : ℤ) (m : ℕ) → 1 ≤ m → m < 3 → days_of_months y (m - 1) ≡ 31 * (m - 1)
 unfolding days_of_months
-months_days y zero = (omega arith, omega arith)
-months_days y (suc n) =
-    let before = months_days y n in
-    let month = days_in_month_bounds y (suc n) in
-    (omega (arith, before.0, before.1, month.0, month.1), omega (arith, before.0, before.1, month.0, month.1))
+days_early y zero low high = absurd (omega arith)
+days_early y (suc zero) low high = refl
+days_early y (suc (suc zero)) low high = refl
+days_early y (suc (suc (suc n))) low high = absurd (omega arith)
+
+pub days_late : (y : ℤ) (m : ℕ) → 3 ≤ m → m ≤ 12
+    → ((153 * m - 457) / 5 + 59 ≤ days_of_months y (m - 1)) × (days_of_months y (m - 1) ≤ (153 * m - 457) / 5 + 60)
+days_late y m low high =
+    let months = days_of_months-late y m low (omega arith) in
+    let leap = leap_few y in
+    (omega (arith, months, leap), omega (arith, months, leap))
 
 month_start : (y : ℤ) (m : ℕ) → days_from_civil y m 1 ≡ first_day y +ℤ pos (days_of_months y (m - 1))
 month_start y m =
@@ -27,41 +41,39 @@ month_end : (y : ℤ) (m : ℕ) → days_from_civil y m (days_in_month y m) +ℤ
 month_end y m =
     days_from_civil-day y m (days_in_month y m) 1 (omega (arith, days_in_month_bounds y m)) (omega arith)
 
-nth_among : (y : ℤ) (m w r : ℕ) → 1 ≤ m → 1 ≤ w → w ≤ 4 → r < 7
-    → ((first_day y +ℤ pos (28 * (m - 1) + 7 * (min w 4 - 1))) ≤ℤ (days_from_civil y m 1 +ℤ pos r +ℤ pos (7 * (w - 1))))
-    × ((days_from_civil y m 1 +ℤ pos r +ℤ pos (7 * (w - 1))) ≤ℤ (first_day y +ℤ pos (31 * (m - 1) + 7 * w - 1)))
-nth_among y m w r first low high small =
-    let days = months_days y (m - 1) in
-    let start = month_start y m in
-    (omega (arith, signed_arith), omega (arith, signed_arith))
+module _ (y : ℤ) (m p : ℕ) (days_low : p ≤ days_of_months y (m - 1)) (days_high : days_of_months y (m - 1) ≤ p + 1) where
+  nth_among : (w r : ℕ) → 1 ≤ m → 1 ≤ w → w ≤ 4 → r < 7
+      → ((first_day y +ℤ pos (p + 7 * (min w 4 - 1))) ≤ℤ (days_from_civil y m 1 +ℤ pos r +ℤ pos (7 * (w - 1))))
+      × ((days_from_civil y m 1 +ℤ pos r +ℤ pos (7 * (w - 1))) ≤ℤ (first_day y +ℤ pos (p + min (7 * w) 31)))
+  nth_among w r first low high small =
+      let start = month_start y m in
+      (omega (arith, signed_arith), omega (arith, signed_arith))
 
-last_among : (y : ℤ) (m r : ℕ) → 1 ≤ m → r < 7
-    → ((first_day y +ℤ pos (28 * (m - 1) + 7 * (min 5 4 - 1))) ≤ℤ (days_from_civil y m (days_in_month y m) -ℤ pos r))
-    × ((days_from_civil y m (days_in_month y m) -ℤ pos r) ≤ℤ (first_day y +ℤ pos (31 * (m - 1) + 7 * 5 - 1)))
-last_among y m r first small =
-    let days = months_days y (m - 1) in
-    let month = days_in_month_bounds y m in
-    let start = month_start y m in
-    let end = month_end y m in
-    (omega (arith, signed_arith), omega (arith, signed_arith))
+  last_among : (r : ℕ) → 1 ≤ m → r < 7
+      → ((first_day y +ℤ pos (p + 7 * (min 5 4 - 1))) ≤ℤ (days_from_civil y m (days_in_month y m) -ℤ pos r))
+      × ((days_from_civil y m (days_in_month y m) -ℤ pos r) ≤ℤ (first_day y +ℤ pos (p + min (7 * 5) 31)))
+  last_among r first small =
+      let month = days_in_month_bounds y m in
+      let start = month_start y m in
+      let end = month_end y m in
+      (omega (arith, signed_arith), omega (arith, signed_arith))
 
-week_among : (y : ℤ) (m w d : ℕ) → 1 ≤ m → 1 ≤ w → w ≤ 5
-    → (b : Bool) → (w == 5) ≡ b
-    → ((first_day y +ℤ pos (28 * (m - 1) + 7 * (min w 4 - 1))) ≤ℤ cond b (last_weekday y m d) (nth_weekday y m w d))
-    × (cond b (last_weekday y m d) (nth_weekday y m w d) ≤ℤ (first_day y +ℤ pos (31 * (m - 1) + 7 * w - 1)))
-week_among y m w d first low high true e =
-    let five : w ≡ 5 = grind (arith, nat_tests) in
-    rw five (last_among y m ((sunday_number (days_from_civil y m (days_in_month y m)) + 7 - d) % 7) first (omega arith))
-week_among y m w d first low high false e =
-    let four : w ≤ 4 = grind (arith, nat_tests) in
-    nth_among y m w ((d + 7 - sunday_number (days_from_civil y m 1)) % 7) first low four (omega arith)
+  week_among : (w d : ℕ) → 1 ≤ m → 1 ≤ w → w ≤ 5
+      → (b : Bool) → (w == 5) ≡ b
+      → ((first_day y +ℤ pos (p + 7 * (min w 4 - 1))) ≤ℤ cond b (last_weekday y m d) (nth_weekday y m w d))
+      × (cond b (last_weekday y m d) (nth_weekday y m w d) ≤ℤ (first_day y +ℤ pos (p + min (7 * w) 31)))
+  week_among w d first low high true e =
+      let five : w ≡ 5 = grind (arith, nat_tests) in
+      rw five (last_among ((sunday_number (days_from_civil y m (days_in_month y m)) + 7 - d) % 7) first (omega arith))
+  week_among w d first low high false e =
+      let four : w ≤ 4 = grind (arith, nat_tests) in
+      nth_among w ((d + 7 - sunday_number (days_from_civil y m 1)) % 7) first low four (omega arith)
 
-pub weekday_among : (y : ℤ) (m w d : ℕ) → 1 ≤ m → 1 ≤ w → w ≤ 5
-    → IsAmong (28 * (m - 1) + 7 * (min w 4 - 1)) (31 * (m - 1) + 7 * w - 1) (WeekdayOfMonth m w d) y
-unfolding rule_day
-weekday_among y m w d first low high =
-    let among = week_among y m w d first low high (w == 5) refl in
-    record { number = _; named = refl; low = among.0; high = among.1 }
+  pub weekday_among : (w d : ℕ) → 1 ≤ m → 1 ≤ w → w ≤ 5 → IsAmong (p + 7 * (min w 4 - 1)) (p + min (7 * w) 31) (WeekdayOfMonth m w d) y
+  unfolding rule_day
+  weekday_among w d first low high =
+      let among = week_among w d first low high (w == 5) refl in
+      record { number = _; named = refl; low = among.0; high = among.1 }
 
 leap_step : (b : Bool) → cond b 1 0 ≤ 1
 leap_step true = omega arith

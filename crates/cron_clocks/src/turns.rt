@@ -1,7 +1,7 @@
 //! Where in a year the two turns of a rule lie.
 
-ghost use Rattle.std.specs.Prelude.{◌≡◌, ℕ, ◌<◌, ◌≤◌, pos, ◌+ℤ◌, ◌*ℤ◌, ◌≤ℤ◌, IsTrue};
-ghost use Rattle.jiff_core.specs.Calendar.{IsWithin};
+ghost use Rattle.std.specs.Prelude.{◌≡◌, ℕ, ◌+◌, ◌-◌, ◌<◌, ◌≤◌, ℤ, pos, ◌+ℤ◌, ◌*ℤ◌, ◌≤ℤ◌, IsTrue};
+ghost use Rattle.jiff_core.specs.Calendar.{IsWithin, days_of_months};
 ghost use Rattle.jiff_tz.specs.PosixDay.{is_rule_day};
 ghost use Rattle.cron_clocks.specs.Turns.{IsAlwaysAmong, AlwaysTurnsWithin, IsInside, TurnsAreApart, week};
 
@@ -97,8 +97,22 @@ fn days_of(day: Day) -> Days
     }
 }
 
-// The days of a week of a month. The months before it have at least 28 days each, and at most 31.
-// Week 5 is the last one, which may begin where the fourth does.
+// The days of the shorter years before a month. From March on a month begins a day later in the longer ones.
+fn days_before(month: u8) -> u16
+    requires { (1 ≤ month) × (month ≤ 12) }
+    ensures low { (y : ℤ) → result ≤ days_of_months y (month - 1) }
+    ensures high { (y : ℤ) → days_of_months y (month - 1) ≤ result + 1 }
+    ensures bound { result < 400 }
+{
+    let months = u16::from(month);
+    if months < 3 {
+        31 * (months - 1)
+    } else {
+        (153 * months - 457) / 5 + 59
+    }
+}
+
+// The days of a week of a month. Week 5 is the last one, which may begin where the fourth does.
 fn days_of_week(month: u8, week: u8) -> Days
     requires month_in { (1 ≤ month) × (month ≤ 12) }
     requires week_in { (1 ≤ week) × (week ≤ 5) }
@@ -106,10 +120,10 @@ fn days_of_week(month: u8, week: u8) -> Days
     ensures order { result.first ≤ result.last }
     ensures bound { result.last < 500 }
 {
-    let months = u16::from(month) - 1;
+    let days = days_before(month);
     let weeks = u16::from(week);
     Days {
-        first: 28 * months + 7 * (weeks.min(4) - 1),
-        last: 31 * months + 7 * weeks - 1,
+        first: days + 7 * (weeks.min(4) - 1),
+        last: days + (7 * weeks).min(31),
     }
 }
