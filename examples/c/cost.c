@@ -1,6 +1,7 @@
 /* What calls cost from C: the least of many turns, in nanoseconds a call. */
 #define _POSIX_C_SOURCE 199309L
 #include "cron_c.h"
+#include "pyongyang.h"
 
 #include <stdio.h>
 #include <string.h>
@@ -98,6 +99,23 @@ static double cost_of_history(const cron_c_schedule *schedule, const cron_c_era 
     return least;
 }
 
+/* The eras of a zone's file. */
+static double cost_of_reading(void)
+{
+    static cron_c_era eras[CRON_C_ERAS];
+    size_t count;
+    double least = 1e300;
+    for (int turn = 0; turn < 200; turn++) {
+        double begun = nanoseconds();
+        for (int call = 0; call < 100; call++) {
+            cron_c_history_read(PYONGYANG, sizeof PYONGYANG, eras, CRON_C_ERAS, &count);
+        }
+        double each = (nanoseconds() - begun) / 100;
+        least = each < least ? each : least;
+    }
+    return least;
+}
+
 int main(void)
 {
     const char *const texts[] = {"0 30 9,12,15 1,15 May-Aug Mon,Wed,Fri 2018/2", "* * * * * *", "0 0 0 * * *"};
@@ -121,5 +139,6 @@ int main(void)
         printf("cron_c_history_fire_after | the last era | %s | %.1f\n", texts[text], cost_of_history(&schedule, eras, 1));
         printf("cron_c_history_fire_after | %d eras | %s | %.1f\n", ERAS, texts[text], cost_of_history(&schedule, eras, ERAS));
     }
+    printf("cron_c_history_read | %zu bytes | %.1f\n", sizeof PYONGYANG, cost_of_reading());
     return 0;
 }
