@@ -8,4 +8,7 @@ pub mod AscentLemmas
 pub mod FireLemmas
 pub mod RunLemmas
 pub mod CalmLemmas
-pub mod ReachLemmas
+pub mod TurnLemmas
+pub mod SpreadLemmas
+pub mod TableSpread
+pub mod OrderedLemmas

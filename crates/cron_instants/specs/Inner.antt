@@ -1,4 +1,4 @@
 pub mod Beyond
 pub mod Calm
 pub mod Left
-pub mod Reach
+pub mod Spread

@@ -1,80 +1,126 @@
-//! What is known after an item that lies far from each turn of its zone: the next match is the next item.
-ghost use Rattle.std.specs.Prelude.{◌≡◌, ◌<◌, ◌+ℤ◌, pos, true, IfSome, Some};
+//! What is known after an item about which the clock and the instants have one order: the next match is
+//! the next item.
+ghost use Rattle.std.specs.Prelude.{◌≡◌, ℕ, ◌≤◌, ◌<◌, ℤ, pos, ◌+ℤ◌, ◌≤ℤ◌, ◌<ℤ◌, IfSome};
 ghost use Rattle.jiff.specs.Words.{plain_zone};
-ghost use Rattle.cron_units.specs.Nearest.{IsNearestAt};
-ghost use Rattle.cron_units.specs.declared.way.Way.TheVariants.{Ahead};
+ghost use Rattle.jiff_core.specs.Calendar.{IsBetween};
+ghost use Rattle.jiff_tz.specs.declared.timezone.TimeZone.{TimeZone as Zone};
+ghost use Rattle.cron_clocks.specs.Steady.{IsKnown as IsKnownStretch};
 ghost use Rattle.cron_moments.specs.Civil.{seconds_in_range};
-ghost use Rattle.cron_instants.specs.Inner.Beyond.{is_match};
-ghost use Rattle.cron_instants.specs.Inner.Calm.{IsCalm, IsNext, IsKnown};
+ghost use Rattle.cron_time.specs.Search.Inner.MonthDays.{KnowsDays};
+ghost use Rattle.cron_instants.specs.Inner.Calm.{IsCalm, IsInOrder, IsKnown, IsNext};
+ghost use Rattle.cron_instants.specs.Inner.Spread.{IsSpread};
 
 use crate::mark::Mark;
 use crate::matching::match_past;
-use crate::reach::reach_of;
 use crate::search::nearest_item;
+use crate::spread::{Spread, spread_of};
+use crate::wide::{one_offset, widened};
 use cron_clocks::stretch::Stretch;
-use cron_moments::calendar::KnownMonth;
+use cron_moments::civil::SECONDS;
 use cron_moments::moment::{Moment, civil_second, moment_numbered};
+use cron_time::search::month_days::MonthDays;
 use cron_units::fields::ScheduleFields;
 use cron_units::way::Way;
 use jiff::tz::{Offset, TimeZone};
 
-/// Matches from an item on are read at one offset alone and lie further from all others than two clocks
-/// of the zone can be apart, up to an end, which may lie before the item. The month is the one that was
-/// looked up last.
+/// Civil seconds from an item on are read at one offset alone, and the others are read earlier or later as
+/// the clock shows them, up to an end, which may lie before the item.
 #[derive(Clone, Copy)]
 pub(crate) struct Calm {
     pub offset: Offset,
     pub end: u32,
-    pub month: KnownMonth,
 }
 
-// What is known of a civil second that is read at one offset, far from the turn behind it.
-fn calm_around(zone: &TimeZone<'_>, second: u32, month: KnownMonth) -> Option<Calm>
-    requires { second < seconds_in_range }
-    ensures { IfSome result (λ calm. IsCalm (plain_zone zone.now) second calm.offset calm.end) }
+// The lesser of two numbers.
+#[inline(always)]
+fn lesser(one: i64, other: i64) -> i64
+    ensures one { result ≤ℤ one }
+    ensures other { result ≤ℤ other }
+    ensures greatest { (n : ℤ) → n ≤ℤ one → n ≤ℤ other → n ≤ℤ result }
 {
-    let stretch = Stretch::at(zone, second);
-    let Some(offset) = stretch.earlier else {
-        return None;
-    };
-    if stretch.later.is_some() {
-        return None;
-    }
-    let reach = reach_of(zone);
-    if second < stretch.first + reach || stretch.end < reach {
-        return None;
-    }
-    Some(Calm {
-        offset,
-        end: stretch.end - reach,
-        month,
-    })
+    if one < other { one } else { other }
 }
 
-// What is known after an item, if it lies far from the turn behind it.
+// Civil seconds that end so many seconds before an end, if there are any.
+fn calm_up_to(offset: Offset, end: i64, width: i64) -> Calm
+    requires width { IsBetween (pos 0) (pos 4_294_967_295) width }
+    requires end { IsBetween (pos 0) (pos seconds_in_range) end }
+    ensures offset { result.offset ≡ offset }
+    ensures end { (k : ℕ) → k < result.end → (pos k +ℤ width) <ℤ end }
+{
+    if end < width {
+        return Calm { offset, end: 0 };
+    }
+    Calm {
+        offset,
+        end: (end - width) as u32,
+    }
+}
+
+// Up to where the civil seconds of a stretch from this one on are in order, if those before it are read
+// earlier.
+fn calm_in(stretch: &Stretch, second: u32, spread: Spread) -> Option<Calm>
+    requires low { stretch.now.first ≤ second }
+    requires high { second < stretch.now.end }
+    requires range { second < seconds_in_range }
+    requires order { spread.least ≤ℤ spread.greatest }
+    ensures { IfSome result (λ calm. (z : Zone) → IsSpread z spread → IsKnownStretch z stretch.now → IsCalm z second calm) }
+{
+    let offset = one_offset(stretch)?;
+    let at = i64::from(second);
+    let width = spread.width();
+    let end = lesser(i64::from(stretch.end), SECONDS);
+    if at < spread.edge {
+        return Some(calm_up_to(offset, lesser(end, spread.edge), width));
+    }
+    let past = at - width;
+    if past < i64::from(stretch.first) || past < spread.edge {
+        return None;
+    }
+    Some(calm_up_to(offset, end, width))
+}
+
+/// What is known of a civil second about which the clock and the instants have one order: if possible
+/// that it is in order itself, and not only those before it.
+pub(crate) fn calm_around(zone: &TimeZone<'_>, stretch: &Stretch, second: u32) -> Option<Calm>
+    requires low { stretch.now.first ≤ second }
+    requires high { second < stretch.now.end }
+    requires range { second < seconds_in_range }
+    requires known { IsKnownStretch (plain_zone zone.now) stretch.now }
+    ensures { IfSome result (λ calm. IsCalm (plain_zone zone.now) second calm) }
+{
+    let spread = spread_of(zone);
+    if let Some(calm) = calm_in(stretch, second, spread) {
+        if second < calm.end {
+            return Some(calm);
+        }
+    }
+    calm_in(&widened(zone, stretch, second), second, spread)
+}
+
+// What is known after an item.
 fn calm_at(zone: &TimeZone<'_>, item: &Moment) -> Option<Calm>
     requires { item.now.second < seconds_in_range }
-    ensures calm { IfSome result (λ calm. IsCalm (plain_zone zone.now) item.now.second calm.offset calm.end) }
+    ensures calm { IfSome result (λ calm. IsCalm (plain_zone zone.now) item.now.second calm) }
     ensures offset { IfSome result (λ calm. calm.offset.seconds ≡ item.now.offset.seconds) }
 {
-    let Some(calm) = calm_around(zone, civil_second(item), KnownMonth::january_1970()) else {
-        return None;
-    };
+    let second = civil_second(item);
+    let stretch = Stretch::at(zone, second);
+    let calm = calm_around(zone, &stretch, second)?;
     if calm.offset.seconds() != item.offset().seconds() {
         return None;
     }
     Some(calm)
 }
 
-// What is known after the next match, if that lies far from each turn.
+/// What is known of a civil second that is in order.
 #[inline(never)]
-fn calm_past(zone: &TimeZone<'_>, second: u32, month: KnownMonth) -> Option<Calm>
+pub(crate) fn calm_past(zone: &TimeZone<'_>, second: u32) -> Option<Calm>
     requires { second < seconds_in_range }
-    ensures { IfSome result (λ calm. IsCalm (plain_zone zone.now) second calm.offset calm.end × (second < calm.end)) }
+    ensures { IfSome result (λ calm. IsCalm (plain_zone zone.now) second calm × (second < calm.end)) }
 {
-    let Some(calm) = calm_around(zone, second, month) else {
-        return None;
-    };
+    let stretch = Stretch::at(zone, second);
+    let calm = calm_around(zone, &stretch, second)?;
     if second >= calm.end {
         return None;
     }
@@ -97,29 +143,32 @@ fn searched(
     (Some(item), calm)
 }
 
-/// The nearest item ahead of the place of one, by what is known after that, and what is known after the
-/// answer.
+/// The nearest item ahead of the place of one, by what is known after that and by the days of the month
+/// that were looked up last, and what is known after the answer.
 #[inline(always)]
 pub(crate) fn next_item(
     fields: &ScheduleFields,
     zone: &TimeZone<'_>,
     mark: Mark,
     known: Option<Calm>,
+    days: &mut MonthDays,
 ) -> (Option<Moment>, Option<Calm>)
-    requires { IsKnown fields.now (plain_zone zone.now) mark.instant mark.second known }
-    ensures { IsNext fields.now (plain_zone zone.now) mark.instant mark.second result.0 result.1 }
+    requires known { IsKnown fields.now (plain_zone zone.now) mark.instant mark.second known }
+    requires days { KnowsDays fields.now days.old }
+    ensures next { IsNext fields.now (plain_zone zone.now) mark.instant mark.second result.0 result.1 }
+    ensures days { KnowsDays fields.now days.new }
 {
-    let Some(mut calm) = known else {
+    let Some(calm) = known else {
         return searched(fields, zone, mark);
     };
-    let Some(second) = match_past(fields, mark.second, &mut calm.month) else {
-        return searched(fields, zone, mark);
+    let Some(next) = match_past(fields, mark.second, days) else {
+        return (None, None);
     };
-    if second < calm.end {
-        return (Some(moment_numbered(second, calm.offset)), Some(calm));
+    if next < calm.end {
+        return (Some(moment_numbered(next, calm.offset)), Some(calm));
     }
-    match calm_past(zone, second, calm.month) {
-        Some(there) => (Some(moment_numbered(second, there.offset)), Some(there)),
+    match calm_past(zone, next) {
+        Some(there) => (Some(moment_numbered(next, there.offset)), Some(there)),
         None => searched(fields, zone, mark),
     }
 }

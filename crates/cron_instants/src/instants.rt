@@ -2,9 +2,12 @@
 ghost use Rattle.jiff.specs.Words.{plain_zone};
 ghost use Rattle.cron_instants.specs.Instants.{IsFirstAfter, IsFirstPast, IsLastBy};
 
+use crate::first::first_item;
 use crate::mark::Mark;
 use crate::search::nearest_item;
-use cron_moments::moment::Moment;
+use cron_clocks::clock::shown_at;
+use cron_clocks::stretch::Stretch;
+use cron_moments::moment::{Moment, civil_second};
 use cron_units::fields::ScheduleFields;
 use cron_units::way::Way;
 use jiff::Timestamp;
@@ -14,14 +17,17 @@ use jiff::tz::TimeZone;
 pub fn first_after(fields: &ScheduleFields, zone: &TimeZone<'_>, now: Timestamp) -> Option<Moment>
     ensures { IsFirstAfter fields.now (plain_zone zone.now) now.nanosecond result }
 {
-    nearest_item(fields, zone, Way::Ahead, Mark::behind(now))
+    let mut stretch = Stretch::empty();
+    let shown = shown_at(zone, now, &mut stretch);
+    first_item(fields, zone, Mark::behind(now), shown, &stretch)
 }
 
 /// Of the items that are later than this one the earliest. It may be no item of the timeline.
 pub fn first_past(fields: &ScheduleFields, zone: &TimeZone<'_>, item: &Moment) -> Option<Moment>
     ensures { IsFirstPast fields.now (plain_zone zone.now) item.now result }
 {
-    nearest_item(fields, zone, Way::Ahead, Mark::of(item))
+    let shown = i64::from(civil_second(item));
+    first_item(fields, zone, Mark::of(item), shown, &Stretch::empty())
 }
 
 /// Of the items whose instant is `now` or comes before it the latest.

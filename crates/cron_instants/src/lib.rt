@@ -3,11 +3,13 @@
 #![tactic(auto)]
 
 mod calm;
+mod first;
 pub mod instants;
 mod item;
 pub mod laws;
 mod mark;
 mod matching;
-mod reach;
 pub mod run;
 mod search;
+mod spread;
+mod wide;

@@ -3,10 +3,10 @@ ghost use Rattle.std.specs.Prelude.{◌≡◌, ◌<◌, ◌+ℤ◌, pos, true, I
 ghost use Rattle.cron_units.specs.declared.way.Way.TheVariants.{Ahead};
 ghost use Rattle.cron_units.specs.Nearest.{IsNearest};
 ghost use Rattle.cron_moments.specs.Civil.{seconds_in_range};
+ghost use Rattle.cron_time.specs.Search.Inner.MonthDays.{KnowsDays};
 ghost use Rattle.cron_instants.specs.Inner.Beyond.{is_match};
 
 use cron_clocks::stretch::Stretch;
-use cron_moments::calendar::KnownMonth;
 use cron_moments::moment::civil_second;
 use cron_time::search::month_days::MonthDays;
 use cron_time::search::onward::search_past;
@@ -29,31 +29,27 @@ pub(crate) fn nearest_match(fields: &ScheduleFields, way: Way, from: i64) -> Opt
     Some(civil_second(&moment))
 }
 
-/// The nearest civil second that matches past one that does. It begins with the month that an earlier
-/// search knew, and leaves the one that it knows.
+/// The nearest civil second that matches past one that does. It begins with the days of a month that an
+/// earlier search knew, and leaves those that it knows.
 #[inline(always)]
-pub(crate) fn match_past(
-    fields: &ScheduleFields,
-    second: u32,
-    month: &mut KnownMonth,
-) -> Option<u32>
-    requires { is_match fields.now second ≡ true }
+pub(crate) fn match_past(fields: &ScheduleFields, second: u32, days: &mut MonthDays) -> Option<u32>
+    requires matching { is_match fields.now second ≡ true }
+    requires days { KnowsDays fields.now days.old }
     ensures nearest { IsNearest Ahead (is_match fields.now) (pos second +ℤ pos 1) result }
     ensures bound { IfSome result (λ n. n < seconds_in_range) }
+    ensures days { KnowsDays fields.now days.new }
 {
-    let mut days = MonthDays::unknown(*month);
     let mut stretch = Stretch::empty();
     let Some(found) = search_past(
         fields,
         &TimeZone::UTC,
         Way::Ahead,
         second,
-        &mut days,
+        days,
         &mut stretch,
     ) else {
         return None;
     };
-    *month = days.month();
     let moment = found.first;
     Some(civil_second(&moment))
 }

@@ -7,7 +7,9 @@ ghost use Rattle.cron_instants.specs.Inner.Left as left;
 
 use crate::calm::{Calm, next_item};
 use crate::mark::Mark;
+use cron_moments::calendar::KnownMonth;
 use cron_moments::moment::Moment;
+use cron_time::search::month_days::MonthDays;
 use cron_units::fields::ScheduleFields;
 use jiff::Timestamp;
 use jiff::tz::TimeZone;
@@ -21,6 +23,7 @@ pub struct Run<'a> {
     zone: &'a TimeZone<'a>,
     mark: Mark,
     calm: Option<Calm>,
+    days: MonthDays,
     until: Option<i64>,
 }
 
@@ -28,6 +31,7 @@ impl<'a> Model for Run<'a> {
     ghost use Rattle.std.specs.Prelude.{List};
     ghost use Rattle.jiff.specs.Words.{plain_zone};
     ghost use Rattle.cron_moments.specs.Readings.{Reading};
+    ghost use Rattle.cron_time.specs.Search.Inner.MonthDays.{KnowsDays};
     ghost use Rattle.cron_instants.specs.Inner.Calm.{IsKnown};
     ghost use Rattle.cron_instants.specs.Inner.Left.{left_beyond};
 
@@ -35,7 +39,7 @@ impl<'a> Model for Run<'a> {
 
     ghost view = { λ r. left_beyond r.fields (plain_zone r.zone.now) r.mark.instant r.mark.second r.until };
 
-    ghost invariant = { λ r. IsKnown r.fields (plain_zone r.zone.now) r.mark.instant r.mark.second r.calm };
+    ghost invariant = { λ r. IsKnown r.fields (plain_zone r.zone.now) r.mark.instant r.mark.second r.calm × KnowsDays r.fields r.days };
 }
 
 // Whether the instant isn't past the last one, if there is a last one.
@@ -59,6 +63,7 @@ impl<'a> Run<'a> {
             zone,
             mark: Mark::behind(start),
             calm: None,
+            days: MonthDays::unknown(KnownMonth::january_1970()),
             until: None,
         }
     }
@@ -72,6 +77,7 @@ impl<'a> Run<'a> {
             zone,
             mark: Mark::of(item),
             calm: None,
+            days: MonthDays::unknown(KnownMonth::january_1970()),
             until: None,
         }
     }
@@ -90,6 +96,7 @@ impl<'a> Run<'a> {
             zone,
             mark: Mark::behind(last),
             calm: None,
+            days: MonthDays::unknown(KnownMonth::january_1970()),
             until: Some(now.to_plain().floor_second()),
         }
     }
@@ -98,7 +105,13 @@ impl<'a> Run<'a> {
     fn take_first(&mut self) -> Option<Moment>
         ensures { YieldsFirst (λ rest. rest) self.old result self.new }
     {
-        let (next, calm) = next_item(&self.fields, self.zone, self.mark, self.calm);
+        let (next, calm) = next_item(
+            &self.fields,
+            self.zone,
+            self.mark,
+            self.calm,
+            &mut self.days,
+        );
         self.calm = calm;
         let Some(item) = next else {
             return None;

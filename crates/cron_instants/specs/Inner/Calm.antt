@@ -1,33 +1,34 @@
--- Items that lie far from each turn of their zone.
-use Rattle.std.specs.Prelude.{◌≡◌, ℕ, ◌+◌, ◌≤◌, ◌<◌, ℤ, pos, ◌-ℤ◌, true, Option, Some, None}
+-- Civil seconds about which the clock and the instants have one order.
+use Rattle.std.specs.Prelude.{◌≡◌, ℕ, ◌≤◌, ◌<◌, ℤ, pos, ◌-ℤ◌, ◌<ℤ◌, true, Option, Some, None}
 use Rattle.jiff_core.specs.declared.Offset.{Offset}
 use Rattle.jiff_tz.specs.declared.timezone.TimeZone.{TimeZone}
 use Rattle.cron_units.specs.declared.way.Way.TheVariants.{Ahead}
 use Rattle.cron_units.specs.Sets.{Sets}
-use Rattle.cron_clocks.specs.Steady.{IsSteady}
-use Rattle.cron_clocks.specs.declared.stretch.Stretch.{Stretch}
-use Rattle.cron_moments.specs.Readings.{Reading, instant}
+use Rattle.cron_moments.specs.Readings.{Reading, instant, reading}
 use Rattle.cron_instants.specs.Inner.Beyond.{is_match, IsBest, IsBeyond}
-use Rattle.cron_instants.specs.Inner.Reach.{IsReach}
+use Rattle.cron_instants.specs.Inner.Spread.{IsOnce, IsRead}
 use Rattle.cron_instants.specs.declared.calm.Calm.{Calm}
 
--- a civil second and those behind it up to an end are read at one offset alone, and so are those as near as two clocks of the zone can be apart
-pub record IsCalm (z : TimeZone) (c : ℕ) (offset : Offset) (end : ℕ) : Type 0 where
-  pub reach : ℕ
-  pub apart : IsReach z reach
-  pub stretch : Stretch
-  pub steady : IsSteady z stretch
-  pub one : stretch.earlier ≡ Some offset
-  pub alone : stretch.later ≡ None
-  pub low : stretch.first + reach ≤ c
-  pub inside : c < stretch.end
-  pub high : end + reach ≤ stretch.end
+-- the civil second is read once, at this offset, and what the clock shows before it is read earlier
+pub record IsSettled (z : TimeZone) (c : ℕ) (o : Offset) : Type 0 where
+  pub once : IsOnce z (reading c o)
+  pub behind : (q : Reading) → IsRead z q → q.second < c → instant q <ℤ (pos c -ℤ o.seconds)
+
+-- and what it shows after it is read later
+pub record IsInOrder (z : TimeZone) (c : ℕ) (o : Offset) : Type 0 where
+  pub settled : IsSettled z c o
+  pub ahead : (q : Reading) → IsRead z q → c < q.second → (pos c -ℤ o.seconds) <ℤ instant q
+
+-- the civil second is settled, and it and those behind it up to an end, which may lie before it, are in order
+pub record IsCalm (z : TimeZone) (c : ℕ) (calm : Calm) : Type 0 where
+  pub settled : IsSettled z c calm.offset
+  pub on : (k : ℕ) → c ≤ k → k < calm.end → IsInOrder z k calm.offset
 
 -- what is known after an item, which is named by its instant and its civil second
 pub record IsKnownCalm (s : Sets) (z : TimeZone) (i : ℤ) (c : ℕ) (known : Calm) : Type 0 where
   pub matching : is_match s c ≡ true
   pub instant_is : i ≡ pos c -ℤ known.offset.seconds
-  pub calm : IsCalm z c known.offset known.end
+  pub calm : IsCalm z c known
 
 abbrev pub IsKnown : Sets → TimeZone → ℤ → ℕ → Option Calm → Type 0
 IsKnown s z i c None = Unit {0}

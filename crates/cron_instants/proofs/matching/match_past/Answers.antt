@@ -4,13 +4,10 @@ use Rattle.cron_instants.proofs.MatchLemmas.{none_matches, found_is, match_parts
 use Rattle.cron_instants.proofs.matching.match_past.Goals as goal
 
 pub search_past-requires-clause-matching : goal.search_past-requires-clause-matching
-search_past-requires-clause-matching c = (match_parts c.args.fields.now c.args.second c.requires).0
+search_past-requires-clause-matching c = (match_parts c.args.fields.now c.args.second c.requires.matching).0
 
 pub search_past-requires-clause-member : goal.search_past-requires-clause-member
-search_past-requires-clause-member c = (match_parts c.args.fields.now c.args.second c.requires).1
-
-pub search_past-requires-clause-days : goal.search_past-requires-clause-days
-search_past-requires-clause-days c = c.unknown-days.ensures c.args.fields.now
+search_past-requires-clause-member c = (match_parts c.args.fields.now c.args.second c.requires.matching).1
 
 pub returns-in_default-clause-nearest : goal.returns-in_default-clause-nearest
 returns-in_default-clause-nearest c =

@@ -1,5 +1,5 @@
--- How far apart the offsets of a zone can be.
-use Rattle.std.proofs.Common.{◌≡◌, ℕ, zero, suc, ℤ, pos, negsuc, ◌-ℤ◌, ◌≤ℤ◌, Bool, true, false, not, int_lt, cond, [], ◌∷◌, Option, Some, None, ◌⊎◌, inl, inr, refl, sym, ap, subst, ◌∙◌, arith, unsigned_abs}
+-- The offsets of zones without a table, and those of a rule.
+use Rattle.std.proofs.Common.{◌≡◌, ℕ, zero, suc, ℤ, pos, ◌≤ℤ◌, Bool, true, false, not, int_lt, cond, [], ◌∷◌, Option, Some, None, ◌⊎◌, inl, inr, refl, sym, ap, subst, ◌∙◌, arith}
 use Rattle.std.specs.Prelude.{slice_get}
 use Rattle.std.specs.Ordering.{int_eq}
 use Rattle.jiff_core.proofs.SignedLemmas.{signed_arith}
@@ -18,7 +18,8 @@ use Rattle.cron_moments.specs.Civil.{civil}
 use Rattle.cron_moments.specs.Readings.{Reading, reading, readings, readings_by}
 use Rattle.cron_moments.proofs.ReadingLemmas.{utc_once, fixed_once}
 use Rattle.cron_time.proofs.PlaceLemmas.{nothing_in_nil}
-use Rattle.cron_instants.specs.Inner.Reach.{IsReach, saving_size, saving_size_by}
+use Rattle.cron_instants.specs.Inner.Spread.{HasOffsets, IsAmongOffsets, IsRead, IsSpread}
+use Rattle.cron_instants.specs.declared.spread.Spread.{Spread}
 
 -- each reading that this tells is at one offset or the other
 abbrev IsEither : Offset → Offset → AmbiguousOffset → Type 0
@@ -80,47 +81,42 @@ either_by s d w at =
     (either_ahead s d (not (in_window w at)) (in_span w.0 (saturating_add w.0 (shift_between s d)) at)
     (in_span (saturating_sub w.1 (shift_between s d)) w.1 at))
 
-within_abs : (x : ℤ) → x ≤ℤ pos (unsigned_abs x)
-within_abs (pos n) = omega (arith, signed_arith)
-within_abs (negsuc n) = omega (arith, signed_arith)
+-- from the start of the range on all offsets lie from the least to the greatest
+pub spread_by : (z : TimeZone) (p : Spread) → p.edge ≡ pos 0 → p.least ≤ℤ p.greatest → ((r : Reading) → IsRead z r → IsAmongOffsets p r.offset.seconds)
+    → IsSpread z p
+spread_by z p start some all = record {
+  some = some;
+  ordered = λ q r h g less short. absurd (omega (arith, signed_arith));
+  upto = λ q r h g short past. absurd (omega (arith, signed_arith));
+  past = λ q r h g short past. absurd (omega (arith, signed_arith));
+  among = λ r h past. all r h;
+}
 
-back_within_abs : (x : ℤ) → (pos 0 -ℤ x) ≤ℤ pos (unsigned_abs x)
-back_within_abs (pos n) = omega (arith, signed_arith)
-back_within_abs (negsuc n) = omega (arith, signed_arith)
+either_among : (p : Spread) (s d o : Offset) → IsAmongOffsets p s.seconds → IsAmongOffsets p d.seconds → (o ≡ s) ⊎ (o ≡ d) → IsAmongOffsets p o.seconds
+either_among p s d o one other (inl e) = subst (λ (x : Offset). IsAmongOffsets p x.seconds) (sym e) one
+either_among p s d o one other (inr e) = subst (λ (x : Offset). IsAmongOffsets p x.seconds) (sym e) other
 
-apart : (s d p o : Offset) → (p ≡ s) ⊎ (p ≡ d) → (o ≡ s) ⊎ (o ≡ d) → (p.seconds -ℤ o.seconds) ≤ℤ pos (unsigned_abs (d.seconds -ℤ s.seconds))
-apart s d p o (inl e) (inl f) =
-    let one : p.seconds ≡ s.seconds = ap (λ (v : Offset). v.seconds) e in
-    let other : o.seconds ≡ s.seconds = ap (λ (v : Offset). v.seconds) f in omega (arith, signed_arith)
-apart s d p o (inl e) (inr f) =
-    let one : p.seconds ≡ s.seconds = ap (λ (v : Offset). v.seconds) e in
-    let other : o.seconds ≡ d.seconds = ap (λ (v : Offset). v.seconds) f in
-    let bound = back_within_abs (d.seconds -ℤ s.seconds) in omega (arith, signed_arith)
-apart s d p o (inr e) (inl f) =
-    let one : p.seconds ≡ d.seconds = ap (λ (v : Offset). v.seconds) e in
-    let other : o.seconds ≡ s.seconds = ap (λ (v : Offset). v.seconds) f in
-    let bound = within_abs (d.seconds -ℤ s.seconds) in omega (arith, signed_arith)
-apart s d p o (inr e) (inr f) =
-    let one : p.seconds ≡ d.seconds = ap (λ (v : Offset). v.seconds) e in
-    let other : o.seconds ≡ d.seconds = ap (λ (v : Offset). v.seconds) f in omega (arith, signed_arith)
-
-reach_by : (z : TimeZone) (s d : Offset) → ((k : ℕ) → IsEither s d (ambiguous_at z (civil k))) → IsReach z (unsigned_abs (d.seconds -ℤ s.seconds))
+spread_either : (z : TimeZone) (p : Spread) (s d : Offset) → p.edge ≡ pos 0 → IsAmongOffsets p s.seconds → IsAmongOffsets p d.seconds
+    → ((k : ℕ) → IsEither s d (ambiguous_at z (civil k))) → IsSpread z p
 unfolding readings
-reach_by z s d either c e i j q r f g = apart s d q.offset r.offset (either c c i q f) (either e e j r g)
+spread_either z p s d start one other either =
+    spread_by z p start (omega (arith, signed_arith, one.0, one.1))
+    (λ r h. either_among p s d r.offset one other (either r.second r.second h.place r h.here))
 
-itself_apart : (o : Offset) → unsigned_abs (o.seconds -ℤ o.seconds) ≡ 0
-itself_apart o =
-    let none : o.seconds -ℤ o.seconds ≡ pos 0 = omega (arith, signed_arith) in ap unsigned_abs none
+spread_one : (z : TimeZone) (p : Spread) (o : Offset) → p.edge ≡ pos 0 → p.least ≡ o.seconds → p.greatest ≡ o.seconds
+    → ((k : ℕ) → ambiguous_at z (civil k) ≡ Unambiguous o) → IsSpread z p
+spread_one z p o start low high once =
+    let here : IsAmongOffsets p o.seconds = (omega (arith, signed_arith), omega (arith, signed_arith)) in
+    spread_either z p o o start here here (λ k. subst (IsEither o o) (sym (once k)) (either_one o o o (inl refl)))
 
-reach_one : (z : TimeZone) (o : Offset) → ((k : ℕ) → ambiguous_at z (civil k) ≡ Unambiguous o) → IsReach z 0
-reach_one z o once =
-    subst (IsReach z) (itself_apart o) (reach_by z o o (λ k. subst (IsEither o o) (sym (once k)) (either_one o o o (inl refl))))
+pub spread_utc : (plain z : TimeZone) (p : Spread) → plain ≡ z → (plain ≡ UTC) ⊎ (plain ≡ Unknown) → p.edge ≡ pos 0 → p.least ≡ pos 0
+    → p.greatest ≡ pos 0 → IsSpread z p
+spread_utc plain z p e is start low high = spread_one z p utc_offset start low high (λ k. utc_once plain z (civil k) e is)
 
-pub reach_utc : (plain z : TimeZone) → plain ≡ z → (plain ≡ UTC) ⊎ (plain ≡ Unknown) → IsReach z 0
-reach_utc plain z e is = reach_one z utc_offset (λ k. utc_once plain z (civil k) e is)
-
-pub reach_fixed : (plain z : TimeZone) (o : Offset) → plain ≡ z → plain ≡ Fixed o → IsReach z 0
-reach_fixed plain z o e is = reach_one z o (λ k. fixed_once plain z o (civil k) e is)
+pub spread_fixed : (plain z : TimeZone) (p : Spread) (o : Offset) → plain ≡ z → plain ≡ Fixed o → p.edge ≡ pos 0 → p.least ≡ o.seconds
+    → p.greatest ≡ o.seconds
+    → IsSpread z p
+spread_fixed plain z p o e is start low high = spread_one z p o start low high (λ k. fixed_once plain z o (civil k) e is)
 
 rule_some : (r : Rule) (d : Dst) (k : ℕ) → r.dst ≡ Some d → IsEither r.std_offset d.offset (ambiguous_at (Posix r) (civil k))
 unfolding ambiguous_at
@@ -132,13 +128,18 @@ rule_none : (r : Rule) (k : ℕ) → r.dst ≡ None → ambiguous_at (Posix r) (
 unfolding ambiguous_at
 rule_none r k none = ap (λ (o : Option Dst). ambiguous_at_by r.std_offset o (civil k)) none
 
-reach_rule_by : (r : Rule) (o : Option Dst) → r.dst ≡ o → IsReach (Posix r) (saving_size_by r.std_offset o)
-reach_rule_by r None is = reach_one (Posix r) r.std_offset (λ k. rule_none r k is)
-reach_rule_by r (Some d) is = reach_by (Posix r) r.std_offset d.offset (λ k. rule_some r d k is)
+-- what a rule tells is at one of its offsets
+pub rule_among : (r : Rule) (p : Spread) (o : Option Dst) → r.dst ≡ o → HasOffsets r p → (c i : ℕ) (q : Reading)
+    → slice_get (readings (Posix r) c) i ≡ Some q → IsAmongOffsets p q.offset.seconds
+unfolding readings
+rule_among r p None is has c i q e = either_among p r.std_offset r.std_offset q.offset has.standard has.standard
+    (subst (IsEither r.std_offset r.std_offset) (sym (rule_none r c is)) (either_one r.std_offset r.std_offset r.std_offset (inl refl)) c i q e)
+rule_among r p (Some d) is has c i q e =
+    either_among p r.std_offset d.offset q.offset has.standard (rw is at has.saving) (rule_some r d c is c i q e)
 
-pub reach_rule : (plain z : TimeZone) (r : Rule) → plain ≡ z → plain ≡ Posix r → IsReach z (saving_size r)
-reach_rule plain z r e is = subst (λ v. IsReach v (saving_size r)) (sym is ∙ e) (reach_rule_by r r.dst refl)
+spread_rule_by : (r : Rule) (p : Spread) → p.edge ≡ pos 0 → HasOffsets r p → IsSpread (Posix r) p
+spread_rule_by r p start has =
+    spread_by (Posix r) p start (omega (arith, signed_arith, has.standard.0, has.standard.1)) (λ q h. rule_among r p r.dst refl has q.second h.place q h.here)
 
--- no two offsets are further apart
-pub reach_any : (z : TimeZone) → IsReach z 187_198
-reach_any z c d i j q r f g = let one = q.offset.in_range in let other = r.offset.in_range in omega (arith, signed_arith)
+pub spread_rule : (plain z : TimeZone) (r : Rule) (p : Spread) → plain ≡ z → plain ≡ Posix r → p.edge ≡ pos 0 → HasOffsets r p → IsSpread z p
+spread_rule plain z r p e is start has = subst (λ v. IsSpread v p) (sym is ∙ e) (spread_rule_by r p start has)

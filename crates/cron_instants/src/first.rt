@@ -1,0 +1,97 @@
+//! The first item after an instant, where the clock and the instants have one order about what a clock
+//! shows then.
+ghost use Rattle.std.specs.Prelude.{◌≡◌, ◌≤◌, ◌<◌, pos, ◌-ℤ◌, IfSome};
+ghost use Rattle.jiff.specs.Words.{plain_zone};
+ghost use Rattle.cron_clocks.specs.Steady.{IsKnown};
+ghost use Rattle.cron_moments.specs.Civil.{seconds_in_range};
+ghost use Rattle.cron_units.specs.declared.way.Way.TheVariants.{Ahead};
+ghost use Rattle.cron_instants.specs.Inner.Beyond.{IsBest, IsBeyond};
+ghost use Rattle.cron_instants.specs.Inner.Calm.{IsCalm};
+
+use crate::calm::{Calm, calm_around, calm_past};
+use crate::mark::Mark;
+use crate::matching::nearest_match;
+use crate::search::nearest_item;
+use cron_clocks::stretch::Stretch;
+use cron_moments::civil::SECONDS;
+use cron_moments::moment::{Moment, moment_numbered};
+use cron_units::fields::ScheduleFields;
+use cron_units::way::Way;
+use jiff::tz::TimeZone;
+
+// What is known of a civil second, in whose stretch it may lie.
+fn calm_about(zone: &TimeZone<'_>, stretch: &Stretch, second: u32) -> Option<Calm>
+    requires range { second < seconds_in_range }
+    requires known { IsKnown (plain_zone zone.now) stretch.now }
+    ensures { IfSome result (λ calm. IsCalm (plain_zone zone.now) second calm) }
+{
+    if stretch.has(second) {
+        return calm_around(zone, stretch, second);
+    }
+    let around = Stretch::at(zone, second);
+    calm_around(zone, &around, second)
+}
+
+// The civil second that a clock shows at a mark, and what is known of it, if it is read at that instant.
+fn settled_at(zone: &TimeZone<'_>, mark: Mark, shown: i64, stretch: &Stretch) -> Option<(u32, Calm)>
+    requires { IsKnown (plain_zone zone.now) stretch.now }
+    ensures calm { IfSome result (λ p. IsCalm (plain_zone zone.now) p.0 p.1) }
+    ensures instant { IfSome result (λ p. mark.instant ≡ pos p.0 -ℤ p.1.offset.seconds) }
+    ensures upto { IfSome result (λ p. p.0 ≤ mark.second) }
+    ensures range { IfSome result (λ p. p.0 < seconds_in_range) }
+{
+    if shown < 0 || shown >= SECONDS {
+        return None;
+    }
+    let second = shown as u32;
+    let calm = calm_about(zone, stretch, second)?;
+    if i64::from(second) - i64::from(calm.offset.seconds()) != mark.instant {
+        return None;
+    }
+    if mark.second < second {
+        return None;
+    }
+    Some((second, calm))
+}
+
+// The nearest item ahead of a mark, from the civil second that a clock shows at it.
+fn item_past(
+    fields: &ScheduleFields,
+    zone: &TimeZone<'_>,
+    mark: Mark,
+    second: u32,
+    calm: Calm,
+) -> Option<Moment>
+    requires calm { IsCalm (plain_zone zone.now) second calm }
+    requires instant { mark.instant ≡ pos second -ℤ calm.offset.seconds }
+    requires upto { second ≤ mark.second }
+    requires range { second < seconds_in_range }
+    ensures { IsBest Ahead (IsBeyond Ahead fields.now (plain_zone zone.now) mark.instant mark.second) result }
+{
+    let next = nearest_match(fields, Way::Ahead, i64::from(second) + 1)?;
+    if next < calm.end {
+        return Some(moment_numbered(next, calm.offset));
+    }
+    match calm_past(zone, next) {
+        Some(there) => Some(moment_numbered(next, there.offset)),
+        None => nearest_item(fields, zone, Way::Ahead, mark),
+    }
+}
+
+/// The nearest item ahead of a mark, at which a clock may show this civil second. The stretch is one that
+/// is known.
+pub(crate) fn first_item(
+    fields: &ScheduleFields,
+    zone: &TimeZone<'_>,
+    mark: Mark,
+    shown: i64,
+    stretch: &Stretch,
+) -> Option<Moment>
+    requires { IsKnown (plain_zone zone.now) stretch.now }
+    ensures { IsBest Ahead (IsBeyond Ahead fields.now (plain_zone zone.now) mark.instant mark.second) result }
+{
+    match settled_at(zone, mark, shown, stretch) {
+        Some((second, calm)) => item_past(fields, zone, mark, second, calm),
+        None => nearest_item(fields, zone, Way::Ahead, mark),
+    }
+}
