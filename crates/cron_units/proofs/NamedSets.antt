@@ -1,5 +1,5 @@
 -- What names add to a set.
-use Rattle.std.proofs.Common.{◌≡◌, ◌≤◌, ℕ, Bool, true, false, ◌||◌, List, Option, Some, None, Result, Ok, refl, sym, ap, ◌∙◌, Bor}
+use Rattle.std.proofs.Common.{◌≡◌, ◌≤◌, ℕ, Bool, false, ◌||◌, List, Option, Some, None, Ok, refl, sym, ap, ◌∙◌, Bor}
 use Rattle.std.specs.Prelude.{is_some}
 use Rattle.std.specs.Option.{option_map}
 use Rattle.std.proofs.Math.Bool.{or-false}
@@ -7,7 +7,6 @@ use Rattle.std.proofs.lemmas.Bool.{le-ltb, false≢true}
 use Rattle.cron_units.specs.Denotation.{AddsItem}
 use Rattle.cron_units.specs.Inner.ItemSteps.{by_steps, of_steps, denoted_by, each_of, one_ordinal, found_name, name_ends}
 use Rattle.cron_units.specs.Items.{name, plain, name_range}
-use Rattle.cron_units.specs.Refusals.{Refusal}
 use Rattle.cron_units.specs.Steps.{Progression, in_steps}
 use Rattle.cron_units.specs.Tables.{definition_view}
 use Rattle.cron_units.specs.Units.{TimeUnit, IsUnit, IsSet, contains, is_name, ordinal_of, set_of, with_mark}

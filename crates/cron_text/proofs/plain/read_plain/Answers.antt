@@ -30,4 +30,5 @@ returns-clause-taken g c =
     let after = c.skip_space-after.result in
     let apart : NoConnector (tokens_from text after) =
     none_there c.connector_at.result _ _ (sym c.is_some.ensures ∙ c.if-is_some.false) c.connector_at.ensures.connector in
-    list_taken g.T.TimeUnitField.unit (tokens_from text c.args.place) text c.loop-joined.end _ (tokens_from text after) c.loop-joined.invariant c.skip_space-after.ensures.same apart
+    list_taken g.T.TimeUnitField.unit (tokens_from text c.args.place) text c.loop-joined.end _ (tokens_from text after) c.loop-joined.invariant
+    c.skip_space-after.ensures.same apart

@@ -1,4 +1,4 @@
-use Rattle.std.proofs.Common.{false, sym, ◌∙◌}
+use Rattle.std.proofs.Common.{sym, ◌∙◌}
 use Rattle.cron_units.proofs.NamedSets.{adds_name, no_word}
 use Rattle.cron_units.proofs.specifier.add_name.Goals as goal
 
