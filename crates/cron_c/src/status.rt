@@ -14,7 +14,7 @@ pub enum Status {
     Refused,
     /// The text isn't UTF-8.
     NotUtf8,
-    /// The zone is neither `UTC` nor a rule text.
+    /// The text, the numbers or the bytes are of no zone.
     BadZone,
     /// The instant is out of range.
     BadInstant,
