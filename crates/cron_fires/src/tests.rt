@@ -1,3 +1,4 @@
+mod turns;
 mod zone_files;
 
 use crate::{Fires, first_fire_after, first_fire_past, last_fire_by, missed};

@@ -23,7 +23,7 @@ const END: &[u8] = b"\x01\0\x01\0\0\0\0\0\0\0\0\0\x07\x08\x01\x04AAA\0BBB\0\nAAA
 
 // 2020-03-01T12:00:00Z, when the clock goes from 12:00 to 12:30. At 12:30Z it goes from 13:00 back to
 // 12:30, at 13:00Z from 13:00 to 13:30, and at 13:30Z from 14:00 back to 13:30.
-const NOON: i64 = 1_583_064_000;
+pub(super) const NOON: i64 = 1_583_064_000;
 
 const QUARTER: i64 = 900;
 
@@ -38,7 +38,7 @@ fn zone_file(alloc: Global) -> Result<Vec<u8>, AllocError> {
     Ok(bytes)
 }
 
-fn read_file(alloc: Global) -> Result<Tzif, Fail> {
+pub(super) fn read_file(alloc: Global) -> Result<Tzif, Fail> {
     let bytes = zone_file(alloc)?;
     Ok(Tzif::parse(alloc, None, bytes.as_slice())?)
 }
