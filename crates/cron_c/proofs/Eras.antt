@@ -101,8 +101,8 @@ start_far eras h i (suc d) a b e f =
     ]
 
 -- an era stands before a later one starts
-pub starts_by : (eras : List CronEra) → IsHistory eras → (i j : ℕ) (b : CronEra) (t : ℤ) → i < j → slice_get eras j ≡ Some b → has_started eras (i + 1) t ≡ false
-    → t <ℤ b.starts
+pub starts_by : (eras : List CronEra) → IsHistory eras → (i j : ℕ) (b : CronEra) (t : ℤ) → i < j → slice_get eras j ≡ Some b
+    → has_started eras (i + 1) t ≡ false → t <ℤ b.starts
 starts_by eras h i j b t less f not_yet =
     elim (slice_get_cases eras (i + 1)).1 [
       | inl there ↦

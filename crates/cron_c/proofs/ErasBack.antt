@@ -146,7 +146,8 @@ none_back_left s eras now until back end low = λ r sought.
     absurd (omega arith)
 
 -- the last item by a second lies at another one, and then none lies at it
-pub none_at : (s : Sets) (eras : List CronEra) (second : ℤ) (m : Reading) → IsLatest (λ q. IsHistoryItem s eras q × IsBy (second *ℤ pos 1_000_000_000) q) (Some m)
+pub none_at : (s : Sets) (eras : List CronEra) (second : ℤ) (m : Reading)
+    → IsLatest (λ q. IsHistoryItem s eras q × IsBy (second *ℤ pos 1_000_000_000) q) (Some m)
     → (instant m ≡ second → ⊥) → (r : Reading) → IsHistoryItem s eras r → instant r ≡ second → ⊥
 none_at s eras second m last other r item same =
     let by : (instant r *ℤ pos 1_000_000_000) ≤ℤ (second *ℤ pos 1_000_000_000) = omega (arith, signed_arith) in

@@ -9,8 +9,7 @@ ghost use Rattle.cron_instants.specs.Inner.Beyond.{is_match};
 use cron_clocks::stretch::Stretch;
 use cron_moments::moment::civil_second;
 use cron_time::search::month_days::MonthDays;
-use cron_time::search::onward::search_past;
-use cron_time::search::search;
+use cron_time::search::onward::{search_anew, search_past};
 use cron_units::fields::ScheduleFields;
 use cron_units::way::Way;
 use jiff::tz::TimeZone;
@@ -22,7 +21,7 @@ pub(crate) fn nearest_match(fields: &ScheduleFields, way: Way, from: i64) -> Opt
     ensures nearest { IsNearest way (is_match fields.now) from result }
     ensures bound { IfSome result (λ n. n < seconds_in_range) }
 {
-    let Some(found) = search(fields, &TimeZone::UTC, way, from).found else {
+    let Some(found) = search_anew(fields, &TimeZone::UTC, way, from) else {
         return None;
     };
     let moment = found.first;

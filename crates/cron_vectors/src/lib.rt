@@ -4,6 +4,8 @@
 #[cfg(test)]
 mod equalities;
 #[cfg(test)]
+mod gaps;
+#[cfg(test)]
 mod json;
 #[cfg(test)]
 mod last_days;

@@ -37,7 +37,8 @@ each_ranked s month day w low high first last =
     let day_in = has_from s.days_of_month.ordinals 1 31 day w.days first (omega (arith, last, short)) in
     let week = has_from s.days_of_week 1 7 (weekday_number (date_numbered (day_number month day)).0) w.week (omega arith) (omega arith) in
     let has = or_left (contains s.days_of_month.ordinals day) _ day_in in
-    (split_matching s).passes month day (omega (arith, last, short)) (and_from (contains s.years (year_of month)) (contains s.months (month_of month)) year month_in)
+    (split_matching s).passes month day (omega (arith, last, short))
+    (and_from (contains s.years (year_of month)) (contains s.months (month_of month)) year month_in)
     (and_from (nat_le 1 day) (matches_day s month day && matches_weekday s month day) (le-leb 1 day first)
     (and_from (matches_day s month day) (matches_weekday s month day)
     (and_from (has_day s.days_of_month (length_of month) day) (nat_le day (length_of month)) has (le-leb day (length_of month) last)) week))

@@ -42,7 +42,8 @@ shifted_down n r k =
     let split : n / 2 ^ r * 2 ^ r + n % 2 ^ r ≡ n = omega (arith, mod-add-div' n (2 ^ r)) in
     let back : k + r - r ≡ k = omega arith in
     let small : n % 2 ^ r < 2 ^ r = mod-lt n (pow_pos r) in
-    let high : bit_at (n / 2 ^ r * 2 ^ r + n % 2 ^ r) (k + r) ≡ bit_at (n / 2 ^ r) (k + r - r) = bit_at_cat_high (n / 2 ^ r) r (n % 2 ^ r) (k + r) small (omega arith) in
+    let high : bit_at (n / 2 ^ r * 2 ^ r + n % 2 ^ r) (k + r) ≡ bit_at (n / 2 ^ r) (k + r - r) =
+    bit_at_cat_high (n / 2 ^ r) r (n % 2 ^ r) (k + r) small (omega arith) in
     sym (ap (λ (m : ℕ). bit_at m (k + r)) (sym split) ∙ high ∙ ap (λ (j : ℕ). bit_at (n / 2 ^ r) j) back)
 
 -- from a day of the week on, the bits of 32 days

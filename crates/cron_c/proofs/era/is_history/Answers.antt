@@ -13,7 +13,8 @@ returns-then-not-is_zone c =
     let room : c.loop-at.at < length c.args.eras.now = omega (arith, c.loop-at-test.true) in (
       λ is. absurd (cc),
       λ history.
-          absurd (clash c.is_zone.result (c.is_zone.ensures.1 (history.zones c.loop-at.at _ (slice_get-get_or c.args.eras.now c.loop-at.at _ room))) c.if-not-is_zone.true),
+          absurd (clash c.is_zone.result
+          (c.is_zone.ensures.1 (history.zones c.loop-at.at _ (slice_get-get_or c.args.eras.now c.loop-at.at _ room))) c.if-not-is_zone.true),
     )
 
 pub loop-at-preserved : goal.loop-at-preserved
@@ -22,7 +23,8 @@ loop-at-preserved c =
     let room : c.loop-at.at < length c.args.eras.now = omega (arith, c.loop-at-test.true) in (
       λ i e below get. elim (last_or_before i c.loop-at.at below) [
         | inl same ↦
-            zone_here c.args.eras.now c.loop-at.at i _ e (slice_get-get_or c.args.eras.now c.loop-at.at _ room) (c.is_zone.ensures.0 c.if-not-is_zone.false) same get
+            zone_here c.args.eras.now c.loop-at.at i _ e (slice_get-get_or c.args.eras.now c.loop-at.at _ room)
+            (c.is_zone.ensures.0 c.if-not-is_zone.false) same get
         | inr before ↦ c.loop-at.invariant.0 i e before get
       ],
       λ i a b below here next. elim (last_or_before i c.loop-at.at below) [

@@ -7,7 +7,8 @@ pub last_of_era-requires : goal.last_of_era-requires
 last_of_era-requires c =
     let room : c.loop-back.back < length c.args.eras.now = omega (arith, c.loop-back-test.true) in
     let within : length c.args.eras.now - 1 - c.loop-back.back < length c.args.eras.now = omega (arith, room) in
-    c.requires.zones (length c.args.eras.now - 1 - c.loop-back.back) _ (slice_get-get_or c.args.eras.now (length c.args.eras.now - 1 - c.loop-back.back) _ within)
+    c.requires.zones (length c.args.eras.now - 1 - c.loop-back.back) _
+    (slice_get-get_or c.args.eras.now (length c.args.eras.now - 1 - c.loop-back.back) _ within)
 
 pub returns-in-Some : goal.returns-in-Some
 returns-in-Some c =

@@ -35,5 +35,9 @@ returns-then-last-second c =
     let after = subst (λ (t : ℤ). IsLatest (λ q. IsHistoryItem sets eras q × IsBy t q) c.last_of_history.result) nanos of_sets in
     let found = subst (λ (o : Option Reading). IsLatest (λ q. IsHistoryItem sets eras q × IsBy (c.args.second *ℤ pos 1_000_000_000) q) o)
     c.in-Some.is after in
-    let other : c.item_of-last.result.instant ≡ c.args.second → ⊥ = search rules in
-    (history, within, λ r item same. none_at sets eras c.args.second c.in-Some.found found (λ e. other (c.item_of-last.ensures.instant_is ∙ e)) r item same, refl)
+    let other : c.item_of-last.result.instant ≡ c.args.second → ⊥ = search rules in (
+      history,
+      within,
+      λ r item same. none_at sets eras c.args.second c.in-Some.found found (λ e. other (c.item_of-last.ensures.instant_is ∙ e)) r item same,
+      refl,
+    )

@@ -13,7 +13,9 @@ returns c = λ k less.
     let w4 : ℕ = bit_or w2 (w2 * 2 ^ 14 % 2 ^ 64) in
     let w8 : ℕ = bit_or w4 (w4 * 2 ^ 28 % 2 ^ 64) in
     let one : (j : ℕ) → j < 64 → has_bit w j ≡ repeats p 7 j = λ j l.
-    c.below-week.ensures.bits j ∙ ap (λ (b : Bool). nat_lt j 7 && b) (c.bits.ensures.bits j ∙ ap (λ (t : Sets). contains t.days_of_week (1 + j)) c.fields.view_is) ∙ once p j in
+    c.below-week.ensures.bits j
+    ∙ ap (λ (b : Bool). nat_lt j 7 && b) (c.bits.ensures.bits j ∙ ap (λ (t : Sets). contains t.days_of_week (1 + j)) c.fields.view_is)
+    ∙ once p j in
     let two : (j : ℕ) → j < 64 → has_bit w2 j ≡ repeats p 14 j = λ j l. twice p w 7 j l refl one in
     let four : (j : ℕ) → j < 64 → has_bit w4 j ≡ repeats p 28 j = λ j l. twice p w2 14 j l refl two in
     let eight : (j : ℕ) → j < 64 → has_bit w8 j ≡ repeats p 56 j = λ j l. twice p w4 28 j l refl four in

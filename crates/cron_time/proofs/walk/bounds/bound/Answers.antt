@@ -17,7 +17,8 @@ returns-in-Ahead-clause-bound c =
 pub returns-then-is_whole-clause-bound : goal.returns-then-is_whole-clause-bound
 unfolding bound_back
 returns-then-is_whole-clause-bound c =
-    let earlier : to_z w128 (of_z w128 (to_z w128 (of_z w128 c.as_nanosecond-then-is_whole.result) -ℤ pos 1_000_000_000)) ≡ c.args.start.nanosecond -ℤ pos 1_000_000_000 =
+    let earlier : to_z w128 (of_z w128 (to_z w128 (of_z w128 c.as_nanosecond-then-is_whole.result) -ℤ pos 1_000_000_000))
+    ≡ c.args.start.nanosecond -ℤ pos 1_000_000_000 =
     omega (arith, ints, c.as_nanosecond-then-is_whole.ensures, c.args.start.in_range) in
     rw (c.in-Back.is, sym c.is_whole.ensures ∙ c.if-is_whole.true, ← earlier) c.shown_if_any-then-is_whole.ensures.shown
 

@@ -1,0 +1,113 @@
+//! Walks over gaps of a day and longer, ahead and back. The civil seconds and the offsets are counted by hand.
+
+use crate::support::number;
+use crate::zone_files::read_file;
+use cron::Schedule;
+use cron::schedule::Moment;
+use jiff::Timestamp;
+use jiff::tz::TimeZone;
+use std::process::Abort;
+use std::test::Fail;
+
+// A clock that changes between 24:59:59 behind UTC and as much ahead of it. Each year it leaves out what lies
+// from 10 April on, up to 12 April 01:59:57.
+const TWO_DAYS: &str = "AAA24:59:59BBB-24:59:59,J100/0,J300/0";
+
+const BEFORE: i32 = -89_999;
+
+const AFTER: i32 = 89_999;
+
+fn check_item(
+    rt: &impl Abort,
+    moment: Option<Moment>,
+    shown: &str,
+    offset: i32,
+) -> Result<(), Fail> {
+    let moment = moment.ok_or("nothing is answered")?;
+    let (told, wanted) = (number(moment.datetime())?, number(shown.parse()?)?);
+    assert_eq!(rt; told, wanted, "for {shown}");
+    assert_eq!(rt; moment.offset().seconds(), offset, "at {shown}");
+    Ok(())
+}
+
+// A walk answers these items from a start on, and then the ones before the last back.
+fn check_walk(
+    rt: &(impl Abort + AllocGlobal),
+    text: &str,
+    zone: &TimeZone<'_>,
+    start: &str,
+    items: &[(&str, i32)],
+) -> Result<(), Fail> {
+    let schedule = Schedule::from_str(rt.alloc(), text)?;
+    let mut walk = schedule.after(start.parse::<Timestamp>()?, zone);
+    for (shown, offset) in items.iter() {
+        check_item(rt, walk.next(), shown, *offset)?;
+    }
+    for (shown, offset) in items.iter().rev().skip(1) {
+        check_item(rt, walk.next_back(), shown, *offset)?;
+    }
+    Ok(())
+}
+
+#[test]
+fn a_day_that_is_skipped(rt: HostRuntime) -> Result<(), Fail> {
+    let file = read_file(
+        rt.alloc(),
+        86_400,
+        "2020-03-01T00:00:00Z",
+        "2020-06-01T00:00:00Z",
+    )?;
+    let zone = TimeZone::tzif(&file);
+    let daily = [
+        ("2020-02-29T12:00:00", 0),
+        ("2020-03-02T12:00:00", 86_400),
+        ("2020-03-03T12:00:00", 86_400),
+    ];
+    check_walk(&rt, "0 0 12 * * *", &zone, "2020-02-28T12:00:00Z", &daily)?;
+    let seconds = [
+        ("2020-02-29T23:59:58", 0),
+        ("2020-02-29T23:59:59", 0),
+        ("2020-03-02T00:00:00", 86_400),
+        ("2020-03-02T00:00:01", 86_400),
+    ];
+    check_walk(&rt, "* * * * * *", &zone, "2020-02-29T23:59:57Z", &seconds)?;
+    let firsts = [
+        ("2020-02-01T00:00:00", 0),
+        ("2020-04-01T00:00:00", 86_400),
+        ("2020-05-01T00:00:00", 86_400),
+    ];
+    check_walk(&rt, "0 0 0 1 * ?", &zone, "2020-01-15T00:00:00Z", &firsts)
+}
+
+#[test]
+fn two_days_that_are_skipped_each_year(rt: HostRuntime) -> Result<(), Fail> {
+    let zone = TimeZone::posix(TWO_DAYS)?;
+    let quarters = [
+        ("2020-04-09T00:00:00", BEFORE),
+        ("2020-04-09T06:00:00", BEFORE),
+        ("2020-04-09T12:00:00", BEFORE),
+        ("2020-04-09T18:00:00", BEFORE),
+        ("2020-04-12T06:00:00", AFTER),
+        ("2020-04-12T12:00:00", AFTER),
+        ("2020-04-12T18:00:00", AFTER),
+        ("2021-04-09T00:00:00", BEFORE),
+    ];
+    let start = "2020-04-01T00:00:00Z";
+    check_walk(&rt, "0 0 */6 9-12 4 ?", &zone, start, &quarters)?;
+    let edges = [
+        ("2020-04-09T23:59:59", BEFORE),
+        ("2020-04-12T01:59:58", AFTER),
+        ("2020-04-12T01:59:59", AFTER),
+    ];
+    check_walk(&rt, "* * * * * ?", &zone, "2020-04-11T00:59:57Z", &edges)
+}
+
+#[test]
+fn gaps_in_which_each_match_lies(rt: HostRuntime) -> Result<(), Fail> {
+    let zone = TimeZone::posix(TWO_DAYS)?;
+    let schedule = Schedule::from_str(rt.alloc(), "* * * 10,11 4 ?")?;
+    let start = "2020-01-01T00:00:00Z".parse::<Timestamp>()?;
+    assert!(rt; schedule.after(start, &zone).next().is_none());
+    assert!(rt; schedule.after(start, &zone).next_back().is_none());
+    Ok(())
+}
