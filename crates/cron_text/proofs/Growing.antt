@@ -51,6 +51,17 @@ pub stuck_at_token : (u : TimeUnit) (s : FieldState) (c x : Token) (ts : List To
 stuck_at_token u s c x ts k h j =
     stuck u s c x ts (no_next u s (spacing_fits s.last c && spacing_fits c x) (symbol_of c) x (subst (λ (a : Symbol). joined u s a x ≡ None) h j))
 
+none_second : (a b : Bool) (r : Option FieldState) → b ≡ false → cond (a && b) r None ≡ None
+none_second true b r h = rw h refl
+none_second false b r h = refl
+
+-- a wildcard with white space between the connector and it
+pub stuck_at_wildcard : (u : TimeUnit) (s : FieldState) (c x : Token) (ts : List Token) (k : Connector) → connector_view k ≡ symbol_of c
+    → is_wildcard (symbol_of x) ≡ true → x.spaced ≡ true → furthest u s (c ∷ x ∷ ts) ≡ (s, c ∷ x ∷ ts)
+stuck_at_wildcard u s c x ts k h w p =
+    let apart : spacing_fits c x ≡ false = fits_after c x k h ∙ rw (w, p) refl in
+    stuck u s c x ts (none_second (spacing_fits s.last c) (spacing_fits c x) (joined u s (symbol_of c) x) apart)
+
 -- the field goes on
 pub grows_on : (u : TimeUnit) (s t : FieldState) (c x : Token) (ts : List Token) (k : Connector) → connector_view k ≡ symbol_of c
     → (is_wildcard (symbol_of s.last) && c.spaced) ≡ false → (is_wildcard (symbol_of x) && x.spaced) ≡ false → joined u s (connector_view k) x ≡ Some t

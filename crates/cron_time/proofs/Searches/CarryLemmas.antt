@@ -1,7 +1,8 @@
 -- A search through two units, of which the outer one carries into the inner one.
 use Rattle.std.proofs.Common.{◌≡◌, ℕ, ◌+◌, ◌*◌, ◌/◌, ◌%◌, ◌<◌, ◌≤◌, ℤ, pos, Bool, true, ◌&&◌, Option, Some, None, inl, inr, refl, subst, arith}
 use Rattle.std.proofs.lemmas.Bool.{cases_lt}
-use Rattle.std.proofs.lemmas.Nat.{div-add-mod', mul-le}
+use Rattle.std.proofs.Math.Nat.{mul-le-mul_right}
+use Rattle.std.proofs.lemmas.Nat.{div-add-mod', mul-add-lt, mul-le}
 use Rattle.jiff_core.proofs.SignedLemmas.{signed_arith}
 use Rattle.cron_units.specs.declared.way.Way.{Way}
 use Rattle.cron_units.specs.declared.way.Way.TheVariants.{Ahead, Back}
@@ -17,6 +18,12 @@ both w outer inner = λ n. outer (n / w) && inner (n % w)
 
 pub both_parts : (w : ℕ) (outer inner : ℕ → Bool) → IsSplit w outer (λ _. inner) (both w outer inner)
 both_parts w outer inner = both_split w outer (λ _. inner) (both w outer inner) (λ n. refl)
+
+-- a number in its parts lies within the limits of its parts
+pub in_bounds : (least next limit w inner : ℕ) → least ≤ next → next < limit → inner < w
+    → (least * w ≤ next * w + inner) × (next * w + inner < limit * w)
+in_bounds least next limit w inner low high fits =
+    (omega (arith, mul-le-mul_right w low), omega (arith, mul-add-lt next w inner limit high fits))
 
 -- such a search, with the first block that passes and where it is entered
 pub record Carried (way : Way) (w : ℕ) (outer inner test : ℕ → Bool) (from m s : ℕ) : Type 0 where

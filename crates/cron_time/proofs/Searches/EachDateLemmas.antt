@@ -1,7 +1,8 @@
 -- Sets that have each date of the range.
-use Rattle.std.proofs.Common.{◌≡◌, ℕ, ◌+◌, ◌-◌, ◌<◌, ◌≤◌, ◌&&◌, true, List, pos, Some, None, sym, ap, subst, ◌∙◌, arith}
+use Rattle.std.proofs.Common.{◌≡◌, ℕ, ◌+◌, ◌-◌, ◌<◌, ◌≤◌, ◌&&◌, Bool, true, List, pos, Some, None, refl, sym, ap, subst, ◌∙◌, inl, inr, arith}
 use Rattle.std.specs.Prelude.{nat_le, nat_lt}
-use Rattle.std.proofs.lemmas.Bool.{and_from, and_left, le-leb, lt-ltb, le-ltb, or_left}
+use Rattle.std.proofs.lemmas.Bool.{and_from, and_left, cases_lt, le-leb, lt-ltb, le-ltb, or_left}
+use Rattle.cron_bits.specs.Words.{has_bit, bit_of_three, then_bits}
 use Rattle.cron_units.specs.declared.way.Way.{Way}
 use Rattle.cron_units.specs.Nearest.{LiesFrom, IsNearest}
 use Rattle.cron_units.specs.Sets.{Sets}
@@ -21,6 +22,29 @@ has_from xs least count n all low high =
     let P : ℕ → Type 0 = λ m. contains xs m ≡ true in
     let is : least + (n - least) ≡ n = omega arith in
     subst P is (all (n - least) (omega arith))
+
+then_low : (low rest : ℕ → Bool) (k : ℕ) → k < 64 → then_bits low rest k ≡ low k
+then_low low rest k lt = rw (lt-ltb k 64 lt) refl
+
+then_rest : (low rest : ℕ → Bool) (k : ℕ) → 64 ≤ k → then_bits low rest k ≡ rest (k - 64)
+then_rest low rest k ge = rw (le-ltb k 64 ge) refl
+
+-- each bit of the years, where those of each of their words are 1
+bits_past : (q r k : ℕ) → ((i : ℕ) → i < 64 → has_bit q i ≡ true) → ((i : ℕ) → i < 3 → has_bit r i ≡ true) → k < 67
+    → then_bits (has_bit q) (has_bit r) k ≡ true
+bits_past q r k second third less =
+    elim (cases_lt k 64) [
+      | inl lt ↦ then_low (has_bit q) (has_bit r) k lt ∙ second k lt
+      | inr ge ↦ then_rest (has_bit q) (has_bit r) k ge ∙ third (k - 64) (omega arith)
+    ]
+
+pub each_bit : (p q r k : ℕ) → ((i : ℕ) → i < 64 → has_bit p i ≡ true) → ((i : ℕ) → i < 64 → has_bit q i ≡ true)
+    → ((i : ℕ) → i < 3 → has_bit r i ≡ true) → k < 131 → bit_of_three p q r k ≡ true
+each_bit p q r k first second third less =
+    elim (cases_lt k 64) [
+      | inl lt ↦ then_low (has_bit p) (then_bits (has_bit q) (has_bit r)) k lt ∙ first k lt
+      | inr ge ↦ then_rest (has_bit p) (then_bits (has_bit q) (has_bit r)) k ge ∙ bits_past q r (k - 64) second third (omega arith)
+    ]
 
 pub record AreWhole (s : Sets) : Type 0 where
   pub years : (k : ℕ) → k < 131 → contains s.years (1970 + k) ≡ true

@@ -86,3 +86,48 @@ returns-clause-told c =
     at c.offsets_among-earlier.ensures in
     told_among c.args.rule c.args.dst c.requires.saving c.args.second c.requires.range y here _ _ _ _
     start.value start.low start.high end.value end.low end.high told
+
+pub from-at-requires : goal.from-at-requires
+from-at-requires c = search rules
+
+pub saving_of-saving-requires : goal.saving_of-saving-requires
+saving_of-saving-requires c = search rules
+
+pub parted_twice-in_year-requires-clause-low : goal.parted_twice-in_year-requires-clause-low
+parted_twice-in_year-requires-clause-low c = search rules
+
+pub parted_twice-in_year-requires-clause-high : goal.parted_twice-in_year-requires-clause-high
+parted_twice-in_year-requires-clause-high c = search rules
+
+pub parted_twice-by_start-requires-clause-low : goal.parted_twice-by_start-requires-clause-low
+parted_twice-by_start-requires-clause-low c = search rules
+
+pub parted_twice-by_start-requires-clause-high : goal.parted_twice-by_start-requires-clause-high
+parted_twice-by_start-requires-clause-high c = search rules
+
+pub parted_twice-span-requires-clause-low : goal.parted_twice-span-requires-clause-low
+parted_twice-span-requires-clause-low c = search rules
+
+pub parted_twice-span-requires-clause-high : goal.parted_twice-span-requires-clause-high
+parted_twice-span-requires-clause-high c = search rules
+
+pub from_plain-requires : goal.from_plain-requires
+from_plain-requires c = search rules
+
+pub from_plain-requires-2 : goal.from_plain-requires-2
+from_plain-requires-2 c = search rules
+
+pub invariant_of-placed : goal.invariant_of-placed
+invariant_of-placed c = search rules
+
+pub offsets_among-earlier-requires : goal.offsets_among-earlier-requires
+offsets_among-earlier-requires c = search rules
+
+pub returns-clause-low : goal.returns-clause-low
+returns-clause-low c = search rules
+
+pub returns-clause-high : goal.returns-clause-high
+returns-clause-high c = search rules
+
+pub returns-clause-narrowed : goal.returns-clause-narrowed
+returns-clause-narrowed c = search rules

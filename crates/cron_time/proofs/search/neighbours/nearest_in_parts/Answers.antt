@@ -1,7 +1,7 @@
-use Rattle.std.proofs.Common.{◌≡◌, ◌/◌, arith}
+use Rattle.std.proofs.Common.{◌≡◌, ◌/◌, arith, rules}
 use Rattle.cron_units.specs.Sets.{AreSets}
 use Rattle.cron_time.specs.Search.Inner.Inquired.{outermost}
-use Rattle.cron_time.proofs.Searches.CarryLemmas.{Carried, both, both_parts, carry_none, carry_first, carry_past}
+use Rattle.cron_time.proofs.Searches.CarryLemmas.{Carried, both, both_parts, carry_none, carry_first, carry_past, in_bounds}
 use Rattle.cron_time.proofs.Searches.AskedLemmas.{one_asked, asked_first, asked_past, outermost_finds, outermost_parts, start_outermost}
 use Rattle.cron_time.proofs.search.neighbours.nearest_in_parts.Goals as goal
 
@@ -81,3 +81,77 @@ returns-clause-outermost g c = λ sets at.
     c.requires.positive at (rw c.LIMIT-width.ensures at c.entry-start.ensures.value) in
     let full = g.met.I.Neighbours.filled c.nearest.new.inquiry.sets later in
     outermost_finds c.args.way g.I.Neighbours.LIMIT (g.I.Neighbours.passes c.nearest.new.inquiry.sets) full (rw start at c.in_default.ensures.nearest)
+
+pub LIMIT-width-requires : goal.LIMIT-width-requires
+LIMIT-width-requires g c κs = search rules
+
+pub nonzero_div-first : goal.nonzero_div-first
+nonzero_div-first g c = search rules
+
+pub nonzero_rem-rest : goal.nonzero_rem-rest
+nonzero_rem-rest g c = search rules
+
+pub nearest-requires : goal.nearest-requires
+nearest-requires g c = search rules
+
+pub branch-outer-requires : goal.branch-outer-requires
+branch-outer-requires g c κs = search rules
+
+pub from_residual-requires : goal.from_residual-requires
+from_residual-requires g c κs = search rules
+
+pub returns-in_err-outer-clause-bound : goal.returns-in_err-outer-clause-bound
+returns-in_err-outer-clause-bound g c = search rules
+
+pub returns-in_err-outer-clause-same : goal.returns-in_err-outer-clause-same
+returns-in_err-outer-clause-same g c = search rules
+
+pub returns-in_err-outer-clause-questions : goal.returns-in_err-outer-clause-questions
+returns-in_err-outer-clause-questions g c = search rules
+
+pub entry-start-requires-clause-rest_in : goal.entry-start-requires-clause-rest_in
+entry-start-requires-clause-rest_in g c = search rules
+
+pub entry-start-requires-clause-lies : goal.entry-start-requires-clause-lies
+entry-start-requires-clause-lies g c = search rules
+
+pub nearest-requires-2 : goal.nearest-requires-2
+nearest-requires-2 g c = search rules
+
+pub overflow_mul-result : goal.overflow_mul-result
+overflow_mul-result g c =
+    let within = in_bounds g.O.Neighbours.least c.in_ok-outer.outer g.O.Neighbours.LIMIT g.I.Neighbours.LIMIT c.in-Some.inner
+    c.in_ok-outer.ensures.bound.0 c.in_ok-outer.ensures.bound.1 c.in-Some.ensures.bound.1 in
+    rw c.LIMIT-width.ensures (omega (arith, within, c.requires.fits))
+
+pub overflow_add-result : goal.overflow_add-result
+overflow_add-result g c =
+    let within = in_bounds g.O.Neighbours.least c.in_ok-outer.outer g.O.Neighbours.LIMIT g.I.Neighbours.LIMIT c.in-Some.inner
+    c.in_ok-outer.ensures.bound.0 c.in_ok-outer.ensures.bound.1 c.in-Some.ensures.bound.1 in
+    rw c.LIMIT-width.ensures (omega (arith, within, c.requires.fits))
+
+pub returns-in-Some-clause-bound : goal.returns-in-Some-clause-bound
+returns-in-Some-clause-bound g c =
+    rw c.LIMIT-width.ensures (in_bounds g.O.Neighbours.least c.in_ok-outer.outer g.O.Neighbours.LIMIT g.I.Neighbours.LIMIT c.in-Some.inner
+    c.in_ok-outer.ensures.bound.0 c.in_ok-outer.ensures.bound.1 c.in-Some.ensures.bound.1)
+
+pub returns-in-Some-clause-same : goal.returns-in-Some-clause-same
+returns-in-Some-clause-same g c = search rules
+
+pub nearest_past_block-requires-clause-unit : goal.nearest_past_block-requires-clause-unit
+nearest_past_block-requires-clause-unit g c = search rules
+
+pub nearest_past_block-requires-clause-positive : goal.nearest_past_block-requires-clause-positive
+nearest_past_block-requires-clause-positive g c = search rules
+
+pub nearest_past_block-requires-clause-fits : goal.nearest_past_block-requires-clause-fits
+nearest_past_block-requires-clause-fits g c = search rules
+
+pub nearest_past_block-requires-clause-outer : goal.nearest_past_block-requires-clause-outer
+nearest_past_block-requires-clause-outer g c = search rules
+
+pub returns-clause-bound : goal.returns-clause-bound
+returns-clause-bound g c = search rules
+
+pub returns-clause-same : goal.returns-clause-same
+returns-clause-same g c = search rules

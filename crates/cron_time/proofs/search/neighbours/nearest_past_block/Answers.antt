@@ -1,4 +1,8 @@
-use Rattle.cron_time.proofs.Searches.CarryLemmas.{both, both_parts, past_none, past_next}
+use Rattle.std.proofs.Common.{◌≡◌, rules}
+use Rattle.cron_units.specs.Sets.{AreSets}
+use Rattle.cron_time.specs.Search.Inner.Inquired.{outermost}
+use Rattle.cron_time.proofs.Searches.AskedLemmas.{outermost_finds}
+use Rattle.cron_time.proofs.Searches.CarryLemmas.{both, both_parts, in_bounds, past_none, past_next}
 use Rattle.cron_time.proofs.search.neighbours.nearest_past_block.Goals as goal
 
 pub returns-in_err-past-clause-nearest : goal.returns-in_err-past-clause-nearest
@@ -30,3 +34,88 @@ returns-clause-nearest g c =
     let extreme = rw c.LIMIT-width.ensures at c.extreme.ensures.extreme in
     rw c.LIMIT-width.ensures (past_next c.args.way w o i (both w o i) c.args.outer c.in_ok-next.next c.extreme.result c.in_ok-inner.inner
     (both_parts w o i) c.requires.positive next extreme c.in_ok-inner.ensures.bound.1 first)
+
+pub LIMIT-width-requires : goal.LIMIT-width-requires
+LIMIT-width-requires g c κs = search rules
+
+pub past-requires : goal.past-requires
+past-requires g c = search rules
+
+pub branch-past-requires : goal.branch-past-requires
+branch-past-requires g c κs = search rules
+
+pub from_residual-requires : goal.from_residual-requires
+from_residual-requires g c κs = search rules
+
+pub returns-in_err-past-clause-bound : goal.returns-in_err-past-clause-bound
+returns-in_err-past-clause-bound g c = search rules
+
+pub returns-in_err-past-clause-same : goal.returns-in_err-past-clause-same
+returns-in_err-past-clause-same g c = search rules
+
+pub returns-in_err-past-clause-questions : goal.returns-in_err-past-clause-questions
+returns-in_err-past-clause-questions g c = search rules
+
+pub nearest-requires : goal.nearest-requires
+nearest-requires g c = search rules
+
+pub branch-next-requires : goal.branch-next-requires
+branch-next-requires g c κs = search rules
+
+pub from_residual-requires-in_err-next : goal.from_residual-requires-in_err-next
+from_residual-requires-in_err-next g c κs = search rules
+
+pub returns-in_err-next-clause-bound : goal.returns-in_err-next-clause-bound
+returns-in_err-next-clause-bound g c = search rules
+
+pub returns-in_err-next-clause-same : goal.returns-in_err-next-clause-same
+returns-in_err-next-clause-same g c = search rules
+
+pub returns-in_err-next-clause-questions : goal.returns-in_err-next-clause-questions
+returns-in_err-next-clause-questions g c = search rules
+
+pub extreme-requires : goal.extreme-requires
+extreme-requires g c = search rules
+
+pub nearest-requires-2 : goal.nearest-requires-2
+nearest-requires-2 g c = search rules
+
+pub branch-inner-requires : goal.branch-inner-requires
+branch-inner-requires g c κs = search rules
+
+pub from_residual-requires-in_err-inner : goal.from_residual-requires-in_err-inner
+from_residual-requires-in_err-inner g c κs = search rules
+
+pub returns-in_err-inner-clause-nearest : goal.returns-in_err-inner-clause-nearest
+returns-in_err-inner-clause-nearest g c = search rules
+
+pub returns-in_err-inner-clause-bound : goal.returns-in_err-inner-clause-bound
+returns-in_err-inner-clause-bound g c = search rules
+
+pub returns-in_err-inner-clause-same : goal.returns-in_err-inner-clause-same
+returns-in_err-inner-clause-same g c = search rules
+
+pub returns-in_err-inner-clause-questions : goal.returns-in_err-inner-clause-questions
+returns-in_err-inner-clause-questions g c = λ sets.
+    let later : AreSets c.nearest.new.inquiry.sets = rw c.nearest.ensures.same.sets sets in
+    let full = g.met.I.Neighbours.filled c.nearest.new.inquiry.sets later in
+    let start : c.extreme.result ≡ outermost c.args.way g.I.Neighbours.LIMIT = rw c.LIMIT-width.ensures at c.extreme.ensures.value in
+    outermost_finds c.args.way g.I.Neighbours.LIMIT (g.I.Neighbours.passes c.nearest.new.inquiry.sets) full
+    (rw start at c.in_err-inner.ensures.nearest)
+
+pub overflow_mul-result : goal.overflow_mul-result
+overflow_mul-result g c = search rules
+
+pub overflow_add-result : goal.overflow_add-result
+overflow_add-result g c = search rules
+
+pub returns-clause-bound : goal.returns-clause-bound
+returns-clause-bound g c =
+    rw c.LIMIT-width.ensures (in_bounds g.O.Neighbours.least c.in_ok-next.next g.O.Neighbours.LIMIT g.I.Neighbours.LIMIT c.in_ok-inner.inner
+    c.in_ok-next.ensures.bound.0 c.in_ok-next.ensures.bound.1 c.in_ok-inner.ensures.bound.1)
+
+pub returns-clause-same : goal.returns-clause-same
+returns-clause-same g c = search rules
+
+pub returns-clause-questions : goal.returns-clause-questions
+returns-clause-questions g c = search rules

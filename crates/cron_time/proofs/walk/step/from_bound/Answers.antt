@@ -20,3 +20,27 @@ returns-in-None-clause-leads c =
     let z = plain_zone c.args.zone.now in
     let at = sym c.bound.ensures.bound ∙ c.in-None.is in
     rw c.stop-in-None.ensures.stand (start_ends c.args.way s z _ (rw c.from_plain.ensures at at))
+
+pub from_plain-requires : goal.from_plain-requires
+from_plain-requires c = search rules
+
+pub bound-requires : goal.bound-requires
+bound-requires c = search rules
+
+pub search_onward-found-requires-clause-days : goal.search_onward-found-requires-clause-days
+search_onward-found-requires-clause-days c = search rules
+
+pub search_onward-found-requires-clause-known : goal.search_onward-found-requires-clause-known
+search_onward-found-requires-clause-known c = search rules
+
+pub stop-requires : goal.stop-requires
+stop-requires c = search rules
+
+pub stop-requires-in-None : goal.stop-requires-in-None
+stop-requires-in-None c = search rules
+
+pub returns-in-Some-clause-known : goal.returns-in-Some-clause-known
+returns-in-Some-clause-known c = search rules
+
+pub returns-in-None-clause-known : goal.returns-in-None-clause-known
+returns-in-None-clause-known c = search rules
