@@ -44,6 +44,19 @@ impl<W> Watched<W> {
     }
 }
 
+// Whether a write failed, or took no byte of a piece that isn't empty. It only borrows the answer, so that
+// the proof of `write` has no cases.
+#[inline(always)]
+fn is_failed_write(answer: &io::Result<usize>, piece: &[u8]) -> bool
+    ensures { result ≡ is_failed_write answer.now piece.now }
+{
+    match answer {
+        Ok(0) => !piece.is_empty(),
+        Ok(_) => false,
+        Err(_) => true,
+    }
+}
+
 impl<W: Watchable> Watched<W> {
     /// Passes a write on: one call of the writer, whatever it answers.
     pub fn write(&mut self, piece: &[u8]) -> io::Result<usize>
@@ -53,11 +66,7 @@ impl<W: Watchable> Watched<W> {
         ensures mark { has_failed self.new ≡ (has_failed self.old || is_failed_write result piece.now) }
     {
         let result = self.writer.write_once(piece);
-        match &result {
-            Ok(0) if !piece.is_empty() => self.failed = true,
-            Ok(_) => {}
-            Err(_) => self.failed = true,
-        }
+        self.failed |= is_failed_write(&result, piece);
         result
     }
 
