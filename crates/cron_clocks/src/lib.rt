@@ -10,8 +10,6 @@ mod rule;
 mod season;
 pub mod stretch;
 mod table;
-#[cfg(test)]
-mod tests;
 mod turns;
 
 pub use agreement::lookups_agree;

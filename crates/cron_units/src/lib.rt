@@ -4,7 +4,5 @@
 pub mod error;
 pub mod fields;
 pub mod specifier;
-#[cfg(test)]
-mod tests;
 pub mod time_unit;
 pub mod way;

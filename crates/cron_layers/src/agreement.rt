@@ -1,8 +1,6 @@
 //! Zones whose two look-ups agree, and rules where they don't.
 
-mod turns;
-
-use super::lookups_agree;
+use cron_clocks::lookups_agree;
 use jiff::tz::{Offset, TimeZone};
 use std::process::Abort;
 use std::test::Fail;

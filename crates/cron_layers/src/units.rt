@@ -1,12 +1,12 @@
 //! Outside values, and each generic function once.
 
-use crate::error::ErrorKind;
-use crate::specifier::{Base, Item, Refusal, RefusedItem, add_item, refused};
-use crate::time_unit::{
+use cron_units::error::ErrorKind;
+use cron_units::specifier::{Base, Item, Refusal, RefusedItem, add_item, refused};
+use cron_units::time_unit::{
     DaysOfMonth, DaysOfWeek, Hours, Months, Seconds, TimeUnitField, TimeUnitSpec, Years, empty,
     only, whole,
 };
-use crate::way::Way;
+use cron_units::way::Way;
 use std::alloc::Global;
 use std::ops::Bound;
 use std::test::Fail;

@@ -1,8 +1,8 @@
-//! Each second around the turns of rules, and those around the ends of stretches, as this crate tells them
+//! Each second around the turns of rules, and those around the ends of stretches, as `cron_clocks` tells them
 //! and as `jiff` does.
 
-use crate::clock::shown_at;
-use crate::stretch::Stretch;
+use cron_clocks::clock::shown_at;
+use cron_clocks::stretch::Stretch;
 use cron_moments::civil::{SECONDS, civil_number};
 use cron_moments::readings::readings_of;
 use jiff::Timestamp;
