@@ -3,12 +3,13 @@
 use cron_units::error::ErrorKind;
 use cron_units::specifier::{Base, Item, Refusal, RefusedItem, add_item, refused};
 use cron_units::time_unit::{
-    DaysOfMonth, DaysOfWeek, Hours, Months, Seconds, TimeUnitField, TimeUnitSpec, Years, empty,
-    only, whole,
+    DaysOfMonth, DaysOfWeek, Hours, Months, OrdinalIter, Seconds, TimeUnitField, TimeUnitSpec,
+    Years, empty, only, whole,
 };
 use cron_units::way::Way;
-use std::alloc::Global;
+use std::fmt::Display;
 use std::ops::Bound;
+use std::process::Abort;
 use std::test::Fail;
 
 /// Makes the set of what items denote, as far as they aren't refused.
@@ -25,22 +26,51 @@ fn summer() -> Months {
     set_of(&[Item::Plain(Base::NumberRange(5, 8))])
 }
 
-/// Lists the members of a set.
-fn listed<T: TimeUnitField>(alloc: Global, set: &T) -> Result<Vec<u32>, Fail> {
-    Ok(set.iter().collect(alloc)?)
+/// Compares the members of a set with those that are wanted.
+fn check_members<T: TimeUnitField>(
+    rt: &(impl Abort + AllocGlobal),
+    set: &T,
+    wanted: &[u32],
+) -> Result<(), Fail> {
+    let told: Vec<u32> = set.iter().collect(rt.alloc())?;
+    assert_eq!(rt; told.as_slice(), wanted);
+    Ok(())
+}
+
+/// Compares the next member from each end with what is wanted.
+fn check_ends(
+    rt: &impl Abort,
+    members: &mut OrdinalIter<'_>,
+    front: Option<u32>,
+    back: Option<u32>,
+) {
+    assert_eq!(rt; members.next(), front);
+    assert_eq!(rt; members.next_back(), back);
+}
+
+/// Compares the member nearest to an ordinal with the one that is wanted.
+fn check_nearest<T: TimeUnitField>(rt: &impl Abort, set: &T, way: Way, ordinal: u32, wanted: u32) {
+    assert_eq!(rt; set.nearest(way, ordinal), Some(wanted));
+}
+
+/// Compares what a value shows with a text.
+fn check_text(
+    rt: &(impl Abort + AllocGlobal),
+    value: &impl Display,
+    wanted: &str,
+) -> Result<(), Fail> {
+    let told = value.to_string(rt.alloc())?;
+    assert_eq!(rt; told.as_str(), wanted);
+    Ok(())
 }
 
 #[test]
-fn the_ends_of_a_set_meet(rt: HostRuntime) -> Result<(), Fail> {
+fn the_ends_of_a_set_meet(rt: HostRuntime) {
     let months = summer();
     let mut members = months.iter();
-    assert_eq!(rt; members.next(), Some(5));
-    assert_eq!(rt; members.next_back(), Some(8));
-    assert_eq!(rt; members.next(), Some(6));
-    assert_eq!(rt; members.next_back(), Some(7));
-    assert_eq!(rt; members.next(), None);
-    assert_eq!(rt; members.next_back(), None);
-    Ok(())
+    check_ends(&rt, &mut members, Some(5), Some(8));
+    check_ends(&rt, &mut members, Some(6), Some(7));
+    check_ends(&rt, &mut members, None, None);
 }
 
 #[test]
@@ -54,17 +84,21 @@ fn a_range_holds_its_included_bounds(rt: HostRuntime) -> Result<(), Fail> {
 }
 
 #[test]
-fn a_set_tells_what_it_holds(rt: HostRuntime) -> Result<(), Fail> {
+fn a_set_tells_what_it_holds(rt: HostRuntime) {
     let months = summer();
     assert_eq!(rt; months.count(), 4);
     assert!(rt; months.includes(8));
     assert!(rt; !months.includes(9));
     assert!(rt; !months.is_all());
-    assert_eq!(rt; months.nearest(Way::Ahead, 1), Some(5));
-    assert_eq!(rt; months.nearest(Way::Back, 12), Some(8));
+    check_nearest(&rt, &months, Way::Ahead, 1, 5);
+    check_nearest(&rt, &months, Way::Back, 12, 8);
+}
+
+#[test]
+fn a_whole_set_is_all_and_a_set_is_itself(rt: HostRuntime) {
     assert!(rt; whole::<Hours>().is_all());
+    assert!(rt; whole::<Years>().is_all());
     assert!(rt; only::<Seconds>(0) == only::<Seconds>(0));
-    Ok(())
 }
 
 #[test]
@@ -72,81 +106,106 @@ fn names_stand_in_any_case(rt: HostRuntime) {
     assert_eq!(rt; DaysOfWeek::ordinal_from_name("THURS"), Some(5));
     assert_eq!(rt; Months::ordinal_from_name("Foo"), None);
     assert_eq!(rt; Hours::ordinal_from_name("jan"), None);
+}
+
+#[test]
+fn a_unit_tells_its_name_and_its_question_mark(rt: HostRuntime) {
     assert_eq!(rt; Months::name(), "Months");
     assert!(rt; DaysOfWeek::takes_question_mark());
     assert!(rt; !Months::takes_question_mark());
 }
 
 #[test]
-fn messages_are_exact(rt: HostRuntime) -> Result<(), Fail> {
+fn an_unknown_name_is_named(rt: HostRuntime) -> Result<(), Fail> {
     let unknown = RefusedItem {
         definition: Months::definition(),
         refusal: Refusal::UnknownName("Foo"),
     };
-    let printed = format!(in rt.alloc(); "{unknown}")?;
-    assert_eq!(rt; printed.as_str(), "'Foo' is not a valid month name.");
+    check_text(&rt, &unknown, "'Foo' is not a valid month name.")
+}
+
+const TOO_LARGE: &str = "Hours must be less than 23. ('24' specified.)";
+
+#[test]
+fn an_error_holds_its_message(rt: HostRuntime) -> Result<(), Fail> {
     let large = RefusedItem {
         definition: Hours::definition(),
         refusal: Refusal::TooLarge(24),
     };
     let error = refused(rt.alloc(), large);
+    check_text(&rt, &error, TOO_LARGE)?;
     let ErrorKind::Expression(text) = error.kind() else {
         return Err(error.into());
     };
-    assert_eq!(rt;
-        text.as_str(),
-        "Hours must be less than 23. ('24' specified.)"
-    );
-    let told = format!(in rt.alloc(); "{error}")?;
-    assert_eq!(rt; told.as_str(), text.as_str());
+    assert_eq!(rt; text.as_str(), TOO_LARGE);
     Ok(())
 }
 
-#[test]
-fn years_stand_in_three_words(rt: HostRuntime) -> Result<(), Fail> {
-    let alloc = rt.alloc();
+/// Makes the years at the ends of the words that hold a set.
+fn edges() -> Years {
     let single = |year| Item::Plain(Base::Single(year));
-    let years: Years = set_of(&[
+    set_of(&[
         single(1970),
         single(2033),
         single(2034),
         single(2097),
         single(2098),
         single(2100),
-    ]);
+    ])
+}
+
+#[test]
+fn years_stand_in_three_words(rt: HostRuntime) -> Result<(), Fail> {
+    let years = edges();
     assert_eq!(rt; years.count(), 6);
-    let six = [1970, 2033, 2034, 2097, 2098, 2100];
-    assert_eq!(rt; listed(alloc, &years)?.as_slice(), six.as_slice());
-    let bounds = (Bound::Excluded(2033), Bound::Excluded(2098));
-    let mut ahead = years.range(bounds);
+    check_members(&rt, &years, &[1970, 2033, 2034, 2097, 2098, 2100])
+}
+
+// The bounds of the middle word's ends.
+const MIDDLE: (Bound<u32>, Bound<u32>) = (Bound::Excluded(2033), Bound::Excluded(2098));
+
+#[test]
+fn a_range_goes_over_the_ends_of_words(rt: HostRuntime) {
+    let years = edges();
+    let mut ahead = years.range(MIDDLE);
     assert_eq!(rt; ahead.next(), Some(2034));
     assert_eq!(rt; ahead.next(), Some(2097));
     assert_eq!(rt; ahead.next(), None);
-    let mut back = years.range(bounds);
+}
+
+#[test]
+fn a_range_goes_back_over_the_ends_of_words(rt: HostRuntime) {
+    let years = edges();
+    let mut back = years.range(MIDDLE);
     assert_eq!(rt; back.next_back(), Some(2097));
     assert_eq!(rt; back.next_back(), Some(2034));
     assert_eq!(rt; back.next_back(), None);
-    assert_eq!(rt; years.nearest(Way::Ahead, 2035), Some(2097));
-    assert_eq!(rt; years.nearest(Way::Back, 2096), Some(2034));
-    assert_eq!(rt; years.nearest(Way::Ahead, 2099), Some(2100));
-    assert_eq!(rt; years.nearest(Way::Back, 2032), Some(1970));
-    assert!(rt; whole::<Years>().is_all());
-    Ok(())
+}
+
+#[test]
+fn the_nearest_year_may_stand_in_another_word(rt: HostRuntime) {
+    let years = edges();
+    check_nearest(&rt, &years, Way::Ahead, 2035, 2097);
+    check_nearest(&rt, &years, Way::Back, 2096, 2034);
+    check_nearest(&rt, &years, Way::Ahead, 2099, 2100);
+    check_nearest(&rt, &years, Way::Back, 2032, 1970);
+}
+
+/// Compares the years of an item with those that are wanted.
+fn check_years(
+    rt: &(impl Abort + AllocGlobal),
+    item: Item<'_>,
+    wanted: &[u32],
+) -> Result<(), Fail> {
+    let years: Years = set_of(&[item]);
+    check_members(rt, &years, wanted)
 }
 
 #[test]
 fn years_go_on_by_steps(rt: HostRuntime) -> Result<(), Fail> {
-    let alloc = rt.alloc();
-    let sparse: Years = set_of(&[Item::Stepped(Base::Every, 63)]);
-    assert_eq!(rt;
-        listed(alloc, &sparse)?.as_slice(),
-        [1970, 2033, 2096].as_slice()
-    );
-    let late: Years = set_of(&[Item::Stepped(Base::Single(2098), 2)]);
-    assert_eq!(rt; listed(alloc, &late)?.as_slice(), [2098, 2100].as_slice());
-    let first: Years = set_of(&[Item::Stepped(Base::Every, 2100)]);
-    assert_eq!(rt; listed(alloc, &first)?.as_slice(), [1970].as_slice());
-    Ok(())
+    check_years(&rt, Item::Stepped(Base::Every, 63), &[1970, 2033, 2096])?;
+    check_years(&rt, Item::Stepped(Base::Single(2098), 2), &[2098, 2100])?;
+    check_years(&rt, Item::Stepped(Base::Every, 2100), &[1970])
 }
 
 #[test]
