@@ -1,8 +1,7 @@
 //! Sources, clones and equalities of schedules, and what a schedule includes.
 
-use crate::support::{check_same, check_text, cut};
+use crate::support::{check, check_included, check_rows, check_same, check_text, cut};
 use cron::Schedule;
-use jiff::civil::DateTime;
 use std::process::Abort;
 use std::test::Fail;
 
@@ -36,7 +35,7 @@ fn check_pair(rt: &(impl Abort + AllocGlobal), row: &str) -> Result<(), Fail> {
 
 #[test]
 fn equalities(rt: HostRuntime) -> Result<(), Fail> {
-    assert_eq!(rt; PAIRS.lines().count(), 3);
+    check_rows(&rt, PAIRS, 3);
     for row in PAIRS.lines() {
         check_pair(&rt, row)?;
     }
@@ -57,10 +56,8 @@ fn check_clone(
     text: &str,
 ) -> Result<(), Fail> {
     let copy = schedule.clone()?;
-    assert!(rt;
-        copy == *schedule && copy.timeunitspec_eq(schedule),
-        "{text}"
-    );
+    let is_equal = copy == *schedule && copy.timeunitspec_eq(schedule);
+    check(rt, is_equal, text);
     check_text(rt, &copy, text, "of a clone")?;
     check_given_up(rt, copy, text, "of a clone");
     Ok(())
@@ -92,20 +89,18 @@ const INCLUDED: &str = "\
 * * * * * * | 2101-01-01 00:00:00 | false
 * * * * * * | -000044-03-15 00:00:00 | false";
 
-fn check_included(rt: &(impl Abort + AllocGlobal), row: &str) -> Result<(), Fail> {
+fn check_included_row(rt: &(impl Abort + AllocGlobal), row: &str) -> Result<(), Fail> {
     let (expression, rest) = cut(row)?;
     let (shown, wanted) = cut(rest)?;
-    let shown = shown.parse::<DateTime>()?;
     let schedule = Schedule::from_str(rt.alloc(), expression)?;
-    assert!(rt; schedule.includes(shown) == (wanted == "true"), "row {row}");
-    Ok(())
+    check_included(rt, &schedule, shown, wanted == "true")
 }
 
 #[test]
 fn included_datetimes(rt: HostRuntime) -> Result<(), Fail> {
-    assert_eq!(rt; INCLUDED.lines().count(), 7);
+    check_rows(&rt, INCLUDED, 7);
     for row in INCLUDED.lines() {
-        check_included(&rt, row)?;
+        check_included_row(&rt, row)?;
     }
     Ok(())
 }

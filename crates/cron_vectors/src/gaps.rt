@@ -1,9 +1,9 @@
 //! Walks over gaps of a day and longer, ahead and back. The civil seconds and the offsets are counted by hand.
 
-use crate::support::number;
+use crate::support::{check, number};
 use crate::zone_files::read_file;
-use cron::Schedule;
 use cron::schedule::Moment;
+use cron::{Schedule, ScheduleIterator};
 use jiff::Timestamp;
 use jiff::tz::TimeZone;
 use std::process::Abort;
@@ -24,9 +24,34 @@ fn check_item(
     offset: i32,
 ) -> Result<(), Fail> {
     let moment = moment.ok_or("nothing is answered")?;
-    let (told, wanted) = (number(moment.datetime())?, number(shown.parse()?)?);
-    assert_eq!(rt; told, wanted, "for {shown}");
-    assert_eq!(rt; moment.offset().seconds(), offset, "at {shown}");
+    let wanted = number(shown.parse()?)?;
+    check(rt, number(moment.datetime())? == wanted, shown);
+    check(rt, moment.offset().seconds() == offset, shown);
+    Ok(())
+}
+
+// A walk answers these items.
+fn check_ahead(
+    rt: &impl Abort,
+    walk: &mut ScheduleIterator<'_>,
+    items: &[(&str, i32)],
+) -> Result<(), Fail> {
+    for (shown, offset) in items.iter() {
+        check_item(rt, walk.next(), shown, *offset)?;
+    }
+    Ok(())
+}
+
+// From the last of these items a walk answers the ones before it.
+fn check_back(
+    rt: &impl Abort,
+    walk: &mut ScheduleIterator<'_>,
+    items: &[(&str, i32)],
+) -> Result<(), Fail> {
+    let (_, earlier) = items.split_last().ok_or("a walk has no items")?;
+    for (shown, offset) in earlier.iter().rev() {
+        check_item(rt, walk.next_back(), shown, *offset)?;
+    }
     Ok(())
 }
 
@@ -38,68 +63,80 @@ fn check_walk(
     start: &str,
     items: &[(&str, i32)],
 ) -> Result<(), Fail> {
+    let start = start.parse::<Timestamp>()?;
     let schedule = Schedule::from_str(rt.alloc(), text)?;
-    let mut walk = schedule.after(start.parse::<Timestamp>()?, zone);
-    for (shown, offset) in items.iter() {
-        check_item(rt, walk.next(), shown, *offset)?;
-    }
-    for (shown, offset) in items.iter().rev().skip(1) {
-        check_item(rt, walk.next_back(), shown, *offset)?;
-    }
-    Ok(())
+    let mut walk = schedule.after(start, zone);
+    check_ahead(rt, &mut walk, items)?;
+    check_back(rt, &mut walk, items)
+}
+
+// The noons, the seconds and the firsts of a month around the skipped day, with their offsets.
+const NOONS: &[(&str, i32)] = &[
+    ("2020-02-29T12:00:00", 0),
+    ("2020-03-02T12:00:00", 86_400),
+    ("2020-03-03T12:00:00", 86_400),
+];
+
+const SECONDS: &[(&str, i32)] = &[
+    ("2020-02-29T23:59:58", 0),
+    ("2020-02-29T23:59:59", 0),
+    ("2020-03-02T00:00:00", 86_400),
+    ("2020-03-02T00:00:01", 86_400),
+];
+
+const FIRSTS: &[(&str, i32)] = &[
+    ("2020-02-01T00:00:00", 0),
+    ("2020-04-01T00:00:00", 86_400),
+    ("2020-05-01T00:00:00", 86_400),
+];
+
+fn check_skipped_day(rt: &(impl Abort + AllocGlobal), zone: &TimeZone<'_>) -> Result<(), Fail> {
+    check_walk(rt, "0 0 12 * * *", zone, "2020-02-28T12:00:00Z", NOONS)?;
+    check_walk(rt, "* * * * * *", zone, "2020-02-29T23:59:57Z", SECONDS)?;
+    check_walk(rt, "0 0 0 1 * ?", zone, "2020-01-15T00:00:00Z", FIRSTS)
 }
 
 #[test]
 fn a_day_that_is_skipped(rt: HostRuntime) -> Result<(), Fail> {
-    let file = read_file(
-        rt.alloc(),
-        86_400,
-        "2020-03-01T00:00:00Z",
-        "2020-06-01T00:00:00Z",
-    )?;
-    let zone = TimeZone::tzif(&file);
-    let daily = [
-        ("2020-02-29T12:00:00", 0),
-        ("2020-03-02T12:00:00", 86_400),
-        ("2020-03-03T12:00:00", 86_400),
-    ];
-    check_walk(&rt, "0 0 12 * * *", &zone, "2020-02-28T12:00:00Z", &daily)?;
-    let seconds = [
-        ("2020-02-29T23:59:58", 0),
-        ("2020-02-29T23:59:59", 0),
-        ("2020-03-02T00:00:00", 86_400),
-        ("2020-03-02T00:00:01", 86_400),
-    ];
-    check_walk(&rt, "* * * * * *", &zone, "2020-02-29T23:59:57Z", &seconds)?;
-    let firsts = [
-        ("2020-02-01T00:00:00", 0),
-        ("2020-04-01T00:00:00", 86_400),
-        ("2020-05-01T00:00:00", 86_400),
-    ];
-    check_walk(&rt, "0 0 0 1 * ?", &zone, "2020-01-15T00:00:00Z", &firsts)
+    let (first, second) = ("2020-03-01T00:00:00Z", "2020-06-01T00:00:00Z");
+    let file = read_file(rt.alloc(), 86_400, first, second)?;
+    check_skipped_day(&rt, &TimeZone::tzif(&file))
 }
+
+// The quarters of days around the two skipped days, and the seconds at their edges.
+const QUARTERS: &[(&str, i32)] = &[
+    ("2020-04-09T00:00:00", BEFORE),
+    ("2020-04-09T06:00:00", BEFORE),
+    ("2020-04-09T12:00:00", BEFORE),
+    ("2020-04-09T18:00:00", BEFORE),
+    ("2020-04-12T06:00:00", AFTER),
+    ("2020-04-12T12:00:00", AFTER),
+    ("2020-04-12T18:00:00", AFTER),
+    ("2021-04-09T00:00:00", BEFORE),
+];
+
+const EDGES: &[(&str, i32)] = &[
+    ("2020-04-09T23:59:59", BEFORE),
+    ("2020-04-12T01:59:58", AFTER),
+    ("2020-04-12T01:59:59", AFTER),
+];
 
 #[test]
 fn two_days_that_are_skipped_each_year(rt: HostRuntime) -> Result<(), Fail> {
     let zone = TimeZone::posix(TWO_DAYS)?;
-    let quarters = [
-        ("2020-04-09T00:00:00", BEFORE),
-        ("2020-04-09T06:00:00", BEFORE),
-        ("2020-04-09T12:00:00", BEFORE),
-        ("2020-04-09T18:00:00", BEFORE),
-        ("2020-04-12T06:00:00", AFTER),
-        ("2020-04-12T12:00:00", AFTER),
-        ("2020-04-12T18:00:00", AFTER),
-        ("2021-04-09T00:00:00", BEFORE),
-    ];
-    let start = "2020-04-01T00:00:00Z";
-    check_walk(&rt, "0 0 */6 9-12 4 ?", &zone, start, &quarters)?;
-    let edges = [
-        ("2020-04-09T23:59:59", BEFORE),
-        ("2020-04-12T01:59:58", AFTER),
-        ("2020-04-12T01:59:59", AFTER),
-    ];
-    check_walk(&rt, "* * * * * ?", &zone, "2020-04-11T00:59:57Z", &edges)
+    let april = "2020-04-01T00:00:00Z";
+    check_walk(&rt, "0 0 */6 9-12 4 ?", &zone, april, QUARTERS)?;
+    check_walk(&rt, "* * * * * ?", &zone, "2020-04-11T00:59:57Z", EDGES)
+}
+
+// No walk answers an item.
+fn check_nothing(rt: &impl Abort, schedule: &Schedule, start: Timestamp, zone: &TimeZone<'_>) {
+    check(rt, schedule.after(start, zone).next().is_none(), "ahead");
+    check(
+        rt,
+        schedule.after(start, zone).next_back().is_none(),
+        "back",
+    );
 }
 
 #[test]
@@ -107,7 +144,6 @@ fn gaps_in_which_each_match_lies(rt: HostRuntime) -> Result<(), Fail> {
     let zone = TimeZone::posix(TWO_DAYS)?;
     let schedule = Schedule::from_str(rt.alloc(), "* * * 10,11 4 ?")?;
     let start = "2020-01-01T00:00:00Z".parse::<Timestamp>()?;
-    assert!(rt; schedule.after(start, &zone).next().is_none());
-    assert!(rt; schedule.after(start, &zone).next_back().is_none());
+    check_nothing(&rt, &schedule, start, &zone);
     Ok(())
 }

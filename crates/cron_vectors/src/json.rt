@@ -1,6 +1,6 @@
 //! Schedules as JSON strings.
 
-use crate::support::{check_text, cut};
+use crate::support::{check, check_rows, check_text, cut};
 use cron::Schedule;
 use serde_json::Value;
 use std::process::Abort;
@@ -28,7 +28,7 @@ fn check_read(
 ) -> Result<(), Fail> {
     let read = Schedule::from_value(rt.alloc(), value)?;
     let is_equal = read == *schedule && read.timeunitspec_eq(schedule);
-    assert!(rt; is_equal, "row {row}");
+    check(rt, is_equal, row);
     Ok(())
 }
 
@@ -52,7 +52,7 @@ fn check_kept(rt: &(impl Abort + AllocGlobal), row: &str) -> Result<(), Fail> {
 
 #[test]
 fn a_schedule_is_its_source(rt: HostRuntime) -> Result<(), Fail> {
-    assert_eq!(rt; KEPT.lines().count(), 2);
+    check_rows(&rt, KEPT, 2);
     for row in KEPT.lines() {
         check_kept(&rt, row)?;
     }
@@ -80,7 +80,7 @@ fn check_refused(rt: &(impl Abort + AllocGlobal), row: &str) -> Result<(), Fail>
 
 #[test]
 fn refused_values(rt: HostRuntime) -> Result<(), Fail> {
-    assert_eq!(rt; REFUSED.lines().count(), 5);
+    check_rows(&rt, REFUSED, 5);
     for row in REFUSED.lines() {
         check_refused(&rt, row)?;
     }

@@ -2,7 +2,9 @@
 
 use crate::month_lengths::last_days;
 use crate::slow_twin::check_day;
-use crate::support::{check_same, check_text, chicago, cut};
+use crate::support::{
+    check, check_included, check_rows, check_same, check_survey, check_text, chicago, cut,
+};
 use cron::queries::Survey;
 use cron::schedule::{Moment, Turn};
 use cron::time_unit::DaysOfMonth;
@@ -35,9 +37,10 @@ fn check_midnight(
     wanted: &str,
     row: &str,
 ) -> Result<(), Fail> {
-    assert_eq!(rt; moment.datetime().time(), Time::midnight(), "row {row}");
-    assert_eq!(rt; moment.offset(), Offset::UTC, "row {row}");
-    check_text(rt, &moment.datetime().date(), wanted, row)
+    let datetime = moment.datetime();
+    check(rt, datetime.time() == Time::midnight(), row);
+    check(rt, moment.offset() == Offset::UTC, row);
+    check_text(rt, &datetime.date(), wanted, row)
 }
 
 fn check_date(
@@ -77,14 +80,15 @@ fn check_answers(
     let turns = turns.get(..wanted.split(' ').count());
     let turns = turns.ok_or("a row has more than four answers")?;
     let answers = walk.play(rt.alloc(), turns)?;
-    assert_eq!(rt; answers.len(), turns.len(), "row {row}");
+    check(rt, answers.len() == turns.len(), row);
     check_dates(rt, answers.as_slice(), wanted, row)
 }
 
 fn turn_of(way: &str) -> Turn {
-    match way {
-        "next" => Turn::Next,
-        _ => Turn::NextBack,
+    if way == "next" {
+        Turn::Next
+    } else {
+        Turn::NextBack
     }
 }
 
@@ -100,7 +104,7 @@ fn check_walk(rt: &(impl Abort + AllocGlobal), row: &str) -> Result<(), Fail> {
 
 #[test]
 fn walks_over_last_days(rt: HostRuntime) -> Result<(), Fail> {
-    assert_eq!(rt; WALKS.lines().count(), 10);
+    check_rows(&rt, WALKS, 10);
     for row in WALKS.lines() {
         check_walk(&rt, row)?;
     }
@@ -132,7 +136,7 @@ fn check_refused(rt: &(impl Abort + AllocGlobal), row: &str) -> Result<(), Fail>
 
 #[test]
 fn no_other_use_of_the_word(rt: HostRuntime) -> Result<(), Fail> {
-    assert_eq!(rt; REFUSED.lines().count(), 12);
+    check_rows(&rt, REFUSED, 12);
     for row in REFUSED.lines() {
         check_refused(&rt, row)?;
     }
@@ -184,14 +188,14 @@ fn check_days_of(rt: &(impl Abort + AllocGlobal), row: &str) -> Result<(), Fail>
 // All days are numbered, and the last one isn't marked.
 fn check_all_days_of(rt: &(impl Abort + AllocGlobal), text: &str) -> Result<(), Fail> {
     let schedule = Schedule::from_str(rt.alloc(), text)?;
-    assert!(rt; !schedule.days_of_month().last_day(), "{text}");
-    assert!(rt; schedule.days_of_month().is_all(), "{text}");
+    let days = schedule.days_of_month();
+    check(rt, !days.last_day() && days.is_all(), text);
     Ok(())
 }
 
 #[test]
 fn views_are_of_numbered_days(rt: HostRuntime) -> Result<(), Fail> {
-    assert_eq!(rt; DAYS.lines().count(), 7);
+    check_rows(&rt, DAYS, 7);
     for row in DAYS.lines() {
         check_days_of(&rt, row)?;
     }
@@ -200,22 +204,12 @@ fn views_are_of_numbered_days(rt: HostRuntime) -> Result<(), Fail> {
     check_all_days_of(&rt, "0 0 0 ? * Mon")
 }
 
-fn check_included(
-    rt: &impl Abort,
-    schedule: &Schedule,
-    shown: &str,
-    wanted: bool,
-) -> Result<(), Fail> {
-    let datetime = shown.parse()?;
-    assert!(rt; schedule.includes(datetime) == wanted, "{shown}");
-    Ok(())
-}
-
 // The midnight of the last day of January.
 fn check_january(rt: &impl Abort, schedule: &Schedule) -> Result<(), Fail> {
-    assert!(rt; schedule.hours().includes(0) && schedule.hours().count() == 1);
-    assert!(rt; schedule.months().includes(1) && schedule.months().count() == 1);
-    assert!(rt; schedule.days_of_week().is_all());
+    let (hours, months) = (schedule.hours(), schedule.months());
+    check(rt, hours.includes(0) && hours.count() == 1, "hours");
+    check(rt, months.includes(1) && months.count() == 1, "months");
+    check(rt, schedule.days_of_week().is_all(), "days of the week");
     check_included(rt, schedule, "2024-01-31T00:00:00", true)?;
     check_included(rt, schedule, "2024-01-30T00:00:00", false)
 }
@@ -257,7 +251,7 @@ fn check_pair(rt: &(impl Abort + AllocGlobal), row: &str) -> Result<(), Fail> {
 
 #[test]
 fn equal_days_have_equal_marks(rt: HostRuntime) -> Result<(), Fail> {
-    assert_eq!(rt; PAIRS.lines().count(), 6);
+    check_rows(&rt, PAIRS, 6);
     for row in PAIRS.lines() {
         check_pair(&rt, row)?;
     }
@@ -270,7 +264,7 @@ fn check_alike_ahead(
     marked: &mut ScheduleIterator<'_>,
 ) {
     for _ in 0..400 {
-        assert!(rt; walk.next() == marked.next());
+        check(rt, walk.next() == marked.next(), "ahead");
     }
 }
 
@@ -280,7 +274,7 @@ fn check_alike_back(
     marked: &mut ScheduleIterator<'_>,
 ) {
     for _ in 0..800 {
-        assert!(rt; walk.next_back() == marked.next_back());
+        check(rt, walk.next_back() == marked.next_back(), "back");
     }
 }
 
@@ -314,7 +308,7 @@ fn check_last_days_ahead(
     for day in days {
         check_answer(rt, walk.next(), day.as_str())?;
     }
-    assert!(rt; walk.next().is_none());
+    check(rt, walk.next().is_none(), "past the last one");
     Ok(())
 }
 
@@ -326,7 +320,7 @@ fn check_last_days_back(
     for day in days.iter().rev() {
         check_answer(rt, walk.next_back(), day.as_str())?;
     }
-    assert!(rt; walk.next_back().is_none());
+    check(rt, walk.next_back().is_none(), "before the first one");
     Ok(())
 }
 
@@ -341,29 +335,26 @@ fn check_last_days(rt: &(impl Abort + AllocGlobal), days: &[String]) -> Result<(
 #[test]
 fn the_last_day_of_each_month(rt: HostRuntime) -> Result<(), Fail> {
     let days = last_days(rt.alloc())?;
-    assert_eq!(rt; days.len(), 1_572);
+    check(&rt, days.len() == 1_572, "months of the range");
     check_last_days(&rt, days.as_slice())
 }
 
 #[test]
 fn last_days_are_candidates(rt: HostRuntime) -> Result<(), Fail> {
-    let schedule = Schedule::from_str(rt.alloc(), "0 0 0 L * Fri 2024")?;
-    let wanted = Survey {
+    let from = "2024-01-01T00:00:00";
+    let fridays = Survey {
         seconds: 1,
         days: 5,
         conversions: 1,
     };
-    let from = "2024-01-01T00:00:00".parse()?;
-    assert_eq!(rt; schedule.survey(from, &TimeZone::UTC, 1), wanted);
+    check_survey(&rt, "0 0 0 L * Fri 2024", &TimeZone::UTC, from, 1, fridays)?;
     // The day of the first answer is a candidate of both searches.
-    let schedule = Schedule::from_str(rt.alloc(), "0 0 0 31,L 2,3 ? 2024")?;
-    let wanted = Survey {
+    let two = Survey {
         seconds: 2,
         days: 3,
         conversions: 2,
     };
-    assert_eq!(rt; schedule.survey(from, &TimeZone::UTC, 2), wanted);
-    Ok(())
+    check_survey(&rt, "0 0 0 31,L 2,3 ? 2024", &TimeZone::UTC, from, 2, two)
 }
 
 #[test]

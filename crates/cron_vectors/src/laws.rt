@@ -1,6 +1,6 @@
 //! The laws that a program can call.
 
-use crate::support::{check_same, check_text, chicago, cut};
+use crate::support::{check, check_rows, check_same, check_text, chicago, cut};
 use cron::schedule::{Moment, Turn};
 use cron::{Schedule, laws};
 use jiff::Timestamp;
@@ -10,13 +10,17 @@ use std::fmt::Write;
 use std::process::Abort;
 use std::test::Fail;
 
+fn push_answer(text: &mut String, answer: Option<Moment>) -> Result<(), AllocError> {
+    match answer {
+        Some(moment) => write!(text, "{moment}, "),
+        None => text.push_str("None, "),
+    }
+}
+
 fn listed(alloc: Global, answers: &[Option<Moment>]) -> Result<String, AllocError> {
     let mut text = String::new(alloc);
     for answer in answers {
-        match answer {
-            Some(moment) => write!(text, "{moment}, ")?,
-            None => text.push_str("None, ")?,
-        }
+        push_answer(&mut text, *answer)?;
     }
     Ok(text)
 }
@@ -78,10 +82,8 @@ fn check_reread(
 ) -> Result<(), Fail> {
     let again = laws::reread(rt.alloc(), schedule)?;
     laws::equal_sets(schedule, &again);
-    assert!(rt;
-        again == *schedule && again.timeunitspec_eq(schedule),
-        "{text}"
-    );
+    let is_equal = again == *schedule && again.timeunitspec_eq(schedule);
+    check(rt, is_equal, text);
     Ok(())
 }
 
@@ -165,7 +167,7 @@ fn check_first_by_rule(rt: &(impl Abort + AllocGlobal), row: &str) -> Result<(),
 
 #[test]
 fn first_instants_by_rule(rt: HostRuntime) -> Result<(), Fail> {
-    assert_eq!(rt; FIRST_BY_RULE.lines().count(), 2);
+    check_rows(&rt, FIRST_BY_RULE, 2);
     for row in FIRST_BY_RULE.lines() {
         check_first_by_rule(&rt, row)?;
     }
@@ -174,7 +176,7 @@ fn first_instants_by_rule(rt: HostRuntime) -> Result<(), Fail> {
 
 #[test]
 fn first_instants(rt: HostRuntime) -> Result<(), Fail> {
-    assert_eq!(rt; FIRST.lines().count(), 4);
+    check_rows(&rt, FIRST, 4);
     for row in FIRST.lines() {
         check_first(&rt, row)?;
     }

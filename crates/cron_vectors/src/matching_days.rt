@@ -1,6 +1,6 @@
 //! A slow twin of the days that walks answer: each day of a stretch is asked by itself.
 
-use crate::support::shown;
+use crate::support::{check, shown};
 use cron::Schedule;
 use cron::schedule::Moment;
 use jiff::Timestamp;
@@ -75,7 +75,7 @@ fn check_midnight(
     text: &str,
 ) -> Result<(), Fail> {
     let moment = answer.ok_or("the walk ends early")?;
-    assert_eq!(rt; moment.datetime(), wanted, "{text}");
+    check(rt, moment.datetime() == wanted, text);
     Ok(())
 }
 

@@ -137,13 +137,9 @@ const PAST_THE_28TH: &str = "\
 2100 303232332323";
 
 // The last day of a month, by how many days it has past the 28th.
-fn last_day(past: char) -> &'static str {
-    match past {
-        '0' => "28",
-        '1' => "29",
-        '2' => "30",
-        _ => "31",
-    }
+fn last_day(past: char) -> u32 {
+    let past = past.to_digit(10).unwrap_or(0);
+    past.saturating_add(28)
 }
 
 // The last days of the months of a year.

@@ -3,7 +3,7 @@
 //! slow twin.
 
 use crate::slow_twin::check_day;
-use crate::support::{cut, number, shown};
+use crate::support::{check, check_rows, cut, number, shown};
 use crate::zone_files::read_file;
 use cron::error::Error;
 use cron::queries::Search;
@@ -73,9 +73,33 @@ fn check_is_at(
     Ok(())
 }
 
-fn check_found(rt: &impl Abort, search: Search, wanted: Reading) -> Result<(), Fail> {
+// A search past a gap asks the zone for each of its seconds, and for the one that it finds.
+fn check_found(rt: &impl Abort, search: Search, gap: Stretch, wanted: Reading) -> Result<(), Fail> {
+    assert_eq!(rt; search.conversions, u64::from(gap.length) + 1);
     let found = search.found.ok_or("nothing is found")?;
     check_is_at(rt, Some(found.first), wanted.second, wanted.offset)
+}
+
+fn check_gap_ahead(
+    rt: &impl Abort,
+    every: &Schedule,
+    zone: &TimeZone<'_>,
+    gap: Stretch,
+) -> Result<(), Fail> {
+    let search = every.first_at_or_after(shown(gap.first)?, zone);
+    check_found(rt, search, gap, Reading::new(past(gap), gap.after))
+}
+
+fn check_gap_back(
+    rt: &impl Abort,
+    every: &Schedule,
+    zone: &TimeZone<'_>,
+    gap: Stretch,
+) -> Result<(), Fail> {
+    let last = past(gap).saturating_sub(1);
+    let search = every.last_at_or_before(shown(last)?, zone);
+    let before = gap.first.saturating_sub(1);
+    check_found(rt, search, gap, Reading::new(before, gap.before))
 }
 
 // The searches pass each second of a gap, and count it.
@@ -84,16 +108,9 @@ fn check_gap(
     zone: &TimeZone<'_>,
     gap: Stretch,
 ) -> Result<(), Fail> {
-    let (past, before) = (past(gap), gap.first.saturating_sub(1));
-    let (first, last) = (shown(gap.first)?, shown(past.saturating_sub(1))?);
-    let asked = u64::from(gap.length) + 1;
     let every = Schedule::from_str(rt.alloc(), "* * * * * *")?;
-    let ahead = every.first_at_or_after(first, zone);
-    let back = every.last_at_or_before(last, zone);
-    assert_eq!(rt; ahead.conversions, asked);
-    assert_eq!(rt; back.conversions, asked);
-    check_found(rt, ahead, Reading::new(past, gap.after))?;
-    check_found(rt, back, Reading::new(before, gap.before))
+    check_gap_ahead(rt, &every, zone, gap)?;
+    check_gap_back(rt, &every, zone, gap)
 }
 
 // A civil second by its number, and an offset.
@@ -109,13 +126,24 @@ impl Reading {
     }
 }
 
+// Adds two readings of one second.
+fn push_both(
+    readings: &mut Vec<Reading>,
+    second: i64,
+    one: i32,
+    other: i32,
+) -> Result<(), AllocError> {
+    readings.push(Reading::new(second, one))?;
+    readings.push(Reading::new(second, other))?;
+    Ok(())
+}
+
 // Both readings of each second of a fold, and the second after it.
 fn readings_ahead(alloc: Global, fold: Stretch) -> Result<Vec<Reading>, Fail> {
     let (past, before, after) = (past(fold), fold.before, fold.after);
     let mut readings = Vec::new(alloc);
     for second in fold.first..past {
-        readings.push(Reading::new(second, before))?;
-        readings.push(Reading::new(second, after))?;
+        push_both(&mut readings, second, before, after)?;
     }
     readings.push(Reading::new(past, after))?;
     Ok(readings)
@@ -125,8 +153,7 @@ fn readings_ahead(alloc: Global, fold: Stretch) -> Result<Vec<Reading>, Fail> {
 fn readings_both_ways(alloc: Global, fold: Stretch) -> Result<Vec<Reading>, Fail> {
     let mut readings = readings_ahead(alloc, fold)?;
     for second in (fold.first..past(fold)).rev() {
-        readings.push(Reading::new(second, fold.after))?;
-        readings.push(Reading::new(second, fold.before))?;
+        push_both(&mut readings, second, fold.after, fold.before)?;
     }
     let last = fold.first.saturating_sub(1);
     readings.push(Reading::new(last, fold.before))?;
@@ -158,7 +185,7 @@ fn check_answers(
     answers: &[Option<Moment>],
     readings: &[Reading],
 ) -> Result<(), Fail> {
-    assert_eq!(rt; answers.len(), readings.len());
+    check(rt, answers.len() == readings.len(), "as many answers");
     for (answer, reading) in answers.iter().zip(readings.iter()) {
         check_is_at(rt, *answer, reading.second, reading.offset)?;
     }
@@ -201,15 +228,20 @@ fn check_days(
     Ok(())
 }
 
+fn read_offsets(row: &str) -> Result<(i32, i32), Fail> {
+    let (before, after) = cut(row)?;
+    Ok((before.parse()?, after.parse()?))
+}
+
 fn read_stretch(row: &str) -> Result<Stretch, Fail> {
     let (from, row) = cut(row)?;
     let (length, row) = cut(row)?;
-    let (before, after) = cut(row)?;
+    let (before, after) = read_offsets(row)?;
     Ok(Stretch {
         first: number(from.parse()?)?,
         length: length.parse()?,
-        before: before.parse()?,
-        after: after.parse()?,
+        before,
+        after,
     })
 }
 
@@ -237,7 +269,7 @@ fn check_fold_of(
 
 #[test]
 fn gaps_of_rules(rt: HostRuntime) -> Result<(), Fail> {
-    assert_eq!(rt; GAPS.lines().count(), 7);
+    check_rows(&rt, GAPS, 7);
     for row in GAPS.lines() {
         let (rule, row) = cut(row)?;
         check_gap_of(&rt, &TimeZone::posix(rule)?, row)?;
@@ -247,7 +279,7 @@ fn gaps_of_rules(rt: HostRuntime) -> Result<(), Fail> {
 
 #[test]
 fn folds_of_rules(rt: HostRuntime) -> Result<(), Fail> {
-    assert_eq!(rt; FOLDS.lines().count(), 7);
+    check_rows(&rt, FOLDS, 7);
     for row in FOLDS.lines() {
         let (rule, row) = cut(row)?;
         check_fold_of(&rt, &TimeZone::posix(rule)?, row)?;

@@ -1,6 +1,6 @@
 //! How many members of sets a time of day is looked for among: rows counted apart from the library.
 
-use crate::support::cut;
+use crate::support::{check_rows, cut};
 use cron::Schedule;
 use cron::queries::TimeFound;
 use cron::time_unit::Ordinal;
@@ -79,27 +79,36 @@ fn wanted(row: &str) -> Result<TimeFound, Fail> {
     })
 }
 
+// The first time from a time, or the last one up to it.
+fn found(schedule: &Schedule, which: &str, from: Time) -> TimeFound {
+    let hour = from.hour() as Ordinal;
+    let minute = from.minute() as Ordinal;
+    let second = from.second() as Ordinal;
+    if which == "first" {
+        schedule.first_time(hour, minute, second)
+    } else {
+        schedule.last_time(hour, minute, second)
+    }
+}
+
+fn check_found(rt: &impl Abort, found: TimeFound, wanted: TimeFound, row: &str) {
+    assert_eq!(rt; found, wanted, "row {row}");
+}
+
 fn check_row(rt: &(impl Abort + AllocGlobal), row: &str) -> Result<(), Fail> {
     let (text, rest) = cut(row)?;
     let (which, rest) = cut(rest)?;
     let (from, rest) = cut(rest)?;
-    let schedule = Schedule::from_str(rt.alloc(), text)?;
     let from: Time = from.parse()?;
-    let hour = from.hour() as Ordinal;
-    let minute = from.minute() as Ordinal;
-    let second = from.second() as Ordinal;
-    let found = if which == "first" {
-        schedule.first_time(hour, minute, second)
-    } else {
-        schedule.last_time(hour, minute, second)
-    };
-    assert_eq!(rt; found, wanted(rest)?, "row {row}");
+    let wanted = wanted(rest)?;
+    let schedule = Schedule::from_str(rt.alloc(), text)?;
+    check_found(rt, found(&schedule, which, from), wanted, row);
     Ok(())
 }
 
 #[test]
 fn so_many_members_are_asked_for(rt: HostRuntime) -> Result<(), Fail> {
-    assert_eq!(rt; ROWS.lines().count(), 44);
+    check_rows(&rt, ROWS, 44);
     for row in ROWS.lines() {
         check_row(&rt, row)?;
     }

@@ -1,6 +1,6 @@
 //! Walks that are resumed from an item.
 
-use crate::support::{check_same, check_text, chicago};
+use crate::support::{check, check_same, check_text, chicago};
 use cron::Schedule;
 use cron::schedule::Moment;
 use jiff::tz::{Offset, TimeZone};
@@ -101,7 +101,7 @@ fn an_item_of_another_schedule_or_zone_is_none_here(rt: HostRuntime) -> Result<(
 #[test]
 fn parts_make_a_moment_of_the_range_alone(rt: HostRuntime) -> Result<(), Fail> {
     let first = moment("1970-01-01T00:00:00", 0)?;
-    assert_eq!(rt; first.timestamp().as_second(), 0);
+    check(&rt, first.timestamp().as_second() == 0, "the first moment");
     for shown in [
         "1969-12-31T23:59:59",
         "2101-01-01T00:00:00",
@@ -109,7 +109,7 @@ fn parts_make_a_moment_of_the_range_alone(rt: HostRuntime) -> Result<(), Fail> {
         "-000044-03-15T00:00:00",
     ] {
         let made = Moment::from_parts(shown.parse()?, Offset::UTC);
-        assert!(rt; made.is_none(), "{shown}");
+        check(&rt, made.is_none(), shown);
     }
     Ok(())
 }

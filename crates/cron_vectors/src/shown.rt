@@ -1,6 +1,6 @@
 //! Texts of errors, and of a schedule whose source is long.
 
-use crate::support::check_text;
+use crate::support::{check, check_text};
 use cron::Schedule;
 use cron::error::{Error, ErrorKind};
 use std::alloc::{AllocError, Global};
@@ -14,14 +14,18 @@ fn check_message(rt: &(impl Abort + AllocGlobal), text: &str) -> Result<(), Fail
     check_text(rt, &error, text, text)
 }
 
+fn check_out_of_memory(rt: &(impl Abort + AllocGlobal), error: &Error) -> Result<(), Fail> {
+    let is_its_kind = matches!(error.kind(), ErrorKind::OutOfMemory);
+    check(rt, is_its_kind, "of memory");
+    check_text(rt, error, "out of memory", "of memory")
+}
+
 #[test]
 fn each_kind_of_error(rt: HostRuntime) -> Result<(), Fail> {
     check_message(&rt, "")?;
     check_message(&rt, "Invalid cron expression.")?;
     check_message(&rt, "'Foo' is not a valid month name.")?;
-    let error = Error::from(ErrorKind::OutOfMemory);
-    assert!(rt; matches!(error.kind(), ErrorKind::OutOfMemory));
-    check_text(&rt, &error, "out of memory", "of memory")
+    check_out_of_memory(&rt, &Error::from(ErrorKind::OutOfMemory))
 }
 
 // A text of 100,000 bytes.
@@ -43,10 +47,11 @@ fn gives_up(schedule: Schedule, text: &str) -> bool {
 }
 
 fn check_long(rt: &(impl Abort + AllocGlobal), text: &str) -> Result<(), Fail> {
-    assert_eq!(rt; text.len(), 100_000);
+    check(rt, text.len() == 100_000, "the length");
     let schedule = Schedule::from_str(rt.alloc(), text)?;
-    assert!(rt; prints(rt.alloc(), &schedule, text)?);
-    assert!(rt; gives_up(schedule, text));
+    let prints = prints(rt.alloc(), &schedule, text)?;
+    let gives_up = gives_up(schedule, text);
+    check(rt, prints && gives_up, "the source");
     Ok(())
 }
 

@@ -1,7 +1,7 @@
 //! A slow twin of the searches and of the walks: it asks the schedule about one civil second after
 //! another, and the zone for the readings of each that is included.
 
-use crate::support::{chicago, number, shown};
+use crate::support::{check, chicago, number, shown};
 use cron::Schedule;
 use cron::schedule::Moment;
 use jiff::civil::{Date, DateTime, Time};
@@ -175,7 +175,7 @@ fn check_found(
     match readings.get(index.saturating_add(1)) {
         Some(later) if later.datetime == wanted.datetime => check_answer(rt, second, *later),
         _ => {
-            assert!(rt; second.is_none());
+            check(rt, second.is_none(), "a second reading");
             Ok(())
         }
     }

@@ -18,7 +18,7 @@ const SPANS: [(&str, i64, i64); 5] = [
 ];
 
 // Ends of months and years, leap days, and the ends of the range of years.
-const DATES: [&str; 10] = [
+const DATES: &[&str] = &[
     "1970-01-02",
     "1999-12-31",
     "2000-02-29",
@@ -31,7 +31,7 @@ const DATES: [&str; 10] = [
     "2100-12-31",
 ];
 
-const CHICAGO: [&str; 10] = [
+const CHICAGO: &[&str] = &[
     "2007-03-11",
     "2007-11-04",
     "2012-03-11",
@@ -44,7 +44,7 @@ const CHICAGO: [&str; 10] = [
     "2030-11-03",
 ];
 
-const LONDON: [&str; 10] = [
+const LONDON: &[&str] = &[
     "2007-03-25",
     "2007-10-28",
     "2012-03-25",
@@ -74,7 +74,7 @@ fn check_around(
 fn check_dates(
     rt: &(impl Abort + AllocGlobal),
     zone: &TimeZone<'_>,
-    dates: [&str; 10],
+    dates: &[&str],
 ) -> Result<(), Fail> {
     for date in dates {
         check_around(rt, zone, date)?;

@@ -1,6 +1,6 @@
 //! Times of day, and surveys of many searches.
 
-use crate::support::chicago;
+use crate::support::{check_survey, chicago};
 use cron::Schedule;
 use cron::queries::{Survey, TimeFound};
 use cron::time_unit::Ordinal;
@@ -20,6 +20,11 @@ fn check_questions(rt: &impl Abort, found: TimeFound) {
     );
 }
 
+fn check_found(rt: &impl Abort, found: TimeFound, wanted: Option<Time>) {
+    assert_eq!(rt; found.time, wanted);
+    check_questions(rt, found);
+}
+
 fn check_first_times(rt: &impl Abort, schedule: &Schedule) {
     let rows: [(Time, Option<Time>); 4] = [
         ((0, 0, 0), Some((9, 30, 30))),
@@ -28,9 +33,7 @@ fn check_first_times(rt: &impl Abort, schedule: &Schedule) {
         ((17, 30, 31), None),
     ];
     for ((hour, minute, second), wanted) in rows {
-        let found = schedule.first_time(hour, minute, second);
-        assert_eq!(rt; found.time, wanted);
-        check_questions(rt, found);
+        check_found(rt, schedule.first_time(hour, minute, second), wanted);
     }
 }
 
@@ -48,9 +51,7 @@ fn check_last_times(rt: &impl Abort, schedule: &Schedule) {
         ((23, 59, 59), Some((17, 30, 30))),
     ];
     for ((hour, minute, second), wanted) in rows {
-        let found = schedule.last_time(hour, minute, second);
-        assert_eq!(rt; found.time, wanted);
-        check_questions(rt, found);
+        check_found(rt, schedule.last_time(hour, minute, second), wanted);
     }
 }
 
@@ -58,20 +59,6 @@ fn check_last_times(rt: &impl Abort, schedule: &Schedule) {
 fn the_last_time_of_day_up_to_a_time(rt: HostRuntime) -> Result<(), Fail> {
     let schedule = Schedule::from_str(rt.alloc(), "30 30 9,17 * * *")?;
     check_last_times(&rt, &schedule);
-    Ok(())
-}
-
-fn check_survey(
-    rt: &(impl Abort + AllocGlobal),
-    text: &str,
-    zone: &TimeZone<'_>,
-    from: &str,
-    count: u32,
-    wanted: Survey,
-) -> Result<(), Fail> {
-    let from = from.parse()?;
-    let schedule = Schedule::from_str(rt.alloc(), text)?;
-    assert_eq!(rt; schedule.survey(from, zone, count), wanted, "{text}");
     Ok(())
 }
 

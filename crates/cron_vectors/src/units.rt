@@ -1,7 +1,6 @@
 //! What users see of a unit's set.
 
-use crate::support::check_same;
-use cron::error::Error;
+use crate::support::{check, check_same};
 use cron::time_unit::{DaysOfMonth, Months, Ordinal, OrdinalRangeIter, Years};
 use cron::{Schedule, TimeUnitSpec};
 use std::alloc::{AllocError, Global};
@@ -74,16 +73,27 @@ fn check_next_back(rt: &impl Abort, ordinals: &mut OrdinalRangeIter<'_>, wanted:
     check_answer(rt, ordinals.next_back(), None, wanted);
 }
 
-fn check_summer(rt: &impl Abort, months: &Months) {
-    assert!(rt; months.includes(6));
-    assert!(rt; !months.includes(4));
-    assert!(rt; !months.includes(4_294_967_295));
-    assert_eq!(rt; months.count(), 4);
-    assert!(rt; !months.is_all());
-    let mut members = months.iter();
-    for wanted in [Some(5), Some(6), Some(7), Some(8), None] {
-        assert_eq!(rt; members.next(), wanted);
+// How many ordinals a set has, which isn't whole.
+fn check_count(rt: &impl Abort, set: &impl TimeUnitSpec, wanted: u32) {
+    assert_eq!(rt; set.count(), wanted);
+    check(rt, !set.is_all(), "a set that isn't whole");
+}
+
+// A set's ordinals one by one, up to the first `None`.
+fn check_members(rt: &impl Abort, set: &impl TimeUnitSpec, wanted: &[Ordinal]) {
+    let mut members = set.iter();
+    for ordinal in wanted {
+        check_answer(rt, members.next(), Some(*ordinal), wanted);
     }
+    check_answer(rt, members.next(), None, wanted);
+}
+
+fn check_summer(rt: &impl Abort, months: &Months) {
+    check(rt, months.includes(6), "June");
+    check(rt, !months.includes(4), "April");
+    check(rt, !months.includes(4_294_967_295), "no month");
+    check_count(rt, months, 4);
+    check_members(rt, months, &[5, 6, 7, 8]);
 }
 
 #[test]
@@ -97,8 +107,8 @@ fn months_in_summer(rt: HostRuntime) -> Result<(), Fail> {
 fn check_ends(rt: &impl Abort, months: &Months) {
     let mut members = months.iter();
     for (first, last) in [(Some(5), Some(8)), (Some(6), Some(7)), (None, None)] {
-        assert_eq!(rt; members.next(), first);
-        assert_eq!(rt; members.next_back(), last);
+        check(rt, members.next() == first, "the first one");
+        check(rt, members.next_back() == last, "the last one");
     }
 }
 
@@ -138,14 +148,10 @@ fn ranges_of_months(rt: HostRuntime) -> Result<(), Fail> {
 }
 
 fn check_two_days(rt: &(impl Abort + AllocGlobal), days: &DaysOfMonth) -> Result<(), Fail> {
-    assert!(rt; days.includes(1));
-    assert!(rt; !days.includes(7));
-    assert_eq!(rt; days.count(), 2);
-    assert!(rt; !days.is_all());
-    let mut members = days.iter();
-    for wanted in [Some(1), Some(15), None] {
-        assert_eq!(rt; members.next(), wanted);
-    }
+    check(rt, days.includes(1), "the first");
+    check(rt, !days.includes(7), "the seventh");
+    check_count(rt, days, 2);
+    check_members(rt, days, &[1, 15]);
     check_ahead(rt, days.range((Included(5), Included(25))), "15 ")?;
     check_ahead(rt, days.range((Included(10), Included(20))), "15 ")
 }
@@ -166,9 +172,9 @@ fn check_years_one_by_one(rt: &impl Abort, years: &Years) {
 }
 
 fn check_ranges_of_years(rt: &(impl Abort + AllocGlobal), years: &Years) -> Result<(), Fail> {
-    assert_eq!(rt; years.count(), 30);
-    assert!(rt; years.includes(2031));
-    assert!(rt; !years.includes(1969));
+    check(rt, years.count() == 30, "thirty years");
+    check(rt, years.includes(2031), "2031");
+    check(rt, !years.includes(1969), "1969");
     check_ahead(
         rt,
         years.range((Included(2017), Excluded(2022))),
@@ -191,7 +197,7 @@ fn ranges_of_years(rt: HostRuntime) -> Result<(), Fail> {
 }
 
 fn check_years_far_apart(rt: &(impl Abort + AllocGlobal), years: &Years) -> Result<(), Fail> {
-    assert_eq!(rt; years.count(), 6);
+    check(rt, years.count() == 6, "six years");
     check_ahead(
         rt,
         years.range((Excluded(2033), Excluded(2098))),
@@ -231,7 +237,7 @@ fn check_whole_sets(
     wanted: [bool; 7],
 ) -> Result<(), Fail> {
     let schedule = Schedule::from_str(rt.alloc(), text)?;
-    assert_eq!(rt; whole_sets(&schedule), wanted, "{text}");
+    check(rt, whole_sets(&schedule) == wanted, text);
     Ok(())
 }
 
@@ -243,14 +249,14 @@ fn a_whole_range_however_written(rt: HostRuntime) -> Result<(), Fail> {
     check_whole_sets(&rt, "* * * 1,15 * * *", wanted)
 }
 
-fn seconds(alloc: Global, text: &str) -> Result<u32, Error> {
-    let schedule = Schedule::from_str(alloc, text)?;
-    Ok(schedule.seconds().count())
+fn check_seconds(rt: &(impl Abort + AllocGlobal), text: &str, wanted: u32) -> Result<(), Fail> {
+    let schedule = Schedule::from_str(rt.alloc(), text)?;
+    check(rt, schedule.seconds().count() == wanted, text);
+    Ok(())
 }
 
 #[test]
 fn counts_of_seconds(rt: HostRuntime) -> Result<(), Fail> {
-    assert_eq!(rt; seconds(rt.alloc(), "1,2,3/5 * * * * *")?, 14);
-    assert_eq!(rt; seconds(rt.alloc(), "0-40 * * * * *")?, 41);
-    Ok(())
+    check_seconds(&rt, "1,2,3/5 * * * * *", 14)?;
+    check_seconds(&rt, "0-40 * * * * *", 41)
 }

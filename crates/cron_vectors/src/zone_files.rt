@@ -1,7 +1,7 @@
 //! Zones that are read from the bytes of a zone file.
 
 use crate::slow_twin::check_day;
-use crate::support::{check_same, check_text};
+use crate::support::{check, check_same, check_text};
 use cron::{Schedule, ScheduleIterator};
 use jiff::Timestamp;
 use jiff::civil::DateTime;
@@ -32,13 +32,14 @@ fn zone_file(
     first: Timestamp,
     second: Timestamp,
 ) -> Result<Vec<u8>, AllocError> {
+    let first = first.as_second().to_be_bytes();
+    let second = second.as_second().to_be_bytes();
+    let offset = offset.to_be_bytes();
+    let parts = [FRONT, &first, &second, MIDDLE, &offset, END];
     let mut bytes = Vec::new(alloc);
-    bytes.extend_from_slice(FRONT)?;
-    bytes.extend_from_slice(&first.as_second().to_be_bytes())?;
-    bytes.extend_from_slice(&second.as_second().to_be_bytes())?;
-    bytes.extend_from_slice(MIDDLE)?;
-    bytes.extend_from_slice(&offset.to_be_bytes())?;
-    bytes.extend_from_slice(END)?;
+    for part in parts {
+        bytes.extend_from_slice(part)?;
+    }
     Ok(bytes)
 }
 
@@ -84,7 +85,7 @@ fn check_search(
 ) -> Result<(), Fail> {
     let from = "2020-01-01 00:00:00".parse::<DateTime>()?;
     let search = schedule.first_at_or_after(from, zone);
-    assert_eq!(rt; search.conversions, 3);
+    check(rt, search.conversions == 3, "questions to the zone");
     let readings = search.found.ok_or("the search finds nothing")?;
     let second = readings.second.ok_or("the search finds one reading")?;
     let told = format_args!("{}, {second}", readings.first);
