@@ -1,7 +1,9 @@
 //! The arguments of a command line.
 
 use super::arguments_in;
+use super::compared::check_same;
 use cron_listing::arguments::{Request, request_of};
+use std::alloc::{AllocError, Global};
 use std::process::Abort;
 use std::test::Fail;
 
@@ -45,16 +47,25 @@ const WRONG: &str = "\
 UTC|2020-01-01T00:00:00Z|@daily|3
 ";
 
+fn is_wrong(arguments: &[String]) -> bool {
+    request_of(arguments).is_none()
+}
+
+fn check_wrong(rt: &(impl Abort + AllocGlobal), line: &str) -> Result<(), Fail> {
+    let arguments = arguments_in(rt.alloc(), line)?;
+    check_same(rt, &line, is_wrong(arguments.as_slice()), true);
+    Ok(())
+}
+
 #[test]
 fn a_line_with_a_wrong_argument_asks_for_nothing(rt: HostRuntime) -> Result<(), Fail> {
     let mut rows = 0u32;
     for line in WRONG.lines() {
-        let arguments = arguments_in(rt.alloc(), line)?;
-        assert!(rt; request_of(arguments.as_slice()).is_none(), "at {line}");
+        check_wrong(&rt, line)?;
         rows = rows.saturating_add(1);
     }
     assert_eq!(rt; rows, 36);
-    assert!(rt; request_of(&[]).is_none());
+    assert!(rt; is_wrong(&[]));
     Ok(())
 }
 
@@ -73,20 +84,38 @@ no expression|2020-01-01T00:00:00Z|UTC|4294967295 = 1577836800 0 4294967295 fals
 @daily|-000044-03-15T00:00:00Z|UTC|1 = -63549360000 0 1 false
 ";
 
+fn offset_at_start(asked: &Request<'_>) -> i32 {
+    asked.zone.to_offset(asked.start).seconds()
+}
+
+fn facts(
+    alloc: Global,
+    second: i64,
+    offset: i32,
+    count: u32,
+    back: bool,
+) -> Result<String, AllocError> {
+    format!(in alloc; "{second} {offset} {count} {back}")
+}
+
+fn facts_of(alloc: Global, asked: &Request<'_>) -> Result<String, AllocError> {
+    facts(
+        alloc,
+        asked.start.as_second(),
+        offset_at_start(asked),
+        asked.count,
+        asked.back,
+    )
+}
+
 fn check_facts(
     rt: &(impl Abort + AllocGlobal),
     line: &str,
     asked: &Request<'_>,
     want: &str,
 ) -> Result<(), Fail> {
-    let got = format!(in rt.alloc();
-        "{} {} {} {}",
-        asked.start.as_second(),
-        asked.zone.to_offset(asked.start).seconds(),
-        asked.count,
-        asked.back
-    )?;
-    assert_eq!(rt; got.as_str(), want, "at {line}");
+    let got = facts_of(rt.alloc(), asked)?;
+    check_same(rt, &line, got.as_str(), want);
     Ok(())
 }
 

@@ -3,17 +3,18 @@
 ghost use Rattle.std.specs.Prelude.{◌≡◌, false};
 ghost use Rattle.cron_writer.specs.Watching.{has_failed};
 
+use super::calls::{moment, page_ahead, run_from_start};
+use super::compared::{check_bytes, check_same};
 use super::limited::Limited;
-use crate::page::page;
-use crate::run::{Outcome, Page, run};
+use crate::run::{Outcome, Page};
 use crate::watched::Watched;
-use cron::Schedule;
 use cron::schedule::Moment;
-use jiff::tz::{Offset, TimeZone};
 use std::alloc::Global;
 use std::io::{self, ErrorKind, Write};
 use std::process::Abort;
 use std::test::Fail;
+
+pub(super) const EVERY_SECOND: &str = "* * * * * *";
 
 /// How many lines are listed: more than two blocks of them.
 pub(super) const LINES: u32 = 400;
@@ -36,31 +37,22 @@ pub(super) fn seconds_listed(alloc: Global) -> Result<String, Fail> {
 fn list_seconds<W: Write>(alloc: Global, out: &mut Watched<W>) -> Result<Outcome, Fail>
     requires { has_failed out.old ≡ false }
 {
-    let start = "2020-01-01T00:00:00Z".parse()?;
-    let zone = TimeZone::UTC;
-    Ok(run(alloc, "* * * * * *", start, &zone, LINES, false, out))
+    run_from_start(alloc, EVERY_SECOND, LINES, out)
 }
 
 fn page_of_seconds<W: Write>(alloc: Global, out: &mut Watched<W>) -> Result<Page, Fail>
     requires { has_failed out.old ≡ false }
 {
-    let schedule = Schedule::from_str(alloc, "* * * * * *")?;
-    let first = moment("2020-01-01T00:00:00")?;
-    Ok(page(&schedule, &first, &TimeZone::UTC, LINES, false, out))
-}
-
-fn moment(shown: &str) -> Result<Moment, Fail> {
-    let offset = Offset::from_seconds(0)?;
-    Ok(Moment::from_parts(shown.parse()?, offset).ok_or("no civil second of the range")?)
+    let first = moment("2020-01-01T00:00:00", 0)?;
+    page_ahead(alloc, EVERY_SECOND, &first, LINES, out)
 }
 
 // A writer that takes all, so many bytes a call, holds the whole list.
 fn check_listed(rt: &(impl Abort + AllocGlobal), text: &str, step: usize) -> Result<(), Fail> {
     let mut out = Watched::new(Limited::new(rt.alloc(), usize::MAX, step));
     let told = list_seconds(rt.alloc(), &mut out)?;
-    assert_eq!(rt; told, Outcome::Listed, "{step} bytes a call");
-    let held = out.into_inner().held;
-    assert!(rt; held.as_slice() == text.as_bytes(), "{step} bytes a call");
+    check_same(rt, &step, told, Outcome::Listed);
+    check_bytes(rt, &step, out.into_inner().held.as_slice(), text.as_bytes());
     Ok(())
 }
 
@@ -73,14 +65,13 @@ fn check_paged(
 ) -> Result<(), Fail> {
     let mut out = Watched::new(Limited::new(rt.alloc(), usize::MAX, step));
     let told = page_of_seconds(rt.alloc(), &mut out)?;
-    assert_eq!(rt; told, Page::Listed(last), "{step} bytes a call");
-    let held = out.into_inner().held;
-    assert!(rt; held.as_slice() == text.as_bytes(), "{step} bytes a call");
+    check_same(rt, &step, told, Page::Listed(last));
+    check_bytes(rt, &step, out.into_inner().held.as_slice(), text.as_bytes());
     Ok(())
 }
 
 fn check_written(rt: &(impl Abort + AllocGlobal), text: &str) -> Result<(), Fail> {
-    let last = moment("2020-01-01T00:06:40")?;
+    let last = moment("2020-01-01T00:06:40", 0)?;
     for step in [1, LINE - 1, 1000, BLOCK - 1, BLOCK, usize::MAX] {
         check_listed(rt, text, step)?;
         check_paged(rt, text, last, step)?;
@@ -94,14 +85,16 @@ fn many_lines_are_written_whole(rt: HostRuntime) -> Result<(), Fail> {
     check_written(&rt, text.as_str())
 }
 
+// So many first bytes of the text.
+fn check_begins(rt: &impl Abort, text: &str, held: &[u8], room: usize) {
+    check_same(rt, &room, held.len(), room);
+    assert!(rt; text.as_bytes().starts_with(held), "at {room}");
+}
+
 // A writer that failed once, and holds the first bytes of the text.
 fn check_held(rt: &impl Abort, writer: &Limited, text: &str, room: usize) {
-    let held = writer.held.as_slice();
-    assert!(rt;
-        held.len() == room && text.as_bytes().starts_with(held),
-        "at {room}"
-    );
-    assert_eq!(rt; writer.failures, 1, "at {room}");
+    check_begins(rt, text, writer.held.as_slice(), room);
+    check_same(rt, &room, writer.failures, 1);
 }
 
 fn check_failed_list(
@@ -112,7 +105,7 @@ fn check_failed_list(
     let room = writer.room;
     let mut out = Watched::new(writer);
     let told = list_seconds(rt.alloc(), &mut out)?;
-    assert_eq!(rt; told, Outcome::WriteFailed, "at {room}");
+    check_same(rt, &room, told, Outcome::WriteFailed);
     check_held(rt, &out.into_inner(), text, room);
     Ok(())
 }
@@ -125,7 +118,7 @@ fn check_failed_page(
     let room = writer.room;
     let mut out = Watched::new(writer);
     let told = page_of_seconds(rt.alloc(), &mut out)?;
-    assert_eq!(rt; told, Page::WriteFailed, "at {room}");
+    check_same(rt, &room, told, Page::WriteFailed);
     check_held(rt, &out.into_inner(), text, room);
     Ok(())
 }
@@ -213,22 +206,20 @@ impl Write for Counting {
 }
 
 fn writes_for(alloc: Global, count: u32) -> Result<Counting, Fail> {
-    let start = "2020-01-01T00:00:00Z".parse()?;
     let mut out = Watched::new(Counting {
         writes: 0,
         cut_lines: 0,
         flushes: 0,
     });
-    let zone = TimeZone::UTC;
-    let _listed = run(alloc, "* * * * * *", start, &zone, count, false, &mut out);
+    let _listed = run_from_start(alloc, EVERY_SECOND, count, &mut out)?;
     Ok(out.into_inner())
 }
 
 fn check_writes(rt: &(impl Abort + AllocGlobal), count: u32, writes: u32) -> Result<(), Fail> {
     let writer = writes_for(rt.alloc(), count)?;
-    assert_eq!(rt; writer.writes, writes, "{count} lines");
-    assert_eq!(rt; writer.cut_lines, 0, "{count} lines");
-    assert_eq!(rt; writer.flushes, 1, "{count} lines");
+    check_same(rt, &count, writer.writes, writes);
+    check_same(rt, &count, writer.cut_lines, 0);
+    check_same(rt, &count, writer.flushes, 1);
     Ok(())
 }
 

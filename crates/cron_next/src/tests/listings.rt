@@ -1,18 +1,22 @@
 //! What a run writes where the writer takes every byte.
 
+ghost use Rattle.std.specs.Prelude.{◌≡◌, false};
+ghost use Rattle.cron_writer.specs.Watching.{has_failed};
+
 use super::arguments_in;
+use super::calls::{code_of_answer, start};
+use super::compared::check_same;
 use crate::run::{Outcome, run};
 use crate::watched::Watched;
-use cron_listing::answer::answer;
 use cron_listing::arguments::{Request, request_of};
-use jiff::Timestamp;
 use jiff::tz::TimeZone;
+use std::alloc::{AllocError, Global};
 use std::process::Abort;
 use std::test::Fail;
 
-// Each block is the arguments after a `>`, and then the lines that are listed.
+// Each block is the arguments, and then the lines that are listed. A `>` stands between blocks.
 const LISTED: &str = "\
->0 0,30 9 * * 2|2024-01-01T00:00:00Z|UTC|3
+0 0,30 9 * * 2|2024-01-01T00:00:00Z|UTC|3
 2024-01-01 09:00:00 +00:00
 2024-01-01 09:30:00 +00:00
 2024-01-08 09:00:00 +00:00
@@ -82,6 +86,26 @@ const REFUSED: &str = "\
 0 0 0 0 1 ? 1969|Days of Month must be greater than or equal to 1. ('0' specified.)
 ";
 
+fn run_asked(alloc: Global, asked: &Request<'_>, out: &mut Watched<Vec<u8>>) -> Outcome
+    requires { has_failed out.old ≡ false }
+{
+    run(
+        alloc,
+        asked.expression,
+        asked.start,
+        &asked.zone,
+        asked.count,
+        asked.back,
+        out,
+    )
+}
+
+// A writer that didn't fail, and holds this.
+fn check_held(rt: &impl Abort, line: &str, out: Watched<Vec<u8>>, want: &str) {
+    check_same(rt, &line, out.failed(), false);
+    check_same(rt, &line, out.into_inner().as_slice(), want.as_bytes());
+}
+
 // A run ends so, and has written this.
 fn check_run(
     rt: &(impl Abort + AllocGlobal),
@@ -91,18 +115,9 @@ fn check_run(
     want: &str,
 ) {
     let mut out = Watched::new(Vec::new(rt.alloc()));
-    let outcome = run(
-        rt.alloc(),
-        asked.expression,
-        asked.start,
-        &asked.zone,
-        asked.count,
-        asked.back,
-        &mut out,
-    );
-    assert_eq!(rt; outcome, done, "at {line}");
-    assert!(rt; !out.failed(), "at {line}");
-    assert_eq!(rt; out.into_inner().as_slice(), want.as_bytes(), "at {line}");
+    let outcome = run_asked(rt.alloc(), asked, &mut out);
+    check_same(rt, &line, outcome, done);
+    check_held(rt, line, out, want);
 }
 
 fn check_arguments(
@@ -118,7 +133,8 @@ fn check_arguments(
     Ok(())
 }
 
-fn check_block(rt: &(impl Abort + AllocGlobal), line: &str, want: &str) -> Result<(), Fail> {
+fn check_block(rt: &(impl Abort + AllocGlobal), block: &str) -> Result<(), Fail> {
+    let (line, want) = block.split_once('\n').ok_or("no line")?;
     let arguments = arguments_in(rt.alloc(), line)?;
     check_arguments(rt, line, arguments.as_slice(), want)
 }
@@ -127,33 +143,38 @@ fn check_block(rt: &(impl Abort + AllocGlobal), line: &str, want: &str) -> Resul
 fn lists_what_the_arguments_ask_for(rt: HostRuntime) -> Result<(), Fail> {
     let mut blocks = 0u32;
     for block in LISTED.split('>') {
-        if let Some((line, want)) = block.split_once('\n') {
-            check_block(&rt, line, want)?;
-            blocks = blocks.saturating_add(1);
-        }
+        check_block(&rt, block)?;
+        blocks = blocks.saturating_add(1);
     }
-    assert_eq!(rt; blocks, 16);
+    check_same(&rt, &"the end", blocks, 16);
     Ok(())
 }
 
 // The one line that is written for a refused expression.
-fn check_refused(rt: &(impl Abort + AllocGlobal), start: Timestamp, expression: &str, want: &str) {
+fn check_refused(
+    rt: &(impl Abort + AllocGlobal),
+    expression: &str,
+    want: &str,
+) -> Result<(), Fail> {
     let asked = Request {
         expression,
-        start,
+        start: start()?,
         zone: TimeZone::UTC,
         count: 3,
         back: false,
     };
     check_run(rt, expression, &asked, Outcome::Refused, want);
+    Ok(())
+}
+
+fn complaint(alloc: Global, told: &str) -> Result<String, AllocError> {
+    format!(in alloc; "error: {told}\n")
 }
 
 fn check_told(rt: &(impl Abort + AllocGlobal), row: &str) -> Result<(), Fail> {
-    let start = "2020-01-01T00:00:00Z".parse()?;
     let (expression, told) = row.split_once('|').ok_or("no message")?;
-    let want = format!(in rt.alloc(); "error: {told}\n")?;
-    check_refused(rt, start, expression, want.as_str());
-    Ok(())
+    let want = complaint(rt.alloc(), told)?;
+    check_refused(rt, expression, want.as_str())
 }
 
 #[test]
@@ -163,7 +184,7 @@ fn tells_why_an_expression_is_refused(rt: HostRuntime) -> Result<(), Fail> {
         check_told(&rt, row)?;
         rows = rows.saturating_add(1);
     }
-    assert_eq!(rt; rows, 14);
+    check_same(&rt, &"the end", rows, 14);
     Ok(())
 }
 
@@ -175,12 +196,9 @@ fn check_answer(
     want: &str,
 ) {
     let mut out = Watched::new(Vec::new(rt.alloc()));
-    assert_eq!(rt;
-        answer(rt.alloc(), arguments, &mut out).code(),
-        status,
-        "at {line}"
-    );
-    assert_eq!(rt; out.into_inner().as_slice(), want.as_bytes(), "at {line}");
+    let told = code_of_answer(rt.alloc(), arguments, &mut out);
+    check_same(rt, &line, told, status);
+    check_same(rt, &line, out.into_inner().as_slice(), want.as_bytes());
 }
 
 fn check_status(

@@ -4,11 +4,12 @@
 ghost use Rattle.std.specs.Prelude.{◌≡◌, Some, false};
 ghost use Rattle.cron_writer.specs.Watching.{has_failed};
 
-use super::blocks::{LINES, seconds_listed};
-use crate::run::{Outcome, run};
+use super::blocks::{EVERY_SECOND, LINES, seconds_listed};
+use super::calls::{run_ahead, start};
+use super::compared::{check_bytes, check_same};
+use crate::run::Outcome;
 use crate::watched::Watched;
 use jiff::Timestamp;
-use jiff::tz::TimeZone;
 use std::alloc::{AllocError, Global};
 use std::io::{self, Write};
 use std::process::Abort;
@@ -16,46 +17,54 @@ use std::test::Fail;
 
 pub(super) const MOST_BLOCKS: usize = 20_000;
 
+// Takes blocks of this size until one is refused.
+fn take_blocks(blocks: &mut Vec<Vec<u8>>, alloc: Global, size: usize) {
+    for _ in blocks.len()..blocks.capacity() {
+        match Vec::with_capacity(alloc, size) {
+            Ok(block) => {
+                let _ = blocks.push(block);
+            }
+            Err(_) => return,
+        }
+    }
+}
+
 /// Takes blocks of each size down to a single byte until each is refused, so that nothing is left.
 pub(super) fn take_all_memory(blocks: &mut Vec<Vec<u8>>, alloc: Global) {
     let mut size = 1usize << 40;
     for _ in 0..41 {
-        for _ in 0..MOST_BLOCKS {
-            if blocks.len() == blocks.capacity() {
-                break;
-            }
-            match Vec::with_capacity(alloc, size) {
-                Ok(block) => {
-                    let _ = blocks.push(block);
-                }
-                Err(_) => break,
-            }
-        }
+        take_blocks(blocks, alloc, size);
         size /= 2;
     }
+}
+
+fn check_taken(rt: &impl Abort, taken: usize) {
+    assert!(rt; taken < MOST_BLOCKS, "{taken} blocks");
 }
 
 /// Gives the blocks back, and looks whether they were all that memory had.
 pub(super) fn give_back(rt: &impl Abort, blocks: &mut Vec<Vec<u8>>) {
     let taken = blocks.len();
     blocks.truncate(0);
-    assert!(rt; taken < MOST_BLOCKS, "{taken} blocks");
+    check_taken(rt, taken);
 }
 
+const WANTING: &[u8] = b"error: out of memory\n";
+
+// Asks for two items, while no memory is left.
 fn run_without_memory(
     rt: &(impl Abort + AllocGlobal),
     start: Timestamp,
     expression: &str,
+    blocks: &mut Vec<Vec<u8>>,
     out: &mut Watched<Vec<u8>>,
-) -> Result<Outcome, Fail>
+) -> Outcome
     requires { has_failed out.old ≡ false }
 {
-    let alloc = rt.alloc();
-    let mut blocks = Vec::with_capacity(alloc, MOST_BLOCKS)?;
-    take_all_memory(&mut blocks, alloc);
-    let outcome = run(alloc, expression, start, &TimeZone::UTC, 2, false, out);
-    give_back(rt, &mut blocks);
-    Ok(outcome)
+    take_all_memory(blocks, rt.alloc());
+    let outcome = run_ahead(rt.alloc(), expression, start, 2, out);
+    give_back(rt, blocks);
+    outcome
 }
 
 fn check_wanting_run(
@@ -63,20 +72,17 @@ fn check_wanting_run(
     start: Timestamp,
     expression: &str,
 ) -> Result<(), Fail> {
+    let mut blocks = Vec::with_capacity(rt.alloc(), MOST_BLOCKS)?;
     let mut out = Watched::new(Vec::with_capacity(rt.alloc(), 100)?);
-    let outcome = run_without_memory(rt, start, expression, &mut out)?;
-    assert_eq!(rt; outcome, Outcome::Refused, "at {expression}");
-    assert_eq!(rt;
-        out.into_inner().as_slice(),
-        b"error: out of memory\n".as_slice(),
-        "at {expression}"
-    );
+    let outcome = run_without_memory(rt, start, expression, &mut blocks, &mut out);
+    check_same(rt, &expression, outcome, Outcome::Refused);
+    check_same(rt, &expression, out.into_inner().as_slice(), WANTING);
     Ok(())
 }
 
 #[test]
 fn a_run_without_memory_says_so(rt: HostRuntime) -> Result<(), Fail> {
-    let start = "2020-01-01T00:00:00Z".parse()?;
+    let start = start()?;
     for expression in ["@daily", "60 * * * * *", "no expression"] {
         check_wanting_run(&rt, start, expression)?;
     }
@@ -124,21 +130,18 @@ impl Write for Greedy {
 }
 
 fn check_begun(rt: &(impl Abort + AllocGlobal), start: Timestamp, text: &str) -> Result<(), Fail> {
-    let alloc = rt.alloc();
-    let mut out = Watched::new(Greedy::new(alloc, text.len())?);
-    let zone = TimeZone::UTC;
-    let outcome = run(alloc, "* * * * * *", start, &zone, LINES, false, &mut out);
+    let mut out = Watched::new(Greedy::new(rt.alloc(), text.len())?);
+    let outcome = run_ahead(rt.alloc(), EVERY_SECOND, start, LINES, &mut out);
     let mut writer = out.into_inner();
     give_back(rt, &mut writer.blocks);
-    assert!(rt; !writer.byte_left);
-    assert_eq!(rt; outcome, Outcome::Listed);
-    assert!(rt; writer.held.as_slice() == text.as_bytes());
+    check_same(rt, &"the end", outcome, Outcome::Listed);
+    check_same(rt, &"the end", writer.byte_left, false);
+    check_bytes(rt, &"the end", writer.held.as_slice(), text.as_bytes());
     Ok(())
 }
 
 #[test]
 fn a_list_that_was_begun_takes_no_memory(rt: HostRuntime) -> Result<(), Fail> {
-    let start = "2020-01-01T00:00:00Z".parse()?;
     let text = seconds_listed(rt.alloc())?;
-    check_begun(&rt, start, text.as_str())
+    check_begun(&rt, start()?, text.as_str())
 }

@@ -1,7 +1,10 @@
 //! Calls that take no memory, where none is left: the readers of an owned text that is accepted, and
 //! the ways to an owned walk. Like the tests of `memory`, these take all of it.
 
+use super::calls::start;
+use super::compared::{are_same, check_same};
 use super::memory::{MOST_BLOCKS, give_back, take_all_memory};
+use super::push_text;
 use cron::error::Error;
 use cron::schedule::Moment;
 use cron::{OwnedScheduleIterator, Schedule};
@@ -53,7 +56,7 @@ const COUNT: usize = 32;
 fn texts(alloc: Global) -> Result<Vec<String>, AllocError> {
     let mut texts = Vec::with_capacity(alloc, COUNT)?;
     for text in ACCEPTED.lines() {
-        texts.push(String::from_str(alloc, text)?)?;
+        push_text(&mut texts, alloc, text)?;
     }
     Ok(texts)
 }
@@ -90,32 +93,43 @@ impl Reading {
     }
 }
 
+// Whether each text was kept, in both readings.
+fn read_both(alloc: Global, strings: &mut Reading, cows: &mut Reading) -> bool {
+    let strings = strings.read_strings(alloc).is_ok();
+    let cows = cows.read_cows(alloc).is_ok();
+    strings && cows
+}
+
 fn read_without_memory(
     rt: &(impl Abort + AllocGlobal),
     strings: &mut Reading,
     cows: &mut Reading,
 ) -> Result<(), Fail> {
-    let alloc = rt.alloc();
-    let mut blocks = Vec::with_capacity(alloc, MOST_BLOCKS)?;
-    take_all_memory(&mut blocks, alloc);
-    let strings = strings.read_strings(alloc);
-    let cows = cows.read_cows(alloc);
+    let mut blocks = Vec::with_capacity(rt.alloc(), MOST_BLOCKS)?;
+    take_all_memory(&mut blocks, rt.alloc());
+    let are_read = read_both(rt.alloc(), strings, cows);
     give_back(rt, &mut blocks);
-    assert!(rt; strings.is_ok() && cows.is_ok());
+    assert!(rt; are_read);
     Ok(())
 }
 
-fn check_same(
+fn check_schedule(
+    rt: &(impl Abort + AllocGlobal),
+    text: &str,
+    schedule: &Schedule,
+) -> Result<(), Fail> {
+    let same = Schedule::from_str(rt.alloc(), text)?;
+    check_same(rt, &text, are_same(schedule, &same), true);
+    Ok(())
+}
+
+fn check_result(
     rt: &(impl Abort + AllocGlobal),
     text: &str,
     read: &Result<Schedule, Error>,
 ) -> Result<(), Fail> {
-    let same = Schedule::from_str(rt.alloc(), text)?;
     match read {
-        Ok(schedule) => assert!(rt;
-            *schedule == same && schedule.timeunitspec_eq(&same),
-            "{text}"
-        ),
+        Ok(schedule) => check_schedule(rt, text, schedule)?,
         Err(error) => assert!(rt; false, "{text}: {error}"),
     }
     Ok(())
@@ -127,7 +141,7 @@ fn check_read(
 ) -> Result<(), Fail> {
     assert_eq!(rt; read.len(), COUNT);
     for (text, read) in ACCEPTED.lines().zip(read) {
-        check_same(rt, text, read)?;
+        check_result(rt, text, read)?;
     }
     Ok(())
 }
@@ -143,23 +157,34 @@ fn owned_texts_are_read_without_memory(rt: HostRuntime) -> Result<(), Fail> {
 
 type Walk = Result<OwnedScheduleIterator<'static>, AllocError>;
 
-// Both walks after the start, made while no memory is left.
+// Both walks after the start.
+fn walks_from(schedule: &Schedule, start: Timestamp) -> (Walk, Walk) {
+    let after = schedule.after_owned(start, TimeZone::UTC);
+    let upcoming = schedule.upcoming_owned(start, TimeZone::UTC);
+    (after, upcoming)
+}
+
+// Both, made while no memory is left.
 fn walks_without_memory(
     rt: &(impl Abort + AllocGlobal),
     schedule: &Schedule,
     start: Timestamp,
 ) -> Result<(Walk, Walk), Fail> {
-    let alloc = rt.alloc();
-    let mut blocks = Vec::with_capacity(alloc, MOST_BLOCKS)?;
-    take_all_memory(&mut blocks, alloc);
-    let after = schedule.after_owned(start, TimeZone::UTC);
-    let upcoming = schedule.upcoming_owned(start, TimeZone::UTC);
+    let mut blocks = Vec::with_capacity(rt.alloc(), MOST_BLOCKS)?;
+    take_all_memory(&mut blocks, rt.alloc());
+    let walks = walks_from(schedule, start);
     give_back(rt, &mut blocks);
-    Ok((after, upcoming))
+    Ok(walks)
 }
 
 fn first_of(walk: Walk) -> Result<Option<Moment>, Fail> {
     Ok(walk?.next())
+}
+
+fn check_shown(rt: &(impl Abort + AllocGlobal), first: Moment) -> Result<(), Fail> {
+    let text = first.to_string(rt.alloc())?;
+    check_same(rt, &"first", text.as_str(), "2020-01-02 00:00:00 +00:00");
+    Ok(())
 }
 
 fn check_firsts(
@@ -167,9 +192,8 @@ fn check_firsts(
     first: Option<Moment>,
     same: Option<Moment>,
 ) -> Result<(), Fail> {
-    let text = first.ok_or("the walk is empty")?.to_string(rt.alloc())?;
-    assert_eq!(rt; text.as_str(), "2020-01-02 00:00:00 +00:00");
-    assert_eq!(rt; first, same);
+    check_shown(rt, first.ok_or("the walk is empty")?)?;
+    check_same(rt, &"first", first, same);
     Ok(())
 }
 
@@ -184,7 +208,6 @@ fn check_walks(
 
 #[test]
 fn owned_walks_are_made_without_memory(rt: HostRuntime) -> Result<(), Fail> {
-    let start = "2020-01-01T00:00:00Z".parse::<Timestamp>()?;
     let schedule = Schedule::from_str(rt.alloc(), "@daily")?;
-    check_walks(&rt, &schedule, start)
+    check_walks(&rt, &schedule, start()?)
 }

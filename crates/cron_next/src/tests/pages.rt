@@ -3,15 +3,18 @@
 ghost use Rattle.std.specs.Prelude.{◌≡◌, false};
 ghost use Rattle.cron_writer.specs.Watching.{has_failed};
 
+use super::calls::{moment, page_ahead};
+use super::compared::check_same;
+use super::cut;
 use super::limited::Limited;
 use crate::page::page;
 use crate::run::Page;
 use crate::watched::Watched;
 use cron::Schedule;
 use cron::schedule::Moment;
-use jiff::tz::{Offset, TimeZone};
+use jiff::tz::TimeZone;
 use std::alloc::Global;
-use std::io::ErrorKind;
+use std::io::{ErrorKind, Write};
 use std::process::Abort;
 use std::test::Fail;
 
@@ -25,12 +28,6 @@ const LATER_THREE: &str =
 const EARLIER_THREE: &str =
     "2022-11-06 01:30:00 -05:00\n2022-11-06 01:00:00 -06:00\n2022-11-06 01:00:00 -05:00\n";
 
-// The moment at which a clock so many seconds ahead of UTC shows this.
-fn moment(shown: &str, ahead: i32) -> Result<Moment, Fail> {
-    let offset = Offset::from_seconds(ahead)?;
-    Ok(Moment::from_parts(shown.parse()?, offset).ok_or("no civil second of the range")?)
-}
-
 fn first() -> Result<Moment, Fail> {
     moment("2022-11-06T01:00:00", -18_000)
 }
@@ -40,12 +37,12 @@ fn last() -> Result<Moment, Fail> {
 }
 
 // A page of the items beside one in Chicago.
-fn page_in_chicago(
+fn page_in_chicago<W: Write>(
     schedule: &Schedule,
     last: Moment,
     size: u32,
     back: bool,
-    out: &mut Watched<Limited>,
+    out: &mut Watched<W>,
 ) -> Result<Page, Fail>
     requires { has_failed out.old ≡ false }
 {
@@ -54,12 +51,12 @@ fn page_in_chicago(
 }
 
 // A page of the items of the fold beside one of them.
-fn page_of_fold(
+fn page_of_fold<W: Write>(
     alloc: Global,
     last: Moment,
     size: u32,
     back: bool,
-    out: &mut Watched<Limited>,
+    out: &mut Watched<W>,
 ) -> Result<Page, Fail>
     requires { has_failed out.old ≡ false }
 {
@@ -77,8 +74,8 @@ fn check_page(
 ) -> Result<(), Fail> {
     let mut out = Watched::new(Limited::new(rt.alloc(), usize::MAX, usize::MAX));
     let told = page_of_fold(rt.alloc(), last, size, back, &mut out)?;
-    assert_eq!(rt; told, Page::Listed(listed));
-    assert_eq!(rt; out.into_inner().held.as_slice(), text.as_bytes());
+    check_same(rt, &text, told, Page::Listed(listed));
+    check_same(rt, &text, out.into_inner().held.as_slice(), text.as_bytes());
     Ok(())
 }
 
@@ -94,28 +91,24 @@ fn a_page_lists_what_precedes_an_item(rt: HostRuntime) -> Result<(), Fail> {
     check_page(&rt, last()?, 9, true, EARLIER_THREE, first()?)
 }
 
+// The page of the one item that follows.
+fn check_next(
+    rt: &(impl Abort + AllocGlobal),
+    last: Moment,
+    text: &str,
+    listed: Moment,
+) -> Result<(), Fail> {
+    check_page(rt, last, 1, false, text, listed)
+}
+
 #[test]
 fn pages_of_one_item_follow_one_another(rt: HostRuntime) -> Result<(), Fail> {
     let second = moment("2022-11-06T01:00:00", -21_600)?;
     let third = moment("2022-11-06T01:30:00", -18_000)?;
-    check_page(
-        &rt,
-        first()?,
-        1,
-        false,
-        "2022-11-06 01:00:00 -06:00\n",
-        second,
-    )?;
-    check_page(&rt, second, 1, false, "2022-11-06 01:30:00 -05:00\n", third)?;
-    check_page(
-        &rt,
-        third,
-        1,
-        false,
-        "2022-11-06 01:30:00 -06:00\n",
-        last()?,
-    )?;
-    check_page(&rt, last()?, 1, false, "", last()?)
+    check_next(&rt, first()?, "2022-11-06 01:00:00 -06:00\n", second)?;
+    check_next(&rt, second, "2022-11-06 01:30:00 -05:00\n", third)?;
+    check_next(&rt, third, "2022-11-06 01:30:00 -06:00\n", last()?)?;
+    check_next(&rt, last()?, "", last()?)
 }
 
 fn page_after_first(alloc: Global, out: &mut Watched<Limited>) -> Result<Page, Fail>
@@ -126,8 +119,8 @@ fn page_after_first(alloc: Global, out: &mut Watched<Limited>) -> Result<Page, F
 
 // A writer that failed once, and holds this.
 fn check_held(rt: &impl Abort, writer: &Limited, text: &str) {
-    assert_eq!(rt; writer.held.as_slice(), text.as_bytes(), "at {text}");
-    assert_eq!(rt; writer.failures, 1, "at {text}");
+    check_same(rt, &text, writer.held.as_slice(), text.as_bytes());
+    check_same(rt, &text, writer.failures, 1);
 }
 
 // A page that fails, over a writer that then holds this.
@@ -138,15 +131,15 @@ fn check_failed_page(
 ) -> Result<(), Fail> {
     let mut out = Watched::new(writer);
     let told = page_after_first(rt.alloc(), &mut out)?;
-    assert_eq!(rt; told, Page::WriteFailed, "at {text}");
+    check_same(rt, &text, told, Page::WriteFailed);
     check_held(rt, &out.into_inner(), text);
     Ok(())
 }
 
-fn check_failed_room(rt: &(impl Abort + AllocGlobal), room: usize) -> Result<(), Fail> {
-    let text = LATER_THREE.get(..room).ok_or("a letter begins here")?;
+// A writer that fails after this text.
+fn check_failed_write(rt: &(impl Abort + AllocGlobal), text: &str) -> Result<(), Fail> {
     for kind in [ErrorKind::BrokenPipe, ErrorKind::Interrupted] {
-        check_failed_page(rt, Limited::failing(rt.alloc(), room, kind), text)?;
+        check_failed_page(rt, Limited::failing(rt.alloc(), text.len(), kind), text)?;
     }
     Ok(())
 }
@@ -154,7 +147,7 @@ fn check_failed_room(rt: &(impl Abort + AllocGlobal), room: usize) -> Result<(),
 #[test]
 fn a_failed_write_ends_a_page_where_it_stands(rt: HostRuntime) -> Result<(), Fail> {
     for (room, _) in LATER_THREE.char_indices() {
-        check_failed_room(&rt, room)?;
+        check_failed_write(&rt, cut(LATER_THREE, room)?)?;
     }
     Ok(())
 }
@@ -164,22 +157,17 @@ fn a_failed_flush_fails_a_page(rt: HostRuntime) -> Result<(), Fail> {
     check_failed_page(&rt, Limited::unflushed(rt.alloc()), LATER_THREE)
 }
 
-// A page of the midnights after a moment.
-fn page_of_midnights(alloc: Global, last: Moment, out: &mut Watched<Limited>) -> Result<Page, Fail>
-    requires { has_failed out.old ≡ false }
-{
-    let schedule = Schedule::from_str(alloc, "@daily")?;
-    Ok(page(&schedule, &last, &TimeZone::UTC, 9, false, out))
+fn check_untouched(rt: &impl Abort, writer: &Limited) {
+    check_same(rt, &"02:00", writer.held.len(), 0);
+    check_same(rt, &"02:00", writer.failures, 0);
 }
 
 #[test]
 fn a_moment_of_another_schedule_is_no_item(rt: HostRuntime) -> Result<(), Fail> {
     let other = moment("2020-01-01T02:00:00", 0)?;
     let mut out = Watched::new(Limited::unflushed(rt.alloc()));
-    let told = page_of_midnights(rt.alloc(), other, &mut out)?;
-    assert_eq!(rt; told, Page::NotAnItem);
-    let writer = out.into_inner();
-    assert_eq!(rt; writer.held.len(), 0);
-    assert_eq!(rt; writer.failures, 0);
+    let told = page_ahead(rt.alloc(), "@daily", &other, 9, &mut out)?;
+    check_same(&rt, &"02:00", told, Page::NotAnItem);
+    check_untouched(&rt, &out.into_inner());
     Ok(())
 }

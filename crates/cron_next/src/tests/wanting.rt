@@ -1,11 +1,12 @@
 //! Calls of the library where no memory is left: they say so and change nothing. Like the tests of
 //! `memory`, these take all of it.
 
+use super::calls::start;
+use super::compared::{are_same, check_same};
 use super::memory::{MOST_BLOCKS, give_back, take_all_memory};
 use cron::error::{Error, ErrorKind};
 use cron::schedule::{Moment, Turn};
 use cron::{Schedule, ScheduleIterator};
-use jiff::Timestamp;
 use jiff::tz::TimeZone;
 use std::alloc::Global;
 use std::borrow::CowStr;
@@ -13,10 +14,14 @@ use std::fmt::Write;
 use std::process::Abort;
 use std::test::Fail;
 
+fn is_wanting(error: &Error) -> bool {
+    matches!(error.kind(), ErrorKind::OutOfMemory)
+}
+
 fn is_memory(read: &Result<Schedule, Error>) -> bool {
     match read {
         Ok(_) => false,
-        Err(error) => matches!(error.kind(), ErrorKind::OutOfMemory),
+        Err(error) => is_wanting(error),
     }
 }
 
@@ -48,7 +53,7 @@ fn wanting_texts(alloc: Global) -> u32 {
 
 fn check_again(rt: &(impl Abort + AllocGlobal), schedule: &Schedule) -> Result<(), Fail> {
     let again = Schedule::from_str(rt.alloc(), "@daily")?;
-    assert!(rt; again == *schedule && again.timeunitspec_eq(schedule));
+    assert!(rt; are_same(&again, schedule));
     assert!(rt; schedule.clone()? == *schedule);
     Ok(())
 }
@@ -72,24 +77,32 @@ fn calls_without_memory_say_so_and_change_nothing(rt: HostRuntime) -> Result<(),
     check_again(&rt, &schedule)
 }
 
+fn show(text: &mut String, answer: Option<Moment>) -> Result<(), Fail> {
+    let moment = answer.ok_or("the walk has no such item")?;
+    write!(text, "{moment}, ")?;
+    Ok(())
+}
+
 // The texts of two answers.
 fn told(alloc: Global, answers: &[Option<Moment>]) -> Result<String, Fail> {
     let mut text = String::new(alloc);
     for answer in answers {
-        let moment = answer.ok_or("the walk has no such item")?;
-        write!(text, "{moment}, ")?;
+        show(&mut text, *answer)?;
     }
     Ok(text)
+}
+
+fn is_played(alloc: Global, walk: &mut ScheduleIterator<'_>) -> bool {
+    walk.play(alloc, &[Turn::Next, Turn::Next]).is_ok()
 }
 
 fn check_wanting_play(
     rt: &(impl Abort + AllocGlobal),
     walk: &mut ScheduleIterator<'_>,
 ) -> Result<(), Fail> {
-    let alloc = rt.alloc();
-    let mut blocks = Vec::with_capacity(alloc, MOST_BLOCKS)?;
-    take_all_memory(&mut blocks, alloc);
-    let is_played = walk.play(alloc, &[Turn::Next, Turn::Next]).is_ok();
+    let mut blocks = Vec::with_capacity(rt.alloc(), MOST_BLOCKS)?;
+    take_all_memory(&mut blocks, rt.alloc());
+    let is_played = is_played(rt.alloc(), walk);
     give_back(rt, &mut blocks);
     assert!(rt; !is_played);
     Ok(())
@@ -98,7 +111,7 @@ fn check_wanting_play(
 fn check_told(rt: &(impl Abort + AllocGlobal), answers: &[Option<Moment>]) -> Result<(), Fail> {
     let text = told(rt.alloc(), answers)?;
     let wanted = "2020-01-02 00:00:00 +00:00, 2020-01-01 00:00:00 +00:00, ";
-    assert_eq!(rt; text.as_str(), wanted);
+    check_same(rt, &"start", text.as_str(), wanted);
     Ok(())
 }
 
@@ -113,7 +126,6 @@ fn check_play(
 
 #[test]
 fn a_list_of_calls_without_memory_leaves_the_walk(rt: HostRuntime) -> Result<(), Fail> {
-    let start = "2020-01-01T00:00:00Z".parse::<Timestamp>()?;
     let schedule = Schedule::from_str(rt.alloc(), "@daily")?;
-    check_play(&rt, &mut schedule.after(start, &TimeZone::UTC))
+    check_play(&rt, &mut schedule.after(start()?, &TimeZone::UTC))
 }

@@ -1,14 +1,11 @@
 //! Writers that fail on the way.
 
-ghost use Rattle.std.specs.Prelude.{◌≡◌, false};
-ghost use Rattle.cron_writer.specs.Watching.{has_failed};
-
-use super::arguments_in;
+use super::calls::{code_of_answer, run_from_start};
+use super::compared::{check_bytes, check_same};
 use super::limited::Limited;
-use crate::run::{Outcome, run};
+use super::{arguments_in, cut};
+use crate::run::Outcome;
 use crate::watched::Watched;
-use cron_listing::answer::answer;
-use jiff::tz::TimeZone;
 use std::alloc::{AllocError, Global};
 use std::io::ErrorKind;
 use std::process::Abort;
@@ -20,15 +17,14 @@ const FAULT: &str = "error: Seconds must be less than 59. ('60' specified.)\n";
 
 const USAGE: &str = "usage: cron_next EXPRESSION START ZONE COUNT [back]\n";
 
-// Asks for two items after the start of 2020.
-fn two_items(alloc: Global, expression: &str, out: &mut Watched<Limited>) -> Result<Outcome, Fail>
-    requires { has_failed out.old ≡ false }
-{
-    let start = "2020-01-01T00:00:00Z".parse()?;
-    Ok(run(alloc, expression, start, &TimeZone::UTC, 2, false, out))
+// A writer that holds this text, and has failed so often.
+fn check_writer(rt: &impl Abort, place: &str, writer: &Limited, text: &str, failures: u8) {
+    check_same(rt, &place, writer.held.as_slice(), text.as_bytes());
+    check_same(rt, &place, writer.failures, failures);
 }
 
-// A run over this writer ends so. Then the writer holds the text, and has failed so often.
+// Two items are asked for over this writer. The run ends so, and then the writer holds the text, and
+// has failed so often.
 fn check_run(
     rt: &(impl Abort + AllocGlobal),
     expression: &str,
@@ -37,19 +33,11 @@ fn check_run(
     text: &str,
     failures: u8,
 ) -> Result<(), Fail> {
-    let count = text.len();
     let mut out = Watched::new(writer);
-    let outcome = two_items(rt.alloc(), expression, &mut out)?;
-    assert_eq!(rt; outcome, done, "{expression} at {count}");
-    let failed = done == Outcome::WriteFailed;
-    assert_eq!(rt; out.failed(), failed, "{expression} at {count}");
-    let writer = out.into_inner();
-    assert_eq!(rt;
-        writer.held.as_slice(),
-        text.as_bytes(),
-        "{expression} at {count}"
-    );
-    assert_eq!(rt; writer.failures, failures, "{expression} at {count}");
+    let outcome = run_from_start(rt.alloc(), expression, 2, &mut out)?;
+    check_same(rt, &text, outcome, done);
+    check_same(rt, &text, out.failed(), done == Outcome::WriteFailed);
+    check_writer(rt, text, &out.into_inner(), text, failures);
     Ok(())
 }
 
@@ -65,12 +53,19 @@ fn check_failed_write(
     rt: &(impl Abort + AllocGlobal),
     expression: &str,
     text: &str,
-    room: usize,
+    kind: ErrorKind,
 ) -> Result<(), Fail> {
-    let text = text.get(..room).ok_or("a letter begins here")?;
+    let writer = Limited::failing(rt.alloc(), text.len(), kind);
+    check_run(rt, expression, writer, Outcome::WriteFailed, text, 1)
+}
+
+fn check_failed_kinds(
+    rt: &(impl Abort + AllocGlobal),
+    expression: &str,
+    text: &str,
+) -> Result<(), Fail> {
     for kind in KINDS {
-        let writer = Limited::failing(rt.alloc(), room, kind);
-        check_run(rt, expression, writer, Outcome::WriteFailed, text, 1)?;
+        check_failed_write(rt, expression, text, kind)?;
     }
     Ok(())
 }
@@ -81,7 +76,7 @@ fn check_failed_writes(
     text: &str,
 ) -> Result<(), Fail> {
     for room in 0..text.len() {
-        check_failed_write(rt, expression, text, room)?;
+        check_failed_kinds(rt, expression, cut(text, room)?)?;
     }
     Ok(())
 }
@@ -158,13 +153,10 @@ fn check_message(
     step: usize,
 ) -> Result<(), Fail> {
     let mut out = Watched::new(Limited::new(rt.alloc(), usize::MAX, step));
-    let outcome = two_items(rt.alloc(), expression, &mut out)?;
-    assert_eq!(rt; outcome, Outcome::Refused, "{step} bytes a call");
+    let outcome = run_from_start(rt.alloc(), expression, 2, &mut out)?;
+    check_same(rt, &step, outcome, Outcome::Refused);
     let held = out.into_inner().held;
-    assert!(rt;
-        held.as_slice() == message.as_bytes(),
-        "{step} bytes a call"
-    );
+    check_bytes(rt, &step, held.as_slice(), message.as_bytes());
     Ok(())
 }
 
@@ -190,11 +182,9 @@ fn check_answer(
     held: &str,
 ) {
     let mut out = Watched::new(writer);
-    let status = answer(rt.alloc(), arguments, &mut out);
-    assert_eq!(rt; status.code(), 3, "at {line}");
-    let writer = out.into_inner();
-    assert_eq!(rt; writer.failures, 1, "at {line}");
-    assert_eq!(rt; writer.held.as_slice(), held.as_bytes(), "at {line}");
+    let told = code_of_answer(rt.alloc(), arguments, &mut out);
+    check_same(rt, &line, told, 3);
+    check_writer(rt, line, &out.into_inner(), held, 1);
 }
 
 // Each way in which a writer fails after twenty bytes, and then in the flush.
@@ -202,22 +192,18 @@ fn check_answers(
     rt: &(impl Abort + AllocGlobal),
     line: &str,
     arguments: &[String],
-    cut: &str,
+    begun: &str,
     text: &str,
 ) {
     let alloc = rt.alloc();
-    check_answer(
-        rt,
-        line,
-        arguments,
-        Limited::new(alloc, 20, usize::MAX),
-        cut,
-    );
-    check_answer(rt, line, arguments, Limited::new(alloc, 20, 3), cut);
+    let whole = Limited::new(alloc, 20, usize::MAX);
+    check_answer(rt, line, arguments, whole, begun);
+    let stepping = Limited::new(alloc, 20, 3);
+    check_answer(rt, line, arguments, stepping, begun);
     let interrupted = Limited::failing(alloc, 20, ErrorKind::Interrupted);
-    check_answer(rt, line, arguments, interrupted, cut);
+    check_answer(rt, line, arguments, interrupted, begun);
     let blocked = Limited::failing(alloc, 20, ErrorKind::WouldBlock);
-    check_answer(rt, line, arguments, blocked, cut);
+    check_answer(rt, line, arguments, blocked, begun);
     check_answer(rt, line, arguments, Limited::unflushed(alloc), text);
 }
 
@@ -226,9 +212,9 @@ fn check_failed_answers(
     line: &str,
     text: &str,
 ) -> Result<(), Fail> {
-    let cut = text.get(..20).ok_or("a text of twenty bytes")?;
+    let begun = cut(text, 20)?;
     let arguments = arguments_in(rt.alloc(), line)?;
-    check_answers(rt, line, arguments.as_slice(), cut, text);
+    check_answers(rt, line, arguments.as_slice(), begun, text);
     Ok(())
 }
 
