@@ -1,5 +1,6 @@
 """Edits, which are wrong bodies of functions, and the functions of a crate by the names that a check gives them."""
 import glob
+import os
 import re
 from dataclasses import dataclass, field
 
@@ -8,25 +9,33 @@ from kit import rt
 FUNCTION = re.compile(r'^( *)(?:pub(?:\([a-z]+\))? )?(?:(?:const|final|unsafe|extern "C") )*fn (\w+)')
 HEAD = re.compile(r"^(?:pub(?:\([a-z]+\))? )?(?:impl|trait)\b")
 AROUND = re.compile(r"(?:impl|trait) (?:(?P<trait>[\w:]+) for )?(?:&(?:'\w+ )?(?:mut )?)?(?P<type>[\w:]+)")
+# A line above a function that belongs to it: an attribute or a comment, and none of the file's own.
+ABOVE = re.compile(r"^ *(?:#\[|//(?!!))")
 
 
 @dataclass(eq=False)
 class Function:
-    """A function of a source file: its first and last line, and the type and trait around it, as in OrdinalsClone."""
+    """A function of a source file: the first line of what belongs to it, that of its head, and its last line. The owner
+    is the type and trait around it, as in OrdinalsClone."""
 
     path: str
     owner: str
+    is_of_trait: bool
     name: str
+    top: int
     first: int
     last: int
+
+    def module(self):
+        """Returns the path of the function's module below its crate, with slashes, empty for the root."""
+        return re.sub(r"(?:/?mod|/?lib|/?main)?\.rt$", "", self.path[len("src/") :])
 
     def fits(self, crate, told):
         """Returns whether a check may give the function this name. A method stands under the module of its type, which
         may be another file's, and what its trait is given may stand after the owner."""
         path, _, name = told.rpartition("::")
         if not self.owner:
-            module = re.sub(r"(?:/?mod|/?lib|/?main)?\.rt$", "", self.path[len("src/") :])
-            return (path, name) == ("::".join([crate.name, *module.split("/")]).rstrip(":"), self.name)
+            return (path, name) == ("::".join([crate.name, *self.module().split("/")]).rstrip(":"), self.name)
         owner = path.rpartition("::")[2].partition("+")[0]
         return name == self.name and owner.lower().startswith(self.owner.lower())
 
@@ -41,6 +50,10 @@ class Edit:
     # the functions that kept it waiting
     awaited: set = field(default_factory=set)
 
+    def fault(self):
+        """Returns the last part of the file's name, which is MODULE-FUNCTION-FAULT."""
+        return os.path.basename(self.file).removesuffix(".edit").rpartition("-")[2]
+
 
 def without_arguments(text):
     """Drops what stands between angle brackets."""
@@ -51,15 +64,16 @@ def without_arguments(text):
 
 
 def owner_of(head):
-    """Returns the type and the trait that the head of an impl names, or the trait of a trait's. A type parameter, which
-    is one letter, is any type."""
-    around = AROUND.search(without_arguments(head))
+    """Returns the type and the trait that the head of an impl names, or the trait of a trait's, and whether there is a
+    trait. A type parameter, which is one letter, is any type."""
+    text = without_arguments(head)
+    around = AROUND.search(text)
     owner, trait = (it.strip(":").rpartition("::")[2] for it in (around["type"], around["trait"] or ""))
-    return ("Any" if len(owner) == 1 else owner) + trait
+    return ("Any" if len(owner) == 1 else owner) + trait, bool(trait) or not re.search(r"\bimpl\b", text)
 
 
 def functions_in(path, text):
-    lines, found, owner = text.split("\n"), [], ""
+    lines, found, owner = text.split("\n"), [], ("", False)
     for at, line in enumerate(lines):
         if HEAD.match(line):
             end = next((it for it in range(at, len(lines)) if "{" in lines[it]), at)
@@ -68,7 +82,11 @@ def functions_in(path, text):
         if head:
             ends = (head[1] + "}", head[1] + "{}")
             last = next((it for it in range(at, len(lines)) if lines[it] in ends), at)
-            found.append(Function(path, owner if head[1] else "", head[2], at, last))
+            top = at
+            while top and ABOVE.match(lines[top - 1]):
+                top -= 1
+            around = owner if head[1] else ("", False)
+            found.append(Function(path, *around, head[2], top, at, last))
     return found
 
 

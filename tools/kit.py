@@ -57,10 +57,12 @@ def proved(crate, jobs):
 
 
 def prove(crates):
-    """Proves crates and the libraries below them, those that don't wait for one another side by side. Returns whether
-    all are proved, and prints what the prover said of those that are not. Until this process ends, the kit's own
-    commands wait in these crates."""
+    """Proves crates and the libraries below them, those that don't wait for one another side by side, and takes what
+    another checkout on this machine proved of the same files, as the kit's own commands do. Returns whether all are
+    proved, and prints what the prover said of those that are not. Until this process ends, the kit's own commands wait
+    in these crates."""
     whole = with_libraries(crates)
+    rt.share_work(True)
     rt.rtlib.lock(whole)
 
     def work(crate, given, jobs):

@@ -1,0 +1,186 @@
+"""What the prover says of wrong bodies, many in one check: `try_edits` tells how."""
+import copy
+import glob
+import os
+import re
+import shutil
+import tempfile
+
+import copies
+import edits as given
+from kit import rt
+
+ONE_JOB = ["--jobs", "1"]
+# More in one check spare starts, fewer let more checks go side by side.
+MOST_COPIES, MOST_IN_PLACE = 24, 16
+# How the folders begin that checks take copies of what is kept to.
+ROOM = "edits-"
+PAST_WHAT_IS_REFUSED = [*ONE_JOB, "--allow-holes"]
+VERDICT = re.compile(r"^fn (\S+): (.*)", re.M)
+# What the kit tells of an edit that it tried by itself and that is well.
+IS_REFUSED = (rt.REFUSED, rt.AT_LIMIT)
+REFUSED, PROVED, WAITS, UNCLEAR = "refused", "proved", "waits", "unclear"
+JUDGED = {"not proved": REFUSED, "no proof: expected answers": REFUSED, "no holes": PROVED, "proved": PROVED}
+# An error that only says that a proof names what an edit took away.
+LOST_NAME = re.compile(r"has no field|is not in scope|has no `|was not admitted")
+
+
+def causes_of(said):
+    """Returns the modules and functions that keep a function from being proved, as its line names them."""
+    stands, _, calls = said.partition("it calls ")
+    return re.findall(r"`([^`]+)`", stands.partition("it stands on ")[2] + calls)
+
+
+def causes_below(causes, told):
+    """Returns these and what keeps those of them that are functions from being proved, and so on."""
+    found, todo = set(), [*causes]
+    while todo:
+        cause = todo.pop()
+        if cause not in found:
+            found.add(cause)
+            todo += causes_of(told.get(cause, ""))
+    return found
+
+
+def is_of(name, cause):
+    """Returns whether a cause is the function of this name, or a module of its proof."""
+    crate, _, path = name.partition("::")
+    return cause == name or cause.startswith(f"Rattle.{crate}.proofs.{path.replace('::', '.')}.")
+
+
+def only_lost_names(said, name):
+    """Returns whether all errors in what is written of a copy's proof say no more than that a name is gone."""
+    errors = re.findall(rf"^(?:note: )?(?:\./)?proofs/\S*\b{name}/\S+: (.*)", said, re.M)
+    return bool(errors) and all(LOST_NAME.search(it) for it in errors)
+
+
+class Judge:
+    """Judges edits of one proved crate by checks of it, each over the proof that is kept."""
+
+    def __init__(self, crate):
+        self.crate, self.functions, self.checks, self.names = crate, given.functions_of(crate), 0, {}
+        for left in glob.glob(f"{crate.folder}/out/{ROOM}*"):
+            shutil.rmtree(left)
+
+    def over_kept(self, call):
+        """Calls with the folder of a copy of what is kept. The copy shares its files, which a check replaces and does
+        not change."""
+        self.checks += 1
+        with tempfile.TemporaryDirectory(prefix=ROOM, dir=f"{self.crate.folder}/out") as room:
+            kept = f"{self.crate.folder}/out/incremental"
+            if os.path.isdir(kept):
+                shutil.copytree(kept, f"{room}/kept", copy_function=os.link)
+            else:
+                os.mkdir(f"{room}/kept")
+            return call(f"{room}/kept")
+
+    def alone(self, edit):
+        """Returns why an edit fails, tried by itself, or nothing where the prover refuses the crate with it."""
+        kind, said = self.over_kept(lambda kept: rt.must_fail(self.crate, edit.file, ONE_JOB, kept))
+        return "" if kind in IS_REFUSED else said.partition(": ")[2]
+
+    def as_copies(self, edits):
+        """Returns what one check with a copy for each edit says of it, or None where it did not get to the proofs."""
+        with tempfile.TemporaryDirectory(prefix=ROOM) as room:
+            copies.place_copies(self.crate, edits, room)
+            crate = copy.copy(self.crate)
+            crate.folder = room
+            said = self.over_kept(lambda kept: rt.checked(crate, {}, ONE_JOB, kept)).stdout
+        paths = {it.function.path for it in edits}
+        if not re.search(r"^logic=", said, re.M) or any(rt.unread(it, paths) for it in said.split("\n")):
+            return None
+        told = {}
+        for name, verdict in VERDICT.findall(said):
+            told.setdefault(name.rpartition("::")[2], []).append((name, verdict))
+        return [self.verdict_on_copy(copies.name_of(it), told, said) for it in edits]
+
+    def verdict_on_copy(self, name, told, said):
+        [(whole, verdict)] = told.get(name, []) if len(told.get(name, [])) == 1 else [("", "")]
+        if any(not is_of(whole, it) for it in causes_of(verdict)) or only_lost_names(said, name):
+            return UNCLEAR
+        return next((judged for it, judged in JUDGED.items() if verdict.startswith(it)), UNCLEAR)
+
+    def in_place(self, edits):
+        """Returns what one check says of each edit, or None where it did not get to the proofs."""
+        texts = {}
+        for edit in edits:
+            texts = given.applied(self.crate, edit, texts)[0]
+        said = self.over_kept(lambda kept: rt.checked(self.crate, texts, PAST_WHAT_IS_REFUSED, kept)).stdout
+        if not re.search(r"^holes=", said, re.M) or any(rt.unread(it, texts) for it in said.split("\n")):
+            return None
+        told = dict(VERDICT.findall(said))
+        named = given.names_of(self.crate, self.functions, told)
+        self.names.update({function: name for name, function in named.items()})
+        return [self.verdict(it, edits, told) for it in edits]
+
+    def verdict(self, edit, edits, told):
+        name = self.names.get(edit.function)
+        said = told.get(name, "")
+        of_others = causes_of(said)
+        if said.startswith("not proved") and any(is_of(name, it) for it in of_others):
+            return REFUSED
+        if not of_others:
+            return next((judged for it, judged in JUDGED.items() if said.startswith(it)), UNCLEAR)
+        broken = {self.names.get(it.function) for it in edits} - {name, None}
+        awaited = {it for it in broken if any(is_of(it, cause) for cause in causes_below(of_others, told))}
+        edit.awaited |= awaited
+        return WAITS if awaited else UNCLEAR
+
+    def go_together(self, edit, other):
+        waits = self.names.get(other.function) in edit.awaited or self.names.get(edit.function) in other.awaited
+        return edit.function is not other.function and not waits
+
+    def grouped_in_place(self, edits):
+        """Puts edits into groups for one check each: of one function one, none with what keeps it waiting."""
+        groups = []
+        for edit in edits:
+            for group, texts in groups:
+                fits = len(group) < MOST_IN_PLACE and all(self.go_together(edit, it) for it in group)
+                applied = given.applied(self.crate, edit, texts) if fits else None
+                if applied:
+                    group.append(edit)
+                    texts.update(applied[0])
+                    break
+            else:
+                groups.append(([edit], given.applied(self.crate, edit, {})[0]))
+        return [(self.in_place, group) for group, _ in groups]
+
+    def grouped(self, edits):
+        """Puts edits into groups for one check each, each group with the way that it is tried in."""
+        twice = [it for it in edits if copies.text_of(self.crate, it)]
+        once = [it for it in edits if it.function and it not in twice]
+        others = [self.by_itself(it) for it in edits if not it.function]
+        return self.grouped_as_copies(twice) + self.grouped_in_place(once) + others
+
+    def grouped_as_copies(self, edits):
+        """Puts edits into groups for one check each, alike in size."""
+        number = -(-len(edits) // MOST_COPIES)
+        return [(self.as_copies, edits[first::number]) for first in range(number)]
+
+    def by_itself(self, edit):
+        return None, [edit]
+
+    def halved(self, way, group):
+        half = len(group) // 2
+        return [(way, it) if len(it) > 1 else self.by_itself(it[0]) for it in (group[:half], group[half:])]
+
+    def judged(self, way, group):
+        """Tries a group. Returns the edits that fail, with why, those that wait, and further groups to be tried."""
+        if not way or way == self.in_place and len(group) == 1:
+            why = self.alone(group[0])
+            return ([(group[0].file, why)] if why else []), [], []
+        verdicts = way(group)
+        if verdicts is None:
+            return [], [], self.halved(way, group) if len(group) > 1 else [self.by_itself(group[0])]
+        told = lambda *wanted: [it for it, verdict in zip(group, verdicts) if verdict in wanted]
+        return [], told(WAITS), [self.by_itself(it) for it in told(PROVED, UNCLEAR)]
+
+    def failures(self, edits, pool):
+        """Tries edits in rounds of groups that go side by side, and returns those that fail, with why."""
+        failed, groups = [], self.grouped(edits)
+        while groups:
+            ended = list(pool.map(lambda it: self.judged(*it), groups))
+            waiting = [edit for _, waits, _ in ended for edit in waits]
+            groups = self.grouped_in_place(waiting) + [it for *_, further in ended for it in further]
+            failed += [it for fails, *_ in ended for it in fails]
+        return failed
