@@ -5,6 +5,7 @@ import os
 import re
 import shutil
 import tempfile
+import threading
 
 import copies
 import edits as given
@@ -58,14 +59,20 @@ class Judge:
     """Judges edits of one proved crate by checks of it, each over the proof that is kept."""
 
     def __init__(self, crate):
-        self.crate, self.functions, self.checks, self.names = crate, given.functions_of(crate), 0, {}
-        for left in glob.glob(f"{crate.folder}/out/{ROOM}*"):
-            shutil.rmtree(left)
+        self.crate, self.functions, self.names = crate, given.functions_of(crate), {}
+        self.begin, self.has_begun = threading.Lock(), False
+
+    def remove_left(self):
+        """Removes what runs that were killed left, once."""
+        with self.begin:
+            for left in [] if self.has_begun else glob.glob(f"{self.crate.folder}/out/{ROOM}*"):
+                shutil.rmtree(left)
+            self.has_begun = True
 
     def over_kept(self, call):
         """Calls with the folder of a copy of what is kept. The copy shares its files, which a check replaces and does
         not change."""
-        self.checks += 1
+        self.remove_left()
         with tempfile.TemporaryDirectory(prefix=ROOM, dir=f"{self.crate.folder}/out") as room:
             kept = f"{self.crate.folder}/out/incremental"
             if os.path.isdir(kept):
@@ -175,12 +182,11 @@ class Judge:
         told = lambda *wanted: [it for it, verdict in zip(group, verdicts) if verdict in wanted]
         return [], told(WAITS), [self.by_itself(it) for it in told(PROVED, UNCLEAR)]
 
-    def failures(self, edits, pool):
-        """Tries edits in rounds of groups that go side by side, and returns those that fail, with why."""
-        failed, groups = [], self.grouped(edits)
+    def failures(self, way, group):
+        """Tries a group, and then by itself or in further groups what is left open. Returns the edits that fail, with why."""
+        failed, groups = [], [(way, group)]
         while groups:
-            ended = list(pool.map(lambda it: self.judged(*it), groups))
-            waiting = [edit for _, waits, _ in ended for edit in waits]
-            groups = self.grouped_in_place(waiting) + [it for *_, further in ended for it in further]
-            failed += [it for fails, *_ in ended for it in fails]
+            fails, waiting, further = self.judged(*groups.pop())
+            failed += fails
+            groups += self.grouped_in_place(waiting) + further
         return failed

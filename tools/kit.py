@@ -56,14 +56,9 @@ def proved(crate, jobs):
         return crate.out.read() if status else ""
 
 
-def prove(crates):
-    """Proves crates and the libraries below them, those that don't wait for one another side by side, and takes what
-    another checkout on this machine proved of the same files, as the kit's own commands do. Returns whether all are
-    proved, and prints what the prover said of those that are not. Until this process ends, the kit's own commands wait
-    in these crates."""
-    whole = with_libraries(crates)
-    rt.share_work(True)
-    rt.rtlib.lock(whole)
+def proofs_of(crates):
+    """Returns the tasks that prove these crates, in which each waits for those below it. They give whether it is proved,
+    and print what the prover said where it is not."""
 
     def work(crate, given, jobs):
         if not all(given[it.name, "proof"] for it in crate.below()):
@@ -74,8 +69,20 @@ def prove(crates):
         return not said
 
     tasks = {}
-    for crate in whole:
+    for crate in crates:
         waits = [(it.name, "proof") for it in crate.below()]
         call = lambda given, jobs, it=crate: work(it, given, jobs)
         tasks[crate.name, "proof"] = (waits, crate.count(rb"\n"), rt.need(crate), call)
-    return all(rt.in_lanes(tasks).values())
+    return tasks
+
+
+def prove(crates, others=()):
+    """Proves crates and the libraries below them, those that don't wait for one another side by side, and takes what
+    another checkout on this machine proved of the same files, as the kit's own commands do. Other tasks, as those of
+    rt.in_lanes, fill the processors that are idle. Returns whether all crates are proved, and what each other task gave.
+    Until this process ends, the kit's own commands wait in these crates."""
+    whole = with_libraries(crates)
+    rt.share_work(True)
+    rt.rtlib.lock(whole)
+    given = rt.in_lanes({**proofs_of(whole), **dict(others)})
+    return all(given[it.name, "proof"] for it in whole), {it: given[it] for it in dict(others)}

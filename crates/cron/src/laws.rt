@@ -155,8 +155,8 @@ pub fn end_for_ever()
     ensures { law.EndIsForEver }
 {}
 
-/// After `next` answered an item, `next_back` answers the one before it, and a further `next` answers
-/// the item again.
+/// After `next` answered an item, `next_back` answers the one before it where there is one, and a further
+/// `next` answers the item again.
 pub fn neighbours()
     ensures { law.NeighboursAreAnswered }
 {}

@@ -20,7 +20,7 @@ mod tests;
 
 pub use runs::{Fires, missed};
 
-/// The seven sets of a schedule, as those take them that search without it.
+/// The seven sets of a schedule, for functions that take sets in place of a schedule.
 #[inline(always)]
 pub fn fields_of(schedule: &Schedule) -> ScheduleFields
     ensures { result ≡ schedule.now.sets }
@@ -37,7 +37,8 @@ pub fn fields_of(schedule: &Schedule) -> ScheduleFields
 }
 
 /// When the schedule fires first after an instant: of its moments in the zone whose instant comes after
-/// `now` the earliest, also in a fold. `None` where it fires no more.
+/// `now` the earliest, also in a fold. `None` where it fires no more. A loop goes on by
+/// [`first_fire_past`] from the fire that it ran, so that nothing that came due meanwhile is lost.
 pub fn first_fire_after(schedule: &Schedule, now: Timestamp, zone: &TimeZone<'_>) -> Option<Moment>
     ensures { IsFirstAfter schedule.now.sets (plain_zone zone.now) now.nanosecond result }
 {

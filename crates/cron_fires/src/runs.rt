@@ -84,7 +84,7 @@ impl<'a> Iterator for Fires<'a> {
 }
 
 /// What [`Fires::between`] answers, as a list: what came due between two instants, the second one
-/// included. It fails where memory is wanting, and for nothing else.
+/// included. It may fail for want of memory; no clause says when.
 pub fn missed(
     alloc: Global,
     schedule: &Schedule,

@@ -11,15 +11,20 @@ use jiff::tz::TimeZone;
 /// What the arguments ask for.
 #[derive(Drop)]
 pub struct Request<'a> {
+    /// The expression as it was written; nobody has read it yet.
     pub expression: &'a str,
+    /// The instant that the list begins at.
     pub start: Timestamp,
+    /// UTC, or the zone of a rule's text.
     pub zone: TimeZone<'a>,
+    /// How many items at most.
     pub count: u32,
+    /// Whether the list goes back in time.
     pub back: bool,
 }
 
-/// The number that digits write, and nothing else; `parse` lets a plus stand before them. `None` where 32 bits
-/// do not hold it.
+/// The number that the text writes in digits alone (`parse` would take a plus before them). `None` where there is
+/// another character or no digit, or where 32 bits do not hold the number.
 pub fn count_of(argument: &str) -> Option<u32>
     ensures { SomeIff result (IsCount argument.now) (digits_value 10 argument.now) }
 {

@@ -25,9 +25,13 @@ pub enum Start {
 /// so many.
 #[derive(Clone, Copy)]
 pub struct Plan<'a> {
+    /// When to fire.
     pub schedule: &'a Schedule,
+    /// Whose clock the schedule is read on.
     pub zone: &'a TimeZone<'a>,
+    /// Where the fires begin.
     pub start: Start,
+    /// How many fires at most; without it all of them.
     pub most: Option<u64>,
 }
 

@@ -138,7 +138,8 @@ impl Schedule {
         &self.fields.seconds
     }
 
-    /// Whether all seven sets are equal, however they were written.
+    /// Whether all seven sets are equal, however they were written. The mark of the last day of the month
+    /// is part of a set: `*,L` and `*` differ, though they mean the same days.
     pub fn timeunitspec_eq(&self, other: &Schedule) -> bool
         ensures { IsTrue result ↔ (self.now.sets ≡ other.now.sets) }
     {

@@ -9,7 +9,9 @@ use std::alloc::{AllocError, Global};
 /// A call of a walk.
 #[derive(Clone, Copy, Debug, PartialEq, Eq)]
 pub enum Turn {
+    /// A call of `next`.
     Next,
+    /// A call of `next_back`.
     NextBack,
 }
 

@@ -14,7 +14,7 @@ pub struct Walker<C: Course> {
     state: State,
 }
 
-/// A walk over the timeline of a schedule in a zone, which both are lent to it.
+/// A walk over the timeline of a schedule in a zone, both of which are lent to it.
 pub type ScheduleIterator<'a> = Walker<Lent<'a>>;
 
 /// A walk over the timeline of a schedule in a zone, which owns its sets and its zone.
@@ -79,7 +79,8 @@ impl<C: Course> Walker<C> {
         self.state.answer()
     }
 
-    /// The item before the cursor, to which the cursor moves.
+    /// The item before the cursor, to which the cursor moves. `None` where there is none, and from then on for ever,
+    /// in both directions.
     pub fn next_back(&mut self) -> Option<Moment>
         ensures { Gives Back self.old result self.new }
     {
@@ -105,7 +106,8 @@ impl<C: Course> Iterator for Walker<C> {
 
     ghost remaining = { item_count rest_ahead };
 
-    /// The item after the cursor, to which the cursor moves.
+    /// The item after the cursor, to which the cursor moves. `None` where there is none, and from then on for ever,
+    /// in both directions.
     fn next(&mut self) -> Option<Moment> {
         self.step(Way::Ahead)
     }
@@ -135,7 +137,8 @@ impl<C: Course> Reversed<C> {
     ghost use Rattle.cron_units.specs.declared.way.Way.TheVariants.{Ahead};
     ghost use Rattle.cron_time.specs.Walk.Rest.{Gives};
 
-    /// The item after the cursor, to which the cursor moves.
+    /// The item after the cursor, to which the cursor moves. `None` where there is none, and from then on for ever,
+    /// in both directions.
     pub fn next_back(&mut self) -> Option<Moment>
         ensures { Gives Ahead self.old result self.new }
     {
@@ -154,7 +157,8 @@ impl<C: Course> Iterator for Reversed<C> {
 
     ghost remaining = { item_count rest_back };
 
-    /// The item before the cursor, to which the cursor moves.
+    /// The item before the cursor, to which the cursor moves. `None` where there is none, and from then on for ever,
+    /// in both directions.
     fn next(&mut self) -> Option<Moment> {
         self.walk.next_back()
     }

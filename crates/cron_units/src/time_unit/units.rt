@@ -4,7 +4,7 @@ use super::names::{DAY_NAMES, DAY_SLOTS, DAY_SPREAD, MONTH_NAMES, MONTH_SLOTS, M
 use super::{Definition, Names, Ordinals, UnitTable};
 use cron_bits::wide::Wide;
 
-/// The seconds of a minute.
+/// A set of seconds, 0 to 59.
 pub type Seconds = Ordinals<SecondsTable, u64>;
 
 /// The table of `Seconds`.
@@ -38,7 +38,7 @@ impl UnitTable<u64> for SecondsTable {
     }
 }
 
-/// The minutes of an hour.
+/// A set of minutes, 0 to 59.
 pub type Minutes = Ordinals<MinutesTable, u64>;
 
 /// The table of `Minutes`.
@@ -72,7 +72,7 @@ impl UnitTable<u64> for MinutesTable {
     }
 }
 
-/// The hours of a day.
+/// A set of hours, 0 to 23.
 pub type Hours = Ordinals<HoursTable, u64>;
 
 /// The table of `Hours`.
@@ -106,7 +106,7 @@ impl UnitTable<u64> for HoursTable {
     }
 }
 
-/// The days of a month by their numbers.
+/// A set of days of the month by their numbers, 1 to 31.
 pub type NumberedDays = Ordinals<NumberedDaysTable, u64>;
 
 /// The table of `NumberedDays`.
@@ -140,7 +140,7 @@ impl UnitTable<u64> for NumberedDaysTable {
     }
 }
 
-/// The months of a year.
+/// A set of months, 1 (January) to 12.
 pub type Months = Ordinals<MonthsTable, u64>;
 
 /// The table of `Months`.
@@ -179,7 +179,7 @@ impl UnitTable<u64> for MonthsTable {
     }
 }
 
-/// The days of a week, of which Sunday is 1.
+/// A set of days of the week, 1 (Sunday) to 7 (Saturday).
 pub type DaysOfWeek = Ordinals<DaysOfWeekTable, u64>;
 
 /// The table of `DaysOfWeek`.
@@ -218,7 +218,7 @@ impl UnitTable<u64> for DaysOfWeekTable {
     }
 }
 
-/// The years.
+/// A set of years, 1970 to 2100.
 pub type Years = Ordinals<YearsTable, Wide>;
 
 /// The table of `Years`.
