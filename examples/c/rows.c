@@ -379,8 +379,8 @@ static void constants(void)
     item.reserved = 1;
     CHECK(cron_c_format(&item, CRON_C_NO_TEXT, &needed) == CRON_C_NOT_AN_ITEM);
     CHECK(cron_c_next(&schedule, named("UTC"), &item) == CRON_C_NOT_AN_ITEM);
-    for (uint32_t status = CRON_C_OK; status <= CRON_C_MORE; status++) {
-        CHECK(strcmp(cron_c_status_text(status), cron_c_status_text(CRON_C_MORE + 1)) != 0);
+    for (uint32_t status = CRON_C_OK; status <= CRON_C_NO_MEMORY; status++) {
+        CHECK(strcmp(cron_c_status_text(status), cron_c_status_text(CRON_C_NO_MEMORY + 1)) != 0);
     }
     CHECK(cron_c_fire_after(&schedule, named("UTC"), CRON_C_LEAST_INSTANT, &item) == CRON_C_OK);
     CHECK(cron_c_fire_by(&schedule, named("UTC"), CRON_C_GREATEST_INSTANT, &item) == CRON_C_OK);

@@ -15,10 +15,13 @@ def main():
     chicago = zone_of(library, "CST6CDT,M3.2.0,M11.1.0")
     for _ in range(3):
         item = found(library.cron_c_fire_after, schedule, chicago, now)
+        if item is None:
+            break
         print(text_of(library, item))  # sleep until `item.instant`, and run the job
         now = item.instant
     item = found(library.cron_c_fire_by, schedule, chicago, restarted)
-    print(f"last: {text_of(library, item)}")
+    if item is not None:
+        print(f"last: {text_of(library, item)}")
 
 
 main()

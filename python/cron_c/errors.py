@@ -10,7 +10,7 @@ class TextError(CronError):
 
 
 class ZoneError(CronError):
-    """The zone has no file that is known, or none that can be read, or an offset with a part of a second."""
+    """The zone is of a class that isn't known, has no key or no file that can be read, or an offset with a part of a second."""
 
 
 class InstantError(CronError):

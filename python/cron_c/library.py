@@ -8,7 +8,7 @@ from typing import Optional, Sequence
 
 from .errors import CronError, TextError, ZoneError
 
-OK, NO_ITEM, REFUSED, NOT_UTF8, BAD_ZONE, MORE = 0, 1, 2, 3, 4, 8
+OK, NO_ITEM, REFUSED, NOT_UTF8, BAD_ZONE, MORE, NO_MEMORY = 0, 1, 2, 3, 4, 8, 9
 LEAST_INSTANT, GREATEST_INSTANT = -377705023201, 253402207200
 
 
@@ -105,6 +105,8 @@ def read_history(data: bytes) -> History:
         status = _LIBRARY.cron_c_history_read(data, len(data), eras, len(eras), count)
     if status == BAD_ZONE:
         raise ZoneError("the zone's file is none")
+    if status == NO_MEMORY:
+        raise MemoryError("no room for what the zone's file says")
     if status != OK:
         raise CronError(f"status {status}")
     return eras

@@ -26,8 +26,10 @@ class Schedule:
     """The meaning of a text of six fields, or seven with years: `Schedule("0 30 9 * * Mon-Fri")`.
 
     TextError tells why a text means nothing. The zone is that of the datetime that is given: a
-    `ZoneInfo` with a key, or a fixed offset. Each call is exact also where a clock goes back, and
-    knows the zone's past. Nothing fires outside the years 1970 to 2100.
+    `ZoneInfo` with a key, or a `datetime.timezone`, at whose offset it is read all year. Each call is
+    exact also where a clock goes back, and knows the zone's past. Python compares and subtracts
+    answers of one `ZoneInfo` by what their clocks show: take `timestamp()` of both. Nothing fires
+    outside the years 1970 to 2100.
     """
 
     __slots__ = ("_sets", "_text")
@@ -55,7 +57,8 @@ class Schedule:
         return next(self.fires(moment), None)
 
     def before(self, moment: datetime) -> Optional[datetime]:
-        """When it fired last before a datetime, in its zone; None where it hasn't fired."""
+        """When it fired last before a datetime, in its zone; None where it hasn't fired. A fire at the
+        datetime itself isn't before it."""
         zone = _zone_of(moment)
         found = library.fire_by(self._sets, eras_of(zone), _ceiling(moment) - 1)
         return None if found is None else _moment(found, zone)

@@ -3,9 +3,10 @@
  *
  * C11 or later, and C++11 or later. Link `libcron_c.a` or `libcron_c.so`, x86-64-v2 code for Linux
  * (ELF). It needs no other library than that of C, keeps nothing between calls, and starts no
- * thread. Each call reads and writes what its arguments point to and nothing else, so calls over
- * different structs may run at the same time. None takes memory but `cron_c_history_read`, which
- * gives back what it took before it returns.
+ * thread. Each call reads and writes what its arguments point to and nothing else, so calls may run
+ * at the same time where none writes to what another is given: threads may share a schedule, a zone
+ * and eras. None takes memory but `cron_c_history_read`, which gives back what it took before it
+ * returns.
  *
  * Rules for every call, which no proof of the library can see:
  *   - No pointer may be null, also where its length is 0.
@@ -54,8 +55,8 @@ enum {
     CRON_C_BAD_ZONE = 4,    /* The text names no zone, or the numbers or the bytes are of none. */
     CRON_C_BAD_INSTANT = 5, /* The instant is less than the least one, or past the greatest. */
     CRON_C_NOT_AN_ITEM = 6, /* The given item isn't one of this schedule in this zone. */
-    CRON_C_UNTOLD = 7,      /* As CRON_C_REFUSED, but the message's length doesn't fit size_t. */
-    CRON_C_MORE = 8,        /* What was asked for was written as far as it fits, and more is left. */
+    CRON_C_UNTOLD = 7,      /* As CRON_C_REFUSED, but no message can be told; what its buffer holds means nothing. */
+    CRON_C_MORE = 8,        /* More is left than fits: what fits was written, or of a history nothing. */
     CRON_C_NO_MEMORY = 9    /* Memory is wanting. */
 };
 
@@ -134,12 +135,12 @@ uint32_t cron_c_parse(const char *text, size_t text_length,
                       char *message, size_t message_length, size_t *message_needed);
 
 /*
- * When a clock turns each year. The time is in seconds from the midnight that begins the day,
- * -604,799 to 604,799.
+ * When a clock turns each year. The time is in seconds from the midnight that begins the day, on the
+ * clock as it is before the turn, -604,799 to 604,799.
  *
  *   kind 1    day 1 to 365 of the year, where 29 February isn't counted
  *   kind 2    day 0 to 365 of the year
- *   kind 3    day 0 to 6 of the week, from Sunday on, in week 1 to 5 of the month; 5 is the last
+ *   kind 3    day 0 to 6 of the week, from Sunday on, in week 1 to 5 of month 1 to 12; 5 is the last
  */
 typedef struct cron_c_turn {
     uint32_t kind;
@@ -151,8 +152,9 @@ typedef struct cron_c_turn {
 
 /*
  * A zone. Read it once, copy it and keep it as you like. Offsets are in seconds ahead of UTC, up to
- * 25:59:59; that of the saving holds each year from `starts` to `ends`. What `reserved` holds means
- * nothing yet: give 0. Numbers that say no zone are answered by CRON_C_BAD_ZONE.
+ * 25:59:59. `saving` is the whole offset while the saving holds, as -18000 for CDT, and not the hour
+ * that it adds; it holds each year from `starts` to `ends`. What `reserved` holds means nothing yet:
+ * give 0. Numbers that say no zone are answered by CRON_C_BAD_ZONE.
  *
  *   kind 0    UTC
  *   kind 1    one offset
@@ -173,7 +175,8 @@ typedef struct cron_c_zone {
 
 /*
  * Reads the text of a zone into `zone`: `UTC`, or a rule as POSIX has it, as
- * `CST6CDT,M3.2.0,M11.1.0`. The names of its times are dropped.
+ * `CST6CDT,M3.2.0,M11.1.0`. A saving needs both of its dates, a name has 3 to 15 bytes, and nothing
+ * may follow, also no newline. The names are dropped.
  *
  * CRON_C_OK or CRON_C_BAD_ZONE.
  */
@@ -193,10 +196,13 @@ uint32_t cron_c_zone_parse(const char *text, size_t text_length, cron_c_zone *zo
 /*
  * Writes to `item` the earliest of the items whose instant comes after the given one; or,
  * `cron_c_fire_by`, the latest of those whose instant is the given one or comes before it. Each is
- * exact in every zone, also where a clock goes back, and may be asked anew from the instant of its
- * answer. Two items share an instant only in zones whose rule contradicts itself; of these
- * `cron_c_fire_after` answers the one that shows less, and `cron_c_fire_by` the other. For an
- * instant with a part of a second give the second that has begun.
+ * exact in every zone, also where a clock goes back. To go on, ask `cron_c_fire_after` anew from the
+ * instant of its answer, and `cron_c_fire_by` from the second before it, since from the instant
+ * itself it answers the same item again. Two items share an instant only in zones whose rule
+ * contradicts itself; of these `cron_c_fire_after` answers the one that shows less, and
+ * `cron_c_fire_by` the other. Asked anew, each leaves out the one that it didn't answer;
+ * `cron_c_fires_past` goes on from an item and leaves none out. For an instant with a part of a
+ * second give the second that has begun.
  *
  * CRON_C_OK, CRON_C_NO_ITEM, CRON_C_BAD_ZONE or CRON_C_BAD_INSTANT.
  */
@@ -219,7 +225,7 @@ uint32_t cron_c_fire_at(const cron_c_schedule *schedule,
 
 /*
  * Writes to `items` the items whose instant comes after `last` and not after `now`, the earliest
- * first, as far as they fit, and to `*count` how many they are. `cron_c_fires_past` does so with the
+ * first, as far as they fit, and to `*count` how many were written. `cron_c_fires_past` does so with the
  * items that are later than a given one, which may be none of the timeline: by it a list goes on
  * from the last item of a page, and a run after a restart from the item that was noted. Copy that
  * item first, since `items` is written to. No item is left out or comes twice at the seam of two
@@ -247,7 +253,8 @@ uint32_t cron_c_fires_past(const cron_c_schedule *schedule,
  * of its table an era of CRON_C_ZONE_FIXED, and the zone of its rule for the last one. An item of the
  * history is an item of an era's zone whose instant lies in that era. So no item lies before the
  * first era, and without an era there is none. The last eras of a list, from any of them on, are a
- * history too, and cheaper for calls that ask of no earlier instant.
+ * history too, and cheaper. From the era that holds the instant on they serve every call but
+ * `cron_c_history_fire_by`, whose answer may lie in any earlier era.
  */
 typedef struct cron_c_era {
     int64_t starts;
@@ -261,14 +268,17 @@ typedef struct cron_c_era {
  * Reads the bytes of a compiled zone file (TZif, RFC 9636), as /usr/share/zoneinfo holds them, writes
  * to `eras` the eras that mean its zone, and to `*count` how many they are. At each instant the era
  * that holds it has the offset that the file tells for it. The first one starts before every instant,
- * and the last one has the rule on the last line of the file, if there is one. Leap seconds that a
- * file tells are passed over.
+ * and the last one has the rule on the last line of the file. Without a rule there, as in a file of
+ * version 1, the last offset of the table holds for ever. Leap seconds are passed over, so a file that
+ * counts them, as those below `right/`, gives eras that start up to half a minute late: don't give
+ * such a file.
  *
  * CRON_C_OK; CRON_C_MORE where they are more than `eras_length`, and nothing is written but their
  * number in `*count`; or, with 0 in `*count`, CRON_C_BAD_ZONE where the bytes are none of such a file,
- * a name of its times has more than 15 bytes, two of its clock changes share a second, or its rule
- * says another time at the last of them than the table; CRON_C_NO_MEMORY where malloc has no room for
- * what the bytes say. Not to be called from a signal handler.
+ * a name of its times has more than 15 bytes, two of its clock changes share a second, one comes
+ * before the gap or fold of the one before it has ended, or its rule says another time at the last of
+ * them than the table; CRON_C_NO_MEMORY where malloc has no room for what the bytes say. Not to be
+ * called from a signal handler.
  */
 uint32_t cron_c_history_read(const uint8_t *bytes, size_t bytes_length,
                              cron_c_era *eras, size_t eras_length, size_t *count);
