@@ -1,8 +1,9 @@
 //! Alarms on a clock at one offset, which go off at ascending instants.
 
 ghost use Rattle.std.specs.Option.{option_map};
-ghost use Rattle.std.specs.Prelude.{◌≡◌, pos, ◌<ℤ◌, ◌≤ℤ◌, ◌*ℤ◌, ℤ, IfSome, MatchOption};
-ghost use Rattle.cron.specs.Words.{IsAfter, Shows, instant};
+ghost use Rattle.std.specs.Prelude.{◌≡◌, pos, ◌*ℤ◌, MatchOption};
+ghost use Rattle.cron.specs.Words.{instant};
+ghost use Rattle.cron_callers.specs.Alarms.{IsAlarmAfter};
 
 use cron::schedule::Moment;
 use cron::{Schedule, laws};
@@ -24,14 +25,12 @@ fn instant_of(moment: Option<Moment>) -> Option<Timestamp>
     Some(moment.timestamp())
 }
 
-/// The first two alarms: no instant after now at which the clock shows a match is missed before the
-/// first one, and the second is later.
+/// The first two alarms: the least instant after now at which the clock shows a match, and the least one
+/// after that. Each is `None` exactly where there is no such instant.
 pub fn first_alarms(schedule: &Schedule, now: Timestamp, offset: Offset) -> Alarms
-    ensures first { MatchOption result.first
-        ((n : ℤ) → IsAfter now.nanosecond n → ¬ (Shows schedule.now.sets offset.seconds n))
-        (λ first. (n : ℤ) → IsAfter now.nanosecond n → Shows schedule.now.sets offset.seconds n → first.nanosecond ≤ℤ (n *ℤ pos 1_000_000_000)) }
-    ensures later { IfSome result.first (λ first. now.nanosecond <ℤ first.nanosecond) }
-    ensures ascending { IfSome result.second (λ second. IfSome result.first (λ first. first.nanosecond <ℤ second.nanosecond)) }
+    ensures first { IsAlarmAfter schedule.now.sets offset.seconds now.nanosecond result.first }
+    ensures second { MatchOption result.first (result.second ≡ None)
+        (λ first. IsAlarmAfter schedule.now.sets offset.seconds first.nanosecond result.second) }
 {
     let zone = TimeZone::fixed(offset);
     laws::one_offset();
