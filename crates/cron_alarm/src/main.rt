@@ -2,13 +2,18 @@
 //! comes. With no arguments it shows the fold of Chicago's 2022 on a clock of its own.
 #![tactic(auto)]
 
+ghost use Rattle.std.specs.Prelude.{IfOk, IfErr, Ok, map, string_bytes};
+ghost use Rattle.std.specs.Process.{exit_status};
+ghost use Rattle.cron_alarm.specs.Arguments.{IsStatus};
+ghost use Rattle.cron_alarm.specs.Ringing.{Rings, Fails};
+
+mod arguments;
 mod late_clock;
 mod printer;
 
 use anyhow::Result;
+use arguments::{Request, request_of};
 use cron::Schedule;
-use cron_listing::arguments::count_of;
-use cron_moments::zone::zone_of;
 use cron_scheduler::{AlarmClock, MachineClock, Plan, Start};
 use cron_writer::watchable::Watchable;
 use cron_writer::watched::Watched;
@@ -28,26 +33,6 @@ const CHICAGO: &str = "CST6CDT,M3.2.0,M11.1.0";
 /// 2022-11-06T05:00:00Z, midnight in Chicago.
 const MIDNIGHT: i64 = 1_667_710_800;
 
-/// What is asked for: the first so many fires of an expression in a zone.
-#[derive(Drop)]
-struct Request<'a> {
-    expression: &'a str,
-    zone: TimeZone<'a>,
-    count: u32,
-}
-
-// Reads three arguments, `None` where one of them can't be read. The expression is left as it is.
-fn request_of(arguments: &[String]) -> Option<Request<'_>> {
-    let [expression, zone, count] = arguments else {
-        return None;
-    };
-    Some(Request {
-        expression: expression.as_str(),
-        zone: zone_of(zone.as_str())?,
-        count: count_of(count.as_str())?,
-    })
-}
-
 // Prints a line at each fire that was asked for, as the clock goes.
 fn ring<C: AlarmClock, W: Watchable>(
     alloc: Global,
@@ -57,6 +42,8 @@ fn ring<C: AlarmClock, W: Watchable>(
 ) -> Result<()>
 where
     C::Error: Error,
+    ensures rings { IfOk result (λ _. Rings C.shows C.waits W.contents request.now clock.old printer.old (Ok tt) clock.new printer.new) }
+    ensures fails { IfErr result (λ _. Fails C.shows C.waits W.contents request.now clock.old printer.old clock.new printer.new) }
 {
     let schedule = Schedule::from_str(alloc, request.expression)?;
     let plan = Plan {
@@ -80,7 +67,9 @@ fn ring_in_the_fold<W: Watchable>(alloc: Global, printer: &mut Printer<W>) -> Re
 }
 
 // Answers the arguments after the program's name.
-fn answer(rt: &HostRuntime, arguments: &[String]) -> Result<ExitCode> {
+fn answer(rt: &HostRuntime, arguments: &[String]) -> Result<ExitCode>
+    ensures { IfOk result (λ code. IsStatus (map string_bytes arguments.now) (exit_status code)) }
+{
     let mut printer = Printer {
         out: Watched::new(io::writer(rt)),
     };

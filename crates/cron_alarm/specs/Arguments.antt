@@ -1,0 +1,28 @@
+-- What the arguments of a command line say.
+use Rattle.std.specs.Prelude.{◌≡◌, ◌⊎◌, ℕ, List, [], ◌∷◌}
+use Rattle.std.specs.Str.Parse.{digits_value}
+use Rattle.jiff.specs.Words.{plain_zone}
+use Rattle.cron_moments.specs.Zones.{NamesZone, IsZoneOf}
+use Rattle.cron_listing.specs.Arguments.{IsCount}
+use Rattle.cron_alarm.specs.declared.arguments.Request.{Request}
+
+-- the request is what the arguments say
+pub record IsRead (expression zone count : List ℕ) (r : Request) : Type 0 where
+  pub expression_is : r.expression.now ≡ expression
+  pub zone_is : IsZoneOf zone (plain_zone r.zone)
+  pub count_is : r.count ≡ digits_value 10 count
+
+-- three arguments, of which the second names a zone and the third is a count
+abbrev pub IsReadable : List (List ℕ) → Type 0
+IsReadable (expression ∷ (zone ∷ (count ∷ []))) = NamesZone zone × IsCount count
+IsReadable arguments = ⊥
+
+-- what the arguments ask for
+abbrev pub Asks : List (List ℕ) → Request → Type 0
+Asks (expression ∷ (zone ∷ (count ∷ []))) r = IsRead expression zone count r
+Asks arguments r = ⊥
+
+-- the exit status where nothing fails: 2 where there are arguments that can't be read
+abbrev pub IsStatus : List (List ℕ) → ℕ → Type 0
+IsStatus [] status = status ≡ 0
+IsStatus (word ∷ words) status = (IsReadable (word ∷ words) × (status ≡ 0)) ⊎ ((IsReadable (word ∷ words) → ⊥) × (status ≡ 2))
