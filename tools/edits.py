@@ -49,6 +49,8 @@ class Edit:
     function: object = None
     # the functions that kept it waiting
     awaited: set = field(default_factory=set)
+    # whether it is refused only because what is written of the proof names what it takes away
+    takes_a_name: bool = False
 
     def fault(self):
         """Returns the last part of the file's name, which is MODULE-FUNCTION-FAULT."""

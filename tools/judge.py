@@ -22,8 +22,9 @@ VERDICT = re.compile(r"^fn (\S+): (.*)", re.M)
 IS_REFUSED = (rt.REFUSED, rt.AT_LIMIT)
 REFUSED, PROVED, WAITS, UNCLEAR = "refused", "proved", "waits", "unclear"
 JUDGED = {"not proved": REFUSED, "no proof: expected answers": REFUSED, "no holes": PROVED, "proved": PROVED}
-# An error that only says that a proof names what an edit took away.
+# An error that only says that a proof names what an edit took away, and how the kit tells of an edit with no other.
 LOST_NAME = re.compile(r"has no field|is not in scope|has no `|was not admitted")
+ONLY_LOST_NAMES = "only because a proof file names what the edit took away"
 
 
 def causes_of(said):
@@ -51,7 +52,7 @@ def is_of(name, cause):
 
 def only_lost_names(said, name):
     """Returns whether all errors in what is written of a copy's proof say no more than that a name is gone."""
-    errors = re.findall(rf"^(?:note: )?(?:\./)?proofs/\S*\b{name}/\S+: (.*)", said, re.M)
+    errors = re.findall(rf"^(?:note: )?(?:\./)?proofs/\S*\b{name}/\S+: (.*(?:\n  .*)*)", said, re.M)
     return bool(errors) and all(LOST_NAME.search(it) for it in errors)
 
 
@@ -84,6 +85,7 @@ class Judge:
     def alone(self, edit):
         """Returns why an edit fails, tried by itself, or nothing where the prover refuses the crate with it."""
         kind, said = self.over_kept(lambda kept: rt.must_fail(self.crate, edit.file, ONE_JOB, kept))
+        edit.takes_a_name = ONLY_LOST_NAMES in said
         return "" if kind in IS_REFUSED else said.partition(": ")[2]
 
     def as_copies(self, edits):
@@ -99,11 +101,14 @@ class Judge:
         told = {}
         for name, verdict in VERDICT.findall(said):
             told.setdefault(name.rpartition("::")[2], []).append((name, verdict))
-        return [self.verdict_on_copy(copies.name_of(it), told, said) for it in edits]
+        for edit in edits:
+            edit.takes_a_name = only_lost_names(said, copies.name_of(edit))
+        return [self.verdict_on_copy(told.get(copies.name_of(it), [])) for it in edits]
 
-    def verdict_on_copy(self, name, told, said):
-        [(whole, verdict)] = told.get(name, []) if len(told.get(name, [])) == 1 else [("", "")]
-        if any(not is_of(whole, it) for it in causes_of(verdict)) or only_lost_names(said, name):
+    def verdict_on_copy(self, told):
+        """Returns what the one line of a copy says of it, of the names and verdicts that were told."""
+        [(name, verdict)] = told if len(told) == 1 else [("", "")]
+        if any(not is_of(name, it) for it in causes_of(verdict)):
             return UNCLEAR
         return next((judged for it, judged in JUDGED.items() if verdict.startswith(it)), UNCLEAR)
 
