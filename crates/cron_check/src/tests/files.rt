@@ -8,18 +8,26 @@ use std::io::{self, BufReader, ErrorKind, Read};
 use std::process::Abort;
 use std::test::Fail;
 
-// A file is told so in this mode, and the check ends so.
-fn check_file(
-    rt: &(impl Abort + AllocGlobal),
-    mode: &Mode<'_>,
-    file: &[u8],
-    outcome: Outcome,
-    told: &str,
-) {
+// A file is told so, with its faults alone, and the check ends so.
+fn check_faults(rt: &(impl Abort + AllocGlobal), file: &[u8], outcome: Outcome, told: &str) {
     let count = file.len();
     let mut reader = file;
     let mut out = Watched::new(Vec::new(rt.alloc()));
-    let end = check(rt.alloc(), mode, &mut reader, &mut out);
+    let end = check(rt.alloc(), &Mode::Faults, &mut reader, &mut out);
+    assert_eq!(rt; end, outcome, "a file of {count} bytes");
+    assert_eq!(rt;
+        out.into_inner().as_slice(),
+        told.as_bytes(),
+        "a file of {count} bytes"
+    );
+}
+
+// The same with the sets in short form.
+fn check_sets(rt: &(impl Abort + AllocGlobal), file: &[u8], outcome: Outcome, told: &str) {
+    let count = file.len();
+    let mut reader = file;
+    let mut out = Watched::new(Vec::new(rt.alloc()));
+    let end = check(rt.alloc(), &Mode::Short, &mut reader, &mut out);
     assert_eq!(rt; end, outcome, "a file of {count} bytes");
     assert_eq!(rt;
         out.into_inner().as_slice(),
@@ -31,20 +39,13 @@ fn check_file(
 #[test]
 fn lines_end_in_line_feeds(rt: HostRuntime) -> Result<(), Fail> {
     let read = Outcome::AllRead;
-    check_file(&rt, &Mode::Faults, b"", read, "");
-    check_file(&rt, &Mode::Faults, b"\n\n\r\n \t\r\n", read, "");
-    check_file(&rt, &Mode::Faults, b"# one\r\n  # two", read, "");
-    check_file(&rt, &Mode::Short, b"@daily", read, "1: 0 0 0 * * * *\n");
-    check_file(
+    check_faults(&rt, b"", read, "");
+    check_faults(&rt, b"\n\n\r\n \t\r\n", read, "");
+    check_faults(&rt, b"# one\r\n  # two", read, "");
+    check_sets(&rt, b"@daily", read, "1: 0 0 0 * * * *\n");
+    check_sets(&rt, b"\r\n@daily\r\n", read, "2: 0 0 0 * * * *\n");
+    check_sets(
         &rt,
-        &Mode::Short,
-        b"\r\n@daily\r\n",
-        read,
-        "2: 0 0 0 * * * *\n",
-    );
-    check_file(
-        &rt,
-        &Mode::Short,
         b"@daily\n\n@hourly",
         read,
         "1: 0 0 0 * * * *\n3: 0 0 * * * * *\n",
@@ -57,10 +58,9 @@ fn refused_lines_are_numbered(rt: HostRuntime) -> Result<(), Fail> {
     let refused = Outcome::SomeRefused;
     let told = "2: Seconds must be less than 59. ('60' specified.)\n4: Invalid cron expression.\n";
     let file = b"@daily\n60 * * * * *\n#\n* * * * *\n".as_slice();
-    check_file(&rt, &Mode::Faults, file, refused, told);
-    check_file(
+    check_faults(&rt, file, refused, told);
+    check_faults(
         &rt,
-        &Mode::Faults,
         b"\0\n\xef\xbb\xbf@daily",
         refused,
         "1: Invalid cron expression.\n2: Invalid cron expression.\n",
@@ -86,16 +86,9 @@ fn the_first_fire_or_none_is_told(rt: HostRuntime) -> Result<(), Fail> {
 #[test]
 fn a_line_that_is_not_utf8_ends_the_check(rt: HostRuntime) -> Result<(), Fail> {
     let ended = Outcome::NotUtf8;
-    check_file(
+    check_faults(&rt, b"@daily\n# \xff\n60", ended, "2: not UTF-8\n");
+    check_sets(
         &rt,
-        &Mode::Faults,
-        b"@daily\n# \xff\n60",
-        ended,
-        "2: not UTF-8\n",
-    );
-    check_file(
-        &rt,
-        &Mode::Short,
         b"@daily\n\xc3",
         ended,
         "1: 0 0 0 * * * *\n2: not UTF-8\n",
@@ -117,13 +110,7 @@ fn a_long_line_is_told_whole(rt: HostRuntime) -> Result<(), Fail> {
     }
     told.push_str("' specified.\n")?;
     file.extend_from_slice(b" * * * * *\n")?;
-    check_file(
-        &rt,
-        &Mode::Faults,
-        file.as_slice(),
-        Outcome::SomeRefused,
-        told.as_str(),
-    );
+    check_faults(&rt, file.as_slice(), Outcome::SomeRefused, told.as_str());
     Ok(())
 }
 
