@@ -41,8 +41,9 @@ def proofs_of(crate, function):
     if not function.owner:
         found = [f"{below}/{function.module()}/{function.name}".replace("//", "/")]
     else:
-        # A method's stands under the module of its type, which may be another file's.
-        found = [f"{at}/{function.name}" for at, _, _ in os.walk(below) if os.path.basename(at) == function.owner]
+        # A method's stands under the module of its type, which may be another file's; behind the type may stand what it is given.
+        is_owner = lambda at: os.path.basename(at).partition("+")[0] == function.owner
+        found = [f"{at}/{function.name}" for at, _, _ in os.walk(below) if is_owner(at)]
     return [it[len(crate.folder) + 1 :] for it in found if os.path.isdir(it)]
 
 

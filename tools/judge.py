@@ -6,6 +6,7 @@ import re
 import shutil
 import tempfile
 import threading
+from dataclasses import replace
 
 import copies
 import edits as given
@@ -98,12 +99,11 @@ class Judge:
         paths = {it.function.path for it in edits}
         if not re.search(r"^logic=", said, re.M) or any(rt.unread(it, paths) for it in said.split("\n")):
             return None
-        told = {}
-        for name, verdict in VERDICT.findall(said):
-            told.setdefault(name.rpartition("::")[2], []).append((name, verdict))
+        told = VERDICT.findall(said)
         for edit in edits:
             edit.takes_a_name = only_lost_names(said, copies.name_of(edit))
-        return [self.verdict_on_copy(told.get(copies.name_of(it), [])) for it in edits]
+        twins = [replace(it.function, name=copies.name_of(it)) for it in edits]
+        return [self.verdict_on_copy([it for it in told if twin.fits(self.crate, it[0])]) for twin in twins]
 
     def verdict_on_copy(self, told):
         """Returns what the one line of a copy says of it, of the names and verdicts that were told."""
