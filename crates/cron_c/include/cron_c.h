@@ -56,7 +56,7 @@ enum {
     CRON_C_BAD_INSTANT = 5, /* The instant is less than the least one, or past the greatest. */
     CRON_C_NOT_AN_ITEM = 6, /* The given item isn't one of this schedule in this zone. */
     CRON_C_UNTOLD = 7,      /* As CRON_C_REFUSED, but no message can be told; what its buffer holds means nothing. */
-    CRON_C_MORE = 8,        /* More is left than fits: what fits was written, or of a history nothing. */
+    CRON_C_MORE = 8,        /* More is left than fits. What fits was written, but by cron_c_history_read nothing. */
     CRON_C_NO_MEMORY = 9    /* Memory is wanting. */
 };
 
