@@ -1,23 +1,6 @@
-/* Rows that the call must answer which reads a compiled zone file. It prints how many held, and fails at the first that doesn't. */
-#include "cron_c.h"
+/* Rows that the call must answer which reads a compiled zone file. */
 #include "pyongyang.h"
-
-#include <stdio.h>
-#include <stdlib.h>
-#include <string.h>
-
-static int held;
-
-static void check(int is, const char *what, int line)
-{
-    if (!is) {
-        printf("zone_rows: line %d: %s doesn't hold\n", line, what);
-        exit(1);
-    }
-    held++;
-}
-
-#define CHECK(what) check((what), #what, __LINE__)
+#include "rows.h"
 
 /* The clock changes of Pyongyang, as `zdump` tells them, and a place that no call may write to. */
 enum { ERAS = 6, ROOM = ERAS + 1 };
@@ -116,6 +99,6 @@ int main(void)
     bytes_that_end_early();
     changes_at_one_second();
     footers();
-    printf("examples: %d rows of zone files hold\n", held);
+    tell_held("zone files");
     return 0;
 }
