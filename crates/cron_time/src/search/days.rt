@@ -78,7 +78,7 @@ pub(crate) fn month_past(inquiry: &mut Inquiry<'_>, way: Way, month: u32) -> Opt
     ensures same { LooksAlone inquiry.old inquiry.new }
 {
     let rest = nearest_past::<MonthsOfYear>(inquiry, way, month % 12);
-    past_in_parts::<Years, MonthsOfYear>(inquiry, way, month, rest)
+    past_in_parts::<Years, MonthsOfYear>(inquiry, way, 12, month, rest)
 }
 
 // The nearest day of a month whose number lies in the set. The length of the month matters for the

@@ -11,9 +11,6 @@ use crate::search::inquiry::{Inquiry, Unit};
 use crate::search::ways::{entry, extreme, past};
 use cron_units::way::Way;
 
-/// The end of the months of the range, counted from January of the year 0.
-const MONTHS_END: u32 = 2101 * 12;
-
 /// Numbers of which the nearest one that lies in the sets can be asked for.
 pub(crate) trait Neighbours {
     /// Which numbers lie in the sets.
@@ -26,8 +23,6 @@ pub(crate) trait Neighbours {
     ghost least: { ℕ };
 
     ghost LIMIT: { ℕ };
-
-    const LIMIT: u32;
 
     /// The nearest one from a number on.
     fn nearest(inquiry: &mut Inquiry<'_>, way: Way, from: u32) -> Option<u32>
@@ -50,9 +45,11 @@ pub(crate) trait Neighbours {
 fn nearest_past_block<O: Neighbours, I: Neighbours>(
     inquiry: &mut Inquiry<'_>,
     way: Way,
+    width: u32,
     outer: u32,
 ) -> Option<u32>
     requires unit { O.parts ≡ 1 }
+    requires width { width ≡ I.LIMIT }
     requires positive { 0 < I.LIMIT }
     requires fits { (O.LIMIT + 1) * I.LIMIT < 2 ^ 32 }
     requires outer { outer < O.LIMIT }
@@ -65,21 +62,22 @@ fn nearest_past_block<O: Neighbours, I: Neighbours>(
     ensures questions { AreSets inquiry.old.sets
         → AsksPast I.parts result inquiry.old.questions inquiry.new.questions }
 {
-    let width = I::LIMIT;
     let next = O::nearest(inquiry, way, past(way, outer)?)?;
     let inner = I::nearest(inquiry, way, extreme(way, width))?;
     Some(next * width + inner)
 }
 
-/// The nearest number whose quotient by the limit of the inner numbers is one of the outer unit, and
-/// whose rest is one of the inner numbers.
+/// The nearest number whose quotient by the limit of the inner numbers, the width of a block, is one of the outer
+/// unit, and whose rest is one of the inner numbers.
 #[inline(always)]
 fn nearest_in_parts<O: Neighbours, I: Neighbours>(
     inquiry: &mut Inquiry<'_>,
     way: Way,
+    width: u32,
     from: u32,
 ) -> Option<u32>
     requires unit { O.parts ≡ 1 }
+    requires width { width ≡ I.LIMIT }
     requires positive { 0 < I.LIMIT }
     requires fits { (O.LIMIT + 1) * I.LIMIT < 2 ^ 32 }
     requires from { from + 1 < 2 ^ 32 }
@@ -95,14 +93,13 @@ fn nearest_in_parts<O: Neighbours, I: Neighbours>(
         → from ≡ outermost way (O.LIMIT * I.LIMIT)
         → Asks (I.parts + 1) inquiry.old.questions inquiry.new.questions }
 {
-    let width = I::LIMIT;
     let (first, rest) = (from / width, from % width);
     let outer = O::nearest(inquiry, way, first)?;
     let start = entry(way, width, first, rest, outer);
     if let Some(inner) = I::nearest(inquiry, way, start) {
         return Some(outer * width + inner);
     }
-    nearest_past_block::<O, I>(inquiry, way, outer)
+    nearest_past_block::<O, I>(inquiry, way, width, outer)
 }
 
 /// The nearest one past a number.
@@ -126,10 +123,12 @@ pub(crate) fn nearest_past<N: Neighbours>(
 pub(crate) fn past_in_parts<O: Neighbours, I: Neighbours>(
     inquiry: &mut Inquiry<'_>,
     way: Way,
+    width: u32,
     from: u32,
     inner: Option<u32>,
 ) -> Option<u32>
     requires unit { O.parts ≡ 1 }
+    requires width { width ≡ I.LIMIT }
     requires positive { 0 < I.LIMIT }
     requires fits { (O.LIMIT + 1) * I.LIMIT < 2 ^ 32 }
     requires block { (O.least ≤ from / I.LIMIT) × (from / I.LIMIT < O.LIMIT) }
@@ -143,12 +142,11 @@ pub(crate) fn past_in_parts<O: Neighbours, I: Neighbours>(
     ensures bound { IfSome result (λ n. (O.least * I.LIMIT ≤ n) × (n < O.LIMIT * I.LIMIT)) }
     ensures same { LooksAlone inquiry.old inquiry.new }
 {
-    let width = I::LIMIT;
     let outer = from / width;
     if let Some(rest) = inner {
         return Some(outer * width + rest);
     }
-    nearest_past_block::<O, I>(inquiry, way, outer)
+    nearest_past_block::<O, I>(inquiry, way, width, outer)
 }
 
 /// The seconds of a minute.
@@ -164,8 +162,6 @@ impl Neighbours for Seconds {
     ghost least = { 0 };
 
     ghost LIMIT = { 60 };
-
-    const LIMIT: u32 = 60;
 
     #[inline(always)]
     fn nearest(inquiry: &mut Inquiry<'_>, way: Way, from: u32) -> Option<u32> {
@@ -189,8 +185,6 @@ impl Neighbours for Minutes {
 
     ghost LIMIT = { 60 };
 
-    const LIMIT: u32 = 60;
-
     #[inline(always)]
     fn nearest(inquiry: &mut Inquiry<'_>, way: Way, from: u32) -> Option<u32> {
         inquiry.member(Unit::Minute, way, from)
@@ -212,8 +206,6 @@ impl Neighbours for Hours {
     ghost least = { 0 };
 
     ghost LIMIT = { 24 };
-
-    const LIMIT: u32 = 24;
 
     #[inline(always)]
     fn nearest(inquiry: &mut Inquiry<'_>, way: Way, from: u32) -> Option<u32> {
@@ -237,11 +229,9 @@ impl Neighbours for SecondsOfHour {
 
     ghost LIMIT = { 3600 };
 
-    const LIMIT: u32 = 3600;
-
     #[inline(always)]
     fn nearest(inquiry: &mut Inquiry<'_>, way: Way, from: u32) -> Option<u32> {
-        nearest_in_parts::<Minutes, Seconds>(inquiry, way, from)
+        nearest_in_parts::<Minutes, Seconds>(inquiry, way, 60, from)
     }
 
     ghost filled = { rest_filled };
@@ -261,11 +251,9 @@ impl Neighbours for TimesOfDay {
 
     ghost LIMIT = { 86_400 };
 
-    const LIMIT: u32 = 86_400;
-
     #[inline(always)]
     fn nearest(inquiry: &mut Inquiry<'_>, way: Way, from: u32) -> Option<u32> {
-        nearest_in_parts::<Hours, SecondsOfHour>(inquiry, way, from)
+        nearest_in_parts::<Hours, SecondsOfHour>(inquiry, way, 3600, from)
     }
 
     ghost filled = { times_filled };
@@ -281,7 +269,7 @@ fn rest_past(inquiry: &mut Inquiry<'_>, way: Way, rest: u32) -> Option<u32>
     ensures same { LooksAlone inquiry.old inquiry.new }
 {
     let second = nearest_past::<Seconds>(inquiry, way, rest % 60);
-    past_in_parts::<Minutes, Seconds>(inquiry, way, rest, second)
+    past_in_parts::<Minutes, Seconds>(inquiry, way, 60, rest, second)
 }
 
 /// The nearest time of day past one that lies in the sets: its hour and minute aren't asked for again.
@@ -294,7 +282,7 @@ pub(crate) fn time_past(inquiry: &mut Inquiry<'_>, way: Way, time: u32) -> Optio
     ensures same { LooksAlone inquiry.old inquiry.new }
 {
     let rest = rest_past(inquiry, way, time % 3600);
-    past_in_parts::<Hours, SecondsOfHour>(inquiry, way, time, rest)
+    past_in_parts::<Hours, SecondsOfHour>(inquiry, way, 3600, time, rest)
 }
 
 /// The months of a year, from 0 for January.
@@ -310,8 +298,6 @@ impl Neighbours for MonthsOfYear {
     ghost least = { 0 };
 
     ghost LIMIT = { 12 };
-
-    const LIMIT: u32 = 12;
 
     #[inline(always)]
     fn nearest(inquiry: &mut Inquiry<'_>, way: Way, from: u32) -> Option<u32> {
@@ -336,8 +322,6 @@ impl Neighbours for Years {
 
     ghost LIMIT = { 2101 };
 
-    const LIMIT: u32 = 2101;
-
     #[inline(always)]
     fn nearest(inquiry: &mut Inquiry<'_>, way: Way, from: u32) -> Option<u32> {
         inquiry.member(Unit::Year, way, from)
@@ -360,11 +344,9 @@ impl Neighbours for Months {
 
     ghost LIMIT = { months_end };
 
-    const LIMIT: u32 = MONTHS_END;
-
     #[inline(always)]
     fn nearest(inquiry: &mut Inquiry<'_>, way: Way, from: u32) -> Option<u32> {
-        nearest_in_parts::<Years, MonthsOfYear>(inquiry, way, from)
+        nearest_in_parts::<Years, MonthsOfYear>(inquiry, way, 12, from)
     }
 
     ghost filled = { all_months_filled };

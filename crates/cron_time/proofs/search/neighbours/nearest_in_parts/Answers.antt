@@ -12,13 +12,13 @@ returns-in_err-outer-clause-nearest g c =
     let o = g.O.Neighbours.passes s in
     let i = g.I.Neighbours.passes s in
     rw c.from_residual.ensures (carry_none c.args.way w o i (both w o i) c.args.from (both_parts w o i) c.requires.positive
-    (rw c.LIMIT-width.ensures at c.in_err-outer.ensures.nearest))
+    (rw c.requires.width at c.in_err-outer.ensures.nearest))
 
 pub returns-in_err-outer-clause-outermost : goal.returns-in_err-outer-clause-outermost
 returns-in_err-outer-clause-outermost g c = λ sets at.
     let one = g.met.O.Neighbours.filled c.args.inquiry.now.sets sets in
     let parts = outermost_parts c.args.way g.O.Neighbours.LIMIT g.I.Neighbours.LIMIT (omega (arith, one.1)) c.requires.positive in
-    let first : c.args.from / c.LIMIT-width.result ≡ outermost c.args.way g.O.Neighbours.LIMIT = rw (c.LIMIT-width.ensures, at) parts.0 in
+    let first : c.args.from / c.args.width ≡ outermost c.args.way g.O.Neighbours.LIMIT = rw (c.requires.width, at) parts.0 in
     outermost_finds c.args.way g.O.Neighbours.LIMIT (g.O.Neighbours.passes c.args.inquiry.now.sets) one (rw first at c.in_err-outer.ensures.nearest)
 
 pub returns-in-Some-clause-nearest : goal.returns-in-Some-clause-nearest
@@ -27,8 +27,8 @@ returns-in-Some-clause-nearest g c =
     let w = g.I.Neighbours.LIMIT in
     let o = g.O.Neighbours.passes s in
     let i = g.I.Neighbours.passes s in
-    let first = rw c.LIMIT-width.ensures at c.in_ok-outer.ensures.nearest in
-    let enters = rw c.LIMIT-width.ensures at c.entry-start.ensures.enters in
+    let first = rw c.requires.width at c.in_ok-outer.ensures.nearest in
+    let enters = rw c.requires.width at c.entry-start.ensures.enters in
     let carried : Carried c.args.way w o i (both w o i) c.args.from c.in_ok-outer.outer c.entry-start.result = record {
       split = both_parts w o i;
       positive = c.requires.positive;
@@ -36,7 +36,7 @@ returns-in-Some-clause-nearest g c =
       enters = enters;
     } in
     let inner = rw c.nearest.ensures.same.sets at c.in-Some.ensures.nearest in
-    rw c.LIMIT-width.ensures (carry_first c.args.way w o i (both w o i) c.args.from c.in_ok-outer.outer c.entry-start.result c.in-Some.inner carried
+    rw c.requires.width (carry_first c.args.way w o i (both w o i) c.args.from c.in_ok-outer.outer c.entry-start.result c.in-Some.inner carried
     c.in-Some.ensures.bound.1 inner)
 
 pub returns-in-Some-clause-questions : goal.returns-in-Some-clause-questions
@@ -49,7 +49,7 @@ returns-in-Some-clause-outermost g c = λ sets at.
     let later : AreSets c.nearest.new.inquiry.sets = rw c.nearest.ensures.same.sets sets in
     let one = g.met.O.Neighbours.filled c.args.inquiry.now.sets sets in
     let start = start_outermost c.args.way g.O.Neighbours.LIMIT g.I.Neighbours.LIMIT c.args.from c.entry-start.result (omega (arith, one.1))
-    c.requires.positive at (rw c.LIMIT-width.ensures at c.entry-start.ensures.value) in
+    c.requires.positive at (rw c.requires.width at c.entry-start.ensures.value) in
     omega (arith, one_asked _ _ _ _ c.requires.unit (c.nearest.ensures.questions sets), c.nearest-2.ensures.outermost later start)
 
 pub returns-clause-nearest : goal.returns-clause-nearest
@@ -58,8 +58,8 @@ returns-clause-nearest g c =
     let w = g.I.Neighbours.LIMIT in
     let o = g.O.Neighbours.passes s in
     let i = g.I.Neighbours.passes s in
-    let first = rw c.LIMIT-width.ensures at c.in_ok-outer.ensures.nearest in
-    let enters = rw c.LIMIT-width.ensures at c.entry-start.ensures.enters in
+    let first = rw c.requires.width at c.in_ok-outer.ensures.nearest in
+    let enters = rw c.requires.width at c.entry-start.ensures.enters in
     let carried : Carried c.args.way w o i (both w o i) c.args.from c.in_ok-outer.outer c.entry-start.result =
     record { split = both_parts w o i; positive = c.requires.positive; first = first; enters = enters } in
     let none = rw c.nearest.ensures.same.sets at c.in_default.ensures.nearest in
@@ -78,12 +78,9 @@ returns-clause-outermost g c = λ sets at.
     let later : AreSets c.nearest.new.inquiry.sets = rw c.nearest.ensures.same.sets sets in
     let one = g.met.O.Neighbours.filled c.args.inquiry.now.sets sets in
     let start = start_outermost c.args.way g.O.Neighbours.LIMIT g.I.Neighbours.LIMIT c.args.from c.entry-start.result (omega (arith, one.1))
-    c.requires.positive at (rw c.LIMIT-width.ensures at c.entry-start.ensures.value) in
+    c.requires.positive at (rw c.requires.width at c.entry-start.ensures.value) in
     let full = g.met.I.Neighbours.filled c.nearest.new.inquiry.sets later in
     outermost_finds c.args.way g.I.Neighbours.LIMIT (g.I.Neighbours.passes c.nearest.new.inquiry.sets) full (rw start at c.in_default.ensures.nearest)
-
-pub LIMIT-width-requires : goal.LIMIT-width-requires
-LIMIT-width-requires g c κs = search rules
 
 pub nonzero_div-first : goal.nonzero_div-first
 nonzero_div-first g c = search rules
@@ -122,17 +119,17 @@ pub overflow_mul-result : goal.overflow_mul-result
 overflow_mul-result g c =
     let within = in_bounds g.O.Neighbours.least c.in_ok-outer.outer g.O.Neighbours.LIMIT g.I.Neighbours.LIMIT c.in-Some.inner
     c.in_ok-outer.ensures.bound.0 c.in_ok-outer.ensures.bound.1 c.in-Some.ensures.bound.1 in
-    rw c.LIMIT-width.ensures (omega (arith, within, c.requires.fits))
+    rw c.requires.width (omega (arith, within, c.requires.fits))
 
 pub overflow_add-result : goal.overflow_add-result
 overflow_add-result g c =
     let within = in_bounds g.O.Neighbours.least c.in_ok-outer.outer g.O.Neighbours.LIMIT g.I.Neighbours.LIMIT c.in-Some.inner
     c.in_ok-outer.ensures.bound.0 c.in_ok-outer.ensures.bound.1 c.in-Some.ensures.bound.1 in
-    rw c.LIMIT-width.ensures (omega (arith, within, c.requires.fits))
+    rw c.requires.width (omega (arith, within, c.requires.fits))
 
 pub returns-in-Some-clause-bound : goal.returns-in-Some-clause-bound
 returns-in-Some-clause-bound g c =
-    rw c.LIMIT-width.ensures (in_bounds g.O.Neighbours.least c.in_ok-outer.outer g.O.Neighbours.LIMIT g.I.Neighbours.LIMIT c.in-Some.inner
+    rw c.requires.width (in_bounds g.O.Neighbours.least c.in_ok-outer.outer g.O.Neighbours.LIMIT g.I.Neighbours.LIMIT c.in-Some.inner
     c.in_ok-outer.ensures.bound.0 c.in_ok-outer.ensures.bound.1 c.in-Some.ensures.bound.1)
 
 pub returns-in-Some-clause-same : goal.returns-in-Some-clause-same

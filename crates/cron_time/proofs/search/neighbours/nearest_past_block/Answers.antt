@@ -31,12 +31,9 @@ returns-clause-nearest g c =
     let i = g.I.Neighbours.passes s in
     let next = rw c.in_ok-past.ensures at c.in_ok-next.ensures.nearest in
     let first = rw c.nearest.ensures.same.sets at c.in_ok-inner.ensures.nearest in
-    let extreme = rw c.LIMIT-width.ensures at c.extreme.ensures.extreme in
-    rw c.LIMIT-width.ensures (past_next c.args.way w o i (both w o i) c.args.outer c.in_ok-next.next c.extreme.result c.in_ok-inner.inner
+    let extreme = rw c.requires.width at c.extreme.ensures.extreme in
+    rw c.requires.width (past_next c.args.way w o i (both w o i) c.args.outer c.in_ok-next.next c.extreme.result c.in_ok-inner.inner
     (both_parts w o i) c.requires.positive next extreme c.in_ok-inner.ensures.bound.1 first)
-
-pub LIMIT-width-requires : goal.LIMIT-width-requires
-LIMIT-width-requires g c κs = search rules
 
 pub past-requires : goal.past-requires
 past-requires g c = search rules
@@ -99,7 +96,7 @@ pub returns-in_err-inner-clause-questions : goal.returns-in_err-inner-clause-que
 returns-in_err-inner-clause-questions g c = λ sets.
     let later : AreSets c.nearest.new.inquiry.sets = rw c.nearest.ensures.same.sets sets in
     let full = g.met.I.Neighbours.filled c.nearest.new.inquiry.sets later in
-    let start : c.extreme.result ≡ outermost c.args.way g.I.Neighbours.LIMIT = rw c.LIMIT-width.ensures at c.extreme.ensures.value in
+    let start : c.extreme.result ≡ outermost c.args.way g.I.Neighbours.LIMIT = rw c.requires.width at c.extreme.ensures.value in
     outermost_finds c.args.way g.I.Neighbours.LIMIT (g.I.Neighbours.passes c.nearest.new.inquiry.sets) full
     (rw start at c.in_err-inner.ensures.nearest)
 
@@ -111,7 +108,7 @@ overflow_add-result g c = search rules
 
 pub returns-clause-bound : goal.returns-clause-bound
 returns-clause-bound g c =
-    rw c.LIMIT-width.ensures (in_bounds g.O.Neighbours.least c.in_ok-next.next g.O.Neighbours.LIMIT g.I.Neighbours.LIMIT c.in_ok-inner.inner
+    rw c.requires.width (in_bounds g.O.Neighbours.least c.in_ok-next.next g.O.Neighbours.LIMIT g.I.Neighbours.LIMIT c.in_ok-inner.inner
     c.in_ok-next.ensures.bound.0 c.in_ok-next.ensures.bound.1 c.in_ok-inner.ensures.bound.1)
 
 pub returns-clause-same : goal.returns-clause-same
