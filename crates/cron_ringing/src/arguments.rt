@@ -1,7 +1,7 @@
 //! The arguments of a command line.
 
 ghost use Rattle.std.specs.Prelude.{◌↔◌, IfSome, IsSome, map, string_bytes};
-ghost use Rattle.cron_alarm.specs.Arguments.{IsReadable, Asks};
+ghost use Rattle.cron_ringing.specs.Arguments.{IsReadable, Asks};
 
 use cron_listing::arguments::count_of;
 use cron_moments::zone::zone_of;
@@ -9,18 +9,18 @@ use jiff::tz::TimeZone;
 
 /// What is asked for: the first so many fires of an expression in a zone.
 #[derive(Drop)]
-pub(crate) struct Request<'a> {
+pub struct Request<'a> {
     /// The expression as it was written; nobody has read it yet.
-    pub(crate) expression: &'a str,
+    pub expression: &'a str,
     /// UTC, or the zone of a rule's text.
-    pub(crate) zone: TimeZone<'a>,
+    pub zone: TimeZone<'a>,
     /// How many fires at most.
-    pub(crate) count: u32,
+    pub count: u32,
 }
 
 /// Reads three arguments, `None` where there are more or fewer or the zone or the count can't be read. The expression
 /// is left as it is.
-pub(crate) fn request_of(arguments: &[String]) -> Option<Request<'_>>
+pub fn request_of(arguments: &[String]) -> Option<Request<'_>>
     ensures succeeds { IsSome result ↔ IsReadable (map string_bytes arguments.now) }
     ensures value { IfSome result (Asks (map string_bytes arguments.now)) }
 {

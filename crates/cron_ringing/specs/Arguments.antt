@@ -1,10 +1,10 @@
 -- What the arguments of a command line say.
-use Rattle.std.specs.Prelude.{◌≡◌, ◌⊎◌, ℕ, List, [], ◌∷◌}
+use Rattle.std.specs.Prelude.{◌≡◌, ℕ, List, [], ◌∷◌}
 use Rattle.std.specs.Str.Parse.{digits_value}
 use Rattle.jiff.specs.Words.{plain_zone}
 use Rattle.cron_moments.specs.Zones.{NamesZone, IsZoneOf}
 use Rattle.cron_listing.specs.Arguments.{IsCount}
-use Rattle.cron_alarm.specs.declared.arguments.Request.{Request}
+use Rattle.cron_ringing.specs.declared.arguments.Request.{Request}
 
 -- the request is what the arguments say
 pub record IsRead (expression zone count : List ℕ) (r : Request) : Type 0 where
@@ -21,8 +21,3 @@ IsReadable arguments = ⊥
 abbrev pub Asks : List (List ℕ) → Request → Type 0
 Asks (expression ∷ (zone ∷ (count ∷ []))) r = IsRead expression zone count r
 Asks arguments r = ⊥
-
--- the exit status where nothing fails: 2 where there are arguments that can't be read
-abbrev pub IsStatus : List (List ℕ) → ℕ → Type 0
-IsStatus [] status = status ≡ 0
-IsStatus (word ∷ words) status = (IsReadable (word ∷ words) × (status ≡ 0)) ⊎ ((IsReadable (word ∷ words) → ⊥) × (status ≡ 2))

@@ -1,3 +1,4 @@
+pub mod Answering
 pub mod Arguments
 pub mod Printing
 pub mod Ringing

@@ -2,7 +2,7 @@
 
 ghost use Rattle.jiff.specs.Words.{plain_zone};
 ghost use Rattle.cron_scheduler.specs.Plans.{planned};
-ghost use Rattle.cron_alarm.specs.Printing.{Prints, PrintsLine};
+ghost use Rattle.cron_ringing.specs.Printing.{Prints, PrintsLine, PrintsText};
 
 use cron::schedule::Moment;
 use cron_moments::line::line_of;
@@ -14,7 +14,7 @@ use std::fmt;
 
 /// A write or a flush failed.
 #[derive(Clone, Copy, Debug)]
-pub(crate) struct WriteFailed;
+pub struct WriteFailed;
 
 impl fmt::Display for WriteFailed {
     fn fmt<W: fmt::Write>(&self, f: &mut fmt::Formatter<W>) -> fmt::Result {
@@ -26,19 +26,17 @@ impl Error for WriteFailed {}
 
 /// Writes a line for each fire, and flushes. It calls the writer no more once a call has failed.
 #[derive(Drop)]
-pub(crate) struct Printer<W> {
-    pub(crate) out: Watched<W>,
+pub struct Printer<W> {
+    /// Where the lines go.
+    pub out: Watched<W>,
 }
 
-impl<W: Watchable> Job for Printer<W> {
-    ghost use Rattle.cron_alarm.specs.Printing.{PrintsLine};
-
-    type Error = WriteFailed;
-
-    ghost runs = { λ old fire answer new. PrintsLine W.contents old.out fire answer new.out };
-
-    fn run(&mut self, fire: Moment) -> Result<(), WriteFailed> {
-        send(&mut self.out, line_of(&fire).as_slice());
+impl<W: Watchable> Printer<W> {
+    /// Hands a text on and flushes. Once a call has failed it does nothing, and fails.
+    pub fn print(&mut self, text: &[u8]) -> Result<(), WriteFailed>
+        ensures { PrintsText W.writes W.flushes W.contents self.old.out text.now result self.new.out }
+    {
+        send(&mut self.out, text);
         if self.out.failed() {
             return Err(WriteFailed);
         }
@@ -50,13 +48,25 @@ impl<W: Watchable> Job for Printer<W> {
     }
 }
 
+impl<W: Watchable> Job for Printer<W> {
+    ghost use Rattle.cron_ringing.specs.Printing.{PrintsLine};
+
+    type Error = WriteFailed;
+
+    ghost runs = { λ old fire answer new. PrintsLine W.writes W.flushes W.contents old.out fire answer new.out };
+
+    fn run(&mut self, fire: Moment) -> Result<(), WriteFailed> {
+        self.print(line_of(&fire).as_slice())
+    }
+}
+
 /// Prints the fires of a plan, each when the clock has come to it.
 pub(crate) fn print_fires<C: AlarmClock, W: Watchable>(
     plan: &Plan<'_>,
     clock: &mut C,
     printer: &mut Printer<W>,
 ) -> Result<(), Stop<C::Error, WriteFailed>>
-    ensures { Prints C.shows C.waits (λ old fire answer new. PrintsLine W.contents old.out fire answer new.out) W.contents (λ p. p.out)
+    ensures { Prints C.shows C.waits (λ old fire answer new. PrintsLine W.writes W.flushes W.contents old.out fire answer new.out) W.contents (λ p. p.out)
         (planned plan.now.schedule.now.sets (plain_zone plan.now.zone.now) plan.now.start plan.now.most)
         clock.old printer.old result clock.new printer.new }
 {

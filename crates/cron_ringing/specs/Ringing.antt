@@ -1,0 +1,48 @@
+-- What it is to ring at the fires that were asked for.
+use Rattle.std.specs.Prelude.{◌≡◌, ◌⊎◌, ℕ, List, Option, Some, Result, Ok, Err, ⊤}
+use Rattle.std.specs.declared.io.Error.{Error}
+use Rattle.jiff.specs.Words.{plain_zone}
+use Rattle.jiff_core.specs.declared.Timestamp.{Timestamp}
+use Rattle.cron_units.specs.Sets.{Sets}
+use Rattle.cron.specs.Words.{Means, Tells, IsRefusal}
+use Rattle.cron_scheduler.specs.declared.plan.Start.TheVariants.{After}
+use Rattle.cron_scheduler.specs.declared.stop.Stop.{Stop}
+use Rattle.cron_scheduler.specs.declared.stop.Stop.TheVariants.{Clock}
+use Rattle.cron_scheduler.specs.Plans.{planned}
+use Rattle.cron_ringing.specs.declared.arguments.Request.{Request}
+use Rattle.cron_ringing.specs.declared.printer.Printer.{Printer}
+use Rattle.cron_ringing.specs.declared.printer.WriteFailed.{WriteFailed}
+use Rattle.cron_ringing.specs.declared.ring.Failure.{Failure}
+use Rattle.cron_ringing.specs.declared.ring.Failure.TheVariants.{Refused, Stopped}
+use Rattle.cron_ringing.specs.Printing.{Prints, PrintsLine}
+
+-- The expression means sets, the clock was looked at, and then the fires of these sets after what it showed were printed,
+-- up to the count.
+pub record PrintsAsked {C W E : Type 0} (shows : C → Result Timestamp E → C → Type 0) (waits : C → Timestamp → Result ⊤ E → C → Type 0)
+    (writes : W → List ℕ → Result ℕ Error → W → Type 0) (flushes : W → Result ⊤ Error → W → Type 0) (contents : W → Option (List ℕ)) (r : Request) (c : C) (p : Printer W) (answer : Result ⊤ (Stop E WriteFailed)) (c' : C) (p' : Printer W) : Type 0 where
+  pub sets : Sets
+  pub means : Means r.expression.now sets
+  pub start : Timestamp
+  pub looked : C
+  pub looks : shows c (Ok start) looked
+  pub prints : Prints shows waits (λ old fire told new. PrintsLine writes flushes contents old.out fire told new.out) contents (λ x. x.out)
+      (planned sets (plain_zone r.zone) (After start) (Some r.count)) looked p answer c' p'
+
+-- The expression means sets, but the clock could not be read, and nothing was written.
+pub record IsUnread {C W E : Type 0} (shows : C → Result Timestamp E → C → Type 0) (r : Request) (c : C) (p : Printer W)
+    (stop : Stop E WriteFailed) (c' : C) (p' : Printer W) : Type 0 where
+  pub sets : Sets
+  pub means : Means r.expression.now sets
+  pub fault : E
+  pub looks : shows c (Err fault) c'
+  pub cause : stop ≡ Clock fault
+  pub untouched : p' ≡ p
+
+-- What a request asks for was printed. Or the expression is refused, and the clock and the printer are as before; or the clock
+-- could not be read; or the run that prints was stopped.
+abbrev pub Rings : {C W E : Type 0} → (C → Result Timestamp E → C → Type 0) → (C → Timestamp → Result ⊤ E → C → Type 0)
+    → (W → List ℕ → Result ℕ Error → W → Type 0) → (W → Result ⊤ Error → W → Type 0) → (W → Option (List ℕ)) → Request → C → Printer W → Result ⊤ (Failure E) → C → Printer W → Type 0
+Rings shows waits writes flushes contents r c p (Ok done) c' p' = PrintsAsked shows waits writes flushes contents r c p (Ok tt) c' p'
+Rings shows waits writes flushes contents r c p (Err (Refused e)) c' p' = Tells (IsRefusal r.expression.now) e × (c' ≡ c) × (p' ≡ p)
+Rings shows waits writes flushes contents r c p (Err (Stopped stop)) c' p' =
+    IsUnread shows r c p stop c' p' ⊎ PrintsAsked shows waits writes flushes contents r c p (Err stop) c' p'

@@ -1,0 +1,63 @@
+//! Rings at the fires that a request asks for.
+
+ghost use Rattle.cron_ringing.specs.Ringing.{Rings};
+
+use crate::arguments::Request;
+use crate::printer::{Printer, WriteFailed, print_fires};
+use cron::Schedule;
+use cron::error::Error as ReadError;
+use cron_scheduler::{AlarmClock, Plan, Start, Stop};
+use cron_writer::watchable::Watchable;
+use std::alloc::Global;
+use std::error::Error;
+use std::fmt;
+
+/// Why it was given up before all was rung. It prints as the error that it holds.
+#[derive(Debug, Drop)]
+pub enum Failure<E> {
+    /// The expression is refused, or memory is wanting.
+    Refused(ReadError),
+    /// The clock failed, or a write.
+    Stopped(Stop<E, WriteFailed>),
+}
+
+impl<E: fmt::Display> fmt::Display for Failure<E> {
+    fn fmt<W: fmt::Write>(&self, f: &mut fmt::Formatter<W>) -> fmt::Result {
+        match self {
+            Failure::Refused(error) => write!(f, "{error}"),
+            Failure::Stopped(stop) => write!(f, "{stop}"),
+        }
+    }
+}
+
+impl<E: Error> Error for Failure<E> {}
+
+/// Prints a line at each fire that is asked for, when the clock has come to it. The fires begin after the time that the
+/// clock shows first. Where the expression is refused the clock isn't asked, and nothing is written.
+pub fn ring<C: AlarmClock, W: Watchable>(
+    alloc: Global,
+    request: &Request<'_>,
+    clock: &mut C,
+    printer: &mut Printer<W>,
+) -> Result<(), Failure<C::Error>>
+    ensures { Rings C.shows C.waits W.writes W.flushes W.contents request.now clock.old printer.old result clock.new printer.new }
+{
+    let schedule = match Schedule::from_str(alloc, request.expression) {
+        Ok(schedule) => schedule,
+        Err(error) => return Err(Failure::Refused(error)),
+    };
+    let now = match clock.now() {
+        Ok(now) => now,
+        Err(error) => return Err(Failure::Stopped(Stop::Clock(error))),
+    };
+    let plan = Plan {
+        schedule: &schedule,
+        zone: &request.zone,
+        start: Start::After(now),
+        most: Some(u64::from(request.count)),
+    };
+    match print_fires(&plan, clock, printer) {
+        Ok(()) => Ok(()),
+        Err(stop) => Err(Failure::Stopped(stop)),
+    }
+}
