@@ -4,14 +4,14 @@
 
 mod late_clock;
 
-use anyhow::Result;
-use cron_ringing::answer::answer;
+use cron_ringing::answer::{Status, answer};
 use cron_ringing::arguments::Request;
 use cron_ringing::printer::Printer;
-use cron_ringing::ring::ring;
-use cron_scheduler::MachineClock;
+use cron_ringing::ring::{Failure, ring};
+use cron_scheduler::{MachineClock, Stop};
 use cron_writer::watchable::Watchable;
 use cron_writer::watched::Watched;
+use jiff::Error;
 use jiff::tz::TimeZone;
 use late_clock::LateClock;
 use std::alloc::Global;
@@ -24,35 +24,46 @@ const CHICAGO: &str = "CST6CDT,M3.2.0,M11.1.0";
 /// 2022-11-06T05:00:00Z, midnight in Chicago.
 const MIDNIGHT: i64 = 1_667_710_800;
 
+/// The exit status where it is given up.
+const FAILED: u8 = 1;
+
 // Both half past ones of a fold and the one of the next day, on a clock that wakes late.
-fn ring_in_the_fold<W: Watchable>(alloc: Global, printer: &mut Printer<W>) -> Result<()> {
+fn ring_in_the_fold<W: Watchable>(
+    alloc: Global,
+    chicago: TimeZone<'_>,
+    printer: &mut Printer<W>,
+) -> Result<Status, Failure<Error>> {
     let request = Request {
         expression: "0 30 1 * * *",
-        zone: TimeZone::posix(CHICAGO)?,
+        zone: chicago,
         count: 3,
     };
     ring(alloc, &request, &mut LateClock::new(MIDNIGHT), printer)?;
-    Ok(())
+    Ok(Status::Rung)
 }
 
-// Answers the arguments after the program's name, and tells the exit status.
-fn status_of(rt: &HostRuntime, arguments: &[String]) -> Result<u8> {
+// Tells the exit status, and writes why it is given up. After a failed write nothing is written.
+fn status_of(rt: &HostRuntime, ended: Result<Status, Failure<Error>>) -> u8 {
+    match ended {
+        Ok(status) => status.code(),
+        Err(Failure::Stopped(Stop::Job(_))) => FAILED,
+        Err(failure) => {
+            let _printed = println!(rt; "error: {failure}");
+            FAILED
+        }
+    }
+}
+
+fn run(rt: &HostRuntime) -> anyhow::Result<u8> {
+    let arguments: Vec<String> = env::args(rt)?.collect(rt.alloc())?;
     let mut printer = Printer {
         out: Watched::new(io::writer(rt)),
     };
-    if arguments.is_empty() {
-        ring_in_the_fold(rt.alloc(), &mut printer)?;
-        return Ok(0);
-    }
-    Ok(answer(rt.alloc(), arguments, &mut MachineClock(rt), &mut printer)?.code())
-}
-
-fn run(rt: &HostRuntime) -> Result<u8> {
-    let arguments: Vec<String> = env::args(rt)?.collect(rt.alloc())?;
-    match arguments.as_slice().split_first() {
-        Some((_, arguments)) => status_of(rt, arguments),
-        None => status_of(rt, &[]),
-    }
+    let ended = match arguments.as_slice() {
+        [] | [_] => ring_in_the_fold(rt.alloc(), TimeZone::posix(CHICAGO)?, &mut printer),
+        [_, arguments @ ..] => answer(rt.alloc(), arguments, &mut MachineClock(rt), &mut printer),
+    };
+    Ok(status_of(rt, ended))
 }
 
 fn main(rt: HostRuntime) -> ExitCode {
@@ -60,7 +71,7 @@ fn main(rt: HostRuntime) -> ExitCode {
         Ok(status) => ExitCode::from(status),
         Err(error) => {
             let _printed = println!(rt; "error: {error}");
-            ExitCode::FAILURE
+            ExitCode::from(FAILED)
         }
     }
 }

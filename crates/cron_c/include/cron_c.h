@@ -188,7 +188,7 @@ uint32_t cron_c_zone_parse(const char *text, size_t text_length, cron_c_zone *zo
  *   a scheduler, and whoever asks what was missed    by instants: `cron_c_fire_after` and its like
  *   a calendar, and whoever lists what clocks show   the walk: `cron_c_after` and its like
  *
- * They differ only where a clock goes back. The walk goes along the times that the clock shows, and
+ * They differ only where a clock goes back, or a rule contradicts itself. The walk goes along the times that the clock shows, and
  * answers both readings of a repeated one before the next. By instants the items come as time
  * passes.
  */
@@ -276,8 +276,8 @@ typedef struct cron_c_era {
  * CRON_C_OK; CRON_C_MORE where they are more than `eras_length`, and nothing is written but their
  * number in `*count`; or, with 0 in `*count`, CRON_C_BAD_ZONE where the bytes are none of such a file,
  * a name of its times has more than 15 bytes, two of its clock changes share a second, one comes
- * before the gap or fold of the one before it has ended, or its rule says another time at the last of
- * them than the table; CRON_C_NO_MEMORY where malloc has no room for what the bytes say. Not to be
+ * before the gap or fold of the one before it has ended, or its rule says another offset, another name
+ * or no saving time where the table has it, or the other way round, at the last of them; CRON_C_NO_MEMORY where malloc has no room for what the bytes say. Not to be
  * called from a signal handler.
  */
 uint32_t cron_c_history_read(const uint8_t *bytes, size_t bytes_length,
@@ -317,8 +317,9 @@ uint32_t cron_c_history_fires_past(const cron_c_schedule *schedule,
  * neither. For an instant with a part of a second give `cron_c_after` the second that has begun, and
  * `cron_c_before` the one after it.
  *
- * Where a clock goes back, it shows an hour twice, and a search from an instant in it may leave out
- * items after that instant, or answer the instant itself. In Chicago on 2022-11-06 `0 30 1 * * *`
+ * Where a clock goes back, it shows some time twice, mostly an hour, and a search from an instant in
+ * it may leave out items after that instant, or answer the instant itself or one before it; and
+ * `cron_c_before` so the other way round. In Chicago on 2022-11-06 `0 30 1 * * *`
  * after 06:30Z is not the second 01:30, at 07:30Z, but the next day's; and `59 59 1 * * *` after
  * 06:59:59Z is 06:59:59Z. So don't ask anew from an item's instant: `cron_c_next` goes on from the
  * item itself, and `cron_c_fire_after` asks by instants.

@@ -47,8 +47,8 @@ pub fn first_fire_after(schedule: &Schedule, now: Timestamp, zone: &TimeZone<'_>
 }
 
 /// When the schedule fires next after a fire: of its moments that are later than this one the earliest,
-/// also where two share an instant, of which that with the less civil second comes first. The moment may
-/// be one at which the schedule doesn't fire.
+/// also where two share an instant, of which that with the less civil second comes first. `None` where it
+/// fires no more. The moment may be one at which the schedule doesn't fire.
 pub fn first_fire_past(schedule: &Schedule, item: &Moment, zone: &TimeZone<'_>) -> Option<Moment>
     ensures { IsFirstPast schedule.now.sets (plain_zone zone.now) item.now result }
 {

@@ -44,4 +44,4 @@ Lists r old new status =
 -- the arguments can be read, and what they ask for was listed; or they can't, and the usage line was written
 abbrev pub IsAnswered : List (List ℕ) → Option (List ℕ) → Option (List ℕ) → Status → Type 0
 IsAnswered arguments old new status =
-    ((r : Request) × Asks arguments r × Lists r old new status) ⊎ ((IsReadable arguments → ⊥) × IsUsage old new status)
+    (IsReadable arguments × ((r : Request) × Asks arguments r × Lists r old new status)) ⊎ ((IsReadable arguments → ⊥) × IsUsage old new status)

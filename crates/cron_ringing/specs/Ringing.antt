@@ -9,12 +9,14 @@ use Rattle.cron_scheduler.specs.declared.plan.Start.TheVariants.{After}
 use Rattle.cron_scheduler.specs.declared.stop.Stop.{Stop}
 use Rattle.cron_scheduler.specs.declared.stop.Stop.TheVariants.{Clock}
 use Rattle.cron_scheduler.specs.Plans.{planned}
+use Rattle.cron_scheduler.specs.Runs.{stop_text}
+use Rattle.cron_units.specs.Texts.{error_text}
 use Rattle.cron_ringing.specs.declared.arguments.Request.{Request}
 use Rattle.cron_ringing.specs.declared.printer.Printer.{Printer}
 use Rattle.cron_ringing.specs.declared.printer.WriteFailed.{WriteFailed}
 use Rattle.cron_ringing.specs.declared.ring.Failure.{Failure}
 use Rattle.cron_ringing.specs.declared.ring.Failure.TheVariants.{Refused, Stopped}
-use Rattle.cron_ringing.specs.Printing.{Prints, PrintsLine}
+use Rattle.cron_ringing.specs.Printing.{Prints, write_failed_text}
 
 -- The expression means sets, the clock was looked at, and then the fires of these sets after what it showed were printed,
 -- up to the count.
@@ -25,7 +27,7 @@ pub record PrintsAsked {C W E : Type 0} (shows : C → Result Timestamp E → C 
   pub start : Timestamp
   pub looked : C
   pub looks : shows c (Ok start) looked
-  pub prints : Prints shows waits (λ old fire told new. PrintsLine writes flushes contents old.out fire told new.out) contents (λ x. x.out)
+  pub prints : Prints shows waits writes flushes contents
       (planned sets (plain_zone r.zone) (After start) (Some r.count)) looked p answer c' p'
 
 -- The expression means sets, but the clock could not be read, and nothing was written.
@@ -38,11 +40,16 @@ pub record IsUnread {C W E : Type 0} (shows : C → Result Timestamp E → C →
   pub cause : stop ≡ Clock fault
   pub untouched : p' ≡ p
 
--- What a request asks for was printed. Or the expression is refused, and the clock and the printer are as before; or the clock
--- could not be read; or the run that prints was stopped.
+-- What a request asks for was printed. Or the expression is refused or memory is wanting, and the clock and the printer are as
+-- before; or the clock could not be read; or the run that prints was stopped.
 abbrev pub Rings : {C W E : Type 0} → (C → Result Timestamp E → C → Type 0) → (C → Timestamp → Result ⊤ E → C → Type 0)
     → (W → List ℕ → Result ℕ Error → W → Type 0) → (W → Result ⊤ Error → W → Type 0) → (W → Option (List ℕ)) → Request → C → Printer W → Result ⊤ (Failure E) → C → Printer W → Type 0
 Rings shows waits writes flushes contents r c p (Ok done) c' p' = PrintsAsked shows waits writes flushes contents r c p (Ok tt) c' p'
 Rings shows waits writes flushes contents r c p (Err (Refused e)) c' p' = Tells (IsRefusal r.expression.now) e × (c' ≡ c) × (p' ≡ p)
 Rings shows waits writes flushes contents r c p (Err (Stopped stop)) c' p' =
     IsUnread shows r c p stop c' p' ⊎ PrintsAsked shows waits writes flushes contents r c p (Err stop) c' p'
+
+-- what a failure prints, by what an error of the clock prints
+abbrev pub failure_text : {E : Type 0} → (E → Option (List ℕ)) → Failure E → Option (List ℕ)
+failure_text clock (Refused e) = Some (error_text e)
+failure_text clock (Stopped stop) = stop_text clock (λ failed. Some write_failed_text) stop

@@ -2,7 +2,7 @@
 
 ghost use Rattle.jiff.specs.Words.{plain_zone};
 ghost use Rattle.cron_scheduler.specs.Plans.{planned};
-ghost use Rattle.cron_ringing.specs.Printing.{Prints, PrintsLine, PrintsText};
+ghost use Rattle.cron_ringing.specs.Printing.{Prints, PrintsText};
 
 use cron::schedule::Moment;
 use cron_moments::line::line_of;
@@ -17,6 +17,11 @@ use std::fmt;
 pub struct WriteFailed;
 
 impl fmt::Display for WriteFailed {
+    ghost use Rattle.std.specs.Prelude.{Some};
+    ghost use Rattle.cron_ringing.specs.Printing.{write_failed_text};
+
+    ghost output = { λ _. Some write_failed_text };
+
     fn fmt<W: fmt::Write>(&self, f: &mut fmt::Formatter<W>) -> fmt::Result {
         write!(f, "a write failed")
     }
@@ -34,7 +39,7 @@ pub struct Printer<W> {
 impl<W: Watchable> Printer<W> {
     /// Hands a text on and flushes. Once a call has failed it does nothing, and fails.
     pub fn print(&mut self, text: &[u8]) -> Result<(), WriteFailed>
-        ensures { PrintsText W.writes W.flushes W.contents self.old.out text.now result self.new.out }
+        ensures { PrintsText W.writes W.flushes W.contents self.old text.now result self.new }
     {
         send(&mut self.out, text);
         if self.out.failed() {
@@ -53,7 +58,7 @@ impl<W: Watchable> Job for Printer<W> {
 
     type Error = WriteFailed;
 
-    ghost runs = { λ old fire answer new. PrintsLine W.writes W.flushes W.contents old.out fire answer new.out };
+    ghost runs = { PrintsLine W.writes W.flushes W.contents };
 
     fn run(&mut self, fire: Moment) -> Result<(), WriteFailed> {
         self.print(line_of(&fire).as_slice())
@@ -66,7 +71,7 @@ pub(crate) fn print_fires<C: AlarmClock, W: Watchable>(
     clock: &mut C,
     printer: &mut Printer<W>,
 ) -> Result<(), Stop<C::Error, WriteFailed>>
-    ensures { Prints C.shows C.waits (λ old fire answer new. PrintsLine W.writes W.flushes W.contents old.out fire answer new.out) W.contents (λ p. p.out)
+    ensures { Prints C.shows C.waits W.writes W.flushes W.contents
         (planned plan.now.schedule.now.sets (plain_zone plan.now.zone.now) plan.now.start plan.now.most)
         clock.old printer.old result clock.new printer.new }
 {

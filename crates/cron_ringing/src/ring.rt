@@ -22,6 +22,10 @@ pub enum Failure<E> {
 }
 
 impl<E: fmt::Display> fmt::Display for Failure<E> {
+    ghost use Rattle.cron_ringing.specs.Ringing.{failure_text};
+
+    ghost output = { λ failure. failure_text E.output failure };
+
     fn fmt<W: fmt::Write>(&self, f: &mut fmt::Formatter<W>) -> fmt::Result {
         match self {
             Failure::Refused(error) => write!(f, "{error}"),

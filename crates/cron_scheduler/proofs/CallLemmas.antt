@@ -4,7 +4,7 @@ use Rattle.std.specs.Prelude.{Result, Ok, Err, ⊤, MatchOption}
 use Rattle.jiff_core.specs.declared.Timestamp.{Timestamp}
 use Rattle.cron_moments.specs.Readings.{Reading}
 use Rattle.cron_scheduler.specs.declared.stop.Stop.{Stop}
-use Rattle.cron_scheduler.specs.Runs.{Event, Wait, Look, Run, Happened, ran, shown, failure, EndsBy, MayFollow}
+use Rattle.cron_scheduler.specs.Runs.{Event, Wait, Look, Run, Happened, ran, shown, failure, EndsBy, HasWaited, MayFollow}
 
 pub happened_on : {C J E F : Type 0} (shows : C → Result Timestamp E → C → Type 0) (waits : C → Timestamp → Result ⊤ E → C → Type 0)
     (runs : J → Reading → Result ⊤ F → J → Type 0) (es fs : List (Event E F)) (c : C) (j : J) (c1 : C) (j1 : J) (c2 : C) (j2 : J)
@@ -73,6 +73,34 @@ turn_on {E} {F} fires es last turns next before after e h =
       | inl here ↦ subst (λ (x : Event E F). MayFollow fires before x) (sym here.1) (subst (λ (l : List (Event E F)). MayFollow fires l last) (sym here.0) next)
       | inr there ↦ turns before there.0 e there.1
     ]
+
+last_is : {A : Type 0} (es fs : List A) (x y : A) → es ++ x ∷ [] ≡ fs ++ y ∷ [] → x ≡ y
+last_is [] [] x y h = cc
+last_is {A} [] (f ∷ fs) x y h = let none : [] ≡ fs ++ y ∷ [] = cc in absurd (nothing_is fs [] y none)
+last_is {A} (e ∷ es) [] x y h = let none : [] ≡ es ++ x ∷ [] = cc in absurd (nothing_is es [] x none)
+last_is {A} (e ∷ es) (f ∷ fs) x y h = let tails : es ++ x ∷ [] ≡ fs ++ y ∷ [] = cc in last_is es fs x y tails
+
+pub not_waited_yet : {E F : Type 0} (none : List (Event E F)) → none ≡ [] → HasWaited none → ⊥
+not_waited_yet {E} {F} none is w = let wait : Event E F = Wait w.1 (Ok tt) in nothing_is w.0 [] wait (sym is ∙ w.2)
+
+-- the last call was another
+looked_last : {E F : Type 0} (now u : Timestamp) (look wait : Event E F) → look ≡ Look (Ok now) → wait ≡ Wait u (Ok tt) → look ≡ wait → ⊥
+looked_last now u look wait is_look is_wait same = cc
+
+ran_last : {E F : Type 0} (r : Reading) (u : Timestamp) (run wait : Event E F) → run ≡ Run r (Ok tt) → wait ≡ Wait u (Ok tt) → run ≡ wait → ⊥
+ran_last r u run wait is_run is_wait same = cc
+
+pub awake_by_look : {E F : Type 0} (es : List (Event E F)) (now : Timestamp) → HasWaited (es ++ Look (Ok now) ∷ []) → ⊥
+awake_by_look {E} {F} es now w =
+    let look : Event E F = Look (Ok now) in
+    let wait : Event E F = Wait w.1 (Ok tt) in
+    looked_last now w.1 look wait refl refl (last_is es w.0 look wait w.2)
+
+pub awake_by_run : {E F : Type 0} (es : List (Event E F)) (r : Reading) → HasWaited (es ++ Run r (Ok tt) ∷ []) → ⊥
+awake_by_run {E} {F} es r w =
+    let run : Event E F = Run r (Ok tt) in
+    let wait : Event E F = Wait w.1 (Ok tt) in
+    ran_last r w.1 run wait refl refl (last_is es w.0 run wait w.2)
 
 pub none_in_turn : {E F : Type 0} (fires : List Reading) → InTurn {E = E} {F = F} fires []
 none_in_turn fires before after e h = absurd (nothing_is before after e h)

@@ -7,9 +7,9 @@ use Rattle.jiff_core.specs.declared.Timestamp.{Timestamp}
 use Rattle.cron_moments.specs.Readings.{Reading, instant}
 use Rattle.cron_scheduler.specs.declared.stop.Stop.{Stop}
 use Rattle.cron_scheduler.specs.declared.stop.Stop.TheVariants.{Clock, Job}
-use Rattle.cron_scheduler.specs.Runs.{Event, Wait, Look, Run, Happened, ran, shown, is_due, due, next, EndsBy, MayFollow, RunsWhole, IsRun}
+use Rattle.cron_scheduler.specs.Runs.{Event, Wait, Look, Run, Happened, ran, shown, is_due, due, next, EndsBy, HasWaited, MayFollow, RunsWhole, IsRun}
 use Rattle.cron_scheduler.specs.Inner.Passing.{AllPass, NonePass, RanFor, RunsDue, Wakes}
-use Rattle.cron_scheduler.proofs.CallLemmas.{InTurn, happened_on, ran-append, shown-append, ends_on, turn_on, none_in_turn}
+use Rattle.cron_scheduler.proofs.CallLemmas.{InTurn, happened_on, ran-append, shown-append, ends_on, turn_on, none_in_turn, not_waited_yet, awake_by_look, awake_by_run}
 use Rattle.cron_scheduler.proofs.PassingLemmas.{left_on, pass_on}
 use Rattle.cron_scheduler.proofs.DueLemmas.{filter_begins, due-last, all_both, all_last, all_stay, filter_front, none_behind, none_stay, none_yet}
 
@@ -25,6 +25,7 @@ pub record Stands {C J E F : Type 0} (shows : C → Result Timestamp E → C →
     (runs : J → Reading → Result ⊤ F → J → Type 0) (fires left : List Reading) (looks : ℕ) (c : C) (j : J) (c' : C) (j' : J) : Type 0 where
   pub calls : List (Event E F)
   pub made : Made shows waits runs fires c j c' j' calls
+  pub awake : HasWaited calls → ⊥
   pub split : fires ≡ ran calls ++ left
   pub all_due : AllPass (is_due (shown calls)) (ran calls)
   pub none_due : NonePass (is_due (shown calls)) left
@@ -36,6 +37,7 @@ at_first shows waits runs fires c j =
     record {
       calls = [];
       made = record { happened = (refl, refl); in_turn = none_in_turn fires; well = refl };
+      awake = not_waited_yet [] refl;
       split = refl;
       all_due = tt;
       none_due = none_yet fires;
@@ -82,6 +84,7 @@ record RanOn {C J E F : Type 0} (shows : C → Result Timestamp E → C → Type
     (runs : J → Reading → Result ⊤ F → J → Type 0) (fires rs : List Reading) (c : C) (j : J) (c' : C) (j' : J) (before : List (Event E F)) : Type 0 where
   calls : List (Event E F)
   made : Made shows waits runs fires c j c' j' calls
+  awake : (HasWaited before → ⊥) → HasWaited calls → ⊥
   ran_is : ran calls ≡ ran before ++ rs
   shown_is : shown calls ≡ shown before
 
@@ -93,6 +96,7 @@ ran_for {C} {J} {E} {F} shows waits runs fires [] left c j c1 j1 j2 calls made w
     record {
       calls = calls;
       made = subst (λ (x : J). Made shows waits runs fires c j c1 x calls) (sym went) made;
+      awake = λ before. before;
       ran_is = sym (append-nil (ran calls));
       shown_is = refl;
     }
@@ -109,6 +113,7 @@ ran_for {C} {J} {E} {F} shows waits runs fires (r ∷ rs) left c j c1 j1 j2 call
     record {
       calls = rest.calls;
       made = rest.made;
+      awake = λ before. rest.awake (awake_by_run calls r);
       ran_is = rest.ran_is ∙ (ap (λ l. l ++ rs) ran_more ∙ append_assoc (ran calls) (r ∷ []) rs);
       shown_is = rest.shown_is ∙ shown_more;
     }
@@ -153,6 +158,7 @@ wait_turn : {C J E F : Type 0} (shows : C → Result Timestamp E → C → Type 
     (st : Stands shows waits runs fires left looks c j c1 j1) → left ≡ r ∷ rest → t.nanosecond ≡ instant r *ℤ pos 1_000_000_000
     → MayFollow fires st.calls (Wait t answer)
 wait_turn shows waits runs fires left rest looks c j c1 j1 r t answer st first at = (
+  st.awake,
   whole shows waits runs fires left looks c j c1 j1 st,
   ap (option_map (λ q. instant q *ℤ pos 1_000_000_000)) (next_is fires left rest st.calls r st.split first) ∙ ap Some (sym at),
 )
@@ -204,6 +210,7 @@ record Looked {C J E F : Type 0} (shows : C → Result Timestamp E → C → Typ
     (fires : List Reading) (c : C) (j : J) (c' : C) (j' : J) (now : Timestamp) (before : List (Event E F)) : Type 0 where
   calls : List (Event E F)
   made : Made shows waits runs fires c j c' j' calls
+  awake : HasWaited calls → ⊥
   ran_is : ran calls ≡ ran before
   shown_is : shown calls ≡ shown before ++ now ∷ []
 
@@ -219,6 +226,7 @@ after_look {C} {J} {E} {F} shows waits runs fires left rest looks c j c1 j1 c2 c
       calls = (st.calls ++ wait ∷ []) ++ call ∷ [];
       made = made_on shows waits runs fires c j c2 j1 c3 j1 (st.calls ++ wait ∷ []) call
           (after_wait shows waits runs fires left rest looks c j c1 j1 c2 r t st first at waited) (c3, looked, (refl, refl)) (st.calls, t, refl) refl;
+      awake = awake_by_look (st.calls ++ wait ∷ []) now;
       ran_is = ran-append (st.calls ++ wait ∷ []) (call ∷ []) ∙ (append-nil (ran (st.calls ++ wait ∷ []))
           ∙ (ran-append st.calls (wait ∷ []) ∙ append-nil (ran st.calls)));
       shown_is = shown-append (st.calls ++ wait ∷ []) (call ∷ [])
@@ -278,6 +286,7 @@ round {C} {J} {E} {F} shows waits runs fires left after rest looks c j c1 j1 c2 
     record {
       calls = o.calls;
       made = o.made;
+      awake = o.awake l.awake;
       split = split ∙ (sym (append_assoc (ran l.calls) rs after) ∙ ap (λ xs. xs ++ after) (sym o.ran_is));
       all_due = subst (λ (ts : List Timestamp). AllPass (is_due ts) (ran o.calls)) (sym times_are)
           (subst (λ (xs : List Reading). AllPass (is_due (shown st.calls ++ now ∷ [])) xs) (sym ran_are)

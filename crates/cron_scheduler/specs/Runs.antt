@@ -1,5 +1,5 @@
 -- What a run does, call by call, and which fires it runs.
-use Rattle.std.specs.Prelude.{◌≡◌, ◌⊎◌, ◌++◌, ◌*ℤ◌, pos, ◌-◌, ◌^◌, Bool, true, false, ◌||◌, Option, Some, None, MatchOption, List, [], ◌∷◌, Result, Ok, Err, ⊤, length, filter, slice_get}
+use Rattle.std.specs.Prelude.{◌≡◌, ◌⊎◌, ◌++◌, ◌*ℤ◌, pos, ◌-◌, ◌^◌, ℕ, Bool, true, false, ◌||◌, Option, Some, None, MatchOption, List, [], ◌∷◌, Result, Ok, Err, ⊤, length, filter, slice_get}
 use Rattle.std.specs.Option.{option_map}
 use Rattle.jiff_core.specs.declared.Timestamp.{Timestamp}
 use Rattle.cron_moments.specs.Readings.{Reading, instant}
@@ -49,14 +49,18 @@ due fires es = filter (is_due (shown es)) fires
 abbrev pub next : {E F : Type 0} → List Reading → List (Event E F) → Option Reading
 next fires es = slice_get fires (length (ran es))
 
+-- the last call was a wait
+abbrev pub HasWaited : {E F : Type 0} → List (Event E F) → Type 0
+HasWaited {E} {F} es = (earlier : List (Event E F)) × (t : Timestamp) × (es ≡ earlier ++ Wait t (Ok tt) ∷ [])
+
 -- What may be done after what was done before.
 abbrev pub MayFollow : {E F : Type 0} → List Reading → List (Event E F) → Event E F → Type 0
 -- once all that is due was run, a wait until the instant of the fire that comes next
 MayFollow fires before (Wait t answer) =
-    (ran before ≡ due fires before) × (option_map (λ r. instant r *ℤ pos 1_000_000_000) (next fires before) ≡ Some t.nanosecond)
+    (HasWaited before → ⊥) × (ran before ≡ due fires before)
+    × (option_map (λ r. instant r *ℤ pos 1_000_000_000) (next fires before) ≡ Some t.nanosecond)
 -- after a wait, a look at the clock
-MayFollow {E} {F} fires before (Look answer) =
-    (earlier : List (Event E F)) × (t : Timestamp) × (before ≡ earlier ++ Wait t (Ok tt) ∷ [])
+MayFollow fires before (Look answer) = HasWaited before
 -- the job for the fire that comes next, if it is due
 MayFollow fires before (Run r answer) = (next fires before ≡ Some r) × (is_due (shown before) r ≡ true)
 
@@ -67,6 +71,11 @@ failure (Look (Ok t)) = None
 failure (Look (Err e)) = Some (Clock e)
 failure (Run r (Ok done)) = None
 failure (Run r (Err f)) = Some (Job f)
+
+-- what a failure prints, by what the errors in it print
+abbrev pub stop_text : {E F : Type 0} → (E → Option (List ℕ)) → (F → Option (List ℕ)) → Stop E F → Option (List ℕ)
+stop_text clock job (Clock e) = clock e
+stop_text clock job (Job f) = job f
 
 -- The calls end at the first one that fails, and its failure is the answer.
 abbrev pub EndsBy : {E F : Type 0} → List (Event E F) → Result ⊤ (Stop E F) → Type 0

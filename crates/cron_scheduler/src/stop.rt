@@ -13,6 +13,10 @@ pub enum Stop<C, J> {
 }
 
 impl<C: fmt::Display, J: fmt::Display> fmt::Display for Stop<C, J> {
+    ghost use Rattle.cron_scheduler.specs.Runs.{stop_text};
+
+    ghost output = { λ stop. stop_text C.output J.output stop };
+
     fn fmt<W: fmt::Write>(&self, f: &mut fmt::Formatter<W>) -> fmt::Result {
         match self {
             Stop::Clock(error) => write!(f, "{error}"),

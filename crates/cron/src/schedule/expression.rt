@@ -103,7 +103,8 @@ impl Schedule {
         &self.fields.months
     }
 
-    /// The set of days of the month.
+    /// The set of days of the month. Its views are of the numbered days; whether the last day is one of
+    /// the set is told by its `last_day`.
     pub fn days_of_month(&self) -> &DaysOfMonth
         ensures { result.now ≡ self.now.sets.days_of_month }
     {

@@ -15,7 +15,7 @@ pub struct Search {
 /// The time of day that was found, and what it took.
 #[derive(Clone, Copy, Debug, PartialEq, Eq)]
 pub struct TimeFound {
-    /// Hour, minute and second.
+    /// Hour, minute and second. `None` where no time of the sets lies that way.
     pub time: Option<(u32, u32, u32)>,
     /// The questions for a neighbouring member, 7 at most.
     pub questions: u8,
