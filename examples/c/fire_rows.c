@@ -109,13 +109,14 @@ static void shared_instants(void)
 static void arguments_of_runs(void)
 {
     cron_c_schedule schedule = parsed("0 0 9 * * *");
-    cron_c_item items[2], item = {7, 7, 0}, none = {INT64_MAX, 0, 0};
+    cron_c_item items[2], item = {7, 7, 0}, none = {INT64_MAX, 0, 0}, outside = {INT64_C(4133980800), 0, 0};
     size_t count = 7;
     CHECK(fires_between(&schedule, "Mars", 0, 1, items, 2, &count) == CRON_C_BAD_ZONE && count == 0);
     CHECK(fires_between(&schedule, "UTC", INT64_MIN, 1, items, 2, &count) == CRON_C_BAD_INSTANT && count == 0);
     CHECK(fires_between(&schedule, "UTC", 0, INT64_MAX, items, 2, &count) == CRON_C_BAD_INSTANT && count == 0);
     CHECK(fires_past(&schedule, "\xff", &item, 0, items, 2, &count) == CRON_C_BAD_ZONE && count == 0);
     CHECK(fires_past(&schedule, "UTC", &none, 0, items, 2, &count) == CRON_C_NOT_AN_ITEM && count == 0);
+    CHECK(fires_past(&schedule, "UTC", &outside, 0, items, 2, &count) == CRON_C_NOT_AN_ITEM && count == 0);
     CHECK(fires_past(&schedule, "UTC", &item, INT64_MAX, items, 2, &count) == CRON_C_BAD_INSTANT && count == 0);
     CHECK(fires_past(&schedule, "UTC", &item, 32400, items, 2, &count) == CRON_C_OK && count == 1);
     CHECK(items[0].instant == 32400 && items[0].offset == 0);
@@ -208,6 +209,8 @@ static void arguments_of_histories(void)
     CHECK(items[0].instant == 7 && items[1].reserved == 7);
     CHECK(cron_c_history_fires_between(&daily, eras, 2, CRON_C_LEAST_INSTANT, CRON_C_GREATEST_INSTANT, items, 2, &count) == CRON_C_MORE);
     CHECK(count == 2 && items[0].instant == 0 && items[1].instant == 86400);
+    item = (cron_c_item){INT64_C(4133980800), 0, 0};
+    CHECK(cron_c_history_fires_past(&daily, eras, 2, &item, 0, items, 2, &count) == CRON_C_NOT_AN_ITEM && count == 0);
     item = (cron_c_item){4133894400, 0, 0};
     CHECK(cron_c_history_fires_past(&daily, eras, 2, &item, CRON_C_GREATEST_INSTANT, items, 2, &count) == CRON_C_OK && count == 0);
 }

@@ -108,6 +108,19 @@ static void arguments(void)
     CHECK(shows(&item, "2100-12-31 09:00:00 +00:00"));
 }
 
+/* Clocks that show the first and the last second of the range, and those beside them. */
+static void range(void)
+{
+    const cron_c_item first = {-1, 1, 0}, last = {INT64_C(4133980801), -2, 0};
+    const cron_c_item outside[] = {{-1, 0, 0}, {0, -1, 0}, {INT64_C(4133980800), 0, 0}, {INT64_C(4133980799), 1, 0}};
+    CHECK(shows(&first, "1970-01-01 00:00:00 +00:00:01"));
+    CHECK(shows(&last, "2100-12-31 23:59:59 -00:00:02"));
+    for (size_t at = 0; at < sizeof outside / sizeof *outside; at++) {
+        size_t needed = 1;
+        CHECK(cron_c_format(&outside[at], CRON_C_NO_TEXT, &needed) == CRON_C_NOT_AN_ITEM && needed == 0);
+    }
+}
+
 /* Both items of a fold, both ways. */
 static void fold(void)
 {
@@ -273,6 +286,7 @@ int main(void)
     last_days();
     refusals();
     arguments();
+    range();
     fold();
     lists();
     pages();

@@ -10,7 +10,8 @@
  *
  * Rules for every call, which no proof of the library can see:
  *   - No pointer may be null, also where its length is 0.
- *   - A pointer with a length points to so many bytes. A text or a message has no byte 0 at its end.
+ *   - A pointer with a length points to so many bytes, items or eras. A text or a message has no
+ *     byte 0 at its end.
  *   - What a call writes to overlaps nothing else that it is given.
  */
 #ifndef CRON_C_H
@@ -52,9 +53,9 @@ enum {
     CRON_C_NO_ITEM = 1,     /* The timeline has no item there. */
     CRON_C_REFUSED = 2,     /* The text means nothing, and the message says why. */
     CRON_C_NOT_UTF8 = 3,    /* The text isn't UTF-8. */
-    CRON_C_BAD_ZONE = 4,    /* The text names no zone, or the numbers or the bytes are of none. */
+    CRON_C_BAD_ZONE = 4,    /* The text names no zone, or the numbers, the bytes or the eras are of none. */
     CRON_C_BAD_INSTANT = 5, /* The instant is less than the least one, or past the greatest. */
-    CRON_C_NOT_AN_ITEM = 6, /* The given item isn't one of this schedule in this zone. */
+    CRON_C_NOT_AN_ITEM = 6, /* The call takes no such item, and says which it takes. */
     CRON_C_UNTOLD = 7,      /* As CRON_C_REFUSED, but no message can be told; what its buffer holds means nothing. */
     CRON_C_MORE = 8,        /* More is left than fits. What fits was written, but by cron_c_history_read nothing. */
     CRON_C_NO_MEMORY = 9    /* Memory is wanting. */
@@ -70,7 +71,7 @@ static inline const char *cron_c_status_text(uint32_t status)
     case CRON_C_NOT_UTF8: return "the text isn't UTF-8";
     case CRON_C_BAD_ZONE: return "there is no such zone";
     case CRON_C_BAD_INSTANT: return "the instant is out of range";
-    case CRON_C_NOT_AN_ITEM: return "the item isn't one of the schedule in the zone";
+    case CRON_C_NOT_AN_ITEM: return "the item is none that the call takes";
     case CRON_C_UNTOLD: return "the text means nothing, and the message has no length";
     case CRON_C_MORE: return "more is left than fits";
     case CRON_C_NO_MEMORY: return "memory is wanting";
@@ -176,7 +177,8 @@ typedef struct cron_c_zone {
 /*
  * Reads the text of a zone into `zone`: `UTC`, or a rule as POSIX has it, as
  * `CST6CDT,M3.2.0,M11.1.0`. A saving needs both of its dates, a name has 3 to 15 bytes, and nothing
- * may follow, also no newline. The names are dropped.
+ * may follow, also no newline. The names are dropped, and what says nothing of the zone is written
+ * as 0.
  *
  * CRON_C_OK or CRON_C_BAD_ZONE.
  */
@@ -188,9 +190,9 @@ uint32_t cron_c_zone_parse(const char *text, size_t text_length, cron_c_zone *zo
  *   a scheduler, and whoever asks what was missed    by instants: `cron_c_fire_after` and its like
  *   a calendar, and whoever lists what clocks show   the walk: `cron_c_after` and its like
  *
- * They differ only where a clock goes back, or a rule contradicts itself. The walk goes along the times that the clock shows, and
- * answers both readings of a repeated one before the next. By instants the items come as time
- * passes.
+ * They differ only where a clock goes back, or a rule contradicts itself. The walk goes along the
+ * times that the clock shows, and answers both readings of a repeated one before the next. By
+ * instants the items come as time passes.
  */
 
 /*
@@ -249,12 +251,13 @@ uint32_t cron_c_fires_past(const cron_c_schedule *schedule,
  * An era: from `starts` on, in seconds since 1970-01-01T00:00:00Z, the clock is that of `zone`, until
  * the next era starts. The last era has no end. What starts before every instant is given INT64_MIN.
  *
- * Eras one after another are a zone with a history, as a zone's file tells it: for each clock change
- * of its table an era of CRON_C_ZONE_FIXED, and the zone of its rule for the last one. An item of the
- * history is an item of an era's zone whose instant lies in that era. So no item lies before the
- * first era, and without an era there is none. The last eras of a list, from any of them on, are a
- * history too, and cheaper. From the era that holds the instant on they serve every call but
- * `cron_c_history_fire_by`, whose answer may lie in any earlier era.
+ * Eras one after another are a zone with a history, as a zone's file tells it: one before the first
+ * clock change of its table, and one from each change on, all of CRON_C_ZONE_FIXED but the last, which
+ * has the zone of the file's rule, if there is one. An item of the history is an item of an era's zone
+ * whose instant lies in that era. So no item lies before the first era, and without an era there is
+ * none. The last eras of a list, from any of them on, are a history too, and cheaper. From the era that
+ * holds the instant on they serve every call but `cron_c_history_fire_by`, whose answer may lie in any
+ * earlier era.
  */
 typedef struct cron_c_era {
     int64_t starts;
@@ -277,8 +280,9 @@ typedef struct cron_c_era {
  * number in `*count`; or, with 0 in `*count`, CRON_C_BAD_ZONE where the bytes are none of such a file,
  * a name of its times has more than 15 bytes, two of its clock changes share a second, one comes
  * before the gap or fold of the one before it has ended, or its rule says another offset, another name
- * or no saving time where the table has it, or the other way round, at the last of them; CRON_C_NO_MEMORY where malloc has no room for what the bytes say. Not to be
- * called from a signal handler.
+ * or no saving time where the table has it, or the other way round, at the last of them;
+ * CRON_C_NO_MEMORY where malloc has no room for what the bytes say. Not to be called from a signal
+ * handler.
  */
 uint32_t cron_c_history_read(const uint8_t *bytes, size_t bytes_length,
                              cron_c_era *eras, size_t eras_length, size_t *count);
@@ -336,7 +340,8 @@ uint32_t cron_c_before(const cron_c_schedule *schedule,
 /*
  * Puts the item after `*item`, or before it, in its place. Both items of a fold are told apart.
  *
- * CRON_C_OK, CRON_C_NO_ITEM, CRON_C_BAD_ZONE or CRON_C_NOT_AN_ITEM.
+ * CRON_C_OK, CRON_C_NO_ITEM, CRON_C_BAD_ZONE; or CRON_C_NOT_AN_ITEM where it is none of this
+ * schedule in this zone.
  */
 uint32_t cron_c_next(const cron_c_schedule *schedule,
                      const cron_c_zone *zone, cron_c_item *item);
@@ -367,8 +372,8 @@ uint32_t cron_c_list_before(const cron_c_schedule *schedule,
  * before it. So pages lose nothing where a clock goes back. Copy the last item of a page first,
  * since `items` is written to.
  *
- * CRON_C_OK, also where there is none; CRON_C_BAD_ZONE or CRON_C_NOT_AN_ITEM, and `*count` is then
- * 0.
+ * CRON_C_OK, also where there is none; CRON_C_BAD_ZONE; or CRON_C_NOT_AN_ITEM where the item is none
+ * of this schedule in this zone. With the last two `*count` is 0.
  */
 uint32_t cron_c_list_next(const cron_c_schedule *schedule,
                           const cron_c_zone *zone,

@@ -13,7 +13,7 @@ use Rattle.cron_c.specs.Calls.{IsInstant}
 use Rattle.cron_c.specs.Histories.{FillsOf, IsBeyond, IsFilled, IsHistory, IsHistoryItem, IsSought, Leads, RunsInBetween, RunsInPast}
 use Rattle.cron_c.specs.Listings.{IsFront}
 use Rattle.cron_c.specs.Runs.{due_by}
-use Rattle.cron_c.specs.Structs.{IsItem}
+use Rattle.cron_c.specs.Structs.{IsItem, IsItemInRange}
 use Rattle.cron_c.specs.declared.era.CronEra.{CronEra}
 use Rattle.cron_c.specs.declared.history.Begin.{Begin}
 use Rattle.cron_c.specs.declared.history.Begin.TheVariants.{After, Past}
@@ -114,7 +114,7 @@ in_between_says s eras last now old new count Untold h from to f = absurd f
 in_between_says s eras last now old new count NoMemory h from to f = absurd f
 
 pub in_past_says : (s : Sets) (eras : List CronEra) (r : Reading) (item : CronItem) (now : ℤ) (old new : List CronItem) (count : ℕ) (status : Status)
-    → IsHistory eras → IsItem r item → IsInstant now
+    → IsHistory eras → IsItemInRange r item → IsInstant now
     → FillsOf (λ q. IsHistoryItem s eras q × (is_earlier r q ≡ true) × IsBy (now *ℤ pos 1_000_000_000) q) old new count status
     → RunsInPast s eras item now old new count status
 in_past_says s eras r item now old new count Done h is to f = (r, h, is, to, f)

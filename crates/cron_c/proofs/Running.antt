@@ -12,7 +12,7 @@ use Rattle.cron_c.specs.declared.zone.CronZone.{CronZone}
 use Rattle.cron_c.specs.Calls.{IsInstant}
 use Rattle.cron_c.specs.Listings.{IsFront}
 use Rattle.cron_c.specs.Runs.{BeginsBy, Fills, IsPage, IsWhole, RunsBetween, RunsPast, due_by, fires_past_by}
-use Rattle.cron_c.specs.Structs.{IsItem}
+use Rattle.cron_c.specs.Structs.{IsItem, IsItemInRange}
 use Rattle.cron_c.specs.declared.item.CronItem.{CronItem}
 use Rattle.cron_c.specs.declared.status.Status.{Status}
 use Rattle.cron_c.specs.declared.status.Status.TheVariants.{Done, NoItem, Refused, NotUtf8, BadZone, BadInstant, NotAnItem, Untold, More, NoMemory}
@@ -113,7 +113,7 @@ between_says s zone z last now old new count Untold of_zone from to f = absurd f
 between_says s zone z last now old new count NoMemory of_zone from to f = absurd f
 
 pub past_says : (s : Sets) (zone : CronZone) (z : TimeZone) (r : Reading) (item : CronItem) (now : ℤ) (old new : List CronItem) (count : ℕ) (status : Status)
-    → IsZoneIn zone z → IsItem r item → IsInstant now → Fills (fires_past_by s z r (now *ℤ pos 1_000_000_000)) old new count status
+    → IsZoneIn zone z → IsItemInRange r item → IsInstant now → Fills (fires_past_by s z r (now *ℤ pos 1_000_000_000)) old new count status
     → RunsPast s zone item now old new count status
 past_says s zone z r item now old new count Done of_zone is to f = (z, r, of_zone, is, to, f)
 past_says s zone z r item now old new count More of_zone is to f = (z, r, of_zone, is, to, f)

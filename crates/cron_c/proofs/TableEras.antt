@@ -1,6 +1,6 @@
 -- The eras of a table: what each of them says, and that a list of them means the table's zone.
 use Rattle.std.proofs.Common.{◌≡◌, ℕ, zero, suc, ◌+◌, ◌-◌, ◌<◌, ◌≤◌, ◌==◌, ℤ, pos, neg_ℤ, ◌<ℤ◌, ◌≤ℤ◌, int_le, Bool, true, false, cond, List, Option, Some, None, option_map, vec_len, inl, inr, refl, sym, ap, subst, ◌∙◌, arith}
-use Rattle.std.specs.Prelude.{IfSome, map, slice_get, length}
+use Rattle.std.specs.Prelude.{IfSome, MatchOption, map, slice_get, length}
 use Rattle.std.proofs.lemmas.Bool.Decides.{nat_tests, leb_tells}
 use Rattle.std.proofs.lemmas.Grind.{common_steps}
 use Rattle.std.proofs.lemmas.Int.{ints}
@@ -29,7 +29,7 @@ use Rattle.cron_clocks.proofs.TableLemmas.{turns_length}
 use Rattle.cron_clocks.proofs.RuleAgreement.{plain_agree}
 use Rattle.cron_clocks.proofs.RuleSeasons.{shown_plain}
 use Rattle.cron_instants.proofs.FireLemmas.{int_le-true, int_le-false}
-use Rattle.cron_c.specs.Zones.{IsDayIn, IsSavingIn, IsTurnIn, IsZoneIn}
+use Rattle.cron_c.specs.Zones.{IsBareDay, IsBareSaving, IsBlank, IsDayIn, IsSavingIn, IsTurnIn, IsZoneIn, IsZoneStruct}
 use Rattle.cron_c.specs.Histories.{IsHistory, has_started, started_by}
 use Rattle.cron_c.specs.ZoneFiles.{HasDoubleTurn, HoldsSecond, IsEraOf, IsRulePast, SaysRulePast, ShowsAt, start_of, turn_count}
 use Rattle.cron_c.specs.declared.era.CronEra.{CronEra}
@@ -57,6 +57,17 @@ saving_too c (Some d) (Some e) same in_a =
       turn_too c.ends d.rule.end e.rule.end (ap (λ (v : DstText). v.finish) view) ends,
     )
 
+-- and the rest of its words are 0 alike
+pub bare_too : (c : CronZone) (a b : Option Dst) → option_map dst_view a ≡ option_map dst_view b → IsBareSaving c a → IsBareSaving c b
+bare_too c None None same bare = bare
+bare_too c None (Some e) same bare = absurd (cc)
+bare_too c (Some d) None same bare = absurd (cc)
+bare_too c (Some d) (Some e) same bare =
+    let view : dst_view d ≡ dst_view e = cc in
+    let start : d.rule.start.date ≡ e.rule.start.date = ap (λ (v : DstText). v.start.0) view in
+    let finish : d.rule.end.date ≡ e.rule.end.date = ap (λ (v : DstText). v.finish.0) view in
+    (subst (IsBareDay c.starts) start bare.0, subst (IsBareDay c.ends) finish bare.1, bare.2)
+
 pub says_too : (c : CronZone) (a b : PosixRule) → tz_view a ≡ tz_view b → IsZoneIn c (Posix a) → IsZoneIn c (Posix b)
 says_too c a b same in_a =
     (in_a.0 ∙ ap (λ (v : TzText). v.std_seconds) same, saving_too c a.dst b.dst (ap (λ (v : TzText). v.dst) same) in_a.1)
@@ -73,6 +84,7 @@ steady_past t count rule none offset plain = record {
       ∙ sym (ap (λ (o : Option PosixRule). (match_some o (type_after t count).offset (λ z. Rule.offset_at z n)).seconds) none)
       ∙ sym (ap (λ (k : ℕ). (match_some (rule_after t k) (type_after t k).offset (λ z. Rule.offset_at z n)).seconds) e);
   agree = λ h. plain_agree rule plain;
+  behind = subst (λ (o : Option PosixRule). MatchOption o (rule.dst ≡ None) (λ own. rule ≡ own)) (sym none) plain;
 }
 
 no_rule_yet : (t : Tzif) (count : ℕ) → count < turn_count t → rule_after t count ≡ None
@@ -106,6 +118,7 @@ by_rule t count own is all =
           sym (ap (λ (o : Option PosixRule). (match_some o (type_after t count).offset (λ z. Rule.offset_at z n)).seconds) after)
           ∙ sym (ap (λ (k : ℕ). (match_some (rule_after t k) (type_after t k).offset (λ z. Rule.offset_at z n)).seconds) e);
       agree = λ h. subst (λ (o : Option PosixRule). IfSome o (λ rule. LookupsAgree (Posix rule))) is h;
+      behind = subst (λ (o : Option PosixRule). MatchOption o (own.dst ≡ None) (λ it. own ≡ it)) (sym after) refl;
     }
 
 pub last_says : (t : Tzif) (count : ℕ) (rule : PosixRule) (o : Option PosixRule) → t.posix_tz ≡ o → option_map tz_view (Some rule) ≡ option_map tz_view o
@@ -114,6 +127,12 @@ last_says t count rule None is same all = absurd (cc)
 last_says t count rule (Some own) is same all =
     let view : tz_view rule ≡ tz_view own = cc in
     record { own = own; view = view; past = by_rule t count own is all }
+
+-- the struct of a rule past so many turns
+pub era_zone : (c : CronZone) (rule : PosixRule) (o : Option PosixRule) → IsZoneIn c (Posix rule) → IsBareSaving c rule.dst
+    → MatchOption o (rule.dst ≡ None) (λ own. rule ≡ own) → MatchOption o ((c.kind ≡ 1) × IsBlank c) (λ own. IsZoneStruct c (Posix own))
+era_zone c rule None said bare plain = (subst (IsSavingIn c) plain said.1, subst (IsBareSaving c) plain bare)
+era_zone c rule (Some own) said bare same = subst (λ (r : PosixRule). IsZoneStruct c (Posix r)) same (said, bare)
 
 -- ---- where the eras start
 

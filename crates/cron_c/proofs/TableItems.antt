@@ -7,7 +7,7 @@ use Rattle.jiff_core.specs.Timestamp.{nanos_of_seconds}
 use Rattle.jiff_tz.specs.declared.timezone.TimeZone.{TimeZone}
 use Rattle.jiff_tz.specs.declared.timezone.TimeZone.TheVariants.{Posix}
 use Rattle.jiff_tz.specs.declared.tzif.Tzif.{Tzif}
-use Rattle.jiff_tz.specs.Tzif.{count_at}
+use Rattle.jiff_tz.specs.Tzif.{count_at, rule_after}
 use Rattle.cron_units.specs.Sets.{Sets}
 use Rattle.cron_moments.specs.Civil.{civil, seconds_in_range}
 use Rattle.cron_moments.specs.Readings.{Reading, instant}
@@ -20,7 +20,7 @@ use Rattle.cron_instants.proofs.MatchLemmas.{match_in_range}
 use Rattle.cron_c.specs.Histories.{IsHistoryItem}
 use Rattle.cron_c.specs.ZoneFiles.{HasDoubleTurn, IsEraOf, IsHistoryOf, IsShownItem, RuleLookupsAgree, turn_count}
 use Rattle.cron_c.specs.declared.era.CronEra.{CronEra}
-use Rattle.cron_c.proofs.TableEras.{begins_all, floor_of, holder, in_order, place_is, shows_all}
+use Rattle.cron_c.proofs.TableEras.{begins_all, era_zone, floor_of, holder, in_order, place_is, shows_all}
 use Rattle.cron_c.proofs.AnyZone.{item_in_any}
 
 -- ---- where the look-ups of a zone agree, its items are the readings that are shown
@@ -78,6 +78,8 @@ pub means_table : (t : Tzif) (eras : List CronEra) → ¬ (HasDoubleTurn t) → 
 means_table t eras apart size are = record {
   history = in_order t eras size are apart;
   counted = size;
+  starts = λ i e get. (are i e get).start;
+  zones = λ i e get. let era = are i e get in era_zone e.zone era.rule (rule_after t i) era.said era.bare era.past.behind;
   begins = begins_all t eras size are;
   clocks = shows_all t eras size are;
   items = λ agree s r. (from_history t eras size are agree s r, to_history t eras size are agree s r);

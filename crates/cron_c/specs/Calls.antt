@@ -99,7 +99,7 @@ Follows way s zone old new _ = ⊥
 -- The text of an item is laid over a buffer, and its whole length told.
 abbrev pub Formats : CronItem → List ℕ → List ℕ → ℕ → Status → Type 0
 Formats item before after size Done =
-    (r : Reading) × IsItem r item × (after ≡ laid_over 0 (moment_text r) before) × (size ≡ length (moment_text r))
+    (r : Reading) × IsItem r item × (r.second < seconds_in_range) × (after ≡ laid_over 0 (moment_text r) before) × (size ≡ length (moment_text r))
 Formats item before after size NotAnItem =
     ((r : Reading) → IsItem r item → r.second < seconds_in_range → ⊥) × (after ≡ before) × (size ≡ 0)
 Formats item before after size _ = ⊥

@@ -9,7 +9,7 @@ use Rattle.cron_instants.specs.Order.{is_earlier}
 use Rattle.cron_c.specs.Zones.{IsSomeZone, IsZoneIn}
 use Rattle.cron_c.specs.Calls.{IsInstant}
 use Rattle.cron_c.specs.Listings.{IsFront}
-use Rattle.cron_c.specs.Structs.{IsItem}
+use Rattle.cron_c.specs.Structs.{IsItem, IsItemInRange}
 use Rattle.cron_c.specs.declared.era.CronEra.{CronEra}
 use Rattle.cron_c.specs.declared.history.Begin.{Begin}
 use Rattle.cron_c.specs.declared.history.Begin.TheVariants.{After, Past}
@@ -100,9 +100,10 @@ abbrev pub RunsInPast : Sets → List CronEra → CronItem → ℤ → List Cron
 RunsInPast s eras item now old new count BadZone = (IsHistory eras → ⊥) × (new ≡ old) × (count ≡ 0)
 RunsInPast s eras item now old new count NotAnItem =
     IsHistory eras × ((r : Reading) → IsItem r item → r.second < seconds_in_range → ⊥) × (new ≡ old) × (count ≡ 0)
-RunsInPast s eras item now old new count BadInstant = IsHistory eras × (IsInstant now → ⊥) × (new ≡ old) × (count ≡ 0)
+RunsInPast s eras item now old new count BadInstant =
+    IsHistory eras × ((r : Reading) × IsItemInRange r item) × (IsInstant now → ⊥) × (new ≡ old) × (count ≡ 0)
 RunsInPast s eras item now old new count status =
-    (r : Reading) × IsHistory eras × IsItem r item × IsInstant now
+    (r : Reading) × IsHistory eras × IsItemInRange r item × IsInstant now
     × FillsOf (λ q. IsHistoryItem s eras q × (is_earlier r q ≡ true) × IsBy (now *ℤ pos 1_000_000_000) q) old new count status
 
 -- ---- the search

@@ -9,7 +9,7 @@ use Rattle.cron_c.specs.declared.zone.CronZone.{CronZone}
 use Rattle.cron_instants.specs.Fires.{fires_between, fires_past, is_by}
 use Rattle.cron_c.specs.Calls.{IsInstant}
 use Rattle.cron_c.specs.Listings.{IsFront}
-use Rattle.cron_c.specs.Structs.{IsItem}
+use Rattle.cron_c.specs.Structs.{IsItem, IsItemInRange}
 use Rattle.cron_c.specs.declared.item.CronItem.{CronItem}
 use Rattle.cron_c.specs.declared.status.Status.{Status}
 use Rattle.cron_c.specs.declared.status.Status.TheVariants.{Done, More, BadZone, BadInstant, NotAnItem}
@@ -51,9 +51,10 @@ abbrev pub RunsPast : Sets → CronZone → CronItem → ℤ → List CronItem �
 RunsPast s zone item now old new count BadZone = IsNoZone zone × (new ≡ old) × (count ≡ 0)
 RunsPast s zone item now old new count NotAnItem =
     IsSomeZone zone × ((r : Reading) → IsItem r item → r.second < seconds_in_range → ⊥) × (new ≡ old) × (count ≡ 0)
-RunsPast s zone item now old new count BadInstant = IsSomeZone zone × (IsInstant now → ⊥) × (new ≡ old) × (count ≡ 0)
+RunsPast s zone item now old new count BadInstant =
+    IsSomeZone zone × ((r : Reading) × IsItemInRange r item) × (IsInstant now → ⊥) × (new ≡ old) × (count ≡ 0)
 RunsPast s zone item now old new count status =
-    (z : TimeZone) × (r : Reading) × IsZoneIn zone z × IsItem r item × IsInstant now
+    (z : TimeZone) × (r : Reading) × IsZoneIn zone z × IsItemInRange r item × IsInstant now
     × Fills (fires_past_by s z r (now *ℤ pos 1_000_000_000)) old new count status
 
 -- ---- the loop

@@ -1,9 +1,10 @@
 -- What the structs of numbers say.
-use Rattle.std.specs.Prelude.{not, cond, ◌==◌, ◌≡◌, ℕ, ◌+◌, ◌-◌, List, replicate}
+use Rattle.std.specs.Prelude.{not, cond, ◌==◌, ◌≡◌, ◌<◌, ℕ, ◌+◌, ◌-◌, List, replicate}
 use Rattle.cron_units.specs.Sets.{Sets}
 use Rattle.cron_units.specs.Units.{TimeUnit, contains, set_of, with_mark}
 use Rattle.cron_units.specs.Units as units
 use Rattle.cron_bits.specs.Words.{has_bit, bit_of_three}
+use Rattle.cron_moments.specs.Civil.{seconds_in_range}
 use Rattle.cron_moments.specs.Readings.{Reading, instant}
 use Rattle.cron_c.specs.declared.schedule.CronSchedule.{CronSchedule}
 use Rattle.cron_c.specs.declared.item.CronItem.{CronItem}
@@ -45,3 +46,7 @@ pub record IsItem (r : Reading) (item : CronItem) : Type 0 where
   pub instant_is : item.instant ≡ instant r
   pub offset_is : item.offset ≡ r.offset.seconds
   pub reserved_is : item.reserved ≡ 0
+
+-- and what its clock shows lies in the range
+abbrev pub IsItemInRange : Reading → CronItem → Type 0
+IsItemInRange r item = IsItem r item × (r.second < seconds_in_range)

@@ -1,8 +1,8 @@
 -- Zones from the bytes of a compiled zone file, as eras.
-use Rattle.std.specs.Prelude.{◌≡◌, ◌+◌, ◌-◌, ◌<◌, ◌==◌, ◌↔◌, ℕ, ℤ, pos, neg_ℤ, ◌≤ℤ◌, true, false, if◌then◌else◌, List, ◌++◌, drop, Some, Ok, IfSome, slice_get, length}
+use Rattle.std.specs.Prelude.{◌≡◌, ◌+◌, ◌-◌, ◌<◌, ◌==◌, ◌↔◌, ℕ, ℤ, pos, neg_ℤ, ◌≤ℤ◌, true, false, if◌then◌else◌, List, ◌++◌, drop, None, Some, MatchOption, Ok, IfSome, slice_get, length}
 use Rattle.jiff_core.specs.Timestamp.{IsTimestampNanos, nanos_of_seconds}
 use Rattle.jiff_tz.specs.TzifReader.{TzifText, read_tzif}
-use Rattle.jiff_tz.specs.Tzif.{HasBadRule, RuleAgrees, count_at, floor_second, transition_at, tzif_view}
+use Rattle.jiff_tz.specs.Tzif.{HasBadRule, RuleAgrees, count_at, floor_second, rule_after, transition_at, tzif_view}
 use Rattle.jiff_tz.specs.PosixText.{tz_view}
 use Rattle.jiff_tz.specs.Tzif as Table
 use Rattle.jiff_tz.specs.Zone as Zone
@@ -15,7 +15,7 @@ use Rattle.cron_moments.specs.Civil.{civil, seconds_in_range}
 use Rattle.cron_moments.specs.Readings.{Reading, instant}
 use Rattle.cron_clocks.specs.Clocks.{LookupsAgree}
 use Rattle.cron_time.specs.Matches.{matches}
-use Rattle.cron_c.specs.Zones.{IsZoneIn}
+use Rattle.cron_c.specs.Zones.{IsBareSaving, IsBlank, IsZoneIn, IsZoneStruct}
 use Rattle.cron_c.specs.Histories.{IsHistory, IsHistoryItem, has_started}
 use Rattle.cron_c.specs.declared.era.CronEra.{CronEra}
 use Rattle.cron_c.specs.declared.zone.CronZone.{CronZone}
@@ -55,15 +55,25 @@ IsShownItem s t r =
     × (matches s (civil r.second) ≡ true)
     × ((Table.offset_at t (nanos_of_seconds (instant r))).seconds ≡ r.offset.seconds)
 
+-- where the era past so many turns starts: before every instant, or at the last of these turns
+abbrev pub start_of : Tzif → ℕ → ℤ
+start_of t count = if count == 0 then neg_ℤ (pos 9_223_372_036_854_775_808) else (transition_at t (count - 1)).second
+
+-- the struct of the era past so many turns: past all of them that of the rule behind the table, if there is one, and else one of one offset
+abbrev pub IsEraZone : Tzif → ℕ → CronZone → Type 0
+IsEraZone t count c = MatchOption (rule_after t count) ((c.kind ≡ 1) × IsBlank c) (λ rule. IsZoneStruct c (Posix rule))
+
 -- the look-ups of the rule behind the table agree, if there is one
 abbrev pub RuleLookupsAgree : Tzif → Type 0
 RuleLookupsAgree t = IfSome t.posix_tz (λ rule. LookupsAgree (Posix rule))
 
--- The eras mean the zone of the table: at each instant the era that holds it has the table's offset. The items of this history are then
--- the readings that match and are shown.
+-- The eras mean the zone of the table: one starts before every instant, and one at each turn, and at each instant the era that holds it has
+-- the table's offset. The items of this history are then the readings that match and are shown.
 pub record IsHistoryOf (t : Tzif) (eras : List CronEra) : Type 0 where
   pub history : IsHistory eras
   pub counted : length eras ≡ turn_count t + 1
+  pub starts : (i : ℕ) (e : CronEra) → slice_get eras i ≡ Some e → e.starts ≡ start_of t i
+  pub zones : (i : ℕ) (e : CronEra) → slice_get eras i ≡ Some e → IsEraZone t i e.zone
   pub begins : (n : ℤ) → IsTimestampNanos n → has_started eras 0 (floor_second n) ≡ true
   pub clocks : (n : ℤ) (i : ℕ) (e : CronEra) → HoldsSecond eras i e (floor_second n) → ShowsAt e.zone n (Table.offset_at t n).seconds
   pub items : RuleLookupsAgree t → (s : Sets) (r : Reading) → IsHistoryItem s eras r ↔ IsShownItem s t r
@@ -90,14 +100,11 @@ ReadsHistory bytes old new count status = (t : Tzif) × IsFileOf bytes t × Writ
 
 -- ---- inner
 
--- where the era past so many turns starts
-abbrev pub start_of : Tzif → ℕ → ℤ
-start_of t count = if count == 0 then neg_ℤ (pos 9_223_372_036_854_775_808) else (transition_at t (count - 1)).second
-
 -- past so many turns the clock of the table is that of the rule, whose look-ups agree if those of the rule behind the table do
 pub record IsRulePast (t : Tzif) (count : ℕ) (rule : PosixRule) : Type 0 where
   pub shown : (n : ℤ) → count_at t (floor_second n) ≡ count → Zone.offset_at (Posix rule) n ≡ (Table.offset_at t n).seconds
   pub agree : RuleLookupsAgree t → LookupsAgree (Posix rule)
+  pub behind : MatchOption (rule_after t count) (rule.dst ≡ None) (λ own. rule ≡ own)
 
 -- the rule reads the same
 pub record SaysRulePast (t : Tzif) (count : ℕ) (rule : PosixRule) : Type 0 where
@@ -110,6 +117,7 @@ pub record IsEraOf (t : Tzif) (count : ℕ) (e : CronEra) : Type 0 where
   pub rule : PosixRule
   pub start : e.starts ≡ start_of t count
   pub said : IsZoneIn e.zone (Posix rule)
+  pub bare : IsBareSaving e.zone rule.dst
   pub past : IsRulePast t count rule
 
 -- the eras past none, one and more turns, n in all, are in the array, before what it held

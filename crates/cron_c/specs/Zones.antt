@@ -1,5 +1,5 @@
 -- Zones as plain numbers.
-use Rattle.std.specs.Prelude.{◌≡◌, ℕ, List, Option, Some, None}
+use Rattle.std.specs.Prelude.{◌≡◌, ℕ, pos, List, Option, Some, None, replicate}
 use Rattle.std.specs.Str.{IsUtf8}
 use Rattle.jiff_core.specs.declared.offset.Offset.{Offset}
 use Rattle.jiff_tz.specs.declared.posix.Day.{Day}
@@ -35,6 +35,33 @@ IsZoneIn c UTC = c.kind ≡ 0
 IsZoneIn c (Posix rule) = (c.offset ≡ rule.std_offset.seconds) × IsSavingIn c rule.dst
 IsZoneIn c _ = ⊥
 
+-- the words of the turn are 0
+abbrev pub IsBlankTurn : CronTurn → Type 0
+IsBlankTurn t = (t.kind ≡ 0) × (t.month ≡ 0) × (t.week ≡ 0) × (t.day ≡ 0) × (t.time ≡ pos 0)
+
+-- the words of the struct behind its kind and its offset are 0
+abbrev pub IsBlank : CronZone → Type 0
+IsBlank c = (c.saving ≡ pos 0) × IsBlankTurn c.starts × IsBlankTurn c.ends × (c.reserved ≡ replicate 3 0)
+
+-- of a day that is no weekday the month and the week are 0
+abbrev pub IsBareDay : CronTurn → Day → Type 0
+IsBareDay t (WeekdayOfMonth month week weekday) = Unit {0}
+IsBareDay t _ = (t.month ≡ 0) × (t.week ≡ 0)
+
+-- what says nothing of this saving in the struct is 0
+abbrev pub IsBareSaving : CronZone → Option Dst → Type 0
+IsBareSaving c None = IsBlank c
+IsBareSaving c (Some dst) = IsBareDay c.starts dst.rule.start.date × IsBareDay c.ends dst.rule.end.date × (c.reserved ≡ replicate 3 0)
+
+abbrev pub IsBare : CronZone → TimeZone → Type 0
+IsBare c UTC = (c.offset ≡ pos 0) × IsBlank c
+IsBare c (Posix rule) = IsBareSaving c rule.dst
+IsBare c _ = ⊥
+
+-- the struct says this zone, and there is one such struct: what says nothing of it is 0
+abbrev pub IsZoneStruct : CronZone → TimeZone → Type 0
+IsZoneStruct c z = IsZoneIn c z × IsBare c z
+
 -- the struct says no zone
 abbrev pub IsNoZone : CronZone → Type 0
 IsNoZone c = (z : TimeZone) → IsZoneIn c z → ⊥
@@ -55,6 +82,6 @@ IsRuleOf offset dst _ = ⊥
 
 -- A text is read into a struct; or it names no zone.
 abbrev pub ReadsZone : List ℕ → CronZone → CronZone → Status → Type 0
-ReadsZone text old new Done = (z : TimeZone) × IsUtf8 text × IsZoneOf text z × IsZoneIn new z
+ReadsZone text old new Done = (z : TimeZone) × IsUtf8 text × IsZoneOf text z × IsZoneStruct new z
 ReadsZone text old new BadZone = (IsUtf8 text → NamesZone text → ⊥) × (new ≡ old)
 ReadsZone text old new _ = ⊥

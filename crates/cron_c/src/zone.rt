@@ -7,7 +7,7 @@ ghost use Rattle.jiff_tz.specs.declared.posix.Day.{Day};
 ghost use Rattle.jiff_tz.specs.declared.posix.DayTime.{DayTime};
 ghost use Rattle.jiff_tz.specs.declared.posix.Dst.{Dst};
 ghost use Rattle.jiff_tz.specs.declared.timezone.TimeZone.TheVariants.{Posix};
-ghost use Rattle.cron_c.specs.Zones.{IsDayIn, IsNoZone, IsOther, IsRuleOf, IsTurnIn, IsZoneIn};
+ghost use Rattle.cron_c.specs.Zones.{IsBareDay, IsBlank, IsDayIn, IsNoZone, IsOther, IsRuleOf, IsTurnIn, IsZoneIn, IsZoneStruct};
 
 use jiff::tz::{Offset, TimeZone};
 use jiff_tz::posix::{Day, DayTime, Dst, Rule};
@@ -163,7 +163,8 @@ pub fn zone_in(zone: &CronZone) -> Option<TimeZone<'static>>
 
 // The struct of a turn.
 fn turn_of(turn: DayTime) -> CronTurn
-    ensures { IsTurnIn result turn }
+    ensures turn { IsTurnIn result turn }
+    ensures bare { IsBareDay result turn.date }
 {
     let (kind, month, week, day) = match turn.date {
         Day::JulianOne(day) => (JULIAN_ONE, 0, 0, u32::from(day)),
@@ -192,6 +193,7 @@ fn turn_of(turn: DayTime) -> CronTurn
 fn fixed(kind: u32, offset: i32) -> CronZone
     ensures kind { result.kind ≡ kind }
     ensures offset { result.offset ≡ offset }
+    ensures blank { IsBlank result }
 {
     let none = CronTurn {
         kind: 0,
@@ -212,7 +214,7 @@ fn fixed(kind: u32, offset: i32) -> CronZone
 
 /// The struct of a rule.
 pub fn struct_of(rule: posix::TimeZone) -> CronZone
-    ensures { IsZoneIn result (Posix rule) }
+    ensures { IsZoneStruct result (Posix rule) }
 {
     match rule.dst {
         None => fixed(FIXED, rule.std_offset.seconds),
@@ -231,7 +233,7 @@ pub fn struct_of(rule: posix::TimeZone) -> CronZone
 pub fn struct_of_zone(zone: &TimeZone<'_>) -> Option<CronZone>
     ensures { MatchOption result
         (IsOther (plain_zone zone.now))
-        (λ c. IsZoneIn c (plain_zone zone.now)) }
+        (λ c. IsZoneStruct c (plain_zone zone.now)) }
 {
     match zone.to_plain() {
         jiff_tz::TimeZone::UTC => Some(fixed(UTC, 0)),

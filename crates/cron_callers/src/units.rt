@@ -64,8 +64,8 @@ pub fn summer_months(alloc: Global, schedule: &Schedule) -> Result<Vec<Ordinal>,
         .collect(alloc)
 }
 
-/// Some month from June to September. The one clause doesn't say which, so bounds that are out of
-/// order are refused for what `range` requires, and for nothing else.
+/// Some month from June to September. The one clause says only that the schedule has a month then,
+/// so bounds that are out of order are refused for what `range` requires, and for nothing else.
 pub fn some_warm_month(schedule: &Schedule) -> Option<Ordinal>
     ensures { IfSome result (λ month. 1 ≤ length schedule.now.sets.months) }
 {

@@ -1,8 +1,8 @@
 -- What a check writes, and how it ends.
-use Rattle.std.specs.Prelude.{◌≡◌, ◌+◌, ℕ, Bool, true, false, List, [], ◌∷◌, ◌++◌, Option, codes, length, IsUtf8}
-use Rattle.std.specs.Io.KnownBytes.{Appends}
+use Rattle.std.specs.Prelude.{◌≡◌, ◌≤◌, ◌+◌, ℕ, Bool, true, false, List, [], ◌∷◌, ◌++◌, Option, codes, length, IsUtf8}
+use Rattle.std.specs.Io.KnownBytes.{Appends, Consumes}
 use Rattle.cron_writer.specs.Watching.{IsFrontSent}
-use Rattle.cron_checking.specs.Lines.{IsRead, IsReadThrough}
+use Rattle.cron_checking.specs.Lines.{lines_of, AreEnded, AreWhole, IsReadThrough}
 use Rattle.cron_checking.specs.Reports.{told, TellsLines}
 use Rattle.cron_checking.specs.declared.check.Outcome.{Outcome}
 use Rattle.cron_checking.specs.declared.check.Outcome.TheVariants.{AllRead, SomeRefused, OutOfMemory, WriteFailed, Unreadable, NotUtf8}
@@ -11,16 +11,22 @@ use Rattle.cron_checking.specs.declared.line.Mode.{Mode}
 abbrev pub line_not_utf8 : ℕ → List ℕ
 line_not_utf8 number = told number (codes "not UTF-8")
 
--- Why a check ended: of a reader that had `given` and has `left`, so many lines were checked, and these were read and not checked.
--- Beside it stands the last line that was written, after what is told of the lines.
-abbrev pub IsLast : Outcome → Option (List ℕ) → Option (List ℕ) → ℕ → List (List ℕ) → Bool → List ℕ → Type 0
-IsLast AllRead given left count unchecked refused last = IsReadThrough given left × (unchecked ≡ []) × (refused ≡ false) × (last ≡ [])
-IsLast SomeRefused given left count unchecked refused last = IsReadThrough given left × (unchecked ≡ []) × (refused ≡ true) × (last ≡ [])
-IsLast OutOfMemory given left count unchecked refused last = last ≡ codes "error: out of memory" ++ 10 ∷ []
-IsLast WriteFailed given left count unchecked refused last = last ≡ []
-IsLast Unreadable given left count unchecked refused last = last ≡ codes "error: the file can't be read" ++ 10 ∷ []
-IsLast NotUtf8 given left count unchecked refused last =
-    (line : List ℕ) × (unchecked ≡ line ∷ []) × (IsUtf8 line → ⊥) × (last ≡ line_not_utf8 (count + 1))
+-- the last line that a check writes, which ended past so many lines
+abbrev pub last_line : Outcome → ℕ → List ℕ
+last_line OutOfMemory count = codes "error: out of memory" ++ 10 ∷ []
+last_line Unreadable count = codes "error: the file can't be read" ++ 10 ∷ []
+last_line NotUtf8 count = line_not_utf8 (count + 1)
+last_line _ count = []
+
+-- Where a check ended, of a reader that had `given` and has `left`: the bytes in front are the lines that were checked, none of which is
+-- cut off, and a piece was read behind them.
+abbrev pub EndsAt : Outcome → Option (List ℕ) → Option (List ℕ) → List ℕ → List ℕ → List (List ℕ) → Bool → Type 0
+EndsAt AllRead given left front piece checked refused = IsReadThrough given left × (lines_of front ≡ checked) × (piece ≡ []) × (refused ≡ false)
+EndsAt SomeRefused given left front piece checked refused = IsReadThrough given left × (lines_of front ≡ checked) × (piece ≡ []) × (refused ≡ true)
+EndsAt WriteFailed given left front piece checked refused = AreWhole given left front checked × (piece ≡ [])
+EndsAt NotUtf8 given left front piece checked refused =
+    AreEnded front checked × (line : List ℕ) × AreWhole given left piece (line ∷ []) × (IsUtf8 line → ⊥)
+EndsAt _ given left front piece checked refused = AreEnded front checked
 
 -- A writer was handed this text: it holds the whole of it, and the check ended as it says; or a write failed, and it holds a beginning.
 abbrev pub Ends : Outcome → List ℕ → Option (List ℕ) → Option (List ℕ) → Outcome → Type 0
@@ -31,15 +37,16 @@ Ends end text old new outcome = (outcome ≡ end) × Appends old new text
 -- writer that held `old` and holds `new`.
 pub record Checks (mode : Mode) (given left old new : Option (List ℕ)) (outcome : Outcome) : Type 0 where
   pub checked : List (List ℕ)
-  pub unchecked : List (List ℕ)
+  pub front : List ℕ
+  pub piece : List ℕ
   pub report : List ℕ
   pub refused : Bool
   pub end : Outcome
-  pub last : List ℕ
-  pub read : IsRead given left checked unchecked
+  pub read : Consumes given left (front ++ piece)
+  pub one_line : length (lines_of piece) ≤ 1
+  pub ends : EndsAt end given left front piece checked refused
   pub tells : TellsLines mode 1 checked report refused
-  pub ends : IsLast end given left (length checked) unchecked refused last
-  pub writes : Ends end (report ++ last) old new outcome
+  pub writes : Ends end (report ++ last_line end (length checked)) old new outcome
 
 abbrev pub is_write_failure : Outcome → Bool
 is_write_failure WriteFailed = true

@@ -1,11 +1,12 @@
 -- What the steps of a check do.
-use Rattle.std.specs.Prelude.{◌≡◌, ◌+◌, ℕ, Bool, true, false, List, [], ◌∷◌, ◌++◌, Option, Some, None, Result, Ok, Err, length, IsUtf8, codes}
+use Rattle.std.specs.Prelude.{◌≡◌, ◌≤◌, ◌+◌, ℕ, Bool, true, false, List, [], ◌∷◌, ◌++◌, Option, Some, None, Result, Ok, Err, length, IsUtf8, codes}
+use Rattle.std.specs.Io.KnownBytes.{Consumes}
 use Rattle.std.specs.declared.io.Error.{Error}
 use Rattle.cron_writer.specs.Watching.{has_failed}
 use Rattle.cron_writer.specs.declared.gathered.Gathered.{Gathered}
 use Rattle.cron_writer.specs.declared.watched.Watched.{Watched}
-use Rattle.cron_checking.specs.Checks.{line_not_utf8}
-use Rattle.cron_checking.specs.Lines.{IsRead, IsReadThrough}
+use Rattle.cron_checking.specs.Checks.{EndsAt, line_not_utf8}
+use Rattle.cron_checking.specs.Lines.{lines_of}
 use Rattle.cron_checking.specs.Puts.{Puts}
 use Rattle.cron_checking.specs.Reports.{TellsLine, TellsLines}
 use Rattle.cron_checking.specs.declared.check.Outcome.{Outcome}
@@ -24,32 +25,30 @@ StopsAtLine mode number line NotUtf8 text failed = (IsUtf8 line → ⊥) × (tex
 StopsAtLine mode number line WriteFailed text failed = (failed ≡ true) × (bad : Bool) × TellsLine mode number line text bad
 StopsAtLine mode number line _ text failed = ⊥
 
--- a line was told, or the check ends at it
+-- a line was told and no write of it failed, or the check ends at it
 abbrev pub TellsNext : Mode → ℕ → List ℕ → Result Bool Outcome → List ℕ → Bool → Type 0
-TellsNext mode number line (Ok bad) text failed = TellsLine mode number line text bad
+TellsNext mode number line (Ok bad) text failed = (failed ≡ false) × TellsLine mode number line text bad
 TellsNext mode number line (Err end) text failed = StopsAtLine mode number line end text failed
 
--- why no further line was told, and what was put that is no line's report
-abbrev pub IsStop : Outcome → Option (List ℕ) → Option (List ℕ) → ℕ → List (List ℕ) → Bool → List ℕ → Type 0
-IsStop AllRead given left count unchecked refused stop = IsReadThrough given left × (unchecked ≡ []) × (refused ≡ false) × (stop ≡ [])
-IsStop SomeRefused given left count unchecked refused stop = IsReadThrough given left × (unchecked ≡ []) × (refused ≡ true) × (stop ≡ [])
-IsStop NotUtf8 given left count unchecked refused stop =
-    (line : List ℕ) × (unchecked ≡ line ∷ []) × (IsUtf8 line → ⊥) × (stop ≡ line_not_utf8 (count + 1))
-IsStop _ given left count unchecked refused stop = stop ≡ []
+-- what was put of the line at which a check ends
+abbrev pub stop_line : Outcome → ℕ → List ℕ
+stop_line NotUtf8 count = line_not_utf8 (count + 1)
+stop_line _ count = []
 
 -- the lines that were read were told in order, until this end
 pub record TellsAll {W : Type 0} (mode : Mode) (given left : Option (List ℕ)) (contents : W → Option (List ℕ))
     (writes : W → List ℕ → Result ℕ Error → W → Type 0) (old : Gathered) (was : Watched W) (new : Gathered) (is : Watched W) (end : Outcome)
     : Type 0 where
   pub checked : List (List ℕ)
-  pub unchecked : List (List ℕ)
+  pub front : List ℕ
+  pub piece : List ℕ
   pub report : List ℕ
   pub refused : Bool
-  pub stop : List ℕ
-  pub read : IsRead given left checked unchecked
+  pub read : Consumes given left (front ++ piece)
+  pub one_line : length (lines_of piece) ≤ 1
+  pub ends : EndsAt end given left front piece checked refused
   pub tells : TellsLines mode 1 checked report refused
-  pub stops : IsStop end given left (length checked) unchecked refused stop
-  pub puts : Puts contents writes old was new is (report ++ stop)
+  pub puts : Puts contents writes old was new is (report ++ stop_line end (length checked))
   pub failed : end ≡ WriteFailed → has_failed is ≡ true
 
 -- the line that tells why a check ended, where no report tells it

@@ -1,6 +1,6 @@
 -- The lines of a file, and which of them are passed over.
-use Rattle.std.specs.Prelude.{◌≡◌, ◌≤◌, ◌==◌, ℕ, Bool, true, List, [], ◌∷◌, ◌++◌, Option, IfSome, if◌then◌else◌, length}
-use Rattle.std.specs.Io.KnownBytes.{Consumes, IsAtEnd}
+use Rattle.std.specs.Prelude.{◌≡◌, ◌==◌, ℕ, Bool, true, List, [], ◌∷◌, ◌++◌, ◌⊎◌, Option, IfSome, if◌then◌else◌}
+use Rattle.std.specs.Io.KnownBytes.{IsAtEnd}
 use Rattle.cron_text.specs.Tokens.{is_space}
 
 -- a byte put before the first line
@@ -18,13 +18,14 @@ unfoldable pub is_passed_over : List ℕ → Bool
 is_passed_over [] = true
 is_passed_over (c ∷ cs) = if is_space c then is_passed_over cs else c == 35
 
--- the reader gave some bytes: their lines are those that were checked, and then at most one that wasn't
-pub record IsRead (old new : Option (List ℕ)) (checked unchecked : List (List ℕ)) : Type 0 where
-  pub bytes : List ℕ
-  pub consumed : Consumes old new bytes
-  pub cut : lines_of bytes ≡ checked ++ unchecked
-  pub one_more : length unchecked ≤ 1
-
 -- no byte is left of a reader whose bytes were known
 abbrev pub IsReadThrough : Option (List ℕ) → Option (List ℕ) → Type 0
 IsReadThrough given left = IfSome given (λ _. IsAtEnd left)
+
+-- the bytes are these lines, each with the line feed that ends it: what comes next begins a line
+abbrev pub AreEnded : List ℕ → List (List ℕ) → Type 0
+AreEnded bytes lines = (more : List ℕ) → lines_of (bytes ++ more) ≡ lines ++ lines_of more
+
+-- the bytes are these lines, and none of them is cut off: the last one has its line feed too, or no byte comes after it
+abbrev pub AreWhole : Option (List ℕ) → Option (List ℕ) → List ℕ → List (List ℕ) → Type 0
+AreWhole given left bytes lines = (lines_of bytes ≡ lines) × (AreEnded bytes lines ⊎ IsReadThrough given left)

@@ -1,5 +1,5 @@
 -- What is written of the lines of a file.
-use Rattle.std.specs.Prelude.{◌≡◌, ◌+◌, ◌||◌, ℕ, Bool, true, false, List, [], ◌∷◌, ◌++◌, ◌⊎◌, Option, Some, None, codes}
+use Rattle.std.specs.Prelude.{◌≡◌, ◌+◌, ◌||◌, ℕ, Bool, true, false, List, [], ◌∷◌, ◌++◌, ◌⊎◌, Option, Some, None, IsUtf8, codes}
 use Rattle.std.specs.Fmt.{decimal}
 use Rattle.jiff.specs.Words.{plain_zone}
 use Rattle.cron_units.specs.Sets.{Sets}
@@ -28,13 +28,17 @@ TellsSets Short number s text = text ≡ told number (sets_text s)
 TellsSets (Next start zone) number s text =
     (first : Option Reading) × IsFirstAfter s (plain_zone zone) start.nanosecond first × (text ≡ told number (item_text first))
 
--- what is told of a line, and whether it is refused
-abbrev pub TellsLine : Mode → ℕ → List ℕ → List ℕ → Bool → Type 0
-TellsLine mode number line text true =
+-- what is told of a line of text, and whether it is refused
+abbrev pub TellsText : Mode → ℕ → List ℕ → List ℕ → Bool → Type 0
+TellsText mode number line text true =
     (is_passed_over line ≡ false) × (fault : List ℕ) × IsRefusal line fault × (text ≡ told number fault)
-TellsLine mode number line text false =
+TellsText mode number line text false =
     ((is_passed_over line ≡ true) × (text ≡ []))
     ⊎ ((is_passed_over line ≡ false) × (s : Sets) × Means line s × TellsSets mode number s text)
+
+-- what is told of a line, which is UTF-8 also where it is passed over
+abbrev pub TellsLine : Mode → ℕ → List ℕ → List ℕ → Bool → Type 0
+TellsLine mode number line text refused = IsUtf8 line × TellsText mode number line text refused
 
 -- what is told of lines that are numbered from here on, one after another, and whether one of them is refused
 abbrev pub TellsLines : Mode → ℕ → List (List ℕ) → List ℕ → Bool → Type 0

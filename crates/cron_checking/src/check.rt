@@ -24,8 +24,8 @@ pub enum Outcome {
     AllRead,
     /// Every line was read, and one or more of them were refused.
     SomeRefused,
-    /// The allocator refused the memory for a line or for what is told of it, and a line that tells so was
-    /// written.
+    /// Memory was wanting for a line or for what is told of it, as the allocator or the reader said, and a
+    /// line that tells so was written.
     OutOfMemory,
     /// A write or the flush failed, and nothing more was written.
     WriteFailed,

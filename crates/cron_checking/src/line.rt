@@ -5,7 +5,7 @@ ghost use Rattle.std.specs.String.{string_bytes};
 ghost use Rattle.cron_text.specs.Tokens.{is_space};
 ghost use Rattle.cron_checking.specs.Inner.{TellsBytes};
 ghost use Rattle.cron_checking.specs.Lines.{is_passed_over};
-ghost use Rattle.cron_checking.specs.Reports.{TellsLine, TellsSets, told};
+ghost use Rattle.cron_checking.specs.Reports.{TellsSets, TellsText, told};
 ghost use Rattle.cron_checking.specs.Short.{sets_text};
 
 use crate::short::push_sets;
@@ -83,7 +83,7 @@ fn tell_text(
     text: &mut String,
 ) -> Result<bool, AllocError>
     requires { string_bytes text.old ≡ [] }
-    ensures { IfOk result (TellsLine mode.now number line.now (string_bytes text.new)) }
+    ensures { IfOk result (TellsText mode.now number line.now (string_bytes text.new)) }
 {
     if is_passed_over(line.as_bytes()) {
         return Ok(false);

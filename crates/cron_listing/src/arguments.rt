@@ -13,7 +13,7 @@ use jiff::tz::TimeZone;
 pub struct Request<'a> {
     /// The expression as it was written; nobody has read it yet.
     pub expression: &'a str,
-    /// The instant after which the list begins, or before which it begins where it goes back.
+    /// The instant from which the list goes on, or back. An item at it isn't listed but in a fold.
     pub start: Timestamp,
     /// UTC, or the zone of a rule's text.
     pub zone: TimeZone<'a>,

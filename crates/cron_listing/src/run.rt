@@ -156,10 +156,11 @@ pub fn refuse<W: Watchable>(out: &mut Watched<W>, line: &str) -> Outcome
 /// it where `back` says so, and flushes. A refused expression is told by one line. It takes memory
 /// in the reading alone, so a list that was begun never ends for want of memory. The list is a walk's:
 /// one that is begun in a fold may leave out items after the start, or begin with the start itself or an
-/// instant before it.
+/// instant before it, and with `back` the other way round.
 ///
 /// Whole lines are handed to the writer together, up to 4,096 bytes a call, and the last of them
-/// before the flush. So who reads sees a short list at once, and a long one in blocks. Once a call
+/// before the flush. So who reads sees a short list at once, and a long one in blocks. The line of a
+/// refused expression comes in three pieces. Once a call
 /// fails the writer is not called again: it holds what it took before.
 pub fn run<W: Watchable>(
     alloc: Global,

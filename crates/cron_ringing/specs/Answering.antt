@@ -33,8 +33,10 @@ misread (Err e) = Err (Stopped (Job e))
 
 -- the arguments can be read, and what they ask for was rung at; or they can't, the clock was left alone, and the usage line was printed
 abbrev pub IsAnswered : {C W E : Type 0} → (C → Result Timestamp E → C → Type 0) → (C → Timestamp → Result ⊤ E → C → Type 0)
-    → (W → List ℕ → Result ℕ Error → W → Type 0) → (W → Result ⊤ Error → W → Type 0) → (W → Option (List ℕ)) → List (List ℕ) → C → Printer W → Result Status (Failure E) → C → Printer W → Type 0
+    → (W → List ℕ → Result ℕ Error → W → Type 0) → (W → Result ⊤ Error → W → Type 0) → (W → Option (List ℕ))
+    → List (List ℕ) → C → Printer W → Result Status (Failure E) → C → Printer W → Type 0
 IsAnswered {C} {W} {E} shows waits writes flushes contents arguments c p answer c' p' =
     (IsReadable arguments
     × ((r : Request) × Asks arguments r × ((told : Result ⊤ (Failure E)) × Rings shows waits writes flushes contents r c p told c' p' × (answer ≡ rung told))))
-    ⊎ ((IsReadable arguments → ⊥) × (c' ≡ c) × ((told : Result ⊤ WriteFailed) × PrintsText writes flushes contents p usage_line told p' × (answer ≡ misread told)))
+    ⊎ ((IsReadable arguments → ⊥) × (c' ≡ c)
+    × ((told : Result ⊤ WriteFailed) × PrintsText writes flushes contents p usage_line told p' × (answer ≡ misread told)))

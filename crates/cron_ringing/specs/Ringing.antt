@@ -21,7 +21,8 @@ use Rattle.cron_ringing.specs.Printing.{Prints, write_failed_text}
 -- The expression means sets, the clock was looked at, and then the fires of these sets after what it showed were printed,
 -- up to the count.
 pub record PrintsAsked {C W E : Type 0} (shows : C → Result Timestamp E → C → Type 0) (waits : C → Timestamp → Result ⊤ E → C → Type 0)
-    (writes : W → List ℕ → Result ℕ Error → W → Type 0) (flushes : W → Result ⊤ Error → W → Type 0) (contents : W → Option (List ℕ)) (r : Request) (c : C) (p : Printer W) (answer : Result ⊤ (Stop E WriteFailed)) (c' : C) (p' : Printer W) : Type 0 where
+    (writes : W → List ℕ → Result ℕ Error → W → Type 0) (flushes : W → Result ⊤ Error → W → Type 0) (contents : W → Option (List ℕ))
+    (r : Request) (c : C) (p : Printer W) (answer : Result ⊤ (Stop E WriteFailed)) (c' : C) (p' : Printer W) : Type 0 where
   pub sets : Sets
   pub means : Means r.expression.now sets
   pub start : Timestamp
@@ -43,7 +44,8 @@ pub record IsUnread {C W E : Type 0} (shows : C → Result Timestamp E → C →
 -- What a request asks for was printed. Or the expression is refused or memory is wanting, and the clock and the printer are as
 -- before; or the clock could not be read; or the run that prints was stopped.
 abbrev pub Rings : {C W E : Type 0} → (C → Result Timestamp E → C → Type 0) → (C → Timestamp → Result ⊤ E → C → Type 0)
-    → (W → List ℕ → Result ℕ Error → W → Type 0) → (W → Result ⊤ Error → W → Type 0) → (W → Option (List ℕ)) → Request → C → Printer W → Result ⊤ (Failure E) → C → Printer W → Type 0
+    → (W → List ℕ → Result ℕ Error → W → Type 0) → (W → Result ⊤ Error → W → Type 0) → (W → Option (List ℕ))
+    → Request → C → Printer W → Result ⊤ (Failure E) → C → Printer W → Type 0
 Rings shows waits writes flushes contents r c p (Ok done) c' p' = PrintsAsked shows waits writes flushes contents r c p (Ok tt) c' p'
 Rings shows waits writes flushes contents r c p (Err (Refused e)) c' p' = Tells (IsRefusal r.expression.now) e × (c' ≡ c) × (p' ≡ p)
 Rings shows waits writes flushes contents r c p (Err (Stopped stop)) c' p' =

@@ -1,5 +1,5 @@
 -- The calls that reach a watched writer, one by one.
-use Rattle.std.specs.Prelude.{◌≡◌, ℕ, Bool, true, false, List, [], ◌∷◌, ⊤, drop, Result, Ok, Err}
+use Rattle.std.specs.Prelude.{◌≡◌, ◌<◌, ℕ, Bool, true, false, List, [], ◌∷◌, ⊤, length, drop, Result, Ok, Err}
 use Rattle.std.specs.declared.io.Error.{Error}
 use Rattle.cron_writer.specs.Watching.{is_failed_write, is_failed_flush}
 
@@ -8,12 +8,14 @@ pub record Call : Type 0 where
   pub piece : List ℕ
   pub answer : Result ℕ Error
 
--- These writes were made one after another, each only where no call before it has failed. The marks say whether one had, before them and after.
+-- These writes were made one after another, each of one byte at least, and only where no call before it has failed. The marks say whether
+-- one had, before them and after.
 abbrev pub IsWritten :
     {W : Type 0} → (W → List ℕ → Result ℕ Error → W → Type 0) → List Call → W → Bool → W → Bool → Type 0
 IsWritten writes [] old was new failed = (new ≡ old) × (failed ≡ was)
 IsWritten {W} writes (c ∷ cs) old was new failed =
-    (was ≡ false) × ((next : W) × writes old c.piece c.answer next × IsWritten writes cs next (is_failed_write c.answer c.piece) new failed)
+    (was ≡ false) × (0 < length c.piece)
+    × ((next : W) × writes old c.piece c.answer next × IsWritten writes cs next (is_failed_write c.answer c.piece) new failed)
 
 -- some writes were made, and none of them once a call has failed
 abbrev pub AreWrites : {W : Type 0} → (W → List ℕ → Result ℕ Error → W → Type 0) → W → Bool → W → Bool → Type 0

@@ -1,4 +1,4 @@
-use Rattle.std.proofs.Common.{rules, ◌≡◌, ◌*ℤ◌, ℤ, pos, true, subst}
+use Rattle.std.proofs.Common.{rules, ◌≡◌, ◌*ℤ◌, ℤ, pos, true, refl, subst}
 use Rattle.cron_units.specs.Sets.{Sets}
 use Rattle.cron_instants.specs.Instants.{IsBy}
 use Rattle.cron_instants.specs.Order.{is_earlier}
@@ -21,4 +21,8 @@ returns c =
     let by_now = subst (λ (t : ℤ). FillsOf (λ q. IsHistoryItem sets eras q × (is_earlier given q ≡ true) × IsBy t q)
     c.args.items.now c.fill.new.items c.fill.new.count c.fill.result) now_is of_sets in
     in_past_says sets eras given c.args.item.now c.args.now c.args.items.now c.fill.new.items c.fill.new.count c.fill.result history
-    c.in-Some.ensures.0 to by_now
+    c.in-Some.ensures to by_now
+
+pub returns-in_default-from_second : goal.returns-in_default-from_second
+returns-in_default-from_second c =
+    (c.is_history.ensures.0 c.if-not-is_history.false, (c.in-Some.given, c.in-Some.ensures), search rules, refl, refl)

@@ -1,4 +1,4 @@
-use Rattle.std.proofs.Common.{◌≡◌, ◌*ℤ◌, ℤ, pos, subst, rules}
+use Rattle.std.proofs.Common.{◌≡◌, ◌*ℤ◌, ℤ, pos, refl, subst, rules}
 use Rattle.jiff.specs.Words.{plain_zone}
 use Rattle.cron_units.specs.Sets.{Sets}
 use Rattle.cron_c.specs.Calls.{IsInstant}
@@ -21,4 +21,8 @@ returns c =
     let by_now = subst (λ (t : ℤ). Fills (fires_past_by sets zone given t)
     c.args.items.now c.fill.new.items c.fill.new.count c.fill.result) now_is of_sets in
     past_says sets c.args.zone.now zone given c.args.item.now c.args.now c.args.items.now c.fill.new.items c.fill.new.count c.fill.result
-    c.in-Some.ensures c.in-Some-moment_of.ensures.0 to by_now
+    c.in-Some.ensures c.in-Some-moment_of.ensures to by_now
+
+pub returns-in_default-from_second : goal.returns-in_default-from_second
+returns-in_default-from_second c =
+    ((plain_zone c.in-Some.zone, c.in-Some.ensures), (c.in-Some-moment_of.given, c.in-Some-moment_of.ensures), search rules, refl, refl)

@@ -1,24 +1,28 @@
-use Rattle.std.proofs.Common.{◌≡◌, ◌++◌, ℕ, Bool, true, Option, List, [], ◌∷◌, refl, sym, ◌∙◌, subst, append_assoc, append-nil}
+use Rattle.std.proofs.Common.{◌≡◌, ◌++◌, ℕ, Bool, true, Option, List, [], ◌∷◌, length, refl, sym, ◌∙◌, subst, append_assoc, append-nil}
 use Rattle.cron_writer.specs.Calls.{AreWrites}
 use Rattle.cron_writer.specs.Watching.{has_failed, writer_of, IsGathered}
 use Rattle.cron_writer.proofs.Calling.{handed_on, writes_on}
 use Rattle.cron_writer.proofs.Gathering.{nothing_gathered}
 use Rattle.cron_writer.proofs.Sending.{both_ways}
-use Rattle.cron_checking.specs.Checks.{IsLast}
-use Rattle.cron_checking.specs.Inner.{IsStop, closing_line}
+use Rattle.cron_checking.specs.Checks.{Ends, last_line}
+use Rattle.cron_checking.specs.Inner.{closing_line, stop_line}
 use Rattle.cron_checking.specs.declared.check.Outcome.{Outcome}
 use Rattle.cron_checking.specs.declared.check.Outcome.TheVariants.{AllRead, SomeRefused, OutOfMemory, WriteFailed, Unreadable, NotUtf8}
 use Rattle.cron_checking.proofs.check.check.Goals as goal
 
--- the end is told by its line, or by what was put of the line where it is
-last_line : (end : Outcome) (given left : Option (List ℕ)) (count : ℕ) (unchecked : List (List ℕ)) (refused : Bool) (stop : List ℕ)
-    → IsStop end given left count unchecked refused stop → IsLast end given left count unchecked refused (stop ++ closing_line end)
-last_line AllRead given left count unchecked refused stop (a, b, c, none) = (a, b, c, append-nil stop ∙ none)
-last_line SomeRefused given left count unchecked refused stop (a, b, c, none) = (a, b, c, append-nil stop ∙ none)
-last_line OutOfMemory given left count unchecked refused stop none = rw none refl
-last_line WriteFailed given left count unchecked refused stop none = append-nil stop ∙ none
-last_line Unreadable given left count unchecked refused stop none = rw none refl
-last_line NotUtf8 given left count unchecked refused stop (line, is, bad, e) = (line, is, bad, append-nil stop ∙ e)
+-- the last line is what was put of a line at which the check ended, or the closing line
+last_is : (end : Outcome) (count : ℕ) → stop_line end count ++ closing_line end ≡ last_line end count
+last_is AllRead count = refl
+last_is SomeRefused count = refl
+last_is OutOfMemory count = refl
+last_is WriteFailed count = refl
+last_is Unreadable count = refl
+last_is NotUtf8 count = append-nil (last_line NotUtf8 count)
+
+-- so the whole of it ends in the last line
+written : (end outcome : Outcome) (count : ℕ) (report : List ℕ) (old new : Option (List ℕ))
+    → Ends end (report ++ (stop_line end count ++ closing_line end)) old new outcome → Ends end (report ++ last_line end count) old new outcome
+written end outcome count report old new h = subst (λ (t : List ℕ). Ends end (report ++ t) old new outcome) (last_is end count) h
 
 -- once a call has failed the mark stays
 stays_failed : {W : Type 0} (writes : W → List ℕ → _ → W → Type 0) (old new : W) (was failed : Bool) → AreWrites writes old was new failed
@@ -56,17 +60,20 @@ returns-clause-checks g c =
     let end = c.tell_lines-end.result in
     record {
       checked = told.checked;
-      unchecked = told.unchecked;
+      front = told.front;
+      piece = told.piece;
       report = told.report;
       refused = told.refused;
       end = end;
-      last = told.stop ++ closing_line end;
       read = told.read;
+      one_line = told.one_line;
+      ends = told.ends;
       tells = told.tells;
-      ends = last_line end _ _ _ _ _ _ told.stops;
       writes =
-          c.finish.ensures.ends _ _
+          written end _ (length told.checked) told.report _ _
+          (c.finish.ensures.ends _ _
           (c.send.ensures.sent _ _
-          (closed _ _ _ _ told.report told.stop (closing_line end) c.as_bytes.result.now (c.as_bytes.ensures.value ∙ c.closing_line.ensures)
-          (c.put.ensures.gathers _ _ (told.puts.gathers _ [] begun))));
+          (closed _ _ _ _ told.report (stop_line end (length told.checked)) (closing_line end) c.as_bytes.result.now
+          (c.as_bytes.ensures.value ∙ c.closing_line.ensures)
+          (c.put.ensures.gathers _ _ (told.puts.gathers _ [] begun)))));
     }

@@ -1,12 +1,12 @@
-use Rattle.std.proofs.Common.{◌≡◌, ◌+◌, ◌++◌, ℕ, Bool, List, [], ◌∷◌, length, refl, sym, ap, ◌∙◌, subst, append-nil, arith}
+use Rattle.std.proofs.Common.{◌≡◌, ◌+◌, ◌++◌, ℕ, Bool, true, false, Option, List, [], ◌∷◌, length, refl, sym, subst, append-nil, arith}
 use Rattle.std.proofs.lemmas.List.{length_push}
 use Rattle.std.proofs.KnownBytes.{Consumes-nil}
-use Rattle.cron_checking.specs.Lines.{lines_of}
+use Rattle.cron_checking.specs.Lines.{lines_of, AreEnded, AreWhole, IsReadThrough}
 use Rattle.cron_checking.specs.Puts.{Puts}
 use Rattle.cron_checking.specs.Reports.{TellsLine}
 use Rattle.cron_checking.specs.declared.line.Mode.{Mode}
 use Rattle.cron_checking.proofs.Putting.{nothing_put, put_on}
-use Rattle.cron_checking.proofs.Telling.{nothing_read, line_read, stopped, all_read, last_read, read_through, line_told, ended_stop, ended_unfailed, line_stops}
+use Rattle.cron_checking.proofs.Telling.{nothing_read, no_piece, line_read, read_on, read_whole, read_through, ended_lines, given_whole, whole_on, line_told, ended_at, ended_puts, ended_unfailed, line_stops}
 use Rattle.cron_checking.proofs.check.tell_lines.Goals as goal
 
 numbered : (mode : Mode) (n k : ℕ) (line text : List ℕ) (bad : Bool) → n ≡ k → TellsLine mode n line text bad → TellsLine mode k line text bad
@@ -23,14 +23,17 @@ returns-in-End g c =
     let (checked, report, read, told, count, puts) = c.loop-number.invariant in
     record {
       checked = checked;
-      unchecked = [];
+      front = read.bytes;
+      piece = [];
       report = report;
       refused = c.loop-number.refused;
-      stop = [];
-      read = all_read _ _ _ checked read c.in-End.ensures.0;
+      read = read_on _ _ _ checked [] read c.in-End.ensures.0;
+      one_line = no_piece;
+      ends =
+          ended_at _ _ _ read.bytes [] checked _ c.end_of.ensures (read_through _ _ _ _ read.consumed c.in-End.ensures.1)
+          (ended_lines read.bytes checked read.cut) refl;
       tells = told;
-      stops = ended_stop _ _ _ _ _ c.end_of.ensures (read_through _ _ _ _ read.consumed c.in-End.ensures.1);
-      puts = subst (Puts _ _ _ _ _ _) (sym (append-nil report)) puts;
+      puts = subst (Puts _ _ _ _ _ _) (ended_puts _ _ (length checked) report c.end_of.ensures) puts;
       failed = ended_unfailed _ _ _ c.end_of.ensures;
     }
 
@@ -40,13 +43,14 @@ returns-in-OutOfMemory g c =
     let (piece, consumed, one) = c.in-OutOfMemory.ensures in
     record {
       checked = checked;
-      unchecked = lines_of piece;
+      front = read.bytes;
+      piece = piece;
       report = report;
       refused = c.loop-number.refused;
-      stop = [];
-      read = stopped _ _ _ checked _ piece read consumed refl one;
+      read = read_on _ _ _ checked piece read consumed;
+      one_line = one;
+      ends = read.cut;
       tells = told;
-      stops = refl;
       puts = subst (Puts _ _ _ _ _ _) (sym (append-nil report)) puts;
       failed = λ f. absurd (cc);
     }
@@ -57,13 +61,14 @@ returns-in-Unreadable g c =
     let (piece, consumed, one) = c.in-Unreadable.ensures in
     record {
       checked = checked;
-      unchecked = lines_of piece;
+      front = read.bytes;
+      piece = piece;
       report = report;
       refused = c.loop-number.refused;
-      stop = [];
-      read = stopped _ _ _ checked _ piece read consumed refl one;
+      read = read_on _ _ _ checked piece read consumed;
+      one_line = one;
+      ends = read.cut;
       tells = told;
-      stops = refl;
       puts = subst (Puts _ _ _ _ _ _) (sym (append-nil report)) puts;
       failed = λ f. absurd (cc);
     }
@@ -73,16 +78,23 @@ returns g c =
     let (checked, report, read, told, count, puts) = c.loop-number.invariant in
     record {
       checked = checked;
-      unchecked = [];
+      front = read.bytes;
+      piece = [];
       report = report;
       refused = c.loop-number.refused;
-      stop = [];
-      read = all_read _ _ _ checked read (Consumes-nil _);
+      read = read_on _ _ _ checked [] read (Consumes-nil _);
+      one_line = no_piece;
+      ends = read.cut;
       tells = told;
-      stops = refl;
       puts = subst (Puts _ _ _ _ _ _) (sym (append-nil report)) puts;
       failed = λ f. absurd (cc);
     }
+
+-- the line that was given, as the bytes that were told
+whole_line : (now left : Option (List ℕ)) (piece line bytes : List ℕ) (last : Bool) → bytes ≡ line → lines_of piece ≡ line ∷ []
+    → (last ≡ false → AreEnded piece (line ∷ [])) → (last ≡ true → IsReadThrough now left) → AreWhole now left piece (bytes ∷ [])
+whole_line now left piece line bytes last is one more through =
+    subst (λ (l : List ℕ). AreWhole now left piece (l ∷ [])) (sym is) (given_whole now left piece line last one more through)
 
 pub returns-in-Err : goal.returns-in-Err
 returns-in-Err g c =
@@ -90,24 +102,30 @@ returns-in-Err g c =
     let (piece, consumed, one, more, through) = c.in-Line.ensures in
     let (put, stops, put_now) = c.in-Err.ensures in
     line_stops _ _ _ _ _ _ _ _ _ _ _ _ checked report _ _ _ piece put c.in-Err.end read told count puts consumed
-    (one ∙ ap (λ (l : List ℕ). l ∷ []) (sym c.as_slice.ensures.value)) stops put_now
+    (whole_line _ _ piece _ _ _ c.as_slice.ensures.value one more through) stops put_now
 
 pub returns-then-last : goal.returns-then-last
 returns-then-last g c =
     let (checked, report, read, told, count, puts) = c.loop-number.invariant in
     let (piece, consumed, one, more, through) = c.in-Line.ensures in
-    let (put, tells, put_now) = c.in-Ok.ensures in
+    let (put, (unfailed, tells), put_now) = c.in-Ok.ensures in
     let line = c.as_slice.result.now in
     record {
       checked = checked ++ line ∷ [];
-      unchecked = [];
+      front = read.bytes ++ piece;
+      piece = [];
       report = report ++ put;
       refused = _;
-      stop = [];
-      read = last_read _ _ _ checked line piece read consumed (one ∙ ap (λ (l : List ℕ). l ∷ []) (sym c.as_slice.ensures.value));
+      read = read_whole _ _ _ checked piece read consumed;
+      one_line = no_piece;
+      ends =
+          ended_at _ _ _ (read.bytes ++ piece) [] (checked ++ line ∷ []) _ c.end_of-then-last.ensures
+          (read_through _ _ _ _ read.consumed (through c.if-last.true))
+          (whole_on _ _ _ checked line piece read (whole_line _ _ piece _ _ _ c.as_slice.ensures.value one more through)).0 refl;
       tells = line_told _ 1 checked line report put _ _ told (numbered c.args.mode.now _ _ line put c.in-Ok.bad count tells);
-      stops = ended_stop _ _ _ _ _ c.end_of-then-last.ensures (read_through _ _ _ _ read.consumed (through c.if-last.true));
-      puts = subst (Puts _ _ _ _ _ _) (sym (append-nil (report ++ put))) (put_on _ _ _ _ _ _ _ _ report put puts put_now);
+      puts =
+          subst (Puts _ _ _ _ _ _) (ended_puts _ _ (length (checked ++ line ∷ [])) (report ++ put) c.end_of-then-last.ensures)
+          (put_on _ _ _ _ _ _ _ _ report put puts put_now);
       failed = ended_unfailed _ _ _ c.end_of-then-last.ensures;
     }
 
@@ -115,12 +133,12 @@ pub loop-number-preserved : goal.loop-number-preserved
 loop-number-preserved g c =
     let (checked, report, read, told, count, puts) = c.loop-number.invariant in
     let (piece, consumed, one, more, through) = c.in-Line.ensures in
-    let (put, tells, put_now) = c.in-Ok.ensures in
+    let (put, (unfailed, tells), put_now) = c.in-Ok.ensures in
     let line = c.as_slice.result.now in (
       checked ++ line ∷ [],
       report ++ put,
-      line_read _ _ _ checked line piece read consumed (λ rest. more c.if-last.false rest ∙ ap (λ (l : List ℕ). l ∷ lines_of rest)
-          (sym c.as_slice.ensures.value)),
+      line_read _ _ _ checked line piece read consumed
+          (subst (λ (l : List ℕ). AreEnded piece (l ∷ [])) (sym c.as_slice.ensures.value) (more c.if-last.false)),
       line_told _ 1 checked line report put _ _ told (numbered c.args.mode.now _ _ line put c.in-Ok.bad count tells),
       counted _ checked line count,
       put_on _ _ _ _ _ _ _ _ report put puts put_now,

@@ -1,4 +1,4 @@
-use Rattle.std.proofs.Common.{◌≡◌, ℕ, Bool, List, Option, Some, subst}
+use Rattle.std.proofs.Common.{◌≡◌, ℕ, Bool, List, Option, Some, sym, ◌∙◌, subst}
 use Rattle.std.specs.String.{string_bytes}
 use Rattle.cron_checking.specs.Inner.{TellsBytes}
 use Rattle.cron_checking.specs.Puts.{Puts}
@@ -12,6 +12,9 @@ some_told mode number line text told refused e h = subst (λ (o : Option Bool). 
 pub returns : goal.returns
 returns g c = (
   string_bytes c.tell_line.new.text,
-  some_told c.args.mode.now c.args.number c.args.line.now (string_bytes c.tell_line.new.text) _ c.in-Some.refused c.in-Some.is c.in-Ok.ensures,
+  (
+    sym c.failed.ensures ∙ c.if-failed.false,
+    some_told c.args.mode.now c.args.number c.args.line.now (string_bytes c.tell_line.new.text) _ c.in-Some.refused c.in-Some.is c.in-Ok.ensures,
+  ),
   subst (Puts _ _ _ _ _ _) c.as_bytes.ensures.value c.put.ensures,
 )

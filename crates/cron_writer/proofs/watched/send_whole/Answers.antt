@@ -25,7 +25,8 @@ loop-rest-preserved g c =
       moves_front _ done rest n split,
       Appends-trans _ _ _ _ _ appended c.in-Ok.ensures.bytes,
       no_failure n c.loop-rest.out.failed c.write.new.self.failed rest c.if-count-gt0.true fresh c.in-Ok.ensures.mark,
-      tried_on _ _ (writer_of c.loop-rest.out) _ _ _ _ _ rest _ (Ok n) (take_rest rest n) tried fresh c.in-Ok.ensures.call c.in-Ok.ensures.mark,
+      tried_on _ _ (writer_of c.loop-rest.out) _ _ _ _ _ rest _ (Ok n) (take_rest rest n) tried fresh (grind (arith, nat_tests))
+          c.in-Ok.ensures.call c.in-Ok.ensures.mark,
     )
 
 pub returns-in_default-clause-sent : goal.returns-in_default-clause-sent
@@ -62,7 +63,7 @@ returns-in_default-clause-calls g c =
     let n = c.in-Ok.count in (
       drop n rest,
       (
-        tried_on _ _ (writer_of c.loop-rest.out) _ _ _ _ _ rest _ (Ok n) refl tried fresh c.in-Ok.ensures.call c.in-Ok.ensures.mark,
+        tried_on _ _ (writer_of c.loop-rest.out) _ _ _ _ _ rest _ (Ok n) refl tried fresh (grind (arith, nat_tests)) c.in-Ok.ensures.call c.in-Ok.ensures.mark,
         none_left n c.loop-rest.out.failed c.write.new.self.failed rest c.if-count-gt0.false fresh c.in-Ok.ensures.mark,
       ),
     )
@@ -73,7 +74,8 @@ returns-in_default-2-clause-calls g c =
     let rest = c.loop-rest.rest.now in (
       rest,
       (
-        tried_on _ _ (writer_of c.loop-rest.out) _ _ _ _ _ rest _ _ refl tried fresh c.in_default.ensures.call c.in_default.ensures.mark,
+        tried_on _ _ (writer_of c.loop-rest.out) _ _ _ _ _ rest _ _ refl tried fresh (grind (arith, nat_tests))
+            c.in_default.ensures.call c.in_default.ensures.mark,
         λ unmarked. absurd (no_mark c.loop-rest.out.failed c.write.new.self.failed fresh c.in_default.ensures.mark unmarked),
       ),
     )
