@@ -30,15 +30,19 @@ int main(void)
         return 1;
     }
     for (int left = 3; left > 0; left--) {
-        if (cron_c_fire_after(&schedule, &zone, now, &item) != CRON_C_OK) {
+        const uint32_t status = cron_c_fire_after(&schedule, &zone, now, &item);
+        if (status == CRON_C_NO_ITEM) {
+            break; /* it fires no more */
+        }
+        if (status != CRON_C_OK) {
             return 1;
         }
         print("", &item); /* sleep until `item.instant`, and run the job */
         now = item.instant;
     }
-    if (cron_c_fire_by(&schedule, &zone, restarted, &item) != CRON_C_OK) {
-        return 1;
+    const uint32_t status = cron_c_fire_by(&schedule, &zone, restarted, &item);
+    if (status == CRON_C_OK) {
+        print("last: ", &item);
     }
-    print("last: ", &item);
-    return 0;
+    return status != CRON_C_OK && status != CRON_C_NO_ITEM;
 }

@@ -28,7 +28,7 @@ static size_t read_file(const char *path)
         return 0;
     }
     const size_t length = fread(bytes, 1, sizeof bytes, file);
-    const int whole = feof(file) || fgetc(file) == EOF;
+    const int whole = fgetc(file) == EOF && !ferror(file);
     fclose(file);
     return whole ? length : 0;
 }
@@ -38,7 +38,11 @@ static int fires(const cron_c_schedule *schedule, size_t count, int64_t now, int
 {
     cron_c_item item;
     for (; left > 0; left--) {
-        if (cron_c_history_fire_after(schedule, eras, count, now, &item) != CRON_C_OK) {
+        const uint32_t status = cron_c_history_fire_after(schedule, eras, count, now, &item);
+        if (status == CRON_C_NO_ITEM) {
+            break; /* it fires no more */
+        }
+        if (status != CRON_C_OK) {
             return 1;
         }
         print(&item);

@@ -42,7 +42,7 @@ pub struct Item {
 }
 
 #[link(name = "cron_c", kind = "static")]
-unsafe extern "C" {
+extern "C" {
     fn cron_c_parse(
         text: *const u8,
         text_length: usize,

@@ -5,8 +5,10 @@ The archive is that of the repository, or the one that the variable CRON_C_ARCHI
 
 import base64
 import hashlib
+import io
 import os
 import pathlib
+import shlex
 import subprocess
 import tarfile
 import tempfile
@@ -14,6 +16,7 @@ import zipfile
 
 NAME, VERSION = "cron_c", "1.0.0"
 HERE = pathlib.Path(__file__).resolve().parent.parent
+PACKAGE = HERE / "src" / NAME
 TAG = "py3-none-linux_x86_64"
 METADATA = f"""Metadata-Version: 2.1
 Name: {NAME}
@@ -43,13 +46,14 @@ def library():
     with tempfile.TemporaryDirectory() as room:
         target = os.path.join(room, f"lib{NAME}.so")
         whole = ["-Wl,--whole-archive", archive(), "-Wl,--no-whole-archive"]
-        subprocess.run([os.environ.get("CC", "cc"), "-shared", "-o", target, *whole], check=True)
+        compiler = shlex.split(os.environ.get("CC", "cc"))
+        subprocess.run([*compiler, "-shared", "-o", target, *whole], check=True)
         return pathlib.Path(target).read_bytes()
 
 
 def files():
     """What the wheel holds, by its paths."""
-    sources = sorted((HERE / NAME).glob("*.py")) + [HERE / NAME / "py.typed"]
+    sources = sorted(PACKAGE.glob("*.py")) + [PACKAGE / "py.typed"]
     held = {f"{NAME}/{it.name}": it.read_bytes() for it in sources}
     held[f"{NAME}/lib{NAME}.so"] = library()
     held[f"{NAME}-{VERSION}.dist-info/METADATA"] = METADATA.encode()
@@ -79,10 +83,18 @@ def build_wheel(wheel_directory, config_settings=None, metadata_directory=None):
     return name
 
 
+def without_caches(file):
+    """Leaves out what Python compiled."""
+    return None if "__pycache__" in file.name else file
+
+
 def build_sdist(sdist_directory, config_settings=None):
     """Writes the sources into the folder as an archive, and returns its name."""
     name = f"{NAME}-{VERSION}"
     with tarfile.open(os.path.join(sdist_directory, f"{name}.tar.gz"), "w:gz") as sources:
-        for part in ("pyproject.toml", "backend", NAME, "tests"):
-            sources.add(HERE / part, f"{name}/{part}")
+        for part in ("pyproject.toml", "README.md", "backend", "src", "tests"):
+            sources.add(HERE / part, f"{name}/{part}", filter=without_caches)
+        about = tarfile.TarInfo(f"{name}/PKG-INFO")
+        about.size = len(METADATA.encode())
+        sources.addfile(about, io.BytesIO(METADATA.encode()))
     return f"{name}.tar.gz"

@@ -9,6 +9,7 @@ from zoneinfo import ZoneInfo
 
 import cron_c
 from cron_c import InstantError, Schedule, TextError, ZoneError
+from cron_c.zones import _data_of
 
 CHICAGO = ZoneInfo("America/Chicago")
 UTC = timezone.utc
@@ -74,6 +75,10 @@ class Refusals(unittest.TestCase):
         with self.assertRaisesRegex(TextError, r"^Hours must be less than 23\. \('25' specified\.\)$"):
             Schedule("0 0 25 * * *")
 
+    def test_bytes_are_no_text(self):
+        with self.assertRaises(TypeError):
+            Schedule(b"@daily")
+
     def test_a_lone_surrogate_is_no_text(self):
         with self.assertRaises(TextError):
             Schedule("\udc80")
@@ -88,6 +93,11 @@ class Refusals(unittest.TestCase):
         header = b"TZif" + bytes(16) + (0).to_bytes(4, "big") * 4 + (1).to_bytes(4, "big") + (4).to_bytes(4, "big")
         zone = ZoneInfo.from_file(io.BytesIO(header + bytes(6) + b"UTC\0"))
         with self.assertRaisesRegex(ZoneError, "the zone has no key"):
+            Schedule("@daily").after(datetime(2024, 1, 1, tzinfo=zone))
+
+    def test_a_file_of_another_zone_is_refused(self):
+        zone = ZoneInfo.from_file(io.BytesIO(_data_of("Asia/Tokyo")), key="America/Chicago")
+        with self.assertRaisesRegex(ZoneError, "isn't what this ZoneInfo was read from"):
             Schedule("@daily").after(datetime(2024, 1, 1, tzinfo=zone))
 
     def test_an_offset_with_a_part_of_a_second_is_refused(self):

@@ -66,7 +66,7 @@ class Zones(unittest.TestCase):
     def test_bytes_of_no_file_are_refused(self):
         for data in (b"", b"TZif", _data_of("America/Chicago")[:-1], _data_of("America/Chicago")[:2000]):
             with self.assertRaises(ZoneError):
-                read_history(data)
+                read_history(data, "America/Chicago")
 
     def test_each_zone_fires_as_its_clock_shows(self):
         schedule = Schedule("0 */15 * * * *")

@@ -29,3 +29,6 @@ next_of s z last r i walk after answer once same item resumed call =
 
 pub not_none : (r : Reading) → None ≡ Some r → ⊥
 not_none r e = cc
+
+pub same_reading : (m r : Reading) → Some m ≡ Some r → m ≡ r
+same_reading m r e = cc

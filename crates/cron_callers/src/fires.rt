@@ -24,7 +24,8 @@ pub fn next_fire(schedule: &Schedule, now: Timestamp, zone: &TimeZone<'_>) -> Op
     first_fire_after(schedule, now, zone)
 }
 
-/// The first so many fire times after an instant, fewer where the timeline ends.
+/// The first so many items of a walk ahead from a start, fewer where the timeline ends. Where the start
+/// lies in a fold they may leave out later instants, or begin with the start or one before it.
 pub fn first_fires(
     alloc: Global,
     schedule: &Schedule,
@@ -38,7 +39,9 @@ pub fn first_fires(
     schedule.after(start, zone).take(count).collect(alloc)
 }
 
-/// The last so many fire times before an instant, the latest first.
+/// The first so many items of a walk back from a start, from the last one on that the clock shows before
+/// it. Where the start lies in a fold they may leave out earlier instants, or begin with the start or a
+/// later one.
 pub fn last_fires(
     alloc: Global,
     schedule: &Schedule,

@@ -2,8 +2,8 @@
 
 use super::{
     Noted, count_fires, count_hours, descending_hours, fault_of, fire_after, fires_of_day,
-    first_alarms, first_fires, greatest_month, has_thirteenth_month, last_fires, minutes_between,
-    missed_runs, next_fire, some_warm_month, summer_months, work_days, year_count,
+    first_alarms, first_fires, greatest_month, has_thirteenth_month, item_after, last_fires,
+    minutes_between, missed_runs, next_fire, some_warm_month, summer_months, work_days, year_count,
 };
 use cron::Schedule;
 use cron::schedule::Moment;
@@ -255,14 +255,25 @@ fn alarms_ascend_at_one_offset(rt: HostRuntime) -> Result<(), Fail> {
 }
 
 #[test]
-fn a_service_goes_on_in_a_fold(rt: HostRuntime) -> Result<(), Fail> {
+fn a_calendar_goes_on_in_a_fold(rt: HostRuntime) -> Result<(), Fail> {
+    let schedule = Schedule::from_str(rt.alloc(), "0 0,30 1 6 11 ? 2022")?;
+    let noted = Noted {
+        shown: "2022-11-06T01:00:00".parse()?,
+        offset: Offset::from_seconds(-4 * 3600)?,
+    };
+    let next = item_after(&schedule, noted, &new_york()?).ok_or("no item follows")?;
+    check_fires(&rt, &[next], "2022-11-06 01:00:00 -05:00, ")
+}
+
+#[test]
+fn a_scheduler_goes_on_in_a_fold(rt: HostRuntime) -> Result<(), Fail> {
     let schedule = Schedule::from_str(rt.alloc(), "0 0,30 1 6 11 ? 2022")?;
     let noted = Noted {
         shown: "2022-11-06T01:00:00".parse()?,
         offset: Offset::from_seconds(-4 * 3600)?,
     };
     let next = fire_after(&schedule, noted, &new_york()?).ok_or("no fire follows")?;
-    check_fires(&rt, &[next], "2022-11-06 01:00:00 -05:00, ")
+    check_fires(&rt, &[next], "2022-11-06 01:30:00 -04:00, ")
 }
 
 #[test]

@@ -1,6 +1,6 @@
 //! Walks over the sets of a schedule.
 
-ghost use Rattle.std.specs.Prelude.{◌≡◌, ◌≤◌, false, length, filter, reverse, max, IfOk, IfSome};
+ghost use Rattle.std.specs.Prelude.{◌≡◌, ◌≤◌, false, length, filter, reverse, max, slice_get, IfOk};
 ghost use Rattle.std.specs.declared.ops.Bound.TheVariants.{Included};
 ghost use Rattle.std.specs.List.{reduce};
 ghost use Rattle.cron.specs.Words.{is_within};
@@ -64,10 +64,9 @@ pub fn summer_months(alloc: Global, schedule: &Schedule) -> Result<Vec<Ordinal>,
         .collect(alloc)
 }
 
-/// Some month from June to September. The one clause says only that the schedule has a month then,
-/// so bounds that are out of order are refused for what `range` requires, and for nothing else.
+/// The first month from June to September, if there is one.
 pub fn some_warm_month(schedule: &Schedule) -> Option<Ordinal>
-    ensures { IfSome result (λ month. 1 ≤ length schedule.now.sets.months) }
+    ensures { result ≡ slice_get (filter (is_within (Included 6) (Included 9)) schedule.now.sets.months) 0 }
 {
     schedule
         .months()

@@ -4,7 +4,7 @@ from __future__ import annotations
 
 import ctypes
 import pathlib
-from typing import Optional, Sequence
+from typing import Optional, Sequence, Tuple
 
 from .errors import CronError, TextError, ZoneError
 
@@ -37,10 +37,17 @@ class Era(ctypes.Structure):
 
 
 History = ctypes.Array  # of Era
+Fire = Tuple[int, int]  # an instant in seconds since 1970, and how far the clock is ahead of UTC then
+
+VERSION = 1  # the first number of the library's version: another may have other structs
 
 
 def _load() -> ctypes.CDLL:
     library = ctypes.CDLL(str(pathlib.Path(__file__).with_name("libcron_c.so")))
+    library.cron_c_version.argtypes, library.cron_c_version.restype = [], ctypes.c_uint32
+    version = library.cron_c_version() // 10_000
+    if version != VERSION:
+        raise ImportError(f"libcron_c.so is of version {version}, and this package needs {VERSION}")
     size, pointer, instant = ctypes.c_size_t, ctypes.POINTER, ctypes.c_int64
     text = [ctypes.c_char_p, size]
     library.cron_c_parse.argtypes = text + [pointer(Sets)] + text + [pointer(size)]
@@ -79,9 +86,9 @@ def parse_zone(text: bytes) -> Zone:
     return zone
 
 
-def _found(status: int, item: Item) -> Optional[int]:
+def _found(status: int, item: Item) -> Optional[Fire]:
     if status == OK:
-        return item.instant
+        return item.instant, item.offset
     if status == NO_ITEM:
         return None
     raise CronError(f"status {status}")
@@ -96,29 +103,29 @@ def history(eras: Sequence[Era]) -> History:
     return (Era * len(eras))(*eras)
 
 
-def read_history(data: bytes) -> History:
-    """The eras of a compiled zone file."""
+def read_history(data: bytes, key: str) -> History:
+    """The eras of the compiled zone file of this key."""
     eras, count = history([]), ctypes.c_size_t()
     status = _LIBRARY.cron_c_history_read(data, len(data), eras, len(eras), count)
     if status == MORE:
         eras = (Era * count.value)()
         status = _LIBRARY.cron_c_history_read(data, len(data), eras, len(eras), count)
     if status == BAD_ZONE:
-        raise ZoneError("the zone's file is none")
+        raise ZoneError(f"the file of the zone {key} is none")
     if status == NO_MEMORY:
-        raise MemoryError("no room for what the zone's file says")
+        raise MemoryError(f"no room for what the file of the zone {key} says")
     if status != OK:
         raise CronError(f"status {status}")
     return eras
 
 
-def fire_after(sets: Sets, eras: History, instant: int) -> Optional[int]:
-    """Of the instants after this one at which it fires the earliest."""
+def fire_after(sets: Sets, eras: History, instant: int) -> Optional[Fire]:
+    """Of the fires after this instant the earliest."""
     item = Item()
     return _found(_LIBRARY.cron_c_history_fire_after(sets, eras, len(eras), _within(instant), item), item)
 
 
-def fire_by(sets: Sets, eras: History, instant: int) -> Optional[int]:
-    """Of the instants up to this one at which it fires the latest."""
+def fire_by(sets: Sets, eras: History, instant: int) -> Optional[Fire]:
+    """Of the fires up to this instant the latest."""
     item = Item()
     return _found(_LIBRARY.cron_c_history_fire_by(sets, eras, len(eras), _within(instant), item), item)

@@ -2,14 +2,14 @@
 
 from __future__ import annotations
 
-import functools
 import importlib.resources
 import os
+import weakref
 import zoneinfo
 from datetime import datetime, timedelta, timezone, tzinfo
 
 from .errors import ZoneError
-from .library import Era, History, Zone, history, parse_zone, read_history
+from .library import Era, Fire, History, Zone, history, parse_zone, read_history
 
 EPOCH = datetime(1970, 1, 1, tzinfo=timezone.utc)
 SECOND = timedelta(seconds=1)
@@ -29,22 +29,21 @@ def _fixed(offset: timedelta) -> Zone:
 
 def _data_of(key: str) -> bytes:
     """The bytes of the zone's file, found as `zoneinfo` finds it."""
-    for folder in zoneinfo.TZPATH:
-        path = os.path.join(folder, key)
-        if os.path.isfile(path):
-            with open(path, "rb") as file:
-                return file.read()
-    package, _, name = key.rpartition("/")
     try:
+        for folder in zoneinfo.TZPATH:
+            path = os.path.join(folder, key)
+            if os.path.isfile(path):
+                with open(path, "rb") as file:
+                    return file.read()
+        package, _, name = key.rpartition("/")
         folder = importlib.resources.files(".".join(["tzdata.zoneinfo", *package.split("/")]).rstrip("."))
         return folder.joinpath(name).read_bytes()
     except (ImportError, OSError) as error:
-        raise ZoneError(f"no file for the zone {key}") from error
+        raise ZoneError(f"no file for the zone {key} can be read") from error
 
 
-@functools.lru_cache(maxsize=256)
-def _eras_of_key(key: str) -> History:
-    return read_history(_data_of(key))
+# A zone that is read anew, as after an update of the files, is another object.
+_ERAS: "weakref.WeakKeyDictionary[zoneinfo.ZoneInfo, History]" = weakref.WeakKeyDictionary()
 
 
 def eras_of(zone: tzinfo) -> History:
@@ -55,4 +54,16 @@ def eras_of(zone: tzinfo) -> History:
         raise ZoneError(f"{zone!r} is neither a ZoneInfo nor a fixed offset")
     if zone.key is None:
         raise ZoneError("the zone has no key, so its file isn't known")
-    return _eras_of_key(zone.key)
+    eras = _ERAS.get(zone)
+    if eras is None:
+        eras = _ERAS[zone] = read_history(_data_of(zone.key), zone.key)
+    return eras
+
+
+def shown(fire: Fire, zone: tzinfo) -> datetime:
+    """What the clock of the zone shows at a fire."""
+    instant, offset = fire
+    moment = (EPOCH + timedelta(seconds=instant)).astimezone(zone)
+    if moment.utcoffset() != timedelta(seconds=offset):
+        raise ZoneError(f"the file of {zone} isn't what this ZoneInfo was read from")
+    return moment

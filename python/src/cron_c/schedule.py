@@ -2,13 +2,13 @@
 
 from __future__ import annotations
 
-from datetime import datetime, timedelta, tzinfo
+from datetime import datetime, tzinfo
 from itertools import takewhile
 from typing import Iterator, List, Optional
 
 from . import library
 from .errors import InstantError
-from .zones import EPOCH, SECOND, eras_of
+from .zones import EPOCH, SECOND, eras_of, shown
 
 
 def _zone_of(moment: datetime) -> tzinfo:
@@ -35,6 +35,8 @@ class Schedule:
     __slots__ = ("_sets", "_text")
 
     def __init__(self, text: str) -> None:
+        if not isinstance(text, str):
+            raise TypeError(f"the text is a {type(text).__name__} and no str")
         self._sets = library.parse(text)
         self._text = text
 
@@ -61,30 +63,27 @@ class Schedule:
         datetime itself isn't before it."""
         zone = _zone_of(moment)
         found = library.fire_by(self._sets, eras_of(zone), _ceiling(moment) - 1)
-        return None if found is None else _moment(found, zone)
+        return None if found is None else shown(found, zone)
 
     def between(self, start: datetime, end: datetime) -> List[datetime]:
         """When it fires after one datetime and up to and with another, in the zone of the first."""
         _zone_of(end)
         zone, last = _zone_of(start), _floor(end)
-        return [_moment(it, zone) for it in takewhile(lambda it: it <= last, self._instants(eras_of(zone), _floor(start)))]
+        fires = self._fires(eras_of(zone), _floor(start))
+        return [shown(it, zone) for it in takewhile(lambda it: it[0] <= last, fires)]
 
     def fires(self, start: datetime) -> Iterator[datetime]:
         """When it fires after a datetime, in its zone, one after the other."""
         zone = _zone_of(start)
-        return (_moment(it, zone) for it in self._instants(eras_of(zone), _floor(start)))
+        return (shown(it, zone) for it in self._fires(eras_of(zone), _floor(start)))
 
-    def _instants(self, eras: library.History, start: int) -> Iterator[int]:
+    def _fires(self, eras: library.History, start: int) -> Iterator[library.Fire]:
         found = library.fire_after(self._sets, eras, start)
         while found is not None:
             yield found
-            found = library.fire_after(self._sets, eras, found)
+            found = library.fire_after(self._sets, eras, found[0])
 
 
 def _ceiling(moment: datetime) -> int:
     """The first second since 1970 that isn't before."""
     return -((EPOCH - moment) // SECOND)
-
-
-def _moment(instant: int, zone: tzinfo) -> datetime:
-    return (EPOCH + timedelta(seconds=instant)).astimezone(zone)
