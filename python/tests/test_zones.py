@@ -1,6 +1,8 @@
 """Each zone of the machine against `zoneinfo`: the quarters of an hour on its clock around its clock changes."""
 
+import pathlib
 import struct
+import tempfile
 import unittest
 import zoneinfo
 from datetime import datetime, timedelta, timezone
@@ -67,6 +69,21 @@ class Zones(unittest.TestCase):
         for data in (b"", b"TZif", _data_of("America/Chicago")[:-1], _data_of("America/Chicago")[:2000]):
             with self.assertRaises(ZoneError):
                 read_history(data, "America/Chicago")
+
+    def test_a_zone_that_is_read_anew_has_its_new_file(self):
+        schedule, start = Schedule("0 0 9 * * *"), datetime(2024, 1, 1)
+        with tempfile.TemporaryDirectory() as folder:
+            path = pathlib.Path(folder, "Moved")
+            tokyo, utc = (_data_of(key) for key in ("Asia/Tokyo", "Etc/UTC"))
+            self.addCleanup(zoneinfo.reset_tzpath)
+            zoneinfo.reset_tzpath(to=[folder])
+            path.write_bytes(tokyo)
+            old = zoneinfo.ZoneInfo.no_cache("Moved")
+            self.assertEqual(schedule.after(start.replace(tzinfo=old)).utcoffset(), timedelta(hours=9))
+            path.write_bytes(utc)
+            new = zoneinfo.ZoneInfo.no_cache("Moved")
+            self.assertEqual(schedule.after(start.replace(tzinfo=new)).utcoffset(), timedelta(0))
+            self.assertEqual(schedule.after(start.replace(tzinfo=old)).utcoffset(), timedelta(hours=9))
 
     def test_each_zone_fires_as_its_clock_shows(self):
         schedule = Schedule("0 */15 * * * *")

@@ -8,7 +8,6 @@ use Rattle.cron_units.specs.declared.way.Way.TheVariants.{Ahead, Back}
 use Rattle.cron_units.specs.Sets.{Sets}
 use Rattle.cron_text.specs.Fault.{IsRefusal}
 use Rattle.cron_text.specs.Meaning.{Means}
-use Rattle.cron_moments.specs.Civil.{seconds_in_range}
 use Rattle.cron_time.specs.Walk.Cursor.{Start, Walk, step}
 use Rattle.cron_moments.specs.MomentText.{moment_text}
 use Rattle.cron_moments.specs.Readings.{Reading, instant}
@@ -18,7 +17,7 @@ use Rattle.cron_c.specs.Zones.{IsNoZone, IsSomeZone, IsZoneIn}
 use Rattle.cron_c.specs.declared.zone.CronZone.{CronZone}
 use Rattle.cron_c.specs.Buffers.{laid_over}
 use Rattle.cron_c.specs.Statuses.{code_of}
-use Rattle.cron_c.specs.Structs.{IsItem, IsStructOf, sets_of}
+use Rattle.cron_c.specs.Structs.{IsItem, IsItemInRange, IsNoItem, IsStructOf, sets_of}
 use Rattle.cron_c.specs.declared.item.CronItem.{CronItem}
 use Rattle.cron_c.specs.declared.schedule.CronSchedule.{CronSchedule}
 use Rattle.cron_c.specs.declared.status.Status.{Status}
@@ -99,7 +98,7 @@ Follows way s zone old new _ = ⊥
 -- The text of an item is laid over a buffer, and its whole length told.
 abbrev pub Formats : CronItem → List ℕ → List ℕ → ℕ → Status → Type 0
 Formats item before after size Done =
-    (r : Reading) × IsItem r item × (r.second < seconds_in_range) × (after ≡ laid_over 0 (moment_text r) before) × (size ≡ length (moment_text r))
+    (r : Reading) × IsItemInRange r item × (after ≡ laid_over 0 (moment_text r) before) × (size ≡ length (moment_text r))
 Formats item before after size NotAnItem =
-    ((r : Reading) → IsItem r item → r.second < seconds_in_range → ⊥) × (after ≡ before) × (size ≡ 0)
+    IsNoItem item × (after ≡ before) × (size ≡ 0)
 Formats item before after size _ = ⊥

@@ -2,14 +2,13 @@
 use Rattle.std.specs.Prelude.{◌≡◌, ◌+◌, ◌<◌, ℕ, ℤ, pos, ◌*ℤ◌, ◌<ℤ◌, ◌≤ℤ◌, int_le, Bool, true, false, List, [], ◌∷◌, Option, Some, None, slice_get, length}
 use Rattle.jiff_tz.specs.declared.timezone.TimeZone.{TimeZone}
 use Rattle.cron_units.specs.Sets.{Sets}
-use Rattle.cron_moments.specs.Civil.{seconds_in_range}
 use Rattle.cron_moments.specs.Readings.{Reading, instant}
 use Rattle.cron_instants.specs.Instants.{IsAfter, IsBy, IsEarliest, IsLatest, IsItem as IsOnTimeline}
 use Rattle.cron_instants.specs.Order.{is_earlier}
 use Rattle.cron_c.specs.Zones.{IsSomeZone, IsZoneIn}
 use Rattle.cron_c.specs.Calls.{IsInstant}
 use Rattle.cron_c.specs.Listings.{IsFront}
-use Rattle.cron_c.specs.Structs.{IsItem, IsItemInRange}
+use Rattle.cron_c.specs.Structs.{IsItem, IsItemInRange, IsNoItem, IsSomeItem}
 use Rattle.cron_c.specs.declared.era.CronEra.{CronEra}
 use Rattle.cron_c.specs.declared.history.Begin.{Begin}
 use Rattle.cron_c.specs.declared.history.Begin.TheVariants.{After, Past}
@@ -99,9 +98,9 @@ RunsInBetween s eras last now old new count status =
 abbrev pub RunsInPast : Sets → List CronEra → CronItem → ℤ → List CronItem → List CronItem → ℕ → Status → Type 0
 RunsInPast s eras item now old new count BadZone = (IsHistory eras → ⊥) × (new ≡ old) × (count ≡ 0)
 RunsInPast s eras item now old new count NotAnItem =
-    IsHistory eras × ((r : Reading) → IsItem r item → r.second < seconds_in_range → ⊥) × (new ≡ old) × (count ≡ 0)
+    IsHistory eras × IsNoItem item × (new ≡ old) × (count ≡ 0)
 RunsInPast s eras item now old new count BadInstant =
-    IsHistory eras × ((r : Reading) × IsItemInRange r item) × (IsInstant now → ⊥) × (new ≡ old) × (count ≡ 0)
+    IsHistory eras × IsSomeItem item × (IsInstant now → ⊥) × (new ≡ old) × (count ≡ 0)
 RunsInPast s eras item now old new count status =
     (r : Reading) × IsHistory eras × IsItemInRange r item × IsInstant now
     × FillsOf (λ q. IsHistoryItem s eras q × (is_earlier r q ≡ true) × IsBy (now *ℤ pos 1_000_000_000) q) old new count status

@@ -2,14 +2,13 @@
 use Rattle.std.specs.Prelude.{◌≡◌, ◌<◌, ℕ, ℤ, pos, ◌*ℤ◌, if◌then◌else◌, List, [], ◌∷◌, ◌++◌, Option, Some, None, MatchOption, filter, length}
 use Rattle.jiff_tz.specs.declared.timezone.TimeZone.{TimeZone}
 use Rattle.cron_units.specs.Sets.{Sets}
-use Rattle.cron_moments.specs.Civil.{seconds_in_range}
 use Rattle.cron_moments.specs.Readings.{Reading}
 use Rattle.cron_c.specs.Zones.{IsNoZone, IsSomeZone, IsZoneIn}
 use Rattle.cron_c.specs.declared.zone.CronZone.{CronZone}
 use Rattle.cron_instants.specs.Fires.{fires_between, fires_past, is_by}
 use Rattle.cron_c.specs.Calls.{IsInstant}
 use Rattle.cron_c.specs.Listings.{IsFront}
-use Rattle.cron_c.specs.Structs.{IsItem, IsItemInRange}
+use Rattle.cron_c.specs.Structs.{IsItem, IsItemInRange, IsNoItem, IsSomeItem}
 use Rattle.cron_c.specs.declared.item.CronItem.{CronItem}
 use Rattle.cron_c.specs.declared.status.Status.{Status}
 use Rattle.cron_c.specs.declared.status.Status.TheVariants.{Done, More, BadZone, BadInstant, NotAnItem}
@@ -50,9 +49,9 @@ RunsBetween s zone last now old new count status =
 abbrev pub RunsPast : Sets → CronZone → CronItem → ℤ → List CronItem → List CronItem → ℕ → Status → Type 0
 RunsPast s zone item now old new count BadZone = IsNoZone zone × (new ≡ old) × (count ≡ 0)
 RunsPast s zone item now old new count NotAnItem =
-    IsSomeZone zone × ((r : Reading) → IsItem r item → r.second < seconds_in_range → ⊥) × (new ≡ old) × (count ≡ 0)
+    IsSomeZone zone × IsNoItem item × (new ≡ old) × (count ≡ 0)
 RunsPast s zone item now old new count BadInstant =
-    IsSomeZone zone × ((r : Reading) × IsItemInRange r item) × (IsInstant now → ⊥) × (new ≡ old) × (count ≡ 0)
+    IsSomeZone zone × IsSomeItem item × (IsInstant now → ⊥) × (new ≡ old) × (count ≡ 0)
 RunsPast s zone item now old new count status =
     (z : TimeZone) × (r : Reading) × IsZoneIn zone z × IsItemInRange r item × IsInstant now
     × Fills (fires_past_by s z r (now *ℤ pos 1_000_000_000)) old new count status

@@ -50,3 +50,10 @@ pub record IsItem (r : Reading) (item : CronItem) : Type 0 where
 -- and what its clock shows lies in the range
 abbrev pub IsItemInRange : Reading → CronItem → Type 0
 IsItemInRange r item = IsItem r item × (r.second < seconds_in_range)
+
+-- the struct is that of some reading of the range, or of none
+abbrev pub IsSomeItem : CronItem → Type 0
+IsSomeItem item = (r : Reading) × IsItemInRange r item
+
+abbrev pub IsNoItem : CronItem → Type 0
+IsNoItem item = (r : Reading) → IsItem r item → r.second < seconds_in_range → ⊥

@@ -1,9 +1,8 @@
 //! An item as plain numbers.
 
-ghost use Rattle.std.specs.Prelude.{◌≡◌, ◌<◌, MatchOption};
-ghost use Rattle.cron_moments.specs.Civil.{seconds_in_range};
-ghost use Rattle.cron_moments.specs.Readings.{Reading, instant};
-ghost use Rattle.cron_c.specs.Structs.{IsItem};
+ghost use Rattle.std.specs.Prelude.{◌≡◌, MatchOption};
+ghost use Rattle.cron_moments.specs.Readings.{instant};
+ghost use Rattle.cron_c.specs.Structs.{IsItem, IsItemInRange, IsNoItem};
 
 use cron_moments::moment::Moment;
 use cron_moments::parts::moment_at;
@@ -42,8 +41,8 @@ pub fn item_of(moment: &Moment) -> CronItem
 /// second outside 1970 to 2100, or `reserved` isn't 0.
 pub fn moment_of(item: CronItem) -> Option<Moment>
     ensures { MatchOption result
-        ((r : Reading) → IsItem r item → r.second < seconds_in_range → ⊥)
-        (λ r. IsItem r item × (r.second < seconds_in_range)) }
+        (IsNoItem item)
+        (λ r. IsItemInRange r item) }
 {
     if item.reserved != 0 {
         return None;

@@ -32,20 +32,20 @@ ended_on bytes piece line checked h one more =
     ap lines_of (append_assoc bytes piece more)
     ∙ (h (piece ++ more) ∙ (ap (λ (ls : List (List ℕ)). checked ++ ls) (one more) ∙ sym (append_assoc checked (line ∷ []) (lines_of more))))
 
+-- the bytes so far, and what was read behind them
+pub read_on : (given now left : Option (List ℕ)) (checked : List (List ℕ)) (piece : List ℕ) (r : IsReadSoFar given now checked)
+    → Consumes now left piece → Consumes given left (r.bytes ++ piece)
+read_on given now left checked piece r c = Consumes-trans given now left r.bytes piece r.consumed c
+
 -- one more line, with its line feed
 pub line_read : (given now left : Option (List ℕ)) (checked : List (List ℕ)) (line piece : List ℕ) → IsReadSoFar given now checked
     → Consumes now left piece → AreEnded piece (line ∷ []) → IsReadSoFar given left (checked ++ line ∷ [])
 line_read given now left checked line piece r c one =
     record {
       bytes = r.bytes ++ piece;
-      consumed = Consumes-trans given now left r.bytes piece r.consumed c;
+      consumed = read_on given now left checked piece r c;
       cut = ended_on r.bytes piece line checked r.cut one;
     }
-
--- the bytes so far, and what was read behind them
-pub read_on : (given now left : Option (List ℕ)) (checked : List (List ℕ)) (piece : List ℕ) (r : IsReadSoFar given now checked)
-    → Consumes now left piece → Consumes given left (r.bytes ++ piece)
-read_on given now left checked piece r c = Consumes-trans given now left r.bytes piece r.consumed c
 
 -- nothing is behind the last line
 pub read_whole : (given now left : Option (List ℕ)) (checked : List (List ℕ)) (piece : List ℕ) (r : IsReadSoFar given now checked)
@@ -73,11 +73,11 @@ read_through None now left bytes c h = tt
 read_through (Some x) None left bytes c h = absurd c
 read_through (Some x) (Some y) left bytes c h = h
 
--- a line that was given is whole
-pub given_whole : (now left : Option (List ℕ)) (piece line : List ℕ) (last : Bool) → lines_of piece ≡ line ∷ []
-    → (last ≡ false → AreEnded piece (line ∷ [])) → (last ≡ true → IsReadThrough now left) → AreWhole now left piece (line ∷ [])
-given_whole now left piece line false e more through = (e, inl (more refl))
-given_whole now left piece line true e more through = (e, inr (through refl))
+-- a line that was given is whole, and so are its bytes
+pub given_whole : (now left : Option (List ℕ)) (piece line bytes : List ℕ) (last : Bool) → bytes ≡ line → lines_of piece ≡ line ∷ []
+    → (last ≡ false → AreEnded piece (line ∷ [])) → (last ≡ true → IsReadThrough now left) → AreWhole now left piece (bytes ∷ [])
+given_whole now left piece line bytes false is e more through = rw is (e, inl (more refl))
+given_whole now left piece line bytes true is e more through = rw is (e, inr (through refl))
 
 -- and so it is of the reader that gave the lines before it
 pub whole_of : (given now left : Option (List ℕ)) (bytes piece : List ℕ) (lines : List (List ℕ)) → Consumes given now bytes

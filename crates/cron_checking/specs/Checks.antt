@@ -11,12 +11,16 @@ use Rattle.cron_checking.specs.declared.line.Mode.{Mode}
 abbrev pub line_not_utf8 : ℕ → List ℕ
 line_not_utf8 number = told number (codes "not UTF-8")
 
+-- the line that tells why a check ended, where no report tells it
+abbrev pub closing_line : Outcome → List ℕ
+closing_line OutOfMemory = codes "error: out of memory" ++ 10 ∷ []
+closing_line Unreadable = codes "error: the file can't be read" ++ 10 ∷ []
+closing_line _ = []
+
 -- the last line that a check writes, which ended past so many lines
 abbrev pub last_line : Outcome → ℕ → List ℕ
-last_line OutOfMemory count = codes "error: out of memory" ++ 10 ∷ []
-last_line Unreadable count = codes "error: the file can't be read" ++ 10 ∷ []
 last_line NotUtf8 count = line_not_utf8 (count + 1)
-last_line _ count = []
+last_line end count = closing_line end
 
 -- Where a check ended, of a reader that had `given` and has `left`: the bytes in front are the lines that were checked, none of which is
 -- cut off, and a piece was read behind them.

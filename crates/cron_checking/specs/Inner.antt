@@ -1,5 +1,5 @@
 -- What the steps of a check do.
-use Rattle.std.specs.Prelude.{◌≡◌, ◌≤◌, ◌+◌, ℕ, Bool, true, false, List, [], ◌∷◌, ◌++◌, Option, Some, None, Result, Ok, Err, length, IsUtf8, codes}
+use Rattle.std.specs.Prelude.{◌≡◌, ◌≤◌, ◌+◌, ℕ, Bool, true, false, List, [], ◌++◌, Option, Some, None, Result, Ok, Err, length, IsUtf8}
 use Rattle.std.specs.Io.KnownBytes.{Consumes}
 use Rattle.std.specs.declared.io.Error.{Error}
 use Rattle.cron_writer.specs.Watching.{has_failed}
@@ -50,12 +50,6 @@ pub record TellsAll {W : Type 0} (mode : Mode) (given left : Option (List ℕ)) 
   pub tells : TellsLines mode 1 checked report refused
   pub puts : Puts contents writes old was new is (report ++ stop_line end (length checked))
   pub failed : end ≡ WriteFailed → has_failed is ≡ true
-
--- the line that tells why a check ended, where no report tells it
-abbrev pub closing_line : Outcome → List ℕ
-closing_line OutOfMemory = codes "error: out of memory" ++ 10 ∷ []
-closing_line Unreadable = codes "error: the file can't be read" ++ 10 ∷ []
-closing_line _ = []
 
 abbrev pub end_of : Bool → Outcome
 end_of true = SomeRefused

@@ -1,8 +1,8 @@
 //! A check of the lines that a reader gives.
 
 ghost use Rattle.std.specs.Prelude.{◌≡◌, ℕ, List, Option, true, false};
-ghost use Rattle.cron_checking.specs.Checks.{Checks, Ends, code_of, is_write_failure};
-ghost use Rattle.cron_checking.specs.Inner.{TellsAll, TellsNext, closing_line, end_of};
+ghost use Rattle.cron_checking.specs.Checks.{Checks, Ends, closing_line, code_of, is_write_failure};
+ghost use Rattle.cron_checking.specs.Inner.{TellsAll, TellsNext, end_of};
 ghost use Rattle.cron_checking.specs.Puts.{Puts};
 ghost use Rattle.cron_writer.specs.Calls.{AreWritesFlushed, IsFlushed};
 ghost use Rattle.cron_writer.specs.Watching.{has_failed, writer_of, IsSent};

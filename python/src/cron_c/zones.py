@@ -43,7 +43,7 @@ def _data_of(key: str) -> bytes:
 
 
 # A zone that is read anew, as after an update of the files, is another object.
-_ERAS: "weakref.WeakKeyDictionary[zoneinfo.ZoneInfo, History]" = weakref.WeakKeyDictionary()
+_ERAS: weakref.WeakKeyDictionary[zoneinfo.ZoneInfo, History] = weakref.WeakKeyDictionary()
 
 
 def eras_of(zone: tzinfo) -> History:

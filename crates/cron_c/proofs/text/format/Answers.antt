@@ -7,7 +7,7 @@ use Rattle.cron_c.proofs.text.format.Goals as goal
 pub returns : goal.returns
 returns c =
     let same : c.as_slice-bytes.result.now ≡ moment_text c.in-Some.moment = c.as_slice-bytes.ensures.value ∙ c.text_of-shown.ensures.text in
-    (c.in-Some.moment, c.in-Some.ensures.0, c.in-Some.ensures.1, c.put.ensures ∙ ap (λ (l : List ℕ). laid_over 0 l c.args.text.now) same, ap length same)
+    (c.in-Some.moment, c.in-Some.ensures, c.put.ensures ∙ ap (λ (l : List ℕ). laid_over 0 l c.args.text.now) same, ap length same)
 
 pub returns-in_default : goal.returns-in_default
 returns-in_default c = search rules

@@ -4,8 +4,8 @@ use Rattle.cron_writer.specs.Watching.{has_failed, writer_of, IsGathered}
 use Rattle.cron_writer.proofs.Calling.{handed_on, writes_on}
 use Rattle.cron_writer.proofs.Gathering.{nothing_gathered}
 use Rattle.cron_writer.proofs.Sending.{both_ways}
-use Rattle.cron_checking.specs.Checks.{Ends, last_line}
-use Rattle.cron_checking.specs.Inner.{closing_line, stop_line}
+use Rattle.cron_checking.specs.Checks.{Ends, closing_line, last_line}
+use Rattle.cron_checking.specs.Inner.{stop_line}
 use Rattle.cron_checking.specs.declared.check.Outcome.{Outcome}
 use Rattle.cron_checking.specs.declared.check.Outcome.TheVariants.{AllRead, SomeRefused, OutOfMemory, WriteFailed, Unreadable, NotUtf8}
 use Rattle.cron_checking.proofs.check.check.Goals as goal

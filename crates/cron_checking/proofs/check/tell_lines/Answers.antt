@@ -1,7 +1,7 @@
-use Rattle.std.proofs.Common.{◌≡◌, ◌+◌, ◌++◌, ℕ, Bool, true, false, Option, List, [], ◌∷◌, length, refl, sym, subst, append-nil, arith}
+use Rattle.std.proofs.Common.{◌≡◌, ◌+◌, ◌++◌, ℕ, Bool, List, [], ◌∷◌, length, refl, sym, subst, append-nil, arith}
 use Rattle.std.proofs.lemmas.List.{length_push}
 use Rattle.std.proofs.KnownBytes.{Consumes-nil}
-use Rattle.cron_checking.specs.Lines.{lines_of, AreEnded, AreWhole, IsReadThrough}
+use Rattle.cron_checking.specs.Lines.{lines_of, AreEnded}
 use Rattle.cron_checking.specs.Puts.{Puts}
 use Rattle.cron_checking.specs.Reports.{TellsLine}
 use Rattle.cron_checking.specs.declared.line.Mode.{Mode}
@@ -90,19 +90,13 @@ returns g c =
       failed = λ f. absurd (cc);
     }
 
--- the line that was given, as the bytes that were told
-whole_line : (now left : Option (List ℕ)) (piece line bytes : List ℕ) (last : Bool) → bytes ≡ line → lines_of piece ≡ line ∷ []
-    → (last ≡ false → AreEnded piece (line ∷ [])) → (last ≡ true → IsReadThrough now left) → AreWhole now left piece (bytes ∷ [])
-whole_line now left piece line bytes last is one more through =
-    subst (λ (l : List ℕ). AreWhole now left piece (l ∷ [])) (sym is) (given_whole now left piece line last one more through)
-
 pub returns-in-Err : goal.returns-in-Err
 returns-in-Err g c =
     let (checked, report, read, told, count, puts) = c.loop-number.invariant in
     let (piece, consumed, one, more, through) = c.in-Line.ensures in
     let (put, stops, put_now) = c.in-Err.ensures in
     line_stops _ _ _ _ _ _ _ _ _ _ _ _ checked report _ _ _ piece put c.in-Err.end read told count puts consumed
-    (whole_line _ _ piece _ _ _ c.as_slice.ensures.value one more through) stops put_now
+    (given_whole _ _ piece _ _ _ c.as_slice.ensures.value one more through) stops put_now
 
 pub returns-then-last : goal.returns-then-last
 returns-then-last g c =
@@ -121,7 +115,7 @@ returns-then-last g c =
       ends =
           ended_at _ _ _ (read.bytes ++ piece) [] (checked ++ line ∷ []) _ c.end_of-then-last.ensures
           (read_through _ _ _ _ read.consumed (through c.if-last.true))
-          (whole_on _ _ _ checked line piece read (whole_line _ _ piece _ _ _ c.as_slice.ensures.value one more through)).0 refl;
+          (whole_on _ _ _ checked line piece read (given_whole _ _ piece _ _ _ c.as_slice.ensures.value one more through)).0 refl;
       tells = line_told _ 1 checked line report put _ _ told (numbered c.args.mode.now _ _ line put c.in-Ok.bad count tells);
       puts =
           subst (Puts _ _ _ _ _ _) (ended_puts _ _ (length (checked ++ line ∷ [])) (report ++ put) c.end_of-then-last.ensures)
