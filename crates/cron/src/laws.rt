@@ -155,7 +155,7 @@ pub fn end_for_ever()
     ensures { law.EndIsForEver }
 {}
 
-/// After `next` answered an item, `next_back` answers the one before it where there is one, and a further
+/// After `next` answered an item that isn't the first, `next_back` answers the one before it, and a further
 /// `next` answers the item again.
 pub fn neighbours()
     ensures { law.NeighboursAreAnswered }
