@@ -14,9 +14,10 @@ use cron_writer::watched::Watched;
 use jiff::Error;
 use jiff::tz::TimeZone;
 use late_clock::LateClock;
-use std::alloc::Global;
+use std::alloc::{AllocError, Global};
+use std::env;
+use std::io::{self, ErrorKind};
 use std::process::ExitCode;
-use std::{env, io};
 
 /// The rule of Chicago, where the clock goes back from 02:00 to 01:00 on 2022-11-06.
 const CHICAGO: &str = "CST6CDT,M3.2.0,M11.1.0";
@@ -54,14 +55,25 @@ fn status_of(rt: &HostRuntime, ended: Result<Status, Failure<Error>>) -> u8 {
     }
 }
 
+// The arguments, with the program's name before them.
+fn arguments_of(rt: &HostRuntime) -> io::Result<Vec<String>> {
+    Ok(env::args(rt)?.collect(rt.alloc())?)
+}
+
 fn run(rt: &HostRuntime) -> anyhow::Result<u8> {
-    let arguments: Vec<String> = env::args(rt)?.collect(rt.alloc())?;
     let mut printer = Printer {
         out: Watched::new(io::writer(rt)),
     };
-    let ended = match arguments.as_slice() {
-        [] | [_] => ring_in_the_fold(rt.alloc(), TimeZone::posix(CHICAGO)?, &mut printer),
-        [_, arguments @ ..] => answer(rt.alloc(), arguments, &mut MachineClock(rt), &mut printer),
+    let ended = match arguments_of(rt) {
+        Ok(arguments) => match arguments.as_slice() {
+            [] | [_] => ring_in_the_fold(rt.alloc(), TimeZone::posix(CHICAGO)?, &mut printer),
+            [_, given @ ..] => answer(rt.alloc(), given, &mut MachineClock(rt), &mut printer),
+        },
+        Err(error) if error.kind() == ErrorKind::OutOfMemory => {
+            Err(Failure::Refused(AllocError.into()))
+        }
+        // Where one isn't UTF-8 none is read, which the usage line answers.
+        Err(_) => answer(rt.alloc(), &[], &mut MachineClock(rt), &mut printer),
     };
     Ok(status_of(rt, ended))
 }

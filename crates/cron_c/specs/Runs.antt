@@ -1,5 +1,5 @@
 -- Many items at once, in the order of instants.
-use Rattle.std.specs.Prelude.{◌≡◌, ◌<◌, ℕ, ℤ, pos, ◌*ℤ◌, if◌then◌else◌, List, [], ◌∷◌, ◌++◌, Option, Some, None, MatchOption, filter, length}
+use Rattle.std.specs.Prelude.{◌≡◌, ℕ, ℤ, pos, ◌*ℤ◌, if◌then◌else◌, List, [], ◌∷◌, ◌++◌, Option, Some, None, MatchOption, filter, length}
 use Rattle.jiff_tz.specs.declared.timezone.TimeZone.{TimeZone}
 use Rattle.cron_units.specs.Sets.{Sets}
 use Rattle.cron_moments.specs.Readings.{Reading}
@@ -8,7 +8,7 @@ use Rattle.cron_c.specs.declared.zone.CronZone.{CronZone}
 use Rattle.cron_instants.specs.Fires.{fires_between, fires_past, is_by}
 use Rattle.cron_c.specs.Calls.{IsInstant}
 use Rattle.cron_c.specs.Listings.{IsFront}
-use Rattle.cron_c.specs.Structs.{IsItem, IsItemInRange, IsNoItem, IsSomeItem}
+use Rattle.cron_c.specs.Structs.{IsItemInRange, IsNoItem, IsSomeItem}
 use Rattle.cron_c.specs.declared.item.CronItem.{CronItem}
 use Rattle.cron_c.specs.declared.status.Status.{Status}
 use Rattle.cron_c.specs.declared.status.Status.TheVariants.{Done, More, BadZone, BadInstant, NotAnItem}

@@ -2,7 +2,7 @@
 use Rattle.std.specs.Prelude.{◌≡◌, ◌+◌, ◌-◌, ◌<◌, ◌==◌, ◌↔◌, ℕ, ℤ, pos, neg_ℤ, ◌≤ℤ◌, true, false, if◌then◌else◌, List, ◌++◌, drop, None, Some, MatchOption, Ok, IfSome, slice_get, length}
 use Rattle.jiff_core.specs.Timestamp.{IsTimestampNanos, nanos_of_seconds}
 use Rattle.jiff_tz.specs.TzifReader.{TzifText, read_tzif}
-use Rattle.jiff_tz.specs.Tzif.{HasBadRule, RuleAgrees, count_at, floor_second, rule_after, transition_at, tzif_view}
+use Rattle.jiff_tz.specs.Tzif.{RuleAgrees, count_at, floor_second, rule_after, transition_at, tzif_view}
 use Rattle.jiff_tz.specs.PosixText.{tz_view}
 use Rattle.jiff_tz.specs.Tzif as Table
 use Rattle.jiff_tz.specs.Zone as Zone

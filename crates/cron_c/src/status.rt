@@ -14,7 +14,7 @@ pub enum Status {
     Refused,
     /// The text isn't UTF-8.
     NotUtf8,
-    /// The text, the numbers or the bytes are of no zone.
+    /// The text, the numbers or the bytes are of no zone, or of one that can't be told.
     BadZone,
     /// The instant is out of range.
     BadInstant,
@@ -22,7 +22,7 @@ pub enum Status {
     NotAnItem,
     /// The text means nothing, and the message couldn't be written.
     Untold,
-    /// What was asked for was written as far as it fits, and more is left.
+    /// Items were written as far as they fit, and more are left; or eras don't fit, and none was written.
     More,
     /// Memory is wanting.
     NoMemory,

@@ -2,7 +2,7 @@
 use Rattle.std.proofs.Common.{ℕ, Bool, true, false, List, [], ◌∷◌, inl, inr, refl, subst}
 use Rattle.cron_units.specs.Laws.{is_unit-seconds, is_unit-minutes, is_unit-hours, is_unit-days_of_month, is_unit-months, is_unit-days_of_week, is_unit-years}
 use Rattle.cron_units.specs.Sets.{IsFilled, IsFilledOrMarked}
-use Rattle.cron_units.specs.Units.{TimeUnit, FieldSet, IsUnit, unmarked, means_last_day}
+use Rattle.cron_units.specs.Units.{TimeUnit, FieldSet, IsUnit, unmarked}
 use Rattle.cron_units.specs.Units as units
 use Rattle.cron_text.specs.Meaning.{DenoteSets, six_units, field_sets, Means}
 use Rattle.cron_text.specs.Tokens.{tokens, after_gap}

@@ -10,7 +10,7 @@ use Rattle.cron_checking.specs.Lines.{lines_of}
 use Rattle.cron_checking.specs.Puts.{Puts}
 use Rattle.cron_checking.specs.Reports.{TellsLine, TellsLines}
 use Rattle.cron_checking.specs.declared.check.Outcome.{Outcome}
-use Rattle.cron_checking.specs.declared.check.Outcome.TheVariants.{AllRead, SomeRefused, OutOfMemory, WriteFailed, Unreadable, NotUtf8}
+use Rattle.cron_checking.specs.declared.check.Outcome.TheVariants.{AllRead, SomeRefused, OutOfMemory, WriteFailed, NotUtf8}
 use Rattle.cron_checking.specs.declared.line.Mode.{Mode}
 
 -- what is told of a line that may not be UTF-8

@@ -4,7 +4,7 @@ use Rattle.std.specs.Prelude.{◌≤ℤ◌, slice_get}
 use Rattle.std.proofs.lemmas.Int.{ints}
 use Rattle.jiff_core.specs.declared.Timestamp.{Timestamp}
 use Rattle.cron_moments.specs.Readings.{Reading}
-use Rattle.cron_instants.specs.Fires.{fires_after, is_by}
+use Rattle.cron_instants.specs.Fires.{is_by}
 use Rattle.cron_instants.proofs.AscentLemmas.{filter-alike}
 use Rattle.cron_fires.proofs.LawLemmas.{cut_after, cut_past}
 use Rattle.cron_scheduler.specs.declared.plan.Start.TheVariants.{After, Past}
@@ -52,8 +52,7 @@ due_greatest times g r is = by_test (is_by g.nanosecond r) refl
     by_test false late = none_shown times g.nanosecond r is.others late
 
 pub due_up_to_the_greatest : DueUpToTheGreatest
-due_up_to_the_greatest s z start times g is =
-    filter-alike (is_due times) (is_by g.nanosecond) (fires_after s z start) (λ r h. due_greatest times g r is)
+due_up_to_the_greatest fires times g is = filter-alike (is_due times) (is_by g.nanosecond) fires (λ r h. due_greatest times g r is)
 
 -- ---- restarts
 

@@ -136,7 +136,7 @@ ended shows waits runs fires left looks c j c1 j1 st none =
       happened = st.made.happened;
       in_turn = st.made.in_turn;
       ends = st.made.well;
-      whole = (whole shows waits runs fires left looks c j c1 j1 st, inl (sym (st.split ∙ (ap (λ l. ran st.calls ++ l) none ∙ append-nil (ran st.calls)))));
+      whole = (whole shows waits runs fires left looks c j c1 j1 st, inl (sym (st.split ∙ (ap (λ l. ran st.calls ++ l) none ∙ append-nil (ran st.calls)))), st.awake);
     }
 
 -- the clock was read as often as it may be
@@ -149,7 +149,7 @@ spent shows waits runs fires left looks c j c1 j1 st all =
       happened = st.made.happened;
       in_turn = st.made.in_turn;
       ends = st.made.well;
-      whole = (whole shows waits runs fires left looks c j c1 j1 st, inr (st.looks_are ∙ all));
+      whole = (whole shows waits runs fires left looks c j c1 j1 st, inr (st.looks_are ∙ all), st.awake);
     }
 
 wait_turn : {C J E F : Type 0} (shows : C → Result Timestamp E → C → Type 0) (waits : C → Timestamp → Result ⊤ E → C → Type 0)

@@ -1,10 +1,10 @@
 -- What the words of a run say of a schedule's fires.
-use Rattle.std.specs.Prelude.{◌≡◌, ◌++◌, ◌≤ℤ◌, ℕ, ℤ, Some, List, ◌∷◌, filter, slice_get}
+use Rattle.std.specs.Prelude.{◌≡◌, ◌++◌, ◌≤ℤ◌, ℕ, Some, List, ◌∷◌, filter, slice_get}
 use Rattle.jiff_core.specs.declared.Timestamp.{Timestamp}
 use Rattle.jiff_tz.specs.declared.timezone.TimeZone.{TimeZone}
 use Rattle.cron_units.specs.Sets.{Sets}
 use Rattle.cron_moments.specs.Readings.{Reading}
-use Rattle.cron_instants.specs.Fires.{fires_after, fires_between, fires_past}
+use Rattle.cron_instants.specs.Fires.{fires_past, is_by}
 use Rattle.cron_scheduler.specs.declared.plan.Start.{Start}
 use Rattle.cron_scheduler.specs.Plans.{fires_from}
 use Rattle.cron_scheduler.specs.Runs.{is_due}
@@ -15,11 +15,11 @@ pub record IsGreatest (times : List Timestamp) (greatest : Timestamp) : Type 0 w
   pub there : slice_get times place ≡ Some greatest
   pub others : (i : ℕ) (t : Timestamp) → slice_get times i ≡ Some t → t.nanosecond ≤ℤ greatest.nanosecond
 
--- Of the fires after an instant those are due that come up to and with the greatest time shown.
+-- Of some fires, as those of a plan, those are due that come up to and with the greatest time shown.
 abbrev pub DueUpToTheGreatest : Type 0
 DueUpToTheGreatest =
-    (s : Sets) (z : TimeZone) (start : ℤ) (times : List Timestamp) (greatest : Timestamp) → IsGreatest times greatest
-    → filter (is_due times) (fires_after s z start) ≡ fires_between s z start greatest.nanosecond
+    (fires : List Reading) (times : List Timestamp) (greatest : Timestamp) → IsGreatest times greatest
+    → filter (is_due times) fires ≡ filter (is_by greatest.nanosecond) fires
 
 -- Past one of the fires from a start come those behind it: a run that is begun past the last fire of another goes on from there.
 abbrev pub RestartsGoOn : Type 0

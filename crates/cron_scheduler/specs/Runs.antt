@@ -82,10 +82,10 @@ abbrev pub EndsBy : {E F : Type 0} → List (Event E F) → Result ⊤ (Stop E F
 EndsBy [] answer = answer ≡ Ok tt
 EndsBy (e ∷ es) answer = MatchOption (failure e) (EndsBy es answer) (λ stop. (es ≡ []) × (answer ≡ Err stop))
 
--- What was run in the end: all that was due; where nothing failed all of the fires, unless the clock was read 2^64 - 1 times;
--- and where the job failed a beginning of what was due, since it failed for the last one that was run.
+-- What was run in the end: all that was due; where nothing failed all of the fires, unless the clock was read 2^64 - 1 times,
+-- and no wait came last; and where the job failed a beginning of what was due, since it failed for the last one that was run.
 abbrev pub RunsWhole : {E F : Type 0} → Result ⊤ (Stop E F) → List Reading → List (Event E F) → Type 0
-RunsWhole (Ok done) fires es = (ran es ≡ due fires es) × ((ran es ≡ fires) ⊎ (length (shown es) ≡ 2 ^ 64 - 1))
+RunsWhole (Ok done) fires es = (ran es ≡ due fires es) × ((ran es ≡ fires) ⊎ (length (shown es) ≡ 2 ^ 64 - 1)) × (HasWaited es → ⊥)
 RunsWhole (Err (Clock e)) fires es = ran es ≡ due fires es
 RunsWhole (Err (Job f)) fires es = (left : List Reading) × (due fires es ≡ ran es ++ left)
 

@@ -2,7 +2,7 @@
 
 ghost use Rattle.cron_scheduler.specs.Laws.{DueUpToTheGreatest, RestartsGoOn};
 
-/// What is due is what lies between the start and the greatest time that the clock showed.
+/// What is due of some fires, as those of a plan, is what comes up to and with the greatest time that the clock showed.
 pub fn due_up_to_the_greatest()
     ensures { DueUpToTheGreatest }
 {}

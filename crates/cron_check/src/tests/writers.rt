@@ -1,4 +1,4 @@
-//! Writers that fail on the way.
+//! Writers that fail on the way, and one that counts.
 
 ghost use Rattle.std.specs.Prelude.{Some};
 
@@ -60,4 +60,42 @@ impl Write for Unflushed {
 fn a_failed_flush_ends_the_check(rt: HostRuntime) {
     let writer = check_to(&rt, Unflushed(Vec::new(rt.alloc())), Outcome::WriteFailed);
     assert_eq!(rt; writer.0.as_slice(), TOLD.as_bytes());
+}
+
+/// Counts the calls that hand on whole lines.
+#[derive(Drop)]
+struct WholeLines(u32);
+
+impl Write for WholeLines {
+    fn write(&mut self, buf: &[u8]) -> io::Result<usize> {
+        if buf.ends_with(b"\n") {
+            self.0 = self.0.saturating_add(1);
+        }
+        Ok(buf.len())
+    }
+
+    fn flush(&mut self) -> io::Result<()> {
+        Ok(())
+    }
+}
+
+// How many calls tell of so many lines that are refused.
+fn calls_for(rt: &impl AllocGlobal, lines: u32) -> Result<u32, Fail> {
+    let mut file = String::new(rt.alloc());
+    for _ in 0..lines {
+        file.push_str("60 * * * * *\n")?;
+    }
+    let mut out = Watched::new(WholeLines(0));
+    let _end = check(rt.alloc(), &Mode::Faults, &mut file.as_bytes(), &mut out);
+    Ok(out.into_inner().0)
+}
+
+// The line of such a fault has 51 bytes where its number has one digit, 52 where it has two, and 53 where it has three.
+// So 4,096 bytes hold those of the lines 1 to 78, and then those of the lines 79 to 155.
+#[test]
+fn lines_are_written_many_at_a_time(rt: HostRuntime) -> Result<(), Fail> {
+    for (lines, calls) in [(0, 0), (1, 1), (78, 1), (79, 2), (155, 2), (156, 3)] {
+        assert_eq!(rt; calls_for(&rt, lines)?, calls, "{lines} lines");
+    }
+    Ok(())
 }

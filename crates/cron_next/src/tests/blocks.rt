@@ -205,18 +205,18 @@ impl Write for Counting {
     }
 }
 
-fn writes_for(alloc: Global, count: u32) -> Result<Counting, Fail> {
+fn writes_for(alloc: Global, expression: &str, count: u32) -> Result<Counting, Fail> {
     let mut out = Watched::new(Counting {
         writes: 0,
         cut_lines: 0,
         flushes: 0,
     });
-    let _listed = run_from_start(alloc, EVERY_SECOND, count, &mut out)?;
+    let _told = run_from_start(alloc, expression, count, &mut out)?;
     Ok(out.into_inner())
 }
 
 fn check_writes(rt: &(impl Abort + AllocGlobal), count: u32, writes: u32) -> Result<(), Fail> {
-    let writer = writes_for(rt.alloc(), count)?;
+    let writer = writes_for(rt.alloc(), EVERY_SECOND, count)?;
     check_same(rt, &count, writer.writes, writes);
     check_same(rt, &count, writer.cut_lines, 0);
     check_same(rt, &count, writer.flushes, 1);
@@ -228,6 +228,14 @@ fn lines_are_written_whole_and_many_at_a_time(rt: HostRuntime) -> Result<(), Fai
     for (count, writes) in [(0, 0), (1, 1), (151, 1), (152, 2), (302, 2), (303, 3)] {
         check_writes(&rt, count, writes)?;
     }
+    Ok(())
+}
+
+#[test]
+fn a_refused_expression_is_told_in_three_pieces(rt: HostRuntime) -> Result<(), Fail> {
+    let writer = writes_for(rt.alloc(), "60 * * * * *", 1)?;
+    check_same(&rt, &"writes", writer.writes, 3);
+    check_same(&rt, &"flushes", writer.flushes, 1);
     Ok(())
 }
 

@@ -1,7 +1,7 @@
 use Rattle.std.proofs.Common.{◌≡◌, ◌+◌, ◌++◌, ℕ, Bool, List, [], ◌∷◌, length, refl, sym, subst, append-nil, arith}
 use Rattle.std.proofs.lemmas.List.{length_push}
 use Rattle.std.proofs.KnownBytes.{Consumes-nil}
-use Rattle.cron_checking.specs.Lines.{lines_of, AreEnded}
+use Rattle.cron_checking.specs.Lines.{AreEnded}
 use Rattle.cron_checking.specs.Puts.{Puts}
 use Rattle.cron_checking.specs.Reports.{TellsLine}
 use Rattle.cron_checking.specs.declared.line.Mode.{Mode}
