@@ -52,9 +52,12 @@ def is_of(name, cause):
 
 
 def only_lost_names(said, name):
-    """Returns whether all errors in what is written of a copy's proof say no more than that a name is gone."""
+    """Returns whether all that a check says of a copy is that what is written of its proof names what is gone: it has no
+    other error there, and the lines between the function before it and its own tell of no goal without a proof."""
     errors = re.findall(rf"^(?:note: )?(?:\./)?proofs/\S*\b{name}/\S+: (.*(?:\n  .*)*)", said, re.M)
-    return bool(errors) and all(LOST_NAME.search(it) for it in errors)
+    above = re.search(rf"((?:^(?!fn ).*\n)*)^fn \S*\b{name}: ", said, re.M)
+    tells_of_a_goal = above and re.search(r"^note: src/", above[1], re.M)
+    return bool(errors) and not tells_of_a_goal and all(LOST_NAME.search(it) for it in errors)
 
 
 class Judge:
