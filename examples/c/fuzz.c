@@ -1,8 +1,10 @@
 /*
  * Random schedules, zones, instants and texts, and laws that the answers keep. The argument is how many
  * cases are tried (2,000), a second one where the random numbers begin. It stops at the first law that is
- * broken. Buffers have the very lengths that are told, so that a sanitizer sees each byte past them.
+ * broken. Buffers for texts, bytes, items and eras end at a page that can't be touched, so that a call
+ * which reads or writes past their end ends the program.
  */
+#include "edge.h"
 #include "cron_c.h"
 #include "pyongyang.h"
 
@@ -147,7 +149,8 @@ static void runs(const cron_c_schedule *schedule, const cron_c_zone *zone, int64
 {
     const size_t length = 1 + chance(4);
     const int64_t now = last > CRON_C_GREATEST_INSTANT - 200000 ? last : last + (int64_t)chance(200000);
-    cron_c_item *items = malloc(length * sizeof *items), item = {0, 0, 0}, next = item;
+    static unsigned char *end;
+    cron_c_item *items = before_edge(&end, length * sizeof *items), item = {0, 0, 0}, next = item;
     size_t count = 9, seen = 0;
     uint32_t status = cron_c_fires_between(schedule, zone, last, now, items, length, &count);
     uint32_t found = cron_c_fire_after(schedule, zone, last, &item);
@@ -166,13 +169,13 @@ static void runs(const cron_c_schedule *schedule, const cron_c_zone *zone, int64
         }
         status = cron_c_fires_past(schedule, zone, &next, now, items, length, &count);
     }
-    free(items);
 }
 
 /* A history of one era is its zone, and one of two goes over from the first zone to the other. */
 static void histories(const cron_c_schedule *schedule, const cron_c_zone *zone, int64_t last)
 {
-    cron_c_era *eras = malloc(2 * sizeof *eras);
+    static unsigned char *end;
+    cron_c_era *eras = before_edge(&end, 2 * sizeof *eras);
     const int64_t now = last > CRON_C_GREATEST_INSTANT - 200000 ? last : last + (int64_t)chance(200000), seam = last + (int64_t)chance(100000);
     cron_c_item mine[3], items[3], item;
     size_t count = 9, others = 9;
@@ -184,7 +187,6 @@ static void histories(const cron_c_schedule *schedule, const cron_c_zone *zone, 
     status = cron_c_history_fires_between(schedule, eras, 2, last, now, mine, 3, &count);
     if (status == CRON_C_BAD_ZONE) {
         LAW(cron_c_fire_after(schedule, &eras[1].zone, last, &item) == CRON_C_BAD_ZONE);
-        free(eras);
         return;
     }
     for (size_t place = 0; place < count; place++) {
@@ -197,7 +199,6 @@ static void histories(const cron_c_schedule *schedule, const cron_c_zone *zone, 
         LAW(place + 1 == count ? others == (status == CRON_C_MORE) : is_same(&item, &mine[place + 1]));
     }
     LAW(status == CRON_C_OK || count == 3);
-    free(eras);
 }
 
 /* A walk goes back where it came from, and lists are walks. */
@@ -234,7 +235,8 @@ static void texts(void)
     static const char letters[] = "0123456789*?,-/ LMonJanuary@dailySat\xff";
     const char *good = "0 30 9,12,15 1,15,L May-Aug Mon,Wed,Fri 2018/2";
     const size_t length = chance(60), room = chance(90);
-    char *text = malloc(length + 1), *message = malloc(room + 1);
+    static unsigned char *text_end, *message_end;
+    char *text = before_edge(&text_end, length), *message = before_edge(&message_end, room);
     cron_c_schedule schedule;
     cron_c_zone zone;
     size_t needed = 7;
@@ -242,56 +244,50 @@ static void texts(void)
         int kept = place < strlen(good) && chance(12);
         text[place] = kept ? good[place] : letters[chance(sizeof letters - 1)];
     }
-    memset(message, '.', room + 1);
     uint32_t status = cron_c_parse(text, length, &schedule, message, room, &needed);
     LAW(status == CRON_C_OK || status == CRON_C_REFUSED || status == CRON_C_NOT_UTF8);
-    LAW((needed > 0) == (status == CRON_C_REFUSED) && needed < CRON_C_MESSAGE(length) && message[room] == '.');
+    LAW((needed > 0) == (status == CRON_C_REFUSED) && needed < CRON_C_MESSAGE(length));
     status = cron_c_zone_parse(text, length, &zone);
     LAW(status == CRON_C_OK || status == CRON_C_BAD_ZONE);
-    free(text);
-    free(message);
 }
 
 /* The bytes of a zone file with some of them changed are eras, or refused. */
 static void zone_files(const cron_c_schedule *schedule)
 {
     const size_t length = chance(4) ? sizeof PYONGYANG : chance(sizeof PYONGYANG + 20), room = chance(8);
-    uint8_t *bytes = malloc(length + 1);
-    cron_c_era *eras = malloc((room + 1) * sizeof *eras), kept;
+    static unsigned char *bytes_end, *eras_end;
+    uint8_t *bytes = before_edge(&bytes_end, length);
+    cron_c_era *eras = before_edge(&eras_end, room * sizeof *eras), kept;
     cron_c_item item;
     size_t count = 9999;
     for (size_t place = 0; place < length; place++) {
-        bytes[place + 1] = place < sizeof PYONGYANG ? PYONGYANG[place] : (uint8_t)chance(256);
+        bytes[place] = place < sizeof PYONGYANG ? PYONGYANG[place] : (uint8_t)chance(256);
     }
     for (uint64_t left = length == 0 ? 0 : chance(4); left > 0; left--) {
-        bytes[chance(length) + 1] = (uint8_t)(chance(2) ? chance(256) : chance(6));
+        bytes[chance(length)] = (uint8_t)(chance(2) ? chance(256) : chance(6));
     }
-    memset(eras, 0x5a, (room + 1) * sizeof *eras);
+    memset(eras, 0x5a, room * sizeof *eras);
     memset(&kept, 0x5a, sizeof kept);
-    uint32_t status = cron_c_history_read(bytes + 1, length, eras + 1, room, &count);
+    uint32_t status = cron_c_history_read(bytes, length, eras, room, &count);
     LAW(status == CRON_C_OK || status == CRON_C_BAD_ZONE || status == CRON_C_MORE);
     LAW(status == CRON_C_OK ? count >= 1 && count <= room : status == CRON_C_MORE ? count > room : count == 0);
     for (size_t place = status == CRON_C_OK ? count : 0; place < room; place++) {
-        LAW(memcmp(eras + 1 + place, &kept, sizeof kept) == 0);
+        LAW(memcmp(eras + place, &kept, sizeof kept) == 0);
     }
-    LAW(status != CRON_C_OK || (eras[1].starts == INT64_MIN && eras[1].zone.kind == 1) || (count == 1 && eras[1].zone.kind == 2));
-    LAW(status != CRON_C_OK || cron_c_history_fire_after(schedule, eras + 1, count, some_instant(), &item) <= CRON_C_NO_ITEM);
-    free(bytes);
-    free(eras);
+    LAW(status != CRON_C_OK || (eras[0].starts == INT64_MIN && eras[0].zone.kind == 1) || (count == 1 && eras[0].zone.kind == 2));
+    LAW(status != CRON_C_OK || cron_c_history_fire_after(schedule, eras, count, some_instant(), &item) <= CRON_C_NO_ITEM);
 }
 
-/* The text of an item fits, and no byte past the buffer is written. */
+/* The text of an item fits. */
 static void formats(void)
 {
     cron_c_item item = {some_instant(), (int32_t)chance(200000) - 100000, (uint32_t)(chance(10) == 0)};
     const size_t room = chance(CRON_C_ITEM_TEXT + 2);
-    char *text = malloc(room + 1);
+    static unsigned char *end;
+    char *text = before_edge(&end, room);
     size_t needed = 7;
-    text[room] = '.';
     uint32_t status = cron_c_format(&item, text, room, &needed);
     LAW(status == CRON_C_OK ? needed == 26 || needed == 29 : status == CRON_C_NOT_AN_ITEM && needed == 0);
-    LAW(text[room] == '.');
-    free(text);
 }
 
 int main(int count, char **words)

@@ -140,7 +140,8 @@ uint32_t cron_c_parse(const char *text, size_t text_length,
  * clock as it is before the turn, -604,799 to 604,799.
  *
  *   kind 1    day 1 to 365 of the year, where 29 February isn't counted
- *   kind 2    day 0 to 365 of the year
+ *   kind 2    day 0 to 365 of the year, where 29 February is counted; a rule with day 365 may
+ *             contradict itself (below) in the years that have no such day
  *   kind 3    day 0 to 6 of the week, from Sunday on, in week 1 to 5 of month 1 to 12; 5 is the last
  */
 typedef struct cron_c_turn {
@@ -156,6 +157,11 @@ typedef struct cron_c_turn {
  * 25:59:59. `saving` is the whole offset while the saving holds, as -18000 for CDT, and not the hour
  * that it adds; it holds each year from `starts` to `ends`. What `reserved` holds means nothing yet:
  * give 0. Numbers that say no zone are answered by CRON_C_BAD_ZONE.
+ *
+ * A rule whose turns lie at the very edge of a year, or nearer to each other than the clock goes forth
+ * and back, may contradict itself, as `EST5EDT,0/0,J365/25` does in some hours: it tells of an instant
+ * another offset than of the time that the clock shows. Items go by what it tells of the time that the
+ * clock shows.
  *
  *   kind 0    UTC
  *   kind 1    one offset
@@ -231,7 +237,8 @@ uint32_t cron_c_fire_at(const cron_c_schedule *schedule,
  * items that are later than a given one, which may be none of the timeline: by it a list goes on
  * from the last item of a page, and a run after a restart from the item that was noted. Copy that
  * item first, since `items` is written to. No item is left out or comes twice at the seam of two
- * pages, nor at that of two stretches from one instant to the next.
+ * pages, nor at that of two stretches from one instant to the next. A list that goes on by its last
+ * item wants room for at least one.
  *
  * CRON_C_OK where these are all; CRON_C_MORE where `items` is full and others are left;
  * CRON_C_BAD_ZONE or CRON_C_BAD_INSTANT; or of `cron_c_fires_past` CRON_C_NOT_AN_ITEM, where the
@@ -272,15 +279,16 @@ typedef struct cron_c_era {
  * to `eras` the eras that mean its zone, and to `*count` how many they are. At each instant the era
  * that holds it has the offset that the file tells for it. The first one starts before every instant,
  * and the last one has the rule on the last line of the file. Without a rule there, as in a file of
- * version 1, the last offset of the table holds for ever. Leap seconds are passed over, so a file that
- * counts them, as those below `right/`, gives eras that start up to half a minute late: don't give
- * such a file.
+ * version 1, the last offset of the table holds for ever. A clock change outside the instants counts
+ * as at the first or the last of them. Leap seconds are passed over, so a file that counts them, as
+ * those below `right/`, gives eras that start up to half a minute late, and it may tell of no clock
+ * change past the day on which its leap seconds expire: don't give such a file.
  *
  * CRON_C_OK; CRON_C_MORE where they are more than `eras_length`, and nothing is written but their
  * number in `*count`; or, with 0 in `*count`, CRON_C_BAD_ZONE where the bytes are none of such a file,
- * a name of its times has more than 15 bytes, two of its clock changes share a second, one comes
- * before the gap or fold of the one before it has ended, or its rule says another offset, another name
- * or no saving time where the table has it, or the other way round, at the last of them;
+ * a name of its times has more than 15 bytes, two of its clock changes share a second, the times that
+ * one skips or repeats on the clock overlap those of the next, or its rule says another offset, another
+ * name or no saving time where the table has it, or the other way round, at the last of them;
  * CRON_C_NO_MEMORY where malloc has no room for what the bytes say. Not to be called from a signal
  * handler.
  */

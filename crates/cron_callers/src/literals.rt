@@ -2,7 +2,7 @@
 
 ghost use Rattle.std.specs.Prelude.{◌≡◌, IfOk, IfErr};
 ghost use Rattle.cron.specs.Words.{IsMemory};
-ghost use Rattle.cron_callers.specs.Literals.{work_days};
+ghost use Rattle.cron_callers.specs.Literals.{work_days, work_days_text};
 
 use cron::Schedule;
 use cron::error::Error;
@@ -12,6 +12,7 @@ use std::alloc::Global;
 /// be wanting.
 pub fn work_days(alloc: Global) -> Result<Schedule, Error>
     ensures sets { IfOk result (λ schedule. schedule.sets ≡ work_days) }
+    ensures source { IfOk result (λ schedule. schedule.source ≡ work_days_text) }
     ensures refused { IfErr result IsMemory }
 {
     Schedule::from_str(alloc, "0 30 9 * * Mon-Fri")

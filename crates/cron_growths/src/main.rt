@@ -2,6 +2,7 @@
 //! the growths between the lines.
 #![tactic(auto)]
 
+mod fires;
 mod lines;
 mod readers;
 mod searches;
@@ -13,5 +14,6 @@ fn main(rt: HostRuntime) -> Result<(), Error> {
     let schedule = readers::run(&rt)?;
     searches::run(&rt, &schedule)?;
     walks::run(&rt, &schedule)?;
+    fires::run(&rt, &schedule)?;
     lines::run(&rt, &schedule)
 }

@@ -1,7 +1,7 @@
 //! The calls of walks.
 
 use anyhow::Error;
-use cron::Schedule;
+use cron::{OwnedScheduleIterator, Schedule};
 use jiff::Timestamp;
 use jiff::tz::TimeZone;
 
@@ -26,5 +26,22 @@ pub fn run(rt: &HostRuntime, schedule: &Schedule) -> Result<(), Error> {
     };
     let resumed = schedule.resume(&item, &zone);
     println!(rt; "resume: {}", resumed.is_some())?;
+    owned(rt, schedule, start, zone)
+}
+
+fn owned(
+    rt: &HostRuntime,
+    schedule: &Schedule,
+    start: Timestamp,
+    zone: TimeZone<'_>,
+) -> Result<(), Error> {
+    let other = Schedule::from_str(rt.alloc(), "@hourly")?;
+    println!(rt; "set up")?;
+    let answer = schedule.after_owned(start, zone)?.next();
+    println!(rt; "after_owned: {}", answer.is_some())?;
+    let answer = schedule.upcoming_owned(start, zone)?.next();
+    println!(rt; "upcoming_owned: {}", answer.is_some())?;
+    let answer = OwnedScheduleIterator::new(other, start, zone).next();
+    println!(rt; "OwnedScheduleIterator::new: {}", answer.is_some())?;
     Ok(())
 }

@@ -111,7 +111,7 @@ def read_history(data: bytes, key: str) -> History:
         eras = (Era * count.value)()
         status = _LIBRARY.cron_c_history_read(data, len(data), eras, len(eras), count)
     if status == BAD_ZONE:
-        raise ZoneError(f"the file of the zone {key} is none")
+        raise ZoneError(f"the file of the zone {key} is no zone file, or contradicts itself")
     if status == NO_MEMORY:
         raise MemoryError(f"no room for what the file of the zone {key} says")
     if status != OK:
