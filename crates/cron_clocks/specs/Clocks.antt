@@ -1,8 +1,9 @@
 -- When the two look-ups of a zone agree: what a clock shows at an instant, and at which instants it shows a civil second.
-use Rattle.std.specs.Prelude.{◌≡◌, ℕ, ◌<◌, ℤ, pos, ◌+ℤ◌, List, Some, slice_get}
+use Rattle.std.specs.Prelude.{◌≡◌, ℕ, ◌<◌, ℤ, pos, ◌+ℤ◌, List, Some, None, slice_get}
 use Rattle.std.specs.Int.{int_div_euclid}
 use Rattle.jiff_core.specs.Timestamp.{nanos_of_seconds}
 use Rattle.jiff_tz.specs.declared.timezone.TimeZone.{TimeZone}
+use Rattle.jiff_tz.specs.declared.timezone.TimeZone.TheVariants.{Posix}
 use Rattle.jiff_tz.specs.Zone.{IsFixed, offset_at}
 use Rattle.cron_moments.specs.Civil.{seconds_in_range}
 use Rattle.cron_moments.specs.Readings.{Reading, readings, instant}
@@ -45,3 +46,12 @@ pub record LookupsAgree (z : TimeZone) : Type 0 where
 -- in UTC, and in every zone with one offset, the look-ups agree
 abbrev pub FixedZonesAgree : Type 0
 FixedZonesAgree = (z : TimeZone) → IsFixed z → LookupsAgree z
+
+-- a rule with no saving
+abbrev pub IsPlain : TimeZone → Type 0
+IsPlain (Posix rule) = rule.dst ≡ None
+IsPlain z = ⊥
+
+-- nor do they differ in a rule with no saving
+abbrev pub PlainRulesAgree : Type 0
+PlainRulesAgree = (z : TimeZone) → IsPlain z → LookupsAgree z

@@ -5,7 +5,10 @@ use Rattle.jiff_core.specs.Timestamp.{IsOffsetSeconds, nanos_of_seconds}
 use Rattle.jiff_tz.specs.declared.posix.Day.{Day}
 use Rattle.jiff_tz.specs.declared.posix.DayTime.{DayTime}
 use Rattle.jiff_tz.specs.declared.posix.Dst.{Dst}
+use Rattle.jiff_tz.specs.declared.posix.TimeZone.{TimeZone}
+use Rattle.jiff_tz.specs.declared.timezone.TimeZone.TheVariants.{Posix}
 use Rattle.jiff_tz.specs.PosixRule.{first_day, rule_day, rule_nanos}
+use Rattle.cron_clocks.specs.Clocks.{LookupsAgree}
 
 -- in the year y the rule's day is one of these, counted from 0 for 1 January
 pub record IsAmong (first last : ℕ) (day : Day) (y : ℤ) : Type 0 where
@@ -65,3 +68,7 @@ AlwaysInOrder earlier later = (y : ℤ) → IsYear y → TurnInOrder earlier lat
 -- the two turns of a rule do in each year, in the one order or in the other
 abbrev pub TurnsAreApart : Dst → Type 0
 TurnsAreApart d = AlwaysInOrder d.rule.start d.rule.end ⊎ AlwaysInOrder d.rule.end d.rule.start
+
+-- in a rule whose turns are apart the look-ups agree
+abbrev pub ApartRulesAgree : Type 0
+ApartRulesAgree = (rule : TimeZone) (d : Dst) → rule.dst ≡ Some d → TurnsAreApart d → LookupsAgree (Posix rule)

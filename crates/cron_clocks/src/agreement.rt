@@ -1,21 +1,23 @@
 //! Whether the two look-ups of a zone agree.
 
-ghost use Rattle.std.specs.Prelude.{IsTrue};
+ghost use Rattle.std.specs.Prelude.{◌≡◌, None, IsTrue};
 ghost use Rattle.jiff.specs.Words.{plain_zone, IsFixed};
 ghost use Rattle.jiff_tz.specs.declared.timezone.TimeZone.TheVariants.{Posix};
-ghost use Rattle.cron_clocks.specs.Clocks.{LookupsAgree};
+ghost use Rattle.cron_clocks.specs.Clocks.{IsPlain, LookupsAgree};
 
 use crate::turns::turns_apart;
 use jiff::tz::TimeZone;
 use jiff_tz::posix;
 
 /// Whether what a clock in the zone shows at an instant, and the readings of a civil second in it,
-/// are known to agree. They are in UTC, in a zone with one offset, and in a rule whose two turns lie
-/// a week or more from each other and from the edges of the year, as far as its months and weeks
-/// tell. `false` says nothing: it is answered for every other rule, and for a zone from a file.
+/// are known to agree. They are in UTC, in a zone with one offset, in a rule with no saving, and in one
+/// whose two turns lie a week or more from each other and from the edges of a year of 365 days, as far
+/// as its months and weeks tell. `false` says nothing: it is answered for every other rule, and for a
+/// zone from a file.
 pub fn lookups_agree(zone: &TimeZone<'_>) -> bool
     ensures agree { IsTrue result → LookupsAgree (plain_zone zone.now) }
     ensures fixed { IsFixed (plain_zone zone.now) → IsTrue result }
+    ensures plain { IsPlain (plain_zone zone.now) → IsTrue result }
 {
     match zone.to_plain() {
         jiff_tz::TimeZone::UTC | jiff_tz::TimeZone::Unknown | jiff_tz::TimeZone::Fixed(_) => true,
@@ -25,7 +27,8 @@ pub fn lookups_agree(zone: &TimeZone<'_>) -> bool
 }
 
 fn rule_agrees(rule: posix::TimeZone) -> bool
-    ensures { IsTrue result → LookupsAgree (Posix rule) }
+    ensures agree { IsTrue result → LookupsAgree (Posix rule) }
+    ensures plain { rule.dst ≡ None → IsTrue result }
 {
     match rule.dst {
         Some(dst) => turns_apart(dst),

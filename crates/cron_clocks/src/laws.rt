@@ -1,8 +1,20 @@
-//! A law over the definitions. No program calls this function.
+//! Laws over the definitions. No program calls these functions.
 
-ghost use Rattle.cron_clocks.specs.Clocks.{FixedZonesAgree};
+ghost use Rattle.cron_clocks.specs.Clocks.{FixedZonesAgree, PlainRulesAgree};
+ghost use Rattle.cron_clocks.specs.Turns.{ApartRulesAgree};
 
 /// In UTC, and in every zone with one offset, the two look-ups agree.
 pub fn fixed_zones_agree()
     ensures { FixedZonesAgree }
+{}
+
+/// In a rule with no saving the two look-ups agree.
+pub fn plain_rules_agree()
+    ensures { PlainRulesAgree }
+{}
+
+/// In a rule whose two turns lie a week or more from each other and from the edges of a year of 365
+/// days the two look-ups agree.
+pub fn apart_rules_agree()
+    ensures { ApartRulesAgree }
 {}

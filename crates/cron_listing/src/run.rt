@@ -160,8 +160,8 @@ pub fn refuse<W: Watchable>(out: &mut Watched<W>, line: &str) -> Outcome
 ///
 /// Whole lines are handed to the writer together, up to 4,096 bytes a call, and the last of them
 /// before the flush. So who reads sees a short list at once, and a long one in blocks. The line of a
-/// refused expression comes in three pieces. Once a call
-/// fails the writer is not called again: it holds what it took before.
+/// refused expression comes in three pieces. Once a call fails the writer is not called again: it holds
+/// what it took before.
 pub fn run<W: Watchable>(
     alloc: Global,
     expression: &str,

@@ -1,7 +1,8 @@
 -- The calls that reach a watched writer, one by one.
-use Rattle.std.specs.Prelude.{◌≡◌, ◌<◌, ℕ, Bool, true, false, List, [], ◌∷◌, ⊤, length, drop, Result, Ok, Err}
+use Rattle.std.specs.Prelude.{◌≡◌, ◌<◌, ◌≤◌, ◌+◌, ◌++◌, ℕ, Bool, true, false, List, [], ◌∷◌, ⊤, length, drop, Result, Ok, Err}
 use Rattle.std.specs.declared.io.Error.{Error}
-use Rattle.cron_writer.specs.Watching.{is_failed_write, is_failed_flush}
+use Rattle.cron_writer.specs.declared.watched.Watched.{Watched}
+use Rattle.cron_writer.specs.Watching.{has_failed, writer_of, is_failed_write, is_failed_flush}
 
 -- one write: what was handed in, and what was answered
 pub record Call : Type 0 where
@@ -39,6 +40,12 @@ AreTried writes old was new failed text left = (calls : List Call) × (IsWritten
 -- A text was handed on, and nothing of it is left where no call has failed.
 abbrev pub HandsOn : {W : Type 0} → (W → List ℕ → Result ℕ Error → W → Type 0) → W → Bool → W → Bool → List ℕ → Type 0
 HandsOn writes old was new failed text = (left : List ℕ) × (AreTried writes old was new failed text left × (failed ≡ false → left ≡ []))
+
+-- A line was gathered behind those that were kept: where it has room nothing is called, and else those are handed on first, whole.
+abbrev pub Gathers : {W : Type 0} → (W → List ℕ → Result ℕ Error → W → Type 0) → Watched W → Watched W → List ℕ → List ℕ → List ℕ → Type 0
+Gathers writes old new was kept line =
+    (length was + length line ≤ 4096 → (new ≡ old) × (kept ≡ was ++ line))
+    × (4096 < length was + length line → HandsOn writes (writer_of old) (has_failed old) (writer_of new) (has_failed new) was × (kept ≡ line))
 
 -- the writer was flushed once, or left alone where a call had failed
 abbrev pub IsFlushed : {W : Type 0} → (W → Result ⊤ Error → W → Type 0) → W → Bool → W → Bool → Type 0

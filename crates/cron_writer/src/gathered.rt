@@ -1,7 +1,7 @@
 //! Lines gathered in an array, and handed on many at a time.
 
-ghost use Rattle.std.specs.Prelude.{◌≡◌, ◌≤◌, ◌+◌, ◌++◌, ℕ, List, [], Option, length, take, true};
-ghost use Rattle.cron_writer.specs.Calls.{AreWrites, HandsOn};
+ghost use Rattle.std.specs.Prelude.{◌≡◌, ◌≤◌, ◌<◌, ◌+◌, ◌++◌, ℕ, List, [], Option, length, take, true};
+ghost use Rattle.cron_writer.specs.Calls.{AreWrites, Gathers, HandsOn};
 ghost use Rattle.cron_writer.specs.Watching.{has_failed, kept_in, writer_of, IsGathered, IsSent};
 
 use crate::block::Block;
@@ -34,6 +34,9 @@ impl Gathered {
             → IsGathered origin (W.contents (writer_of out.old)) (has_failed out.old) (kept_in self.old) text
             → IsGathered origin (W.contents (writer_of out.new)) (has_failed out.new) (kept_in self.new) text }
         ensures calls { AreWrites W.writes (writer_of out.old) (has_failed out.old) (writer_of out.new) (has_failed out.new) }
+        ensures held { length (kept_in self.old) + more ≤ 4096 → (out.new ≡ out.old) × (kept_in self.new ≡ kept_in self.old) }
+        ensures handed { 4096 < length (kept_in self.old) + more
+            → HandsOn W.writes (writer_of out.old) (has_failed out.old) (writer_of out.new) (has_failed out.new) (kept_in self.old) × (kept_in self.new ≡ []) }
     {
         if !self.block.has_room(more) {
             self.send(out);
@@ -47,6 +50,7 @@ impl Gathered {
             → IsGathered origin (W.contents (writer_of out.old)) (has_failed out.old) (kept_in self.old) before
             → IsGathered origin (W.contents (writer_of out.new)) (has_failed out.new) (kept_in self.new) (before ++ line.now) }
         ensures calls { AreWrites W.writes (writer_of out.old) (has_failed out.old) (writer_of out.new) (has_failed out.new) }
+        ensures gathers { Gathers W.writes out.old out.new (kept_in self.old) (kept_in self.new) line.now }
     {
         self.make_room(line.len(), out);
         self.block.push(line);
@@ -66,6 +70,7 @@ impl Gathered {
             → IsGathered origin (W.contents (writer_of out.old)) (has_failed out.old) (kept_in self.old) before
             → IsGathered origin (W.contents (writer_of out.new)) (has_failed out.new) (kept_in self.new) (before ++ take len bytes.now) }
         ensures calls { AreWrites W.writes (writer_of out.old) (has_failed out.old) (writer_of out.new) (has_failed out.new) }
+        ensures gathers { Gathers W.writes out.old out.new (kept_in self.old) (kept_in self.new) (take len bytes.now) }
     {
         self.make_room(len, out);
         self.block.push_front(bytes, len);
