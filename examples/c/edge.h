@@ -1,7 +1,7 @@
 /*
  * Buffers that end at a page which can't be read or written: a call that touches a byte past their end
  * ends the program. The archive isn't built for the sanitizers, which see no more of its calls than what
- * goes through the C library.
+ * goes through the C library. Include it before other headers.
  */
 #ifndef EDGE_H
 #define EDGE_H

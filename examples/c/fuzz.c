@@ -174,10 +174,10 @@ static void runs(const cron_c_schedule *schedule, const cron_c_zone *zone, int64
 /* A history of one era is its zone, and one of two goes over from the first zone to the other. */
 static void histories(const cron_c_schedule *schedule, const cron_c_zone *zone, int64_t last)
 {
-    static unsigned char *end;
-    cron_c_era *eras = before_edge(&end, 2 * sizeof *eras);
+    static unsigned char *eras_end, *mine_end, *items_end;
+    cron_c_era *eras = before_edge(&eras_end, 2 * sizeof *eras);
+    cron_c_item *mine = before_edge(&mine_end, 3 * sizeof *mine), *items = before_edge(&items_end, 3 * sizeof *items), item;
     const int64_t now = last > CRON_C_GREATEST_INSTANT - 200000 ? last : last + (int64_t)chance(200000), seam = last + (int64_t)chance(100000);
-    cron_c_item mine[3], items[3], item;
     size_t count = 9, others = 9;
     eras[0] = (cron_c_era){INT64_MIN, *zone};
     eras[1] = (cron_c_era){seam, some_zone()};
@@ -204,7 +204,8 @@ static void histories(const cron_c_schedule *schedule, const cron_c_zone *zone, 
 /* A walk goes back where it came from, and lists are walks. */
 static void walks(const cron_c_schedule *schedule, const cron_c_zone *zone, int64_t instant)
 {
-    cron_c_item first, item, back, items[3];
+    static unsigned char *end;
+    cron_c_item first, item, back, *items = before_edge(&end, 3 * sizeof *items);
     size_t count = 9;
     uint32_t status = cron_c_after(schedule, zone, instant, &first);
     LAW(cron_c_list_after(schedule, zone, instant, items, 3, &count) == CRON_C_OK && (count > 0) == (status == CRON_C_OK));

@@ -112,10 +112,11 @@ typedef struct cron_c_schedule {
 } cron_c_schedule;
 
 /*
- * An item of a timeline: an instant, in seconds since 1970-01-01T00:00:00Z, and how far the clock of
- * the zone is ahead of UTC at it, in seconds. What the clock shows is the sum of both. In a fold the
- * clock shows the same twice, and the two items differ in both numbers. `reserved` is 0. The struct
- * has no padding, so items are the same where their bytes are.
+ * An item of a timeline: an instant, in seconds since 1970-01-01T00:00:00Z, and the offset at which
+ * the clock of the zone reads it, in seconds ahead of UTC (of a rule that contradicts itself see
+ * `cron_c_zone`). What the clock shows is the sum of both. In a fold the clock shows the same twice,
+ * and the two items differ in both numbers. `reserved` is 0. The struct has no padding, so items are
+ * the same where their bytes are.
  */
 typedef struct cron_c_item {
     int64_t instant;
