@@ -41,7 +41,7 @@ AreTried writes old was new failed text left = (calls : List Call) × (IsWritten
 abbrev pub HandsOn : {W : Type 0} → (W → List ℕ → Result ℕ Error → W → Type 0) → W → Bool → W → Bool → List ℕ → Type 0
 HandsOn writes old was new failed text = (left : List ℕ) × (AreTried writes old was new failed text left × (failed ≡ false → left ≡ []))
 
--- A line was gathered behind those that were kept: where it has room nothing is called, and else those are handed on first, whole.
+-- A line was gathered behind those that were kept: where it has room nothing is called, and else those are handed on first, and it alone is kept.
 abbrev pub Gathers : {W : Type 0} → (W → List ℕ → Result ℕ Error → W → Type 0) → Watched W → Watched W → List ℕ → List ℕ → List ℕ → Type 0
 Gathers writes old new was kept line =
     (length was + length line ≤ 4096 → (new ≡ old) × (kept ≡ was ++ line))
