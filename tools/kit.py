@@ -1,6 +1,10 @@
-"""What the scripts of this folder call of the kit: its program `rt` as a module, and a proof of chosen crates."""
+"""What the scripts of this folder call of the kit: its program `rt` as a module, and proofs of chosen crates."""
+import contextlib
+import functools
+import hashlib
 import importlib.machinery
 import importlib.util
+import json
 import os
 import shutil
 import subprocess
@@ -23,8 +27,7 @@ rt = loaded()
 
 def top():
     """Returns the folder of the repository."""
-    here = os.path.dirname(os.path.realpath(__file__))
-    return subprocess.check_output(["git", "rev-parse", "--show-toplevel"], cwd=here, text=True).strip()
+    return os.path.dirname(os.path.dirname(os.path.realpath(__file__)))
 
 
 def crates_of(root, names=()):
@@ -44,45 +47,113 @@ def with_libraries(crates):
     return found
 
 
-def proved(crate, jobs):
-    """Proves a crate over what is kept in its out/, where the proof is kept too, and returns what failed."""
+def link_from_ci(kept, crate, room):
+    """Links the library that `rt ci` keeps as built of these files to a folder of that room, and notes its sum, which is part
+    of the names of those above. Returns whether it is kept."""
+    entry = kept.place(crate, False, kept.key(crate))
+    try:
+        with open(f"{entry}/made.json", encoding="utf-8") as it:
+            files = [(path, sum) for path, sum in json.load(it)["files"]]
+        for number, (path, _) in enumerate(files):
+            os.makedirs(os.path.dirname(f"{room}/{crate.name}/{path}"), exist_ok=True)
+            rt.link_or_copy(f"{entry}/{number}", f"{room}/{crate.name}/{path}")
+    except (OSError, ValueError, KeyError, TypeError):
+        return False
+    kept.rlibs[crate.name] = hashlib.sha256(repr(files).encode()).hexdigest()
+    return True
+
+
+@contextlib.contextmanager
+def libraries_of_ci(crates):
+    """While this lasts, checks of these crates read the libraries below them as `rt ci` built them of these files, if it keeps
+    all of these on this machine. Gives whether it does."""
+    rt.Crate.allowed = rt.handles_of(top())
+    libraries = with_libraries([it for crate in crates for it in crate.below()])
+    kept, own = rt.Kept(libraries), [it.rlib for it in libraries]
+    with tempfile.TemporaryDirectory(prefix="libraries-") as room:
+        are_kept = kept.at is not None and all(link_from_ci(kept, it, room) for it in libraries)
+        for crate in libraries if are_kept else ():
+            crate.rlib = f"{room}/{crate.name}/rlib/{crate.name}.rlib"
+        try:
+            yield are_kept
+        finally:
+            for crate, rlib in zip(libraries, own):
+                crate.rlib = rlib
+
+
+def proved(crate, jobs, builds=True):
+    """Proves a crate over what is kept in its out/, where the proof is kept too, and builds it if it is to and is a library.
+    Returns what failed."""
     os.makedirs(f"{crate.folder}/out", exist_ok=True)
     with tempfile.TemporaryFile("w+", errors="replace") as crate.out:
-        if crate.makes_rlib():
+        if builds and crate.makes_rlib():
             status = crate.build_rlib(["--jobs", str(jobs)], anew=False)
         else:
             status = crate.check(["--jobs", str(jobs)])
         crate.out.seek(0)
-        return crate.out.read() if status else ""
+        return f"{crate.out.read()}status {status}: " if status else ""
 
 
-def proofs_of(crates):
-    """Returns the tasks that prove these crates, in which each waits for those below it. They give whether it is proved,
-    and print what the prover said where it is not."""
+def proofs_of(crates, builds):
+    """Returns the tasks that prove these crates, each after those below it if it is to build them. They give whether it is
+    proved, and print what the prover said where it is not."""
 
-    def work(crate, given, jobs):
-        if not all(given[it.name, "proof"] for it in crate.below()):
+    def work(crate, waits, given, jobs):
+        if not all(given[it] for it in waits):
             return False
-        said = proved(crate, jobs)
+        said = proved(crate, jobs, builds)
         if said:
             print(f"{said}{crate.name} is not proved", flush=True)
         return not said
 
     tasks = {}
     for crate in crates:
-        waits = [(it.name, "proof") for it in crate.below()]
-        call = lambda given, jobs, it=crate: work(it, given, jobs)
-        tasks[crate.name, "proof"] = (waits, crate.count(rb"\n"), rt.need(crate), call)
+        waits = [(it.name, "proof") for it in crate.below()] if builds else []
+        call = lambda given, jobs, it=crate, waits=waits: work(it, waits, given, jobs)
+        # so many were seen to go side by side, each with less than half of what is planned for it
+        needs = rt.need(crate) * (1 if builds else rt.OVER)
+        tasks[crate.name, "proof"] = (waits, crate.count(rb"\n"), needs, call)
     return tasks
 
 
-def prove(crates, others=()):
-    """Proves crates and the libraries below them, those that don't wait for one another side by side, and takes what
-    another checkout on this machine proved of the same files, as the kit's own commands do. Other tasks, as those of
-    rt.in_lanes, fill the processors that are idle. Returns whether all crates are proved, and what each other task gave.
-    Until this process ends, the kit's own commands wait in these crates."""
-    whole = with_libraries(crates)
+@functools.cache
+def share_work():
     rt.share_work(True)
-    rt.rtlib.lock(whole)
-    given = rt.in_lanes({**proofs_of(whole), **dict(others)})
-    return all(given[it.name, "proof"] for it in whole), {it: given[it] for it in dict(others)}
+
+
+# The folders of the crates that this process holds.
+HELD = set()
+
+
+def hold(crates):
+    """Has checks begin with what this checkout or another one on this machine kept, as the kit's own commands do, and has
+    those that lock these crates wait until this process ends."""
+    share_work()
+    # a folder that is locked once more would wait for itself
+    rt.rtlib.lock([it for it in crates if it.folder not in HELD])
+    HELD.update(it.folder for it in crates)
+
+
+def side_by_side(crates, builds, others):
+    """Does the tasks that prove these crates, and others, and returns whether all are proved, and what each other task gave."""
+    given = rt.in_lanes({**proofs_of(crates, builds), **dict(others)})
+    return all(given[it.name, "proof"] for it in crates), {it: given[it] for it in dict(others)}
+
+
+def build(crates, others=()):
+    """Proves crates and the libraries below them, and builds those of them that are libraries, those that don't wait for one
+    another side by side. Other tasks, as those of rt.in_lanes, fill the processors that are idle. Returns whether all crates
+    are proved, and what each other task gave."""
+    whole = with_libraries(crates)
+    hold(whole)
+    return side_by_side(whole, True, others)
+
+
+def prove(crates, others=()):
+    """Proves crates, all side by side over the libraries that `rt ci` built, where it keeps those below them, and else as
+    `build` does. What else is done and returned is as there."""
+    with libraries_of_ci(crates) as are_kept:
+        if not are_kept:
+            return build(crates, others)
+        hold(crates)
+        return side_by_side(crates, False, others)
