@@ -14,7 +14,7 @@ from kit import rt
 
 ONE_JOB = ["--jobs", "1"]
 # More in one check spare starts, fewer let more checks go side by side.
-MOST_COPIES, MOST_IN_PLACE = 24, 16
+MOST_COPIES, MOST_IN_PLACE = 40, 16
 # How the folders begin that checks take copies of what is kept to.
 ROOM = "edits-"
 PAST_WHAT_IS_REFUSED = [*ONE_JOB, "--allow-holes"]

@@ -49,14 +49,17 @@ def with_libraries(crates):
 
 def link_from_ci(kept, crate, room):
     """Links the library that `rt ci` keeps as built of these files to a folder of that room, and notes its sum, which is part
-    of the names of those above. Returns whether it is kept."""
+    of the names of those above. Returns whether it is kept, and is whole."""
     entry = kept.place(crate, False, kept.key(crate))
     try:
         with open(f"{entry}/made.json", encoding="utf-8") as it:
             files = [(path, sum) for path, sum in json.load(it)["files"]]
-        for number, (path, _) in enumerate(files):
-            os.makedirs(os.path.dirname(f"{room}/{crate.name}/{path}"), exist_ok=True)
-            rt.link_or_copy(f"{entry}/{number}", f"{room}/{crate.name}/{path}")
+        for number, (path, sum) in enumerate(files):
+            to = f"{room}/{crate.name}/{path}"
+            os.makedirs(os.path.dirname(to), exist_ok=True)
+            rt.link_or_copy(f"{entry}/{number}", to)
+            if rt.rtlib.sum_of(to) != sum:
+                return False
     except (OSError, ValueError, KeyError, TypeError):
         return False
     kept.rlibs[crate.name] = hashlib.sha256(repr(files).encode()).hexdigest()
@@ -110,7 +113,7 @@ def proofs_of(crates, builds):
     for crate in crates:
         waits = [(it.name, "proof") for it in crate.below()] if builds else []
         call = lambda given, jobs, it=crate, waits=waits: work(it, waits, given, jobs)
-        # so many were seen to go side by side, each with less than half of what is planned for it
+        # over statements a check was seen to take at most 0.55 of what is planned for it
         needs = rt.need(crate) * (1 if builds else rt.OVER)
         tasks[crate.name, "proof"] = (waits, crate.count(rb"\n"), needs, call)
     return tasks
