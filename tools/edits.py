@@ -49,8 +49,8 @@ class Edit:
     function: object = None
     # the functions that kept it waiting
     awaited: set = field(default_factory=set)
-    # whether it is refused only because what is written of the proof names what it takes away
-    takes_a_name: bool = False
+    # why its refusal says little of the contract, where it does
+    weakness: str = ""
 
     def fault(self):
         """Returns the last part of the file's name, which is MODULE-FUNCTION-FAULT."""

@@ -15,7 +15,7 @@ from kit import rt
 ONE_JOB = ["--jobs", "1"]
 # More in one check spare starts, fewer let more checks go side by side.
 MOST_COPIES, MOST_IN_PLACE = 40, 16
-# How the folders begin that checks take copies of what is kept to.
+# How the folders in out/ begin that checks take copies of what is kept to.
 ROOM = "edits-"
 PAST_WHAT_IS_REFUSED = [*ONE_JOB, "--allow-holes"]
 VERDICT = re.compile(r"^fn (\S+): (.*)", re.M)
@@ -26,6 +26,8 @@ JUDGED = {"not proved": REFUSED, "no proof: expected answers": REFUSED, "no hole
 # An error that only says that a proof names what an edit took away, and how the kit tells of an edit with no other.
 LOST_NAME = re.compile(r"has no field|is not in scope|has no `|was not admitted")
 ONLY_LOST_NAMES = "only because a proof file names what the edit took away"
+# Why a refusal says little of the contract.
+BY_A_LOST_NAME, BY_A_LIMIT = "only because a proof names what it takes away", "only by a limit of the prover"
 
 
 def causes_of(said):
@@ -51,13 +53,21 @@ def is_of(name, cause):
     return cause == name or cause.startswith(f"Rattle.{crate}.proofs.{path.replace('::', '.')}.")
 
 
-def only_lost_names(said, name):
-    """Returns whether all that a check says of a copy is that what is written of its proof names what is gone: it has no
-    other error there, and the lines between the function before it and its own tell of no goal without a proof."""
-    errors = re.findall(rf"^(?:note: )?(?:\./)?proofs/\S*\b{name}/\S+: (.*(?:\n  .*)*)", said, re.M)
-    above = re.search(rf"((?:^(?!fn ).*\n)*)^fn \S*\b{name}: ", said, re.M)
+def weakness_of(said, path):
+    """Returns why the refusal of a function of this path, or of this end of its path, says little of its contract, where all
+    that a check says of it is that what is written of its proof names what is gone: it has no other error there, and the lines
+    between the function before it and its own tell of no goal without a proof."""
+    folder, path = re.escape(path.replace("::", "/")), re.escape(path)
+    errors = re.findall(rf"^(?:note: )?(?:\./)?proofs/(?:\S*/)?{folder}/\S+: (.*(?:\n  .*)*)", said, re.M)
+    above = re.search(rf"((?:^(?!fn ).*\n)*)^fn (?:\S*::)?{path}: ", said, re.M)
     tells_of_a_goal = above and re.search(r"^note: src/", above[1], re.M)
-    return bool(errors) and not tells_of_a_goal and all(LOST_NAME.search(it) for it in errors)
+    is_weak = bool(errors) and not tells_of_a_goal and all(LOST_NAME.search(it) for it in errors)
+    return BY_A_LOST_NAME if is_weak else ""
+
+
+def temporary():
+    """Returns a folder for a while, under a name by which `rt` removes it where this process is killed."""
+    return tempfile.TemporaryDirectory(prefix=f"rt-edits-{os.getpid()}-")
 
 
 class Judge:
@@ -89,12 +99,13 @@ class Judge:
     def alone(self, edit):
         """Returns why an edit fails, tried by itself, or nothing where the prover refuses the crate with it."""
         kind, said = self.over_kept(lambda kept: rt.must_fail(self.crate, edit.file, ONE_JOB, kept))
-        edit.takes_a_name = ONLY_LOST_NAMES in said
+        by_a_name = BY_A_LOST_NAME if ONLY_LOST_NAMES in said else ""
+        edit.weakness = BY_A_LIMIT if kind == rt.AT_LIMIT else by_a_name
         return "" if kind in IS_REFUSED else said.partition(": ")[2]
 
     def as_copies(self, edits):
         """Returns what one check with a copy for each edit says of it, or None where it did not get to the proofs."""
-        with tempfile.TemporaryDirectory(prefix=ROOM) as room:
+        with temporary() as room:
             copies.place_copies(self.crate, edits, room)
             crate = copy.copy(self.crate)
             crate.folder = room
@@ -104,7 +115,7 @@ class Judge:
             return None
         told = VERDICT.findall(said)
         for edit in edits:
-            edit.takes_a_name = only_lost_names(said, copies.name_of(edit))
+            edit.weakness = weakness_of(said, copies.name_of(edit))
         twins = [replace(it.function, name=copies.name_of(it)) for it in edits]
         return [self.verdict_on_copy([it for it in told if twin.fits(self.crate, it[0])]) for twin in twins]
 
@@ -126,6 +137,8 @@ class Judge:
         told = dict(VERDICT.findall(said))
         named = given.names_of(self.crate, self.functions, told)
         self.names.update({function: name for name, function in named.items()})
+        for edit in edits:
+            edit.weakness = weakness_of(said, self.names.get(edit.function, "").partition("::")[2])
         return [self.verdict(it, edits, told) for it in edits]
 
     def verdict(self, edit, edits, told):

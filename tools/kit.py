@@ -73,7 +73,7 @@ def libraries_of_ci(crates):
     rt.Crate.allowed = rt.handles_of(top())
     libraries = with_libraries([it for crate in crates for it in crate.below()])
     kept, own = rt.Kept(libraries), [it.rlib for it in libraries]
-    with tempfile.TemporaryDirectory(prefix="libraries-") as room:
+    with tempfile.TemporaryDirectory(prefix=f"rt-copy-{os.getpid()}-") as room:
         are_kept = kept.at is not None and all(link_from_ci(kept, it, room) for it in libraries)
         for crate in libraries if are_kept else ():
             crate.rlib = f"{room}/{crate.name}/rlib/{crate.name}.rlib"

@@ -4,6 +4,7 @@
 #include <stdio.h>
 #include <string.h>
 
+/* Prints an item that a call gave, which always has a text. */
 static void print(const char *before, const cron_c_item *item)
 {
     char text[CRON_C_ITEM_TEXT];

@@ -18,6 +18,7 @@ static int parse(const char *text, cron_c_schedule *schedule)
     return status == CRON_C_OK;
 }
 
+/* Prints an item that a call gave, which always has a text. */
 static void print(const cron_c_item *item)
 {
     char text[CRON_C_ITEM_TEXT];
@@ -41,6 +42,9 @@ int main(void)
     for (int left = 3; left > 0 && status == CRON_C_OK; left--) {
         print(&item);
         status = cron_c_next(&schedule, &zone, &item);
+    }
+    if (status != CRON_C_OK && status != CRON_C_NO_ITEM) {
+        return 1;
     }
     return parse("0 0 25 * * *", &schedule);
 }

@@ -11,6 +11,7 @@
 static uint8_t bytes[65536];
 static cron_c_era eras[CRON_C_ERAS];
 
+/* Prints an item that a call gave, which always has a text. */
 static void print(const cron_c_item *item)
 {
     char text[CRON_C_ITEM_TEXT];

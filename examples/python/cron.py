@@ -72,10 +72,14 @@ def items_after(library, schedule, zone, instant):
     while status == OK:
         yield Item(item.instant, item.offset)
         status = library.cron_c_next(schedule, zone, item)
+    if status != NO_ITEM:
+        raise ValueError(f"status {status}")
 
 
 def text_of(library, item):
-    """The text of an item."""
+    """The text of an item. ValueError where it is none, as outside the years 1970 to 2100."""
     text, length = ctypes.create_string_buffer(32), ctypes.c_size_t()
-    library.cron_c_format(item, text, len(text), length)
+    status = library.cron_c_format(item, text, len(text), length)
+    if status != OK:
+        raise ValueError(f"status {status}")
     return text.raw[: length.value].decode()

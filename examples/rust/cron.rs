@@ -171,6 +171,7 @@ impl Iterator for Items {
                 &mut item,
             )
         };
+        // An item of this walk is one of its timeline, so the other status is that there is none.
         self.next = (status == OK).then_some(item);
         Some(answer)
     }
