@@ -54,13 +54,12 @@ static int fires(const cron_c_schedule *schedule, size_t count, int64_t now, int
 
 int main(int words, char **word)
 {
-    const char text[] = "0 45 23 * * *";
     const uint8_t *held = words > 1 ? bytes : PYONGYANG;
     const size_t length = words > 1 ? read_file(word[1]) : sizeof PYONGYANG;
     cron_c_schedule schedule;
     size_t needed, count;
 
-    if (cron_c_parse(CRON_C_TEXT(text), &schedule, CRON_C_NO_TEXT, &needed) != CRON_C_OK) {
+    if (cron_c_parse(CRON_C_TEXT("0 45 23 * * *"), &schedule, CRON_C_NO_TEXT, &needed) != CRON_C_OK) {
         return 1;
     }
     const uint32_t status = cron_c_history_read(held, length, eras, CRON_C_ERAS, &count);

@@ -3,6 +3,7 @@
 import ctypes
 
 OK, NO_ITEM, REFUSED = 0, 1, 2
+VERSION = 1  # the first number of the header's version: a library with another may have other structs
 
 
 class Schedule(ctypes.Structure):
@@ -17,9 +18,18 @@ class Zone(ctypes.Structure):
     _fields_ = [("words", ctypes.c_uint32 * 16)]
 
 
+def check_version(library):
+    """ImportError where the library's structs may be others than those above."""
+    library.cron_c_version.argtypes, library.cron_c_version.restype = [], ctypes.c_uint32
+    version = library.cron_c_version() // 10_000
+    if version != VERSION:
+        raise ImportError(f"the first number of the library's version is {version}, and {VERSION} is needed")
+
+
 def load(path):
     """The library in a shared object."""
     library = ctypes.CDLL(path)
+    check_version(library)
     size, pointer = ctypes.c_size_t, ctypes.POINTER
     text = [ctypes.c_char_p, size]
     library.cron_c_parse.argtypes = text + [pointer(Schedule)] + text + [pointer(size)]

@@ -11,7 +11,8 @@ from cron_c import Schedule, ZoneError
 from cron_c.library import read_history
 from cron_c.zones import _data_of, eras_of
 
-YEARS = (1970, 1974, 2025, 2037)
+# In 2040 the rule on the last line decides for most files, and in 2099 for each: no table goes so far.
+YEARS = (1970, 1974, 2025, 2037, 2040, 2099)
 DAY, QUARTER = timedelta(days=1), timedelta(minutes=15)
 # No clock is further from UTC.
 FURTHEST = timedelta(hours=26)
@@ -66,9 +67,15 @@ class Zones(unittest.TestCase):
             self.assertEqual(eras[0].starts, -(1 << 63), key)
 
     def test_bytes_of_no_file_are_refused(self):
-        for data in (b"", b"TZif", _data_of("America/Chicago")[:-1], _data_of("America/Chicago")[:2000]):
+        for data in (b"", b"TZif", _data_of("America/Chicago")[:-1]):
             with self.assertRaises(ZoneError):
                 read_history(data, "America/Chicago")
+
+    def test_half_a_file_is_refused(self):
+        for key in sorted(zoneinfo.available_timezones() - {"localtime"}):
+            data = _data_of(key)
+            with self.assertRaises(ZoneError, msg=key):
+                read_history(data[: len(data) // 2], key)
 
     def test_a_zone_that_is_read_anew_has_its_new_file(self):
         schedule, start = Schedule("0 0 9 * * *"), datetime(2024, 1, 1)

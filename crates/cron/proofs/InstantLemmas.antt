@@ -10,7 +10,7 @@ use Rattle.cron_time.specs.Walk.FixedLaws.{HasOneOffset}
 use Rattle.cron_moments.specs.Readings.{Reading, instant}
 use Rattle.cron_time.specs.Timeline.{timeline}
 use Rattle.cron_time.proofs.Walks.FixedLemmas.{first_is_least, next_is_least}
-use Rattle.cron.specs.Instants.{IsLeastIfAny, IsNextIfAny}
+use Rattle.cron.specs.Instants.{IsLeastIfAny, IsNextIfAny, AreFirstTwo}
 
 -- a walk that starts at t
 record StartsAt (s : Sets) (z : TimeZone) (t : ℤ) (w : Walk) : Type 0 where
@@ -63,11 +63,24 @@ second_is_least s z o t (Some r) second c one a at b =
     b ∙ (ap (λ (x : Cursor). (step_on (timeline s z) z Ahead x).answer) (at ∙ here) ∙ answer_at (i + 1) (slice_get (timeline s z) (i + 1))) in
     subst (IsLeastIfAny s o (instant r *ℤ pos 1_000_000_000)) (sym answer) (next_is_least s z o i r one item)
 
+-- what the second of two calls answers
+second_answer : (s : Sets) (z : TimeZone) (old new last : Walk) (first second : Option Reading) → old.sets ≡ s → old.zone ≡ z
+    → Steps Ahead old first new → Steps Ahead new second last → second ≡ (step_on (timeline s z) z Ahead new.cursor).answer
+second_answer s z old new last first second p q one two =
+    let next : step Ahead new ≡ step_on (timeline s z) z Ahead new.cursor = rw (one.sets ∙ p, one.zone ∙ q) refl in
+    two.answer ∙ ap (λ (x : Step). x.answer) next
+
 pub next_least : (s : Sets) (z : TimeZone) (o t : ℤ) (old new last : Walk) (first second : Option Reading) → old.sets ≡ s → old.zone ≡ z
     → old.cursor ≡ Start t → HasOneOffset z o
     → Steps Ahead old first new → Steps Ahead new second last → IsNextIfAny s o first second
 next_least s z o t old new last first second p q c single one two =
     let at = first_step s z t old (record { sets = p; zone = q; cursor = c }) in
-    let next : step Ahead new ≡ step_on (timeline s z) z Ahead new.cursor = rw (one.sets ∙ p, one.zone ∙ q) refl in
     second_is_least s z o t first second new.cursor single (one.answer ∙ ap (λ (x : Step). x.answer) at) (one.cursor ∙ ap (λ (x : Step). x.cursor) at)
-    (two.answer ∙ ap (λ (x : Step). x.answer) next)
+    (second_answer s z old new last first second p q one two)
+
+pub first_two : (s : Sets) (z : TimeZone) (t : ℤ) (old new last : Walk) (first second : Option Reading) → old.sets ≡ s → old.zone ≡ z
+    → old.cursor ≡ Start t → Steps Ahead old first new → Steps Ahead new second last → AreFirstTwo s z t first second
+first_two s z t old new last first second p q c one two =
+    let at = first_step s z t old (record { sets = p; zone = q; cursor = c }) in
+    let here = one.cursor ∙ ap (λ (x : Step). x.cursor) at in
+    rw (second_answer s z old new last first second p q one two, here, one.answer, at) refl

@@ -1,6 +1,10 @@
--- The answers of a walk in a zone with one offset, told by instants.
-use Rattle.std.specs.Prelude.{◌≡◌, ℤ, pos, ◌*ℤ◌, Option, Some, None, MatchOption}
+-- The first two answers of a walk: what they are in each zone, and, in one with one offset, told by instants.
+use Rattle.std.specs.Prelude.{◌≡◌, ℤ, pos, ◌*ℤ◌, [], ◌∷◌, Option, Some, None, MatchOption}
+use Rattle.jiff_tz.specs.declared.timezone.TimeZone.{TimeZone}
+use Rattle.cron_units.specs.declared.way.Way.TheVariants.{Ahead}
+use Rattle.cron_time.specs.Walk.Cursor.{Start, run_on}
 use Rattle.cron_time.specs.Walk.FixedLaws.{Shows, IsAfter, IsLeastAfter}
+use Rattle.cron_time.specs.Timeline.{timeline}
 use Rattle.cron_moments.specs.Readings.{Reading, instant}
 use Rattle.cron_units.specs.Sets.{Sets}
 
@@ -12,3 +16,7 @@ IsLeastIfAny s offset t answer = MatchOption answer ((n : ℤ) → IsAfter t n �
 abbrev pub IsNextIfAny : Sets → ℤ → Option Reading → Option Reading → Type 0
 IsNextIfAny s offset None second = second ≡ None
 IsNextIfAny s offset (Some r) second = IsLeastIfAny s offset (instant r *ℤ pos 1_000_000_000) second
+
+-- these are the answers of two calls ahead, one after the other from the start, on the timeline of the sets in the zone
+abbrev pub AreFirstTwo : Sets → TimeZone → ℤ → Option Reading → Option Reading → Type 0
+AreFirstTwo s z start first second = (first ∷ second ∷ []) ≡ (run_on (timeline s z) z (Ahead ∷ Ahead ∷ []) (Start start)).answers

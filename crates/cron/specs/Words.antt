@@ -25,7 +25,7 @@ pub use Rattle.cron_moments.specs.MomentText.{moment_text}
 pub use Rattle.cron_text.specs.TextLaws.{IsInGrammar, MeansOnce, MeansSets, LongestFrontsAgree, HasOneFault, MeantEarlier, KeepsItsMeaning}
 pub use Rattle.cron_time.specs.Walk.Laws.{RunsAreJoined, EndIsForEver, NeighboursAreAnswered, SecondsNeverDecrease, SecondsStandTwiceAtMost, ItemsMatch, ItemsStandOnce}
 pub use Rattle.cron_time.specs.Walk.FixedLaws.{Shows, IsAfter, IsLeastAfter, offset_of, IsReadOnce, HasOneOffset, FixedZonesHaveOneOffset, PlainRulesHaveOneOffset, FirstIsLeast, NextIsLater}
-pub use Rattle.cron.specs.Instants.{IsLeastIfAny, IsNextIfAny}
+pub use Rattle.cron.specs.Instants.{IsLeastIfAny, IsNextIfAny, AreFirstTwo}
 pub use Rattle.cron_time.specs.Walk.Resume.{IsAbsent, IsAtItem, IsResumed}
 pub use Rattle.cron_moments.specs.Parts.{HasParts}
 pub use Rattle.cron.specs.Resumed.{followed_by, CutRunsAreResumed, ItemsAreInRange}

@@ -8,7 +8,7 @@ ghost use Rattle.cron_units.specs.Texts.{Tells, IsMemory};
 ghost use Rattle.cron.specs.Examples.{TextsAreCut, ItemsDenote, ItemsAreRefused, CursorsStep, DaysAreNumbered};
 ghost use Rattle.cron_text.specs.Fault.{IsRefusal};
 ghost use Rattle.cron.specs.Headline.{IsWalked};
-ghost use Rattle.cron.specs.Instants.{IsLeastIfAny, IsNextIfAny};
+ghost use Rattle.cron.specs.Instants.{IsLeastIfAny, IsNextIfAny, AreFirstTwo};
 ghost use Rattle.cron.specs.Resumed.{CutRunsAreResumed, ItemsAreInRange};
 ghost use Rattle.cron_text.specs.TextLaws.{MeansOnce, MeansSets, LongestFrontsAgree, HasOneFault, KeepsItsMeaning};
 ghost use Rattle.cron_time.specs.Search.Times.{TimesOfDayMatch};
@@ -58,7 +58,8 @@ pub fn equal_sets(one: &Schedule, other: &Schedule)
 }
 
 /// In a zone with one offset a walk from a start answers the least instant after the start that shows
-/// a match, and then the least instant after that one; `None` exactly where there is none.
+/// a match, and then the least instant after that one; `None` exactly where there is none. Each answer is
+/// an item as the walk gives it, with the offset of the zone.
 pub fn first_instants(
     schedule: &Schedule,
     start: Timestamp,
@@ -67,6 +68,7 @@ pub fn first_instants(
     requires { one.HasOneOffset (plain_zone zone.now) (one.offset_of (plain_zone zone.now)) }
     ensures first { IsLeastIfAny schedule.now.sets (one.offset_of (plain_zone zone.now)) start.nanosecond result.0 }
     ensures next { IsNextIfAny schedule.now.sets (one.offset_of (plain_zone zone.now)) result.0 result.1 }
+    ensures walked { AreFirstTwo schedule.now.sets (plain_zone zone.now) start.nanosecond result.0 result.1 }
 {
     let mut fires = schedule.after(start, zone);
     let first = fires.next();

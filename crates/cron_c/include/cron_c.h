@@ -30,8 +30,12 @@ extern "C" {
 /* The version of the archive. Its first number is that of the header, or the structs may differ. */
 uint32_t cron_c_version(void);
 
-/* A literal as the two arguments of a text: its bytes and how many. */
-#define CRON_C_TEXT(literal) (literal), (sizeof(literal) - 1)
+/*
+ * A string literal as the two arguments of a text: its bytes and how many. A pointer, whose size isn't
+ * its text's, and an array, whose text may end before it does, are refused by the compiler, since
+ * neither can stand between two literals.
+ */
+#define CRON_C_TEXT(literal) ("" literal ""), (sizeof("" literal "") - 1)
 
 /* The arguments for a message or a text that isn't wanted. */
 #define CRON_C_NO_TEXT ((char *)""), 0

@@ -39,15 +39,27 @@ class Era(ctypes.Structure):
 History = ctypes.Array  # of Era
 Fire = Tuple[int, int]  # an instant in seconds since 1970, and how far the clock is ahead of UTC then
 
-VERSION = 1  # the first number of the library's version: another may have other structs
+# The first version that has every call below, and the first whose structs may be others.
+LEAST_VERSION, OTHER_VERSION = 10_200, 20_000
+
+
+def _numbers(version: int) -> str:
+    """The three numbers of a version."""
+    return f"{version // 10_000}.{version // 100 % 100}.{version % 100}"
+
+
+def _check_version(library: ctypes.CDLL) -> None:
+    """ImportError where a call may be missing, or may read and write other structs than those here."""
+    library.cron_c_version.argtypes, library.cron_c_version.restype = [], ctypes.c_uint32
+    version = library.cron_c_version()
+    if not LEAST_VERSION <= version < OTHER_VERSION:
+        needed = f"{_numbers(LEAST_VERSION)} or later, before {_numbers(OTHER_VERSION)}"
+        raise ImportError(f"libcron_c.so is of version {_numbers(version)}, and this package needs {needed}")
 
 
 def _load() -> ctypes.CDLL:
     library = ctypes.CDLL(str(pathlib.Path(__file__).with_name("libcron_c.so")))
-    library.cron_c_version.argtypes, library.cron_c_version.restype = [], ctypes.c_uint32
-    version = library.cron_c_version() // 10_000
-    if version != VERSION:
-        raise ImportError(f"libcron_c.so is of version {version}, and this package needs {VERSION}")
+    _check_version(library)
     size, pointer, instant = ctypes.c_size_t, ctypes.POINTER, ctypes.c_int64
     text = [ctypes.c_char_p, size]
     library.cron_c_parse.argtypes = text + [pointer(Sets)] + text + [pointer(size)]

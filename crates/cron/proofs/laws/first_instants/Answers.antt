@@ -1,4 +1,4 @@
-use Rattle.cron.proofs.InstantLemmas.{least_first, next_least}
+use Rattle.cron.proofs.InstantLemmas.{least_first, next_least, first_two}
 use Rattle.cron.proofs.laws.first_instants.Goals as goal
 
 pub returns-clause-first : goal.returns-clause-first
@@ -9,4 +9,9 @@ returns-clause-first c =
 pub returns-clause-next : goal.returns-clause-next
 returns-clause-next c =
     next_least _ _ _ _ c.after-fires.result _ _ _ _ c.after-fires.ensures.sets c.after-fires.ensures.zone c.after-fires.ensures.cursor c.requires
+    c.next-first.ensures.steps.cursor c.next-second.ensures.steps.cursor
+
+pub returns-clause-walked : goal.returns-clause-walked
+returns-clause-walked c =
+    first_two _ _ _ c.after-fires.result _ _ _ _ c.after-fires.ensures.sets c.after-fires.ensures.zone c.after-fires.ensures.cursor
     c.next-first.ensures.steps.cursor c.next-second.ensures.steps.cursor
