@@ -119,8 +119,8 @@ pub fn means_sets()
     ensures { MeansSets }
 {}
 
-/// A text that meant seven sets before the last day of a month had a word, and with the five
-/// shorthands of then, means the same ones now, and has no mark.
+/// A text that means seven sets by the grammar without a word for the last day of a month, and with the
+/// first five shorthands alone, means the same ones, and has no mark.
 pub fn earlier_texts()
     ensures { KeepsItsMeaning }
 {}

@@ -45,7 +45,7 @@ Parses text old new before after size NotUtf8 = (IsUtf8 text → ⊥) × (new �
 Parses text old new before after size Untold = IsUtf8 text × (told : List ℕ) × IsRefusal text told × (new ≡ old) × (size ≡ 0)
 Parses text old new before after size _ = ⊥
 
--- The first item after an instant, or before it, is written; or there is none; or nothing is looked for.
+-- What a walk answers first that starts at the instant is written; or there is no such item; or nothing is looked for.
 abbrev pub Searches : Way → Sets → CronZone → ℤ → CronItem → CronItem → Status → Type 0
 Searches way s zone second old new Done =
     (z : TimeZone) × (r : Reading) × IsZoneIn zone z × IsInstant second × ((step way (start_at s z second)).answer ≡ Some r) × IsItem r new

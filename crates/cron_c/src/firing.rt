@@ -100,7 +100,7 @@ fn fire_at(schedule: &CronSchedule, zone: &CronZone, second: i64, item: &mut Cro
     Status::Done
 }
 
-/// Writes an item whose instant is this one.
+/// Writes the item whose instant is this one, of two that share it the later.
 #[unsafe(no_mangle)]
 pub extern "C" fn cron_c_fire_at(
     schedule: &CronSchedule,

@@ -169,7 +169,7 @@ pub extern "C" fn cron_c_history_fire_by(
     fire_by(schedule, eras, instant, item).code()
 }
 
-/// Writes an item of a history whose instant is this one.
+/// Writes the item of a history whose instant is this one, of two that share it the later.
 #[unsafe(no_mangle)]
 pub extern "C" fn cron_c_history_fire_at(
     schedule: &CronSchedule,

@@ -95,7 +95,7 @@ fn list_on(
     Status::Done
 }
 
-/// Writes the first items after an instant as far as they fit, and how many they are.
+/// Writes the first items of a walk ahead that starts at an instant as far as they fit, and how many they are.
 #[unsafe(no_mangle)]
 pub extern "C" fn cron_c_list_after(
     schedule: &CronSchedule,
@@ -109,7 +109,7 @@ pub extern "C" fn cron_c_list_after(
     list(Way::Ahead, schedule, zone, instant, items, count).code()
 }
 
-/// Writes the last items before an instant, the latest first.
+/// Writes the first items of a walk back that starts at an instant.
 #[unsafe(no_mangle)]
 pub extern "C" fn cron_c_list_before(
     schedule: &CronSchedule,
@@ -137,7 +137,7 @@ pub extern "C" fn cron_c_list_next(
     list_on(Way::Ahead, schedule, zone, item, items, count).code()
 }
 
-/// Writes the items before an item, the latest first.
+/// Writes the items before an item, the nearest first.
 #[unsafe(no_mangle)]
 pub extern "C" fn cron_c_list_prev(
     schedule: &CronSchedule,

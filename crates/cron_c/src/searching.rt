@@ -1,4 +1,4 @@
-//! Items by an instant, and by an item.
+//! What a walk answers that starts at an instant, or goes on from an item.
 
 ghost use Rattle.std.specs.Prelude.{◌≡◌, MatchOption};
 ghost use Rattle.jiff.specs.Words.{plain_zone};
@@ -20,7 +20,7 @@ use cron_units::way::Way;
 use jiff::Timestamp;
 use jiff::tz::TimeZone;
 
-// The first item from an instant on.
+// What a walk that starts at the instant answers first.
 fn first(way: Way, schedule: &CronSchedule, zone: &TimeZone<'_>, start: Timestamp) -> Option<Moment>
     ensures { result ≡ (step way (record { sets = sets_of schedule.now; zone = plain_zone zone.now; cursor = Start start.nanosecond })).answer }
 {
@@ -93,7 +93,8 @@ fn follow(way: Way, schedule: &CronSchedule, zone: &CronZone, item: &mut CronIte
     Status::Done
 }
 
-/// Writes the first item after an instant, which is given by its seconds since 1970-01-01T00:00:00Z.
+/// Writes what a walk ahead answers first that starts at an instant, which is given by its seconds since
+/// 1970-01-01T00:00:00Z. In a fold that may be the instant itself, or one before it.
 #[unsafe(no_mangle)]
 pub extern "C" fn cron_c_after(
     schedule: &CronSchedule,
@@ -106,7 +107,8 @@ pub extern "C" fn cron_c_after(
     search(Way::Ahead, schedule, zone, instant, item).code()
 }
 
-/// Writes the last item before an instant.
+/// Writes what a walk back answers first that starts at an instant. In a fold that may be the instant itself,
+/// or one after it.
 #[unsafe(no_mangle)]
 pub extern "C" fn cron_c_before(
     schedule: &CronSchedule,

@@ -18,7 +18,7 @@ pub enum Status {
     BadZone,
     /// The instant is out of range.
     BadInstant,
-    /// The given item isn't one of the timeline, or none at all.
+    /// The given struct is no item; or, where a walk goes on from it, no item of this timeline.
     NotAnItem,
     /// The text means nothing, and the message couldn't be written.
     Untold,

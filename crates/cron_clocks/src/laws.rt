@@ -1,4 +1,4 @@
-//! Laws over the definitions. No program calls these functions.
+//! Laws over the definitions: the functions do nothing, and a caller calls one for what its contract says.
 
 ghost use Rattle.cron_clocks.specs.Clocks.{FixedZonesAgree, PlainRulesAgree};
 ghost use Rattle.cron_clocks.specs.Turns.{ApartRulesAgree};

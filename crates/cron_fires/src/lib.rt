@@ -57,7 +57,7 @@ pub fn first_fire_past(schedule: &Schedule, item: &Moment, zone: &TimeZone<'_>) 
 }
 
 /// When the schedule fired last: of its moments in the zone whose instant is `now` or comes before it
-/// the latest. `None` where it hasn't fired yet.
+/// the latest, of two that share an instant that with the greater civil second. `None` where it hasn't fired yet.
 pub fn last_fire_by(schedule: &Schedule, now: Timestamp, zone: &TimeZone<'_>) -> Option<Moment>
     ensures { IsLastBy schedule.now.sets (plain_zone zone.now) now.nanosecond result }
 {

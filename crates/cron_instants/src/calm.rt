@@ -23,8 +23,9 @@ use cron_units::fields::ScheduleFields;
 use cron_units::way::Way;
 use jiff::tz::{Offset, TimeZone};
 
-/// Civil seconds from an item on are read at one offset alone, and the others are read earlier or later as
-/// the clock shows them, up to an end, which may lie before the item.
+/// What is known of a civil second that is read once, at this offset, with those before it read earlier: each
+/// one from it on up to the end is read once at this offset too, with those before it read earlier and those
+/// behind it later. The end may lie before the civil second itself.
 #[derive(Clone, Copy)]
 pub(crate) struct Calm {
     pub offset: Offset,

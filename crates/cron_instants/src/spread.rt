@@ -81,8 +81,8 @@ fn offsets_with(rule: posix::TimeZone, last: i32, edge: i64) -> Spread
     }
 }
 
-// Past the last turn of a table the offsets are those of its rule. Where it has none, or no turn, there
-// is nothing past it, or nothing before.
+// Past the last turn of a table the offsets are that turn's and those of the table's rule. Without a rule the
+// edge is the end of the range, so nothing lies past it; without a turn it is the beginning.
 fn spread_in(table: &jiff_tz::Tzif) -> Spread
     ensures { IsSpread (Tzif table.entry) result }
 {

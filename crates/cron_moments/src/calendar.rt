@@ -93,7 +93,7 @@ pub fn weekday_of(number: u32) -> u32
     (number + 4) % 7 + 1
 }
 
-/// Each month has as many days.
+/// Each month has so many days, or more.
 pub const SHORTEST: u32 = 28;
 
 /// The number of the last day of a month.

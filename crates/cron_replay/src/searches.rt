@@ -1,4 +1,4 @@
-//! Single searches, with their counts of dates and of questions to the zone.
+//! Single searches, with their counts of dates and of look-ups of readings.
 
 use crate::report::{Report, Row};
 use crate::settings::{Case, case_of, listed, zone_named};

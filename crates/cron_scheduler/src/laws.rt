@@ -7,7 +7,8 @@ pub fn due_up_to_the_greatest()
     ensures { DueUpToTheGreatest }
 {}
 
-/// A run that is begun past a fire of another goes on from there: nothing is run twice, nothing is lost.
+/// Past a fire of a plan without a number come exactly those behind it. So a run that begins there goes on:
+/// nothing is run twice, nothing is lost.
 pub fn restarts_go_on()
     ensures { RestartsGoOn }
 {}

@@ -65,12 +65,12 @@ monthly = record daily { days_of_month = unmarked (1 ∷ []) }
 abbrev pub yearly : Sets
 yearly = record monthly { months = 1 ∷ [] }
 
--- the words that stood for a whole schedule before the last two came, and what they mean
+-- five words that stand for a whole schedule, and what they mean: those of the grammar without `@annually` and `@midnight`
 abbrev pub earlier_shorthands : List (List ℕ × Sets)
 earlier_shorthands =
     (codes "@yearly", yearly) ∷ (codes "@monthly", monthly) ∷ (codes "@weekly", weekly) ∷ (codes "@daily", daily) ∷ (codes "@hourly", hourly) ∷ []
 
--- the words that stand for a whole schedule, and what they mean
+-- all the words that stand for a whole schedule, and what they mean
 abbrev pub shorthands : List (List ℕ × Sets)
 shorthands = earlier_shorthands ++ (codes "@annually", yearly) ∷ (codes "@midnight", daily) ∷ []
 

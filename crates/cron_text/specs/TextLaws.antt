@@ -27,10 +27,10 @@ LongestFrontsAgree =
 abbrev pub HasOneFault : Type 0
 HasOneFault = (text a b : List ℕ) → IsFault text a → IsFault text b → a ≡ b
 
--- what a text meant before there was a word for the last day of the month, and with the shorthands of then
+-- what a text means by the grammar without a word for the last day of the month, and with the first five shorthands alone
 abbrev pub MeantEarlier : List ℕ → Sets → Type 0
 MeantEarlier text s = MeansBy (map without_last_day six_units) earlier_shorthands text s
 
--- a text that meant seven sets then means the same ones now, and has no mark
+-- a text that means seven sets by that grammar means the same ones, and has no mark
 abbrev pub KeepsItsMeaning : Type 0
 KeepsItsMeaning = (text : List ℕ) (s : Sets) → MeantEarlier text s → Means text s × (s.days_of_month.last_day ≡ false)

@@ -62,7 +62,7 @@ abbrev pub one_if_any : Option ℕ → ℕ
 one_if_any None = 0
 one_if_any (Some c) = 1
 
--- the questions to the zone that a search asks, and the days that it looks at
+-- the civil seconds whose readings a search looks up, and the days that it looks at
 abbrev pub conversions : Way → Sets → TimeZone → ℤ → Option ℕ → ℕ
 conversions way s z start answer = gap_matches s z (passed way start answer) + one_if_any answer
 

@@ -53,8 +53,8 @@ fn past_stretch(stretch: &Stretch, way: Way, day: u32, time: u32) -> Option<u32>
     }
 }
 
-// The next time of the day past one that has no reading which lies in the sets and may have one. It is asked for
-// in a gap alone.
+// Past a time of the day that has no reading, the next one that lies in the sets and may have a reading. It is
+// asked for in a gap alone.
 #[inline(never)]
 fn past_silence(
     fields: &ScheduleFields,

@@ -95,7 +95,7 @@ impl<'a> Inquiry<'a> {
         self.days
     }
 
-    /// The questions to the zone.
+    /// The civil seconds whose readings were looked up.
     pub(crate) fn conversions(&self) -> u64
         ensures { result ≡ self.now.conversions }
     {
@@ -157,7 +157,7 @@ impl<'a> Inquiry<'a> {
         Some(number)
     }
 
-    /// Asks the zone for the readings of a civil second: none in a gap.
+    /// Looks up the readings of a civil second, in the stretch that is known or by the zone: none in a gap.
     #[inline(always)]
     pub(crate) fn readings(&mut self, second: u32) -> Option<Found>
         requires in_range { second < seconds_in_range }

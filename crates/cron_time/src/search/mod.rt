@@ -215,7 +215,7 @@ pub(crate) fn search_from(inquiry: &mut Inquiry<'_>, way: Way, from: i64) -> Opt
     search_days_either_way(inquiry, way, start)
 }
 
-/// A search from a number in a new inquiry, with the numbers of dates and of questions to the zone that it took.
+/// A search from a number in a new inquiry, with the numbers of dates and of look-ups of readings that it took.
 pub fn search(fields: &ScheduleFields, zone: &TimeZone<'_>, way: Way, from: i64) -> Search
     ensures found { IsFound way
         fields.now

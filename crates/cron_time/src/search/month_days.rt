@@ -173,12 +173,6 @@ impl MonthDays {
         MonthDays { month, days: 0 }
     }
 
-    /// The month that was looked up last.
-    #[inline(always)]
-    pub fn month(&self) -> KnownMonth {
-        self.month
-    }
-
     // The days of a month whose year and month lie in their sets.
     #[inline(always)]
     fn of(fields: &ScheduleFields, month: KnownMonth) -> MonthDays

@@ -1,4 +1,4 @@
-//! The nearest civil second past an item, which lies in its own day or in one past it.
+//! The nearest civil second on the timeline, past a matching one or from a number on, without counts.
 ghost use Rattle.std.specs.Prelude.{◌≡◌, ◌+◌, ◌/◌, ◌%◌, ◌^◌, ◌<◌, ◌≤◌, pos, true, MatchOption, option_map};
 ghost use Rattle.jiff.specs.Words.{plain_zone};
 ghost use Rattle.cron_moments.specs.Civil.{days_in_range, seconds_in_range};
@@ -136,9 +136,9 @@ fn days_past_either_way(
     }
 }
 
-/// The nearest one past a civil second that matches: first in its own day, whose date needn't be made,
-/// and then in the days past it. It begins with the days of a month that an earlier search knew, and leaves
-/// those that it knows.
+/// The nearest civil second on the timeline past one that matches: first in its own day, whose date needn't be
+/// made, and then in the days past it. It begins with the days of a month and the stretch that an earlier search
+/// knew, and leaves those that it knows.
 #[inline(always)]
 pub fn search_past(
     fields: &ScheduleFields,
@@ -197,8 +197,8 @@ fn days_from<const BACK: bool>(
     days_past::<BACK>(fields, zone, way, day, days, stretch)
 }
 
-/// The nearest one from a number on, with no counts. It begins with the days of a month and the stretch that
-/// an earlier search knew, and leaves those that it knows.
+/// The nearest civil second on the timeline from a number on. It begins with the days of a month and the stretch
+/// that an earlier search knew, and leaves those that it knows.
 pub fn search_onward(
     fields: &ScheduleFields,
     zone: &TimeZone<'_>,
@@ -220,8 +220,8 @@ pub fn search_onward(
     }
 }
 
-/// The nearest one from a number on, with no counts, where nothing is known. It ends at once where no month
-/// has a day of the set.
+/// The nearest civil second on the timeline from a number on, where nothing is known. It ends at once where no
+/// month has a day of the set.
 pub fn search_anew(
     fields: &ScheduleFields,
     zone: &TimeZone<'_>,

@@ -1,5 +1,6 @@
 //! Sets as plain words, a bit for each ordinal: bit i stands for the least ordinal plus i. The C
-//! interface names this module. `cron` passes none of it on, so its users see no layout.
+//! interface names this module, and so does `cron_time`, for the days of a month that match. `cron` passes
+//! none of it on, so its users see no layout.
 
 ghost use Rattle.std.specs.Prelude.{◌≡◌, ◌<◌, ◌+◌, ◌-◌, ◌^◌, ℕ};
 ghost use Rattle.cron_bits.specs.Words.{bit_of_three, has_bit};

@@ -9,7 +9,7 @@ use Rattle.cron_units.specs.Units as units
 use Rattle.cron_time.specs.declared.search.inquiry.Unit.{Unit}
 use Rattle.cron_time.specs.declared.search.inquiry.Unit.TheVariants.{Second, Minute, Hour, Day, Month, Year}
 
--- the sets and the zone that are asked, with the dates that were made and tested, the questions to the zone, and those for a neighbouring member
+-- the sets and the zone that are asked, with the dates that were made and tested, the look-ups of readings, and the questions for a neighbouring member
 pub record Inquired : Type 0 where
   pub sets : Sets
   pub zone : TimeZone
@@ -21,7 +21,7 @@ pub record Inquired : Type 0 where
 abbrev pub unasked : Sets → TimeZone → Inquired
 unasked s z = record { sets = s; zone = z; days = 0; conversions = 0; questions = 0 }
 
--- one more date, one more question to the zone, one more for a member; the last count begins again after 2 ^ 64
+-- one more date, one more look-up of readings, one more question for a member; the last count begins again after 2 ^ 64
 abbrev pub one_day : Inquired → Inquired
 one_day q = record { sets = q.sets; zone = q.zone; days = q.days + 1; conversions = q.conversions; questions = q.questions }
 
