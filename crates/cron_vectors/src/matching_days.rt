@@ -1,27 +1,29 @@
 //! A slow twin of the days that walks answer: each day of a stretch is asked by itself.
 
-use crate::support::{check, shown};
+use crate::support::{check, check_rows, check_same, cut, shown};
 use cron::Schedule;
 use cron::schedule::Moment;
 use jiff::Timestamp;
 use jiff::civil::DateTime;
 use jiff::tz::TimeZone;
 use std::alloc::Global;
+use std::fmt::Write;
 use std::process::Abort;
 use std::test::Fail;
 
-// Texts whose items are midnights.
-const TEXTS: &str = "\
-0 0 0 * * *
-0 0 0 L * ?
-0 0 0 31,L * *
-0 0 0 29 2 *
-0 0 0 29,30,L 2,4 Sat
-0 0 0 13 * Fri
-0 0 0 31 * *
-0 0 0 30 2,4 *
-0 0 0 * * Mon,Wed
-0 0 0 1,28-31 */5 Sun 1970-2100/3";
+// Texts whose items are midnights, and how many days match in each of the stretches below, as the
+// calendar of Python counts them. Where none does, a walk goes over the whole stretch.
+const ROWS: &str = "\
+0 0 0 * * * | 790 122 790 1826
+0 0 0 L * ? | 26 4 26 60
+0 0 0 31,L * * | 26 4 26 60
+0 0 0 29 2 * | 1 1 1 1
+0 0 0 29,30,L 2,4 Sat | 1 0 1 1
+0 0 0 13 * Fri | 4 0 4 10
+0 0 0 31 * * | 15 3 15 35
+0 0 0 30 2,4 * | 2 0 2 5
+0 0 0 * * Mon,Wed | 225 35 226 522
+0 0 0 1,28-31 */5 Sun 1970-2100/3 | 3 1 2 5";
 
 // A stretch of days, by their numbers from 1970-01-01 on.
 #[derive(Clone, Copy)]
@@ -79,14 +81,43 @@ fn check_midnight(
     Ok(())
 }
 
+// What a walk ahead answers past the last midnight of a stretch does not lie in it.
+fn check_later(
+    rt: &impl Abort,
+    answer: Option<Moment>,
+    days: Days,
+    text: &str,
+) -> Result<(), Fail> {
+    if let Some(moment) = answer {
+        let past = midnight(days.past)?;
+        check(rt, past <= moment.datetime(), text);
+    }
+    Ok(())
+}
+
+// Nor does what a walk back answers past the first one.
+fn check_earlier(
+    rt: &impl Abort,
+    answer: Option<Moment>,
+    days: Days,
+    text: &str,
+) -> Result<(), Fail> {
+    if let Some(moment) = answer {
+        let first = midnight(days.first)?;
+        check(rt, moment.datetime() < first, text);
+    }
+    Ok(())
+}
+
 // Goes ahead over the midnights, and from each back to the one before it and ahead again.
 fn check_ahead(
     rt: &impl Abort,
     schedule: &Schedule,
-    start: Timestamp,
+    days: Days,
     midnights: &[DateTime],
     text: &str,
 ) -> Result<(), Fail> {
+    let start = Timestamp::from_second(days.first.saturating_mul(86_400).saturating_sub(1))?;
     let mut walk = schedule.after(start, &TimeZone::UTC);
     let mut before = None;
     for midnight in midnights {
@@ -97,38 +128,55 @@ fn check_ahead(
         }
         before = Some(*midnight);
     }
-    Ok(())
+    check_later(rt, walk.next(), days, text)
 }
 
 fn check_back(
     rt: &impl Abort,
     schedule: &Schedule,
-    start: Timestamp,
+    days: Days,
     midnights: &[DateTime],
     text: &str,
 ) -> Result<(), Fail> {
+    let start = Timestamp::from_second(days.past.saturating_mul(86_400))?;
     let mut walk = schedule.after(start, &TimeZone::UTC);
     for midnight in midnights.iter().rev() {
         check_midnight(rt, walk.next_back(), *midnight, text)?;
     }
-    Ok(())
+    check_earlier(rt, walk.next_back(), days, text)
 }
 
-fn check_days(rt: &(impl Abort + AllocGlobal), text: &str, days: Days) -> Result<(), Fail> {
+// Compares the walks over a stretch, and answers how many of its days match.
+fn check_days(
+    rt: &(impl Abort + AllocGlobal),
+    schedule: &Schedule,
+    days: Days,
+    text: &str,
+) -> Result<usize, Fail> {
+    let midnights = included(rt.alloc(), schedule, days)?;
+    check_ahead(rt, schedule, days, midnights.as_slice(), text)?;
+    check_back(rt, schedule, days, midnights.as_slice(), text)?;
+    Ok(midnights.len())
+}
+
+// The stretches one after another, with the row told again from what matches in them.
+fn check_row(rt: &(impl Abort + AllocGlobal), row: &str) -> Result<(), Fail> {
+    let (text, _counts) = cut(row)?;
     let schedule = Schedule::from_str(rt.alloc(), text)?;
-    let midnights = included(rt.alloc(), &schedule, days)?;
-    let before = Timestamp::from_second(days.first.saturating_mul(86_400).saturating_sub(1))?;
-    let past = Timestamp::from_second(days.past.saturating_mul(86_400))?;
-    check_ahead(rt, &schedule, before, midnights.as_slice(), text)?;
-    check_back(rt, &schedule, past, midnights.as_slice(), text)
+    let mut told = format!(in rt.alloc(); "{text} |")?;
+    for days in STRETCHES {
+        let count = check_days(rt, &schedule, days, text)?;
+        write!(told, " {count}")?;
+    }
+    check_same(rt, told.as_str(), row, text);
+    Ok(())
 }
 
 #[test]
 fn each_day_asked_by_itself(rt: HostRuntime) -> Result<(), Fail> {
-    for text in TEXTS.lines() {
-        for days in STRETCHES {
-            check_days(&rt, text, days)?;
-        }
+    check_rows(&rt, ROWS, 10);
+    for row in ROWS.lines() {
+        check_row(&rt, row)?;
     }
     Ok(())
 }
