@@ -134,16 +134,6 @@ def processes_for(crate, most):
     return min(most, 1 + crate.count(rb"\n") // LINES_A_PROCESS)
 
 
-# A check was seen to take 4 at most, where `rt` plans for up to 7.
-GIGABYTES_A_CHECK = 5
-
-
-def checks_at_once():
-    """Returns how many checks `rt` may start side by side: one for each processor where memory holds them, and else 0, for as
-    many as it plans for itself."""
-    return rt.processors() if rt.free() >= rt.processors() * GIGABYTES_A_CHECK * 10**9 else 0
-
-
 # The folders of the crates that this process holds.
 HELD = set()
 
