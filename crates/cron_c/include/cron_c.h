@@ -363,7 +363,7 @@ uint32_t cron_c_prev(const cron_c_schedule *schedule,
 
 /*
  * Writes to `items` the first items after the instant, in order; or, `cron_c_list_before`, the last
- * ones before it, the latest first: as many as fit, and fewer only where the timeline ends. The
+ * ones before it, in the opposite order: as many as fit, and fewer only where the timeline ends. The
  * instant is meant as by `cron_c_after` and `cron_c_before`, with what is said there of an hour that
  * comes twice: go on from the last item, and not with a list from its instant. `*count` tells how
  * many were written.
