@@ -105,7 +105,7 @@ def proofs_of(crates, builds):
     def work(crate, waits, given, jobs):
         if not all(given[it] for it in waits):
             return False
-        said = proved(crate, processes_for(crate, jobs), builds)
+        said = proved(crate, jobs, builds)
         if said:
             print(f"{said}{crate.name} is not proved", flush=True)
         return not said
@@ -123,15 +123,6 @@ def proofs_of(crates, builds):
 @functools.cache
 def share_work():
     rt.share_work(True)
-
-
-# With fewer lines a further process costs more than it spares: it reads all that is below the crate once more.
-LINES_A_PROCESS = 1200
-
-
-def processes_for(crate, most):
-    """Returns in how many processes a crate is proved soonest, where so many are idle."""
-    return min(most, 1 + crate.count(rb"\n") // LINES_A_PROCESS)
 
 
 # The folders of the crates that this process holds.
