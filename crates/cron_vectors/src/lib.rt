@@ -12,6 +12,8 @@ mod last_days;
 #[cfg(test)]
 mod laws;
 #[cfg(test)]
+mod marks;
+#[cfg(test)]
 mod matching_days;
 #[cfg(test)]
 mod moments;

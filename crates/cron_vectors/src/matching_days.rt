@@ -81,35 +81,8 @@ fn check_midnight(
     Ok(())
 }
 
-// What a walk ahead answers past the last midnight of a stretch does not lie in it.
-fn check_later(
-    rt: &impl Abort,
-    answer: Option<Moment>,
-    days: Days,
-    text: &str,
-) -> Result<(), Fail> {
-    if let Some(moment) = answer {
-        let past = midnight(days.past)?;
-        check(rt, past <= moment.datetime(), text);
-    }
-    Ok(())
-}
-
-// Nor does what a walk back answers past the first one.
-fn check_earlier(
-    rt: &impl Abort,
-    answer: Option<Moment>,
-    days: Days,
-    text: &str,
-) -> Result<(), Fail> {
-    if let Some(moment) = answer {
-        let first = midnight(days.first)?;
-        check(rt, moment.datetime() < first, text);
-    }
-    Ok(())
-}
-
-// Goes ahead over the midnights, and from each back to the one before it and ahead again.
+// Goes ahead over the midnights, and from each back to the one before it and ahead again. What is answered
+// past the last one lies behind the stretch.
 fn check_ahead(
     rt: &impl Abort,
     schedule: &Schedule,
@@ -128,9 +101,12 @@ fn check_ahead(
         }
         before = Some(*midnight);
     }
-    check_later(rt, walk.next(), days, text)
+    let past = midnight(days.past)?;
+    check(rt, walk.next().is_none_or(|it| past <= it.datetime()), text);
+    Ok(())
 }
 
+// Goes back over them. What is answered past the first one lies before the stretch.
 fn check_back(
     rt: &impl Abort,
     schedule: &Schedule,
@@ -143,7 +119,13 @@ fn check_back(
     for midnight in midnights.iter().rev() {
         check_midnight(rt, walk.next_back(), *midnight, text)?;
     }
-    check_earlier(rt, walk.next_back(), days, text)
+    let first = midnight(days.first)?;
+    check(
+        rt,
+        walk.next_back().is_none_or(|it| it.datetime() < first),
+        text,
+    );
+    Ok(())
 }
 
 // Compares the walks over a stretch, and answers how many of its days match.
