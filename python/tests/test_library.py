@@ -1,9 +1,9 @@
-"""Which versions of the library are loaded."""
+"""Which versions of the library are loaded, and what is raised by what its calls return."""
 
 import unittest
 from unittest import mock
 
-from cron_c import library
+from cron_c import CronError, ZoneError, library
 
 
 def load(version):
@@ -32,6 +32,32 @@ class Versions(unittest.TestCase):
     def test_a_refusal_names_both_versions(self):
         with self.assertRaisesRegex(ImportError, r"is of version 1\.1\.0, and this package needs 1\.2\.0 or later, before 2\.0\.0$"):
             load(10_100)
+
+
+class Statuses(unittest.TestCase):
+    """What is raised where a call returns a status that no text, file or instant at hand leads to."""
+
+    def returning(self, call, status):
+        fake = mock.Mock(**{f"{call}.return_value": status})
+        return mock.patch.object(library, "_LIBRARY", fake)
+
+    def test_another_status_of_a_text(self):
+        with self.returning("cron_c_parse", 7), self.assertRaisesRegex(CronError, "^status 7$"):
+            library.parse("@daily")
+
+    def test_another_status_of_a_fire(self):
+        for name in ("fire_after", "fire_by"):
+            with self.returning(f"cron_c_history_{name}", 6), self.assertRaisesRegex(CronError, "^status 6$"):
+                getattr(library, name)(library.Sets(), library.history([]), 0)
+
+    def test_a_zone_that_is_refused(self):
+        with self.returning("cron_c_zone_parse", library.BAD_ZONE), self.assertRaises(ZoneError):
+            library.parse_zone(b"UTC")
+
+    def test_statuses_of_a_file(self):
+        for status, error in ((library.NO_MEMORY, MemoryError), (6, CronError)):
+            with self.returning("cron_c_history_read", status), self.assertRaises(error):
+                library.read_history(b"TZif", "Moved")
 
 
 if __name__ == "__main__":

@@ -1,10 +1,13 @@
 """What a schedule answers, and what it refuses."""
 
+import copy
 import doctest
 import io
 import itertools
+import pickle
 import unittest
-from datetime import datetime, timedelta, timezone
+from datetime import datetime, timedelta, timezone, tzinfo
+from unittest import mock
 from zoneinfo import ZoneInfo
 
 import cron_c
@@ -13,6 +16,13 @@ from cron_c.zones import _data_of
 
 CHICAGO = ZoneInfo("America/Chicago")
 UTC = timezone.utc
+
+
+class Nowhere(tzinfo):
+    """A zone that tells no offset: by Python's rules a datetime in it is naive."""
+
+    def utcoffset(self, moment):
+        return None
 
 
 def chicago(*parts, fold=0):
@@ -43,18 +53,40 @@ class Answers(unittest.TestCase):
         self.assertEqual(len(listed), 21)
         self.assertEqual(list(itertools.islice(schedule.fires(start), 21)), listed)
 
+    def test_each_second_is_told(self):
+        start = datetime(2024, 1, 1, 9, tzinfo=UTC)
+        seconds = [start + timedelta(seconds=it) for it in (1, 2, 3)]
+        self.assertEqual(list(itertools.islice(Schedule("* * * * * *").fires(start), 3)), seconds)
+
+    def test_parts_of_a_second(self):
+        schedule = Schedule("* * * * * *")
+        half = datetime(2024, 1, 1, 9, 0, 0, 500_000, tzinfo=UTC)
+        nine, next_second = half.replace(microsecond=0), datetime(2024, 1, 1, 9, 0, 1, tzinfo=UTC)
+        self.assertEqual(schedule.after(half), next_second)
+        self.assertEqual(schedule.before(half), nine)
+        self.assertEqual(schedule.before(nine), datetime(2024, 1, 1, 8, 59, 59, tzinfo=UTC))
+        self.assertEqual(schedule.between(half, half + timedelta(seconds=1)), [next_second])
+        self.assertEqual(schedule.between(nine, half), [])
+        early = datetime(1969, 12, 31, 23, 59, 59, 500_000, tzinfo=UTC)
+        self.assertEqual(schedule.after(early), datetime(1970, 1, 1, tzinfo=UTC))
+
     def test_the_ends(self):
         schedule = Schedule("0 0 0 1 1 * 1970,2100")
         self.assertEqual(schedule.after(datetime(1, 1, 2, tzinfo=UTC)), datetime(1970, 1, 1, tzinfo=UTC))
         self.assertEqual(schedule.before(datetime(9999, 12, 30, tzinfo=UTC)), datetime(2100, 1, 1, tzinfo=UTC))
         self.assertIsNone(schedule.after(datetime(2100, 1, 1, tzinfo=UTC)))
         self.assertIsNone(schedule.before(datetime(1970, 1, 1, tzinfo=UTC)))
+        self.assertEqual(schedule.before(datetime.max.replace(tzinfo=UTC)), datetime(2100, 1, 1, tzinfo=UTC))
+        self.assertIsNone(schedule.after(datetime.max.replace(tzinfo=UTC)))
+        self.assertIsNone(schedule.before(datetime.min.replace(tzinfo=UTC)))
         self.assertEqual(list(schedule.fires(chicago(2100, 1, 2))), [])
 
     def test_offsets(self):
         zone = timezone(timedelta(hours=5, minutes=45, seconds=30))
         answer = Schedule("0 0 9 * * *").after(datetime(2024, 1, 1, 9, tzinfo=zone))
         self.assertEqual(answer.isoformat(), "2024-01-02T09:00:00+05:45:30")
+        first = Schedule("0 0 0 1 1 * 1970").after(datetime(1969, 12, 1, tzinfo=zone))
+        self.assertEqual(first.isoformat(), "1970-01-01T00:00:00+05:45:30")
         west = Schedule("0 0 9 * * *").before(datetime(2024, 1, 1, 9, tzinfo=timezone(-timedelta(hours=3, minutes=30))))
         self.assertEqual(west.isoformat(), "2023-12-31T09:00:00-03:30")
 
@@ -63,6 +95,20 @@ class Answers(unittest.TestCase):
         self.assertEqual(len({Schedule("@daily"), Schedule("0 0 0 * * ?")}), 1)
         self.assertNotEqual(Schedule("@daily"), Schedule("@hourly"))
         self.assertEqual(repr(Schedule("@daily")), "Schedule('@daily')")
+
+    def test_a_schedule_keeps_its_text(self):
+        self.assertEqual(Schedule("@daily").text, "@daily")
+
+    def test_a_schedule_is_pickled_as_its_text(self):
+        schedule = Schedule("0 0 9 * * Mon-Fri")
+        pickled = pickle.dumps(schedule)
+        self.assertNotIn(b"_sets", pickled)
+        for same in (pickle.loads(pickled), copy.copy(schedule), copy.deepcopy(schedule)):
+            self.assertEqual((same, same.text), (schedule, schedule.text))
+
+    def test_what_is_no_schedule_says_itself_whether_it_is_equal(self):
+        self.assertNotEqual(Schedule("@daily"), "@daily")
+        self.assertEqual(Schedule("@daily"), mock.ANY)
 
 
 def load_tests(loader, tests, pattern):
@@ -88,6 +134,8 @@ class Refusals(unittest.TestCase):
             Schedule("@daily").after(datetime(2024, 1, 1))
         with self.assertRaises(InstantError):
             Schedule("@daily").between(datetime(2024, 1, 1, tzinfo=UTC), datetime(2024, 1, 2))
+        with self.assertRaises(InstantError):
+            Schedule("@daily").after(datetime(2024, 1, 1, tzinfo=Nowhere()))
 
     def test_a_zone_without_a_key_is_refused(self):
         header = b"TZif" + bytes(16) + (0).to_bytes(4, "big") * 4 + (1).to_bytes(4, "big") + (4).to_bytes(4, "big")

@@ -1,21 +1,28 @@
-"""Each zone of the machine against `zoneinfo`: the quarters of an hour on its clock around its clock changes."""
+"""Each zone of the machine against `zoneinfo`: the quarters of an hour on its clock around its clock changes. And where
+the file of a zone is found, and how long it is kept."""
 
+import gc
+import importlib
+import io
 import pathlib
 import struct
+import sys
 import tempfile
 import unittest
 import zoneinfo
 from datetime import datetime, timedelta, timezone
+from unittest import mock
 
 from cron_c import Schedule, ZoneError
 from cron_c.library import read_history
-from cron_c.zones import _data_of, eras_of
+from cron_c.zones import _ERAS, _data_of, eras_of
 
 # In 2040 the rule on the last line decides for most files, and in 2099 for each: no table goes so far.
 YEARS = (1970, 1974, 2025, 2037, 2040, 2099)
 DAY, QUARTER = timedelta(days=1), timedelta(minutes=15)
 # No clock is further from UTC.
 FURTHEST = timedelta(hours=26)
+UTC_FILE = _data_of("Etc/UTC")
 
 
 def days_of_changes(zone, year):
@@ -103,6 +110,65 @@ class Zones(unittest.TestCase):
                 self.assertEqual([it.astimezone(timezone.utc) for it in answers], quarters(zone, start, end), (key, start))
                 count += len(answers)
         self.assertGreater(count, 100_000)
+
+
+class Files(unittest.TestCase):
+    def setUp(self):
+        room = tempfile.TemporaryDirectory()
+        self.addCleanup(room.cleanup)
+        self.folder = pathlib.Path(room.name)
+        self.tokyo = _data_of("Asia/Tokyo")
+        self.addCleanup(zoneinfo.reset_tzpath)
+        zoneinfo.reset_tzpath(to=[])
+
+    def offset_at(self, zone):
+        return Schedule("0 0 9 * * *").after(datetime(2024, 1, 1, tzinfo=zone)).utcoffset()
+
+    def place_package(self):
+        """Makes a package `tzdata` with two zones the first that is found."""
+        far = self.folder / "tzdata" / "zoneinfo" / "Far"
+        far.mkdir(parents=True)
+        for package in (far, far.parent, far.parent.parent):
+            (package / "__init__.py").touch()
+        (far / "Moved").write_bytes(self.tokyo)
+        (far.parent / "Moved").write_bytes(self.tokyo)
+        without = {name: module for name, module in sys.modules.items() if name.partition(".")[0] != "tzdata"}
+        for patch in (mock.patch.dict(sys.modules, without, clear=True), mock.patch.object(sys, "path", [str(self.folder), *sys.path])):
+            patch.start()
+            self.addCleanup(patch.stop)
+        importlib.invalidate_caches()
+
+    def test_the_package_tzdata_is_read_where_no_folder_has_the_file(self):
+        self.place_package()
+        for key in ("Moved", "Far/Moved"):
+            self.assertEqual(self.offset_at(zoneinfo.ZoneInfo.no_cache(key)), timedelta(hours=9), key)
+
+    def test_a_file_in_a_folder_goes_before_the_package(self):
+        self.place_package()
+        first, second = self.folder / "first", self.folder / "second"
+        (first / "Moved").mkdir(parents=True)
+        second.mkdir()
+        (second / "Moved").write_bytes(UTC_FILE)
+        zoneinfo.reset_tzpath(to=[str(first), str(second)])
+        self.assertEqual(self.offset_at(zoneinfo.ZoneInfo.no_cache("Moved")), timedelta(0))
+
+    def test_a_zone_without_a_file_is_refused(self):
+        self.place_package()
+        for key in ("Gone", "Far/Gone", "Nowhere/Gone"):
+            zone = zoneinfo.ZoneInfo.from_file(io.BytesIO(self.tokyo), key=key)
+            with self.assertRaisesRegex(ZoneError, f"^no file for the zone {key} can be read$"):
+                eras_of(zone)
+
+    def test_what_was_read_goes_with_its_zone(self):
+        self.place_package()
+        gc.collect()
+        before = len(_ERAS)
+        zone = zoneinfo.ZoneInfo.no_cache("Moved")
+        self.assertIs(eras_of(zone), eras_of(zone))
+        self.assertEqual(len(_ERAS), before + 1)
+        del zone
+        gc.collect()
+        self.assertEqual(len(_ERAS), before)
 
 
 if __name__ == "__main__":

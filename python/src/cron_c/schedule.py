@@ -4,7 +4,7 @@ from __future__ import annotations
 
 from datetime import datetime, tzinfo
 from itertools import takewhile
-from typing import Iterator, List, Optional
+from typing import Iterator, List, Optional, Tuple, Type
 
 from . import library
 from .errors import InstantError
@@ -53,6 +53,10 @@ class Schedule:
 
     def __hash__(self) -> int:
         return hash(bytes(self._sets))
+
+    def __reduce__(self) -> Tuple[Type[Schedule], Tuple[str]]:
+        # as its text, which another version of the library reads too
+        return type(self), (self._text,)
 
     def after(self, moment: datetime) -> Optional[datetime]:
         """When it fires first after a datetime, in its zone; None where it fires no more."""
