@@ -22,7 +22,7 @@ YEARS = (1970, 1974, 2025, 2037, 2040, 2099)
 DAY, QUARTER = timedelta(days=1), timedelta(minutes=15)
 # No clock is further from UTC.
 FURTHEST = timedelta(hours=26)
-UTC_FILE = _data_of("Etc/UTC")
+TOKYO, UTC = (_data_of(key) for key in ("Asia/Tokyo", "Etc/UTC"))
 
 
 def days_of_changes(zone, year):
@@ -84,21 +84,6 @@ class Zones(unittest.TestCase):
             with self.assertRaises(ZoneError, msg=key):
                 read_history(data[: len(data) // 2], key)
 
-    def test_a_zone_that_is_read_anew_has_its_new_file(self):
-        schedule, start = Schedule("0 0 9 * * *"), datetime(2024, 1, 1)
-        with tempfile.TemporaryDirectory() as folder:
-            path = pathlib.Path(folder, "Moved")
-            tokyo, utc = (_data_of(key) for key in ("Asia/Tokyo", "Etc/UTC"))
-            self.addCleanup(zoneinfo.reset_tzpath)
-            zoneinfo.reset_tzpath(to=[folder])
-            path.write_bytes(tokyo)
-            old = zoneinfo.ZoneInfo.no_cache("Moved")
-            self.assertEqual(schedule.after(start.replace(tzinfo=old)).utcoffset(), timedelta(hours=9))
-            path.write_bytes(utc)
-            new = zoneinfo.ZoneInfo.no_cache("Moved")
-            self.assertEqual(schedule.after(start.replace(tzinfo=new)).utcoffset(), timedelta(0))
-            self.assertEqual(schedule.after(start.replace(tzinfo=old)).utcoffset(), timedelta(hours=9))
-
     def test_each_zone_fires_as_its_clock_shows(self):
         schedule = Schedule("0 */15 * * * *")
         count = 0
@@ -117,45 +102,64 @@ class Files(unittest.TestCase):
         room = tempfile.TemporaryDirectory()
         self.addCleanup(room.cleanup)
         self.folder = pathlib.Path(room.name)
-        self.tokyo = _data_of("Asia/Tokyo")
         self.addCleanup(zoneinfo.reset_tzpath)
-        zoneinfo.reset_tzpath(to=[])
+        self.look_in()
 
-    def offset_at(self, zone):
-        return Schedule("0 0 9 * * *").after(datetime(2024, 1, 1, tzinfo=zone)).utcoffset()
+    def look_in(self, *names):
+        """Makes these folders, and has them be those in which `zoneinfo` finds files."""
+        folders = [self.folder / name for name in names]
+        for folder in folders:
+            folder.mkdir()
+        zoneinfo.reset_tzpath(to=[str(folder) for folder in folders])
+        return folders
 
     def place_package(self):
         """Makes a package `tzdata` with two zones the first that is found."""
-        far = self.folder / "tzdata" / "zoneinfo" / "Far"
-        far.mkdir(parents=True)
-        for package in (far, far.parent, far.parent.parent):
+        zones = self.folder / "tzdata" / "zoneinfo"
+        (zones / "Far").mkdir(parents=True)
+        for package in (zones / "Far", zones, zones.parent):
             (package / "__init__.py").touch()
-        (far / "Moved").write_bytes(self.tokyo)
-        (far.parent / "Moved").write_bytes(self.tokyo)
-        without = {name: module for name, module in sys.modules.items() if name.partition(".")[0] != "tzdata"}
-        for patch in (mock.patch.dict(sys.modules, without, clear=True), mock.patch.object(sys, "path", [str(self.folder), *sys.path])):
-            patch.start()
-            self.addCleanup(patch.stop)
+        for path in (zones / "Moved", zones / "Far" / "Moved"):
+            path.write_bytes(TOKYO)
+        modules = {name: module for name, module in sys.modules.items() if name.partition(".")[0] != "tzdata"}
+        self.patch(mock.patch.dict(sys.modules, modules, clear=True))
+        self.patch(mock.patch.object(sys, "path", [str(self.folder), *sys.path]))
         importlib.invalidate_caches()
+
+    def patch(self, patch):
+        patch.start()
+        self.addCleanup(patch.stop)
+
+    def check_hours(self, zone, wanted):
+        """Compares how far the clock is ahead at a fire, in hours."""
+        fire = Schedule("0 0 9 * * *").after(datetime(2024, 1, 1, tzinfo=zone))
+        self.assertEqual(fire.utcoffset(), timedelta(hours=wanted), zone)
+
+    def test_a_zone_that_is_read_anew_has_its_new_file(self):
+        [folder] = self.look_in("first")
+        (folder / "Moved").write_bytes(TOKYO)
+        old = zoneinfo.ZoneInfo.no_cache("Moved")
+        self.check_hours(old, 9)
+        (folder / "Moved").write_bytes(UTC)
+        self.check_hours(zoneinfo.ZoneInfo.no_cache("Moved"), 0)
+        self.check_hours(old, 9)
 
     def test_the_package_tzdata_is_read_where_no_folder_has_the_file(self):
         self.place_package()
         for key in ("Moved", "Far/Moved"):
-            self.assertEqual(self.offset_at(zoneinfo.ZoneInfo.no_cache(key)), timedelta(hours=9), key)
+            self.check_hours(zoneinfo.ZoneInfo.no_cache(key), 9)
 
     def test_a_file_in_a_folder_goes_before_the_package(self):
         self.place_package()
-        first, second = self.folder / "first", self.folder / "second"
-        (first / "Moved").mkdir(parents=True)
-        second.mkdir()
-        (second / "Moved").write_bytes(UTC_FILE)
-        zoneinfo.reset_tzpath(to=[str(first), str(second)])
-        self.assertEqual(self.offset_at(zoneinfo.ZoneInfo.no_cache("Moved")), timedelta(0))
+        first, second = self.look_in("first", "second")
+        (first / "Moved").mkdir()
+        (second / "Moved").write_bytes(UTC)
+        self.check_hours(zoneinfo.ZoneInfo.no_cache("Moved"), 0)
 
     def test_a_zone_without_a_file_is_refused(self):
         self.place_package()
         for key in ("Gone", "Far/Gone", "Nowhere/Gone"):
-            zone = zoneinfo.ZoneInfo.from_file(io.BytesIO(self.tokyo), key=key)
+            zone = zoneinfo.ZoneInfo.from_file(io.BytesIO(TOKYO), key=key)
             with self.assertRaisesRegex(ZoneError, f"^no file for the zone {key} can be read$"):
                 eras_of(zone)
 

@@ -43,7 +43,7 @@ fn check_midnight(
     check_text(rt, &datetime.date(), wanted, row)
 }
 
-// What is answered there, or `None`.
+/// Compares what a call answers with the midnight of a date in UTC, or with `None`.
 pub(crate) fn check_date(
     rt: &(impl Abort + AllocGlobal),
     answer: Option<Moment>,

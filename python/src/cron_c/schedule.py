@@ -55,7 +55,7 @@ class Schedule:
         return hash(bytes(self._sets))
 
     def __reduce__(self) -> Tuple[Type[Schedule], Tuple[str]]:
-        # as its text, which another version of the library reads too
+        # as its text: what the words of the sets mean is the library's affair
         return type(self), (self._text,)
 
     def after(self, moment: datetime) -> Optional[datetime]:
