@@ -53,22 +53,29 @@ def rewrite(file, text):
     file.write(text)
 
 
+def place_function(crate, edit, room):
+    """Writes the copy of the edit's function behind the function."""
+    with open(f"{room}/{edit.function.path}", "r+", encoding="utf-8") as it:
+        lines = it.read().split("\n")
+        lines[edit.function.last + 1 : edit.function.last + 1] = ["", text_of(crate, edit)]
+        rewrite(it, "\n".join(lines))
+
+
+def place_proofs(crate, folder, to, room):
+    """Writes what stands in a folder of proofs to another, under that one's name."""
+    shutil.copytree(f"{crate.folder}/{folder}", f"{room}/{to}")
+    old, new = (it.replace("/", ".") for it in (folder, to))
+    for name in os.listdir(f"{room}/{to}"):
+        with open(f"{room}/{to}/{name}", "r+", encoding="utf-8") as it:
+            rewrite(it, re.sub(rf"\b{re.escape(old)}\.", f"{new}.", it.read()))
+
+
 def place_copies(crate, edits, room):
     """Writes the crate with copies of these edits' functions to a folder."""
-    for part in rt.rtlib.PARTS:
-        if os.path.isdir(f"{crate.folder}/{part}"):
-            shutil.copytree(f"{crate.folder}/{part}", f"{room}/{part}")
+    for part in filter(lambda it: os.path.isdir(f"{crate.folder}/{it}"), rt.rtlib.PARTS):
+        shutil.copytree(f"{crate.folder}/{part}", f"{room}/{part}")
     # from the end of each file, so that the lines above stay where they are
     for edit in sorted(edits, key=lambda it: -it.function.last):
-        with open(f"{room}/{edit.function.path}", "r+", encoding="utf-8") as it:
-            lines = it.read().split("\n")
-            lines[edit.function.last + 1 : edit.function.last + 1] = ["", text_of(crate, edit)]
-            rewrite(it, "\n".join(lines))
-    for edit in edits:
-        for folder in proofs_of(crate, edit.function):
-            to = f"{os.path.dirname(folder)}/{name_of(edit)}"
-            shutil.copytree(f"{crate.folder}/{folder}", f"{room}/{to}")
-            old, new = (it.replace("/", ".") for it in (folder, to))
-            for name in os.listdir(f"{room}/{to}"):
-                with open(f"{room}/{to}/{name}", "r+", encoding="utf-8") as it:
-                    rewrite(it, re.sub(rf"\b{re.escape(old)}\.", f"{new}.", it.read()))
+        place_function(crate, edit, room)
+    for edit, folder in ((it, folder) for it in edits for folder in proofs_of(crate, it.function)):
+        place_proofs(crate, folder, f"{os.path.dirname(folder)}/{name_of(edit)}", room)

@@ -76,7 +76,8 @@ def found(call, schedule, zone, instant):
 
 
 def items_after(library, schedule, zone, instant):
-    """A walk over the items after an instant."""
+    """A walk that begins at an instant and goes along what the clock shows: in a repeated hour it may
+    leave out later items, or answer the instant itself or one before it."""
     item = found(library.cron_c_after, schedule, zone, instant)
     status = OK if item else NO_ITEM
     while status == OK:

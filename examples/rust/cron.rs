@@ -129,7 +129,9 @@ impl Schedule {
         found(status, item)
     }
 
-    /// A walk over the items after an instant. `Err` holds the status where the zone or the instant is refused.
+    /// A walk that begins at an instant and goes along what the clock shows: in a repeated hour it may
+    /// leave out later items, or answer the instant itself or one before it. `Err` holds the status where
+    /// the zone or the instant is refused.
     pub fn after(&self, zone: &Zone, instant: i64) -> Result<Items, u32> {
         let mut item = Item::default();
         // SAFETY: as above.

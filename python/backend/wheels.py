@@ -8,15 +8,17 @@ import hashlib
 import io
 import os
 import pathlib
+import re
 import shlex
 import subprocess
 import tarfile
 import tempfile
 import zipfile
 
-NAME, VERSION = "cron_c", "1.0.0"
+NAME = "cron_c"
 HERE = pathlib.Path(__file__).resolve().parent.parent
 PACKAGE = HERE / "src" / NAME
+VERSION = re.search(r'^__version__ = "(.+)"$', (PACKAGE / "__init__.py").read_text(), re.MULTILINE)[1]
 TAG = "py3-none-linux_x86_64"
 METADATA = f"""Metadata-Version: 2.1
 Name: {NAME}

@@ -1,5 +1,4 @@
-//! The headline, and laws over the definitions. They are called for what their contracts say: by proofs,
-//! and `reread` by what tests the readers.
+//! The headline, and laws over the definitions. They are there for what their contracts say.
 
 ghost use Rattle.std.specs.Prelude.{◌≡◌, IfOk, IfErr};
 ghost use Rattle.jiff.specs.Words.{plain_zone};
@@ -70,9 +69,9 @@ pub fn first_instants(
     ensures next { IsNextIfAny schedule.now.sets (one.offset_of (plain_zone zone.now)) result.0 result.1 }
     ensures walked { AreFirstTwo schedule.now.sets (plain_zone zone.now) start.nanosecond result.0 result.1 }
 {
-    let mut fires = schedule.after(start, zone);
-    let first = fires.next();
-    let second = fires.next();
+    let mut ahead = schedule.after(start, zone);
+    let first = ahead.next();
+    let second = ahead.next();
     (first, second)
 }
 

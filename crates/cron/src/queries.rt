@@ -67,7 +67,8 @@ impl Schedule {
     }
 
     /// Finds the least time of day at or after the given one whose hour, minute and second lie in their
-    /// sets. The questions for a neighbouring member are counted, one for a least member too.
+    /// sets. The hour is 23 at most, minute and second 59. The questions for a neighbouring member are
+    /// counted, one for a least member too.
     pub fn first_time(&self, hour: Ordinal, minute: Ordinal, second: Ordinal) -> TimeFound
         requires hour { hour < 24 }
         requires minute { minute < 60 }
@@ -81,7 +82,8 @@ impl Schedule {
         nearest_time(self.filled_fields(), Way::Ahead, hour, minute, second)
     }
 
-    /// Finds the greatest such time of day at or before the given one.
+    /// Finds the greatest such time of day at or before the given one, whose hour is 23 at most, minute and
+    /// second 59.
     pub fn last_time(&self, hour: Ordinal, minute: Ordinal, second: Ordinal) -> TimeFound
         requires hour { hour < 24 }
         requires minute { minute < 60 }

@@ -1,5 +1,7 @@
 /*
- * Cron expressions from C: what a text means, and the items of its timeline in a zone.
+ * Cron expressions from C: what a text means, and the items of its timeline in a zone: each second of
+ * the years 1970 to 2100 that matches on the clock of the zone, once for each instant at which the
+ * clock shows it, and none that the clock skips.
  *
  * C11 or later, and C++11 or later. Link `libcron_c.a` or `libcron_c.so`, x86-64-v2 code for Linux
  * (ELF). It needs no other library than that of C, keeps nothing between calls, and starts no
@@ -76,7 +78,7 @@ static inline const char *cron_c_status_text(uint32_t status)
     case CRON_C_BAD_ZONE: return "there is no such zone";
     case CRON_C_BAD_INSTANT: return "the instant is out of range";
     case CRON_C_NOT_AN_ITEM: return "the item is none that the call takes";
-    case CRON_C_UNTOLD: return "the text means nothing, and the message has no length";
+    case CRON_C_UNTOLD: return "the text means nothing, and no message can be told";
     case CRON_C_MORE: return "more is left than fits";
     case CRON_C_NO_MEMORY: return "memory is wanting";
     default: return "no status";
@@ -164,9 +166,9 @@ typedef struct cron_c_turn {
  * give 0. Numbers that say no zone are answered by CRON_C_BAD_ZONE.
  *
  * A rule whose turns lie at the very edge of a year, or nearer to each other than the clock goes forth
- * and back, may contradict itself, as `EST5EDT,0/0,J365/25` does in some hours: it tells of an instant
- * another offset than of the time that the clock shows. Items go by what it tells of the time that the
- * clock shows.
+ * and back, or come in another order in another year, may contradict itself, as `EST5EDT,0/0,J365/25`
+ * and `AAA11BBB,169,M6.3.3` do in some hours: it tells of an instant another offset than of the time
+ * that the clock shows. Items go by what it tells of the time that the clock shows.
  *
  *   kind 0    UTC
  *   kind 1    one offset

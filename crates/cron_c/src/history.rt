@@ -8,10 +8,10 @@ ghost use Rattle.cron_c.specs.Zones.{IsSomeZone};
 ghost use Rattle.cron_c.specs.Histories.{IsBeyond, IsEraItem, IsHistory, IsHistoryItem, IsSought};
 
 use crate::era::{CronEra, has_come};
-use crate::item::instant_of;
 use crate::zone::zone_in;
 use cron_instants::instants::{first_after, first_past, last_by};
-use cron_moments::moment::Moment;
+use cron_moments::civil::FURTHEST_OFFSET;
+use cron_moments::moment::{Moment, instant_of};
 use cron_units::fields::ScheduleFields;
 use jiff::Timestamp;
 use jiff::tz::TimeZone;
@@ -111,7 +111,7 @@ fn until_before(era: &CronEra, until: Timestamp) -> Option<Timestamp>
     if era.starts > until.to_plain().floor_second() {
         return Some(until);
     }
-    if era.starts < -100_000 {
+    if era.starts < -FURTHEST_OFFSET {
         return None;
     }
     match Timestamp::from_second(era.starts - 1) {

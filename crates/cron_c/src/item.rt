@@ -1,10 +1,9 @@
 //! An item as plain numbers.
 
 ghost use Rattle.std.specs.Prelude.{◌≡◌, MatchOption};
-ghost use Rattle.cron_moments.specs.Readings.{instant};
 ghost use Rattle.cron_c.specs.Structs.{IsItem, IsItemInRange, IsNoItem};
 
-use cron_moments::moment::Moment;
+use cron_moments::moment::{Moment, instant_of};
 use cron_moments::parts::moment_at;
 use jiff::tz::Offset;
 
@@ -17,13 +16,6 @@ pub struct CronItem {
     pub instant: i64,
     pub offset: i32,
     pub reserved: u32,
-}
-
-/// The instant of a moment, in seconds since 1970-01-01T00:00:00Z.
-pub fn instant_of(moment: &Moment) -> i64
-    ensures { result ≡ instant moment.now }
-{
-    moment.timestamp().as_second()
 }
 
 /// The struct of a moment.

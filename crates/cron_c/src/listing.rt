@@ -96,6 +96,8 @@ fn list_on(
 }
 
 /// Writes the first items of a walk ahead that starts at an instant as far as they fit, and how many they are.
+/// Where it starts in a fold, the first may be at the instant itself, or one before it, and later ones may be
+/// left out.
 #[unsafe(no_mangle)]
 pub extern "C" fn cron_c_list_after(
     schedule: &CronSchedule,
@@ -109,7 +111,8 @@ pub extern "C" fn cron_c_list_after(
     list(Way::Ahead, schedule, zone, instant, items, count).code()
 }
 
-/// Writes the first items of a walk back that starts at an instant.
+/// Writes the first items of a walk back that starts at an instant. Where it starts in a fold, the first may be
+/// at the instant itself, or one after it, and earlier ones may be left out.
 #[unsafe(no_mangle)]
 pub extern "C" fn cron_c_list_before(
     schedule: &CronSchedule,

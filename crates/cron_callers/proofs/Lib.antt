@@ -1,4 +1,4 @@
-pub mod FireTimes
+pub mod ItemLemmas
 pub mod AlarmLemmas
 pub mod RestartLemmas
 pub mod LiteralLemmas

@@ -1,3 +1,3 @@
 pub mod Alarms
-pub mod Fires
+pub mod Items
 pub mod Literals

@@ -4,6 +4,7 @@
 mod check;
 mod fires;
 mod instants;
+mod items;
 mod literals;
 mod restarts;
 #[cfg(test)]
@@ -11,8 +12,9 @@ mod tests;
 mod units;
 
 pub use check::fault_of;
-pub use fires::{count_fires, fires_of_day, first_fires, last_fires, missed_runs, next_fire};
+pub use fires::{missed_runs, next_fire};
 pub use instants::{Alarms, first_alarms};
+pub use items::{count_items, first_items, items_of_day, last_items};
 pub use literals::work_days;
 pub use restarts::{Noted, fire_after, item_after};
 pub use units::{

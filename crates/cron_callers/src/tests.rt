@@ -1,8 +1,8 @@
 //! Each caller once.
 
 use super::{
-    Noted, count_fires, count_hours, descending_hours, fault_of, fire_after, fires_of_day,
-    first_alarms, first_fires, greatest_month, has_thirteenth_month, item_after, last_fires,
+    Noted, count_hours, count_items, descending_hours, fault_of, fire_after, first_alarms,
+    first_items, greatest_month, has_thirteenth_month, item_after, items_of_day, last_items,
     minutes_between, missed_runs, next_fire, some_warm_month, summer_months, work_days, year_count,
 };
 use cron::Schedule;
@@ -62,7 +62,7 @@ fn second_hour_of_a_fold_comes_next(rt: HostRuntime) -> Result<(), Fail> {
 fn fires_follow_a_start(rt: HostRuntime) -> Result<(), Fail> {
     let (zone, start) = (new_york()?, instant("2022-11-05T12:00:00Z")?);
     let schedule = Schedule::from_str(rt.alloc(), "0 30 1 * * *")?;
-    let fires = first_fires(rt.alloc(), &schedule, start, &zone, 3)?;
+    let fires = first_items(rt.alloc(), &schedule, start, &zone, 3)?;
     check_fires(
         &rt,
         fires.as_slice(),
@@ -74,7 +74,7 @@ fn fires_follow_a_start(rt: HostRuntime) -> Result<(), Fail> {
 fn fires_lead_to_a_start(rt: HostRuntime) -> Result<(), Fail> {
     let start = instant("2024-03-01T00:00:00Z")?;
     let schedule = Schedule::from_str(rt.alloc(), "@daily")?;
-    let fires = last_fires(rt.alloc(), &schedule, start, &TimeZone::UTC, 2)?;
+    let fires = last_items(rt.alloc(), &schedule, start, &TimeZone::UTC, 2)?;
     check_fires(
         &rt,
         fires.as_slice(),
@@ -85,7 +85,7 @@ fn fires_lead_to_a_start(rt: HostRuntime) -> Result<(), Fail> {
 #[test]
 fn work_days_follow_a_friday(rt: HostRuntime) -> Result<(), Fail> {
     let start = instant("2024-03-01T09:30:00Z")?;
-    let fires = first_fires(
+    let fires = first_items(
         rt.alloc(),
         &work_days(rt.alloc())?,
         start,
@@ -103,7 +103,7 @@ fn work_days_follow_a_friday(rt: HostRuntime) -> Result<(), Fail> {
 fn two_fires_are_left(rt: HostRuntime) -> Result<(), Fail> {
     let start = instant("2023-06-01T00:00:00Z")?;
     let schedule = Schedule::from_str(rt.alloc(), "0 0 0 1 1 * 2023-2025")?;
-    assert_eq!(rt; count_fires(&schedule, start, &TimeZone::UTC, 10), 2);
+    assert_eq!(rt; count_items(&schedule, start, &TimeZone::UTC, 10), 2);
     Ok(())
 }
 
@@ -112,7 +112,7 @@ fn a_day_with_a_fold_has_an_hour_more(rt: HostRuntime) -> Result<(), Fail> {
     let (zone, eve) = (new_york()?, instant("2022-11-06T03:59:59Z")?);
     let date = Date::new(2022, 11, 6)?;
     let schedule = Schedule::from_str(rt.alloc(), "@hourly")?;
-    let fires = fires_of_day(rt.alloc(), &schedule, eve, date, &zone)?;
+    let fires = items_of_day(rt.alloc(), &schedule, eve, date, &zone)?;
     assert_eq!(rt; fires.len(), 25);
     Ok(())
 }

@@ -97,6 +97,7 @@ pub fn has_thirteenth_month(schedule: &Schedule) -> bool
     ensures { result ≡ false }
 {
     let months = schedule.months();
+    // its contract tells that no member is 13
     let _members = months.iter();
     months.includes(13)
 }

@@ -5,10 +5,11 @@
 mod tests;
 
 ghost use Rattle.std.specs.Prelude.{◌≡◌, false};
+ghost use Rattle.cron_checking.specs.Checks.{is_write_failure};
 ghost use Rattle.cron_writer.specs.Watching.{has_failed};
 
 use cron_checking::arguments::{Request, request_of};
-use cron_checking::check::{Outcome, check};
+use cron_checking::check::{Outcome, check, closing_line};
 use cron_checking::line::Mode;
 use cron_checking::say::say;
 use cron_writer::watchable::Watchable;
@@ -20,9 +21,8 @@ use std::{env, fs};
 
 const USAGE: &str = "usage: cron_check [--sets | --next START ZONE] [FILE]\n";
 
-const OUT_OF_MEMORY: &str = "error: out of memory\n";
-
-const UNREADABLE: &str = "error: the file can't be read\n";
+// The exit status where the words say nothing to be done.
+const BAD_ARGUMENTS: u8 = 2;
 
 // The arguments, with the program's name before them.
 fn arguments_of(rt: &HostRuntime) -> io::Result<Vec<String>> {
@@ -33,10 +33,19 @@ fn arguments_of(rt: &HostRuntime) -> io::Result<Vec<String>> {
 fn say_usage<W: Watchable>(out: &mut Watched<W>) -> u8
     requires { has_failed out.old ≡ false }
 {
+    // no line was asked for, so all were read
     match say(out, USAGE, Outcome::AllRead) {
-        Outcome::WriteFailed => 3,
-        _ => 2,
+        Outcome::AllRead => BAD_ARGUMENTS,
+        failed => failed.code(),
     }
+}
+
+// Writes the line that tells why nothing is checked.
+fn give_up<W: Watchable>(out: &mut Watched<W>, end: Outcome) -> Outcome
+    requires fresh { has_failed out.old ≡ false }
+    requires end { is_write_failure end ≡ false }
+{
+    say(out, closing_line(end), end)
 }
 
 fn check_all<R: Read + Drop, W: Watchable>(
@@ -49,7 +58,7 @@ fn check_all<R: Read + Drop, W: Watchable>(
 {
     match BufReader::new(alloc, reader) {
         Ok(mut reader) => check(alloc, mode, &mut reader, out),
-        Err(_) => say(out, OUT_OF_MEMORY, Outcome::OutOfMemory),
+        Err(_) => give_up(out, Outcome::OutOfMemory),
     }
 }
 
@@ -62,12 +71,12 @@ fn answer<W: Watchable>(rt: &HostRuntime, request: &Request<'_>, out: &mut Watch
     };
     match fs::open(rt, path) {
         Ok(file) => check_all(rt.alloc(), &request.mode, file, out),
-        Err(_) => say(out, UNREADABLE, Outcome::Unreadable),
+        Err(_) => give_up(out, Outcome::Unreadable),
     }
 }
 
-// Answers the words after the program's name, and tells the exit status.
-fn status_of<W: Watchable>(rt: &HostRuntime, words: &[String], out: &mut Watched<W>) -> u8
+// Does what the words after the program's name ask for, and answers the exit status.
+fn run_words<W: Watchable>(rt: &HostRuntime, words: &[String], out: &mut Watched<W>) -> u8
     requires { has_failed out.old ≡ false }
 {
     match request_of(words) {
@@ -80,11 +89,11 @@ fn main(rt: HostRuntime) -> ExitCode {
     let mut out = Watched::new(io::writer(&rt));
     let status = match arguments_of(&rt) {
         Ok(arguments) => match arguments.as_slice().split_first() {
-            Some((_, words)) => status_of(&rt, words, &mut out),
+            Some((_, words)) => run_words(&rt, words, &mut out),
             None => say_usage(&mut out),
         },
         Err(error) if error.kind() == ErrorKind::OutOfMemory => {
-            say(&mut out, OUT_OF_MEMORY, Outcome::OutOfMemory).code()
+            give_up(&mut out, Outcome::OutOfMemory).code()
         }
         Err(_) => say_usage(&mut out),
     };

@@ -117,8 +117,9 @@ fn tell_lines<R: BufRead, W: Watchable>(
     Outcome::Unreadable
 }
 
-// The line that tells why a check ended, where no report tells it.
-fn closing_line(end: Outcome) -> &'static str
+/// The line that tells why a check ended, where no report tells it: of want of memory, and where nothing
+/// could be read. Else it is empty.
+pub fn closing_line(end: Outcome) -> &'static str
     ensures { result.now ≡ closing_line end }
 {
     match end {
@@ -149,7 +150,8 @@ pub(crate) fn finish<W: Watchable>(out: &mut Watched<W>, end: Outcome) -> Outcom
 
 /// Checks the lines that a reader gives, and writes what the mode tells of them. The lines of the report are
 /// handed to the writer many at a time, and the rest of them at the end, before the flush. The memory of
-/// the longest line and of the longest line of the report is kept from line to line.
+/// the longest line and of the longest line of the report is kept from line to line. No call of the writer
+/// may have failed before.
 pub fn check<R: BufRead, W: Watchable>(
     alloc: Global,
     mode: &Mode<'_>,

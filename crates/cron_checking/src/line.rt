@@ -2,7 +2,6 @@
 
 ghost use Rattle.std.specs.Prelude.{◌≡◌, [], IfOk, OnOk};
 ghost use Rattle.std.specs.String.{string_bytes};
-ghost use Rattle.cron_text.specs.Tokens.{is_space};
 ghost use Rattle.cron_checking.specs.Inner.{TellsBytes};
 ghost use Rattle.cron_checking.specs.Lines.{is_passed_over};
 ghost use Rattle.cron_checking.specs.Reports.{TellsSets, TellsText, told};
@@ -11,7 +10,7 @@ ghost use Rattle.cron_checking.specs.Short.{sets_text};
 use crate::short::push_sets;
 use cron_instants::instants::first_after;
 use cron_moments::line::text_of;
-use cron_text::{fault_of, no_ordinals, read_into};
+use cron_text::{fault_of, is_space, no_ordinals, read_into};
 use cron_units::fields::ScheduleFields;
 use jiff::Timestamp;
 use jiff::tz::TimeZone;
@@ -26,12 +25,6 @@ pub enum Mode<'a> {
     Short,
     /// The first fire after an instant in a zone, or `none`.
     Next(Timestamp, TimeZone<'a>),
-}
-
-fn is_space(byte: u8) -> bool
-    ensures { result ≡ is_space byte }
-{
-    byte == b' ' || byte == b'\t' || byte == b'\r' || byte == b'\n'
 }
 
 // White space alone, or a comment.

@@ -2,12 +2,9 @@
 
 ghost use Rattle.cron_checking.specs.Puts.{Puts};
 
-use cron_writer::gathered::Gathered;
+use cron_writer::gathered::{Gathered, ROOM};
 use cron_writer::watchable::Watchable;
 use cron_writer::watched::{Watched, send};
-
-// How long a text is at most that is gathered with others.
-const ROOM: usize = 4096;
 
 /// Puts a text after those before it. One that is longer than what can be gathered is handed on by itself.
 pub(crate) fn put<W: Watchable>(text: &[u8], gathered: &mut Gathered, out: &mut Watched<W>)

@@ -283,28 +283,29 @@ module _ (rule : TimeZone) (d : Dst) (some : rule.dst ≡ Some d) (y : ℤ) (n :
 -- ---- the course of each year
 
 -- the seconds of the year at which the clocks are far from the turns
-pub record AreFar (a b e f : ℤ) (ended begun left come : ℕ) : Type 0 where
+pub record AreFar (a b e f : ℤ) (outer_end inner_first inner_end outer_first : ℕ) : Type 0 where
   pub order : AreInOrder a b e f
-  pub ended_is : pos ended ≡ a -ℤ far
-  pub begun_is : pos begun ≡ b +ℤ far
-  pub left_is : pos left ≡ e -ℤ far
-  pub come_is : pos come ≡ f +ℤ far
+  pub outer_end_is : pos outer_end ≡ a -ℤ far
+  pub inner_first_is : pos inner_first ≡ b +ℤ far
+  pub inner_end_is : pos inner_end ≡ e -ℤ far
+  pub outer_first_is : pos outer_first ≡ f +ℤ far
 
-module _ (rule : TimeZone) (d : Dst) (some : rule.dst ≡ Some d) (a b e f : ℤ) (ended begun left come : ℕ) (seconds : AreFar a b e f ended begun left come) where
-  early_by : (ys first : ℤ) (n : ℕ) → (ys +ℤ a) ≤ℤ first → pos n <ℤ (ys +ℤ pos ended) → (pos n +ℤ far) ≤ℤ first
-  early_by ys first n low h = let is = seconds.ended_is in omega (arith, signed_arith)
+module _ (rule : TimeZone) (d : Dst) (some : rule.dst ≡ Some d) (a b e f : ℤ) (outer_end inner_first inner_end outer_first : ℕ)
+    (seconds : AreFar a b e f outer_end inner_first inner_end outer_first) where
+  early_by : (ys first : ℤ) (n : ℕ) → (ys +ℤ a) ≤ℤ first → pos n <ℤ (ys +ℤ pos outer_end) → (pos n +ℤ far) ≤ℤ first
+  early_by ys first n low h = let is = seconds.outer_end_is in omega (arith, signed_arith)
 
-  late_by : (ys second : ℤ) (n : ℕ) → second ≤ℤ (ys +ℤ f) → (ys +ℤ pos come) ≤ℤ pos n → (second +ℤ far) ≤ℤ pos n
-  late_by ys second n high h = let is = seconds.come_is in omega (arith, signed_arith)
+  late_by : (ys second : ℤ) (n : ℕ) → second ≤ℤ (ys +ℤ f) → (ys +ℤ pos outer_first) ≤ℤ pos n → (second +ℤ far) ≤ℤ pos n
+  late_by ys second n high h = let is = seconds.outer_first_is in omega (arith, signed_arith)
 
-  past_by : (ys first : ℤ) (n : ℕ) → first ≤ℤ (ys +ℤ b) → (ys +ℤ pos begun) ≤ℤ pos n → (first +ℤ far) ≤ℤ pos n
-  past_by ys first n high h = let is = seconds.begun_is in omega (arith, signed_arith)
+  past_by : (ys first : ℤ) (n : ℕ) → first ≤ℤ (ys +ℤ b) → (ys +ℤ pos inner_first) ≤ℤ pos n → (first +ℤ far) ≤ℤ pos n
+  past_by ys first n high h = let is = seconds.inner_first_is in omega (arith, signed_arith)
 
-  short_by : (ys second : ℤ) (n : ℕ) → (ys +ℤ e) ≤ℤ second → pos n <ℤ (ys +ℤ pos left) → (pos n +ℤ far) ≤ℤ second
-  short_by ys second n low h = let is = seconds.left_is in omega (arith, signed_arith)
+  short_by : (ys second : ℤ) (n : ℕ) → (ys +ℤ e) ≤ℤ second → pos n <ℤ (ys +ℤ pos inner_end) → (pos n +ℤ far) ≤ℤ second
+  short_by ys second n low h = let is = seconds.inner_end_is in omega (arith, signed_arith)
 
   pub course_within : AlwaysTurnsWithin a b d.rule.start → AlwaysTurnsWithin e f d.rule.end
-      → IsCourse rule ended begun left come rule.std_offset d.offset
+      → IsCourse rule outer_end inner_first inner_end outer_first rule.std_offset d.offset
   course_within starts ends =
       let two = two_turns a b e f seconds.order d.rule.start d.rule.end starts ends in
       record {
@@ -318,7 +319,7 @@ module _ (rule : TimeZone) (d : Dst) (some : rule.dst ≡ Some d) (a b e f : ℤ
       }
 
   pub course_across : AlwaysTurnsWithin a b d.rule.end → AlwaysTurnsWithin e f d.rule.start
-      → IsCourse rule ended begun left come d.offset rule.std_offset
+      → IsCourse rule outer_end inner_first inner_end outer_first d.offset rule.std_offset
   course_across ends starts =
       let two = two_turns a b e f seconds.order d.rule.end d.rule.start ends starts in
       record {

@@ -40,19 +40,21 @@ pub record AreInOrder (a b e f : ℤ) : Type 0 where
   pub other : e ≤ℤ f
   pub high : (f +ℤ week) ≤ℤ common_year
 
--- in every year the rule tells the one offset before the second a of the year and from f on, and the other from b to e
-pub record IsCourse (rule : TimeZone) (a b e f : ℕ) (outer inner : Offset) : Type 0 where
-  pub before : (y : ℤ) (n : ℕ) → IsYearAt y n → pos n <ℤ (year_start y +ℤ pos a) → TellsOne rule n outer
-  pub between : (y : ℤ) (n : ℕ) → IsYearAt y n → (year_start y +ℤ pos b) ≤ℤ pos n → pos n <ℤ (year_start y +ℤ pos e) → TellsOne rule n inner
-  pub after : (y : ℤ) (n : ℕ) → IsYearAt y n → (year_start y +ℤ pos f) ≤ℤ pos n → TellsOne rule n outer
+-- in every year the rule tells the one offset up to its second outer_end and from outer_first on, and the other between inner_first
+-- and inner_end
+pub record IsCourse (rule : TimeZone) (outer_end inner_first inner_end outer_first : ℕ) (outer inner : Offset) : Type 0 where
+  pub before : (y : ℤ) (n : ℕ) → IsYearAt y n → pos n <ℤ (year_start y +ℤ pos outer_end) → TellsOne rule n outer
+  pub between : (y : ℤ) (n : ℕ) → IsYearAt y n → (year_start y +ℤ pos inner_first) ≤ℤ pos n
+      → pos n <ℤ (year_start y +ℤ pos inner_end) → TellsOne rule n inner
+  pub after : (y : ℤ) (n : ℕ) → IsYearAt y n → (year_start y +ℤ pos outer_first) ≤ℤ pos n → TellsOne rule n outer
 
 -- these seconds of a year come one after the other, a day or more from its beginning
-pub record AreOrdered (a b e f : ℕ) : Type 0 where
-  pub low : 86_400 ≤ a
-  pub one : a ≤ b
-  pub apart : b ≤ e
-  pub other : e ≤ f
-  pub high : f ≤ 31_536_000
+pub record AreOrdered (outer_end inner_first inner_end outer_first : ℕ) : Type 0 where
+  pub low : 86_400 ≤ outer_end
+  pub one : outer_end ≤ inner_first
+  pub apart : inner_first ≤ inner_end
+  pub other : inner_end ≤ outer_first
+  pub high : outer_first ≤ 31_536_000
 
 -- the second n lies among these seconds of the range, of each of which the rule tells this offset alone
 pub record IsSeason (rule : TimeZone) (n first end : ℕ) (o : Offset) : Type 0 where

@@ -14,13 +14,13 @@ use crate::offsets::Placed;
 use crate::rule::{Span, Turns, between_turns, saving_of, turns_around};
 use crate::season::season_at;
 use crate::stretch::{Stretch, season_stretch, told_stretch};
-use cron_moments::civil::SECONDS;
+use cron_moments::civil::{FURTHEST_OFFSET, SECONDS};
 use jiff::Timestamp;
 use jiff::tz::{Offset, TimeZone};
 use jiff_tz::posix;
 
 // Each clock is nearer to UTC, in seconds.
-const FAR: i64 = 93_600;
+const FAR: i64 = FURTHEST_OFFSET + 1;
 
 // Whether a turn lies so far from the edges of its year that it lies in that year in UTC as well.
 fn is_far_inside(year: Span, turn: i64) -> bool
@@ -31,7 +31,7 @@ fn is_far_inside(year: Span, turn: i64) -> bool
     year.first + FAR <= turn && turn <= year.end - FAR
 }
 
-// Whether both do.
+// Whether both turns of a year lie so far from its edges.
 fn are_far_inside(turns: Turns) -> bool
     ensures start { IsTrue result → IsFarInside turns.year.first turns.year.end turns.start }
     ensures end { IsTrue result → IsFarInside turns.year.first turns.year.end turns.end }

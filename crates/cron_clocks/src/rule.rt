@@ -11,12 +11,11 @@ ghost use Rattle.cron_clocks.specs.Spans.{AreTurns, IsAtSecond, IsNarrowed, IsTu
 ghost use Rattle.cron_clocks.specs.Steady.{IsToldBy};
 
 use crate::offsets::{Placed, offsets_among};
+use crate::turns::DAY;
 use cron_moments::civil::{SECONDS, civil_of};
 use jiff::tz::Offset;
 use jiff_core::civil::{Date, days_in_year, is_leap_year};
 use jiff_tz::posix::{Day, DayTime, Dst, TimeZone};
-
-const DAY: i64 = 86_400;
 
 /// Civil seconds from a first one to an end.
 #[derive(Clone, Copy)]
@@ -221,7 +220,7 @@ pub(crate) fn parted(span: Span, second: i64, turn: i64) -> Span
     }
 }
 
-/// The part of it where it is parted at two turns.
+/// The part of a span that holds the civil second, where two turns part the span.
 pub(crate) fn parted_twice(span: Span, second: i64, one: i64, other: i64) -> Span
     requires low { span.first ≤ℤ second }
     requires high { second <ℤ span.end }

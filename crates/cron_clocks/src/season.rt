@@ -12,18 +12,16 @@ ghost use Rattle.cron_clocks.specs.Spans.{IsNarrowed, IsToldAlike};
 ghost use Rattle.cron_clocks.specs.Steady.{IsToldBy};
 
 use crate::rule::{Span, Told, WHOLE, between_turns, turns_around};
-use crate::turns::{Seconds, is_before, is_inside, seconds_of};
-use cron_moments::civil::SECONDS;
+use crate::turns::{SecondsOfYear, is_before, is_inside, seconds_of};
+use cron_moments::civil::{FURTHEST_OFFSET, SECONDS, SECONDS_PER_DAY};
 use jiff::tz::Offset;
 use jiff_tz::posix::{Dst, TimeZone};
 
-const DAY: u32 = 86_400;
-
 // The seconds of the shorter years.
-const YEAR: u32 = 365 * DAY;
+const YEAR: u32 = 365 * SECONDS_PER_DAY;
 
 // Two clocks are nearer to each other, in seconds.
-const FAR: i64 = 187_200;
+const APART: i64 = 2 * (FURTHEST_OFFSET + 1);
 
 /// Seconds of the range from a first one to an end, and the one offset that a rule tells of them.
 #[derive(Clone, Copy)]
@@ -57,30 +55,35 @@ impl Season {
 // from the turns of the year alone.
 #[derive(Clone, Copy)]
 struct Course {
-    ended: u32,
-    begun: u32,
-    left: u32,
-    come: u32,
+    outer_end: u32,
+    inner_first: u32,
+    inner_end: u32,
+    outer_first: u32,
     outer: Offset,
     inner: Offset,
-    ghost order: { AreOrdered ended begun left come },
+    ghost order: { AreOrdered outer_end inner_first inner_end outer_first },
 }
 
 // The course of a year whose two turns lie among these seconds.
-fn course_among(earlier: Seconds, later: Seconds, outer: Offset, inner: Offset) -> Course
+fn course_among(
+    earlier: SecondsOfYear,
+    later: SecondsOfYear,
+    outer: Offset,
+    inner: Offset,
+) -> Course
     requires { AreInOrder earlier.first earlier.last later.first later.last }
-    ensures ended { pos result.ended ≡ earlier.first -ℤ pos 187_200 }
-    ensures begun { pos result.begun ≡ earlier.last +ℤ pos 187_200 }
-    ensures left { pos result.left ≡ later.first -ℤ pos 187_200 }
-    ensures come { pos result.come ≡ later.last +ℤ pos 187_200 }
+    ensures outer_end { pos result.outer_end ≡ earlier.first -ℤ pos 187_200 }
+    ensures inner_first { pos result.inner_first ≡ earlier.last +ℤ pos 187_200 }
+    ensures inner_end { pos result.inner_end ≡ later.first -ℤ pos 187_200 }
+    ensures outer_first { pos result.outer_first ≡ later.last +ℤ pos 187_200 }
     ensures outer { result.outer ≡ outer }
     ensures inner { result.inner ≡ inner }
 {
     Course {
-        ended: (earlier.first - FAR) as u32,
-        begun: (earlier.last + FAR) as u32,
-        left: (later.first - FAR) as u32,
-        come: (later.last + FAR) as u32,
+        outer_end: (earlier.first - APART) as u32,
+        inner_first: (earlier.last + APART) as u32,
+        inner_end: (later.first - APART) as u32,
+        outer_first: (later.last + APART) as u32,
         outer,
         inner,
     }
@@ -89,7 +92,7 @@ fn course_among(earlier: Seconds, later: Seconds, outer: Offset, inner: Offset) 
 // The course of a year by a rule whose turns lie apart.
 fn course_of(rule: TimeZone, dst: Dst) -> Option<Course>
     requires { rule.dst ≡ Some dst }
-    ensures { IfSome result (λ c. IsCourse rule c.ended c.begun c.left c.come c.outer c.inner) }
+    ensures { IfSome result (λ c. IsCourse rule c.outer_end c.inner_first c.inner_end c.outer_first c.outer c.inner) }
 {
     let start = seconds_of(dst.rule.start);
     let end = seconds_of(dst.rule.end);
@@ -109,29 +112,39 @@ fn course_of(rule: TimeZone, dst: Dst) -> Option<Course>
 
 // The second that begins the year of a second. Each fourth year from 1972 on is longer: 2100, which isn't,
 // is the last one.
-fn year_of(second: u32) -> u32
+fn year_start_of(second: u32) -> u32
     requires { second < seconds_in_range }
     ensures { IsYearOf result second }
 {
-    let years = (4 * (second / DAY) + 2) / 1461;
-    (1461 * years + 1) / 4 * DAY
+    let years = (4 * (second / SECONDS_PER_DAY) + 2) / 1461;
+    (1461 * years + 1) / 4 * SECONDS_PER_DAY
 }
 
 // The season of a second, if it lies in one, from the second that begins its year. Those at the edges of
 // the year go on in the years beside it, which are no shorter than the shorter years.
-fn season_among(course: Course, year: u32, second: u32) -> Option<Season>
-    requires { IsYearOf year second }
-    ensures { (rule : TimeZone) → IsCourse rule course.ended course.begun course.left course.come course.outer course.inner
+fn season_among(course: Course, year_start: u32, second: u32) -> Option<Season>
+    requires { IsYearOf year_start second }
+    ensures { (rule : TimeZone) → IsCourse rule course.outer_end course.inner_first course.inner_end course.outer_first course.outer course.inner
         → IfSome result (λ s. IsSeason rule second s.first s.end s.offset) }
 {
-    let (ended, begun) = (year + course.ended, year + course.begun);
-    let (left, come) = (year + course.left, year + course.come);
-    let (first, end, offset) = if second < ended {
-        (come.saturating_sub(YEAR), ended, course.outer)
-    } else if begun <= second && second < left {
-        (begun, left, course.inner)
-    } else if come <= second {
-        (come, (ended + YEAR).min(SECONDS as u32), course.outer)
+    let (outer_end, inner_first) = (
+        year_start + course.outer_end,
+        year_start + course.inner_first,
+    );
+    let (inner_end, outer_first) = (
+        year_start + course.inner_end,
+        year_start + course.outer_first,
+    );
+    let (first, end, offset) = if second < outer_end {
+        (outer_first.saturating_sub(YEAR), outer_end, course.outer)
+    } else if inner_first <= second && second < inner_end {
+        (inner_first, inner_end, course.inner)
+    } else if outer_first <= second {
+        (
+            outer_first,
+            (outer_end + YEAR).min(SECONDS as u32),
+            course.outer,
+        )
     } else {
         return None;
     };
@@ -145,7 +158,7 @@ pub(crate) fn season_at(rule: TimeZone, dst: Dst, second: u32) -> Option<Season>
     ensures { IfSome result (λ s. IsSeason rule second s.first s.end s.offset) }
 {
     let course = course_of(rule, dst)?;
-    season_among(course, year_of(second), second)
+    season_among(course, year_start_of(second), second)
 }
 
 /// What a rule tells of a civil second.

@@ -5,9 +5,11 @@ ghost use Rattle.jiff_core.specs.Calendar.{IsWithin, days_of_months};
 ghost use Rattle.jiff_tz.specs.PosixDay.{is_rule_day};
 ghost use Rattle.cron_clocks.specs.Turns.{IsAlwaysAmong, AlwaysTurnsWithin, IsInside, TurnsAreApart, week};
 
+use cron_moments::civil::SECONDS_PER_DAY;
 use jiff_tz::posix::{Day, DayTime, Dst};
 
-const DAY: i64 = 86_400;
+/// The seconds of a day.
+pub(crate) const DAY: i64 = SECONDS_PER_DAY as i64;
 
 const WEEK: i64 = 7 * DAY;
 
@@ -16,20 +18,20 @@ const YEAR: i64 = 365 * DAY;
 
 // Days of a year, from the first to the last, counted from 0 for 1 January.
 #[derive(Clone, Copy)]
-struct Days {
+struct DaysOfYear {
     first: u16,
     last: u16,
 }
 
 /// Seconds of a year, from the first to the last, counted from its beginning on the wall clock.
 #[derive(Clone, Copy)]
-pub(crate) struct Seconds {
+pub(crate) struct SecondsOfYear {
     pub first: i64,
     pub last: i64,
 }
 
-// Whether the two turns lie a week or more from each other and from the edges of every year.
-pub fn turns_apart(dst: Dst) -> bool
+/// Whether the two turns lie a week or more from each other and from the edges of every year.
+pub(crate) fn turns_apart(dst: Dst) -> bool
     ensures { IsTrue result → TurnsAreApart dst }
 {
     let start = seconds_of(dst.rule.start);
@@ -41,7 +43,7 @@ pub fn turns_apart(dst: Dst) -> bool
 }
 
 /// Whether the seconds lie a week or more from the edges of every year.
-pub(crate) fn is_inside(seconds: Seconds) -> bool
+pub(crate) fn is_inside(seconds: SecondsOfYear) -> bool
     requires { IsWithin 100_000_000 seconds.last }
     ensures { IsTrue result → IsInside seconds.first seconds.last }
 {
@@ -49,7 +51,7 @@ pub(crate) fn is_inside(seconds: Seconds) -> bool
 }
 
 /// Whether the one ends a week or more before the other begins.
-pub(crate) fn is_before(earlier: Seconds, later: Seconds) -> bool
+pub(crate) fn is_before(earlier: SecondsOfYear, later: SecondsOfYear) -> bool
     requires { IsWithin 100_000_000 earlier.last }
     ensures { IsTrue result → (earlier.last +ℤ week) ≤ℤ later.first }
 {
@@ -57,13 +59,13 @@ pub(crate) fn is_before(earlier: Seconds, later: Seconds) -> bool
 }
 
 /// The seconds of a year among which the turn lies in every year.
-pub(crate) fn seconds_of(turn: DayTime) -> Seconds
+pub(crate) fn seconds_of(turn: DayTime) -> SecondsOfYear
     ensures turns { IsInside result.first result.last → AlwaysTurnsWithin result.first result.last turn }
     ensures order { result.first ≤ℤ result.last }
     ensures bound { IsWithin 100_000_000 result.last }
 {
     let days = days_of(turn.date);
-    Seconds {
+    SecondsOfYear {
         first: second_of(days.first, turn.time),
         last: second_of(days.last, turn.time),
     }
@@ -78,18 +80,18 @@ fn second_of(day: u16, time: i32) -> i64
 }
 
 // The days of a year among which the rule's day is in every year.
-fn days_of(day: Day) -> Days
+fn days_of(day: Day) -> DaysOfYear
     requires { IsTrue (is_rule_day day) }
     ensures among { result.last < 365 → IsAlwaysAmong result.first result.last day }
     ensures order { result.first ≤ result.last }
     ensures bound { result.last < 500 }
 {
     match day {
-        Day::JulianOne(number) => Days {
+        Day::JulianOne(number) => DaysOfYear {
             first: number - 1,
             last: number,
         },
-        Day::JulianZero(number) => Days {
+        Day::JulianZero(number) => DaysOfYear {
             first: number,
             last: number,
         },
@@ -113,7 +115,7 @@ fn days_before(month: u8) -> u16
 }
 
 // The days of a week of a month. Week 5 is the last one, which may begin where the fourth does.
-fn days_of_week(month: u8, week: u8) -> Days
+fn days_of_week(month: u8, week: u8) -> DaysOfYear
     requires month_in { (1 ≤ month) × (month ≤ 12) }
     requires week_in { (1 ≤ week) × (week ≤ 5) }
     ensures among { (weekday : ℕ) → IsAlwaysAmong result.first result.last (Day.WeekdayOfMonth month week weekday) }
@@ -122,7 +124,7 @@ fn days_of_week(month: u8, week: u8) -> Days
 {
     let days = days_before(month);
     let weeks = u16::from(week);
-    Days {
+    DaysOfYear {
         first: days + 7 * (weeks.min(4) - 1),
         last: days + (7 * weeks).min(31),
     }

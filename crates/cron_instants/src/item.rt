@@ -1,19 +1,10 @@
 //! Which of two items is nearer among the instants.
 ghost use Rattle.std.specs.Prelude.{◌≡◌};
-ghost use Rattle.cron_moments.specs.Readings.{instant};
 ghost use Rattle.cron_instants.specs.Inner.Beyond.{is_nearer, nearer_of};
 ghost use Rattle.cron_instants.specs.Order as order;
 
-use cron_moments::moment::{Moment, civil_second};
+use cron_moments::moment::{Moment, civil_second, instant_of};
 use cron_units::way::Way;
-
-/// The instant, in seconds: the clock is ahead of UTC by its offset.
-#[inline(always)]
-pub(crate) fn instant_of(item: &Moment) -> i64
-    ensures { result ≡ instant item.now }
-{
-    civil_second(item) as i64 - item.offset().seconds() as i64
-}
 
 // Whether an item is earlier than another: by instant, and where that is shared by civil second.
 #[inline(always)]

@@ -4,8 +4,7 @@ ghost use Rattle.std.specs.Int.{int_div_euclid};
 ghost use Rattle.jiff_core.specs.Calendar.{IsBetween};
 ghost use Rattle.cron_moments.specs.Readings.{instant};
 
-use crate::item::instant_of;
-use cron_moments::moment::{Moment, civil_second};
+use cron_moments::moment::{Moment, civil_second, instant_of};
 use jiff::Timestamp;
 
 /// A place among the instants: an instant in seconds, and a civil second among those that share it.

@@ -4,18 +4,15 @@ ghost use Rattle.jiff.specs.Words.{plain_zone};
 ghost use Rattle.cron_moments.specs.Civil.{seconds_in_range};
 ghost use Rattle.cron_instants.specs.Inner.Beyond.{IsBest, IsBeyond, IsEntered, IsGoneOn, IsMatchAt, IsMatchIn, IsNotPast, IsSought, IsStart, entry_of, left_to_pass};
 
-use crate::item::{instant_of, nearer};
+use crate::item::nearer;
 use crate::mark::Mark;
 use crate::matching::nearest_match;
 use cron_clocks::stretch::Stretch;
-use cron_moments::civil::SECONDS;
-use cron_moments::moment::{Moment, moment_numbered};
+use cron_moments::civil::{FURTHEST_OFFSET, SECONDS};
+use cron_moments::moment::{Moment, instant_of, moment_numbered};
 use cron_units::fields::ScheduleFields;
 use cron_units::way::Way;
 use jiff::tz::{Offset, TimeZone};
-
-// No clock is further from UTC, in seconds.
-const FURTHEST: i64 = 93_599;
 
 // The civil second from which on an item can lie beyond the mark, if there is one.
 fn entrance(way: Way, mark: Mark) -> Option<u32>
@@ -23,14 +20,14 @@ fn entrance(way: Way, mark: Mark) -> Option<u32>
 {
     match way {
         Way::Ahead => {
-            let from = mark.instant - FURTHEST;
+            let from = mark.instant - FURTHEST_OFFSET;
             if from >= SECONDS {
                 return None;
             }
             Some(from.max(0) as u32)
         }
         Way::Back => {
-            let from = mark.instant + FURTHEST;
+            let from = mark.instant + FURTHEST_OFFSET;
             if from < 0 {
                 return None;
             }
@@ -157,7 +154,7 @@ fn next_past(
         Way::Ahead => edge as i64 - instant_of(&item),
         Way::Back => instant_of(&item) - edge as i64,
     };
-    if gap >= FURTHEST {
+    if gap >= FURTHEST_OFFSET {
         return None;
     }
     nearest_match(fields, way, edge as i64)

@@ -58,7 +58,7 @@ fn with_next(zone: &TimeZone<'_>, stretch: &Stretch, offset: Offset) -> Stretch
 }
 
 // The stretch together with the one before it, if that is read at the same offset.
-fn with_last(zone: &TimeZone<'_>, stretch: &Stretch, offset: Offset) -> Stretch
+fn with_previous(zone: &TimeZone<'_>, stretch: &Stretch, offset: Offset) -> Stretch
     requires one { (stretch.now.earlier ≡ Some offset) × (stretch.now.later ≡ None) }
     requires known { IsKnown (plain_zone zone.now) stretch.now }
     requires range { stretch.now.first < seconds_in_range }
@@ -94,5 +94,5 @@ pub(crate) fn widened(zone: &TimeZone<'_>, stretch: &Stretch, second: u32) -> St
     let Some(offset) = one_offset(stretch) else {
         return *stretch;
     };
-    with_last(zone, &with_next(zone, stretch, offset), offset)
+    with_previous(zone, &with_next(zone, stretch, offset), offset)
 }

@@ -7,6 +7,7 @@ ghost use Rattle.cron_writer.specs.Calls.{AreWrites};
 ghost use Rattle.cron_writer.specs.Watching.{has_failed, kept_in, writer_of, IsGathered};
 
 use cron::schedule::Moment;
+use cron_moments::civil::SECONDS_PER_DAY;
 use cron_moments::line::line_of;
 use cron_moments::moment::{civil_second, moment_numbered};
 use cron_writer::gathered::{Gathered, WIDTH};
@@ -81,12 +82,12 @@ impl KeptLine {
         ensures { self.new ≡ moment.now }
     {
         let (was, now) = (civil_second(&self.moment), civil_second(moment));
-        if now / 86_400 != was / 86_400 || moment.offset() != self.moment.offset() {
+        if now / SECONDS_PER_DAY != was / SECONDS_PER_DAY || moment.offset() != self.moment.offset() {
             *self = KeptLine::of(moment);
             return;
         }
         if now / 60 != was / 60 {
-            put_two(&mut self.bytes, HOUR, now % 86_400 / 3600);
+            put_two(&mut self.bytes, HOUR, now % SECONDS_PER_DAY / 3600);
             put_two(&mut self.bytes, MINUTE, now % 3600 / 60);
         }
         put_two(&mut self.bytes, SECOND, now % 60);

@@ -5,4 +5,3 @@ pub mod MarchLemmas
 pub mod ReadingLemmas
 pub mod FoundLemmas
 pub mod PartLemmas
-mod MomentTextLemmas

@@ -16,13 +16,13 @@ const FIRST_MONTH: u32 = 23_640;
 /// The number of March 1969, where the first year that reaches into the range begins.
 const FIRST_MARCH: u32 = 23_630;
 
-/// The days from its first day to 1970-01-01.
+/// The days from 1969-03-01 to 1970-01-01.
 const DAYS_FROM_FIRST_MARCH: u32 = 306;
 
 /// The number of March 2100, before which a leap day is lacking.
 const MARCH_2100: u32 = 25_202;
 
-/// The number of its first day.
+/// The days from 1970-01-01 to 2100-03-01.
 const DAYS_TO_MARCH_2100: u32 = 47_541;
 
 // The days of so many years from March 1969 on. The third of them ends in a leap day, and each fourth

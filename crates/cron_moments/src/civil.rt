@@ -10,6 +10,12 @@ use jiff_core::civil::{Date, Time};
 /// The civil seconds of the range, 1970-01-01 00:00:00 to 2100-12-31 23:59:59.
 pub const SECONDS: i64 = 4_133_980_800;
 
+/// The seconds of a day.
+pub const SECONDS_PER_DAY: u32 = 86_400;
+
+/// How far a clock is from UTC at most, in seconds: 25:59:59.
+pub const FURTHEST_OFFSET: i64 = 93_599;
+
 /// The days from the first date of `jiff` to 1970-01-01.
 const DAYS_FROM_FIRST_DATE: u32 = 4_371_587;
 
@@ -33,7 +39,7 @@ pub fn civil_of(second: u32) -> DateTime
     ensures { result ≡ civil second }
 {
     DateTime::from_plain(jiff_core::civil::DateTime {
-        date: date_of(second / 86_400),
-        time: Time::from_second(second % 86_400, 0),
+        date: date_of(second / SECONDS_PER_DAY),
+        time: Time::from_second(second % SECONDS_PER_DAY, 0),
     })
 }

@@ -8,6 +8,7 @@ use crate::moment::Moment;
 use arrayvec::ArrayVec;
 use jiff::civil::{Date, Time};
 use jiff::tz::Offset;
+use std::fmt;
 
 /// The longest line: `2022-11-06 01:00:00 -05:50:36` and a line feed.
 const LONGEST: usize = 30;
@@ -81,6 +82,23 @@ pub fn text_of(moment: &Moment) -> Line
     line.push(b' ');
     push_offset(&mut line, moment.offset());
     line
+}
+
+impl fmt::Display for Moment {
+    ghost use Rattle.std.specs.Prelude.{Some};
+    ghost use Rattle.cron_moments.specs.MomentText.{moment_text};
+
+    ghost output = { λ m. Some (moment_text m) };
+
+    ghost styled_output = { λ m _. Some (moment_text m) };
+
+    fn fmt<W: fmt::Write>(&self, f: &mut fmt::Formatter<W>) -> fmt::Result {
+        match str::from_utf8(text_of(self).as_slice()) {
+            Ok(text) => f.write_str(text),
+            // never, since digits and signs are UTF-8
+            Err(_) => Err(fmt::Error),
+        }
+    }
 }
 
 /// The text of a moment and a line feed.

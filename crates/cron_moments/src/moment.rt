@@ -1,5 +1,6 @@
 //! An item of a timeline.
-ghost use Rattle.std.specs.Prelude.{◌≡◌, ◌*ℤ◌, pos};
+ghost use Rattle.std.specs.Prelude.{◌≡◌, ◌*ℤ◌, pos, neg_ℤ};
+ghost use Rattle.jiff_core.specs.Calendar.{IsBetween};
 ghost use Rattle.cron_moments.specs.Civil.{civil};
 ghost use Rattle.cron_moments.specs.Readings.{instant, reading};
 
@@ -7,7 +8,6 @@ use crate::civil::civil_of;
 use jiff::Timestamp;
 use jiff::civil::DateTime;
 use jiff::tz::Offset;
-use std::fmt;
 use std::marker::Model;
 
 /// A civil second as a clock at an offset shows it.
@@ -39,8 +39,7 @@ impl Moment {
     pub fn timestamp(&self) -> Timestamp
         ensures { result.nanosecond ≡ instant self.now *ℤ pos 1_000_000_000 }
     {
-        let second = self.second as i64 - self.offset.seconds() as i64;
-        Timestamp::from_second(second).unwrap()
+        Timestamp::from_second(instant_of(self)).unwrap()
     }
 
     /// How far the clock is ahead of UTC.
@@ -59,46 +58,18 @@ pub fn moment_numbered(second: u32, offset: Offset) -> Moment
     Moment { second, offset }
 }
 
+/// The instant of a moment, in seconds since 1970-01-01T00:00:00Z.
+#[inline(always)]
+pub fn instant_of(moment: &Moment) -> i64
+    ensures value { result ≡ instant moment.now }
+    ensures bound { IsBetween (neg_ℤ (pos 93_599)) (pos 4_295_060_894) result }
+{
+    moment.second as i64 - moment.offset.seconds() as i64
+}
+
 /// The number of a moment's civil second.
 pub fn civil_second(moment: &Moment) -> u32
     ensures { result ≡ moment.now.second }
 {
     moment.second
-}
-
-impl fmt::Display for Moment {
-    ghost use Rattle.std.specs.Prelude.{Some};
-    ghost use Rattle.cron_moments.specs.MomentText.{moment_text};
-
-    ghost output = { λ m. Some (moment_text m) };
-
-    fn fmt<W: fmt::Write>(&self, f: &mut fmt::Formatter<W>) -> fmt::Result {
-        let shown = civil_of(civil_second(self));
-        let (date, time) = (shown.date(), shown.time());
-        let offset = OffsetText(self.offset);
-        write!(f, "{date} {time} {offset}")
-    }
-}
-
-// An offset, as a moment prints it.
-#[derive(Clone, Copy)]
-struct OffsetText(Offset);
-
-impl fmt::Display for OffsetText {
-    ghost use Rattle.std.specs.Prelude.{Some};
-    ghost use Rattle.cron_moments.specs.MomentText.{offset_text};
-
-    ghost output = { λ o. Some (offset_text o.0.seconds) };
-
-    fn fmt<W: fmt::Write>(&self, f: &mut fmt::Formatter<W>) -> fmt::Result {
-        let offset = self.0.seconds();
-        let sign = if offset < 0 { "-" } else { "+" };
-        let size = offset.unsigned_abs();
-        let (hours, minutes, seconds) = (size / 3600, size / 60 % 60, size % 60);
-        if seconds == 0 {
-            write!(f, "{sign}{hours:02}:{minutes:02}")
-        } else {
-            write!(f, "{sign}{hours:02}:{minutes:02}:{seconds:02}")
-        }
-    }
 }

@@ -5,8 +5,8 @@ use cron::time_unit::DaysOfMonth;
 use cron::{Schedule, TimeUnitSpec};
 use std::alloc::{AllocError, Global};
 
-/// Lengthens a run by the number, if it follows it.
-fn is_joined(run: Option<&mut (u32, u32)>, ordinal: u32) -> bool {
+/// Lengthens a run by the number, if it follows it, and tells whether it does.
+fn lengthen(run: Option<&mut (u32, u32)>, ordinal: u32) -> bool {
     match run {
         Some((_, last)) if last.checked_add(1) == Some(ordinal) => {
             *last = ordinal;
@@ -20,7 +20,7 @@ fn is_joined(run: Option<&mut (u32, u32)>, ordinal: u32) -> bool {
 fn runs<T: TimeUnitSpec>(alloc: Global, unit: &T) -> Result<Vec<(u32, u32)>, AllocError> {
     let mut runs = Vec::new(alloc);
     for ordinal in unit.iter() {
-        if !is_joined(runs.last_mut(), ordinal) {
+        if !lengthen(runs.last_mut(), ordinal) {
             runs.push((ordinal, ordinal))?;
         }
     }

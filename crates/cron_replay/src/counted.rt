@@ -11,6 +11,12 @@ use cron::schedule::Moment;
 use cron_fires::Fires;
 use jiff::{SignedDuration, Timestamp};
 
+/// What a sum is multiplied by before a fire is added to it.
+const FACTOR: i64 = 1_000_003;
+
+/// Sums are less, or greater than its negative. It is prime, as the factor is.
+const MODULUS: i64 = 2_147_483_647;
+
 /// The number of some fires, and the sum that tells which they are and in what order.
 #[derive(Clone, Copy)]
 struct Tally {
@@ -20,10 +26,10 @@ struct Tally {
 
 impl Tally {
     fn add(self, fire: Moment) -> Tally {
-        let moved = self.sum.wrapping_mul(1_000_003);
+        let moved = self.sum.wrapping_mul(FACTOR);
         Tally {
             count: self.count.saturating_add(1),
-            sum: moved.wrapping_add(fire.timestamp().as_second()) % 2_147_483_647,
+            sum: moved.wrapping_add(fire.timestamp().as_second()) % MODULUS,
         }
     }
 }

@@ -35,12 +35,14 @@ pub(crate) fn compare_reader(
     report.compare(row, "what is kept", wanted, kept(&read))
 }
 
-/// Compares what the other readers make of a text with what the first one makes of it.
+/// Compares what the other readers make of a text with what `from_str` makes of it.
 pub(crate) fn compare_readers(report: &mut Report<'_>, row: Row<'_>, text: &str) -> Result<()> {
     let read = Reader::FromStr.read(report.alloc(), text);
     let answer = outcome(report.alloc(), &read)?;
     for reader in READERS {
-        compare_reader(report, row, reader, text, answer.as_str())?;
+        if !matches!(reader, Reader::FromStr) {
+            compare_reader(report, row, reader, text, answer.as_str())?;
+        }
     }
     Ok(())
 }

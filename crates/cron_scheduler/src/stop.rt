@@ -17,10 +17,13 @@ impl<C: fmt::Display, J: fmt::Display> fmt::Display for Stop<C, J> {
 
     ghost output = { λ stop. stop_text C.output J.output stop };
 
+    ghost styled_output = { λ stop spec.
+        stop_text (λ e. C.styled_output e spec) (λ e. J.styled_output e spec) stop };
+
     fn fmt<W: fmt::Write>(&self, f: &mut fmt::Formatter<W>) -> fmt::Result {
         match self {
-            Stop::Clock(error) => write!(f, "{error}"),
-            Stop::Job(error) => write!(f, "{error}"),
+            Stop::Clock(error) => error.fmt(f),
+            Stop::Job(error) => error.fmt(f),
         }
     }
 }

@@ -2,6 +2,7 @@
 
 mod clocks;
 mod machine;
+mod stops;
 mod told;
 
 use crate::{Plan, Start, Stop};

@@ -12,3 +12,4 @@ mod tokens;
 
 pub use faults::{Fault, fault_error};
 pub use texts::{fault_of, no_ordinals, read_into};
+pub use tokens::is_space;

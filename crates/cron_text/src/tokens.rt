@@ -7,7 +7,7 @@ ghost use Rattle.cron_text.specs.Inner.Places.{IsPlace, tokens_from};
 
 /// White space is space, tab, carriage return and line feed. Most bytes that are asked for are greater.
 #[inline(always)]
-fn is_space(byte: u8) -> bool
+pub fn is_space(byte: u8) -> bool
     ensures { result ≡ is_space byte }
 {
     if byte > b' ' {

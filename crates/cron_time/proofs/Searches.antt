@@ -18,7 +18,7 @@ pub mod MonthDayLemmas
 pub mod LeapLemmas
 pub mod EachDateLemmas
 pub mod OnwardLemmas
-pub mod SilenceLemmas
+pub mod GapLemmas
 pub mod DaysPastLemmas
 pub mod TimeOfDayLemmas
 pub mod NearestTimeLemmas

@@ -1,6 +1,7 @@
 -- Names as numbers: the letters by their numbers in the alphabet, whatever their case, as digits to the base 32.
 use Rattle.std.specs.Prelude.{◌≡◌, ◌+◌, ◌*◌, ◌/◌, ◌%◌, ◌^◌, ◌≤◌, ◌<◌, ℕ, Bool, ◌&&◌, ◌||◌, nat_le, List, [], ◌∷◌}
 
+-- a letter of ASCII, small or capital
 abbrev pub is_letter : ℕ → Bool
 is_letter c = (nat_le 65 c && nat_le c 90) || (nat_le 97 c && nat_le c 122)
 

@@ -35,10 +35,12 @@ impl fmt::Display for Error {
 
     ghost output = { λ e. Some (error_text e) };
 
+    ghost styled_output = { λ e _. Some (error_text e) };
+
     fn fmt<W: fmt::Write>(&self, f: &mut fmt::Formatter<W>) -> fmt::Result {
         match &self.kind {
-            ErrorKind::Expression(text) => write!(f, "{text}"),
-            ErrorKind::OutOfMemory => write!(f, "out of memory"),
+            ErrorKind::Expression(text) => f.write_str(text.as_str()),
+            ErrorKind::OutOfMemory => f.write_str("out of memory"),
         }
     }
 }

@@ -173,8 +173,8 @@ pub fn add_item<'a, T: TimeUnitField>(set: &mut T, item: Item<'a>) -> Result<(),
     Ok(())
 }
 
-/// Adds the ordinal of a name of letters to a set, by the key of the name. A unit with a word for the last
-/// day of the month has no such names.
+/// Adds the ordinal of a name of letters to a set, by the key of the name. `false`, with the set as it was,
+/// where the key is that of no name, and in a unit with a word for the last day of the month.
 #[inline(always)]
 pub fn add_name<T: TimeUnitField>(set: &mut T, key: Key) -> bool
     ensures { IsTrue result → (word : List ℕ) → list_all is_letter word ≡ true → IsKey word key → AddsItem T.unit (items.name word) (with_mark (T.members set.old) (T.marked set.old)) (with_mark (T.members set.new) (T.marked set.new)) }
@@ -190,7 +190,8 @@ pub fn add_name<T: TimeUnitField>(set: &mut T, key: Key) -> bool
     true
 }
 
-/// Adds the ordinals from one name of letters to another to a set, by the keys of the names.
+/// Adds the ordinals from one name of letters to another to a set, by the keys of the names. `false`, with
+/// the set as it was, where a key is that of no name, or the first ordinal is greater than the last.
 #[inline(always)]
 pub fn add_names<T: TimeUnitField>(set: &mut T, from: Key, to: Key) -> bool
     ensures { IsTrue result → (v w : List ℕ) → list_all is_letter v ≡ true → list_all is_letter w ≡ true → IsKey v from → IsKey w to → AddsItem T.unit (items.plain (items.name_range v w)) (with_mark (T.members set.old) (T.marked set.old)) (with_mark (T.members set.new) (T.marked set.new)) }

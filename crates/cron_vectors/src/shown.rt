@@ -1,8 +1,11 @@
-//! Texts of errors, and of a schedule whose source is long.
+//! Texts of errors, and of a schedule whose source is long; and texts under the options of a hole.
 
-use crate::support::{check, check_text};
+use crate::support::{check, check_same, check_text};
 use cron::Schedule;
 use cron::error::{Error, ErrorKind};
+use cron::schedule::Moment;
+use jiff::Timestamp;
+use jiff::tz::TimeZone;
 use std::alloc::{AllocError, Global};
 use std::process::Abort;
 use std::test::Fail;
@@ -59,4 +62,29 @@ fn check_long(rt: &(impl Abort + AllocGlobal), text: &str) -> Result<(), Fail> {
 fn a_source_of_a_hundred_thousand_bytes(rt: HostRuntime) -> Result<(), Fail> {
     let text = long(rt.alloc())?;
     check_long(&rt, text.as_str())
+}
+
+// What a schedule, its error and its moment show in holes with a width, an alignment and a precision.
+fn shown_in_holes(
+    alloc: Global,
+    schedule: &Schedule,
+    moment: Moment,
+) -> Result<String, AllocError> {
+    let error = Error::from(ErrorKind::OutOfMemory);
+    format!(in alloc; "{schedule:>9}|{schedule:.2}|{error:^20}|{moment:<30}|")
+}
+
+#[test]
+fn options_of_a_hole_change_no_text(rt: HostRuntime) -> Result<(), Fail> {
+    let schedule = Schedule::from_str(rt.alloc(), "@daily")?;
+    let start = "2022-11-06T05:00:00Z".parse::<Timestamp>()?;
+    let moment = schedule.after(start, &TimeZone::UTC).next();
+    let told = shown_in_holes(rt.alloc(), &schedule, moment.ok_or("no moment")?)?;
+    check_same(
+        &rt,
+        told.as_str(),
+        "@daily|@daily|out of memory|2022-11-07 00:00:00 +00:00|",
+        "options",
+    );
+    Ok(())
 }

@@ -5,9 +5,9 @@ ghost use Rattle.std.specs.Prelude.{◌≡◌, ◌≤◌, ◌+◌, ◌++◌, [],
 use std::marker::Model;
 
 /// How many bytes are gathered at most. So many reach a pipe in one piece, also where others write to it.
-const ROOM: usize = 4096;
+pub const ROOM: usize = 4096;
 
-/// How many bytes are copied of a short text, whatever its length: a copy of a known length is a few
+/// How many bytes a short text has at most. So many are copied of each: a copy of a known length is a few
 /// instructions.
 pub const WIDTH: usize = 32;
 

@@ -5,7 +5,7 @@ ghost use Rattle.cron_writer.specs.Calls.{AreWrites, Gathers, HandsOn};
 ghost use Rattle.cron_writer.specs.Watching.{has_failed, kept_in, writer_of, IsGathered, IsSent};
 
 use crate::block::Block;
-pub use crate::block::WIDTH;
+pub use crate::block::{ROOM, WIDTH};
 use crate::watchable::Watchable;
 use crate::watched::{Watched, send};
 
@@ -43,7 +43,8 @@ impl Gathered {
         }
     }
 
-    /// Gathers a line after the others. Where it has no room, those are handed on first.
+    /// Gathers a line of at most [`ROOM`] bytes after the others. Where it has no room, those are handed on
+    /// first.
     pub fn push_line<W: Watchable>(&mut self, line: &[u8], out: &mut Watched<W>)
         requires { length line.now ≤ 4096 }
         ensures gathered { (origin : Option (List ℕ)) (before : List ℕ)

@@ -75,11 +75,16 @@ def _load() -> ctypes.CDLL:
 _LIBRARY = _load()
 
 
+def _message_room(length: int) -> int:
+    """The bytes of the longest message about a text of so many bytes, as `CRON_C_MESSAGE` has it."""
+    return 2 * length + 100
+
+
 def parse(text: str) -> Sets:
     """The sets that a text means."""
     told = text.encode("utf-8", "surrogatepass")
     sets, needed = Sets(), ctypes.c_size_t()
-    message = ctypes.create_string_buffer(2 * len(told) + 100)
+    message = ctypes.create_string_buffer(_message_room(len(told)))
     status = _LIBRARY.cron_c_parse(told, len(told), sets, message, len(message), needed)
     if status == REFUSED:
         raise TextError(message.raw[: needed.value].decode())

@@ -3,7 +3,7 @@
 from __future__ import annotations
 
 import importlib.resources
-import os
+import pathlib
 import weakref
 import zoneinfo
 from datetime import datetime, timedelta, timezone, tzinfo
@@ -13,7 +13,7 @@ from .library import Era, Fire, History, Zone, history, parse_zone, read_history
 
 EPOCH = datetime(1970, 1, 1, tzinfo=timezone.utc)
 SECOND = timedelta(seconds=1)
-ALWAYS = 1 << 62
+BEFORE_ALL = -(1 << 63)
 
 
 def _fixed(offset: timedelta) -> Zone:
@@ -27,17 +27,19 @@ def _fixed(offset: timedelta) -> Zone:
     return parse_zone(f"AAA{sign}{hour}:{minute:02}:{second:02}".encode())
 
 
+def _data_in_package(key: str) -> bytes:
+    """The bytes of the zone's file in the package `tzdata`."""
+    package, _, name = key.rpartition("/")
+    folder = importlib.resources.files(".".join(["tzdata.zoneinfo", *package.split("/")]).rstrip("."))
+    return folder.joinpath(name).read_bytes()
+
+
 def _data_of(key: str) -> bytes:
     """The bytes of the zone's file, found as `zoneinfo` finds it."""
+    paths = (pathlib.Path(folder, key) for folder in zoneinfo.TZPATH)
+    path = next(filter(pathlib.Path.is_file, paths), None)
     try:
-        for folder in zoneinfo.TZPATH:
-            path = os.path.join(folder, key)
-            if os.path.isfile(path):
-                with open(path, "rb") as file:
-                    return file.read()
-        package, _, name = key.rpartition("/")
-        folder = importlib.resources.files(".".join(["tzdata.zoneinfo", *package.split("/")]).rstrip("."))
-        return folder.joinpath(name).read_bytes()
+        return path.read_bytes() if path else _data_in_package(key)
     except (ImportError, OSError) as error:
         raise ZoneError(f"no file for the zone {key} can be read") from error
 
@@ -49,7 +51,7 @@ _ERAS: weakref.WeakKeyDictionary[zoneinfo.ZoneInfo, History] = weakref.WeakKeyDi
 def eras_of(zone: tzinfo) -> History:
     """The eras of a zone, in order and without a gap."""
     if isinstance(zone, timezone):
-        return history([Era(-ALWAYS, _fixed(zone.utcoffset(None)))])
+        return history([Era(BEFORE_ALL, _fixed(zone.utcoffset(None)))])
     if not isinstance(zone, zoneinfo.ZoneInfo):
         raise ZoneError(f"{zone!r} is neither a ZoneInfo nor a fixed offset")
     if zone.key is None:

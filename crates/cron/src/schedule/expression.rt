@@ -151,9 +151,10 @@ impl Schedule {
 impl fmt::Display for Schedule {
     ghost output = { λ s. Some s.source };
 
+    ghost styled_output = { λ s _. Some s.source };
+
     fn fmt<W: fmt::Write>(&self, f: &mut fmt::Formatter<W>) -> fmt::Result {
-        let source = self.source.as_str();
-        write!(f, "{source}")
+        f.write_str(self.source.as_str())
     }
 }
 

@@ -23,9 +23,9 @@ impl Schedule {
     /// the start, or answer the start itself or an instant before it; and back so the other way round.
     /// In Chicago on 2022-11-06 `0 30 1 * * *` from 06:30Z leaves out 07:30Z, and `59 59 1 * * *` from
     /// 06:59:59Z answers 06:59:59Z. A loop that asks anew from each instant loses fires by this: a
-    /// scheduler asks by instants (`cron_fires`). One walk, or one that [`Schedule::resume`] makes from
-    /// its last item, leaves nothing out, but in a fold its instants step back: 06:00Z, 07:00Z, 06:30Z,
-    /// 07:30Z.
+    /// scheduler asks by instants (`cron_fires`). One walk that was begun outside a fold, or one that
+    /// [`Schedule::resume`] makes from its last item, leaves nothing out, but in a fold its instants step
+    /// back: 06:00Z, 07:00Z, 06:30Z, 07:30Z.
     ///
     /// ```text
     /// let mut walk = schedule.after(now, &zone);

@@ -157,11 +157,11 @@ fn a_schedule_that_ends_ends_the_run(rt: HostRuntime) -> Result<(), Fail> {
 
 // Fails when it is run for the second time.
 #[derive(Drop)]
-struct FailsTwice {
+struct FailsAtSecond {
     runs: u8,
 }
 
-impl Job for FailsTwice {
+impl Job for FailsAtSecond {
     type Error = Moment;
 
     fn run(&mut self, fire: Moment) -> Result<(), Moment> {
@@ -184,7 +184,7 @@ fn a_job_that_fails_ends_the_run(rt: HostRuntime) -> Result<(), Fail> {
         most: None,
     };
     let mut clock = Told::new(rt.alloc(), &[NEXT_DAY]);
-    let mut job = FailsTwice { runs: 0 };
+    let mut job = FailsAtSecond { runs: 0 };
     let Err(Stop::Job(fire)) = plan.run(&mut clock, &mut job) else {
         return Err(Fail::from("the job failed"));
     };

@@ -8,4 +8,4 @@ pub mod Inquired
 pub mod Filled
 pub mod MonthDays
 pub mod LeapDays
-pub mod Silence
+pub mod Gaps

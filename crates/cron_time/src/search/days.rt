@@ -14,6 +14,7 @@ use crate::search::neighbours::{
 };
 use crate::search::ways::entry;
 use cron_moments::calendar::{KnownMonth, SHORTEST, length_of};
+use cron_moments::civil::SECONDS_PER_DAY;
 use cron_units::way::Way;
 use jiff_core::civil::days_in_month;
 
@@ -32,7 +33,7 @@ pub(crate) fn day_with(known: KnownMonth, second: u32) -> Day
     ensures rank { day_rank result ≡ rank_of_date (date_numbered (second / 86_400)).0 }
     ensures range { IsInRange result }
 {
-    let (month, day) = known.month_and_day(second / 86_400);
+    let (month, day) = known.month_and_day(second / SECONDS_PER_DAY);
     Day { month, day }
 }
 

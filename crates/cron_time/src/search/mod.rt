@@ -17,12 +17,12 @@ ghost use Rattle.cron_time.specs.Search.{IsFound};
 
 pub(crate) mod days;
 pub mod found;
-mod heard;
 pub(crate) mod inquiry;
 mod leap_days;
 pub mod month_days;
 mod neighbours;
 pub mod onward;
+mod readable;
 mod reading;
 pub mod survey;
 pub mod times;
@@ -33,13 +33,11 @@ use crate::search::found::Search;
 use crate::search::inquiry::Inquiry;
 use crate::search::neighbours::{Neighbours, TimesOfDay, time_past};
 use crate::search::ways::entry;
-use cron_moments::civil::SECONDS;
+use cron_moments::civil::{SECONDS, SECONDS_PER_DAY};
 use cron_moments::readings::Found;
 use cron_units::fields::ScheduleFields;
 use cron_units::way::Way;
 use jiff::tz::TimeZone;
-
-pub(crate) const SECONDS_PER_DAY: u32 = 86_400;
 
 /// A day whose date matches: its times of day are gone through from the first one on, until one has a
 /// reading. The first one is the nearest from `from` on.

@@ -13,14 +13,15 @@ ghost use Rattle.cron_time.specs.Matches.{matches_date};
 ghost use Rattle.cron_time.specs.Search.{IsFound};
 
 use crate::search::days::some_month_has_a_day;
-use crate::search::heard::search_heard;
 use crate::search::inquiry::Inquiry;
 use crate::search::month_days::MonthDays;
 use crate::search::neighbours::{Neighbours, TimesOfDay, time_past};
+use crate::search::readable::search_readable;
+use crate::search::start_of;
 use crate::search::ways::{entry, extreme, past};
-use crate::search::{SECONDS_PER_DAY, start_of};
 use cron_clocks::stretch::Stretch;
 use cron_moments::calendar::KnownMonth;
+use cron_moments::civil::SECONDS_PER_DAY;
 use cron_moments::readings::Found;
 use cron_units::fields::ScheduleFields;
 use cron_units::way::Way;
@@ -49,7 +50,7 @@ fn search_times_past(
     let from = past(way, time)?;
     let mut inquiry = Inquiry::new(fields, zone);
     let first = time_past(&mut inquiry, way, time);
-    search_heard(fields, zone, way, day, from, first, stretch)
+    search_readable(fields, zone, way, day, from, first, stretch)
 }
 
 // The times of a day whose date matches from one on.
@@ -76,7 +77,7 @@ fn search_day_times(
 {
     let mut inquiry = Inquiry::new(fields, zone);
     let first = TimesOfDay::nearest(&mut inquiry, way, from);
-    search_heard(fields, zone, way, day, from, first, stretch)
+    search_readable(fields, zone, way, day, from, first, stretch)
 }
 
 // The days past one whose date matches, out of the way of the items of the own day. It begins with the days

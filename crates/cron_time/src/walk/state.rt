@@ -56,9 +56,9 @@ impl State {
         }
     }
 
-    /// A search led here: to the first of the readings found, in this direction, or to the end.
+    /// Goes where a search led: to the first of the readings found, in this direction, or to the end.
     #[inline(always)]
-    pub(crate) fn stop(&mut self, way: Way, found: Option<Found>)
+    pub(crate) fn arrive(&mut self, way: Way, found: Option<Found>)
         ensures stand { stand_of self.new ≡ stop_of way found }
         ensures days { self.new.days ≡ self.old.days }
         ensures stretch { self.new.stretch ≡ self.old.stretch }

@@ -34,9 +34,9 @@ fn from_bound(fields: &ScheduleFields, zone: &TimeZone<'_>, way: Way, state: &mu
     ) {
         Some(from) => {
             let found = search_onward(fields, zone, way, from, &mut state.days, &mut state.stretch);
-            state.stop(way, found)
+            state.arrive(way, found)
         }
-        None => state.stop(way, None),
+        None => state.arrive(way, None),
     }
 }
 
@@ -50,7 +50,7 @@ fn from_start(fields: &ScheduleFields, zone: &TimeZone<'_>, way: Way, state: &mu
 {
     let mut inquiry = Inquiry::new(fields, zone);
     if !some_month_has_a_day(&mut inquiry) {
-        state.stop(way, None);
+        state.arrive(way, None);
         return;
     }
     from_bound(fields, zone, way, state)
@@ -80,7 +80,7 @@ fn past_item(fields: &ScheduleFields, zone: &TimeZone<'_>, way: Way, state: &mut
         &mut state.days,
         &mut state.stretch,
     );
-    state.stop(way, found)
+    state.arrive(way, found)
 }
 
 // Takes a walk from where it stands to where a call in this direction leads. `BACK` says the way once

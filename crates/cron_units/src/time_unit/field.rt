@@ -28,7 +28,8 @@ pub trait TimeUnitField: Copy {
         ensures unit { definition_view result ≡ unit }
         ensures keys { AreKeyed result.names };
 
-    /// The set has ordinals of the unit alone, in ascending order.
+    /// Does nothing when it runs. A proof learns from it that the set has ordinals of the unit alone, in
+    /// ascending order.
     fn known(&self)
         ensures { IsSet unit (members self.now) };
 

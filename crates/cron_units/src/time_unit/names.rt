@@ -25,7 +25,9 @@ pub struct Names {
     /// The names' keys with their ordinals, each in the slot that its key gives. Where no name's key gives
     /// a slot, the first name stands there once more.
     pub slots: &'static [(Key, Ordinal)],
-    /// The slot of a key is the first five bits of its product with this number.
+    /// The slot of a key is the first five bits of its product with this number: an odd one by which no two
+    /// keys of the unit share a slot, found by trying. `definition` holds the table to it (`AreKeyed`), so
+    /// where a name is added and it no longer does, nothing is proved.
     pub spread: u64,
 }
 

@@ -27,7 +27,7 @@ pub returns-then-not-has_come : goal.returns-then-not-has_come
 returns-then-not-has_come c =
     let room : c.loop-at.at < length c.args.eras.now = omega (arith, c.loop-at-test.true) in
     let fits : FitsSigned w64 c.instant_of.result = search rules in
-    let asked = rw (to_z-of_z fits, c.instant_of.ensures) at c.has_come-in-loop-at.ensures in
+    let asked = rw (to_z-of_z fits, c.instant_of.ensures.value) at c.has_come-in-loop-at.ensures in
     first_here c.args.fields.now c.args.eras.now c.args.begin.now c.loop-at.at _ c.in-Some.moment c.requires
     (slice_get-get_or c.args.eras.now c.loop-at.at _ room) c.loop-at.invariant.1 (rw c.in-Some.is at c.first_of_era.ensures)
     (sym asked ∙ c.if-not-has_come.true)
@@ -36,7 +36,7 @@ pub loop-at-preserved : goal.loop-at-preserved
 loop-at-preserved c =
     let room : c.loop-at.at < length c.args.eras.now = omega (arith, c.loop-at-test.true) in
     let fits : FitsSigned w64 c.instant_of.result = search rules in
-    let asked = rw (to_z-of_z fits, c.instant_of.ensures) at c.has_come-in-loop-at.ensures in (
+    let asked = rw (to_z-of_z fits, c.instant_of.ensures.value) at c.has_come-in-loop-at.ensures in (
       c.loop-at.invariant.0,
       late_here c.args.fields.now c.args.eras.now c.args.begin.now c.loop-at.at _ c.in-Some.moment
           (slice_get-get_or c.args.eras.now c.loop-at.at _ room) c.loop-at.invariant.1 (rw c.in-Some.is at c.first_of_era.ensures)

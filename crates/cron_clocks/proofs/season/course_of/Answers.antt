@@ -21,10 +21,10 @@ returns-then-is_before c =
         other = c.seconds_of-end.ensures.order;
         high = end.1;
       };
-      ended_is = made.ended;
-      begun_is = made.begun;
-      left_is = made.left;
-      come_is = made.come;
+      outer_end_is = made.outer_end;
+      inner_first_is = made.inner_first;
+      inner_end_is = made.inner_end;
+      outer_first_is = made.outer_first;
     })
     (c.seconds_of-start.ensures.turns start) (c.seconds_of-end.ensures.turns end))
 
@@ -43,9 +43,9 @@ returns-then-is_before-2 c =
         other = c.seconds_of-start.ensures.order;
         high = start.1;
       };
-      ended_is = made.ended;
-      begun_is = made.begun;
-      left_is = made.left;
-      come_is = made.come;
+      outer_end_is = made.outer_end;
+      inner_first_is = made.inner_first;
+      inner_end_is = made.inner_end;
+      outer_first_is = made.outer_first;
     })
     (c.seconds_of-end.ensures.turns end) (c.seconds_of-start.ensures.turns start))

@@ -11,7 +11,7 @@ returns-in-Some-clause-leads c =
     let fits : FitsSigned w64 c.in-Some.from = search rules in
     let found = rw (to_z-of_z fits) at c.search_onward-found.ensures.found in
     let at = sym c.bound.ensures.bound ∙ c.in-Some.is in
-    rw c.stop.ensures.stand (start_stop c.args.way s z _ c.in-Some.from _ (rw c.from_plain.ensures at at)
+    rw c.arrive.ensures.stand (start_stop c.args.way s z _ c.in-Some.from _ (rw c.from_plain.ensures at at)
     (reached c.args.way s z c.in-Some.from c.search_onward-found.result found))
 
 pub returns-in-None-clause-leads : goal.returns-in-None-clause-leads
@@ -19,7 +19,7 @@ returns-in-None-clause-leads c =
     let s = c.args.fields.now in
     let z = plain_zone c.args.zone.now in
     let at = sym c.bound.ensures.bound ∙ c.in-None.is in
-    rw c.stop-in-None.ensures.stand (start_ends c.args.way s z _ (rw c.from_plain.ensures at at))
+    rw c.arrive-in-None.ensures.stand (start_ends c.args.way s z _ (rw c.from_plain.ensures at at))
 
 pub from_plain-requires : goal.from_plain-requires
 from_plain-requires c = search rules
@@ -33,11 +33,11 @@ search_onward-found-requires-clause-days c = search rules
 pub search_onward-found-requires-clause-known : goal.search_onward-found-requires-clause-known
 search_onward-found-requires-clause-known c = search rules
 
-pub stop-requires : goal.stop-requires
-stop-requires c = search rules
+pub arrive-requires : goal.arrive-requires
+arrive-requires c = search rules
 
-pub stop-requires-in-None : goal.stop-requires-in-None
-stop-requires-in-None c = search rules
+pub arrive-requires-in-None : goal.arrive-requires-in-None
+arrive-requires-in-None c = search rules
 
 pub returns-in-Some-clause-known : goal.returns-in-Some-clause-known
 returns-in-Some-clause-known c = search rules

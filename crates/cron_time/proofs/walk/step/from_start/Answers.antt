@@ -9,4 +9,4 @@ returns-then-not-some_month_has_a_day-clause-leads c =
     let s = c.args.fields.now in
     let z = plain_zone c.args.zone.now in
     let none = rw (ap (λ q. q.sets) c.new-inquiry.ensures) at (c.if-not-some_month_has_a_day.ensures.none refl) in
-    rw c.stop.ensures.stand (start_nowhere c.args.way s z _ (nowhere s z none))
+    rw c.arrive.ensures.stand (start_nowhere c.args.way s z _ (nowhere s z none))

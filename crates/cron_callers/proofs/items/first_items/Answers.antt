@@ -1,0 +1,12 @@
+use Rattle.std.proofs.Common.{◌∙◌, ap}
+use Rattle.std.proofs.lemmas.Iterator.{YieldsList-from_take, items_from_collect}
+use Rattle.cron.specs.Words.{Ahead, rest_ahead}
+use Rattle.cron.proofs.Callers.{YieldsList-from_walk}
+use Rattle.cron_callers.proofs.ItemLemmas.{items_ahead-walk}
+use Rattle.cron_callers.proofs.items.first_items.Goals as goal
+
+pub returns : goal.returns
+returns c =
+    let start = items_ahead-walk c.after.result _ _ _ c.after.ensures.sets c.after.ensures.zone c.after.ensures.cursor in
+    items_from_collect c.collect.result c.collect.ensures.ran
+    (YieldsList-from_take c.args.count (YieldsList-from_walk Ahead _ (ap rest_ahead c.take.ensures.source ∙ start)) c.take.ensures.count)
