@@ -13,7 +13,9 @@ use jiff::tz::{Offset, TimeZone};
 /// The first two instants after now at which an alarm goes off.
 #[derive(Clone, Copy, Debug, PartialEq, Eq)]
 pub struct Alarms {
+    /// The least instant after now, if there is one.
     pub first: Option<Timestamp>,
+    /// The least one after the first, if there is one.
     pub second: Option<Timestamp>,
 }
 

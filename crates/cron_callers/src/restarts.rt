@@ -15,7 +15,9 @@ use jiff::tz::{Offset, TimeZone};
 /// What a service notes of a fire or an item.
 #[derive(Clone, Copy, Debug, PartialEq, Eq)]
 pub struct Noted {
+    /// What the clock showed.
     pub shown: DateTime,
+    /// How far it was ahead of UTC.
     pub offset: Offset,
 }
 

@@ -10,6 +10,7 @@ use cron_moments::zone::zone_of;
 /// What the words ask for.
 #[derive(Drop)]
 pub struct Request<'a> {
+    /// What is told of each line besides its fault.
     pub mode: Mode<'a>,
     /// The path of the file; without one, standard input is meant.
     pub file: Option<&'a str>,

@@ -23,9 +23,13 @@ use jiff_tz::posix;
 /// gap; one; or two in a fold, that before the turn and that after it.
 #[derive(Clone, Copy)]
 pub struct Stretch {
+    /// The first civil second.
     pub first: u32,
+    /// The one behind the last.
     pub end: u32,
+    /// The offset of the only reading, or of the earlier one; none in a gap.
     pub earlier: Option<Offset>,
+    /// The offset of the later reading, in a fold.
     pub later: Option<Offset>,
 }
 

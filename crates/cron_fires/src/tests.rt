@@ -1,3 +1,6 @@
+//! First and last fires, runs and missed fires: in folds, over turns of zones from files, at new years and
+//! at the ends of the range.
+
 mod turns;
 mod zone_files;
 

@@ -73,7 +73,7 @@ fn list<W: Watchable>(alloc: Global, request: &Request<'_>, out: &mut Watched<W>
     Status::from(outcome)
 }
 
-/// Writes the usage line, and flushes.
+/// Writes the usage line, and flushes. No call of the writer may have failed before.
 pub fn usage<W: Watchable>(out: &mut Watched<W>) -> Status
     requires { has_failed out.old ≡ false }
     ensures answered { IsUsage (W.contents (writer_of out.old)) (W.contents (writer_of out.new)) result }
@@ -87,7 +87,7 @@ pub fn usage<W: Watchable>(out: &mut Watched<W>) -> Status
 }
 
 /// Answers the arguments after the program's name: the list that they ask for, or the line that says why
-/// there is none.
+/// there is none. No call of the writer may have failed before.
 pub fn answer<W: Watchable>(alloc: Global, arguments: &[String], out: &mut Watched<W>) -> Status
     requires { has_failed out.old ≡ false }
     ensures answered { IsAnswered (map string_bytes arguments.now) (W.contents (writer_of out.old)) (W.contents (writer_of out.new)) result }

@@ -82,7 +82,9 @@ impl KeptLine {
         ensures { self.new ≡ moment.now }
     {
         let (was, now) = (civil_second(&self.moment), civil_second(moment));
-        if now / SECONDS_PER_DAY != was / SECONDS_PER_DAY || moment.offset() != self.moment.offset() {
+        if now / SECONDS_PER_DAY != was / SECONDS_PER_DAY
+            || moment.offset() != self.moment.offset()
+        {
             *self = KeptLine::of(moment);
             return;
         }

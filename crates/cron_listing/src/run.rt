@@ -141,7 +141,8 @@ pub(crate) fn finish<W: Watchable>(out: &mut Watched<W>, done: Outcome) -> Outco
     done
 }
 
-/// Writes the one line that says why nothing is listed, and flushes.
+/// Writes the one line that says why nothing is listed, and flushes. No call of the writer may have failed
+/// before.
 pub fn refuse<W: Watchable>(out: &mut Watched<W>, line: &str) -> Outcome
     requires { has_failed out.old ≡ false }
     ensures ends { Ends Refused line.now (W.contents (writer_of out.old)) (W.contents (writer_of out.new)) result }
@@ -161,7 +162,7 @@ pub fn refuse<W: Watchable>(out: &mut Watched<W>, line: &str) -> Outcome
 /// Whole lines are handed to the writer together, up to 4,096 bytes a call, and the last of them
 /// before the flush. So who reads sees a short list at once, and a long one in blocks. The line of a
 /// refused expression comes in three pieces. Once a call fails the writer is not called again: it holds
-/// what it took before.
+/// what it took before. None may have failed before this call.
 pub fn run<W: Watchable>(
     alloc: Global,
     expression: &str,

@@ -12,7 +12,9 @@ use jiff::tz::{AmbiguousOffset, Offset, TimeZone};
 /// are two.
 #[derive(Clone, Copy, Debug, PartialEq, Eq)]
 pub struct Found {
+    /// The only reading, or the earlier one.
     pub first: Moment,
+    /// The later one, in a fold.
     pub second: Option<Moment>,
 }
 
