@@ -10,9 +10,8 @@ use Rattle.cron_instants.specs.Order.{is_earlier}
 use Rattle.cron_instants.proofs.AscentLemmas.{earlier-through}
 use Rattle.cron_instants.proofs.FireLemmas.{int_le-true, int_le-false, not_later}
 use Rattle.cron_c.specs.Calls.{IsInstant}
-use Rattle.cron_c.specs.Histories.{FillsOf, IsBeyond, IsFilled, IsHistory, IsHistoryItem, IsSought, Leads, RunsInBetween, RunsInPast}
+use Rattle.cron_c.specs.Histories.{FillsOf, IsBeyond, IsFilled, IsHistory, IsHistoryItem, IsSought, Leads, RunsInBetween, RunsInPast, due_by}
 use Rattle.cron_c.specs.Listings.{IsFront}
-use Rattle.cron_c.specs.Runs.{due_by}
 use Rattle.cron_c.specs.Structs.{IsItem, IsItemInRange}
 use Rattle.cron_c.specs.declared.era.CronEra.{CronEra}
 use Rattle.cron_c.specs.declared.history.Begin.{Begin}

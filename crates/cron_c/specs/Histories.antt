@@ -1,8 +1,9 @@
 -- Zones with a history: eras one after another.
-use Rattle.std.specs.Prelude.{◌≡◌, ◌+◌, ℕ, ℤ, pos, ◌*ℤ◌, ◌<ℤ◌, ◌≤ℤ◌, int_le, Bool, true, false, List, [], ◌∷◌, Option, Some, None, slice_get, length}
+use Rattle.std.specs.Prelude.{◌≡◌, ◌+◌, ℕ, ℤ, pos, ◌*ℤ◌, ◌<ℤ◌, ◌≤ℤ◌, int_le, Bool, true, false, if◌then◌else◌, List, [], ◌∷◌, Option, Some, None, slice_get, length}
 use Rattle.jiff_tz.specs.declared.timezone.TimeZone.{TimeZone}
 use Rattle.cron_units.specs.Sets.{Sets}
 use Rattle.cron_moments.specs.Readings.{Reading, instant}
+use Rattle.cron_instants.specs.Fires.{is_by}
 use Rattle.cron_instants.specs.Instants.{IsAfter, IsBy, IsEarliest, IsLatest, IsItem as IsOnTimeline}
 use Rattle.cron_instants.specs.Order.{is_earlier}
 use Rattle.cron_c.specs.Zones.{IsSomeZone, IsZoneIn}
@@ -115,3 +116,8 @@ IsBeyond (Past item) r = is_earlier item r ≡ true
 -- the item of the history lies there
 abbrev pub IsSought : Sets → List CronEra → Begin → Reading → Type 0
 IsSought s eras begin r = IsHistoryItem s eras r × IsBeyond begin r
+
+-- what was found, where its instant is t or comes before it
+abbrev pub due_by : ℤ → Option Reading → Option Reading
+due_by t None = None
+due_by t (Some r) = if is_by t r then Some r else None

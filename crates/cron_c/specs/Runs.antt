@@ -1,11 +1,11 @@
 -- Many items at once, in the order of instants.
-use Rattle.std.specs.Prelude.{◌≡◌, ℕ, ℤ, pos, ◌*ℤ◌, if◌then◌else◌, List, [], ◌∷◌, ◌++◌, Option, Some, None, MatchOption, filter, length}
+use Rattle.std.specs.Prelude.{◌≡◌, ℕ, ℤ, pos, ◌*ℤ◌, List, ◌∷◌, ◌++◌, length}
 use Rattle.jiff_tz.specs.declared.timezone.TimeZone.{TimeZone}
 use Rattle.cron_units.specs.Sets.{Sets}
 use Rattle.cron_moments.specs.Readings.{Reading}
 use Rattle.cron_c.specs.Zones.{IsNoZone, IsSomeZone, IsZoneIn}
 use Rattle.cron_c.specs.declared.zone.CronZone.{CronZone}
-use Rattle.cron_instants.specs.Fires.{fires_between, fires_past, is_by}
+use Rattle.cron_instants.specs.Fires.{fires_between, fires_past_by}
 use Rattle.cron_c.specs.Calls.{IsInstant}
 use Rattle.cron_c.specs.Listings.{IsFront}
 use Rattle.cron_c.specs.Structs.{IsItemInRange, IsNoItem, IsSomeItem}
@@ -33,10 +33,6 @@ Fills all old new count Done = IsWhole all old new count
 Fills all old new count More = IsPage all old new count
 Fills all old new count _ = ⊥
 
--- the items that are later than one and whose instant is t, which is in nanoseconds since 1970, or comes before it
-abbrev pub fires_past_by : Sets → TimeZone → Reading → ℤ → List Reading
-fires_past_by s z item t = filter (is_by t) (fires_past s z item)
-
 -- The items after one instant and up to and with another are written as far as they fit; or nothing is looked for.
 abbrev pub RunsBetween : Sets → CronZone → ℤ → ℤ → List CronItem → List CronItem → ℕ → Status → Type 0
 RunsBetween s zone last now old new count BadZone = IsNoZone zone × (new ≡ old) × (count ≡ 0)
@@ -55,13 +51,3 @@ RunsPast s zone item now old new count BadInstant =
 RunsPast s zone item now old new count status =
     (z : TimeZone) × (r : Reading) × IsZoneIn zone z × IsItemInRange r item × IsInstant now
     × Fills (fires_past_by s z r (now *ℤ pos 1_000_000_000)) old new count status
-
--- ---- the loop
-
-abbrev pub due_by : ℤ → Option Reading → Option Reading
-due_by t None = None
-due_by t (Some r) = if is_by t r then Some r else None
-
--- the items begin with this one, and go on with those past it up to and with an instant; or there are none
-abbrev pub BeginsBy : Sets → TimeZone → ℤ → List Reading → Option Reading → Type 0
-BeginsBy s z t all first = MatchOption first (all ≡ []) (λ r. all ≡ r ∷ fires_past_by s z r t)

@@ -3,15 +3,15 @@
 ghost use Rattle.std.specs.Prelude.{◌≡◌};
 ghost use Rattle.cron_instants.specs.Instants.{IsBy};
 ghost use Rattle.cron_c.specs.Calls.{Answers};
-ghost use Rattle.cron_c.specs.Histories.{FillsOf, FiresIn, FiresInAt, IsBeyond, IsFirstInAfter, IsHistory, IsHistoryItem, IsLastInBy, RunsInBetween, RunsInPast};
+ghost use Rattle.cron_c.specs.Histories.{FillsOf, FiresIn, FiresInAt, IsBeyond, IsFirstInAfter, IsHistory, IsHistoryItem, IsLastInBy, RunsInBetween, RunsInPast, due_by};
 ghost use Rattle.cron_c.specs.Structs.{sets_of};
 
 use crate::era::{CronEra, is_history};
 use crate::history::{Begin, first_of_history, last_of_history};
 use crate::item::{CronItem, item_of, moment_of};
-use crate::runs::due;
 use crate::schedule::{CronSchedule, fields_of};
 use crate::status::Status;
+use cron_moments::moment::Moment;
 use cron_units::fields::ScheduleFields;
 use jiff::Timestamp;
 
@@ -65,6 +65,20 @@ fn fire_at(schedule: &CronSchedule, eras: &[CronEra], second: i64, item: &mut Cr
     }
     *item = last;
     Status::Done
+}
+
+// What was found, where its instant isn't past `now`.
+fn due(found: Option<Moment>, now: Timestamp) -> Option<Moment>
+    ensures { result ≡ due_by now.nanosecond found }
+{
+    let Some(moment) = found else {
+        return None;
+    };
+    if moment.timestamp().as_nanosecond() <= now.as_nanosecond() {
+        Some(moment)
+    } else {
+        None
+    }
 }
 
 // Writes the items from where a search begins on, up to and with `now`, as far as they fit.

@@ -1,58 +1,30 @@
 //! Many items at once, in the order of instants.
 
-ghost use Rattle.std.specs.Prelude.{◌≡◌, List};
-ghost use Rattle.jiff.specs.Words.{plain_zone};
-ghost use Rattle.cron_moments.specs.Readings.{Reading};
 ghost use Rattle.cron_c.specs.Calls.{Answers};
-ghost use Rattle.cron_c.specs.Runs.{BeginsBy, Fills, RunsBetween, RunsPast, due_by};
+ghost use Rattle.cron_c.specs.Runs.{Fills, RunsBetween, RunsPast};
 ghost use Rattle.cron_c.specs.Structs.{sets_of};
 
 use crate::item::{CronItem, item_of, moment_of};
 use crate::schedule::{CronSchedule, fields_of};
 use crate::status::Status;
 use crate::zone::{CronZone, zone_in};
-use cron_instants::instants::{first_after, first_past};
-use cron_moments::moment::Moment;
-use cron_units::fields::ScheduleFields;
+use cron_instants::run::Run;
 use jiff::Timestamp;
-use jiff::tz::TimeZone;
 
-/// What was found, where its instant isn't past `now`.
-pub fn due(found: Option<Moment>, now: Timestamp) -> Option<Moment>
-    ensures { result ≡ due_by now.nanosecond found }
+// Writes the items that a run has left, as far as they fit. One more is asked for when the array is full:
+// only that one tells whether these were all.
+fn fill(mut run: Run<'_>, items: &mut [CronItem], count: &mut usize) -> Status
+    ensures { Fills run.entry items.old items.new count.new result }
 {
-    let Some(moment) = found else {
-        return None;
-    };
-    if moment.timestamp().as_nanosecond() <= now.as_nanosecond() {
-        Some(moment)
-    } else {
-        None
-    }
-}
-
-// Writes the items from the first one on, up to and with `now`, as far as they fit.
-fn fill(
-    fields: &ScheduleFields,
-    zone: &TimeZone<'_>,
-    first: Option<Moment>,
-    now: Timestamp,
-    items: &mut [CronItem],
-    count: &mut usize,
-) -> Status
-    ensures { (all : List Reading) → BeginsBy fields.now (plain_zone zone.now) now.nanosecond all first → Fills all items.old items.new count.new result }
-{
-    let mut next = first;
     for at in 0..items.len() {
-        let Some(moment) = next else {
+        let Some(moment) = run.next() else {
             *count = at;
             return Status::Done;
         };
         items[at] = item_of(&moment);
-        next = due(first_past(fields, zone, &moment), now);
     }
     *count = items.len();
-    match next {
+    match run.next() {
         Some(_) => Status::More,
         None => Status::Done,
     }
@@ -78,9 +50,8 @@ fn run_between(
     let Ok(now) = Timestamp::from_second(now) else {
         return Status::BadInstant;
     };
-    let fields = fields_of(schedule);
-    let first = due(first_after(&fields, &zone, last), now);
-    fill(&fields, &zone, first, now, items, count)
+    let run = Run::between(fields_of(schedule), last, now, &zone);
+    fill(run, items, count)
 }
 
 fn run_past(
@@ -103,9 +74,8 @@ fn run_past(
     let Ok(now) = Timestamp::from_second(now) else {
         return Status::BadInstant;
     };
-    let fields = fields_of(schedule);
-    let first = due(first_past(&fields, &zone, &given), now);
-    fill(&fields, &zone, first, now, items, count)
+    let run = Run::past_up_to(fields_of(schedule), &given, now, &zone);
+    fill(run, items, count)
 }
 
 /// Writes the items whose instant comes after `last` and not after `now`, the earliest first, as far as

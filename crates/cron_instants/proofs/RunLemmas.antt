@@ -9,7 +9,7 @@ use Rattle.cron_units.specs.declared.way.Way.TheVariants.{Ahead}
 use Rattle.cron_units.specs.Sets.{Sets}
 use Rattle.cron_moments.specs.Civil.{seconds_in_range}
 use Rattle.cron_moments.specs.Readings.{Reading, instant}
-use Rattle.cron_instants.specs.Fires.{fires, fires_after, fires_past, fires_between, is_after, is_by}
+use Rattle.cron_instants.specs.Fires.{fires, fires_after, fires_past, fires_past_by, fires_between, is_after, is_by}
 use Rattle.cron_instants.specs.Instants.{IsItem, IsEarliest}
 use Rattle.cron_instants.specs.Order.{is_earlier}
 use Rattle.cron_instants.specs.Inner.Beyond.{beyond, IsBest, IsBeyond}
@@ -47,11 +47,17 @@ within-is_by t last r is =
     (λ h. let le = int_le-true (instant r) last h in le_yes (instant r *ℤ pos 1_000_000_000) t (omega (arith, signed_arith)))
     (λ h. let le = int_le-true (instant r *ℤ pos 1_000_000_000) t h in le_yes (instant r) last (omega (arith, signed_arith)))
 
+until-is_by : (t last : ℤ) (l : List Reading) → last ≡ int_div_euclid t (pos 1_000_000_000) → left_until (Some last) l ≡ filter (is_by t) l
+until-is_by t last l is = filter-alike (λ r. int_le (instant r) last) (is_by t) l (λ q h. within-is_by t last q is)
+
 pub left-between : (s : Sets) (z : TimeZone) (t now i last : ℤ) (c : ℕ) → i ≡ int_div_euclid t (pos 1_000_000_000) → c ≡ 4_294_967_295
     → last ≡ int_div_euclid now (pos 1_000_000_000) → left_beyond s z i c (Some last) ≡ fires_between s z t now
 left-between s z t now i last c is most last_is =
-    ap (left_until (Some last)) (left-after s z t i c is most)
-    ∙ filter-alike (λ r. int_le (instant r) last) (is_by now) (fires_after s z t) (λ q h. within-is_by now last q last_is)
+    ap (left_until (Some last)) (left-after s z t i c is most) ∙ until-is_by now last (fires_after s z t) last_is
+
+pub left-past_by : (s : Sets) (z : TimeZone) (item : Reading) (now last : ℤ) → last ≡ int_div_euclid now (pos 1_000_000_000)
+    → left_beyond s z (instant item) item.second (Some last) ≡ fires_past_by s z item now
+left-past_by s z item now last last_is = until-is_by now last (fires_past s z item) last_is
 
 -- ---- a call
 

@@ -37,3 +37,7 @@ fires_past s z item = filter (is_earlier item) (fires s z)
 -- those after one instant and up to and with another
 abbrev pub fires_between : Sets → TimeZone → ℤ → ℤ → List Reading
 fires_between s z last now = filter (is_by now) (fires_after s z last)
+
+-- those later than a reading and up to and with an instant
+abbrev pub fires_past_by : Sets → TimeZone → Reading → ℤ → List Reading
+fires_past_by s z item now = filter (is_by now) (fires_past s z item)

@@ -2,7 +2,7 @@
 ghost use Rattle.std.specs.Prelude.{◌≡◌};
 ghost use Rattle.std.specs.Iterator.{YieldsFirst};
 ghost use Rattle.jiff.specs.Words.{plain_zone};
-ghost use Rattle.cron_instants.specs.Fires.{fires_after, fires_between, fires_past};
+ghost use Rattle.cron_instants.specs.Fires.{fires_after, fires_between, fires_past, fires_past_by};
 ghost use Rattle.cron_instants.specs.Inner.Left as left;
 
 use crate::calm::{Calm, next_item};
@@ -54,32 +54,38 @@ fn is_within(until: Option<i64>, instant: i64) -> bool
 }
 
 impl<'a> Run<'a> {
-    /// The items whose instant comes after `start`.
-    pub fn after(fields: ScheduleFields, start: Timestamp, zone: &'a TimeZone<'a>) -> Run<'a>
-        ensures { result ≡ fires_after fields (plain_zone zone.now) start.nanosecond }
+    // The items beyond a place, about which nothing is known yet, up to and with an instant if there is a
+    // last one.
+    fn beyond(
+        fields: ScheduleFields,
+        mark: Mark,
+        until: Option<i64>,
+        zone: &'a TimeZone<'a>,
+    ) -> Run<'a>
+        ensures { result ≡ left.left_beyond fields (plain_zone zone.now) mark.instant mark.second until }
     {
         Run {
             fields,
             zone,
-            mark: Mark::behind(start),
+            mark,
             calm: None,
             days: MonthDays::unknown(KnownMonth::january_1970()),
-            until: None,
+            until,
         }
+    }
+
+    /// The items whose instant comes after `start`.
+    pub fn after(fields: ScheduleFields, start: Timestamp, zone: &'a TimeZone<'a>) -> Run<'a>
+        ensures { result ≡ fires_after fields (plain_zone zone.now) start.nanosecond }
+    {
+        Run::beyond(fields, Mark::behind(start), None, zone)
     }
 
     /// The items that are later than this one, which may be none of the timeline.
     pub fn after_item(fields: ScheduleFields, item: &Moment, zone: &'a TimeZone<'a>) -> Run<'a>
         ensures { result ≡ fires_past fields (plain_zone zone.now) item.now }
     {
-        Run {
-            fields,
-            zone,
-            mark: Mark::of(item),
-            calm: None,
-            days: MonthDays::unknown(KnownMonth::january_1970()),
-            until: None,
-        }
+        Run::beyond(fields, Mark::of(item), None, zone)
     }
 
     /// The items whose instant comes after `last` and not after `now`.
@@ -91,14 +97,22 @@ impl<'a> Run<'a> {
     ) -> Run<'a>
         ensures { result ≡ fires_between fields (plain_zone zone.now) last.nanosecond now.nanosecond }
     {
-        Run {
-            fields,
-            zone,
-            mark: Mark::behind(last),
-            calm: None,
-            days: MonthDays::unknown(KnownMonth::january_1970()),
-            until: Some(now.to_plain().floor_second()),
-        }
+        let until = Some(now.to_plain().floor_second());
+        Run::beyond(fields, Mark::behind(last), until, zone)
+    }
+
+    /// The items that are later than this one, which may be none of the timeline, and whose instant doesn't
+    /// come after `now`.
+    pub fn past_up_to(
+        fields: ScheduleFields,
+        item: &Moment,
+        now: Timestamp,
+        zone: &'a TimeZone<'a>,
+    ) -> Run<'a>
+        ensures { result ≡ fires_past_by fields (plain_zone zone.now) item.now now.nanosecond }
+    {
+        let until = Some(now.to_plain().floor_second());
+        Run::beyond(fields, Mark::of(item), until, zone)
     }
 
     // Takes the earliest item that is left.
