@@ -9,6 +9,7 @@ mod counted;
 mod files;
 mod fires;
 mod long_texts;
+mod makers;
 mod mutations;
 mod readers;
 mod report;
@@ -18,7 +19,6 @@ mod short_texts;
 mod stretches;
 mod texts;
 mod walks;
-mod ways;
 
 use anyhow::{Context, Result, ensure};
 use files::{FILES, Kind};

@@ -75,34 +75,39 @@ fn sorted_walk(alloc: Global, setting: &Setting, now: Timestamp) -> Result<Vec<M
     Ok(fires)
 }
 
-/// A way to ask for the fires between two instants.
+/// What is asked for the fires between two instants.
 #[derive(Clone, Copy)]
-enum Way {
+enum Source {
     Between,
     Missed,
     InTurn,
     SortedWalk,
 }
 
-const WAYS: [Way; 4] = [Way::Between, Way::Missed, Way::InTurn, Way::SortedWalk];
+const SOURCES: [Source; 4] = [
+    Source::Between,
+    Source::Missed,
+    Source::InTurn,
+    Source::SortedWalk,
+];
 
-impl Way {
+impl Source {
     fn name(self) -> &'static str {
         match self {
-            Way::Between => "Fires::between",
-            Way::Missed => "missed",
-            Way::InTurn => "first_fire_past",
-            Way::SortedWalk => "a walk, sorted",
+            Source::Between => "Fires::between",
+            Source::Missed => "missed",
+            Source::InTurn => "first_fire_past",
+            Source::SortedWalk => "a walk, sorted",
         }
     }
 
     /// The fires after the start and not after the other instant.
     fn fires(self, alloc: Global, setting: &Setting, now: Timestamp) -> Result<Vec<Moment>> {
         match self {
-            Way::Between => between(alloc, setting, now),
-            Way::Missed => listed(alloc, setting, now),
-            Way::InTurn => asked_in_turn(alloc, setting, now),
-            Way::SortedWalk => sorted_walk(alloc, setting, now),
+            Source::Between => between(alloc, setting, now),
+            Source::Missed => listed(alloc, setting, now),
+            Source::InTurn => asked_in_turn(alloc, setting, now),
+            Source::SortedWalk => sorted_walk(alloc, setting, now),
         }
     }
 
@@ -119,9 +124,9 @@ pub(crate) fn replay(report: &mut Report<'_>, row: Row<'_>) -> Result<()> {
     let (now, answers) = cut(case.rest)?;
     let setting = setting_of(alloc, case)?;
     let now = start_at(now, &setting.zone)?;
-    for way in WAYS {
-        let told = way.told(alloc, &setting, now)?;
-        report.compare(row, way.name(), answers, told.as_str())?;
+    for source in SOURCES {
+        let told = source.told(alloc, &setting, now)?;
+        report.compare(row, source.name(), answers, told.as_str())?;
     }
     Ok(())
 }

@@ -19,10 +19,10 @@
 //! `walks_of_eight_calls.txt` has every list of eight calls from four starts about a fold of four items,
 //! with what an index answers that is moved along these items.
 
+use crate::makers::MAKERS;
 use crate::report::{Report, Row, cut};
 use crate::settings::{case_of, listed, setting_of};
 use crate::texts::compare_beginnings;
-use crate::ways::WAYS;
 use anyhow::{Result, bail};
 use cron::schedule::Turn;
 use std::alloc::Global;
@@ -50,10 +50,10 @@ pub(crate) fn replay(report: &mut Report<'_>, row: Row<'_>) -> Result<()> {
     let (calls, answers) = cut(case.rest)?;
     let turns = turns_of(report.alloc(), calls)?;
     let setting = setting_of(report.alloc(), case)?;
-    for way in WAYS {
-        let told = way.answers(report.alloc(), &setting, turns.as_slice())?;
+    for maker in MAKERS {
+        let told = maker.answers(report.alloc(), &setting, turns.as_slice())?;
         let told = listed(report.alloc(), told.as_slice())?;
-        report.compare(row, way.name(), answers, told.as_str())?;
+        report.compare(row, maker.name(), answers, told.as_str())?;
     }
     compare_beginnings(report, row, case.expression)
 }

@@ -1,4 +1,4 @@
-//! Every way to make a walk.
+//! Everything that makes a walk.
 
 use crate::settings::Setting;
 use cron::schedule::{Moment, OwnedRevScheduleIterator, RevScheduleIterator, Turn};
@@ -105,9 +105,9 @@ fn played(alloc: Global, setting: &Setting, turns: &[Turn]) -> Result<Answers, A
     walk.play(alloc, turns)
 }
 
-/// A way to make a walk and to ask it.
+/// What makes a walk, and how it is asked.
 #[derive(Clone, Copy)]
-pub(crate) enum Way {
+pub(crate) enum Maker {
     After,
     Upcoming,
     AfterOwned,
@@ -120,28 +120,28 @@ pub(crate) enum Way {
 }
 
 /// All of them.
-pub(crate) const WAYS: [Way; 8] = [
-    Way::After,
-    Way::Upcoming,
-    Way::AfterOwned,
-    Way::UpcomingOwned,
-    Way::New,
-    Way::Reversed,
-    Way::OwnedReversed,
-    Way::Played,
+pub(crate) const MAKERS: [Maker; 8] = [
+    Maker::After,
+    Maker::Upcoming,
+    Maker::AfterOwned,
+    Maker::UpcomingOwned,
+    Maker::New,
+    Maker::Reversed,
+    Maker::OwnedReversed,
+    Maker::Played,
 ];
 
-impl Way {
+impl Maker {
     pub(crate) fn name(self) -> &'static str {
         match self {
-            Way::After => "after",
-            Way::Upcoming => "upcoming",
-            Way::AfterOwned => "after_owned",
-            Way::UpcomingOwned => "upcoming_owned",
-            Way::New => "new",
-            Way::Reversed => "rev",
-            Way::OwnedReversed => "rev, owned",
-            Way::Played => "play",
+            Maker::After => "after",
+            Maker::Upcoming => "upcoming",
+            Maker::AfterOwned => "after_owned",
+            Maker::UpcomingOwned => "upcoming_owned",
+            Maker::New => "new",
+            Maker::Reversed => "rev",
+            Maker::OwnedReversed => "rev, owned",
+            Maker::Played => "play",
         }
     }
 
@@ -153,14 +153,14 @@ impl Way {
         turns: &[Turn],
     ) -> Result<Answers, AllocError> {
         match self {
-            Way::After => by_after(alloc, setting, turns),
-            Way::Upcoming => by_upcoming(alloc, setting, turns),
-            Way::AfterOwned => by_after_owned(alloc, setting, turns),
-            Way::UpcomingOwned => by_upcoming_owned(alloc, setting, turns),
-            Way::New => by_new(alloc, setting, turns),
-            Way::Reversed => reversed(alloc, setting, turns),
-            Way::OwnedReversed => owned_reversed(alloc, setting, turns),
-            Way::Played => played(alloc, setting, turns),
+            Maker::After => by_after(alloc, setting, turns),
+            Maker::Upcoming => by_upcoming(alloc, setting, turns),
+            Maker::AfterOwned => by_after_owned(alloc, setting, turns),
+            Maker::UpcomingOwned => by_upcoming_owned(alloc, setting, turns),
+            Maker::New => by_new(alloc, setting, turns),
+            Maker::Reversed => reversed(alloc, setting, turns),
+            Maker::OwnedReversed => owned_reversed(alloc, setting, turns),
+            Maker::Played => played(alloc, setting, turns),
         }
     }
 }
