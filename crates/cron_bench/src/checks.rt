@@ -1,23 +1,24 @@
 //! What checks of lines cost.
 
-use crate::lines::{LINES, print_cost, varied_lines};
+use crate::lines::{LINES, varied_lines};
+use crate::rounds::least_cost;
+use anyhow::{Result, bail, ensure};
 use cron_checking::arguments::request_of;
 use cron_checking::check::{Outcome, check};
 use cron_checking::line::Mode;
 use cron_writer::watched::Watched;
 use std::alloc::{AllocError, Global};
-use std::io::{self, Cursor};
-use std::time::Instant;
+use std::io::Cursor;
 
 /// How many short lines are checked, in digits and as a number.
-const SHORT_LINES: [(&str, usize); 3] = [
+const SHORT_LINES: [(&str, u32); 3] = [
     ("10,000 short checked", 10_000),
     ("100,000 short checked", 100_000),
     ("1,000,000 short checked", 1_000_000),
 ];
 
 /// The lines of a file: so many times a short one.
-fn short_file(alloc: Global, count: usize) -> Result<String, AllocError> {
+fn short_file(alloc: Global, count: u32) -> Result<String, AllocError> {
     let mut file = String::new(alloc);
     for _ in 0..count {
         file.push_str("@daily\n")?;
@@ -44,29 +45,25 @@ fn are_read(alloc: Global, mode: &Mode<'_>, file: &str) -> bool {
 }
 
 /// Prints the least cost in 15 rounds of a line of a file, each of which is read.
-fn time_check(
-    rt: &HostRuntime,
-    name: &str,
-    mode: &Mode<'_>,
-    file: &str,
-    lines: usize,
-) -> io::Result<()> {
-    let mut best = u128::MAX;
-    for _ in 0..15 {
-        let begun = Instant::now(rt)?;
-        if !are_read(rt.alloc(), mode, file) {
-            return println!(rt; "lines | {name} | refused");
-        }
-        best = best.min(begun.elapsed(rt)?.as_nanos());
-    }
-    print_cost(rt, name, best, lines)
+fn time_check(rt: &HostRuntime, name: &str, mode: &Mode<'_>, file: &str, lines: u32) -> Result<()> {
+    let mut all_read = true;
+    let cost = least_cost(
+        rt,
+        15,
+        lines,
+        || all_read &= are_read(rt.alloc(), mode, file),
+    )?;
+    ensure!(all_read, "{name}: a line is refused");
+    println!(rt; "lines | {name} | {cost}")?;
+    Ok(())
 }
 
-/// Prints what a line of a file costs that is checked: of varied ones, and of more and more short ones.
-pub fn run(rt: &HostRuntime) -> io::Result<()> {
+/// Prints what a line of a file costs that is checked as `cron_check` does without words: of varied ones, and
+/// of more and more short ones.
+pub fn run(rt: &HostRuntime) -> Result<()> {
     let words: Vec<String> = Vec::new(rt.alloc());
     let Some(request) = request_of(words.as_slice()) else {
-        return Ok(());
+        bail!("cron_check asks for words");
     };
     let varied = varied_file(rt.alloc())?;
     time_check(rt, "checked", &request.mode, varied.as_str(), LINES)?;

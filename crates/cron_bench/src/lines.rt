@@ -3,16 +3,17 @@
 
 ghost use Rattle.std.specs.Prelude.{◌<◌, ◌≤◌};
 
+use crate::rounds::least_cost;
+use crate::walks::CHICAGO;
+use anyhow::Result;
 use cron::Schedule;
 use cron_text::{no_ordinals, read_into};
 use jiff::Timestamp;
 use jiff::tz::TimeZone;
 use std::alloc::{AllocError, Global};
-use std::io;
-use std::time::Instant;
 
 /// How many lines are read.
-pub const LINES: usize = 100_000;
+pub const LINES: u32 = 100_000;
 
 /// The start of 2018, and the seconds from a line's start to that of the following line.
 const FIRST_START: i64 = 1_514_764_800;
@@ -55,6 +56,18 @@ impl Draw {
     }
 }
 
+/// The numbers of a list: up to four, one bit for each.
+fn members_of(draw: &mut Draw, least: u32, greatest: u32) -> u64
+    requires order { least ≤ greatest }
+    requires small { greatest < 64 }
+{
+    let mut members: u64 = 0;
+    for _ in 0..=draw.below(4) {
+        members |= 1 << draw.number(least, greatest);
+    }
+    members
+}
+
 /// Up to four numbers in ascending order, each once.
 fn push_list(
     text: &mut String,
@@ -65,10 +78,7 @@ fn push_list(
     requires order { least ≤ greatest }
     requires small { greatest < 64 }
 {
-    let mut members: u64 = 0;
-    for _ in 0..=draw.below(4) {
-        members |= 1 << draw.number(least, greatest);
-    }
+    let members = members_of(draw, least, greatest);
     let mut separator = "";
     for member in least..=greatest {
         if members >> member & 1 == 1 {
@@ -155,7 +165,7 @@ fn varied_line(alloc: Global, draw: &mut Draw) -> Result<String, AllocError> {
 /// The lines, the same in each run.
 pub fn varied_lines(alloc: Global) -> Result<Vec<String>, AllocError> {
     let mut draw = Draw { state: 20_221_106 };
-    let mut lines = Vec::with_capacity(alloc, LINES)?;
+    let mut lines = Vec::with_capacity(alloc, LINES as usize)?;
     for _ in 0..LINES {
         lines.push(varied_line(alloc, &mut draw)?)?;
     }
@@ -167,10 +177,8 @@ fn read_all(lines: &[String]) -> u32 {
     let mut read: u32 = 0;
     let mut fields = no_ordinals();
     for line in lines {
-        if let Ok(text) = str::from_utf8(line.as_bytes()) {
-            if read_into(text, &mut fields) {
-                read = read.wrapping_add(1);
-            }
+        if str::from_utf8(line.as_bytes()).is_ok_and(|text| read_into(text, &mut fields)) {
+            read = read.wrapping_add(1);
         }
     }
     read
@@ -187,9 +195,9 @@ fn keep_all(alloc: Global, lines: &[String]) -> u32 {
     read
 }
 
-/// Whether a schedule has an item after an instant.
-fn has_item(schedule: &Schedule, start: Timestamp, zone: &TimeZone<'_>) -> bool {
-    schedule.after(start, zone).next().is_some()
+/// Whether a schedule has an item after a second.
+fn has_item(schedule: &Schedule, second: i64, zone: &TimeZone<'_>) -> bool {
+    Timestamp::from_second(second).is_ok_and(|start| schedule.after(start, zone).next().is_some())
 }
 
 /// Finds the first item of each schedule after an instant of its own, and counts those that have one.
@@ -197,10 +205,8 @@ fn find_all(schedules: &[Schedule], zone: &TimeZone<'_>) -> u32 {
     let mut found: u32 = 0;
     let mut second = FIRST_START;
     for schedule in schedules {
-        if let Ok(start) = Timestamp::from_second(second) {
-            if has_item(schedule, start, zone) {
-                found = found.wrapping_add(1);
-            }
+        if has_item(schedule, second, zone) {
+            found = found.wrapping_add(1);
         }
         second = second.wrapping_add(BETWEEN_STARTS);
     }
@@ -208,36 +214,21 @@ fn find_all(schedules: &[Schedule], zone: &TimeZone<'_>) -> u32 {
 }
 
 /// The schedules of the lines.
-fn schedules_of(alloc: Global, lines: &[String]) -> Result<Vec<Schedule>, AllocError> {
+fn schedules_of(alloc: Global, lines: &[String]) -> Result<Vec<Schedule>> {
     let mut schedules = Vec::with_capacity(alloc, lines.len())?;
     for line in lines {
-        if let Ok(schedule) = Schedule::from_str(alloc, line.as_str()) {
-            schedules.push(schedule)?;
-        }
+        schedules.push(Schedule::from_str(alloc, line.as_str())?)?;
     }
     Ok(schedules)
 }
 
-/// Prints the cost of one line of a round over so many.
-pub fn print_cost(rt: &HostRuntime, name: &str, nanoseconds: u128, lines: usize) -> io::Result<()> {
-    let tenths = nanoseconds.saturating_mul(10) / (lines as u128).max(1);
-    let (whole, tenth) = (tenths / 10, tenths % 10);
-    println!(rt; "lines | {name} | {whole}.{tenth}")
-}
-
 /// Prints the least cost in 15 rounds of a line that is read into sets, and of one that is kept.
-fn time_reads(rt: &HostRuntime, lines: &[String]) -> io::Result<()> {
-    let (mut read, mut kept) = (u128::MAX, u128::MAX);
-    for _ in 0..15 {
-        let begun = Instant::now(rt)?;
-        let _read = read_all(lines);
-        read = read.min(begun.elapsed(rt)?.as_nanos());
-        let begun = Instant::now(rt)?;
-        let _kept = keep_all(rt.alloc(), lines);
-        kept = kept.min(begun.elapsed(rt)?.as_nanos());
-    }
-    print_cost(rt, "read", read, LINES)?;
-    print_cost(rt, "kept", kept, LINES)
+fn time_reads(rt: &HostRuntime, lines: &[String]) -> Result<()> {
+    let read = least_cost(rt, 15, LINES, || read_all(lines))?;
+    println!(rt; "lines | read | {read}")?;
+    let kept = least_cost(rt, 15, LINES, || keep_all(rt.alloc(), lines))?;
+    println!(rt; "lines | kept | {kept}")?;
+    Ok(())
 }
 
 /// Prints the least cost in 15 rounds of a first item.
@@ -246,30 +237,24 @@ fn time_firsts(
     name: &str,
     schedules: &[Schedule],
     zone: &TimeZone<'_>,
-) -> io::Result<()> {
-    let mut best = u128::MAX;
-    for _ in 0..15 {
-        let begun = Instant::now(rt)?;
-        let _found = find_all(schedules, zone);
-        best = best.min(begun.elapsed(rt)?.as_nanos());
-    }
-    print_cost(rt, name, best, LINES)
+) -> Result<()> {
+    let cost = least_cost(rt, 15, LINES, || find_all(schedules, zone))?;
+    println!(rt; "lines | first {name} | {cost}")?;
+    Ok(())
 }
 
 /// Prints what a line costs that is read, that is kept, and whose first item is found.
-pub fn run(rt: &HostRuntime) -> io::Result<()> {
-    let Ok(chicago) = TimeZone::posix("CST6CDT,M3.2.0,M11.1.0") else {
-        return Ok(());
-    };
+pub fn run(rt: &HostRuntime) -> Result<()> {
+    let chicago = TimeZone::posix(CHICAGO)?;
     let lines = varied_lines(rt.alloc())?;
     time_reads(rt, lines.as_slice())?;
     let schedules = schedules_of(rt.alloc(), lines.as_slice())?;
-    time_firsts(rt, "first UTC", schedules.as_slice(), &TimeZone::UTC)?;
-    time_firsts(rt, "first Chicago", schedules.as_slice(), &chicago)
+    time_firsts(rt, "UTC", schedules.as_slice(), &TimeZone::UTC)?;
+    time_firsts(rt, "Chicago", schedules.as_slice(), &chicago)
 }
 
 /// Prints the lines.
-pub fn print(rt: &HostRuntime) -> io::Result<()> {
+pub fn print(rt: &HostRuntime) -> Result<()> {
     for line in varied_lines(rt.alloc())?.as_slice() {
         println!(rt; "{line}")?;
     }

@@ -1,31 +1,46 @@
 //! `cron_bench run` prints what a parse and a call of a walk cost, in nanoseconds; `cron_bench growth`
 //! what parses of longer and longer lists cost; `cron_bench lines` what each of 100,000 varied lines
 //! costs, and of the lines that `cron_check` checks; `cron_bench print` those lines; and `cron_bench turn
-//! FILE` what runs cost around a turn of the zone in a file. With no word it prints nothing.
+//! FILE` what runs cost around a turn of the zone in a file. With no word it prints nothing. At other words,
+//! and where a text, a zone or a file is refused, it ends with an error and the status 1.
 #![tactic(auto)]
 
+mod calls;
 mod checks;
 mod lines;
 mod parses;
+mod rounds;
 mod turns;
 mod walks;
 
-use std::{env, io};
+use anyhow::{Result, bail};
+use std::env;
 
-fn main(rt: HostRuntime) -> io::Result<()> {
+/// Prints what the words after the program's name ask for.
+fn run(rt: &HostRuntime, words: &[String]) -> Result<()> {
+    let Some((word, others)) = words.split_first() else {
+        return Ok(());
+    };
+    match (word.as_str(), others) {
+        ("run", []) => {
+            parses::run(rt)?;
+            walks::run(rt)
+        }
+        ("growth", []) => parses::grow(rt),
+        ("lines", []) => {
+            lines::run(rt)?;
+            checks::run(rt)
+        }
+        ("print", []) => lines::print(rt),
+        ("turn", [path]) => turns::run(rt, path.as_str()),
+        _ => bail!("usage: cron_bench [run | growth | lines | print | turn FILE]"),
+    }
+}
+
+fn main(rt: HostRuntime) -> Result<()> {
     let words: Vec<String> = env::args(&rt)?.collect(rt.alloc())?;
-    match words.as_slice() {
-        [_, word] if word.as_str() == "run" => {
-            parses::run(&rt)?;
-            walks::run(&rt)
-        }
-        [_, word] if word.as_str() == "growth" => parses::grow(&rt),
-        [_, word] if word.as_str() == "lines" => {
-            lines::run(&rt)?;
-            checks::run(&rt)
-        }
-        [_, word] if word.as_str() == "print" => lines::print(&rt),
-        [_, word, path] if word.as_str() == "turn" => turns::run(&rt, path.as_str()),
-        _ => Ok(()),
+    match words.split_first() {
+        Some((_, words)) => run(&rt, words),
+        None => Ok(()),
     }
 }

@@ -1,11 +1,13 @@
 //! What runs around a turn of a zone cost, in the zone from a file and by Chicago's rule.
 
-use crate::walks::{ahead, fires, first_fires, fresh};
+use crate::calls::Call;
+use crate::rounds::least_cost;
+use crate::walks::CHICAGO;
+use anyhow::{Context, Result};
 use cron::Schedule;
 use jiff::Timestamp;
 use jiff::tz::{TimeZone, Tzif};
-use std::time::Instant;
-use std::{fs, io};
+use std::fs;
 
 /// How many fires a run has, and how often a first one is asked for.
 const FIRES: u32 = 1_000_000;
@@ -31,6 +33,17 @@ const FIRSTS: [&str; 5] = [
     "* * 1 * * *",
 ];
 
+/// What is called for a run and for a first fire, each beside its name in a row.
+const RUN_CALLS: [(Call, &str); 2] = [(Call::Next, "walk"), (Call::Fires, "fires")];
+
+const FIRST_CALLS: [(Call, &str); 2] = [
+    (Call::FreshNext, "fresh next"),
+    (Call::FirstFire, "first fire"),
+];
+
+/// How long before the turn a run starts: half of a million seconds.
+const RUN_UP: i64 = 500_000;
+
 /// Where the first fires are asked for, by seconds from the turn: far before it, in the hour before it, at
 /// it, in the hour after it, and far after it.
 const PLACES: [(&str, i64); 5] = [
@@ -41,117 +54,102 @@ const PLACES: [(&str, i64); 5] = [
     ("far after", 5_000_000),
 ];
 
-/// What is called.
-#[derive(Clone, Copy)]
-enum Kind {
-    Walk,
-    Run,
-    FreshWalk,
-    FirstFire,
+/// A zone under its name in a row, and the second of the turn.
+#[derive(Drop)]
+struct Setting<'z> {
+    name: &'static str,
+    zone: TimeZone<'z>,
+    turn: i64,
 }
 
-impl Kind {
-    fn name(self) -> &'static str {
-        match self {
-            Kind::Walk => "walk",
-            Kind::Run => "fires",
-            Kind::FreshWalk => "fresh next",
-            Kind::FirstFire => "first fire",
-        }
-    }
-
-    /// Calls it so often from an instant on.
-    fn call(self, schedule: &Schedule, start: Timestamp, zone: &TimeZone<'_>, calls: u32) -> u32 {
-        match self {
-            Kind::Walk => ahead(schedule, start, zone, calls),
-            Kind::Run => fires(schedule, start, zone, calls),
-            Kind::FreshWalk => fresh(schedule, start, zone, calls),
-            Kind::FirstFire => first_fires(schedule, start, zone, calls),
-        }
+impl<'z> Setting<'z> {
+    /// The instant so many seconds after the turn.
+    fn instant(&self, seconds: i64) -> Result<Timestamp> {
+        Ok(Timestamp::from_second(self.turn.saturating_add(seconds))?)
     }
 }
 
-/// The least cost of a call in so many rounds, in tenths of a nanosecond.
-fn least_cost(
+/// Prints the cost of a walk and of a run of as many fires.
+fn time_run(rt: &HostRuntime, setting: &Setting<'_>, text: &str) -> Result<()> {
+    let schedule = Schedule::from_str(rt.alloc(), text)?;
+    let start = setting.instant(-RUN_UP)?;
+    let (name, zone) = (setting.name, &setting.zone);
+    for (call, called) in RUN_CALLS {
+        let cost = least_cost(rt, 5, FIRES, || call.make(&schedule, start, zone, FIRES))?;
+        println!(rt; "turn {called} | {name} | {text} | {cost}")?;
+    }
+    Ok(())
+}
+
+/// Prints the cost of a first fire, and of a `next` of a walk that is begun there, at a place.
+fn time_place(
     rt: &HostRuntime,
-    kind: Kind,
+    setting: &Setting<'_>,
     schedule: &Schedule,
+    place: &str,
     start: Timestamp,
-    zone: &TimeZone<'_>,
-    calls: u32,
-    rounds: u32,
-) -> io::Result<u128> {
-    let mut best = u128::MAX;
-    for _ in 0..rounds {
-        let begun = Instant::now(rt)?;
-        let _ended = kind.call(schedule, start, zone, calls);
-        best = best.min(begun.elapsed(rt)?.as_nanos());
+) -> Result<()> {
+    let (name, zone, text) = (setting.name, &setting.zone, schedule.source());
+    for (call, called) in FIRST_CALLS {
+        let cost = least_cost(rt, 150, FIRST_FIRES, || {
+            call.make(schedule, start, zone, FIRST_FIRES)
+        })?;
+        println!(rt; "turn {called} | {name} | {place} | {text} | {cost}")?;
     }
-    Ok(best.saturating_mul(10) / u128::from(calls.max(1)))
+    Ok(())
 }
 
-/// Prints the cost of a walk and of a run of as many fires, half of a million seconds before the turn on.
-fn time_runs(rt: &HostRuntime, name: &str, zone: &TimeZone<'_>, turn: i64) -> io::Result<()> {
-    let Ok(start) = Timestamp::from_second(turn.saturating_sub(500_000)) else {
-        return Ok(());
-    };
+/// Prints the costs of a first fire at each place.
+fn time_first(rt: &HostRuntime, setting: &Setting<'_>, text: &str) -> Result<()> {
+    let schedule = Schedule::from_str(rt.alloc(), text)?;
+    for (place, seconds) in PLACES {
+        let start = setting.instant(seconds)?;
+        time_place(rt, setting, &schedule, place, start)?;
+    }
+    Ok(())
+}
+
+/// Prints the costs of each run.
+fn time_runs(rt: &HostRuntime, setting: &Setting<'_>) -> Result<()> {
     for text in RUNS {
-        let Ok(schedule) = Schedule::from_str(rt.alloc(), text) else {
-            return Ok(());
-        };
-        for kind in [Kind::Walk, Kind::Run] {
-            let tenths = least_cost(rt, kind, &schedule, start, zone, FIRES, 5)?;
-            let (whole, tenth, kind) = (tenths / 10, tenths % 10, kind.name());
-            println!(rt; "turn {kind} | {name} | {text} | {whole}.{tenth}")?;
-        }
+        time_run(rt, setting, text)?;
     }
     Ok(())
 }
 
-/// Prints the cost of a first fire, and of a `next` of a walk that is begun there, at each place.
-fn time_firsts(rt: &HostRuntime, name: &str, zone: &TimeZone<'_>, turn: i64) -> io::Result<()> {
+/// Prints the costs of each text's first fires.
+fn time_firsts(rt: &HostRuntime, setting: &Setting<'_>) -> Result<()> {
     for text in FIRSTS {
-        let Ok(schedule) = Schedule::from_str(rt.alloc(), text) else {
-            return Ok(());
-        };
-        for (place, seconds) in PLACES {
-            let Ok(start) = Timestamp::from_second(turn.saturating_add(seconds)) else {
-                return Ok(());
-            };
-            for kind in [Kind::FreshWalk, Kind::FirstFire] {
-                let tenths = least_cost(rt, kind, &schedule, start, zone, FIRST_FIRES, 150)?;
-                let (whole, tenth, kind) = (tenths / 10, tenths % 10, kind.name());
-                println!(rt; "turn {kind} | {name} | {place} | {text} | {whole}.{tenth}")?;
-            }
-        }
+        time_first(rt, setting, text)?;
     }
     Ok(())
 }
 
-/// Prints both in a zone, around the first turn of the second half of 2022 of the file's zone.
-fn time_zone(rt: &HostRuntime, name: &str, zone: &TimeZone<'_>, turn: i64) -> io::Result<()> {
-    time_runs(rt, name, zone, turn)?;
-    time_firsts(rt, name, zone, turn)
+/// Prints both in a zone.
+fn time_zone(rt: &HostRuntime, setting: &Setting<'_>) -> Result<()> {
+    time_runs(rt, setting)?;
+    time_firsts(rt, setting)
+}
+
+/// The second of the first turn of a zone after June of 2022.
+fn turn_of(zone: &TimeZone<'_>) -> Result<i64> {
+    let july = "2022-07-01T00:00:00Z".parse::<Timestamp>()?;
+    let turn = zone
+        .following(july)
+        .next()
+        .context("it has no turn after June of 2022")?;
+    Ok(turn.timestamp().as_second())
 }
 
 /// Prints what runs and first fires cost around a turn of the zone in a file, and around that turn by
 /// Chicago's rule.
-pub fn run(rt: &HostRuntime, path: &str) -> io::Result<()> {
-    let bytes = fs::read(rt, path)?;
-    let Ok(table) = Tzif::parse(rt.alloc(), None, bytes.as_slice()) else {
-        return println!(rt; "turn | {path} is no zone");
-    };
+pub fn run(rt: &HostRuntime, path: &str) -> Result<()> {
+    let bytes = fs::read(rt, path).context(path)?;
+    let table = Tzif::parse(rt.alloc(), None, bytes.as_slice()).context(path)?;
     let zone = TimeZone::tzif(&table);
-    let Ok(summer) = "2022-07-01T00:00:00Z".parse::<Timestamp>() else {
-        return Ok(());
-    };
-    let Some(transition) = zone.following(summer).next() else {
-        return println!(rt; "turn | {path} has none");
-    };
-    let Ok(chicago) = TimeZone::posix("CST6CDT,M3.2.0,M11.1.0") else {
-        return Ok(());
-    };
-    let turn = transition.timestamp().as_second();
-    time_zone(rt, "file", &zone, turn)?;
-    time_zone(rt, "rule", &chicago, turn)
+    let turn = turn_of(&zone).context(path)?;
+    let name = "file";
+    time_zone(rt, &Setting { name, zone, turn })?;
+    let (name, zone) = ("rule", TimeZone::posix(CHICAGO)?);
+    time_zone(rt, &Setting { name, zone, turn })
 }
