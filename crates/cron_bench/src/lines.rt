@@ -5,7 +5,7 @@ ghost use Rattle.std.specs.Prelude.{◌<◌, ◌≤◌};
 
 use crate::rounds::least_cost;
 use crate::walks::CHICAGO;
-use anyhow::Result;
+use anyhow::{Result, ensure};
 use cron::Schedule;
 use cron_text::{no_ordinals, read_into};
 use jiff::Timestamp;
@@ -224,10 +224,17 @@ fn schedules_of(alloc: Global, lines: &[String]) -> Result<Vec<Schedule>> {
 
 /// Prints the least cost in 15 rounds of a line that is read into sets, and of one that is kept.
 fn time_reads(rt: &HostRuntime, lines: &[String]) -> Result<()> {
-    let read = least_cost(rt, 15, LINES, || read_all(lines))?;
+    let mut is_whole = true;
+    let read = least_cost(rt, 15, LINES, || is_whole &= read_all(lines) == LINES)?;
     println!(rt; "lines | read | {read}")?;
-    let kept = least_cost(rt, 15, LINES, || keep_all(rt.alloc(), lines))?;
+    let kept = least_cost(
+        rt,
+        15,
+        LINES,
+        || is_whole &= keep_all(rt.alloc(), lines) == LINES,
+    )?;
     println!(rt; "lines | kept | {kept}")?;
+    ensure!(is_whole, "lines: one is refused");
     Ok(())
 }
 

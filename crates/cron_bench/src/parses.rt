@@ -1,7 +1,7 @@
 //! What parses cost.
 
 use crate::rounds::least_cost;
-use anyhow::Result;
+use anyhow::{Result, ensure};
 use cron::Schedule;
 use std::alloc::{AllocError, Global};
 
@@ -17,20 +17,27 @@ const ITEMS: [&str; 3] = ["0", "0-59", "*"];
 
 const LENGTHS: [u32; 5] = [10, 100, 1_000, 10_000, 100_000];
 
-/// Reads a text so many times, and counts how often it was read.
-fn parse(alloc: Global, text: &str, times: u32) -> u32 {
+/// Reads a text so many times, and tells whether it was read each time.
+fn is_read(alloc: Global, text: &str, times: u32) -> bool {
     let mut read: u32 = 0;
     for _ in 0..times {
         if Schedule::from_str(alloc, text).is_ok() {
             read = read.wrapping_add(1);
         }
     }
-    read
+    read == times
 }
 
 /// Prints the least cost of a parse in so many rounds. A long text is shown by its length.
 fn time_parse(rt: &HostRuntime, text: &str, rounds: u32, times: u32) -> Result<()> {
-    let cost = least_cost(rt, rounds, times, || parse(rt.alloc(), text, times))?;
+    let mut all_read = true;
+    let cost = least_cost(
+        rt,
+        rounds,
+        times,
+        || all_read &= is_read(rt.alloc(), text, times),
+    )?;
+    ensure!(all_read, "{text}: it is refused");
     if text.len() < 60 {
         println!(rt; "parse | {text} | {cost}")?;
     } else {

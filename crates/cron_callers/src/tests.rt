@@ -23,21 +23,21 @@ fn instant(text: &str) -> Result<Timestamp, Fail> {
     Ok(text.parse::<Timestamp>()?)
 }
 
-// The texts of fires, with a comma after each.
-fn listed(alloc: Global, fires: &[Moment]) -> Result<String, AllocError> {
+// The texts of moments, with a comma after each.
+fn listed(alloc: Global, moments: &[Moment]) -> Result<String, AllocError> {
     let mut text = String::new(alloc);
-    for fire in fires {
-        write!(text, "{fire}, ")?;
+    for moment in moments {
+        write!(text, "{moment}, ")?;
     }
     Ok(text)
 }
 
-fn check_fires(
+fn check_moments(
     rt: &(impl Abort + AllocGlobal),
-    fires: &[Moment],
+    moments: &[Moment],
     wanted: &str,
 ) -> Result<(), Fail> {
-    let listed = listed(rt.alloc(), fires)?;
+    let listed = listed(rt.alloc(), moments)?;
     assert_eq!(rt; listed.as_str(), wanted);
     Ok(())
 }
@@ -47,7 +47,7 @@ fn monday_comes_after_friday(rt: HostRuntime) -> Result<(), Fail> {
     let (zone, now) = (new_york()?, instant("2024-03-08T14:00:00Z")?);
     let schedule = Schedule::from_str(rt.alloc(), "0 0 9 * * Mon-Fri")?;
     let fire = next_fire(&schedule, now, &zone).ok_or("no fire")?;
-    check_fires(&rt, &[fire], "2024-03-11 09:00:00 -04:00, ")
+    check_moments(&rt, &[fire], "2024-03-11 09:00:00 -04:00, ")
 }
 
 #[test]
@@ -55,29 +55,29 @@ fn second_hour_of_a_fold_comes_next(rt: HostRuntime) -> Result<(), Fail> {
     let (zone, now) = (new_york()?, instant("2022-11-06T05:30:00Z")?);
     let schedule = Schedule::from_str(rt.alloc(), "0 30 1 * * *")?;
     let fire = next_fire(&schedule, now, &zone).ok_or("no fire")?;
-    check_fires(&rt, &[fire], "2022-11-06 01:30:00 -05:00, ")
+    check_moments(&rt, &[fire], "2022-11-06 01:30:00 -05:00, ")
 }
 
 #[test]
-fn fires_follow_a_start(rt: HostRuntime) -> Result<(), Fail> {
+fn items_follow_a_start(rt: HostRuntime) -> Result<(), Fail> {
     let (zone, start) = (new_york()?, instant("2022-11-05T12:00:00Z")?);
     let schedule = Schedule::from_str(rt.alloc(), "0 30 1 * * *")?;
-    let fires = first_items(rt.alloc(), &schedule, start, &zone, 3)?;
-    check_fires(
+    let items = first_items(rt.alloc(), &schedule, start, &zone, 3)?;
+    check_moments(
         &rt,
-        fires.as_slice(),
+        items.as_slice(),
         "2022-11-06 01:30:00 -04:00, 2022-11-06 01:30:00 -05:00, 2022-11-07 01:30:00 -05:00, ",
     )
 }
 
 #[test]
-fn fires_lead_to_a_start(rt: HostRuntime) -> Result<(), Fail> {
+fn items_lead_to_a_start(rt: HostRuntime) -> Result<(), Fail> {
     let start = instant("2024-03-01T00:00:00Z")?;
     let schedule = Schedule::from_str(rt.alloc(), "@daily")?;
-    let fires = last_items(rt.alloc(), &schedule, start, &TimeZone::UTC, 2)?;
-    check_fires(
+    let items = last_items(rt.alloc(), &schedule, start, &TimeZone::UTC, 2)?;
+    check_moments(
         &rt,
-        fires.as_slice(),
+        items.as_slice(),
         "2024-02-29 00:00:00 +00:00, 2024-02-28 00:00:00 +00:00, ",
     )
 }
@@ -85,22 +85,22 @@ fn fires_lead_to_a_start(rt: HostRuntime) -> Result<(), Fail> {
 #[test]
 fn work_days_follow_a_friday(rt: HostRuntime) -> Result<(), Fail> {
     let start = instant("2024-03-01T09:30:00Z")?;
-    let fires = first_items(
+    let items = first_items(
         rt.alloc(),
         &work_days(rt.alloc())?,
         start,
         &TimeZone::UTC,
         2,
     )?;
-    check_fires(
+    check_moments(
         &rt,
-        fires.as_slice(),
+        items.as_slice(),
         "2024-03-04 09:30:00 +00:00, 2024-03-05 09:30:00 +00:00, ",
     )
 }
 
 #[test]
-fn two_fires_are_left(rt: HostRuntime) -> Result<(), Fail> {
+fn two_items_are_left(rt: HostRuntime) -> Result<(), Fail> {
     let start = instant("2023-06-01T00:00:00Z")?;
     let schedule = Schedule::from_str(rt.alloc(), "0 0 0 1 1 * 2023-2025")?;
     assert_eq!(rt; count_items(&schedule, start, &TimeZone::UTC, 10), 2);
@@ -112,8 +112,8 @@ fn a_day_with_a_fold_has_an_hour_more(rt: HostRuntime) -> Result<(), Fail> {
     let (zone, eve) = (new_york()?, instant("2022-11-06T03:59:59Z")?);
     let date = Date::new(2022, 11, 6)?;
     let schedule = Schedule::from_str(rt.alloc(), "@hourly")?;
-    let fires = items_of_day(rt.alloc(), &schedule, eve, date, &zone)?;
-    assert_eq!(rt; fires.len(), 25);
+    let items = items_of_day(rt.alloc(), &schedule, eve, date, &zone)?;
+    assert_eq!(rt; items.len(), 25);
     Ok(())
 }
 
@@ -133,7 +133,7 @@ fn check_missed(
         instant(now)?,
         &new_york()?,
     )?;
-    check_fires(rt, missed.as_slice(), wanted)
+    check_moments(rt, missed.as_slice(), wanted)
 }
 
 // On 2022-11-06 New York goes from -04:00 to -05:00 at 06:00Z, when its clock shows 02:00:00.
@@ -263,9 +263,9 @@ fn both_orders_go_on_in_a_fold(rt: HostRuntime) -> Result<(), Fail> {
         offset: Offset::from_seconds(-4 * 3600)?,
     };
     let fire = fire_after(&schedule, noted, &zone).ok_or("no fire follows")?;
-    check_fires(&rt, &[fire], "2022-11-06 01:30:00 -04:00, ")?;
+    check_moments(&rt, &[fire], "2022-11-06 01:30:00 -04:00, ")?;
     let item = item_after(&schedule, noted, &zone).ok_or("no item follows")?;
-    check_fires(&rt, &[item], "2022-11-06 01:00:00 -05:00, ")
+    check_moments(&rt, &[item], "2022-11-06 01:00:00 -05:00, ")
 }
 
 #[test]

@@ -117,8 +117,8 @@ fn tell_lines<R: BufRead, W: Watchable>(
     Outcome::Unreadable
 }
 
-/// The line that tells why a check ended, where no report tells it: of want of memory, and where nothing
-/// could be read. Else it is empty.
+/// The line that tells why a check ended, where no report tells it: of want of memory, and of a reader
+/// that failed. Else it is empty.
 pub fn closing_line(end: Outcome) -> &'static str
     ensures { result.now ≡ closing_line end }
 {

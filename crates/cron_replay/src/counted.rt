@@ -85,14 +85,14 @@ pub(crate) fn replay(report: &mut Report<'_>, row: Row<'_>) -> Result<()> {
     let (end, answers) = cut(case.rest)?;
     let setting = setting_of(alloc, case)?;
     let end = start_at(end, &setting.zone)?;
-    for (way, tally) in [
+    for (cut_by, tally) in [
         ("one run", uncut(&setting, end)),
         ("hour by hour", hour_by_hour(&setting, end)?),
         ("ten by ten", ten_by_ten(&setting, end)),
     ] {
         let (count, sum) = (tally.count, tally.sum);
         let told = format!(in alloc; "{count}, {sum}")?;
-        report.compare(row, way, answers, told.as_str())?;
+        report.compare(row, cut_by, answers, told.as_str())?;
     }
     Ok(())
 }

@@ -47,17 +47,17 @@ impl<'r> Report<'r> {
         self.differences
     }
 
-    /// Compares what one of the ways to ask answers with what a row has.
+    /// Compares what was asked in one form or another, which has a name, and its answer with what a row has.
     pub(crate) fn compare(
         &mut self,
         row: Row<'_>,
-        way: &str,
+        asked: &str,
         expected: &str,
         got: &str,
     ) -> Result<()> {
         if got != expected {
             self.differences = self.differences.saturating_add(1);
-            println!(self.rt; "{row}: {way}: expected {expected:?}, got {got:?}")?;
+            println!(self.rt; "{row}: {asked}: expected {expected:?}, got {got:?}")?;
         }
         Ok(())
     }

@@ -22,8 +22,10 @@ impl fmt::Display for WriteFailed {
 
     ghost output = { λ _. Some write_failed_text };
 
+    ghost styled_output = { λ _ _. Some write_failed_text };
+
     fn fmt<W: fmt::Write>(&self, f: &mut fmt::Formatter<W>) -> fmt::Result {
-        write!(f, "a write failed")
+        f.write_str("a write failed")
     }
 }
 

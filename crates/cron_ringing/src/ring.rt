@@ -26,10 +26,12 @@ impl<E: fmt::Display> fmt::Display for Failure<E> {
 
     ghost output = { λ failure. failure_text E.output failure };
 
+    ghost styled_output = { λ failure spec. failure_text (λ e. E.styled_output e spec) failure };
+
     fn fmt<W: fmt::Write>(&self, f: &mut fmt::Formatter<W>) -> fmt::Result {
         match self {
-            Failure::Refused(error) => write!(f, "{error}"),
-            Failure::Stopped(stop) => write!(f, "{stop}"),
+            Failure::Refused(error) => error.fmt(f),
+            Failure::Stopped(stop) => stop.fmt(f),
         }
     }
 }
