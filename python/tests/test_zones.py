@@ -158,7 +158,9 @@ class Files(unittest.TestCase):
 
     def test_a_zone_without_a_file_is_refused(self):
         self.place_package()
-        for key in ("Gone", "Far/Gone", "Nowhere/Gone"):
+        self.look_in("first")
+        # the last two can be the names of no file
+        for key in ("Gone", "Far/Gone", "Nowhere/Gone", 300 * "x", "a\0b"):
             zone = zoneinfo.ZoneInfo.from_file(io.BytesIO(TOKYO), key=key)
             with self.assertRaisesRegex(ZoneError, f"^no file for the zone {key} can be read$"):
                 eras_of(zone)

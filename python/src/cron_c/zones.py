@@ -3,6 +3,7 @@
 from __future__ import annotations
 
 import importlib.resources
+import os
 import pathlib
 import weakref
 import zoneinfo
@@ -36,11 +37,12 @@ def _data_in_package(key: str) -> bytes:
 
 def _data_of(key: str) -> bytes:
     """The bytes of the zone's file, found as `zoneinfo` finds it."""
-    paths = (pathlib.Path(folder, key) for folder in zoneinfo.TZPATH)
-    path = next(filter(pathlib.Path.is_file, paths), None)
+    paths = (os.path.join(folder, key) for folder in zoneinfo.TZPATH)
+    # as `zoneinfo` has it: a folder that can't be searched has no such file, where `Path.is_file` raises an error
+    path = next(filter(os.path.isfile, paths), None)
     try:
-        return path.read_bytes() if path else _data_in_package(key)
-    except (ImportError, OSError) as error:
+        return pathlib.Path(path).read_bytes() if path else _data_in_package(key)
+    except (ImportError, OSError, ValueError) as error:
         raise ZoneError(f"no file for the zone {key} can be read") from error
 
 
