@@ -1,0 +1,128 @@
+"""The ledgers of refused edits: crates/NAME/edits/ledger.txt has a line for each edit of edits/ that the prover refused.
+
+A line is the edit's name, a sum, and, where the refusal says little of the contract, why. The sum is of all that the refusal
+rests on: the edit, the scripts that judge it, the kit, HANDLES, and the crate and those below it with their lines of crates.txt
+and their src/, specs/ and proofs/. Of the crates below, the sources stand for what `rt` hands on, which is known only once they
+are built. So a line with the right sum vouches for its edit on every machine, and another one is stale."""
+import contextlib
+import fcntl
+import functools
+import hashlib
+import os
+import re
+import subprocess
+import tempfile
+
+from kit import rt
+
+LINE = re.compile(r"([A-Za-z0-9_.-]+) ([0-9a-f]{32})(?: (\S.*))?")
+# What judges an edit, beside the kit.
+SCRIPTS = ("copies.py", "edits.py", "judge.py", "kit.py")
+OF_KIT = ("KIT-ID", "bin/rt", "bin/rtlib.py")
+
+
+def sum_of(*told):
+    return hashlib.sha256(repr(told).encode()).hexdigest()
+
+
+@functools.cache
+def sum_of_judges():
+    """Returns a sum of the kit, by its name and its scripts, and of the scripts of this folder that judge edits."""
+    here = os.path.dirname(os.path.realpath(__file__))
+    files = [f"{rt.KIT}/{it}" for it in OF_KIT] + [f"{here}/{it}" for it in SCRIPTS]
+    return sum_of([rt.rtlib.sum_of(it) for it in files])
+
+
+def sum_of_crate(crate):
+    """Returns a sum of a crate's own files and of its line of crates.txt."""
+    files = [(os.path.relpath(it, crate.folder), rt.rtlib.sum_of(it)) for it in rt.rtlib.files_of(crate.folder)]
+    return sum_of(crate.name, sorted(crate.said.items()), [it.name for it in crate.deps], [*crate.of_kit], files)
+
+
+def path_of(crate):
+    return f"{crate.folder}/edits/ledger.txt"
+
+
+def name_of(file):
+    return os.path.basename(file).removesuffix(".edit")
+
+
+class Ledger:
+    """The ledger of one crate, and the sum of all that its edits rest on beside themselves."""
+
+    def __init__(self, crate, handles):
+        self.crate, self.file = crate, path_of(crate)
+        self.rest = sum_of(sum_of_judges(), handles, [sum_of_crate(it) for it in [*crate.below(), crate]])
+
+    def sum(self, file):
+        """Returns the sum that the line of the edit in this file must have."""
+        return sum_of(self.rest, name_of(file), rt.rtlib.sum_of(file))[:32]
+
+    def lines(self):
+        """Returns the lines by the names of their edits, each as its sum and why the refusal is weak, and those that can't be
+        read or stand twice."""
+        told, bad = {}, []
+        for line in (rt.rtlib.text_of(self.file) or "").splitlines():
+            found = LINE.fullmatch(line)
+            if not found:
+                bad.append(f"a line can't be read: {line[:80]}")
+            elif found[1] in told:
+                bad.append(f"{found[1]} stands twice")
+            else:
+                told[found[1]] = (found[2], found[3] or "")
+        return told, bad
+
+    def faults(self, files, strays):
+        """Returns what is wrong with the ledger's lines, where the crate's edits are in these files; with strays also which
+        lines name no edit."""
+        told, bad = self.lines()
+        known = {name_of(it) for it in files}
+        return [f"{self.crate.name}: ledger: {it}" for it in bad + [f"{it} names no edit" for it in told if strays and it not in known]]
+
+    def vouched(self, files):
+        """Returns the files of these edits for which a line vouches, with why their refusals are weak."""
+        told = self.lines()[0]
+        found = {it: told.get(name_of(it), ("", "")) for it in files}
+        return {it: weakness for it, (sum, weakness) in found.items() if sum == self.sum(it)}
+
+    @contextlib.contextmanager
+    def held(self):
+        """Holds the folder of edits, so that of two runs each sees what the other wrote."""
+        folder = os.open(os.path.dirname(self.file), os.O_RDONLY)
+        try:
+            fcntl.flock(folder, fcntl.LOCK_EX)
+            yield
+        finally:
+            os.close(folder)
+
+    def write(self, refused=None, failed=(), kept=None):
+        """Writes lines for refused edits, given as sums and weaknesses by their names, and removes those of edits that failed
+        and, where the names to be kept are given, of all others."""
+        with self.held():
+            told = {**self.lines()[0], **(refused or {})}
+            names = sorted(it for it in told if it not in failed and (kept is None or it in kept))
+            text = "".join(" ".join([it, *filter(None, told[it])]) + "\n" for it in names)
+            if text == (rt.rtlib.text_of(self.file) or ""):
+                return
+            with tempfile.NamedTemporaryFile("w", dir=os.path.dirname(self.file), delete=False, encoding="utf-8") as it:
+                it.write(text)
+            os.chmod(it.name, 0o644)
+            os.replace(it.name, self.file)
+
+
+def turn(root):
+    """Returns the number by which this commit chooses its sample: how many commits lead to it. A shallow clone doesn't know
+    that, and takes a number from the commit's name."""
+    git = lambda *words: subprocess.run(["git", "-C", root, *words], capture_output=True, text=True).stdout.strip()
+    if git("rev-parse", "--is-shallow-repository") == "false":
+        return int(git("rev-list", "--count", "HEAD") or 0)
+    return int(git("rev-parse", "HEAD") or "0", 16)
+
+
+def sample(files, number):
+    """Returns two of the crates whose edits are in these files, in turn by a number: one of those with many edits, and one of
+    those with few."""
+    crates = sorted((it for it in files if files[it]), key=lambda it: (-len(files[it]), it.name))
+    pairs = -(-len(crates) // 2)
+    at = number % pairs if pairs else 0
+    return {*crates[at : at + 1], *crates[::-1][at : at + 1]}
