@@ -27,7 +27,7 @@ memory_kind : (text : List ℕ) (sets : Sets) (k : ErrorKind) → Means text set
 memory_kind text sets (Expression t) m h = h.nothing sets m
 memory_kind text sets OutOfMemory m h = tt
 
--- and it is refused for want of memory alone
+-- and out of memory is its only error
 pub read_refused : (text : List ℕ) (sets : Sets) (r : Result Plan Error) → Means text sets
     → IfErr r (Tells (IsRefusal text)) → IfErr r IsMemory
 read_refused text sets (Ok s) m h = tt

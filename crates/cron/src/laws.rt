@@ -39,7 +39,7 @@ pub fn headline(
     Ok(walk.play(alloc, turns)?)
 }
 
-/// Reading a source again gives the same schedule, and is refused for want of memory alone.
+/// Reading a source again gives the same schedule. Out of memory is its only error.
 pub fn reread(alloc: Global, schedule: &Schedule) -> Result<Schedule, Error>
     ensures same { IfOk result (λ again. again ≡ schedule.now) }
     ensures refused { IfErr result IsMemory }

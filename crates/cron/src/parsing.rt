@@ -13,7 +13,7 @@ use cron_units::error::Error;
 use std::alloc::Global;
 use std::borrow::CowStr;
 
-/// Each reader answers a schedule exactly where the text is in the grammar, want of memory aside. A
+/// Each reader answers a schedule exactly where the text is in the grammar, out of memory aside. A
 /// refusal tells the first refused field's message or `Invalid cron expression.`; or, where a growth
 /// was refused, `out of memory`. Memory is taken for the copy of a borrowed text and for a message
 /// alone, so an owned text of the grammar is always read.

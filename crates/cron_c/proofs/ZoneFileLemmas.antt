@@ -15,7 +15,7 @@ no_memory_by : (read : Parsed TzifText) (answer : Result Tzif Error) → IsRefus
 no_memory_by (Ok text) answer refused e = (text, refl)
 no_memory_by (Err fault) answer refused e = let both : Err (Fault fault) ≡ Err OutOfMemory = sym refused ∙ e in absurd (cc)
 
--- memory is wanting only for what good bytes say
+-- memory runs out only for what good bytes say
 pub no_memory : (bytes : List ℕ) (answer : Result Tzif Error) → IsRefused (read_tzif bytes) answer → answer ≡ Err OutOfMemory
     → (text : TzifText) × (read_tzif bytes ≡ Ok text)
 no_memory bytes answer refused e = no_memory_by (read_tzif bytes) answer refused e

@@ -92,7 +92,7 @@ WritesEras t old new count BadZone = HasDoubleTurn t × (new ≡ old) × (count 
 WritesEras t old new count _ = ⊥
 
 -- The bytes are those of a zone file, and its eras are in the array; or the array is too short; or they are none, or none that eras mean;
--- or memory is wanting for what they say.
+-- or memory ran out for what they say.
 abbrev pub ReadsHistory : List ℕ → List CronEra → List CronEra → ℕ → Status → Type 0
 ReadsHistory bytes old new count NoMemory = (text : TzifText) × (read_tzif bytes ≡ Ok text) × (new ≡ old) × (count ≡ 0)
 ReadsHistory bytes old new count BadZone = ((t : Tzif) → IsFileOf bytes t → HasDoubleTurn t) × (new ≡ old) × (count ≡ 0)

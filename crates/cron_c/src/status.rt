@@ -24,7 +24,7 @@ pub enum Status {
     Untold,
     /// Items were written as far as they fit, and more are left; or eras don't fit, and none was written.
     More,
-    /// Memory is wanting.
+    /// Out of memory.
     NoMemory,
 }
 

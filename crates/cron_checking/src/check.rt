@@ -24,7 +24,7 @@ pub enum Outcome {
     AllRead,
     /// Every line was read, and one or more of them were refused.
     SomeRefused,
-    /// Memory was wanting for a line or for what is told of it, as the allocator or the reader said, and a
+    /// Memory ran out for a line or for what is told of it, as the allocator or the reader said, and a
     /// line that tells so was written.
     OutOfMemory,
     /// A write or the flush failed, and nothing more was written.
@@ -37,7 +37,7 @@ pub enum Outcome {
 
 impl Outcome {
     /// The exit status: 0 where every line was read and none is refused, 1 where some are refused or memory
-    /// is wanting, 3 where a write failed, 4 where the lines can't be read.
+    /// ran out, 3 where a write failed, 4 where the lines can't be read.
     pub fn code(self) -> u8
         ensures { result ≡ code_of self }
     {
@@ -117,7 +117,7 @@ fn tell_lines<R: BufRead, W: Watchable>(
     Outcome::Unreadable
 }
 
-/// The line that tells why a check ended, where no report tells it: of want of memory, and of a reader
+/// The line that tells why a check ended, where no report tells it: of out of memory, and of a reader
 /// that failed. Else it is empty.
 pub fn closing_line(end: Outcome) -> &'static str
     ensures { result.now ≡ closing_line end }

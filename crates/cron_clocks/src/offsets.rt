@@ -41,7 +41,7 @@ impl Placed {
         self.start <= self.at && self.at < past
     }
 
-    // Of those that precede the start, as many as the clock is behind.
+    // As many of those that precede the start as the clock is behind.
     fn precedes_start(self) -> bool
         ensures { result ≡ in_span (self.start +ℤ self.saving) self.start self.at }
     {
@@ -49,7 +49,7 @@ impl Placed {
         first <= self.at && self.at < self.start
     }
 
-    // Of those that precede the end, as many as the clock is ahead.
+    // As many of those that precede the end as the clock is ahead.
     fn precedes_end(self) -> bool
         ensures { result ≡ in_span (self.end -ℤ self.saving) self.end self.at }
     {
@@ -57,7 +57,7 @@ impl Placed {
         first <= self.at && self.at < self.end
     }
 
-    // Of those that follow the end, as many as the clock is behind.
+    // As many of those that follow the end as the clock is behind.
     fn follows_end(self) -> bool
         ensures { result ≡ in_span self.end (self.end -ℤ self.saving) self.at }
     {

@@ -1,5 +1,13 @@
 //! When a schedule fires, by instants: the first fire after now, the last one by now, all of them in
 //! order, and those that were missed.
+//!
+//! ```text
+//! let mut fire = first_fire_after(&schedule, now, &zone);
+//! while let Some(moment) = fire {
+//!     // sleep until moment.timestamp(), and run the job
+//!     fire = first_fire_past(&schedule, &moment, &zone);
+//! }
+//! ```
 #![tactic(auto)]
 
 ghost use Rattle.std.specs.Prelude.{◌≡◌};
@@ -36,9 +44,8 @@ pub fn fields_of(schedule: &Schedule) -> ScheduleFields
     }
 }
 
-/// When the schedule fires first after an instant: of its moments in the zone whose instant comes after
-/// `now` the earliest, also in a fold. `None` where it fires no more. A loop goes on by
-/// [`first_fire_past`] from the fire that it ran, so that nothing that came due meanwhile is lost.
+/// The first fire after an instant, also in a fold. `None` where the schedule fires no more. A loop goes
+/// on by [`first_fire_past`] from the fire that it ran, so that nothing that came due meanwhile is lost.
 pub fn first_fire_after(schedule: &Schedule, now: Timestamp, zone: &TimeZone<'_>) -> Option<Moment>
     ensures { IsFirstAfter schedule.now.sets (plain_zone zone.now) now.nanosecond result }
 {
@@ -46,9 +53,8 @@ pub fn first_fire_after(schedule: &Schedule, now: Timestamp, zone: &TimeZone<'_>
     instants::first_after(&fields, zone, now)
 }
 
-/// When the schedule fires next after a fire: of its moments that are later than this one the earliest,
-/// also where two share an instant, of which that with the less civil second comes first. `None` where it
-/// fires no more. The moment may be one at which the schedule doesn't fire.
+/// The next fire after this one. Where two share an instant, the one with the lesser civil second comes
+/// first. `None` where the schedule fires no more. The moment may be one at which it doesn't fire.
 pub fn first_fire_past(schedule: &Schedule, item: &Moment, zone: &TimeZone<'_>) -> Option<Moment>
     ensures { IsFirstPast schedule.now.sets (plain_zone zone.now) item.now result }
 {
@@ -56,8 +62,8 @@ pub fn first_fire_past(schedule: &Schedule, item: &Moment, zone: &TimeZone<'_>) 
     instants::first_past(&fields, zone, item)
 }
 
-/// When the schedule fired last: of its moments in the zone whose instant is `now` or comes before it
-/// the latest, of two that share an instant that with the greater civil second. `None` where it hasn't fired yet.
+/// The last fire whose instant is `now` or comes before it. Where two share an instant, the one with the
+/// greater civil second is the later. `None` where the schedule hasn't fired yet.
 pub fn last_fire_by(schedule: &Schedule, now: Timestamp, zone: &TimeZone<'_>) -> Option<Moment>
     ensures { IsLastBy schedule.now.sets (plain_zone zone.now) now.nanosecond result }
 {

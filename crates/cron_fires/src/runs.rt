@@ -84,7 +84,7 @@ impl<'a> Iterator for Fires<'a> {
 }
 
 /// What [`Fires::between`] answers, as a list: what came due between two instants, the second one
-/// included. It may fail for want of memory; no clause says when.
+/// included. It may run out of memory; no clause says when.
 pub fn missed(
     alloc: Global,
     schedule: &Schedule,

@@ -1,5 +1,5 @@
-//! The first item after an instant, where the clock and the instants have one order about what a clock
-//! shows then.
+//! The first item after an instant. Where no transition is near, a later time of the clock is a later
+//! instant, so the next match on the clock is that item. Elsewhere it is searched for by instants.
 ghost use Rattle.std.specs.Prelude.{◌≡◌, ◌≤◌, ◌<◌, pos, ◌-ℤ◌, IfSome};
 ghost use Rattle.jiff.specs.Words.{plain_zone};
 ghost use Rattle.cron_clocks.specs.Steady.{IsKnown};

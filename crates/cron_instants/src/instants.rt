@@ -13,7 +13,7 @@ use cron_units::way::Way;
 use jiff::Timestamp;
 use jiff::tz::TimeZone;
 
-/// Of the items whose instant comes after `now` the earliest. `None` where there is none.
+/// The earliest item whose instant comes after `now`. `None` where there is none.
 pub fn first_after(fields: &ScheduleFields, zone: &TimeZone<'_>, now: Timestamp) -> Option<Moment>
     ensures { IsFirstAfter fields.now (plain_zone zone.now) now.nanosecond result }
 {
@@ -22,8 +22,8 @@ pub fn first_after(fields: &ScheduleFields, zone: &TimeZone<'_>, now: Timestamp)
     first_item(fields, zone, Mark::behind(now), shown, &stretch)
 }
 
-/// Of the items that are later than this one the earliest. `None` where there is none. The one that is handed in may be no
-/// item of the timeline.
+/// The earliest item that is later than this one. `None` where there is none. The one that is handed in
+/// may be no item of the timeline.
 pub fn first_past(fields: &ScheduleFields, zone: &TimeZone<'_>, item: &Moment) -> Option<Moment>
     ensures { IsFirstPast fields.now (plain_zone zone.now) item.now result }
 {
@@ -31,7 +31,7 @@ pub fn first_past(fields: &ScheduleFields, zone: &TimeZone<'_>, item: &Moment) -
     first_item(fields, zone, Mark::of(item), shown, &Stretch::empty())
 }
 
-/// Of the items whose instant is `now` or comes before it the latest. `None` where there is none.
+/// The latest item whose instant is `now` or comes before it. `None` where there is none.
 pub fn last_by(fields: &ScheduleFields, zone: &TimeZone<'_>, now: Timestamp) -> Option<Moment>
     ensures { IsLastBy fields.now (plain_zone zone.now) now.nanosecond result }
 {

@@ -19,7 +19,7 @@ const USAGE: &str = "usage: cron_next EXPRESSION START ZONE COUNT [back]\n";
 pub enum Status {
     /// The items were listed, also where there are none.
     Listed,
-    /// The expression was refused, or memory was wanting for it or for the arguments, and the line that says so was
+    /// The expression was refused, or memory ran out for it or for the arguments, and the line that says so was
     /// written.
     Refused,
     /// The arguments can't be read, and the usage line was written.

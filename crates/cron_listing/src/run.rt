@@ -26,7 +26,7 @@ use std::alloc::Global;
 pub enum Outcome {
     /// The items were written, fewer than were asked for where the walk ended.
     Listed,
-    /// The expression was refused, or memory was wanting for it, and the one line that says so was written.
+    /// The expression was refused, or memory ran out for it, and the one line that says so was written.
     Refused,
     /// A write or the flush failed, and nothing more was written.
     WriteFailed,
@@ -155,7 +155,7 @@ pub fn refuse<W: Watchable>(out: &mut Watched<W>, line: &str) -> Outcome
 
 /// Writes a line for each of the first `count` items of the expression after the start, or before
 /// it where `back` says so, and flushes. A refused expression is told by one line. It takes memory
-/// in the reading alone, so a list that was begun never ends for want of memory. The list is a walk's:
+/// in the reading alone, so a list that was begun never ends out of memory. The list is a walk's:
 /// one that is begun in a fold may leave out items after the start, or begin with the start itself or an
 /// instant before it, and with `back` the other way round.
 ///

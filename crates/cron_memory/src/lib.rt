@@ -1,5 +1,5 @@
-//! Each call that takes memory, made once where memory may be wanting: it gives the right answer, or says
-//! that memory is wanting and changes nothing. `tools/refuse_memory` refuses each growth in turn.
+//! Each call that takes memory, made once where memory may run out: it gives the right answer, or says
+//! that it is out of memory and changes nothing. `tools/refuse_memory` refuses each growth in turn.
 #![tactic(auto)]
 
 #[cfg(test)]

@@ -41,7 +41,7 @@ pub record IsUnread {C W E : Type 0} (shows : C → Result Timestamp E → C →
   pub cause : stop ≡ Clock fault
   pub untouched : p' ≡ p
 
--- What a request asks for was printed. Or the expression is refused or memory is wanting, and the clock and the printer are as
+-- What a request asks for was printed. Or the expression is refused or memory ran out, and the clock and the printer are as
 -- before; or the clock could not be read; or the run that prints was stopped.
 abbrev pub Rings : {C W E : Type 0} → (C → Result Timestamp E → C → Type 0) → (C → Timestamp → Result ⊤ E → C → Type 0)
     → (W → List ℕ → Result ℕ Error → W → Type 0) → (W → Result ⊤ Error → W → Type 0) → (W → Option (List ℕ))

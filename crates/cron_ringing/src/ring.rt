@@ -15,7 +15,7 @@ use std::fmt;
 /// Why it was given up before all was rung. It prints as the error that it holds.
 #[derive(Debug, Drop)]
 pub enum Failure<E> {
-    /// The expression is refused, or memory is wanting.
+    /// The expression is refused, or memory ran out.
     Refused(ReadError),
     /// The clock failed, or a write.
     Stopped(Stop<E, WriteFailed>),

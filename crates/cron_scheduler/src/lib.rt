@@ -1,5 +1,16 @@
 //! Runs a job at each fire of a schedule, over any clock that can wait: each fire once, in order, none
 //! before its instant, and none lost, however the clock goes.
+//!
+//! ```text
+//! let mut clock = MachineClock(&rt);
+//! let plan = Plan {
+//!     schedule: &schedule,
+//!     zone: &zone,
+//!     start: Start::After(clock.now()?),
+//!     most: None,
+//! };
+//! plan.run(&mut clock, &mut |fire: Moment| println!(rt; "{fire}"))?;
+//! ```
 #![tactic(auto)]
 
 mod clock;

@@ -4,14 +4,14 @@ ghost use Rattle.std.specs.Prelude.{◌≡◌, ◌≤◌, ◌+◌, ◌++◌, [],
 
 use std::marker::Model;
 
-/// How many bytes are gathered at most. So many reach a pipe in one piece, also where others write to it.
+/// How many bytes are gathered at most. A pipe takes that many in one piece, also where others write to it.
 pub const ROOM: usize = 4096;
 
-/// How many bytes a short text has at most. So many are copied of each: a copy of a known length is a few
-/// instructions.
+/// How many bytes a short text has at most. Each is copied as that many bytes, since a copy of a known
+/// length is a few instructions.
 pub const WIDTH: usize = 32;
 
-/// So many bytes take the copy of a short text that ends where the room does.
+/// The size of the array, which leaves room behind the last text for the copy of a short one.
 const SIZE: usize = ROOM + WIDTH;
 
 /// The bytes that were gathered.

@@ -22,7 +22,7 @@ fn invalid_type(alloc: Global) -> Error
 }
 
 impl Schedule {
-    /// The JSON string of the source. It is refused for want of memory alone.
+    /// The JSON string of the source. Out of memory is its only error.
     pub fn to_value(&self, alloc: Global) -> Result<Value, Error>
         ensures json { IfOk result (λ value. view value ≡ string self.now.source) }
         ensures refused { IfErr result IsMemory }

@@ -28,8 +28,10 @@ impl Schedule {
     /// back: 06:00Z, 07:00Z, 06:30Z, 07:30Z.
     ///
     /// ```text
-    /// let mut walk = schedule.after(now, &zone);
-    /// while let Some(moment) = walk.next() { .. }
+    /// let mut walk = schedule.after(start, &zone); // `0 30 1 * * *` in Chicago, from 2022-11-05T12:00:00Z
+    /// walk.next();      // 2022-11-06 01:30:00 -05:00
+    /// walk.next();      // 2022-11-06 01:30:00 -06:00
+    /// walk.next_back(); // 2022-11-06 01:30:00 -05:00
     /// ```
     pub fn after<'a>(&'a self, start: Timestamp, zone: &'a TimeZone<'a>) -> ScheduleIterator<'a>
         ensures sets { result.sets ≡ self.now.sets }

@@ -8,8 +8,8 @@ ghost use Rattle.cron_units.specs.Tables.{ordinals_view, are_keyed, keyed_in};
 
 use super::Ordinal;
 
-/// The letters of a name by their numbers in the alphabet, five bits each. Of more letters than any name
-/// has it is some number that is no name's.
+/// The letters of a name as one number, five bits for each. A word with more letters than any name has a
+/// key that is no name's.
 pub type Key = u64;
 
 /// What no key of a name reaches.

@@ -8,6 +8,14 @@ use super::{Ordinal, OrdinalIter, OrdinalRangeIter, TimeUnitField};
 use std::ops::Bound;
 
 /// The set of one field of a schedule.
+///
+/// ```text
+/// let minutes = schedule.minutes(); // of `0 0,30 9 * * *`
+/// minutes.includes(30); // true
+/// minutes.count(); // 2
+/// for minute in minutes.iter() { .. } // 0, 30
+/// for minute in minutes.range((Bound::Excluded(0), Bound::Unbounded)) { .. } // 30
+/// ```
 pub trait TimeUnitSpec {
     /// The unit of the ordinals.
     ghost time_unit: { TimeUnit };
