@@ -1,4 +1,7 @@
 //! What the grammar sees in a token. That a number past 32 bits is foreign is decided here.
+//!
+//! A token is read once, with its symbol. The two parts of a place are written one by one: a copy of the
+//! whole moves its padding too, in pieces that overlap.
 
 ghost use Rattle.std.specs.Prelude.{◌≡◌, ◌<◌, ◌+◌, ◌*◌, [], ℕ, length, slice_index, MatchOption, IfSome, true, false};
 ghost use Rattle.std.specs.Char.{digit_value};

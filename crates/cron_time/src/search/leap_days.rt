@@ -1,4 +1,8 @@
 //! Schedules of which 29 February alone can match.
+//!
+//! The next February of a year that 4 divides is a division by 48. The set of years is asked as ever, and
+//! 2100 fails by the length of its February.
+
 ghost use Rattle.std.specs.Prelude.{◌≡◌, ℕ, ◌%◌, ◌<◌, ◌≤◌, true};
 ghost use Rattle.cron_units.specs.Nearest.{LiesFrom, Precedes};
 ghost use Rattle.cron_moments.specs.Calendar.{first_month, months_end};

@@ -1,4 +1,8 @@
 //! The days of a month whose dates match, a bit for each.
+//!
+//! Walks and calls by instants go by these bits. The public searches make and test each date by itself,
+//! since they promise how many dates they make.
+
 ghost use Rattle.std.specs.Prelude.{◌≡◌, ℕ, ◌+◌, ◌%◌, ◌<◌, ◌≤◌, pos, IfSome, option_map, true, false};
 ghost use Rattle.jiff.specs.Words.{plain_zone};
 ghost use Rattle.cron_bits.specs.Words.{has_bit};
