@@ -49,8 +49,8 @@ impl Schedule {
 
     /// Finds the first `count` civil seconds at or after `from` that match and have a reading, or all
     /// where there are fewer, by searches ahead one after the other. It tells how many it found and the
-    /// sums of both counts, so a day in which one search ends and the next begins is counted twice: at
-    /// most one day more than the candidates for each of the seconds found.
+    /// sums of both counts. A day in which one search ends and the next begins is counted twice, so there is
+    /// at most one day more than the candidates for each of the seconds found.
     pub fn survey(&self, from: DateTime, zone: &TimeZone<'_>, count: u32) -> Survey
         ensures seconds { result.seconds
             ≡ length (take count (standing_from self.now.sets (plain_zone zone.now) (civil_seconds from))) }

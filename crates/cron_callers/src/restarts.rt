@@ -36,7 +36,7 @@ pub fn fire_after(schedule: &Schedule, noted: Noted, zone: &TimeZone<'_>) -> Opt
     first_fire_past(schedule, &fire, zone)
 }
 
-/// The item after the noted one along the clock, for a calendar: in a fold its instant may be earlier than
+/// The item after the noted one along the clock, for a calendar. In a fold its instant may be earlier than
 /// that of the noted one, so a scheduler that went on so would lose fires and run others twice. It is
 /// `None` after the last item, and where what was noted is no item of this schedule in this zone, and
 /// nowhere else.

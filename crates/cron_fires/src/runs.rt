@@ -12,8 +12,8 @@ use jiff::tz::TimeZone;
 use std::alloc::{AllocError, Global};
 use std::marker::Model;
 
-/// Fires of a schedule in a zone, the earliest first: each once, none left out, also in a fold and where
-/// two share an instant, of which that with the less civil second comes first. Contracts see the list of
+/// Fires of a schedule in a zone, the earliest first: each once, none left out, also in a fold. Where two
+/// share an instant, the one with the lesser civil second comes first. Contracts see the list of
 /// those that are left. It takes no memory, and after a `None` answers `None` for ever.
 #[derive(Drop)]
 pub struct Fires<'a> {

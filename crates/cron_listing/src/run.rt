@@ -155,8 +155,8 @@ pub fn refuse<W: Watchable>(out: &mut Watched<W>, line: &str) -> Outcome
 
 /// Writes a line for each of the first `count` items of the expression after the start, or before
 /// it where `back` says so, and flushes. A refused expression is told by one line. It takes memory
-/// in the reading alone, so a list that was begun never ends out of memory. The list is a walk's:
-/// one that is begun in a fold may leave out items after the start, or begin with the start itself or an
+/// in the reading alone, so a list that was begun never ends out of memory. The list is a walk's.
+/// One that is begun in a fold may leave out items after the start, or begin with the start itself or an
 /// instant before it, and with `back` the other way round.
 ///
 /// Whole lines are handed to the writer together, up to 4,096 bytes a call, and the last of them

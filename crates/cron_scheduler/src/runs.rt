@@ -40,7 +40,7 @@ fn run_due<J: Job>(
 }
 
 impl Plan<'_> {
-    /// Runs the job for the fires of the plan, each once, in order, and none before its instant: waits for
+    /// Runs the job for the fires of the plan, each once, in order, and none before its instant. It waits for
     /// the fire that comes next, reads the clock, runs all that is due by then, and again. The job must be
     /// one that may be called (`can_run`), as a closure without a condition of its own is.
     ///
