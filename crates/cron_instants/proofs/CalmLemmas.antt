@@ -10,7 +10,8 @@ use Rattle.cron_units.specs.Nearest.{IsNearestAt}
 use Rattle.cron_units.specs.Sets.{Sets}
 use Rattle.cron_moments.specs.Readings.{Reading, instant, reading, readings}
 use Rattle.cron_instants.specs.Order.{is_earlier}
-use Rattle.cron_instants.specs.Inner.Beyond.{is_match, IsBest, IsBeyond, Stands}
+use Rattle.cron_time.specs.Matches.{is_match}
+use Rattle.cron_instants.specs.Inner.Beyond.{IsBest, IsBeyond, Stands}
 use Rattle.cron_instants.specs.Inner.Calm.{IsCalm, IsInOrder, IsKnownCalm, IsNext, IsSettled}
 use Rattle.cron_instants.specs.Inner.Spread.{IsRead}
 use Rattle.cron_instants.specs.declared.calm.Calm.{Calm}

@@ -10,7 +10,8 @@ use Rattle.cron_units.specs.Nearest.{LiesFrom, Precedes, IsNearestAt}
 use Rattle.cron_units.specs.Sets.{Sets}
 use Rattle.cron_moments.specs.Readings.{Reading, reading}
 use Rattle.cron_clocks.specs.declared.stretch.Stretch.{Stretch}
-use Rattle.cron_instants.specs.Inner.Beyond.{is_match, nearer_of, entry_of, IsBest, IsBeyond, IsEntered, IsPassed, IsSought, IsGoneOn, LiesPast, IsNotPast, IsInside, IsStartAt, IsMatchAt, IsMatchIn}
+use Rattle.cron_time.specs.Matches.{is_match}
+use Rattle.cron_instants.specs.Inner.Beyond.{nearer_of, entry_of, IsBest, IsBeyond, IsEntered, IsPassed, IsSought, IsGoneOn, LiesPast, IsNotPast, IsInside, IsStartAt, IsMatchAt, IsMatchIn}
 use Rattle.cron_clocks.specs.Steady.{IsSteady, readings_at}
 use Rattle.cron_instants.proofs.MatchLemmas.{match_in_range}
 use Rattle.cron_instants.proofs.OrderLemmas.{past_entry, entry_past, not_nearer}

@@ -11,13 +11,13 @@ ghost use Rattle.cron_instants.specs.Inner.Calm.{IsCalm, IsInOrder, IsKnown, IsN
 ghost use Rattle.cron_instants.specs.Inner.Spread.{IsSpread};
 
 use crate::mark::Mark;
-use crate::matching::match_past;
 use crate::search::nearest_item;
 use crate::spread::{Spread, spread_of};
 use crate::wide::{one_offset, widened};
 use cron_clocks::stretch::Stretch;
 use cron_moments::civil::SECONDS;
 use cron_moments::moment::{Moment, civil_second, moment_numbered};
+use cron_time::search::civil_seconds::match_past;
 use cron_time::search::month_days::MonthDays;
 use cron_units::fields::ScheduleFields;
 use cron_units::way::Way;
@@ -162,7 +162,7 @@ pub(crate) fn next_item(
     let Some(calm) = known else {
         return searched(fields, zone, mark);
     };
-    let Some(next) = match_past(fields, mark.second, days) else {
+    let Some(next) = match_past(fields, Way::Ahead, mark.second, days) else {
         return (None, None);
     };
     if next < calm.end {

@@ -10,11 +10,11 @@ ghost use Rattle.cron_instants.specs.Inner.Calm.{IsCalm};
 
 use crate::calm::{Calm, calm_around, calm_past};
 use crate::mark::Mark;
-use crate::matching::nearest_match;
 use crate::search::nearest_item;
 use cron_clocks::stretch::Stretch;
 use cron_moments::civil::SECONDS;
 use cron_moments::moment::{Moment, moment_numbered};
+use cron_time::search::civil_seconds::nearest_match;
 use cron_units::fields::ScheduleFields;
 use cron_units::way::Way;
 use jiff::tz::TimeZone;

@@ -8,7 +8,6 @@ pub mod instants;
 mod item;
 pub mod laws;
 mod mark;
-mod matching;
 pub mod run;
 mod search;
 mod spread;

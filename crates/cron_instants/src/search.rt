@@ -6,10 +6,10 @@ ghost use Rattle.cron_instants.specs.Inner.Beyond.{IsBest, IsBeyond, IsEntered, 
 
 use crate::item::nearer;
 use crate::mark::Mark;
-use crate::matching::nearest_match;
 use cron_clocks::stretch::Stretch;
 use cron_moments::civil::{FURTHEST_OFFSET, SECONDS};
 use cron_moments::moment::{Moment, instant_of, moment_numbered};
+use cron_time::search::civil_seconds::nearest_match;
 use cron_units::fields::ScheduleFields;
 use cron_units::way::Way;
 use jiff::tz::{Offset, TimeZone};

@@ -22,3 +22,4 @@ pub mod GapLemmas
 pub mod DaysPastLemmas
 pub mod TimeOfDayLemmas
 pub mod NearestTimeLemmas
+pub mod CivilSecondLemmas

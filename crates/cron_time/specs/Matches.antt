@@ -1,11 +1,11 @@
 -- The civil datetimes that lie in the seven sets of a schedule.
-use Rattle.std.specs.Prelude.{◌≡◌, ℕ, ◌<◌, ◌==◌, ℤ, pos, negsuc, Bool, true, false, ◌&&◌, ◌||◌, List}
+use Rattle.std.specs.Prelude.{◌≡◌, ℕ, ◌<◌, ◌==◌, ℤ, pos, negsuc, Bool, true, false, ◌&&◌, ◌||◌, nat_lt, List}
 use Rattle.jiff_core.specs.declared.civil.date.Date.{Date}
 use Rattle.jiff_core.specs.declared.civil.time.Time.{Time}
 use Rattle.jiff_core.specs.declared.civil.datetime.DateTime.{DateTime}
 use Rattle.jiff_core.specs.Calendar.{days_in_month}
 use Rattle.cron_moments.specs.Calendar.{weekday_number}
-use Rattle.cron_moments.specs.Civil.{days_in_range}
+use Rattle.cron_moments.specs.Civil.{civil, days_in_range, seconds_in_range}
 use Rattle.cron_moments.specs.CivilDates.{date_numbered}
 use Rattle.cron_units.specs.Sets.{Sets}
 use Rattle.cron_units.specs.Units.{FieldSet, contains}
@@ -42,3 +42,7 @@ matches_time s t = contains s.hours t.hour && contains s.minutes t.minute && con
 -- a civil datetime matches: all seven parts lie in their sets
 unfoldable pub matches : Sets → DateTime → Bool
 matches s dt = matches_date s dt.date && matches_time s dt.time
+
+-- a civil second of the range that matches, by its number
+abbrev pub is_match : Sets → ℕ → Bool
+is_match s c = nat_lt c seconds_in_range && matches s (civil c)

@@ -1,13 +1,13 @@
 -- The nearest item beyond a place among the instants, in a direction.
-use Rattle.std.specs.Prelude.{◌≡◌, ℕ, ◌+◌, ◌-◌, ◌<◌, ◌≤◌, ℤ, ◌+ℤ◌, ◌-ℤ◌, pos, Bool, true, false, Option, Some, None, MatchOption, IfSome, if◌then◌else◌, slice_get, int_lt, nat_lt, ◌&&◌}
+use Rattle.std.specs.Prelude.{◌≡◌, ℕ, ◌+◌, ◌-◌, ◌<◌, ◌≤◌, ℤ, ◌+ℤ◌, ◌-ℤ◌, pos, Bool, true, false, Option, Some, None, MatchOption, IfSome, if◌then◌else◌, slice_get, int_lt}
 use Rattle.jiff_core.specs.declared.Offset.{Offset}
 use Rattle.jiff_tz.specs.declared.timezone.TimeZone.{TimeZone}
 use Rattle.cron_units.specs.declared.way.Way.{Way}
 use Rattle.cron_units.specs.declared.way.Way.TheVariants.{Ahead, Back}
 use Rattle.cron_units.specs.Nearest.{LiesFrom, Precedes}
 use Rattle.cron_units.specs.Sets.{Sets}
-use Rattle.cron_moments.specs.Civil.{civil, seconds_in_range}
-use Rattle.cron_time.specs.Matches.{matches}
+use Rattle.cron_moments.specs.Civil.{seconds_in_range}
+use Rattle.cron_time.specs.Matches.{is_match}
 use Rattle.cron_moments.specs.Readings.{Reading, instant, readings}
 use Rattle.cron_instants.specs.Order.{comes_before, is_earlier}
 use Rattle.cron_clocks.specs.Steady.{readings_at}
@@ -39,11 +39,7 @@ nearer_of way None other = other
 nearer_of way (Some r) None = Some r
 nearer_of way (Some r) (Some q) = if is_nearer way q r then Some q else Some r
 
--- a civil second of the range that matches
-abbrev pub is_match : Sets → ℕ → Bool
-is_match s c = nat_lt c seconds_in_range && matches s (civil c)
-
--- a reading of such a civil second
+-- a reading of a civil second of the range that matches
 pub record Stands (s : Sets) (z : TimeZone) (r : Reading) : Type 0 where
   pub matching : is_match s r.second ≡ true
   pub place : ℕ

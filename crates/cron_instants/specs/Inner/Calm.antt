@@ -5,7 +5,8 @@ use Rattle.jiff_tz.specs.declared.timezone.TimeZone.{TimeZone}
 use Rattle.cron_units.specs.declared.way.Way.TheVariants.{Ahead}
 use Rattle.cron_units.specs.Sets.{Sets}
 use Rattle.cron_moments.specs.Readings.{Reading, instant, reading}
-use Rattle.cron_instants.specs.Inner.Beyond.{is_match, IsBest, IsBeyond}
+use Rattle.cron_time.specs.Matches.{is_match}
+use Rattle.cron_instants.specs.Inner.Beyond.{IsBest, IsBeyond}
 use Rattle.cron_instants.specs.Inner.Spread.{IsOnce, IsRead}
 use Rattle.cron_instants.specs.declared.calm.Calm.{Calm}
 

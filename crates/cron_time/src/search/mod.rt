@@ -15,6 +15,7 @@ ghost use Rattle.cron_time.specs.Search.Inner.Tally.{Adds, IsPassedTo};
 ghost use Rattle.cron_time.specs.Matches.{matches_date};
 ghost use Rattle.cron_time.specs.Search.{IsFound};
 
+pub mod civil_seconds;
 pub(crate) mod days;
 pub mod found;
 pub(crate) mod inquiry;

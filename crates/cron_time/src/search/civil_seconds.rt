@@ -1,0 +1,139 @@
+//! The nearest civil second that matches. It needs no reading, and no zone is asked for one.
+ghost use Rattle.std.specs.Prelude.{◌≡◌, ◌/◌, ◌%◌, ◌<◌, pos, true, IfSome};
+ghost use Rattle.cron_units.specs.Nearest.{IsNearest};
+ghost use Rattle.cron_moments.specs.Civil.{days_in_range, seconds_in_range};
+ghost use Rattle.cron_moments.specs.CivilDates.{date_numbered};
+ghost use Rattle.cron_time.specs.Matches.{is_match, matches_date};
+ghost use Rattle.cron_time.specs.Search.Inner.MonthDays.{KnowsDays};
+ghost use Rattle.cron_time.specs.Search.Inner.Numbers.{beyond, beyond_block, matches_second, way_of};
+
+use crate::search::days::some_month_has_a_day;
+use crate::search::inquiry::Inquiry;
+use crate::search::month_days::MonthDays;
+use crate::search::neighbours::{Neighbours, TimesOfDay, time_past};
+use crate::search::start_of;
+use crate::search::ways::{entry, extreme};
+use cron_moments::calendar::KnownMonth;
+use cron_moments::civil::SECONDS_PER_DAY;
+use cron_units::fields::ScheduleFields;
+use cron_units::way::Way;
+use jiff::tz::TimeZone;
+
+// The nearest time of day from one on.
+#[inline(always)]
+fn time_from(fields: &ScheduleFields, way: Way, from: u32) -> Option<u32>
+    requires { from < 86_400 }
+    ensures nearest { IsNearest way (matches_second fields.now) (pos from) result }
+    ensures bound { IfSome result (λ n. n < 86_400) }
+{
+    let zone = TimeZone::UTC;
+    let mut inquiry = Inquiry::new(fields, &zone);
+    TimesOfDay::nearest(&mut inquiry, way, from)
+}
+
+// The nearest time of day past one.
+#[inline(always)]
+fn time_after(fields: &ScheduleFields, way: Way, time: u32) -> Option<u32>
+    requires fits { time < 86_400 }
+    requires matching { matches_second fields.now time ≡ true }
+    ensures nearest { IsNearest way (matches_second fields.now) (beyond way time) result }
+    ensures bound { IfSome result (λ n. n < 86_400) }
+{
+    let zone = TimeZone::UTC;
+    let mut inquiry = Inquiry::new(fields, &zone);
+    time_past(&mut inquiry, way, time)
+}
+
+// The nearest match in the days past one whose date matches. `BACK` says the way once more, so that each has
+// code of its own.
+#[inline(never)]
+fn match_in_days_past<const BACK: bool>(
+    fields: &ScheduleFields,
+    way: Way,
+    day: u32,
+    days: &mut MonthDays,
+) -> Option<u32>
+    requires tied { way ≡ way_of BACK }
+    requires in_range { day < days_in_range }
+    requires matching { matches_date fields.now (date_numbered day).0 ≡ true }
+    requires days { KnowsDays fields.now days.old }
+    ensures nearest { IsNearest way (is_match fields.now) (beyond_block way 86_400 day) result }
+    ensures bound { IfSome result (λ n. n < seconds_in_range) }
+    ensures days { KnowsDays fields.now days.new }
+{
+    let next = days.day_past(fields, way, day)?;
+    let time = time_from(fields, way, extreme(way, SECONDS_PER_DAY))?;
+    Some(next * SECONDS_PER_DAY + time)
+}
+
+// Each direction has code of its own.
+#[inline(always)]
+fn match_past_day(fields: &ScheduleFields, way: Way, day: u32, days: &mut MonthDays) -> Option<u32>
+    requires in_range { day < days_in_range }
+    requires matching { matches_date fields.now (date_numbered day).0 ≡ true }
+    requires days { KnowsDays fields.now days.old }
+    ensures nearest { IsNearest way (is_match fields.now) (beyond_block way 86_400 day) result }
+    ensures bound { IfSome result (λ n. n < seconds_in_range) }
+    ensures days { KnowsDays fields.now days.new }
+{
+    match way {
+        Way::Ahead => match_in_days_past::<false>(fields, Way::Ahead, day, days),
+        Way::Back => match_in_days_past::<true>(fields, Way::Back, day, days),
+    }
+}
+
+// The nearest civil second of the range that matches, from one of the range on.
+fn match_from(fields: &ScheduleFields, way: Way, start: u32, days: &mut MonthDays) -> Option<u32>
+    requires in_range { start < seconds_in_range }
+    requires days { KnowsDays fields.now days.old }
+    ensures nearest { IsNearest way (is_match fields.now) (pos start) result }
+    ensures bound { IfSome result (λ n. n < seconds_in_range) }
+    ensures days { KnowsDays fields.now days.new }
+{
+    let own = start / SECONDS_PER_DAY;
+    let day = days.day_from(fields, way, own)?;
+    let from = entry(way, SECONDS_PER_DAY, own, start % SECONDS_PER_DAY, day);
+    if let Some(time) = time_from(fields, way, from) {
+        return Some(day * SECONDS_PER_DAY + time);
+    }
+    match_past_day(fields, way, day, days)
+}
+
+/// The nearest civil second of the range that matches, from a number on: ahead the first one at or after it,
+/// back the last one at or before it, and `None` exactly where there is none. It ends at once where no month
+/// has a day of the set.
+pub fn nearest_match(fields: &ScheduleFields, way: Way, from: i64) -> Option<u32>
+    ensures nearest { IsNearest way (is_match fields.now) from result }
+    ensures bound { IfSome result (λ n. n < seconds_in_range) }
+{
+    let start = start_of(way, from)?;
+    let zone = TimeZone::UTC;
+    let mut inquiry = Inquiry::new(fields, &zone);
+    if !some_month_has_a_day(&mut inquiry) {
+        return None;
+    }
+    let mut days = MonthDays::unknown(KnownMonth::january_1970());
+    match_from(fields, way, start, &mut days)
+}
+
+/// The nearest civil second that matches past one that does: first in its own day, whose date needn't be made.
+/// It begins with the days of a month that an earlier search knew, and leaves those that it knows.
+#[inline(always)]
+pub fn match_past(
+    fields: &ScheduleFields,
+    way: Way,
+    second: u32,
+    days: &mut MonthDays,
+) -> Option<u32>
+    requires matching { is_match fields.now second ≡ true }
+    requires days { KnowsDays fields.now days.old }
+    ensures nearest { IsNearest way (is_match fields.now) (beyond way second) result }
+    ensures bound { IfSome result (λ n. n < seconds_in_range) }
+    ensures days { KnowsDays fields.now days.new }
+{
+    let day = second / SECONDS_PER_DAY;
+    if let Some(time) = time_after(fields, way, second % SECONDS_PER_DAY) {
+        return Some(day * SECONDS_PER_DAY + time);
+    }
+    match_past_day(fields, way, day, days)
+}
