@@ -12,7 +12,6 @@ ghost use Rattle.cron_time.specs.Search.Inner.Numbers.{beyond, matches_second, s
 ghost use Rattle.cron_time.specs.Matches.{matches_date};
 ghost use Rattle.cron_time.specs.Search.{IsFound};
 
-use crate::search::days::some_month_has_a_day;
 use crate::search::inquiry::Inquiry;
 use crate::search::month_days::MonthDays;
 use crate::search::neighbours::{Neighbours, TimesOfDay, time_past};
@@ -20,7 +19,6 @@ use crate::search::readable::search_readable;
 use crate::search::start_of;
 use crate::search::ways::{entry, extreme, past};
 use cron_clocks::stretch::Stretch;
-use cron_moments::calendar::KnownMonth;
 use cron_moments::civil::SECONDS_PER_DAY;
 use cron_moments::readings::Found;
 use cron_units::fields::ScheduleFields;
@@ -219,23 +217,4 @@ pub fn search_onward(
         Way::Ahead => days_from::<false>(fields, zone, Way::Ahead, start, days, stretch),
         Way::Back => days_from::<true>(fields, zone, Way::Back, start, days, stretch),
     }
-}
-
-/// The nearest civil second on the timeline from a number on, where nothing is known. It ends at once where no
-/// month has a day of the set.
-pub fn search_anew(
-    fields: &ScheduleFields,
-    zone: &TimeZone<'_>,
-    way: Way,
-    from: i64,
-) -> Option<Found>
-    ensures { IsFound way fields.now (plain_zone zone.now) from (option_map found_items result) }
-{
-    let mut inquiry = Inquiry::new(fields, zone);
-    if !some_month_has_a_day(&mut inquiry) {
-        return None;
-    }
-    let mut days = MonthDays::unknown(KnownMonth::january_1970());
-    let mut stretch = Stretch::empty();
-    search_onward(fields, zone, way, from, &mut days, &mut stretch)
 }
