@@ -6,4 +6,5 @@ pub mod Listings
 pub mod Runs
 pub mod Zones
 pub mod Histories
+pub mod Savings
 pub mod ZoneFiles

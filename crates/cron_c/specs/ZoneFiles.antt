@@ -17,6 +17,7 @@ use Rattle.cron_clocks.specs.Clocks.{LookupsAgree}
 use Rattle.cron_time.specs.Matches.{matches}
 use Rattle.cron_c.specs.Zones.{IsBareSaving, IsBlank, IsZoneIn, IsZoneStruct}
 use Rattle.cron_c.specs.Histories.{IsHistory, IsHistoryItem, has_started}
+use Rattle.cron_c.specs.Savings.{TellSaving}
 use Rattle.cron_c.specs.declared.era.CronEra.{CronEra}
 use Rattle.cron_c.specs.declared.zone.CronZone.{CronZone}
 use Rattle.cron_c.specs.declared.status.Status.{Status}
@@ -24,9 +25,9 @@ use Rattle.cron_c.specs.declared.status.Status.TheVariants.{Done, BadZone, More,
 
 -- ---- what the bytes say
 
--- the bytes are a zone file that says this table, and the rule behind the table agrees with its last row
+-- the bytes are a zone file that says this table, the rule behind the table agrees with its last row, and each type tells whether it is saving time
 abbrev pub IsFileOf : List ℕ → Tzif → Type 0
-IsFileOf bytes t = (read_tzif bytes ≡ Ok (tzif_view t)) × RuleAgrees t
+IsFileOf bytes t = (read_tzif bytes ≡ Ok (tzif_view t)) × RuleAgrees t × TellSaving bytes
 
 -- how many turns the table has
 abbrev pub turn_count : Tzif → ℕ
@@ -94,7 +95,7 @@ WritesEras t old new count _ = ⊥
 -- The bytes are those of a zone file, and its eras are in the array; or the array is too short; or they are none, or none that eras mean;
 -- or memory ran out for what they say.
 abbrev pub ReadsHistory : List ℕ → List CronEra → List CronEra → ℕ → Status → Type 0
-ReadsHistory bytes old new count NoMemory = (text : TzifText) × (read_tzif bytes ≡ Ok text) × (new ≡ old) × (count ≡ 0)
+ReadsHistory bytes old new count NoMemory = (text : TzifText) × (read_tzif bytes ≡ Ok text) × TellSaving bytes × (new ≡ old) × (count ≡ 0)
 ReadsHistory bytes old new count BadZone = ((t : Tzif) → IsFileOf bytes t → HasDoubleTurn t) × (new ≡ old) × (count ≡ 0)
 ReadsHistory bytes old new count status = (t : Tzif) × IsFileOf bytes t × WritesEras t old new count status
 

@@ -12,6 +12,7 @@ mod listing;
 mod named;
 mod reading;
 mod runs;
+mod savings;
 mod schedule;
 mod searching;
 mod status;

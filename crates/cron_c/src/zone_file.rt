@@ -4,6 +4,7 @@ ghost use Rattle.cron_c.specs.Calls.{Answers};
 ghost use Rattle.cron_c.specs.ZoneFiles.{ReadsHistory};
 
 use crate::era::CronEra;
+use crate::savings::tell_saving;
 use crate::status::Status;
 use crate::table::write_eras;
 use jiff_core::Error;
@@ -14,6 +15,9 @@ fn read_history(alloc: Global, bytes: &[u8], eras: &mut [CronEra], count: &mut u
     ensures { ReadsHistory bytes.now eras.old eras.new count.new result }
 {
     *count = 0;
+    if !tell_saving(bytes) {
+        return Status::BadZone;
+    }
     match Tzif::parse(alloc, None, bytes) {
         Ok(table) => write_eras(&table, eras, count),
         Err(error) => match error {
