@@ -93,6 +93,46 @@ static void footers(void)
     CHECK(with_footer("\nKST-9", &count) == CRON_C_BAD_ZONE && nothing_is_written());
 }
 
+/* The first of the flags of saving, in the table of four bytes a time and in that of eight, and the type past the last change. */
+enum { SHORT_FLAG = 73, FLAG = 198, TYPE_BYTES = 6, TYPES = 4, LAST_TYPE = 3 };
+
+/* The version of the file and that of its second table, whose header comes behind the first one. */
+enum { VERSION = 4, SHORT_TABLE = 105 };
+
+/* Reads so many of the bytes with another one at a place. */
+static uint32_t with_byte(size_t length, size_t place, int byte, uint8_t version, size_t *count)
+{
+    uint8_t bytes[sizeof PYONGYANG];
+    memcpy(bytes, PYONGYANG, sizeof bytes);
+    bytes[VERSION] = bytes[SHORT_TABLE + VERSION] = version;
+    bytes[place] = (uint8_t)byte;
+    return read_bytes(bytes, length, ROOM, count);
+}
+
+/* A flag of saving is 0 or 1, in the table that is read. By the rule behind it the last type has no saving. */
+static void flags_of_saving(void)
+{
+    size_t count;
+    for (size_t type = 0; type < TYPES; type++) {
+        const size_t place = type * TYPE_BYTES;
+        CHECK(with_byte(sizeof PYONGYANG, FLAG + place, 1, '2', &count) == (type == LAST_TYPE ? CRON_C_BAD_ZONE : CRON_C_OK));
+        CHECK(with_byte(SHORT_TABLE, SHORT_FLAG + place, 1, 0, &count) == CRON_C_OK && count == ERAS);
+        for (int flag = 2; flag < 256; flag++) {
+            CHECK(with_byte(sizeof PYONGYANG, FLAG + place, flag, '2', &count) == CRON_C_BAD_ZONE && count == 0 && nothing_is_written());
+            CHECK(with_byte(SHORT_TABLE, SHORT_FLAG + place, flag, 0, &count) == CRON_C_BAD_ZONE && count == 0 && nothing_is_written());
+            CHECK(with_byte(sizeof PYONGYANG, SHORT_FLAG + place, flag, '2', &count) == CRON_C_OK && count == ERAS);
+        }
+    }
+}
+
+/* What the format has readers pass over: a later version, and bytes behind the last line. */
+static void later_files(void)
+{
+    size_t count;
+    CHECK(with_byte(sizeof PYONGYANG, SHORT_FLAG, 0, '9', &count) == CRON_C_OK && count == ERAS);
+    CHECK(with_footer("\nKST-9\nTZif", &count) == CRON_C_OK && count == ERAS);
+}
+
 int main(void)
 {
     changes();
@@ -100,6 +140,8 @@ int main(void)
     bytes_that_end_early();
     changes_at_one_second();
     footers();
+    flags_of_saving();
+    later_files();
     tell_held("zone files");
     return 0;
 }

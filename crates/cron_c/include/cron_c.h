@@ -293,8 +293,9 @@ typedef struct cron_c_era {
  *
  * CRON_C_OK; CRON_C_MORE where they are more than `eras_length`, and nothing is written but their
  * number in `*count`; or, with 0 in `*count`, CRON_C_BAD_ZONE where the bytes are none of such a file,
- * tell more than 256 kinds of local time or an offset beyond 25:59:59, a name of its times has more
- * than 15 bytes, two of its clock changes share a second, the times that one skips or repeats on the
+ * tell more than 256 kinds of local time or an offset beyond 25:59:59, a kind of local time says
+ * neither 0 nor 1 of saving time, a name of its times has more than 15 bytes, two of its clock changes
+ * share a second, the times that one skips or repeats on the
  * clock overlap those of the next, or its rule says another offset, another name or no saving time
  * where the table has it, or the other way round, at the last of them; CRON_C_NO_MEMORY where malloc
  * has no room for what the bytes say. Not to be called from a signal handler.
