@@ -3,6 +3,7 @@
 import unittest
 from unittest import mock
 
+import cron_c
 from cron_c import CronError, ZoneError, library
 
 
@@ -15,6 +16,9 @@ def load(version):
 
 
 class Versions(unittest.TestCase):
+    def test_the_package_has_the_version_of_the_library(self):
+        self.assertEqual(cron_c.__version__, library.version())
+
     def test_versions_with_all_calls_and_the_same_structs_are_loaded(self):
         for version in (10_200, 10_201, 10_300, 19_999):
             load(version)
@@ -49,6 +53,13 @@ class Statuses(unittest.TestCase):
         for name in ("fire_after", "fire_by"):
             with self.returning(f"cron_c_history_{name}", 6), self.assertRaisesRegex(CronError, "^status 6$"):
                 getattr(library, name)(library.Sets(), library.history([]), 0)
+
+    def test_another_status_of_a_page(self):
+        for name in ("fires_between", "fires_past"):
+            between = library.MORE if name == "fires_past" else 6
+            fake = mock.Mock(**{"cron_c_history_fires_between.return_value": between, "cron_c_history_fires_past.return_value": 6})
+            with mock.patch.object(library, "_LIBRARY", fake), self.assertRaisesRegex(CronError, "^status 6$"):
+                list(library.pages(library.Sets(), library.history([]), 0, 9))
 
     def test_a_zone_that_is_refused(self):
         with self.returning("cron_c_zone_parse", library.BAD_ZONE), self.assertRaises(ZoneError):

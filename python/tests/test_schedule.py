@@ -5,8 +5,10 @@ import doctest
 import io
 import itertools
 import pickle
+import sys
 import unittest
-from datetime import datetime, timedelta, timezone, tzinfo
+import weakref
+from datetime import date, datetime, timedelta, timezone, tzinfo
 from unittest import mock
 from zoneinfo import ZoneInfo
 
@@ -23,6 +25,27 @@ class Nowhere(tzinfo):
 
     def utcoffset(self, moment):
         return None
+
+
+class Constant(tzinfo):
+    """A zone of another package with one offset."""
+
+    def utcoffset(self, moment):
+        return timedelta(hours=5, minutes=45)
+
+    def dst(self, moment):
+        return timedelta(0)
+
+    def tzname(self, moment):
+        return "+0545"
+
+
+class Seasonal(Constant):
+    """A zone of another package that goes forward for the summer, and tells its winter's offset where no time is given."""
+
+    def utcoffset(self, moment):
+        summer = moment is not None and 4 <= moment.month <= 9
+        return timedelta(hours=1 + summer)
 
 
 def chicago(*parts, fold=0):
@@ -69,6 +92,74 @@ class Answers(unittest.TestCase):
         self.assertEqual(schedule.between(nine, half), [])
         early = datetime(1969, 12, 31, 23, 59, 59, 500_000, tzinfo=UTC)
         self.assertEqual(schedule.after(early), datetime(1970, 1, 1, tzinfo=UTC))
+
+    def test_a_fire_matches_and_what_is_beside_it_does_not(self):
+        schedule = Schedule("0 30 1 * * *")
+        for fold in (0, 1):
+            self.assertTrue(schedule.matches(chicago(2022, 11, 6, 1, 30, fold=fold)))
+        for moment in (chicago(2022, 11, 6, 1, 30, 1), chicago(2022, 11, 6, 1, 30, 0, 1), chicago(2022, 11, 6, 2, 30)):
+            self.assertFalse(schedule.matches(moment))
+        self.assertTrue(schedule.matches(datetime(2022, 11, 6, 1, 30, tzinfo=UTC)))
+        for moment in (datetime.max, datetime.min):
+            self.assertFalse(Schedule("* * * * * *").matches(moment.replace(tzinfo=UTC)))
+
+    def test_fires_end_with_the_end(self):
+        schedule, day = Schedule("0 0 12 * * *"), datetime(2024, 2, 28, 12, tzinfo=UTC)
+        following = [day + timedelta(days=it) for it in (1, 2)]
+        self.assertEqual(list(schedule.fires(day, following[-1])), following)
+        self.assertEqual(list(schedule.fires(day, following[-1] - timedelta(microseconds=1))), following[:1])
+        self.assertEqual(list(schedule.fires(day, day)), [])
+        self.assertEqual(list(schedule.fires(day, following[0] - timedelta(days=9))), [])
+
+    def test_fires_tell_one_after_the_other(self):
+        seconds = Schedule("* * * * * *").fires(datetime(1970, 1, 1, tzinfo=UTC), datetime(2100, 1, 1, tzinfo=UTC))
+        self.assertEqual(next(seconds), datetime(1970, 1, 1, 0, 0, 1, tzinfo=UTC))
+
+    def test_reversed_fires_go_back(self):
+        schedule, noon = Schedule("0 30 1 * * *"), chicago(2022, 11, 7, 12)
+        back = [it.isoformat() for it in itertools.islice(schedule.fires(noon, reverse=True), 4)]
+        days = ["2022-11-07T01:30:00-06:00", "2022-11-06T01:30:00-06:00", "2022-11-06T01:30:00-05:00", "2022-11-05T01:30:00-05:00"]
+        self.assertEqual(back, days)
+        for end, count in ((chicago(2022, 11, 6, 1, 30), 3), (chicago(2022, 11, 6, 1, 30, 0, 1), 2), (noon, 0)):
+            self.assertEqual([it.isoformat() for it in schedule.fires(noon, end, reverse=True)], days[:count])
+        # a fire at the start itself isn't before it
+        self.assertEqual([it.isoformat() for it in schedule.fires(chicago(2022, 11, 7, 1, 30), chicago(2022, 11, 6), reverse=True)], days[1:3])
+        self.assertEqual(len(list(Schedule("0 0 0 1 1 * *").fires(datetime(9999, 1, 1, tzinfo=UTC), reverse=True))), 131)
+
+    def test_pages_go_on_over_many_eras(self):
+        hours = list(Schedule("0 0 * * * *").fires(chicago(1970, 1, 1), chicago(2000, 1, 1)))
+        # each hour of the 10,957 days of thirty years, since this clock always was whole hours behind UTC
+        self.assertEqual(len(hours), 10957 * 24)
+        seconds = {(later.timestamp() - earlier.timestamp()) for earlier, later in zip(hours, hours[1:])}
+        self.assertEqual(seconds, {3600.0})
+
+    def test_a_zone_of_another_package_with_one_offset(self):
+        answer = Schedule("0 0 9 * * *").after(datetime(2024, 1, 1, 9, tzinfo=Constant()))
+        self.assertEqual(answer.isoformat(), "2024-01-02T09:00:00+05:45")
+
+    def test_the_sets(self):
+        schedule = Schedule("0,30 */20 9-11 1,15,L Feb Mon-Fri 2099-2100")
+        self.assertEqual(schedule.seconds, frozenset({0, 30}))
+        self.assertEqual(schedule.minutes, frozenset({0, 20, 40}))
+        self.assertEqual(schedule.hours, frozenset({9, 10, 11}))
+        self.assertEqual(schedule.days_of_month, frozenset({1, 15}))
+        self.assertTrue(schedule.last_day)
+        self.assertEqual(schedule.months, frozenset({2}))
+        self.assertEqual(schedule.days_of_week, frozenset({2, 3, 4, 5, 6}))
+        self.assertEqual(schedule.years, frozenset({2099, 2100}))
+
+    def test_the_whole_sets(self):
+        schedule = Schedule("* * * * * *")
+        self.assertFalse(schedule.last_day)
+        sets = (schedule.seconds, schedule.minutes, schedule.hours, schedule.days_of_month)
+        self.assertEqual([(min(it), max(it), len(it)) for it in sets], [(0, 59, 60), (0, 59, 60), (0, 23, 24), (1, 31, 31)])
+        sets = (schedule.months, schedule.days_of_week, schedule.years)
+        self.assertEqual([(min(it), max(it), len(it)) for it in sets], [(1, 12, 12), (1, 7, 7), (1970, 2100, 131)])
+
+    def test_a_schedule_is_its_text_and_can_be_referred_to_weakly(self):
+        schedule = Schedule("@daily")
+        self.assertEqual(str(schedule), "@daily")
+        self.assertIs(weakref.ref(schedule)(), schedule)
 
     def test_the_ends(self):
         schedule = Schedule("0 0 0 1 1 * 1970,2100")
@@ -120,6 +211,32 @@ class Refusals(unittest.TestCase):
     def test_a_text_is_refused_with_its_message(self):
         with self.assertRaisesRegex(TextError, r"^Hours must be less than 23\. \('25' specified\.\)$"):
             Schedule("0 0 25 * * *")
+
+    @unittest.skipIf(sys.version_info < (3, 11), "an exception has no notes before Python 3.11")
+    def test_a_line_of_a_crontab_has_a_note(self):
+        with self.assertRaises(TextError) as refusal:
+            Schedule("30 9 * * 1")
+        [note] = refusal.exception.__notes__
+        self.assertTrue(note.startswith("five fields: a crontab line"), note)
+        for text in ("0 0 25 * * *", "0 9 * *", "nothing"):
+            with self.assertRaises(TextError) as refusal:
+                Schedule(text)
+            self.assertFalse(hasattr(refusal.exception, "__notes__"), text)
+
+    def test_what_is_no_datetime_is_refused(self):
+        schedule, noon = Schedule("@daily"), datetime(2024, 1, 1, 12, tzinfo=UTC)
+        for wrong, kind in ((date(2024, 1, 1), "date"), (None, "NoneType"), (3, "int"), ("2024-01-01", "str")):
+            said = f"^a datetime with a zone is wanted, and this is a {kind}$"
+            for call in (schedule.after, schedule.before, schedule.matches, schedule.fires):
+                with self.assertRaisesRegex(TypeError, said):
+                    call(wrong)
+            for ends in ((wrong, noon), (noon, wrong)):
+                with self.assertRaisesRegex(TypeError, said):
+                    schedule.between(*ends)
+
+    def test_a_zone_of_another_package_with_clock_changes_is_refused(self):
+        with self.assertRaisesRegex(ZoneError, r"moment\.astimezone\(zoneinfo\.ZoneInfo\("):
+            Schedule("@daily").after(datetime(2024, 1, 1, tzinfo=Seasonal()))
 
     def test_bytes_are_no_text(self):
         with self.assertRaises(TypeError):

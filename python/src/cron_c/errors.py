@@ -10,8 +10,8 @@ class TextError(CronError):
 
 
 class ZoneError(CronError):
-    """The zone is of a class that isn't known, has no key or no file that can be read, a file that is refused or isn't the one that
-    it was read from, or an offset with a part of a second."""
+    """The zone is no ZoneInfo and has clock changes; or it has no key or no file that can be read, a file that is refused or isn't
+    the one that it was read from, or an offset with a part of a second."""
 
 
 class InstantError(CronError):

@@ -4,7 +4,9 @@ from __future__ import annotations
 
 import ctypes
 import pathlib
-from typing import Optional, Sequence, Tuple
+import struct
+from bisect import bisect_right
+from typing import Any, FrozenSet, Iterable, Iterator, List, Optional, Tuple, Union
 
 from .errors import CronError, TextError, ZoneError
 
@@ -36,8 +38,60 @@ class Era(ctypes.Structure):
     _fields_ = [("starts", ctypes.c_int64), ("zone", Zone)]
 
 
-History = ctypes.Array  # of Era
+# Where a set stands among the words of all sets: its first word, how many words it has, and the number of its first bit.
+Place = Tuple[int, int, int]
+SECONDS: Place = (0, 1, 0)
+MINUTES: Place = (1, 1, 0)
+HOURS: Place = (2, 1, 0)
+DAYS_OF_MONTH: Place = (3, 1, 1)
+LAST_DAY = 4
+MONTHS: Place = (5, 1, 1)
+DAYS_OF_WEEK: Place = (6, 1, 1)
+YEARS: Place = (7, 3, 1970)
+WORD_BITS = 64
+
 Fire = Tuple[int, int]  # an instant in seconds since 1970, and how far the clock is ahead of UTC then
+
+# The arguments for eras: the first of them, or all, and how many they are.
+Eras = Tuple[Union[Era, "ctypes.Array[Era]"], int]
+
+# An item as its bytes stand in an array, and how many a first and a later page of fires have room for.
+ITEM = struct.Struct("=qi4x")
+FIRST_PAGE, PAGE = 16, 1024
+
+
+class History:
+    """Eras in the order of their starts, as the calls take them."""
+
+    __slots__ = ("_eras", "_starts")
+
+    def __init__(self, eras: Iterable[Era]) -> None:
+        given = list(eras)
+        self._eras = (Era * len(given))(*given)
+        self._starts: List[int] = [it.starts for it in given]
+
+    def __len__(self) -> int:
+        return len(self._starts)
+
+    def __getitem__(self, place: int) -> Era:
+        return self._eras[place]
+
+    def _place(self, instant: int) -> int:
+        """The place of the era that holds the instant, or of the first one."""
+        return max(0, bisect_right(self._starts, instant) - 1)
+
+    def since(self, instant: int) -> Eras:
+        """The eras from the one on that holds the instant: no later item lies before it."""
+        place = self._place(instant)
+        if place == 0:
+            return self._eras, len(self)
+        return Era.from_buffer(self._eras, place * ctypes.sizeof(Era)), len(self) - place
+
+    def until(self, instant: int) -> Eras:
+        """The eras up to the one that holds the instant: no earlier item lies past it."""
+        return self._eras, min(len(self), self._place(instant) + 1)
+
+FIVE_FIELDS = "five fields: a crontab line. Here seconds stand before the minutes, and Sunday is 1."
 
 # The first version that has every call below, and the first whose structs may be others.
 LEAST_VERSION, OTHER_VERSION = 10_200, 20_000
@@ -61,13 +115,18 @@ def _load() -> ctypes.CDLL:
     library = ctypes.CDLL(str(pathlib.Path(__file__).with_name("libcron_c.so")))
     _check_version(library)
     size, pointer, instant = ctypes.c_size_t, ctypes.POINTER, ctypes.c_int64
-    text = [ctypes.c_char_p, size]
+    text: List[Any] = [ctypes.c_char_p, size]
     library.cron_c_parse.argtypes = text + [pointer(Sets)] + text + [pointer(size)]
     library.cron_c_zone_parse.argtypes = text + [pointer(Zone)]
-    for call in ("history_fire_after", "history_fire_by"):
-        getattr(library, f"cron_c_{call}").argtypes = [pointer(Sets), pointer(Era), size, instant, pointer(Item)]
+    given: List[Any] = [pointer(Sets), pointer(Era), size]
+    searches = ("history_fire_after", "history_fire_by", "history_fire_at")
+    for call in searches:
+        getattr(library, f"cron_c_{call}").argtypes = given + [instant, pointer(Item)]
+    page: List[Any] = [instant, pointer(Item), size, pointer(size)]
+    library.cron_c_history_fires_between.argtypes = given + [instant] + page
+    library.cron_c_history_fires_past.argtypes = given + [pointer(Item)] + page
     library.cron_c_history_read.argtypes = [ctypes.c_char_p, size, pointer(Era), size, pointer(size)]
-    for call in ("parse", "zone_parse", "history_read", "history_fire_after", "history_fire_by"):
+    for call in ("parse", "zone_parse", "history_read", "history_fires_between", "history_fires_past", *searches):
         getattr(library, f"cron_c_{call}").restype = ctypes.c_uint32
     return library
 
@@ -75,9 +134,21 @@ def _load() -> ctypes.CDLL:
 _LIBRARY = _load()
 
 
+def version() -> str:
+    """The version of the library."""
+    return _numbers(_LIBRARY.cron_c_version())
+
+
 def _message_room(length: int) -> int:
     """The bytes of the longest message about a text of so many bytes, as `CRON_C_MESSAGE` has it."""
     return 2 * length + 100
+
+
+def _with_note(error: TextError, text: str) -> TextError:
+    """The error, and with a line of a crontab a note beside it, from Python 3.11 on."""
+    if len(text.split()) == 5 and hasattr(error, "add_note"):
+        error.add_note(FIVE_FIELDS)
+    return error
 
 
 def parse(text: str) -> Sets:
@@ -87,12 +158,24 @@ def parse(text: str) -> Sets:
     message = ctypes.create_string_buffer(_message_room(len(told)))
     status = _LIBRARY.cron_c_parse(told, len(told), sets, message, len(message), needed)
     if status == REFUSED:
-        raise TextError(message.raw[: needed.value].decode())
+        raise _with_note(TextError(message.raw[: needed.value].decode()), text)
     if status == NOT_UTF8:
         raise TextError("The text isn't UTF-8.")
     if status != OK:
         raise CronError(f"status {status}")
     return sets
+
+
+def set_of(sets: Sets, place: Place) -> FrozenSet[int]:
+    """The numbers of the set at a place."""
+    word, count, first = place
+    bits = sum(sets.words[word + it] << (WORD_BITS * it) for it in range(count))
+    return frozenset(first + it for it in range(bits.bit_length()) if bits >> it & 1)
+
+
+def has_last_day(sets: Sets) -> bool:
+    """Whether the last day of each month is one of the days."""
+    return bool(sets.words[LAST_DAY])
 
 
 def parse_zone(text: bytes) -> Zone:
@@ -115,14 +198,14 @@ def _within(instant: int) -> int:
     return max(LEAST_INSTANT, min(GREATEST_INSTANT, instant))
 
 
-def history(eras: Sequence[Era]) -> History:
-    """Eras in the order of their starts, as the calls take them."""
-    return (Era * len(eras))(*eras)
+def history(eras: Iterable[Era]) -> History:
+    """Eras in the order of their starts."""
+    return History(eras)
 
 
 def read_history(data: bytes, key: str) -> History:
     """The eras of the compiled zone file of this key."""
-    eras, count = history([]), ctypes.c_size_t()
+    eras, count = (Era * 0)(), ctypes.c_size_t()
     status = _LIBRARY.cron_c_history_read(data, len(data), eras, len(eras), count)
     if status == MORE:
         eras = (Era * count.value)()
@@ -133,16 +216,55 @@ def read_history(data: bytes, key: str) -> History:
         raise MemoryError(f"no room for what the file of the zone {key} says")
     if status != OK:
         raise CronError(f"status {status}")
-    return eras
+    return history(eras)
 
 
 def fire_after(sets: Sets, eras: History, instant: int) -> Optional[Fire]:
     """Of the fires after this instant the earliest."""
     item = Item()
-    return _found(_LIBRARY.cron_c_history_fire_after(sets, eras, len(eras), _within(instant), item), item)
+    return _found(_LIBRARY.cron_c_history_fire_after(sets, *eras.since(instant), _within(instant), item), item)
 
 
 def fire_by(sets: Sets, eras: History, instant: int) -> Optional[Fire]:
     """Of the fires up to this instant the latest."""
     item = Item()
-    return _found(_LIBRARY.cron_c_history_fire_by(sets, eras, len(eras), _within(instant), item), item)
+    return _found(_LIBRARY.cron_c_history_fire_by(sets, *eras.until(instant), _within(instant), item), item)
+
+
+def fires_at(sets: Sets, eras: History, instant: int) -> bool:
+    """Whether there is a fire at this instant."""
+    if instant != _within(instant):
+        return False
+    item = Item()
+    return _found(_LIBRARY.cron_c_history_fire_at(sets, *eras.since(instant), instant, item), item) is not None
+
+
+def pages(sets: Sets, eras: History, start: int, end: int) -> Iterator[List[Fire]]:
+    """The fires after one instant and up to and with another, in lists."""
+    room, count, last = FIRST_PAGE, ctypes.c_size_t(), _within(end)
+    items = (Item * room)()
+    status = _LIBRARY.cron_c_history_fires_between(sets, *eras.since(start), _within(start), last, items, room, count)
+    while status == MORE:
+        page = _page(items, room)
+        yield page
+        noted = Item.from_buffer_copy(items, (room - 1) * ctypes.sizeof(Item))
+        if room != PAGE:
+            room, items = PAGE, (Item * PAGE)()
+        status = _LIBRARY.cron_c_history_fires_past(sets, *eras.since(page[-1][0]), noted, last, items, room, count)
+    if status != OK:
+        raise CronError(f"status {status}")
+    yield _page(items, count.value)
+
+
+def _page(items: ctypes.Array[Item], count: int) -> List[Fire]:
+    """The first of the items as fires."""
+    told: Iterator[Any] = ITEM.iter_unpack(bytes(items)[: count * ITEM.size])
+    return list(told)
+
+
+def fires_before(sets: Sets, eras: History, start: int, end: int) -> Iterator[Fire]:
+    """The fires up to one instant and from another on, the latest first."""
+    found = fire_by(sets, eras, start)
+    while found is not None and found[0] >= end:
+        yield found
+        found = fire_by(sets, eras, found[0] - 1)

@@ -3,15 +3,17 @@
 from __future__ import annotations
 
 from datetime import datetime, tzinfo
-from itertools import takewhile
-from typing import Iterator, List, Optional, Tuple, Type
+from itertools import chain
+from typing import FrozenSet, Iterator, List, Optional, Tuple, Type
 
 from . import library
 from .errors import InstantError
-from .zones import EPOCH, SECOND, eras_of, shown
+from .zones import EPOCH, SECOND, all_shown, eras_of, shown
 
 
 def _zone_of(moment: datetime) -> tzinfo:
+    if not isinstance(moment, datetime):
+        raise TypeError(f"a datetime with a zone is wanted, and this is a {type(moment).__name__}")
     if moment.tzinfo is None or moment.utcoffset() is None:
         raise InstantError("a datetime without a zone is no instant")
     return moment.tzinfo
@@ -22,17 +24,22 @@ def _floor(moment: datetime) -> int:
     return (moment - EPOCH) // SECOND
 
 
+def _ceiling(moment: datetime) -> int:
+    """The first second since 1970 that isn't before."""
+    return -((EPOCH - moment) // SECOND)
+
+
 class Schedule:
     """The meaning of a text of six fields, or seven with years: `Schedule("0 30 9 * * Mon-Fri")`.
 
     TextError tells why a text means nothing. The zone is that of the datetime that is given: a
-    `ZoneInfo` with a key, or a `datetime.timezone`, at whose offset it is read all year. Each call is
-    exact also where a clock goes back, and knows the zone's past. Python compares and subtracts
-    answers of one `ZoneInfo` by what their clocks show: take `timestamp()` of both. Nothing fires
-    outside the years 1970 to 2100.
+    `ZoneInfo` with a key, a `datetime.timezone`, or another zone that is one offset, at which it is
+    read all year. Each call is exact also where a clock goes back, and knows the zone's past. Python
+    compares and subtracts answers of one `ZoneInfo` by what their clocks show: take `timestamp()` of
+    both. Nothing fires outside the years 1970 to 2100.
     """
 
-    __slots__ = ("_sets", "_text")
+    __slots__ = ("__weakref__", "_sets", "_text")
 
     def __init__(self, text: str) -> None:
         if not isinstance(text, str):
@@ -45,11 +52,56 @@ class Schedule:
         """The text itself."""
         return self._text
 
+    @property
+    def seconds(self) -> FrozenSet[int]:
+        """The seconds, 0 to 59."""
+        return library.set_of(self._sets, library.SECONDS)
+
+    @property
+    def minutes(self) -> FrozenSet[int]:
+        """The minutes, 0 to 59."""
+        return library.set_of(self._sets, library.MINUTES)
+
+    @property
+    def hours(self) -> FrozenSet[int]:
+        """The hours, 0 to 23."""
+        return library.set_of(self._sets, library.HOURS)
+
+    @property
+    def days_of_month(self) -> FrozenSet[int]:
+        """The days of the month, 1 to 31. `last_day` stands apart."""
+        return library.set_of(self._sets, library.DAYS_OF_MONTH)
+
+    @property
+    def last_day(self) -> bool:
+        """Whether the last day of each month is one of the days too, as `L` says."""
+        return library.has_last_day(self._sets)
+
+    @property
+    def months(self) -> FrozenSet[int]:
+        """The months, 1 to 12."""
+        return library.set_of(self._sets, library.MONTHS)
+
+    @property
+    def days_of_week(self) -> FrozenSet[int]:
+        """The days of the week, 1 to 7 from Sunday on."""
+        return library.set_of(self._sets, library.DAYS_OF_WEEK)
+
+    @property
+    def years(self) -> FrozenSet[int]:
+        """The years, 1970 to 2100."""
+        return library.set_of(self._sets, library.YEARS)
+
+    def __str__(self) -> str:
+        return self._text
+
     def __repr__(self) -> str:
         return f"Schedule({self._text!r})"
 
     def __eq__(self, other: object) -> bool:
-        return bytes(self._sets) == bytes(other._sets) if isinstance(other, Schedule) else NotImplemented
+        if not isinstance(other, Schedule):
+            return NotImplemented
+        return bytes(self._sets) == bytes(other._sets)
 
     def __hash__(self) -> int:
         return hash(bytes(self._sets))
@@ -58,9 +110,16 @@ class Schedule:
         # as its text: what the words of the sets mean is the library's affair
         return type(self), (self._text,)
 
+    def matches(self, moment: datetime) -> bool:
+        """Whether it fires at this very instant: never where the datetime has a part of a second."""
+        eras, instant = eras_of(_zone_of(moment)), _floor(moment)
+        return instant == _ceiling(moment) and library.fires_at(self._sets, eras, instant)
+
     def after(self, moment: datetime) -> Optional[datetime]:
         """When it fires first after a datetime, in its zone; None where it fires no more."""
-        return next(self.fires(moment), None)
+        zone = _zone_of(moment)
+        found = library.fire_after(self._sets, eras_of(zone), _floor(moment))
+        return None if found is None else shown(found, zone)
 
     def before(self, moment: datetime) -> Optional[datetime]:
         """When it fired last before a datetime, in its zone; None where it hasn't fired. A fire at the
@@ -70,24 +129,20 @@ class Schedule:
         return None if found is None else shown(found, zone)
 
     def between(self, start: datetime, end: datetime) -> List[datetime]:
-        """When it fires after one datetime and up to and with another, in the zone of the first."""
+        """When it fires after one datetime and up to and with another, in the zone of the first, as a
+        list. `fires` tells the same one after the other."""
         _zone_of(end)
-        zone, last = _zone_of(start), _floor(end)
-        fires = self._fires(eras_of(zone), _floor(start))
-        return [shown(it, zone) for it in takewhile(lambda it: it[0] <= last, fires)]
+        return list(self.fires(start, end))
 
-    def fires(self, start: datetime) -> Iterator[datetime]:
-        """When it fires after a datetime, in its zone, one after the other."""
+    def fires(self, start: datetime, end: Optional[datetime] = None, *, reverse: bool = False) -> Iterator[datetime]:
+        """When it fires after a datetime, in its zone, one after the other: up to and with the end, if
+        there is one. Or, reversed, when it fired before it, the latest first, back to and with the end."""
         zone = _zone_of(start)
-        return (shown(it, zone) for it in self._fires(eras_of(zone), _floor(start)))
-
-    def _fires(self, eras: library.History, start: int) -> Iterator[library.Fire]:
-        found = library.fire_after(self._sets, eras, start)
-        while found is not None:
-            yield found
-            found = library.fire_after(self._sets, eras, found[0])
-
-
-def _ceiling(moment: datetime) -> int:
-    """The first second since 1970 that isn't before."""
-    return -((EPOCH - moment) // SECOND)
+        if end is not None:
+            _zone_of(end)
+        eras = eras_of(zone)
+        if reverse:
+            first = library.LEAST_INSTANT if end is None else _ceiling(end)
+            return all_shown(library.fires_before(self._sets, eras, _ceiling(start) - 1, first), zone)
+        last = library.GREATEST_INSTANT if end is None else _floor(end)
+        return all_shown(chain.from_iterable(library.pages(self._sets, eras, _floor(start), last)), zone)
