@@ -39,8 +39,14 @@ uint32_t cron_c_version(void);
  */
 #define CRON_C_TEXT(literal) ("" literal ""), (sizeof("" literal "") - 1)
 
-/* The arguments for a message or a text that isn't wanted. */
-#define CRON_C_NO_TEXT ((char *)""), 0
+/* The arguments for a message or a text that isn't wanted: a place that no call writes to, and its length. */
+#define CRON_C_NO_TEXT cron_c_no_text(), 0
+
+static inline char *cron_c_no_text(void)
+{
+    static char none[1];
+    return none;
+}
 
 /* The least and the greatest instant that a call takes, in seconds since 1970-01-01T00:00:00Z. */
 #define CRON_C_LEAST_INSTANT INT64_C(-377705023201)
