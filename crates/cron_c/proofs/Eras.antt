@@ -166,6 +166,14 @@ last_or_before i n below = last_by i n (nat_lt i n) refl below
     last_by i n true e below = inr (grind arith)
     last_by i n false e below = inl (grind arith)
 
+at_or_past : (at i : ℕ) (less : Bool) → nat_lt i at ≡ less → (at ≤ i) ⊎ (i < at)
+at_or_past at i true e = inr (grind arith)
+at_or_past at i false e = inl (grind arith)
+
+started_is : (o : Option CronEra) (t : ℤ) → started_by o t ≡ true → (a : CronEra) × (o ≡ Some a) × (a.starts ≤ℤ t)
+started_is None t h = absurd (cc)
+started_is (Some a) t h = (a, refl, int_le-true a.starts t h)
+
 -- an item of the history in the era at this place is one of that era
 pub in_era : (s : Sets) (eras : List CronEra) (at : ℕ) (e : CronEra) (r : Reading) (item : IsHistoryItem s eras r) → slice_get eras at ≡ Some e → at ≡ item.0
     → IsEraItem s e r × (has_started eras (at + 1) (instant r) ≡ false)
@@ -176,6 +184,21 @@ in_era s eras at e r (i, other, get, of, not_yet) here same =
 
 abbrev pub NoneSoFar : Sets → List CronEra → Begin → ℕ → Type 0
 NoneSoFar s eras b at = (r : Reading) (item : IsHistoryItem s eras r) → IsBeyond b r → at ≤ item.0
+
+-- before an era that has started where the search begins no item lies there
+pub none_before : (s : Sets) (eras : List CronEra) (b : Begin) (at : ℕ) (least : ℤ) → IsHistory eras → ((r : Reading) → IsBeyond b r → least ≤ℤ instant r)
+    → (at ≡ 0) ⊎ (has_started eras at least ≡ true) → NoneSoFar s eras b at
+none_before s eras b at least h from (inl first) = λ r item beyond. omega (arith, first)
+none_before s eras b at least h from (inr begun) = λ r item beyond.
+    let (i, e, get, of, not_yet) = item in
+    elim (at_or_past at i (nat_lt i at) refl) [
+      | inl past ↦ past
+      | inr before ↦
+          let (a, here, starts) = started_is (slice_get eras at) least begun in
+          let late = starts_by eras h i at a (instant r) before here not_yet in
+          let low = from r beyond in
+          absurd (omega (arith, signed_arith))
+    ]
 
 -- the next era has started where the search begins
 pub ended_here : (s : Sets) (eras : List CronEra) (b : Begin) (at : ℕ) (least : ℤ) → NoneSoFar s eras b at

@@ -1,11 +1,11 @@
 //! The first item of a history where a search begins, and the last one by an instant.
 
-ghost use Rattle.std.specs.Prelude.{◌≡◌, pos, neg_ℤ, ◌≤ℤ◌, ◌<ℤ◌, MatchOption};
+ghost use Rattle.std.specs.Prelude.{◌≡◌, ◌+◌, ◌⊎◌, pos, neg_ℤ, ◌≤ℤ◌, ◌<ℤ◌, MatchOption, true, false};
 ghost use Rattle.jiff.specs.Words.{plain_zone};
 ghost use Rattle.cron_moments.specs.Readings.{Reading, instant};
 ghost use Rattle.cron_instants.specs.Instants.{IsBy, IsEarliest, IsItem, IsLatest};
 ghost use Rattle.cron_c.specs.Zones.{IsSomeZone};
-ghost use Rattle.cron_c.specs.Histories.{IsBeyond, IsEraItem, IsHistory, IsHistoryItem, IsSought};
+ghost use Rattle.cron_c.specs.Histories.{IsBeyond, IsEraItem, IsHistory, IsHistoryItem, IsSought, has_started};
 
 use crate::era::{CronEra, has_come};
 use crate::zone::zone_in;
@@ -64,16 +64,31 @@ fn first_of_era(fields: &ScheduleFields, era: &CronEra, begin: &Begin) -> Option
     }
 }
 
+// The place of the era that holds a second, or of the first one where none has started by it.
+fn place_of(eras: &[CronEra], second: i64) -> usize
+    ensures begun { (result ≡ 0) ⊎ (has_started eras.now result second ≡ true) }
+    ensures lasts { has_started eras.now (result + 1) second ≡ false }
+{
+    let mut place = 0;
+    let mut end = eras.len().max(1);
+    while end > place + 1 {
+        let middle = place + (end - place) / 2;
+        if has_come(eras, middle, second) {
+            place = middle;
+        } else {
+            end = middle;
+        }
+    }
+    place
+}
+
 /// The first item of a history.
 pub fn first_of_history(fields: &ScheduleFields, eras: &[CronEra], begin: &Begin) -> Option<Moment>
     requires { IsHistory eras.now }
     ensures { IsEarliest (IsSought fields.now eras.now begin.now) result }
 {
     let least = least_second(begin);
-    for at in 0..eras.len() {
-        if has_come(eras, at + 1, least) {
-            continue;
-        }
+    for at in place_of(eras, least)..eras.len() {
         let Some(moment) = first_of_era(fields, &eras[at], begin) else {
             continue;
         };
