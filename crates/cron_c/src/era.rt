@@ -4,7 +4,9 @@ ghost use Rattle.std.specs.Prelude.{◌≡◌, ◌↔◌, ◌<◌, ◌+◌, true
 ghost use Rattle.cron_c.specs.Zones.{IsSomeZone};
 ghost use Rattle.cron_c.specs.Histories.{IsHistory, has_started, meets};
 
-use crate::zone::{CronZone, zone_in};
+use crate::table::steady;
+use crate::zone::{CronZone, FIXED, zone_in};
+use jiff::tz::Offset;
 
 /// From `starts` on, in seconds since 1970-01-01T00:00:00Z, the clock is that of the zone, until the next
 /// era starts.
@@ -15,10 +17,27 @@ pub struct CronEra {
     pub zone: CronZone,
 }
 
+// Whether a struct with one offset says a zone. Most eras have one.
+fn is_fixed(zone: &CronZone) -> bool
+    requires { zone.now.kind ≡ 1 }
+    ensures { (result ≡ true) ↔ IsSomeZone zone.now }
+{
+    match Offset::from_seconds(zone.offset) {
+        Ok(offset) => {
+            let _rule = steady(offset.to_plain());
+            true
+        }
+        Err(_) => false,
+    }
+}
+
 // Whether the struct says a zone.
 fn is_zone(zone: &CronZone) -> bool
     ensures { (result ≡ true) ↔ IsSomeZone zone.now }
 {
+    if zone.kind == FIXED {
+        return is_fixed(zone);
+    }
     match zone_in(zone) {
         Some(_) => true,
         None => false,

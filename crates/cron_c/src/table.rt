@@ -42,8 +42,8 @@ fn offset_past(table: &Tzif, count: usize) -> Offset
     }
 }
 
-// The rule of a clock that stays at one offset.
-fn steady(offset: Offset) -> posix::TimeZone
+/// The rule of a clock that stays at one offset.
+pub fn steady(offset: Offset) -> posix::TimeZone
     ensures offset { result.std_offset ≡ offset }
     ensures saving { result.dst ≡ None }
 {

@@ -15,7 +15,8 @@ use jiff_tz::{Abbreviation, posix};
 
 const UTC: u32 = 0;
 
-const FIXED: u32 = 1;
+/// The kind of a zone with one offset.
+pub const FIXED: u32 = 1;
 
 const SAVING: u32 = 2;
 
