@@ -1,13 +1,12 @@
 //! Walks over gaps of a day and longer, ahead and back. The civil seconds and the offsets are counted by hand.
 
-use crate::support::{check, number};
+use crate::support::{check, number, read_datetime, read_instant, read_schedule};
 use crate::zone_files::read_file;
 use cron::schedule::Moment;
 use cron::{Schedule, ScheduleIterator};
 use jiff::Timestamp;
 use jiff::tz::TimeZone;
 use std::process::Abort;
-use std::test::Fail;
 
 // A clock that changes between 24:59:59 behind UTC and as much ahead of it. Each year it leaves out what lies
 // from 10 April on, up to 12 April 01:59:57.
@@ -17,42 +16,26 @@ const BEFORE: i32 = -89_999;
 
 const AFTER: i32 = 89_999;
 
-fn check_item(
-    rt: &impl Abort,
-    moment: Option<Moment>,
-    shown: &str,
-    offset: i32,
-) -> Result<(), Fail> {
-    let moment = moment.ok_or("nothing is answered")?;
-    let wanted = number(shown.parse()?)?;
-    check(rt, number(moment.datetime())? == wanted, shown);
+fn check_item(rt: &impl Abort, moment: Option<Moment>, shown: &str, offset: i32) {
+    let moment = moment.expect(rt, "nothing is answered");
+    let wanted = number(rt, read_datetime(rt, shown));
+    check(rt, number(rt, moment.datetime()) == wanted, shown);
     check(rt, moment.offset().seconds() == offset, shown);
-    Ok(())
 }
 
 // A walk answers these items.
-fn check_ahead(
-    rt: &impl Abort,
-    walk: &mut ScheduleIterator<'_>,
-    items: &[(&str, i32)],
-) -> Result<(), Fail> {
+fn check_ahead(rt: &impl Abort, walk: &mut ScheduleIterator<'_>, items: &[(&str, i32)]) {
     for (shown, offset) in items.iter() {
-        check_item(rt, walk.next(), shown, *offset)?;
+        check_item(rt, walk.next(), shown, *offset);
     }
-    Ok(())
 }
 
 // From the last of these items a walk answers the ones before it.
-fn check_back(
-    rt: &impl Abort,
-    walk: &mut ScheduleIterator<'_>,
-    items: &[(&str, i32)],
-) -> Result<(), Fail> {
-    let (_, earlier) = items.split_last().ok_or("a walk has no items")?;
+fn check_back(rt: &impl Abort, walk: &mut ScheduleIterator<'_>, items: &[(&str, i32)]) {
+    let (_, earlier) = items.split_last().expect(rt, "a walk has no items");
     for (shown, offset) in earlier.iter().rev() {
-        check_item(rt, walk.next_back(), shown, *offset)?;
+        check_item(rt, walk.next_back(), shown, *offset);
     }
-    Ok(())
 }
 
 // A walk answers these items from a start on, and then the ones before the last back.
@@ -62,12 +45,12 @@ fn check_walk(
     zone: &TimeZone<'_>,
     start: &str,
     items: &[(&str, i32)],
-) -> Result<(), Fail> {
-    let start = start.parse::<Timestamp>()?;
-    let schedule = Schedule::from_str(rt.alloc(), text)?;
+) {
+    let start = read_instant(rt, start);
+    let schedule = read_schedule(rt, text);
     let mut walk = schedule.after(start, zone);
-    check_ahead(rt, &mut walk, items)?;
-    check_back(rt, &mut walk, items)
+    check_ahead(rt, &mut walk, items);
+    check_back(rt, &mut walk, items);
 }
 
 // The noons, the seconds and the firsts of a month around the skipped day, with their offsets.
@@ -90,17 +73,17 @@ const FIRSTS: &[(&str, i32)] = &[
     ("2020-05-01T00:00:00", 86_400),
 ];
 
-fn check_skipped_day(rt: &(impl Abort + AllocGlobal), zone: &TimeZone<'_>) -> Result<(), Fail> {
-    check_walk(rt, "0 0 12 * * *", zone, "2020-02-28T12:00:00Z", NOONS)?;
-    check_walk(rt, "* * * * * *", zone, "2020-02-29T23:59:57Z", SECONDS)?;
-    check_walk(rt, "0 0 0 1 * ?", zone, "2020-01-15T00:00:00Z", FIRSTS)
+fn check_skipped_day(rt: &(impl Abort + AllocGlobal), zone: &TimeZone<'_>) {
+    check_walk(rt, "0 0 12 * * *", zone, "2020-02-28T12:00:00Z", NOONS);
+    check_walk(rt, "* * * * * *", zone, "2020-02-29T23:59:57Z", SECONDS);
+    check_walk(rt, "0 0 0 1 * ?", zone, "2020-01-15T00:00:00Z", FIRSTS);
 }
 
 #[test]
-fn a_day_that_is_skipped(rt: HostRuntime) -> Result<(), Fail> {
+fn a_day_that_is_skipped(rt: HostRuntime) {
     let (first, second) = ("2020-03-01T00:00:00Z", "2020-06-01T00:00:00Z");
-    let file = read_file(rt.alloc(), 86_400, first, second)?;
-    check_skipped_day(&rt, &TimeZone::tzif(&file))
+    let file = read_file(&rt, 86_400, first, second);
+    check_skipped_day(&rt, &TimeZone::tzif(&file));
 }
 
 // The quarters of days around the two skipped days, and the seconds at their edges.
@@ -122,11 +105,11 @@ const EDGES: &[(&str, i32)] = &[
 ];
 
 #[test]
-fn two_days_that_are_skipped_each_year(rt: HostRuntime) -> Result<(), Fail> {
-    let zone = TimeZone::posix(TWO_DAYS)?;
+fn two_days_that_are_skipped_each_year(rt: HostRuntime) {
+    let zone = TimeZone::posix(TWO_DAYS).expect(&rt, "a zone");
     let april = "2020-04-01T00:00:00Z";
-    check_walk(&rt, "0 0 */6 9-12 4 ?", &zone, april, QUARTERS)?;
-    check_walk(&rt, "* * * * * ?", &zone, "2020-04-11T00:59:57Z", EDGES)
+    check_walk(&rt, "0 0 */6 9-12 4 ?", &zone, april, QUARTERS);
+    check_walk(&rt, "* * * * * ?", &zone, "2020-04-11T00:59:57Z", EDGES);
 }
 
 // No walk answers an item.
@@ -140,10 +123,9 @@ fn check_nothing(rt: &impl Abort, schedule: &Schedule, start: Timestamp, zone: &
 }
 
 #[test]
-fn gaps_in_which_each_match_lies(rt: HostRuntime) -> Result<(), Fail> {
-    let zone = TimeZone::posix(TWO_DAYS)?;
-    let schedule = Schedule::from_str(rt.alloc(), "* * * 10,11 4 ?")?;
-    let start = "2020-01-01T00:00:00Z".parse::<Timestamp>()?;
+fn gaps_in_which_each_match_lies(rt: HostRuntime) {
+    let zone = TimeZone::posix(TWO_DAYS).expect(&rt, "a zone");
+    let schedule = read_schedule(&rt, "* * * 10,11 4 ?");
+    let start = read_instant(&rt, "2020-01-01T00:00:00Z");
     check_nothing(&rt, &schedule, start, &zone);
-    Ok(())
 }

@@ -4,18 +4,16 @@ use crate::month_lengths::last_days;
 use crate::slow_twin::check_day;
 use crate::support::{
     check, check_included, check_rows, check_same, check_survey, check_text, chicago, cut,
+    read_date, read_instant, read_schedule,
 };
 use cron::queries::Survey;
 use cron::schedule::{Moment, Turn};
 use cron::time_unit::DaysOfMonth;
 use cron::{Schedule, ScheduleIterator, TimeUnitSpec};
-use jiff::Timestamp;
 use jiff::civil::Time;
 use jiff::tz::{Offset, TimeZone};
-use std::alloc::{AllocError, Global};
 use std::fmt::Write;
 use std::process::Abort;
-use std::test::Fail;
 
 // An expression, a start, the way, and the answers of as many calls at midnight in UTC.
 const WALKS: &str = "\
@@ -31,16 +29,11 @@ const WALKS: &str = "\
 @midnight | 2024-01-15T00:00:00Z | next | 2024-01-16 2024-01-17";
 
 // A moment at midnight in UTC, by its date.
-fn check_midnight(
-    rt: &(impl Abort + AllocGlobal),
-    moment: Moment,
-    wanted: &str,
-    row: &str,
-) -> Result<(), Fail> {
+fn check_midnight(rt: &(impl Abort + AllocGlobal), moment: Moment, wanted: &str, row: &str) {
     let datetime = moment.datetime();
     check(rt, datetime.time() == Time::midnight(), row);
     check(rt, moment.offset() == Offset::UTC, row);
-    check_text(rt, &datetime.date(), wanted, row)
+    check_text(rt, &datetime.date(), wanted, row);
 }
 
 /// Compares what a call answers with the midnight of a date in UTC, or with `None`.
@@ -49,12 +42,11 @@ pub(crate) fn check_date(
     answer: Option<Moment>,
     wanted: &str,
     row: &str,
-) -> Result<(), Fail> {
+) {
     if let Some(moment) = answer {
         return check_midnight(rt, moment, wanted, row);
     }
     check_same(rt, "None", wanted, row);
-    Ok(())
 }
 
 fn check_dates(
@@ -62,11 +54,10 @@ fn check_dates(
     answers: &[Option<Moment>],
     wanted: &str,
     row: &str,
-) -> Result<(), Fail> {
+) {
     for (answer, date) in answers.iter().zip(wanted.split(' ')) {
-        check_date(rt, *answer, date, row)?;
+        check_date(rt, *answer, date, row);
     }
-    Ok(())
 }
 
 // Makes a call for each answer that is wanted, at most four.
@@ -76,13 +67,13 @@ fn check_answers(
     turn: Turn,
     wanted: &str,
     row: &str,
-) -> Result<(), Fail> {
+) {
     let turns = [turn; 4];
     let turns = turns.get(..wanted.split(' ').count());
-    let turns = turns.ok_or("a row has more than four answers")?;
-    let answers = walk.play(rt.alloc(), turns)?;
+    let turns = turns.expect(rt, "a row has more than four answers");
+    let answers = walk.play(rt.alloc(), turns).expect(rt, "memory");
     check(rt, answers.len() == turns.len(), row);
-    check_dates(rt, answers.as_slice(), wanted, row)
+    check_dates(rt, answers.as_slice(), wanted, row);
 }
 
 fn turn_of(way: &str) -> Turn {
@@ -93,23 +84,22 @@ fn turn_of(way: &str) -> Turn {
     }
 }
 
-fn check_walk(rt: &(impl Abort + AllocGlobal), row: &str) -> Result<(), Fail> {
-    let (text, rest) = cut(row)?;
-    let (start, rest) = cut(rest)?;
-    let (way, wanted) = cut(rest)?;
-    let start = start.parse::<Timestamp>()?;
-    let schedule = Schedule::from_str(rt.alloc(), text)?;
+fn check_walk(rt: &(impl Abort + AllocGlobal), row: &str) {
+    let (text, rest) = cut(rt, row);
+    let (start, rest) = cut(rt, rest);
+    let (way, wanted) = cut(rt, rest);
+    let start = read_instant(rt, start);
+    let schedule = read_schedule(rt, text);
     let mut walk = schedule.after(start, &TimeZone::UTC);
-    check_answers(rt, &mut walk, turn_of(way), wanted, row)
+    check_answers(rt, &mut walk, turn_of(way), wanted, row);
 }
 
 #[test]
-fn walks_over_last_days(rt: HostRuntime) -> Result<(), Fail> {
+fn walks_over_last_days(rt: HostRuntime) {
     check_rows(&rt, WALKS, 10);
     for row in WALKS.lines() {
-        check_walk(&rt, row)?;
+        check_walk(&rt, row);
     }
-    Ok(())
 }
 
 // A text, and why it is refused.
@@ -127,8 +117,8 @@ const REFUSED: &str = "\
 0 0 0 L,32 * ? | Days of Month must be less than 31. ('32' specified.)
 * * * * * * L | Invalid cron expression.";
 
-fn check_refused(rt: &(impl Abort + AllocGlobal), row: &str) -> Result<(), Fail> {
-    let (text, wanted) = cut(row)?;
+fn check_refused(rt: &(impl Abort + AllocGlobal), row: &str) {
+    let (text, wanted) = cut(rt, row);
     match Schedule::from_str(rt.alloc(), text) {
         Ok(schedule) => check_text(rt, &schedule, wanted, row),
         Err(error) => check_text(rt, &error, wanted, row),
@@ -136,28 +126,26 @@ fn check_refused(rt: &(impl Abort + AllocGlobal), row: &str) -> Result<(), Fail>
 }
 
 #[test]
-fn no_other_use_of_the_word(rt: HostRuntime) -> Result<(), Fail> {
+fn no_other_use_of_the_word(rt: HostRuntime) {
     check_rows(&rt, REFUSED, 12);
     for row in REFUSED.lines() {
-        check_refused(&rt, row)?;
+        check_refused(&rt, row);
     }
-    Ok(())
 }
 
-fn push_days(text: &mut String, days: &DaysOfMonth) -> Result<(), AllocError> {
+fn push_days(rt: &impl Abort, text: &mut String, days: &DaysOfMonth) {
     for day in days.iter() {
-        write!(text, " {day}")?;
+        write!(text, " {day}").expect(rt, "memory");
     }
-    Ok(())
 }
 
 // What days are: whether the last one is marked, how many are numbered, whether they are all, and the
 // numbers.
-fn days_shown(alloc: Global, days: &DaysOfMonth) -> Result<String, AllocError> {
+fn days_shown(rt: &(impl Abort + AllocGlobal), days: &DaysOfMonth) -> String {
     let (last, count, all) = (days.last_day(), days.count(), days.is_all());
-    let mut shown = format!(in alloc; "{last} {count} {all}")?;
-    push_days(&mut shown, days)?;
-    Ok(shown)
+    let mut shown = format!(in rt.alloc(); "{last} {count} {all}").expect(rt, "memory");
+    push_days(rt, &mut shown, days);
+    shown
 }
 
 const DAYS: &str = "\
@@ -169,128 +157,120 @@ const DAYS: &str = "\
 @monthly | false 1 false 1
 @annually | false 1 false 1";
 
-fn check_shown_days(
-    rt: &(impl Abort + AllocGlobal),
-    days: &DaysOfMonth,
-    wanted: &str,
-    row: &str,
-) -> Result<(), Fail> {
-    let told = days_shown(rt.alloc(), days)?;
+fn check_shown_days(rt: &(impl Abort + AllocGlobal), days: &DaysOfMonth, wanted: &str, row: &str) {
+    let told = days_shown(rt, days);
     check_same(rt, told.as_str(), wanted, row);
-    Ok(())
 }
 
-fn check_days_of(rt: &(impl Abort + AllocGlobal), row: &str) -> Result<(), Fail> {
-    let (text, wanted) = cut(row)?;
-    let schedule = Schedule::from_str(rt.alloc(), text)?;
-    check_shown_days(rt, schedule.days_of_month(), wanted, row)
+fn check_days_of(rt: &(impl Abort + AllocGlobal), row: &str) {
+    let (text, wanted) = cut(rt, row);
+    let schedule = read_schedule(rt, text);
+    check_shown_days(rt, schedule.days_of_month(), wanted, row);
 }
 
 // All days are numbered, and the last one isn't marked.
-fn check_all_days_of(rt: &(impl Abort + AllocGlobal), text: &str) -> Result<(), Fail> {
-    let schedule = Schedule::from_str(rt.alloc(), text)?;
+fn check_all_days_of(rt: &(impl Abort + AllocGlobal), text: &str) {
+    let schedule = read_schedule(rt, text);
     let days = schedule.days_of_month();
     check(rt, !days.last_day() && days.is_all(), text);
-    Ok(())
 }
 
 #[test]
-fn views_are_of_numbered_days(rt: HostRuntime) -> Result<(), Fail> {
+fn views_are_of_numbered_days(rt: HostRuntime) {
     check_rows(&rt, DAYS, 7);
     for row in DAYS.lines() {
-        check_days_of(&rt, row)?;
+        check_days_of(&rt, row);
     }
-    check_all_days_of(&rt, "* * * * * *")?;
-    check_all_days_of(&rt, "@midnight")?;
-    check_all_days_of(&rt, "0 0 0 ? * Mon")
+    check_all_days_of(&rt, "* * * * * *");
+    check_all_days_of(&rt, "@midnight");
+    check_all_days_of(&rt, "0 0 0 ? * Mon");
 }
 
 // The midnight of the last day of January.
-fn check_january(rt: &impl Abort, schedule: &Schedule) -> Result<(), Fail> {
+fn check_january(rt: &impl Abort, schedule: &Schedule) {
     let (hours, months) = (schedule.hours(), schedule.months());
     check(rt, hours.includes(0) && hours.count() == 1, "hours");
     check(rt, months.includes(1) && months.count() == 1, "months");
     check(rt, schedule.days_of_week().is_all(), "days of the week");
-    check_included(rt, schedule, "2024-01-31T00:00:00", true)?;
-    check_included(rt, schedule, "2024-01-30T00:00:00", false)
+    check_included(rt, schedule, "2024-01-31T00:00:00", true);
+    check_included(rt, schedule, "2024-01-30T00:00:00", false);
 }
 
 #[test]
-fn a_text_without_spaces_around_the_word(rt: HostRuntime) -> Result<(), Fail> {
-    let schedule = Schedule::from_str(rt.alloc(), "0 0 0L1?")?;
-    check_january(&rt, &schedule)
+fn a_text_without_spaces_around_the_word(rt: HostRuntime) {
+    let schedule = read_schedule(&rt, "0 0 0L1?");
+    check_january(&rt, &schedule);
 }
 
-fn check_answer(
-    rt: &(impl Abort + AllocGlobal),
-    answer: Option<Moment>,
-    wanted: &str,
-) -> Result<(), Fail> {
-    let moment = answer.ok_or("the walk ends early")?;
-    check_text(rt, &moment, wanted, wanted)
+fn check_answer(rt: &(impl Abort + AllocGlobal), answer: Option<Moment>, wanted: &str) {
+    let moment = answer.expect(rt, "the walk ends early");
+    check_text(rt, &moment, wanted, wanted);
 }
 
 fn check_last_days_ahead(
     rt: &(impl Abort + AllocGlobal),
     walk: &mut ScheduleIterator<'_>,
     days: &[String],
-) -> Result<(), Fail> {
+) {
     for day in days {
-        check_answer(rt, walk.next(), day.as_str())?;
+        check_answer(rt, walk.next(), day.as_str());
     }
     check(rt, walk.next().is_none(), "past the last one");
-    Ok(())
 }
 
 fn check_last_days_back(
     rt: &(impl Abort + AllocGlobal),
     walk: &mut ScheduleIterator<'_>,
     days: &[String],
-) -> Result<(), Fail> {
+) {
     for day in days.iter().rev() {
-        check_answer(rt, walk.next_back(), day.as_str())?;
+        check_answer(rt, walk.next_back(), day.as_str());
     }
     check(rt, walk.next_back().is_none(), "before the first one");
-    Ok(())
 }
 
-fn check_last_days(rt: &(impl Abort + AllocGlobal), days: &[String]) -> Result<(), Fail> {
-    let first = "1969-12-31T00:00:00Z".parse::<Timestamp>()?;
-    let past = "2101-01-01T00:00:00Z".parse::<Timestamp>()?;
-    let schedule = Schedule::from_str(rt.alloc(), "0 0 0 L * ?")?;
-    check_last_days_ahead(rt, &mut schedule.after(first, &TimeZone::UTC), days)?;
-    check_last_days_back(rt, &mut schedule.after(past, &TimeZone::UTC), days)
+fn check_last_days(rt: &(impl Abort + AllocGlobal), days: &[String]) {
+    let first = read_instant(rt, "1969-12-31T00:00:00Z");
+    let past = read_instant(rt, "2101-01-01T00:00:00Z");
+    let schedule = read_schedule(rt, "0 0 0 L * ?");
+    check_last_days_ahead(rt, &mut schedule.after(first, &TimeZone::UTC), days);
+    check_last_days_back(rt, &mut schedule.after(past, &TimeZone::UTC), days);
 }
 
 #[test]
-fn the_last_day_of_each_month(rt: HostRuntime) -> Result<(), Fail> {
-    let days = last_days(rt.alloc())?;
+fn the_last_day_of_each_month(rt: HostRuntime) {
+    let days = last_days(&rt);
     check(&rt, days.len() == 1_572, "months of the range");
-    check_last_days(&rt, days.as_slice())
+    check_last_days(&rt, days.as_slice());
 }
 
 #[test]
-fn last_days_are_candidates(rt: HostRuntime) -> Result<(), Fail> {
+fn last_days_are_candidates(rt: HostRuntime) {
     let from = "2024-01-01T00:00:00";
     let fridays = Survey {
         seconds: 1,
         days: 5,
         conversions: 1,
     };
-    check_survey(&rt, "0 0 0 L * Fri 2024", &TimeZone::UTC, from, 1, fridays)?;
+    check_survey(&rt, "0 0 0 L * Fri 2024", &TimeZone::UTC, from, 1, fridays);
     // The day of the first answer is a candidate of both searches.
     let two = Survey {
         seconds: 2,
         days: 3,
         conversions: 2,
     };
-    check_survey(&rt, "0 0 0 31,L 2,3 ? 2024", &TimeZone::UTC, from, 2, two)
+    check_survey(&rt, "0 0 0 31,L 2,3 ? 2024", &TimeZone::UTC, from, 2, two);
 }
 
 #[test]
-fn a_last_day_by_the_slow_twin(rt: HostRuntime) -> Result<(), Fail> {
-    let zone = chicago()?;
-    check_day(&rt, "0 30 */5 L * ?", &zone, "2024-02-29".parse()?)?;
-    check_day(&rt, "0 30 */5 28,L * ?", &zone, "2100-02-28".parse()?)?;
-    check_day(&rt, "0 0 12 L * ?", &zone, "2023-10-30".parse()?)
+fn a_last_day_by_the_slow_twin(rt: HostRuntime) {
+    let zone = chicago(&rt);
+    check_day(&rt, "0 30 */5 L * ?", &zone, read_date(&rt, "2024-02-29"));
+    check_day(
+        &rt,
+        "0 30 */5 28,L * ?",
+        &zone,
+        read_date(&rt, "2100-02-28"),
+    );
+    check_day(&rt, "0 0 12 L * ?", &zone, read_date(&rt, "2023-10-30"));
 }

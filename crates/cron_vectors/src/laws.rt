@@ -1,28 +1,29 @@
 //! The laws that a program can call.
 
-use crate::support::{check, check_rows, check_same, check_text, chicago, cut};
+use crate::support::{
+    check, check_rows, check_same, check_text, chicago, cut, read_instant, read_number,
+    read_schedule,
+};
 use cron::schedule::{Moment, Turn};
 use cron::{Schedule, laws};
 use jiff::Timestamp;
 use jiff::tz::{Offset, TimeZone};
-use std::alloc::{AllocError, Global};
 use std::fmt::Write;
 use std::process::Abort;
-use std::test::Fail;
 
-fn push_answer(text: &mut String, answer: Option<Moment>) -> Result<(), AllocError> {
+fn push_answer(rt: &impl Abort, text: &mut String, answer: Option<Moment>) {
     match answer {
-        Some(moment) => write!(text, "{moment}, "),
-        None => text.push_str("None, "),
+        Some(moment) => write!(text, "{moment}, ").expect(rt, "memory"),
+        None => text.push_str("None, ").expect(rt, "memory"),
     }
 }
 
-fn listed(alloc: Global, answers: &[Option<Moment>]) -> Result<String, AllocError> {
-    let mut text = String::new(alloc);
+fn listed(rt: &(impl Abort + AllocGlobal), answers: &[Option<Moment>]) -> String {
+    let mut text = String::new(rt.alloc());
     for answer in answers {
-        push_answer(&mut text, *answer)?;
+        push_answer(rt, &mut text, *answer);
     }
-    Ok(text)
+    text
 }
 
 fn check_listed(
@@ -30,15 +31,14 @@ fn check_listed(
     answers: &[Option<Moment>],
     wanted: &str,
     row: &str,
-) -> Result<(), Fail> {
-    let told = listed(rt.alloc(), answers)?;
+) {
+    let told = listed(rt, answers);
     check_same(rt, told.as_str(), wanted, row);
-    Ok(())
 }
 
 // What these calls on a walk over a text answer, or its refusal.
-fn check_headline(rt: &(impl Abort + AllocGlobal), text: &str, wanted: &str) -> Result<(), Fail> {
-    let start = "2022-11-06T04:30:00Z".parse()?;
+fn check_headline(rt: &(impl Abort + AllocGlobal), text: &str, wanted: &str) {
+    let start = read_instant(rt, "2022-11-06T04:30:00Z");
     let turns = [
         Turn::Next,
         Turn::Next,
@@ -49,7 +49,7 @@ fn check_headline(rt: &(impl Abort + AllocGlobal), text: &str, wanted: &str) -> 
         Turn::Next,
         Turn::NextBack,
     ];
-    match laws::headline(rt.alloc(), text, start, &chicago()?, &turns) {
+    match laws::headline(rt.alloc(), text, start, &chicago(rt), &turns) {
         Ok(answers) => check_listed(rt, answers.as_slice(), wanted, text),
         Err(error) => check_text(rt, &error, wanted, text),
     }
@@ -60,7 +60,7 @@ const WALKED: &str = "2022-11-06 01:00:00 -05:00, 2022-11-06 01:00:00 -06:00, \
 2022-11-06 01:30:00 -06:00, None, None, ";
 
 #[test]
-fn the_headline(rt: HostRuntime) -> Result<(), Fail> {
+fn the_headline(rt: HostRuntime) {
     for (text, wanted) in [
         ("0 0,30 1 6 11 ? 2022", WALKED),
         (
@@ -69,35 +69,28 @@ fn the_headline(rt: HostRuntime) -> Result<(), Fail> {
         ),
         ("* * * *", "Invalid cron expression."),
     ] {
-        check_headline(&rt, text, wanted)?;
+        check_headline(&rt, text, wanted);
     }
-    Ok(())
 }
 
 // Reading a schedule's source again gives an equal schedule.
-fn check_reread(
-    rt: &(impl Abort + AllocGlobal),
-    schedule: &Schedule,
-    text: &str,
-) -> Result<(), Fail> {
-    let again = laws::reread(rt.alloc(), schedule)?;
+fn check_reread(rt: &(impl Abort + AllocGlobal), schedule: &Schedule, text: &str) {
+    let again = laws::reread(rt.alloc(), schedule).expect(rt, "a schedule");
     laws::equal_sets(schedule, &again);
     let is_equal = again == *schedule && again.timeunitspec_eq(schedule);
     check(rt, is_equal, text);
-    Ok(())
 }
 
-fn check_source(rt: &(impl Abort + AllocGlobal), text: &str) -> Result<(), Fail> {
-    let schedule = Schedule::from_str(rt.alloc(), text)?;
-    check_reread(rt, &schedule, text)
+fn check_source(rt: &(impl Abort + AllocGlobal), text: &str) {
+    let schedule = read_schedule(rt, text);
+    check_reread(rt, &schedule, text);
 }
 
 #[test]
-fn a_source_is_read_again(rt: HostRuntime) -> Result<(), Fail> {
+fn a_source_is_read_again(rt: HostRuntime) {
     for text in [" @hourly ", "* 1,2,3 * * * *", "0 0 0 1 1 ? 2020-2040/10"] {
-        check_source(&rt, text)?;
+        check_source(&rt, text);
     }
-    Ok(())
 }
 
 // An expression, the seconds ahead of UTC, a start, and the first two answers.
@@ -114,11 +107,11 @@ fn check_first_two(
     start: Timestamp,
     zone: &TimeZone<'_>,
     wanted: &str,
-) -> Result<(), Fail> {
-    zone.to_fixed_offset()?;
+) {
+    zone.to_fixed_offset().expect(rt, "one offset");
     laws::one_offset();
     let (first, second) = laws::first_instants(schedule, start, zone);
-    check_listed(rt, &[first, second], wanted, wanted)
+    check_listed(rt, &[first, second], wanted, wanted);
 }
 
 // The same in the zone of a rule text, which must have no saving.
@@ -128,26 +121,27 @@ fn check_first_two_by_rule(
     start: Timestamp,
     zone: &TimeZone<'_>,
     wanted: &str,
-) -> Result<(), Fail> {
+) {
     let jiff_tz::TimeZone::Posix(rule) = zone.to_plain() else {
-        return Err("not a rule text".into());
+        panic!(rt; "not a rule text");
     };
     if rule.dst.is_some() {
-        return Err("a rule with a saving".into());
+        panic!(rt; "a rule with a saving");
     }
     laws::one_offset();
     let (first, second) = laws::first_instants(schedule, start, zone);
-    check_listed(rt, &[first, second], wanted, wanted)
+    check_listed(rt, &[first, second], wanted, wanted);
 }
 
-fn check_first(rt: &(impl Abort + AllocGlobal), row: &str) -> Result<(), Fail> {
-    let (text, rest) = cut(row)?;
-    let (ahead, rest) = cut(rest)?;
-    let (start, wanted) = cut(rest)?;
-    let zone = TimeZone::fixed(Offset::from_seconds(ahead.parse()?)?);
-    let start = start.parse()?;
-    let schedule = Schedule::from_str(rt.alloc(), text)?;
-    check_first_two(rt, &schedule, start, &zone, wanted)
+fn check_first(rt: &(impl Abort + AllocGlobal), row: &str) {
+    let (text, rest) = cut(rt, row);
+    let (ahead, rest) = cut(rt, rest);
+    let (start, wanted) = cut(rt, rest);
+    let ahead = Offset::from_seconds(read_number(rt, ahead)).expect(rt, "an offset");
+    let zone = TimeZone::fixed(ahead);
+    let start = read_instant(rt, start);
+    let schedule = read_schedule(rt, text);
+    check_first_two(rt, &schedule, start, &zone, wanted);
 }
 
 // An expression, a rule text without a saving, a start, and the first two answers.
@@ -155,30 +149,28 @@ const FIRST_BY_RULE: &str = "\
 0 30 9 * * * | JST-9 | 2024-02-28T00:30:00Z | 2024-02-29 09:30:00 +09:00, 2024-03-01 09:30:00 +09:00, 
 59 59 23 31 12 ? 2100 | <-0330>3:30 | 2020-01-01T00:00:00Z | 2100-12-31 23:59:59 -03:30, None, ";
 
-fn check_first_by_rule(rt: &(impl Abort + AllocGlobal), row: &str) -> Result<(), Fail> {
-    let (text, rest) = cut(row)?;
-    let (rule, rest) = cut(rest)?;
-    let (start, wanted) = cut(rest)?;
-    let zone = TimeZone::posix(rule)?;
-    let start = start.parse()?;
-    let schedule = Schedule::from_str(rt.alloc(), text)?;
-    check_first_two_by_rule(rt, &schedule, start, &zone, wanted)
+fn check_first_by_rule(rt: &(impl Abort + AllocGlobal), row: &str) {
+    let (text, rest) = cut(rt, row);
+    let (rule, rest) = cut(rt, rest);
+    let (start, wanted) = cut(rt, rest);
+    let zone = TimeZone::posix(rule).expect(rt, "a zone");
+    let start = read_instant(rt, start);
+    let schedule = read_schedule(rt, text);
+    check_first_two_by_rule(rt, &schedule, start, &zone, wanted);
 }
 
 #[test]
-fn first_instants_by_rule(rt: HostRuntime) -> Result<(), Fail> {
+fn first_instants_by_rule(rt: HostRuntime) {
     check_rows(&rt, FIRST_BY_RULE, 2);
     for row in FIRST_BY_RULE.lines() {
-        check_first_by_rule(&rt, row)?;
+        check_first_by_rule(&rt, row);
     }
-    Ok(())
 }
 
 #[test]
-fn first_instants(rt: HostRuntime) -> Result<(), Fail> {
+fn first_instants(rt: HostRuntime) {
     check_rows(&rt, FIRST, 4);
     for row in FIRST.lines() {
-        check_first(&rt, row)?;
+        check_first(&rt, row);
     }
-    Ok(())
 }

@@ -2,13 +2,11 @@
 //! walk over the one goes as over the other.
 
 use crate::last_days::check_date;
-use crate::support::{check, check_rows, check_text, cut};
+use crate::support::{check, check_rows, check_text, cut, read_instant, read_schedule};
 use cron::schedule::Moment;
 use cron::{Schedule, ScheduleIterator};
-use jiff::Timestamp;
 use jiff::tz::TimeZone;
 use std::process::Abort;
-use std::test::Fail;
 
 // Pairs of texts, whether their sets are equal and whether their days are, and of each text the last item
 // before half past noon of 2022-11-25 in UTC and the first one after it, as the calendar has them.
@@ -27,46 +25,40 @@ fn check_marks(
     other: &Schedule,
     wanted: &str,
     row: &str,
-) -> Result<(), Fail> {
+) {
     let sets = one.timeunitspec_eq(other);
     let days = one.days_of_month() == other.days_of_month();
-    check_text(rt, &format_args!("{sets} {days}"), wanted, row)
+    check_text(rt, &format_args!("{sets} {days}"), wanted, row);
 }
 
 // The items around an instant: two schedules that are wrong alike have equal sets too.
-fn check_around(
-    rt: &(impl Abort + AllocGlobal),
-    schedule: &Schedule,
-    wanted: &str,
-    row: &str,
-) -> Result<(), Fail> {
-    let start = "2022-11-25T12:30:00Z".parse::<Timestamp>()?;
+fn check_around(rt: &(impl Abort + AllocGlobal), schedule: &Schedule, wanted: &str, row: &str) {
+    let start = read_instant(rt, "2022-11-25T12:30:00Z");
     let earlier = schedule.after(start, &TimeZone::UTC).next_back();
-    let earlier = earlier.ok_or("no item before")?.datetime();
+    let earlier = earlier.expect(rt, "no item before").datetime();
     let later = schedule.after(start, &TimeZone::UTC).next();
-    let later = later.ok_or("no item after")?.datetime();
-    check_text(rt, &format_args!("{earlier} {later}"), wanted, row)
+    let later = later.expect(rt, "no item after").datetime();
+    check_text(rt, &format_args!("{earlier} {later}"), wanted, row);
 }
 
-fn check_pair(rt: &(impl Abort + AllocGlobal), row: &str) -> Result<(), Fail> {
-    let (one, rest) = cut(row)?;
-    let (other, rest) = cut(rest)?;
-    let (marks, rest) = cut(rest)?;
-    let (around_one, around_other) = cut(rest)?;
-    let one = Schedule::from_str(rt.alloc(), one)?;
-    let other = Schedule::from_str(rt.alloc(), other)?;
-    check_marks(rt, &one, &other, marks, row)?;
-    check_around(rt, &one, around_one, row)?;
-    check_around(rt, &other, around_other, row)
+fn check_pair(rt: &(impl Abort + AllocGlobal), row: &str) {
+    let (one, rest) = cut(rt, row);
+    let (other, rest) = cut(rt, rest);
+    let (marks, rest) = cut(rt, rest);
+    let (around_one, around_other) = cut(rt, rest);
+    let one = read_schedule(rt, one);
+    let other = read_schedule(rt, other);
+    check_marks(rt, &one, &other, marks, row);
+    check_around(rt, &one, around_one, row);
+    check_around(rt, &other, around_other, row);
 }
 
 #[test]
-fn equal_days_have_equal_marks(rt: HostRuntime) -> Result<(), Fail> {
+fn equal_days_have_equal_marks(rt: HostRuntime) {
     check_rows(&rt, PAIRS, 6);
     for row in PAIRS.lines() {
-        check_pair(&rt, row)?;
+        check_pair(&rt, row);
     }
-    Ok(())
 }
 
 // Both walks answer the midnight of this date.
@@ -75,9 +67,9 @@ fn check_both(
     one: Option<Moment>,
     other: Option<Moment>,
     wanted: &str,
-) -> Result<(), Fail> {
+) {
     check(rt, one == other, wanted);
-    check_date(rt, one, wanted, wanted)
+    check_date(rt, one, wanted, wanted);
 }
 
 // 400 calls ahead, of which the first and the last answer known dates.
@@ -85,12 +77,12 @@ fn check_alike_ahead(
     rt: &(impl Abort + AllocGlobal),
     walk: &mut ScheduleIterator<'_>,
     marked: &mut ScheduleIterator<'_>,
-) -> Result<(), Fail> {
-    check_both(rt, walk.next(), marked.next(), "2023-12-31")?;
+) {
+    check_both(rt, walk.next(), marked.next(), "2023-12-31");
     for _ in 0..398 {
         check(rt, walk.next() == marked.next(), "ahead");
     }
-    check_both(rt, walk.next(), marked.next(), "2025-02-02")
+    check_both(rt, walk.next(), marked.next(), "2025-02-02");
 }
 
 // 800 calls back, which pass the start.
@@ -98,22 +90,22 @@ fn check_alike_back(
     rt: &(impl Abort + AllocGlobal),
     walk: &mut ScheduleIterator<'_>,
     marked: &mut ScheduleIterator<'_>,
-) -> Result<(), Fail> {
-    check_both(rt, walk.next_back(), marked.next_back(), "2025-02-01")?;
+) {
+    check_both(rt, walk.next_back(), marked.next_back(), "2025-02-01");
     for _ in 0..798 {
         check(rt, walk.next_back() == marked.next_back(), "back");
     }
-    check_both(rt, walk.next_back(), marked.next_back(), "2022-11-25")
+    check_both(rt, walk.next_back(), marked.next_back(), "2022-11-25");
 }
 
 // The walks over every day go alike, with the last one marked besides or not.
 #[test]
-fn a_mark_besides_all_days_changes_no_walk(rt: HostRuntime) -> Result<(), Fail> {
-    let start = "2023-12-30T12:00:00Z".parse::<Timestamp>()?;
-    let one = Schedule::from_str(rt.alloc(), "0 0 0 * * ?")?;
-    let other = Schedule::from_str(rt.alloc(), "0 0 0 *,L * ?")?;
+fn a_mark_besides_all_days_changes_no_walk(rt: HostRuntime) {
+    let start = read_instant(&rt, "2023-12-30T12:00:00Z");
+    let one = read_schedule(&rt, "0 0 0 * * ?");
+    let other = read_schedule(&rt, "0 0 0 *,L * ?");
     let mut walk = one.after(start, &TimeZone::UTC);
     let mut marked = other.after(start, &TimeZone::UTC);
-    check_alike_ahead(&rt, &mut walk, &mut marked)?;
-    check_alike_back(&rt, &mut walk, &mut marked)
+    check_alike_ahead(&rt, &mut walk, &mut marked);
+    check_alike_back(&rt, &mut walk, &mut marked);
 }

@@ -1,15 +1,13 @@
 //! A slow twin of the days that walks answer: each day of a stretch is asked by itself.
 
-use crate::support::{check, check_rows, check_same, cut, shown};
+use crate::support::{check, check_rows, check_same, cut, read_schedule, shown};
 use cron::Schedule;
 use cron::schedule::Moment;
 use jiff::Timestamp;
 use jiff::civil::DateTime;
 use jiff::tz::TimeZone;
-use std::alloc::Global;
 use std::fmt::Write;
 use std::process::Abort;
-use std::test::Fail;
 
 // Texts whose items are midnights, and how many days match in each of the stretches below, as the
 // calendar of Python counts them. Where none does, a walk goes over the whole stretch.
@@ -53,32 +51,26 @@ const STRETCHES: [Days; 4] = [
 ];
 
 // The midnight at which a day begins.
-fn midnight(day: i64) -> Result<DateTime, Fail> {
-    shown(day.saturating_mul(86_400))
+fn midnight(rt: &impl Abort, day: i64) -> DateTime {
+    shown(rt, day.saturating_mul(86_400))
 }
 
 // The midnights of a stretch that a schedule includes.
-fn included(alloc: Global, schedule: &Schedule, days: Days) -> Result<Vec<DateTime>, Fail> {
-    let mut midnights = Vec::new(alloc);
+fn included(rt: &(impl Abort + AllocGlobal), schedule: &Schedule, days: Days) -> Vec<DateTime> {
+    let mut midnights = Vec::new(rt.alloc());
     for day in days.first..days.past {
-        let midnight = midnight(day)?;
+        let midnight = midnight(rt, day);
         if schedule.includes(midnight) {
-            midnights.push(midnight)?;
+            midnights.push(midnight).expect(rt, "memory");
         }
     }
-    Ok(midnights)
+    midnights
 }
 
 // A call answers this midnight.
-fn check_midnight(
-    rt: &impl Abort,
-    answer: Option<Moment>,
-    wanted: DateTime,
-    text: &str,
-) -> Result<(), Fail> {
-    let moment = answer.ok_or("the walk ends early")?;
+fn check_midnight(rt: &impl Abort, answer: Option<Moment>, wanted: DateTime, text: &str) {
+    let moment = answer.expect(rt, "the walk ends early");
     check(rt, moment.datetime() == wanted, text);
-    Ok(())
 }
 
 // Goes ahead over the midnights, and from each back to the one before it and ahead again. What is answered
@@ -89,21 +81,23 @@ fn check_ahead(
     days: Days,
     midnights: &[DateTime],
     text: &str,
-) -> Result<(), Fail> {
-    let start = Timestamp::from_second(days.first.saturating_mul(86_400).saturating_sub(1))?;
+) {
+    let start = Timestamp::from_second(days.first.saturating_mul(86_400).saturating_sub(1)).expect(
+        rt,
+        "an instant",
+    );
     let mut walk = schedule.after(start, &TimeZone::UTC);
     let mut before = None;
     for midnight in midnights {
-        check_midnight(rt, walk.next(), *midnight, text)?;
+        check_midnight(rt, walk.next(), *midnight, text);
         if let Some(earlier) = before {
-            check_midnight(rt, walk.next_back(), earlier, text)?;
-            check_midnight(rt, walk.next(), *midnight, text)?;
+            check_midnight(rt, walk.next_back(), earlier, text);
+            check_midnight(rt, walk.next(), *midnight, text);
         }
         before = Some(*midnight);
     }
-    let past = midnight(days.past)?;
+    let past = midnight(rt, days.past);
     check(rt, walk.next().is_none_or(|it| past <= it.datetime()), text);
-    Ok(())
 }
 
 // Goes back over them. What is answered past the first one lies before the stretch.
@@ -113,19 +107,18 @@ fn check_back(
     days: Days,
     midnights: &[DateTime],
     text: &str,
-) -> Result<(), Fail> {
-    let start = Timestamp::from_second(days.past.saturating_mul(86_400))?;
+) {
+    let start = Timestamp::from_second(days.past.saturating_mul(86_400)).expect(rt, "an instant");
     let mut walk = schedule.after(start, &TimeZone::UTC);
     for midnight in midnights.iter().rev() {
-        check_midnight(rt, walk.next_back(), *midnight, text)?;
+        check_midnight(rt, walk.next_back(), *midnight, text);
     }
-    let first = midnight(days.first)?;
+    let first = midnight(rt, days.first);
     check(
         rt,
         walk.next_back().is_none_or(|it| it.datetime() < first),
         text,
     );
-    Ok(())
 }
 
 // Compares the walks over a stretch, and answers how many of its days match.
@@ -134,31 +127,29 @@ fn check_days(
     schedule: &Schedule,
     days: Days,
     text: &str,
-) -> Result<usize, Fail> {
-    let midnights = included(rt.alloc(), schedule, days)?;
-    check_ahead(rt, schedule, days, midnights.as_slice(), text)?;
-    check_back(rt, schedule, days, midnights.as_slice(), text)?;
-    Ok(midnights.len())
+) -> usize {
+    let midnights = included(rt, schedule, days);
+    check_ahead(rt, schedule, days, midnights.as_slice(), text);
+    check_back(rt, schedule, days, midnights.as_slice(), text);
+    midnights.len()
 }
 
 // The stretches one after another, with the row told again from what matches in them.
-fn check_row(rt: &(impl Abort + AllocGlobal), row: &str) -> Result<(), Fail> {
-    let (text, _counts) = cut(row)?;
-    let schedule = Schedule::from_str(rt.alloc(), text)?;
-    let mut told = format!(in rt.alloc(); "{text} |")?;
+fn check_row(rt: &(impl Abort + AllocGlobal), row: &str) {
+    let (text, _counts) = cut(rt, row);
+    let schedule = read_schedule(rt, text);
+    let mut told = format!(in rt.alloc(); "{text} |").expect(rt, "memory");
     for days in STRETCHES {
-        let count = check_days(rt, &schedule, days, text)?;
-        write!(told, " {count}")?;
+        let count = check_days(rt, &schedule, days, text);
+        write!(told, " {count}").expect(rt, "memory");
     }
     check_same(rt, told.as_str(), row, text);
-    Ok(())
 }
 
 #[test]
-fn each_day_asked_by_itself(rt: HostRuntime) -> Result<(), Fail> {
+fn each_day_asked_by_itself(rt: HostRuntime) {
     check_rows(&rt, ROWS, 10);
     for row in ROWS.lines() {
-        check_row(&rt, row)?;
+        check_row(&rt, row);
     }
-    Ok(())
 }

@@ -1,7 +1,5 @@
 //! The last days of the months of 1970 to 2100, as the calendar of Python has them.
 
-use std::alloc::{AllocError, Global};
-
 // A line for each year: how many days its twelve months have past the 28th.
 const PAST_THE_28TH: &str = "\
 1970 303232332323
@@ -144,28 +142,30 @@ fn last_day(past: char) -> u32 {
 
 // The last days of the months of a year.
 fn push_last_days(
-    alloc: Global,
+    rt: &(impl Abort + AllocGlobal),
     days: &mut Vec<String>,
     year: &str,
     months: &str,
-) -> Result<(), AllocError> {
+) {
     let mut month = 0_u32;
     for past in months.chars() {
         month = month.saturating_add(1);
         let filler = if month < 10 { "0" } else { "" };
         let day = last_day(past);
-        days.push(format!(in alloc; "{year}-{filler}{month}-{day} 00:00:00 +00:00")?)?;
+        let shown = format!(in rt.alloc(); "{year}-{filler}{month}-{day} 00:00:00 +00:00");
+        days.push(shown.expect(rt, "memory")).expect(rt, "memory");
     }
-    Ok(())
 }
 
 /// Every last day of the range, in their order.
-pub(crate) fn last_days(alloc: Global) -> Result<Vec<String>, AllocError> {
-    let mut days = Vec::new(alloc);
+pub(crate) fn last_days(rt: &(impl Abort + AllocGlobal)) -> Vec<String> {
+    let mut days = Vec::new(rt.alloc());
     for line in PAST_THE_28TH.lines() {
         if let Some((year, months)) = line.split_once(' ') {
-            push_last_days(alloc, &mut days, year, months)?;
+            push_last_days(rt, &mut days, year, months);
         }
     }
-    Ok(days)
+    days
 }
+
+use std::process::Abort;

@@ -3,18 +3,17 @@
 //! slow twin.
 
 use crate::slow_twin::check_day;
-use crate::support::{check, check_rows, cut, number, shown};
+use crate::support::{
+    check, check_rows, cut, number, read_date, read_datetime, read_number, read_schedule, shown,
+};
 use crate::zone_files::read_file;
-use cron::error::Error;
 use cron::queries::Search;
 use cron::schedule::{Moment, Turn};
 use cron::{Schedule, laws};
 use jiff::Timestamp;
 use jiff::civil::{Date, DateTime};
 use jiff::tz::{Offset, TimeZone};
-use std::alloc::{AllocError, Global};
 use std::process::Abort;
-use std::test::Fail;
 
 // Each row: rule, the first civil second of the turn, its length in seconds, the offsets before and
 // after it.
@@ -52,65 +51,43 @@ fn past(stretch: Stretch) -> i64 {
 }
 
 // Whether a moment is the civil second with this number, at this offset.
-fn is_at(moment: Moment, second: i64, offset: i32) -> Result<bool, Fail> {
+fn is_at(rt: &impl Abort, moment: Moment, second: i64, offset: i32) -> bool {
     let instant = second.saturating_sub(i64::from(offset));
-    Ok(
-        number(moment.datetime())? == second
-            && moment.offset().seconds() == offset
-            && moment.timestamp().as_second() == instant,
-    )
+    number(rt, moment.datetime()) == second
+        && moment.offset().seconds() == offset
+        && moment.timestamp().as_second() == instant
 }
 
-fn check_is_at(
-    rt: &impl Abort,
-    moment: Option<Moment>,
-    second: i64,
-    offset: i32,
-) -> Result<(), Fail> {
-    let moment = moment.ok_or("nothing is answered")?;
-    let is_at = is_at(moment, second, offset)?;
+fn check_is_at(rt: &impl Abort, moment: Option<Moment>, second: i64, offset: i32) {
+    let moment = moment.expect(rt, "nothing is answered");
+    let is_at = is_at(rt, moment, second, offset);
     assert!(rt; is_at, "{moment} for {second}");
-    Ok(())
 }
 
 // A search past a gap asks the zone for each of its seconds, and for the one that it finds.
-fn check_found(rt: &impl Abort, search: Search, gap: Stretch, wanted: Reading) -> Result<(), Fail> {
+fn check_found(rt: &impl Abort, search: Search, gap: Stretch, wanted: Reading) {
     assert_eq!(rt; search.conversions, u64::from(gap.length) + 1);
-    let found = search.found.ok_or("nothing is found")?;
-    check_is_at(rt, Some(found.first), wanted.second, wanted.offset)
+    let found = search.found.expect(rt, "nothing is found");
+    check_is_at(rt, Some(found.first), wanted.second, wanted.offset);
 }
 
-fn check_gap_ahead(
-    rt: &impl Abort,
-    every: &Schedule,
-    zone: &TimeZone<'_>,
-    gap: Stretch,
-) -> Result<(), Fail> {
-    let search = every.first_at_or_after(shown(gap.first)?, zone);
-    check_found(rt, search, gap, Reading::new(past(gap), gap.after))
+fn check_gap_ahead(rt: &impl Abort, every: &Schedule, zone: &TimeZone<'_>, gap: Stretch) {
+    let search = every.first_at_or_after(shown(rt, gap.first), zone);
+    check_found(rt, search, gap, Reading::new(past(gap), gap.after));
 }
 
-fn check_gap_back(
-    rt: &impl Abort,
-    every: &Schedule,
-    zone: &TimeZone<'_>,
-    gap: Stretch,
-) -> Result<(), Fail> {
+fn check_gap_back(rt: &impl Abort, every: &Schedule, zone: &TimeZone<'_>, gap: Stretch) {
     let last = past(gap).saturating_sub(1);
-    let search = every.last_at_or_before(shown(last)?, zone);
+    let search = every.last_at_or_before(shown(rt, last), zone);
     let before = gap.first.saturating_sub(1);
-    check_found(rt, search, gap, Reading::new(before, gap.before))
+    check_found(rt, search, gap, Reading::new(before, gap.before));
 }
 
 // The searches pass each second of a gap, and count it.
-fn check_gap(
-    rt: &(impl Abort + AllocGlobal),
-    zone: &TimeZone<'_>,
-    gap: Stretch,
-) -> Result<(), Fail> {
-    let every = Schedule::from_str(rt.alloc(), "* * * * * *")?;
-    check_gap_ahead(rt, &every, zone, gap)?;
-    check_gap_back(rt, &every, zone, gap)
+fn check_gap(rt: &(impl Abort + AllocGlobal), zone: &TimeZone<'_>, gap: Stretch) {
+    let every = read_schedule(rt, "* * * * * *");
+    check_gap_ahead(rt, &every, zone, gap);
+    check_gap_back(rt, &every, zone, gap);
 }
 
 // A civil second by its number, and an offset.
@@ -127,69 +104,68 @@ impl Reading {
 }
 
 // Adds two readings of one second.
-fn push_both(
-    readings: &mut Vec<Reading>,
-    second: i64,
-    one: i32,
-    other: i32,
-) -> Result<(), AllocError> {
-    readings.push(Reading::new(second, one))?;
-    readings.push(Reading::new(second, other))?;
-    Ok(())
+fn push_both(rt: &impl Abort, readings: &mut Vec<Reading>, second: i64, one: i32, other: i32) {
+    readings
+        .push(Reading::new(second, one))
+        .expect(rt, "memory");
+    readings
+        .push(Reading::new(second, other))
+        .expect(rt, "memory");
 }
 
 // Both readings of each second of a fold, and the second after it.
-fn readings_ahead(alloc: Global, fold: Stretch) -> Result<Vec<Reading>, Fail> {
+fn readings_ahead(rt: &(impl Abort + AllocGlobal), fold: Stretch) -> Vec<Reading> {
     let (past, before, after) = (past(fold), fold.before, fold.after);
-    let mut readings = Vec::new(alloc);
+    let mut readings = Vec::new(rt.alloc());
     for second in fold.first..past {
-        push_both(&mut readings, second, before, after)?;
+        push_both(rt, &mut readings, second, before, after);
     }
-    readings.push(Reading::new(past, after))?;
-    Ok(readings)
+    readings
+        .push(Reading::new(past, after))
+        .expect(rt, "memory");
+    readings
 }
 
 // The answers of so many calls ahead that end after a fold, and of as many back.
-fn readings_both_ways(alloc: Global, fold: Stretch) -> Result<Vec<Reading>, Fail> {
-    let mut readings = readings_ahead(alloc, fold)?;
+fn readings_both_ways(rt: &(impl Abort + AllocGlobal), fold: Stretch) -> Vec<Reading> {
+    let mut readings = readings_ahead(rt, fold);
     for second in (fold.first..past(fold)).rev() {
-        push_both(&mut readings, second, fold.after, fold.before)?;
+        push_both(rt, &mut readings, second, fold.after, fold.before);
     }
     let last = fold.first.saturating_sub(1);
-    readings.push(Reading::new(last, fold.before))?;
-    Ok(readings)
+    readings
+        .push(Reading::new(last, fold.before))
+        .expect(rt, "memory");
+    readings
 }
 
 // As many calls ahead as back.
-fn turns_both_ways(alloc: Global, count: usize) -> Result<Vec<Turn>, AllocError> {
-    let mut turns = Vec::new(alloc);
+fn turns_both_ways(rt: &(impl Abort + AllocGlobal), count: usize) -> Vec<Turn> {
+    let mut turns = Vec::new(rt.alloc());
     for at in 0..count {
         let is_ahead = at < count / 2;
-        turns.push(if is_ahead { Turn::Next } else { Turn::NextBack })?;
+        turns
+            .push(if is_ahead { Turn::Next } else { Turn::NextBack })
+            .expect(rt, "memory");
     }
-    Ok(turns)
+    turns
 }
 
 fn answers_both_ways(
-    alloc: Global,
+    rt: &(impl Abort + AllocGlobal),
     zone: &TimeZone<'_>,
     start: Timestamp,
     count: usize,
-) -> Result<Vec<Option<Moment>>, Error> {
-    let turns = turns_both_ways(alloc, count)?;
-    laws::headline(alloc, "* * * * * *", start, zone, turns.as_slice())
+) -> Vec<Option<Moment>> {
+    let turns = turns_both_ways(rt, count);
+    laws::headline(rt.alloc(), "* * * * * *", start, zone, turns.as_slice()).expect(rt, "memory")
 }
 
-fn check_answers(
-    rt: &impl Abort,
-    answers: &[Option<Moment>],
-    readings: &[Reading],
-) -> Result<(), Fail> {
+fn check_answers(rt: &impl Abort, answers: &[Option<Moment>], readings: &[Reading]) {
     check(rt, answers.len() == readings.len(), "as many answers");
     for (answer, reading) in answers.iter().zip(readings.iter()) {
-        check_is_at(rt, *answer, reading.second, reading.offset)?;
+        check_is_at(rt, *answer, reading.second, reading.offset);
     }
-    Ok(())
 }
 
 fn check_walk(
@@ -197,129 +173,102 @@ fn check_walk(
     zone: &TimeZone<'_>,
     start: Timestamp,
     readings: &[Reading],
-) -> Result<(), Fail> {
-    let answers = answers_both_ways(rt.alloc(), zone, start, readings.len())?;
-    check_answers(rt, answers.as_slice(), readings)
+) {
+    let answers = answers_both_ways(rt, zone, start, readings.len());
+    check_answers(rt, answers.as_slice(), readings);
 }
 
 // A walk answers each second of a fold twice, ahead and then back, and the seconds beside it once.
-fn check_fold(
-    rt: &(impl Abort + AllocGlobal),
-    zone: &TimeZone<'_>,
-    fold: Stretch,
-) -> Result<(), Fail> {
+fn check_fold(rt: &(impl Abort + AllocGlobal), zone: &TimeZone<'_>, fold: Stretch) {
     let start = fold.first.saturating_sub(1);
-    let start = Timestamp::from_second(start.saturating_sub(i64::from(fold.before)))?;
-    let readings = readings_both_ways(rt.alloc(), fold)?;
-    check_walk(rt, zone, start, readings.as_slice())
+    let start = Timestamp::from_second(start.saturating_sub(i64::from(fold.before))).expect(
+        rt,
+        "an instant",
+    );
+    let readings = readings_both_ways(rt, fold);
+    check_walk(rt, zone, start, readings.as_slice());
 }
 
 // The days around a turn, both ways, through the slow twin.
-fn check_days(
-    rt: &(impl Abort + AllocGlobal),
-    zone: &TimeZone<'_>,
-    date: Date,
-) -> Result<(), Fail> {
+fn check_days(rt: &(impl Abort + AllocGlobal), zone: &TimeZone<'_>, date: Date) {
     for text in ["*/7 */3 * * * *", "30 30 * * * *", "@daily"] {
-        check_day(rt, text, zone, date.yesterday()?)?;
-        check_day(rt, text, zone, date)?;
-        check_day(rt, text, zone, date.tomorrow()?)?;
+        check_day(rt, text, zone, date.yesterday().expect(rt, "a date"));
+        check_day(rt, text, zone, date);
+        check_day(rt, text, zone, date.tomorrow().expect(rt, "a date"));
     }
-    Ok(())
 }
 
-fn read_offsets(row: &str) -> Result<(i32, i32), Fail> {
-    let (before, after) = cut(row)?;
-    Ok((before.parse()?, after.parse()?))
+fn read_offsets(rt: &impl Abort, row: &str) -> (i32, i32) {
+    let (before, after) = cut(rt, row);
+    (read_number(rt, before), read_number(rt, after))
 }
 
-fn read_stretch(row: &str) -> Result<Stretch, Fail> {
-    let (from, row) = cut(row)?;
-    let (length, row) = cut(row)?;
-    let (before, after) = read_offsets(row)?;
-    Ok(Stretch {
-        first: number(from.parse()?)?,
-        length: length.parse()?,
+fn read_stretch(rt: &impl Abort, row: &str) -> Stretch {
+    let (from, row) = cut(rt, row);
+    let (length, row) = cut(rt, row);
+    let (before, after) = read_offsets(rt, row);
+    Stretch {
+        first: number(rt, read_datetime(rt, from)),
+        length: length.parse().expect(rt, length),
         before,
         after,
-    })
+    }
 }
 
-fn check_gap_of(
-    rt: &(impl Abort + AllocGlobal),
-    zone: &TimeZone<'_>,
-    row: &str,
-) -> Result<(), Fail> {
-    let gap = read_stretch(row)?;
-    let date = shown(gap.first)?.date();
-    check_gap(rt, zone, gap)?;
-    check_days(rt, zone, date)
+fn check_gap_of(rt: &(impl Abort + AllocGlobal), zone: &TimeZone<'_>, row: &str) {
+    let gap = read_stretch(rt, row);
+    let date = shown(rt, gap.first).date();
+    check_gap(rt, zone, gap);
+    check_days(rt, zone, date);
 }
 
-fn check_fold_of(
-    rt: &(impl Abort + AllocGlobal),
-    zone: &TimeZone<'_>,
-    row: &str,
-) -> Result<(), Fail> {
-    let fold = read_stretch(row)?;
-    let date = shown(fold.first)?.date();
-    check_fold(rt, zone, fold)?;
-    check_days(rt, zone, date)
+fn check_fold_of(rt: &(impl Abort + AllocGlobal), zone: &TimeZone<'_>, row: &str) {
+    let fold = read_stretch(rt, row);
+    let date = shown(rt, fold.first).date();
+    check_fold(rt, zone, fold);
+    check_days(rt, zone, date);
 }
 
 #[test]
-fn gaps_of_rules(rt: HostRuntime) -> Result<(), Fail> {
+fn gaps_of_rules(rt: HostRuntime) {
     check_rows(&rt, GAPS, 7);
     for row in GAPS.lines() {
-        let (rule, row) = cut(row)?;
-        check_gap_of(&rt, &TimeZone::posix(rule)?, row)?;
+        let (rule, row) = cut(&rt, row);
+        check_gap_of(&rt, &TimeZone::posix(rule).expect(&rt, "a zone"), row);
     }
-    Ok(())
 }
 
 #[test]
-fn folds_of_rules(rt: HostRuntime) -> Result<(), Fail> {
+fn folds_of_rules(rt: HostRuntime) {
     check_rows(&rt, FOLDS, 7);
     for row in FOLDS.lines() {
-        let (rule, row) = cut(row)?;
-        check_fold_of(&rt, &TimeZone::posix(rule)?, row)?;
+        let (rule, row) = cut(&rt, row);
+        check_fold_of(&rt, &TimeZone::posix(rule).expect(&rt, "a zone"), row);
     }
-    Ok(())
 }
 
 #[test]
-fn a_saving_that_lasts_all_year(rt: HostRuntime) -> Result<(), Fail> {
-    let zone = TimeZone::posix("EST5EDT,0/0,J365/25")?;
+fn a_saving_that_lasts_all_year(rt: HostRuntime) {
+    let zone = TimeZone::posix("EST5EDT,0/0,J365/25").expect(&rt, "a zone");
     for date in ["2021-12-31", "2022-01-01", "2022-06-01", "2022-12-31"] {
-        check_days(&rt, &zone, date.parse()?)?;
+        check_days(&rt, &zone, read_date(&rt, date));
     }
-    Ok(())
 }
 
 #[test]
-fn a_day_that_is_skipped_and_one_that_comes_twice(rt: HostRuntime) -> Result<(), Fail> {
-    let file = read_file(
-        rt.alloc(),
-        86_400,
-        "2020-03-01T00:00:00Z",
-        "2020-06-01T00:00:00Z",
-    )?;
+fn a_day_that_is_skipped_and_one_that_comes_twice(rt: HostRuntime) {
+    let file = read_file(&rt, 86_400, "2020-03-01T00:00:00Z", "2020-06-01T00:00:00Z");
     let zone = TimeZone::tzif(&file);
-    check_gap_of(&rt, &zone, "2020-03-01T00:00:00 | 86400 | 0 | 86400")?;
-    check_fold_of(&rt, &zone, "2020-06-01T00:00:00 | 86400 | 86400 | 0")
+    check_gap_of(&rt, &zone, "2020-03-01T00:00:00 | 86400 | 0 | 86400");
+    check_fold_of(&rt, &zone, "2020-06-01T00:00:00 | 86400 | 86400 | 0");
 }
 
 #[test]
-fn a_fold_across_the_end_of_a_year(rt: HostRuntime) -> Result<(), Fail> {
-    let file = read_file(
-        rt.alloc(),
-        3_600,
-        "2020-06-01T00:00:00Z",
-        "2020-12-31T23:30:00Z",
-    )?;
+fn a_fold_across_the_end_of_a_year(rt: HostRuntime) {
+    let file = read_file(&rt, 3_600, "2020-06-01T00:00:00Z", "2020-12-31T23:30:00Z");
     check_fold_of(
         &rt,
         &TimeZone::tzif(&file),
         "2020-12-31T23:30:00 | 3600 | 3600 | 0",
-    )
+    );
 }

@@ -1,12 +1,11 @@
 //! How many members of sets a time of day is looked for among: rows counted apart from the library.
 
-use crate::support::{check_rows, cut};
+use crate::support::{check_rows, cut, read_schedule};
 use cron::Schedule;
 use cron::queries::TimeFound;
 use cron::time_unit::Ordinal;
 use jiff::civil::Time;
 use std::process::Abort;
-use std::test::Fail;
 
 // A schedule, whether the first time from a time is looked for or the last one up to it, that
 // time, the answer, and how often a neighbouring member is asked for: by hour, then by minute, then
@@ -58,25 +57,25 @@ const ROWS: &str = "\
 30,59 59 9,12 * * * | last | 12:59:29 | 09:59:59 | 7
 1 59 1,5 * * * | last | 05:59:00 | 01:59:01 | 7";
 
-fn parts(text: &str) -> Result<(Ordinal, Ordinal, Ordinal), Fail> {
-    let time: Time = text.parse()?;
-    Ok((
+fn parts(rt: &impl Abort, text: &str) -> (Ordinal, Ordinal, Ordinal) {
+    let time: Time = text.parse().expect(rt, text);
+    (
         time.hour() as Ordinal,
         time.minute() as Ordinal,
         time.second() as Ordinal,
-    ))
+    )
 }
 
-fn wanted(row: &str) -> Result<TimeFound, Fail> {
-    let (time, questions) = cut(row)?;
-    Ok(TimeFound {
+fn wanted(rt: &impl Abort, row: &str) -> TimeFound {
+    let (time, questions) = cut(rt, row);
+    TimeFound {
         time: if time == "none" {
             None
         } else {
-            Some(parts(time)?)
+            Some(parts(rt, time))
         },
-        questions: questions.parse()?,
-    })
+        questions: questions.parse().expect(rt, questions),
+    }
 }
 
 // The first time from a time, or the last one up to it.
@@ -95,22 +94,20 @@ fn check_found(rt: &impl Abort, found: TimeFound, wanted: TimeFound, row: &str) 
     assert_eq!(rt; found, wanted, "row {row}");
 }
 
-fn check_row(rt: &(impl Abort + AllocGlobal), row: &str) -> Result<(), Fail> {
-    let (text, rest) = cut(row)?;
-    let (which, rest) = cut(rest)?;
-    let (from, rest) = cut(rest)?;
-    let from: Time = from.parse()?;
-    let wanted = wanted(rest)?;
-    let schedule = Schedule::from_str(rt.alloc(), text)?;
+fn check_row(rt: &(impl Abort + AllocGlobal), row: &str) {
+    let (text, rest) = cut(rt, row);
+    let (which, rest) = cut(rt, rest);
+    let (from, rest) = cut(rt, rest);
+    let from: Time = from.parse().expect(rt, "a time");
+    let wanted = wanted(rt, rest);
+    let schedule = read_schedule(rt, text);
     check_found(rt, found(&schedule, which, from), wanted, row);
-    Ok(())
 }
 
 #[test]
-fn so_many_members_are_asked_for(rt: HostRuntime) -> Result<(), Fail> {
+fn so_many_members_are_asked_for(rt: HostRuntime) {
     check_rows(&rt, ROWS, 44);
     for row in ROWS.lines() {
-        check_row(&rt, row)?;
+        check_row(&rt, row);
     }
-    Ok(())
 }

@@ -1,15 +1,13 @@
 //! A slow twin of the searches and of the walks: it asks the schedule about one civil second after
 //! another, and the zone for the readings of each that is included.
 
-use crate::support::{check, chicago, number, shown};
+use crate::support::{check, chicago, number, read_date, read_schedule, shown};
 use cron::Schedule;
 use cron::schedule::Moment;
+use jiff::Timestamp;
 use jiff::civil::{Date, DateTime, Time};
 use jiff::tz::{AmbiguousOffset, Offset, TimeZone};
-use jiff::{Error, Timestamp};
-use std::alloc::{AllocError, Global};
 use std::process::Abort;
-use std::test::Fail;
 
 /// Civil seconds one after another, by their numbers.
 #[derive(Clone, Copy)]
@@ -37,87 +35,93 @@ struct Shown {
 
 // The readings of one civil second.
 fn push_readings(
+    rt: &impl Abort,
     readings: &mut Vec<Shown>,
     zone: &TimeZone<'_>,
     datetime: DateTime,
-) -> Result<(), AllocError> {
+) {
     match zone.to_ambiguous_timestamp(datetime).offset() {
         AmbiguousOffset::Gap { .. } => {}
-        AmbiguousOffset::Unambiguous { offset } => readings.push(Shown { datetime, offset })?,
+        AmbiguousOffset::Unambiguous { offset } => readings
+            .push(Shown { datetime, offset })
+            .expect(rt, "memory"),
         AmbiguousOffset::Fold { before, after } => {
-            readings.push(Shown {
-                datetime,
-                offset: before,
-            })?;
-            if before != after {
-                readings.push(Shown {
+            readings
+                .push(Shown {
                     datetime,
-                    offset: after,
-                })?;
+                    offset: before,
+                })
+                .expect(rt, "memory");
+            if before != after {
+                readings
+                    .push(Shown {
+                        datetime,
+                        offset: after,
+                    })
+                    .expect(rt, "memory");
             }
         }
     }
-    Ok(())
 }
 
 // The readings of a span's included civil seconds.
 fn readings_in(
-    alloc: Global,
+    rt: &(impl Abort + AllocGlobal),
     schedule: &Schedule,
     zone: &TimeZone<'_>,
     span: Span,
-) -> Result<Vec<Shown>, Fail> {
-    let mut readings = Vec::new(alloc);
+) -> Vec<Shown> {
+    let mut readings = Vec::new(rt.alloc());
     for second in span.first..span.past {
-        let datetime = shown(second)?;
+        let datetime = shown(rt, second);
         if schedule.includes(datetime) {
-            push_readings(&mut readings, zone, datetime)?;
+            push_readings(rt, &mut readings, zone, datetime);
         }
     }
-    Ok(readings)
+    readings
 }
 
 // Whether a moment has the parts of a reading.
-fn is_shown(moment: Moment, wanted: Shown) -> Result<bool, Error> {
-    let instant = wanted.offset.to_timestamp(wanted.datetime)?;
-    Ok(
-        moment.datetime() == wanted.datetime
-            && moment.offset() == wanted.offset
-            && moment.timestamp() == instant,
-    )
+fn is_shown(rt: &impl Abort, moment: Moment, wanted: Shown) -> bool {
+    let instant = wanted
+        .offset
+        .to_timestamp(wanted.datetime)
+        .expect(rt, "an instant");
+    moment.datetime() == wanted.datetime
+        && moment.offset() == wanted.offset
+        && moment.timestamp() == instant
 }
 
-fn check_answer(rt: &impl Abort, answer: Option<Moment>, wanted: Shown) -> Result<(), Fail> {
-    let moment = answer.ok_or("the walk ends early")?;
-    let is_shown = is_shown(moment, wanted)?;
+fn check_answer(rt: &impl Abort, answer: Option<Moment>, wanted: Shown) {
+    let moment = answer.expect(rt, "the walk ends early");
+    let is_shown = is_shown(rt, moment, wanted);
     assert!(rt; is_shown, "{moment}");
-    Ok(())
 }
 
-fn check_beyond(rt: &impl Abort, beyond: Option<Moment>, span: Span) -> Result<(), Fail> {
+fn check_beyond(rt: &impl Abort, beyond: Option<Moment>, span: Span) {
     if let Some(moment) = beyond {
-        let second = number(moment.datetime())?;
+        let second = number(rt, moment.datetime());
         let is_beyond = second < span.first || span.past <= second;
         assert!(rt; is_beyond, "{moment}");
     }
-    Ok(())
 }
 
 // The instant before a span's first second. Where the zone turns there, it goes by the offset after the
 // turn: the second that follows is then the first one of the span, and no earlier one comes again.
-fn before(zone: &TimeZone<'_>, span: Span) -> Result<Timestamp, Fail> {
-    let last = shown(span.first.saturating_sub(1))?;
+fn before(rt: &impl Abort, zone: &TimeZone<'_>, span: Span) -> Timestamp {
+    let last = shown(rt, span.first.saturating_sub(1));
     let offset = match zone.to_ambiguous_timestamp(last).offset() {
         AmbiguousOffset::Unambiguous { offset } => offset,
         AmbiguousOffset::Gap { after, .. } => after,
         AmbiguousOffset::Fold { after, .. } => after,
     };
-    Ok(offset.to_timestamp(last)?)
+    offset.to_timestamp(last).expect(rt, "an instant")
 }
 
 // The instant after a span's last second. Where the zone turns there, it goes by the offset before it.
-fn after(zone: &TimeZone<'_>, span: Span) -> Result<Timestamp, Fail> {
-    Ok(zone.to_timestamp(shown(span.past)?)?)
+fn after(rt: &impl Abort, zone: &TimeZone<'_>, span: Span) -> Timestamp {
+    zone.to_timestamp(shown(rt, span.past))
+        .expect(rt, "an instant")
 }
 
 // Makes one call ahead for each reading, which it has to answer, and one more, which it may not answer
@@ -128,12 +132,12 @@ fn check_ahead(
     zone: &TimeZone<'_>,
     span: Span,
     readings: &[Shown],
-) -> Result<(), Fail> {
-    let mut walk = schedule.after(before(zone, span)?, zone);
+) {
+    let mut walk = schedule.after(before(rt, zone, span), zone);
     for wanted in readings {
-        check_answer(rt, walk.next(), *wanted)?;
+        check_answer(rt, walk.next(), *wanted);
     }
-    check_beyond(rt, walk.next(), span)
+    check_beyond(rt, walk.next(), span);
 }
 
 // A walk back answers the readings of the span, from the last to the first.
@@ -143,12 +147,12 @@ fn check_back(
     zone: &TimeZone<'_>,
     span: Span,
     readings: &[Shown],
-) -> Result<(), Fail> {
-    let mut walk = schedule.after(after(zone, span)?, zone);
+) {
+    let mut walk = schedule.after(after(rt, zone, span), zone);
     for wanted in readings.iter().rev() {
-        check_answer(rt, walk.next_back(), *wanted)?;
+        check_answer(rt, walk.next_back(), *wanted);
     }
-    check_beyond(rt, walk.next_back(), span)
+    check_beyond(rt, walk.next_back(), span);
 }
 
 // The first index whose reading is at this civil second or later.
@@ -169,15 +173,12 @@ fn check_found(
     second: Option<Moment>,
     readings: &[Shown],
     index: usize,
-) -> Result<(), Fail> {
-    let wanted = *readings.get(index).ok_or("the search ends late")?;
-    check_answer(rt, first, wanted)?;
+) {
+    let wanted = *readings.get(index).expect(rt, "the search ends late");
+    check_answer(rt, first, wanted);
     match readings.get(index.saturating_add(1)) {
         Some(later) if later.datetime == wanted.datetime => check_answer(rt, second, *later),
-        _ => {
-            check(rt, second.is_none(), "a second reading");
-            Ok(())
-        }
+        _ => check(rt, second.is_none(), "a second reading"),
     }
 }
 
@@ -189,8 +190,8 @@ fn check_first(
     span: Span,
     readings: &[Shown],
     from: i64,
-) -> Result<(), Fail> {
-    let datetime = shown(from)?;
+) {
+    let datetime = shown(rt, from);
     let index = index_from(readings, datetime);
     let (first, second) = match schedule.first_at_or_after(datetime, zone).found {
         Some(found) => (Some(found.first), found.second),
@@ -199,7 +200,7 @@ fn check_first(
     if index == readings.len() {
         return check_beyond(rt, first, span);
     }
-    check_found(rt, first, second, readings, index)
+    check_found(rt, first, second, readings, index);
 }
 
 // The search back from there.
@@ -210,9 +211,9 @@ fn check_last(
     span: Span,
     readings: &[Shown],
     from: i64,
-) -> Result<(), Fail> {
-    let past = index_from(readings, shown(from.saturating_add(1))?);
-    let (first, second) = match schedule.last_at_or_before(shown(from)?, zone).found {
+) {
+    let past = index_from(readings, shown(rt, from.saturating_add(1)));
+    let (first, second) = match schedule.last_at_or_before(shown(rt, from), zone).found {
         Some(found) => (Some(found.first), found.second),
         None => (None, None),
     };
@@ -235,15 +236,14 @@ fn check_searches(
     zone: &TimeZone<'_>,
     span: Span,
     readings: &[Shown],
-) -> Result<(), Fail> {
+) {
     let last = span.past.saturating_sub(1);
     let length = last.saturating_sub(span.first);
     for eighth in 0..9 {
         let from = span.first.saturating_add(length.saturating_mul(eighth) / 8);
-        check_first(rt, schedule, zone, span, readings, from)?;
-        check_last(rt, schedule, zone, span, readings, from)?;
+        check_first(rt, schedule, zone, span, readings, from);
+        check_last(rt, schedule, zone, span, readings, from);
     }
-    Ok(())
 }
 
 fn check_readings(
@@ -252,10 +252,10 @@ fn check_readings(
     zone: &TimeZone<'_>,
     span: Span,
     readings: &[Shown],
-) -> Result<(), Fail> {
-    check_ahead(rt, schedule, zone, span, readings)?;
-    check_back(rt, schedule, zone, span, readings)?;
-    check_searches(rt, schedule, zone, span, readings)
+) {
+    check_ahead(rt, schedule, zone, span, readings);
+    check_back(rt, schedule, zone, span, readings);
+    check_searches(rt, schedule, zone, span, readings);
 }
 
 fn check_schedule(
@@ -263,9 +263,9 @@ fn check_schedule(
     schedule: &Schedule,
     zone: &TimeZone<'_>,
     span: Span,
-) -> Result<(), Fail> {
-    let readings = readings_in(rt.alloc(), schedule, zone, span)?;
-    check_readings(rt, schedule, zone, span, readings.as_slice())
+) {
+    let readings = readings_in(rt, schedule, zone, span);
+    check_readings(rt, schedule, zone, span, readings.as_slice());
 }
 
 /// Compares a span's part of the walks in both directions, and both searches from some of its seconds.
@@ -274,14 +274,14 @@ pub(crate) fn check_span(
     text: &str,
     zone: &TimeZone<'_>,
     span: Span,
-) -> Result<(), Fail> {
-    let schedule = Schedule::from_str(rt.alloc(), text)?;
-    check_schedule(rt, &schedule, zone, span)
+) {
+    let schedule = read_schedule(rt, text);
+    check_schedule(rt, &schedule, zone, span);
 }
 
 /// The number of a date's first civil second.
-pub(crate) fn midnight(date: Date) -> Result<i64, Fail> {
-    number(date.to_datetime(Time::midnight()))
+pub(crate) fn midnight(rt: &impl Abort, date: Date) -> i64 {
+    number(rt, date.to_datetime(Time::midnight()))
 }
 
 /// Compares what [`check_span`] compares over the 24 hours of a date.
@@ -290,27 +290,37 @@ pub(crate) fn check_day(
     text: &str,
     zone: &TimeZone<'_>,
     date: Date,
-) -> Result<(), Fail> {
-    check_span(rt, text, zone, Span::new(midnight(date)?, 24))
+) {
+    check_span(rt, text, zone, Span::new(midnight(rt, date), 24));
 }
 
 #[test]
-fn a_day_with_a_fold(rt: HostRuntime) -> Result<(), Fail> {
-    let zone = chicago()?;
-    check_day(&rt, "*/7 */3 0-3 6 11 *", &zone, "2022-11-06".parse()?)?;
-    check_day(&rt, "30 30 * * * *", &zone, "2022-11-06".parse()?)
+fn a_day_with_a_fold(rt: HostRuntime) {
+    let zone = chicago(&rt);
+    check_day(
+        &rt,
+        "*/7 */3 0-3 6 11 *",
+        &zone,
+        read_date(&rt, "2022-11-06"),
+    );
+    check_day(&rt, "30 30 * * * *", &zone, read_date(&rt, "2022-11-06"));
 }
 
 #[test]
-fn a_day_with_a_gap(rt: HostRuntime) -> Result<(), Fail> {
-    let zone = chicago()?;
-    check_day(&rt, "*/7 */3 0-3 13 3 *", &zone, "2022-03-13".parse()?)?;
-    check_day(&rt, "30 30 * * * *", &zone, "2022-03-13".parse()?)
+fn a_day_with_a_gap(rt: HostRuntime) {
+    let zone = chicago(&rt);
+    check_day(
+        &rt,
+        "*/7 */3 0-3 13 3 *",
+        &zone,
+        read_date(&rt, "2022-03-13"),
+    );
+    check_day(&rt, "30 30 * * * *", &zone, read_date(&rt, "2022-03-13"));
 }
 
 #[test]
-fn days_of_a_fixed_offset(rt: HostRuntime) -> Result<(), Fail> {
-    let zone = TimeZone::fixed(Offset::from_seconds(-20_700)?);
-    check_day(&rt, "59 59 23 31 12 *", &zone, "2099-12-31".parse()?)?;
-    check_day(&rt, "0 0 0,12 * * Thu", &zone, "1970-01-01".parse()?)
+fn days_of_a_fixed_offset(rt: HostRuntime) {
+    let zone = TimeZone::fixed(Offset::from_seconds(-20_700).expect(&rt, "an offset"));
+    check_day(&rt, "59 59 23 31 12 *", &zone, read_date(&rt, "2099-12-31"));
+    check_day(&rt, "0 0 0,12 * * Thu", &zone, read_date(&rt, "1970-01-01"));
 }

@@ -2,10 +2,9 @@
 //! around each of ten dates, 32,760,000 in all.
 
 use crate::slow_twin::{Span, check_span, midnight};
-use crate::support::chicago;
+use crate::support::{chicago, read_date};
 use jiff::tz::{Offset, TimeZone};
 use std::process::Abort;
-use std::test::Fail;
 
 // The text of a span, how many hours it begins before a date, and how many it lasts. The turns of the
 // zones lie in the first hours of their dates.
@@ -58,51 +57,53 @@ const LONDON: &[&str] = &[
 ];
 
 // The spans around a date.
-fn check_around(
-    rt: &(impl Abort + AllocGlobal),
-    zone: &TimeZone<'_>,
-    date: &str,
-) -> Result<(), Fail> {
-    let midnight = midnight(date.parse()?)?;
+fn check_around(rt: &(impl Abort + AllocGlobal), zone: &TimeZone<'_>, date: &str) {
+    let midnight = midnight(rt, read_date(rt, date));
     for (text, lead, hours) in SPANS {
         let first = midnight.saturating_sub(lead.saturating_mul(3600));
-        check_span(rt, text, zone, Span::new(first, hours))?;
+        check_span(rt, text, zone, Span::new(first, hours));
     }
-    Ok(())
 }
 
-fn check_dates(
-    rt: &(impl Abort + AllocGlobal),
-    zone: &TimeZone<'_>,
-    dates: &[&str],
-) -> Result<(), Fail> {
+fn check_dates(rt: &(impl Abort + AllocGlobal), zone: &TimeZone<'_>, dates: &[&str]) {
     for date in dates {
-        check_around(rt, zone, date)?;
+        check_around(rt, zone, date);
     }
-    Ok(())
 }
 
 #[test]
-fn spans_of_utc(rt: HostRuntime) -> Result<(), Fail> {
-    check_dates(&rt, &TimeZone::UTC, DATES)
+fn spans_of_utc(rt: HostRuntime) {
+    check_dates(&rt, &TimeZone::UTC, DATES);
 }
 
 #[test]
-fn spans_of_an_offset_with_seconds(rt: HostRuntime) -> Result<(), Fail> {
-    check_dates(&rt, &TimeZone::fixed(Offset::from_seconds(19_815)?), DATES)
+fn spans_of_an_offset_with_seconds(rt: HostRuntime) {
+    check_dates(
+        &rt,
+        &TimeZone::fixed(Offset::from_seconds(19_815).expect(&rt, "an offset")),
+        DATES,
+    );
 }
 
 #[test]
-fn spans_of_an_offset_behind(rt: HostRuntime) -> Result<(), Fail> {
-    check_dates(&rt, &TimeZone::fixed(Offset::from_seconds(-42_307)?), DATES)
+fn spans_of_an_offset_behind(rt: HostRuntime) {
+    check_dates(
+        &rt,
+        &TimeZone::fixed(Offset::from_seconds(-42_307).expect(&rt, "an offset")),
+        DATES,
+    );
 }
 
 #[test]
-fn spans_of_chicago(rt: HostRuntime) -> Result<(), Fail> {
-    check_dates(&rt, &chicago()?, CHICAGO)
+fn spans_of_chicago(rt: HostRuntime) {
+    check_dates(&rt, &chicago(&rt), CHICAGO);
 }
 
 #[test]
-fn spans_of_london(rt: HostRuntime) -> Result<(), Fail> {
-    check_dates(&rt, &TimeZone::posix("GMT0BST,M3.5.0/1,M10.5.0")?, LONDON)
+fn spans_of_london(rt: HostRuntime) {
+    check_dates(
+        &rt,
+        &TimeZone::posix("GMT0BST,M3.5.0/1,M10.5.0").expect(&rt, "a zone"),
+        LONDON,
+    );
 }

@@ -3,15 +3,14 @@
 use cron::Schedule;
 use cron::queries::Survey;
 use jiff::Timestamp;
-use jiff::civil::DateTime;
+use jiff::civil::{Date, DateTime};
 use jiff::tz::{Offset, TimeZone};
 use std::fmt::Display;
 use std::process::Abort;
-use std::test::Fail;
 
 /// Splits a row after its first field.
-pub(crate) fn cut(row: &str) -> Result<(&str, &str), Fail> {
-    Ok(row.split_once(" | ").ok_or("a row lacks a field")?)
+pub(crate) fn cut<'a>(rt: &impl Abort, row: &'a str) -> (&'a str, &'a str) {
+    row.split_once(" | ").expect(rt, "a row lacks a field")
 }
 
 /// Fails where something does not hold, and tells of what.
@@ -35,22 +34,15 @@ pub(crate) fn check_text(
     value: &impl Display,
     wanted: &str,
     row: &str,
-) -> Result<(), Fail> {
-    let told = value.to_string(rt.alloc())?;
+) {
+    let told = value.to_string(rt.alloc()).expect(rt, "memory");
     check_same(rt, told.as_str(), wanted, row);
-    Ok(())
 }
 
 /// Compares whether a schedule includes a civil datetime with whether it is to.
-pub(crate) fn check_included(
-    rt: &impl Abort,
-    schedule: &Schedule,
-    shown: &str,
-    wanted: bool,
-) -> Result<(), Fail> {
-    let datetime = shown.parse()?;
+pub(crate) fn check_included(rt: &impl Abort, schedule: &Schedule, shown: &str, wanted: bool) {
+    let datetime = read_datetime(rt, shown);
     check(rt, schedule.includes(datetime) == wanted, shown);
-    Ok(())
 }
 
 /// Compares what so many searches ask for with what is wanted.
@@ -61,24 +53,51 @@ pub(crate) fn check_survey(
     from: &str,
     count: u32,
     wanted: Survey,
-) -> Result<(), Fail> {
-    let from = from.parse()?;
-    let schedule = Schedule::from_str(rt.alloc(), text)?;
+) {
+    let from = read_datetime(rt, from);
+    let schedule = read_schedule(rt, text);
     assert_eq!(rt; schedule.survey(from, zone, count), wanted, "{text}");
-    Ok(())
+}
+
+/// Reads the schedule of a text that is one.
+pub(crate) fn read_schedule(rt: &(impl Abort + AllocGlobal), text: &str) -> Schedule {
+    Schedule::from_str(rt.alloc(), text).expect(rt, text)
+}
+
+/// Reads an instant.
+pub(crate) fn read_instant(rt: &impl Abort, text: &str) -> Timestamp {
+    text.parse::<Timestamp>().expect(rt, text)
+}
+
+/// Reads a civil datetime.
+pub(crate) fn read_datetime(rt: &impl Abort, text: &str) -> DateTime {
+    text.parse::<DateTime>().expect(rt, text)
+}
+
+/// Reads a number.
+pub(crate) fn read_number(rt: &impl Abort, text: &str) -> i32 {
+    text.parse::<i32>().expect(rt, text)
+}
+
+/// Reads a date.
+pub(crate) fn read_date(rt: &impl Abort, text: &str) -> Date {
+    text.parse::<Date>().expect(rt, text)
 }
 
 /// The zone of Chicago by its rule since 2007.
-pub(crate) fn chicago() -> Result<TimeZone<'static>, Fail> {
-    Ok(TimeZone::posix("CST6CDT,M3.2.0,M11.1.0")?)
+pub(crate) fn chicago(rt: &impl Abort) -> TimeZone<'static> {
+    TimeZone::posix("CST6CDT,M3.2.0,M11.1.0").expect(rt, "a zone")
 }
 
 /// The number of a civil second, by its instant at UTC.
-pub(crate) fn number(shown: DateTime) -> Result<i64, Fail> {
-    Ok(Offset::UTC.to_timestamp(shown)?.as_second())
+pub(crate) fn number(rt: &impl Abort, shown: DateTime) -> i64 {
+    Offset::UTC
+        .to_timestamp(shown)
+        .expect(rt, "an instant")
+        .as_second()
 }
 
 /// The civil second with this number.
-pub(crate) fn shown(second: i64) -> Result<DateTime, Fail> {
-    Ok(Offset::UTC.to_datetime(Timestamp::from_second(second)?))
+pub(crate) fn shown(rt: &impl Abort, second: i64) -> DateTime {
+    Offset::UTC.to_datetime(Timestamp::from_second(second).expect(rt, "an instant"))
 }

@@ -1,12 +1,11 @@
 //! Times of day, and surveys of many searches.
 
-use crate::support::{check_survey, chicago};
+use crate::support::{check_survey, chicago, read_schedule};
 use cron::Schedule;
 use cron::queries::{Survey, TimeFound};
 use cron::time_unit::Ordinal;
 use jiff::tz::TimeZone;
 use std::process::Abort;
-use std::test::Fail;
 
 type Time = (Ordinal, Ordinal, Ordinal);
 
@@ -38,10 +37,9 @@ fn check_first_times(rt: &impl Abort, schedule: &Schedule) {
 }
 
 #[test]
-fn the_first_time_of_day_from_a_time(rt: HostRuntime) -> Result<(), Fail> {
-    let schedule = Schedule::from_str(rt.alloc(), "30 30 9,17 * * *")?;
+fn the_first_time_of_day_from_a_time(rt: HostRuntime) {
+    let schedule = read_schedule(&rt, "30 30 9,17 * * *");
     check_first_times(&rt, &schedule);
-    Ok(())
 }
 
 fn check_last_times(rt: &impl Abort, schedule: &Schedule) {
@@ -56,32 +54,31 @@ fn check_last_times(rt: &impl Abort, schedule: &Schedule) {
 }
 
 #[test]
-fn the_last_time_of_day_up_to_a_time(rt: HostRuntime) -> Result<(), Fail> {
-    let schedule = Schedule::from_str(rt.alloc(), "30 30 9,17 * * *")?;
+fn the_last_time_of_day_up_to_a_time(rt: HostRuntime) {
+    let schedule = read_schedule(&rt, "30 30 9,17 * * *");
     check_last_times(&rt, &schedule);
-    Ok(())
 }
 
 #[test]
-fn surveys_add_up_their_searches(rt: HostRuntime) -> Result<(), Fail> {
+fn surveys_add_up_their_searches(rt: HostRuntime) {
     let fridays = "0 0 0 13 * Fri 2022";
     let one = Survey {
         seconds: 1,
         days: 13,
         conversions: 1,
     };
-    check_survey(&rt, fridays, &TimeZone::UTC, "2022-01-01T00:00:00", 3, one)?;
+    check_survey(&rt, fridays, &TimeZone::UTC, "2022-01-01T00:00:00", 3, one);
     let gap = Survey {
         seconds: 2,
         days: 2,
         conversions: 4,
     };
     let morning = "0 0,30 2,3 13 3 ? 2022";
-    check_survey(&rt, morning, &chicago()?, "2022-03-13T00:00:00", 2, gap)?;
+    check_survey(&rt, morning, &chicago(&rt), "2022-03-13T00:00:00", 2, gap);
     let none = Survey {
         seconds: 0,
         days: 0,
         conversions: 0,
     };
-    check_survey(&rt, morning, &chicago()?, "2022-03-13T00:00:00", 0, none)
+    check_survey(&rt, morning, &chicago(&rt), "2022-03-13T00:00:00", 0, none);
 }

@@ -1,50 +1,38 @@
 //! What users see of a unit's set.
 
-use crate::support::{check, check_same};
+use crate::support::{check, check_same, read_schedule};
 use cron::time_unit::{DaysOfMonth, Months, Ordinal, OrdinalRangeIter, Years};
 use cron::{Schedule, TimeUnitSpec};
-use std::alloc::{AllocError, Global};
 use std::fmt::Write;
 use std::ops::Bound::{Excluded, Included, Unbounded};
 use std::process::Abort;
-use std::test::Fail;
 
 // The ordinals from the front.
-fn ahead(alloc: Global, ordinals: OrdinalRangeIter<'_>) -> Result<String, AllocError> {
-    let mut text = String::new(alloc);
+fn ahead(rt: &(impl Abort + AllocGlobal), ordinals: OrdinalRangeIter<'_>) -> String {
+    let mut text = String::new(rt.alloc());
     for ordinal in ordinals {
-        write!(text, "{ordinal} ")?;
+        write!(text, "{ordinal} ").expect(rt, "memory");
     }
-    Ok(text)
+    text
 }
 
 // The ordinals from the back.
-fn back(alloc: Global, ordinals: OrdinalRangeIter<'_>) -> Result<String, AllocError> {
-    let mut text = String::new(alloc);
+fn back(rt: &(impl Abort + AllocGlobal), ordinals: OrdinalRangeIter<'_>) -> String {
+    let mut text = String::new(rt.alloc());
     for ordinal in ordinals.rev() {
-        write!(text, "{ordinal} ")?;
+        write!(text, "{ordinal} ").expect(rt, "memory");
     }
-    Ok(text)
+    text
 }
 
-fn check_ahead(
-    rt: &(impl Abort + AllocGlobal),
-    ordinals: OrdinalRangeIter<'_>,
-    wanted: &str,
-) -> Result<(), Fail> {
-    let listed = ahead(rt.alloc(), ordinals)?;
+fn check_ahead(rt: &(impl Abort + AllocGlobal), ordinals: OrdinalRangeIter<'_>, wanted: &str) {
+    let listed = ahead(rt, ordinals);
     check_same(rt, listed.as_str(), wanted, wanted);
-    Ok(())
 }
 
-fn check_back(
-    rt: &(impl Abort + AllocGlobal),
-    ordinals: OrdinalRangeIter<'_>,
-    wanted: &str,
-) -> Result<(), Fail> {
-    let listed = back(rt.alloc(), ordinals)?;
+fn check_back(rt: &(impl Abort + AllocGlobal), ordinals: OrdinalRangeIter<'_>, wanted: &str) {
+    let listed = back(rt, ordinals);
     check_same(rt, listed.as_str(), wanted, wanted);
-    Ok(())
 }
 
 // One of the calls that answer these ordinals.
@@ -97,10 +85,9 @@ fn check_summer(rt: &impl Abort, months: &Months) {
 }
 
 #[test]
-fn months_in_summer(rt: HostRuntime) -> Result<(), Fail> {
-    let schedule = Schedule::from_str(rt.alloc(), "* * * * 5-8 * *")?;
+fn months_in_summer(rt: HostRuntime) {
+    let schedule = read_schedule(&rt, "* * * * 5-8 * *");
     check_summer(&rt, schedule.months());
-    Ok(())
 }
 
 // Calls to both ends in turn.
@@ -113,10 +100,9 @@ fn check_ends(rt: &impl Abort, months: &Months) {
 }
 
 #[test]
-fn the_ends_of_a_set_meet(rt: HostRuntime) -> Result<(), Fail> {
-    let schedule = Schedule::from_str(rt.alloc(), "* * * * 5-8 * *")?;
+fn the_ends_of_a_set_meet(rt: HostRuntime) {
+    let schedule = read_schedule(&rt, "* * * * 5-8 * *");
     check_ends(&rt, schedule.months());
-    Ok(())
 }
 
 // Ranges of months, by single calls to their ends.
@@ -127,39 +113,38 @@ fn check_months_one_by_one(rt: &impl Abort, months: &Months) {
     check_next(rt, &mut months.range((Excluded(8), Unbounded)), &[]);
 }
 
-fn check_ranges_of_months(rt: &(impl Abort + AllocGlobal), months: &Months) -> Result<(), Fail> {
-    check_ahead(rt, months.range((Included(1), Included(6))), "5 6 ")?;
-    check_ahead(rt, months.range((Unbounded, Unbounded)), "5 6 7 8 ")?;
-    check_ahead(rt, months.range((Excluded(5), Excluded(6))), "")?;
-    check_ahead(rt, months.range((Excluded(8), Unbounded)), "")?;
+fn check_ranges_of_months(rt: &(impl Abort + AllocGlobal), months: &Months) {
+    check_ahead(rt, months.range((Included(1), Included(6))), "5 6 ");
+    check_ahead(rt, months.range((Unbounded, Unbounded)), "5 6 7 8 ");
+    check_ahead(rt, months.range((Excluded(5), Excluded(6))), "");
+    check_ahead(rt, months.range((Excluded(8), Unbounded)), "");
     check_ahead(
         rt,
         months.range((Included(0), Included(4_294_967_295))),
         "5 6 7 8 ",
-    )?;
+    );
     check_months_one_by_one(rt, months);
-    Ok(())
 }
 
 #[test]
-fn ranges_of_months(rt: HostRuntime) -> Result<(), Fail> {
-    let schedule = Schedule::from_str(rt.alloc(), "* * * * 5-8 * *")?;
-    check_ranges_of_months(&rt, schedule.months())
+fn ranges_of_months(rt: HostRuntime) {
+    let schedule = read_schedule(&rt, "* * * * 5-8 * *");
+    check_ranges_of_months(&rt, schedule.months());
 }
 
-fn check_two_days(rt: &(impl Abort + AllocGlobal), days: &DaysOfMonth) -> Result<(), Fail> {
+fn check_two_days(rt: &(impl Abort + AllocGlobal), days: &DaysOfMonth) {
     check(rt, days.includes(1), "the first");
     check(rt, !days.includes(7), "the seventh");
     check_count(rt, days, 2);
     check_members(rt, days, &[1, 15]);
-    check_ahead(rt, days.range((Included(5), Included(25))), "15 ")?;
-    check_ahead(rt, days.range((Included(10), Included(20))), "15 ")
+    check_ahead(rt, days.range((Included(5), Included(25))), "15 ");
+    check_ahead(rt, days.range((Included(10), Included(20))), "15 ");
 }
 
 #[test]
-fn two_days_of_a_month(rt: HostRuntime) -> Result<(), Fail> {
-    let schedule = Schedule::from_str(rt.alloc(), "* * * 1,15 * * *")?;
-    check_two_days(&rt, schedule.days_of_month())
+fn two_days_of_a_month(rt: HostRuntime) {
+    let schedule = read_schedule(&rt, "* * * 1,15 * * *");
+    check_two_days(&rt, schedule.days_of_month());
 }
 
 // Ranges of years, by single calls to their ends.
@@ -171,7 +156,7 @@ fn check_years_one_by_one(rt: &impl Abort, years: &Years) {
     check_next(rt, &mut years.range((Excluded(2017), Included(2017))), &[]);
 }
 
-fn check_ranges_of_years(rt: &(impl Abort + AllocGlobal), years: &Years) -> Result<(), Fail> {
+fn check_ranges_of_years(rt: &(impl Abort + AllocGlobal), years: &Years) {
     check(rt, years.count() == 30, "thirty years");
     check(rt, years.includes(2031), "2031");
     check(rt, !years.includes(1969), "1969");
@@ -179,43 +164,41 @@ fn check_ranges_of_years(rt: &(impl Abort + AllocGlobal), years: &Years) -> Resu
         rt,
         years.range((Included(2017), Excluded(2022))),
         "2017 2018 2019 2020 2021 ",
-    )?;
+    );
     check_back(
         rt,
         years.range((Included(2017), Excluded(2022))),
         "2021 2020 2019 2018 2017 ",
-    )?;
-    check_ahead(rt, years.range((Excluded(2017), Included(2017))), "")?;
+    );
+    check_ahead(rt, years.range((Excluded(2017), Included(2017))), "");
     check_years_one_by_one(rt, years);
-    Ok(())
 }
 
 #[test]
-fn ranges_of_years(rt: HostRuntime) -> Result<(), Fail> {
-    let schedule = Schedule::from_str(rt.alloc(), "* * * * * * 2015-2044")?;
-    check_ranges_of_years(&rt, schedule.years())
+fn ranges_of_years(rt: HostRuntime) {
+    let schedule = read_schedule(&rt, "* * * * * * 2015-2044");
+    check_ranges_of_years(&rt, schedule.years());
 }
 
-fn check_years_far_apart(rt: &(impl Abort + AllocGlobal), years: &Years) -> Result<(), Fail> {
+fn check_years_far_apart(rt: &(impl Abort + AllocGlobal), years: &Years) {
     check(rt, years.count() == 6, "six years");
     check_ahead(
         rt,
         years.range((Excluded(2033), Excluded(2098))),
         "2034 2097 ",
-    )?;
+    );
     check_back(
         rt,
         years.range((Excluded(2033), Excluded(2098))),
         "2097 2034 ",
-    )?;
-    Ok(())
+    );
 }
 
 #[test]
-fn years_far_apart(rt: HostRuntime) -> Result<(), Fail> {
+fn years_far_apart(rt: HostRuntime) {
     let text = "* * * * * * 1970,2033,2034,2097,2098,2100";
-    let schedule = Schedule::from_str(rt.alloc(), text)?;
-    check_years_far_apart(&rt, schedule.years())
+    let schedule = read_schedule(&rt, text);
+    check_years_far_apart(&rt, schedule.years());
 }
 
 // Which sets are whole, from seconds to years.
@@ -231,32 +214,26 @@ fn whole_sets(schedule: &Schedule) -> [bool; 7] {
     ]
 }
 
-fn check_whole_sets(
-    rt: &(impl Abort + AllocGlobal),
-    text: &str,
-    wanted: [bool; 7],
-) -> Result<(), Fail> {
-    let schedule = Schedule::from_str(rt.alloc(), text)?;
+fn check_whole_sets(rt: &(impl Abort + AllocGlobal), text: &str, wanted: [bool; 7]) {
+    let schedule = read_schedule(rt, text);
     check(rt, whole_sets(&schedule) == wanted, text);
-    Ok(())
 }
 
 #[test]
-fn a_whole_range_however_written(rt: HostRuntime) -> Result<(), Fail> {
+fn a_whole_range_however_written(rt: HostRuntime) {
     let wanted = [true, true, true, false, false, true, true];
-    check_whole_sets(&rt, "0-59 * 0-23 ?/2 1,2-4 ? *", wanted)?;
+    check_whole_sets(&rt, "0-59 * 0-23 ?/2 1,2-4 ? *", wanted);
     let wanted = [true, true, true, false, true, true, true];
-    check_whole_sets(&rt, "* * * 1,15 * * *", wanted)
+    check_whole_sets(&rt, "* * * 1,15 * * *", wanted);
 }
 
-fn check_seconds(rt: &(impl Abort + AllocGlobal), text: &str, wanted: u32) -> Result<(), Fail> {
-    let schedule = Schedule::from_str(rt.alloc(), text)?;
+fn check_seconds(rt: &(impl Abort + AllocGlobal), text: &str, wanted: u32) {
+    let schedule = read_schedule(rt, text);
     check(rt, schedule.seconds().count() == wanted, text);
-    Ok(())
 }
 
 #[test]
-fn counts_of_seconds(rt: HostRuntime) -> Result<(), Fail> {
-    check_seconds(&rt, "1,2,3/5 * * * * *", 14)?;
-    check_seconds(&rt, "0-40 * * * * *", 41)
+fn counts_of_seconds(rt: HostRuntime) {
+    check_seconds(&rt, "1,2,3/5 * * * * *", 14);
+    check_seconds(&rt, "0-40 * * * * *", 41);
 }
