@@ -1,6 +1,7 @@
 pub mod LineLemmas
 pub mod Telling
 pub mod Putting
+pub mod ReadLemmas
 pub mod RunLemmas
 pub mod DayLemmas
 pub mod ShortTokens

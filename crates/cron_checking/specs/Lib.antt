@@ -2,6 +2,7 @@ pub mod Short
 pub mod Lines
 pub mod Reports
 pub mod Reading
+pub mod Reads
 pub mod Puts
 pub mod Checks
 pub mod Inner

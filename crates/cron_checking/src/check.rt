@@ -4,18 +4,19 @@ ghost use Rattle.std.specs.Prelude.{◌≡◌, ℕ, List, Option, true, false};
 ghost use Rattle.cron_checking.specs.Checks.{Checks, Ends, closing_line, code_of, is_write_failure};
 ghost use Rattle.cron_checking.specs.Inner.{TellsAll, TellsNext, end_of};
 ghost use Rattle.cron_checking.specs.Puts.{Puts};
+ghost use Rattle.cron_checking.specs.Reads.{AreReads};
 ghost use Rattle.cron_writer.specs.Calls.{AreWritesFlushed, IsFlushed};
 ghost use Rattle.cron_writer.specs.Watching.{has_failed, writer_of, IsSent};
 ghost use Rattle.cron_checking.specs.declared.check.Outcome.TheVariants.{WriteFailed};
 
 use crate::line::{Mode, tell_line};
 use crate::output::put;
+use crate::readable::Readable;
 use crate::reading::{Given, read_line};
 use cron_writer::gathered::Gathered;
 use cron_writer::watchable::Watchable;
 use cron_writer::watched::Watched;
 use std::alloc::Global;
-use std::io::BufRead;
 
 /// How a check ended.
 #[derive(Clone, Copy, Debug, PartialEq, Eq)]
@@ -87,14 +88,15 @@ fn tell_next<W: Watchable>(
 }
 
 // Tells of the lines that a reader gives, one after another, until one can't be told.
-fn tell_lines<R: BufRead, W: Watchable>(
+fn tell_lines<R: Readable, W: Watchable>(
     alloc: Global,
     mode: &Mode<'_>,
     reader: &mut R,
     gathered: &mut Gathered,
     out: &mut Watched<W>,
 ) -> Outcome
-    ensures { TellsAll mode.now (R.remaining reader.old) (R.remaining reader.new) W.contents W.writes gathered.old out.old gathered.new out.new result }
+    ensures tells { TellsAll mode.now (R.remaining reader.old) (R.remaining reader.new) W.contents W.writes gathered.old out.old gathered.new out.new result }
+    ensures reads { AreReads R.reads reader.old reader.new }
 {
     let mut line = Vec::new(alloc);
     let mut text = String::new(alloc);
@@ -149,10 +151,10 @@ pub(crate) fn finish<W: Watchable>(out: &mut Watched<W>, end: Outcome) -> Outcom
 }
 
 /// Checks the lines that a reader gives, and writes what the mode tells of them. The lines of the report are
-/// handed to the writer many at a time, and the rest of them at the end, before the flush. The memory of
-/// the longest line and of the longest line of the report is kept from line to line. No call of the writer
-/// may have failed before.
-pub fn check<R: BufRead, W: Watchable>(
+/// handed to the writer many at a time, and the rest of them at the end, before the flush. The reader is
+/// called once a line, and not again where it gave none or failed. The memory of the longest line and of
+/// the longest line of the report is kept from line to line. No call of the writer may have failed before.
+pub fn check<R: Readable, W: Watchable>(
     alloc: Global,
     mode: &Mode<'_>,
     reader: &mut R,
@@ -160,6 +162,7 @@ pub fn check<R: BufRead, W: Watchable>(
 ) -> Outcome
     requires { has_failed out.old ≡ false }
     ensures checks { Checks mode.now (R.remaining reader.old) (R.remaining reader.new) (W.contents (writer_of out.old)) (W.contents (writer_of out.new)) result }
+    ensures reads { AreReads R.reads reader.old reader.new }
     ensures mark { has_failed out.new ≡ is_write_failure result }
     ensures calls { AreWritesFlushed W.writes W.flushes (writer_of out.old) (has_failed out.old) (writer_of out.new) (has_failed out.new) }
 {

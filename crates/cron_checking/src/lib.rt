@@ -6,6 +6,7 @@ pub mod check;
 pub mod laws;
 pub mod line;
 mod output;
+pub mod readable;
 mod reading;
 pub mod say;
 pub mod short;

@@ -3,8 +3,10 @@
 ghost use Rattle.std.specs.Prelude.{◌≡◌, ◌==◌, ◌<◌, ◌-◌, length, slice_index};
 ghost use Rattle.std.specs.Io.{StopsAt};
 ghost use Rattle.cron_checking.specs.Reading.{Gives, IsCut};
+ghost use Rattle.cron_checking.specs.Reads.{IsRead};
 
-use std::io::{BufRead, ErrorKind};
+use crate::readable::Readable;
+use std::io::ErrorKind;
 
 /// What a reader gave.
 #[derive(Clone, Copy)]
@@ -40,12 +42,13 @@ fn cut_line_feed(line: &mut Vec<u8>) -> bool
     true
 }
 
-/// Reads the next line into a buffer.
-pub(crate) fn read_line<R: BufRead>(reader: &mut R, line: &mut Vec<u8>) -> Given
-    ensures { Gives (R.remaining reader.old) (R.remaining reader.new) line.new.items result }
+/// Reads the next line into a buffer, by one call of the reader.
+pub(crate) fn read_line<R: Readable>(reader: &mut R, line: &mut Vec<u8>) -> Given
+    ensures gives { Gives (R.remaining reader.old) (R.remaining reader.new) line.new.items result }
+    ensures call { IsRead R.reads reader.old reader.new result }
 {
     line.clear();
-    match reader.read_until(b'\n', line) {
+    match reader.read_once(line) {
         Ok(0) => Given::End,
         Ok(_) => Given::Line {
             last: !cut_line_feed(line),

@@ -1,5 +1,5 @@
 -- What the program writes.
-use Rattle.std.specs.Prelude.{◌≡◌, ℕ, ℤ, Bool, true, false, List, [], ◌∷◌, ◌++◌, ◌⊎◌, Option, Some, None, codes, replicate}
+use Rattle.std.specs.Prelude.{◌≡◌, ℕ, ℤ, Bool, true, false, List, [], ◌∷◌, ◌++◌, ◌⊎◌, Option, Some, None, Result, ⊤, codes, map, replicate}
 use Rattle.std.specs.Io.KnownBytes.{Appends}
 use Rattle.std.specs.List.{flat_map}
 use Rattle.jiff_tz.specs.declared.timezone.TimeZone.{TimeZone}
@@ -12,7 +12,10 @@ use Rattle.cron_moments.specs.Readings.{Reading}
 use Rattle.cron_units.specs.Sets.{Sets}
 use Rattle.cron_text.specs.Fault.{IsRefusal}
 use Rattle.cron_time.specs.Timeline.{timeline}
-use Rattle.cron_writer.specs.Watching.{IsFrontSent}
+use Rattle.std.specs.declared.io.Error.{Error}
+use Rattle.cron_writer.specs.Calls.{AreGathered, HandsOnLines, IsFlushed}
+use Rattle.cron_writer.specs.Watching.{has_failed, writer_of, IsFrontSent}
+use Rattle.cron_writer.specs.declared.watched.Watched.{Watched}
 use Rattle.cron_listing.specs.declared.run.Outcome.{Outcome}
 use Rattle.cron_listing.specs.declared.run.Outcome.TheVariants.{Listed, Refused, WriteFailed}
 
@@ -77,3 +80,17 @@ Writes expression z start count back old new outcome =
 abbrev pub is_write_failure : Outcome → Bool
 is_write_failure WriteFailed = true
 is_write_failure _ = false
+
+-- the lines of some items were gathered one after another
+abbrev pub GathersItems : {W : Type 0} → (W → List ℕ → Result ℕ Error → W → Type 0) → Watched W → Watched W → List ℕ → List ℕ → Type 0
+GathersItems writes old new was kept = (items : List Reading) × AreGathered writes (map item_line items) old new was kept
+
+-- the lines of some items were gathered, and then what was kept of them was handed on
+abbrev pub HandsOnItems : {W : Type 0} → (W → List ℕ → Result ℕ Error → W → Type 0) → Watched W → Watched W → Type 0
+HandsOnItems writes old new = (items : List Reading) × HandsOnLines writes (map item_line items) old new
+
+-- and then the writer was flushed once
+abbrev pub HandsOnItemsFlushed :
+    {W : Type 0} → (W → List ℕ → Result ℕ Error → W → Type 0) → (W → Result ⊤ Error → W → Type 0) → Watched W → Watched W → Type 0
+HandsOnItemsFlushed {W} writes flushes old new =
+    (last : Watched W) × HandsOnItems writes old last × IsFlushed flushes (writer_of last) (has_failed last) (writer_of new) (has_failed new)

@@ -2,8 +2,8 @@
 //! Which line that is, and when it is written, is decided here.
 
 ghost use Rattle.std.specs.Prelude.{◌≡◌, false, map, string_bytes};
-ghost use Rattle.cron_listing.specs.Answers.{IsAnswered, IsUsage, Lists, code_of, is_failed, status_of};
-ghost use Rattle.cron_writer.specs.Calls.{AreWritesFlushed};
+ghost use Rattle.cron_listing.specs.Answers.{IsAnswered, IsUsage, Lists, code_of, is_failed, status_of, usage_line};
+ghost use Rattle.cron_writer.specs.Calls.{AreWritesFlushed, HandsOnFlushed};
 ghost use Rattle.cron_writer.specs.Watching.{has_failed, writer_of};
 
 use crate::arguments::{Request, request_of};
@@ -78,7 +78,7 @@ pub fn usage<W: Watchable>(out: &mut Watched<W>) -> Status
     requires { has_failed out.old ≡ false }
     ensures answered { IsUsage (W.contents (writer_of out.old)) (W.contents (writer_of out.new)) result }
     ensures mark { has_failed out.new ≡ is_failed result }
-    ensures calls { AreWritesFlushed W.writes W.flushes (writer_of out.old) (has_failed out.old) (writer_of out.new) (has_failed out.new) }
+    ensures calls { HandsOnFlushed W.writes W.flushes (writer_of out.old) (has_failed out.old) (writer_of out.new) (has_failed out.new) usage_line }
 {
     match refuse(out, USAGE) {
         Outcome::WriteFailed => Status::WriteFailed,

@@ -5,7 +5,7 @@
 ghost use Rattle.std.specs.Prelude.{◌≡◌, ◌≤◌, ◌<◌, ◌++◌, ◌+◌, ℕ, List, Option, take};
 ghost use Rattle.cron_moments.specs.MomentText.{item_line};
 ghost use Rattle.cron_listing.specs.Digits.{with_two_digits};
-ghost use Rattle.cron_writer.specs.Calls.{AreWrites};
+ghost use Rattle.cron_writer.specs.Calls.{AreWrites, Gathers};
 ghost use Rattle.cron_writer.specs.Watching.{has_failed, kept_in, writer_of, IsGathered};
 
 use cron::schedule::Moment;
@@ -105,6 +105,7 @@ impl KeptLine {
             → IsGathered origin (W.contents (writer_of out.old)) (has_failed out.old) (kept_in lines.old) before
             → IsGathered origin (W.contents (writer_of out.new)) (has_failed out.new) (kept_in lines.new) (before ++ item_line self.now) }
         ensures calls { AreWrites W.writes (writer_of out.old) (has_failed out.old) (writer_of out.new) (has_failed out.new) }
+        ensures gathers { Gathers W.writes out.old out.new (kept_in lines.old) (kept_in lines.new) (item_line self.now) }
     {
         lines.push_short(&self.bytes, self.len, out);
     }

@@ -2,6 +2,7 @@
 
 ghost use Rattle.std.specs.Prelude.{◌≡◌, false};
 ghost use Rattle.jiff.specs.Words.{plain_zone};
+ghost use Rattle.cron_listing.specs.Output.{HandsOnItemsFlushed};
 ghost use Rattle.cron_listing.specs.Pages.{Pages, is_page_failure, item_or};
 ghost use Rattle.cron_writer.specs.Calls.{AreWritesFlushed};
 ghost use Rattle.cron_writer.specs.Watching.{has_failed, writer_of};
@@ -41,6 +42,7 @@ pub fn page<W: Watchable>(
     ensures untouched { result ≡ NotAnItem → out.new ≡ out.old }
     ensures calls { (result ≡ NotAnItem → ⊥)
         → AreWritesFlushed W.writes W.flushes (writer_of out.old) (has_failed out.old) (writer_of out.new) (has_failed out.new) }
+    ensures gathers { (result ≡ NotAnItem → ⊥) → HandsOnItemsFlushed W.writes W.flushes out.old out.new }
 {
     let Some(mut walk) = schedule.resume(last, zone) else {
         return Page::NotAnItem;

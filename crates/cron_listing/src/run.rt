@@ -5,10 +5,10 @@ ghost use Rattle.std.specs.Prelude.{◌≡◌, ℕ, List, [], Option, false};
 ghost use Rattle.jiff.specs.Words.{plain_zone};
 ghost use Rattle.cron_units.specs.Texts.{error_text};
 ghost use Rattle.cron_time.specs.Walk.Cursor.{Steps};
-ghost use Rattle.cron_listing.specs.Output.{answers_of, direction, last_item, lines_of, complaint, Ends, Writes, is_write_failure};
-ghost use Rattle.cron_writer.specs.Calls.{AreWrites, AreWritesFlushed, IsFlushed};
+ghost use Rattle.cron_listing.specs.Output.{answers_of, direction, last_item, lines_of, complaint, Ends, GathersItems, HandsOnItems, HandsOnItemsFlushed, Writes, is_write_failure};
+ghost use Rattle.cron_writer.specs.Calls.{AreWrites, AreWritesFlushed, HandsOnFlushed, IsFlushed};
 ghost use Rattle.cron_writer.specs.Watching.{has_failed, kept_in, writer_of, IsGathered, IsSent};
-ghost use Rattle.cron_listing.specs.declared.run.Outcome.TheVariants.{Refused};
+ghost use Rattle.cron_listing.specs.declared.run.Outcome.TheVariants.{Listed, Refused};
 
 use crate::kept_line::KeptLine;
 use cron::error::{Error, ErrorKind};
@@ -64,6 +64,7 @@ fn gather_items<W: Watchable>(
     ensures lines { IsGathered (W.contents (writer_of out.old)) (W.contents (writer_of out.new)) (has_failed out.new) (kept_in lines.new) (lines_of back walk.old count) }
     ensures last { has_failed out.new ≡ false → result ≡ last_item (answers_of back walk.old count) }
     ensures calls { AreWrites W.writes (writer_of out.old) (has_failed out.old) (writer_of out.new) (has_failed out.new) }
+    ensures gathers { GathersItems W.writes out.old out.new [] (kept_in lines.new) }
 {
     let mut line = KeptLine::new();
     let mut last = None;
@@ -93,6 +94,7 @@ pub(crate) fn send_items<W: Watchable>(
     ensures lines { IsSent (W.contents (writer_of out.old)) (W.contents (writer_of out.new)) (has_failed out.new) (lines_of back walk.old count) }
     ensures last { has_failed out.new ≡ false → result ≡ last_item (answers_of back walk.old count) }
     ensures calls { AreWrites W.writes (writer_of out.old) (has_failed out.old) (writer_of out.new) (has_failed out.new) }
+    ensures gathers { HandsOnItems W.writes out.old out.new }
 {
     let mut lines = Gathered::new();
     let last = gather_items(walk, count, back, &mut lines, out);
@@ -147,7 +149,7 @@ pub fn refuse<W: Watchable>(out: &mut Watched<W>, line: &str) -> Outcome
     requires { has_failed out.old ≡ false }
     ensures ends { Ends Refused line.now (W.contents (writer_of out.old)) (W.contents (writer_of out.new)) result }
     ensures mark { has_failed out.new ≡ is_write_failure result }
-    ensures calls { AreWritesFlushed W.writes W.flushes (writer_of out.old) (has_failed out.old) (writer_of out.new) (has_failed out.new) }
+    ensures calls { HandsOnFlushed W.writes W.flushes (writer_of out.old) (has_failed out.old) (writer_of out.new) (has_failed out.new) line.now }
 {
     send(out, line.as_bytes());
     finish(out, Outcome::Refused)
@@ -176,6 +178,7 @@ pub fn run<W: Watchable>(
     ensures writes { Writes expression.now (plain_zone zone.now) start.nanosecond count back (W.contents (writer_of out.old)) (W.contents (writer_of out.new)) result }
     ensures mark { has_failed out.new ≡ is_write_failure result }
     ensures calls { AreWritesFlushed W.writes W.flushes (writer_of out.old) (has_failed out.old) (writer_of out.new) (has_failed out.new) }
+    ensures gathers { result ≡ Listed → HandsOnItemsFlushed W.writes W.flushes out.old out.new }
 {
     match Schedule::from_str(alloc, expression) {
         Ok(schedule) => {

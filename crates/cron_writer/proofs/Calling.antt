@@ -1,10 +1,10 @@
 -- Calls one after another.
 use Rattle.std.proofs.Common.{◌≡◌, ◌<◌, ℕ, Bool, true, false, List, [], ◌∷◌, ◌++◌, ◌||◌, Result, length, refl, ap, ◌∙◌, subst}
 use Rattle.cron_writer.proofs.Sending.{both_ways}
-use Rattle.std.specs.Prelude.{drop}
+use Rattle.std.specs.Prelude.{drop, ⊤}
 use Rattle.std.specs.declared.io.Error.{Error}
 use Rattle.cron_writer.specs.Watching.{is_failed_write}
-use Rattle.cron_writer.specs.Calls.{Call, IsWritten, AreWrites, AreTries, AreTried, HandsOn, taken}
+use Rattle.cron_writer.specs.Calls.{Call, IsWritten, AreWrites, AreTries, AreTried, AreWritesFlushed, HandsOn, HandsOnFlushed, taken}
 
 -- no write
 pub no_write : {W : Type 0} (writes : W → List ℕ → Result ℕ Error → W → Type 0) (w : W) (mark : Bool) → AreWrites writes w mark w mark
@@ -55,3 +55,9 @@ handed_on writes old new was failed text (left, h) = (h.0.0, h.0.1.0)
 pub nothing_handed : {W : Type 0} (writes : W → List ℕ → Result ℕ Error → W → Type 0) (w : W) (mark : Bool) (text : List ℕ) → mark ≡ true
     → HandsOn writes w mark w mark text
 nothing_handed writes w mark text off = (text, (([], ((refl, refl), refl)), λ fresh. absurd (both_ways mark off fresh)))
+
+-- what was handed on and flushed was written and flushed
+pub handed_flushed :
+    {W : Type 0} (writes : W → List ℕ → Result ℕ Error → W → Type 0) (flushes : W → Result ⊤ Error → W → Type 0) (old new : W) (was failed : Bool)
+    (text : List ℕ) → HandsOnFlushed writes flushes old was new failed text → AreWritesFlushed writes flushes old was new failed
+handed_flushed writes flushes old new was failed text (last, mark, h, flushed) = (last, mark, handed_on writes old last was mark text h, flushed)

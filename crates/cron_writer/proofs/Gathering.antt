@@ -1,7 +1,10 @@
 -- Lines that are gathered, and handed on together.
-use Rattle.std.proofs.Common.{◌≡◌, ℕ, Bool, true, false, Option, List, [], ◌++◌, refl, sym, ap, ◌∙◌, subst, append_assoc, append-nil}
+use Rattle.std.proofs.Common.{◌≡◌, ℕ, Bool, true, false, Option, List, [], ◌∷◌, ◌++◌, Result, refl, sym, ap, ◌∙◌, subst, append_assoc, append-nil}
 use Rattle.std.proofs.KnownBytes.{Appends-nil}
-use Rattle.cron_writer.specs.Watching.{IsFrontSent, IsGathered, IsKept, IsSent}
+use Rattle.std.specs.declared.io.Error.{Error}
+use Rattle.cron_writer.specs.Calls.{AreGathered, Gathers}
+use Rattle.cron_writer.specs.declared.watched.Watched.{Watched}
+use Rattle.cron_writer.specs.Watching.{has_failed, IsFrontSent, IsGathered, IsKept, IsSent}
 use Rattle.cron_writer.proofs.Sending.{both_ways, front_more, nothing_sent}
 
 pub nothing_gathered : (c : Option (List ℕ)) (failed : Bool) → IsGathered c c failed [] []
@@ -60,3 +63,21 @@ rest_sent origin old new false fails handed kept text same g off on =
     let sent : List ℕ = (g.rest refl).sent in
     let is_text : sent ++ handed ≡ text = ap (λ (t : List ℕ). sent ++ t) same ∙ sym (g.rest refl).cut in
     subst (λ (t : List ℕ). IsSent origin new fails t) is_text (on sent (kept_sent origin old kept text (g.rest refl)))
+
+-- one more line is gathered
+pub gathered_on :
+    {W : Type 0} (writes : W → List ℕ → Result ℕ Error → W → Type 0) (lines : List (List ℕ)) (line : List ℕ) (old mid new : Watched W)
+    (was held kept : List ℕ) → AreGathered writes lines old mid was held → has_failed mid ≡ false → Gathers writes mid new held kept line
+    → AreGathered writes (lines ++ line ∷ []) old new was kept
+gathered_on {W} writes [] line old mid new was held kept (same, none) fresh g = (
+  ap has_failed (sym same) ∙ fresh,
+  (
+    new,
+    kept,
+    subst (λ (w : Watched W). Gathers writes w new was kept line) same
+        (subst (λ (h : List ℕ). Gathers writes mid new h kept line) none g),
+    (refl, refl),
+  ),
+)
+gathered_on writes (first ∷ lines) line old mid new was held kept (begun, (next, there, one, more)) fresh g =
+    (begun, (next, there, one, gathered_on writes lines line next mid new there held kept more fresh g))

@@ -57,3 +57,24 @@ abbrev pub AreWritesFlushed :
     {W : Type 0} → (W → List ℕ → Result ℕ Error → W → Type 0) → (W → Result ⊤ Error → W → Type 0) → W → Bool → W → Bool → Type 0
 AreWritesFlushed {W} writes flushes old was new failed =
     (last : W) × (mark : Bool) × AreWrites writes old was last mark × IsFlushed flushes last mark new failed
+
+-- A text was handed on, each time all that was left of it, and then the writer was flushed once; and it wasn't called once a
+-- call had failed.
+abbrev pub HandsOnFlushed :
+    {W : Type 0} → (W → List ℕ → Result ℕ Error → W → Type 0) → (W → Result ⊤ Error → W → Type 0) → W → Bool → W → Bool → List ℕ → Type 0
+HandsOnFlushed {W} writes flushes old was new failed text =
+    (last : W) × (mark : Bool) × HandsOn writes old was last mark text × IsFlushed flushes last mark new failed
+
+-- These lines were gathered one after another, behind what was kept, and none of them once a call has failed.
+abbrev pub AreGathered :
+    {W : Type 0} → (W → List ℕ → Result ℕ Error → W → Type 0) → List (List ℕ) → Watched W → Watched W → List ℕ → List ℕ → Type 0
+AreGathered writes [] old new was kept = (new ≡ old) × (kept ≡ was)
+AreGathered {W} writes (line ∷ lines) old new was kept =
+    (has_failed old ≡ false)
+    × ((next : Watched W) × (held : List ℕ) × Gathers writes old next was held line × AreGathered writes lines next new held kept)
+
+-- these lines were gathered, and then what was kept of them was handed on
+abbrev pub HandsOnLines : {W : Type 0} → (W → List ℕ → Result ℕ Error → W → Type 0) → List (List ℕ) → Watched W → Watched W → Type 0
+HandsOnLines {W} writes lines old new =
+    (last : Watched W) × (kept : List ℕ) × AreGathered writes lines old last [] kept
+    × HandsOn writes (writer_of last) (has_failed last) (writer_of new) (has_failed new) kept

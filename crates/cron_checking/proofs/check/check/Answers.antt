@@ -40,19 +40,19 @@ closed old new failed kept report stop closing shown e h =
 pub finish-requires : goal.finish-requires
 finish-requires g c =
     λ is_failure. stays_failed _ _ _ _ _ (handed_on _ _ _ _ _ _ c.send.ensures.calls)
-    (stays_failed _ _ _ _ _ c.put.ensures.calls (c.tell_lines-end.ensures.failed is_failure))
+    (stays_failed _ _ _ _ _ c.put.ensures.calls (c.tell_lines-end.ensures.tells.failed is_failure))
 
 pub returns-clause-calls : goal.returns-clause-calls
 returns-clause-calls g c = (
   _,
   _,
-  writes_on _ _ _ _ _ _ _ (writes_on _ _ _ _ _ _ _ c.tell_lines-end.ensures.puts.calls c.put.ensures.calls) (handed_on _ _ _ _ _ _ c.send.ensures.calls),
+  writes_on _ _ _ _ _ _ _ (writes_on _ _ _ _ _ _ _ c.tell_lines-end.ensures.tells.puts.calls c.put.ensures.calls) (handed_on _ _ _ _ _ _ c.send.ensures.calls),
   c.finish.ensures.calls,
 )
 
 pub returns-clause-checks : goal.returns-clause-checks
 returns-clause-checks g c =
-    let told = c.tell_lines-end.ensures in
+    let told = c.tell_lines-end.ensures.tells in
     let begun =
     subst (λ (kept : List ℕ). IsGathered (g.W.Write.contents (writer_of c.args.out.now)) (g.W.Write.contents (writer_of c.args.out.now))
     (has_failed c.args.out.now) kept [])

@@ -1,11 +1,13 @@
-use Rattle.std.proofs.Common.{◌≡◌, ◌+◌, ◌++◌, ℕ, Bool, List, [], ◌∷◌, length, refl, sym, subst, append-nil, arith}
+use Rattle.std.proofs.Common.{◌≡◌, ◌+◌, ◌++◌, ℕ, Bool, List, [], ◌∷◌, length, refl, sym, ap, subst, append-nil, inl, arith}
 use Rattle.std.proofs.lemmas.List.{length_push}
 use Rattle.std.proofs.KnownBytes.{Consumes-nil}
 use Rattle.cron_checking.specs.Lines.{AreEnded}
 use Rattle.cron_checking.specs.Puts.{Puts}
 use Rattle.cron_checking.specs.Reports.{TellsLine}
 use Rattle.cron_checking.specs.declared.line.Mode.{Mode}
+use Rattle.cron_checking.specs.declared.reading.Given.TheVariants.{Line}
 use Rattle.cron_checking.proofs.Putting.{nothing_put, put_on}
+use Rattle.cron_checking.proofs.ReadLemmas.{line_on, last_read}
 use Rattle.cron_checking.proofs.Telling.{nothing_read, no_piece, line_read, read_on, read_whole, read_through, ended_lines, given_whole, whole_on, line_told, ended_at, ended_puts, ended_unfailed, line_stops}
 use Rattle.cron_checking.proofs.check.tell_lines.Goals as goal
 
@@ -16,31 +18,31 @@ counted : (n : ℕ) (checked : List (List ℕ)) (line : List ℕ) → n ≡ 1 + 
 counted n checked line e = omega (arith, length_push checked line)
 
 pub loop-number-init : goal.loop-number-init
-loop-number-init g c = ([], [], nothing_read _, (refl, refl), refl, nothing_put _ _ _ _)
+loop-number-init g c = ([], [], nothing_read _, (refl, refl), refl, nothing_put _ _ _ _, ([], refl))
 
-pub returns-in-End : goal.returns-in-End
-returns-in-End g c =
-    let (checked, report, read, told, count, puts) = c.loop-number.invariant in
+pub returns-in-End-clause-tells : goal.returns-in-End-clause-tells
+returns-in-End-clause-tells g c =
+    let (checked, report, read, told, count, puts, calls) = c.loop-number.invariant in
     record {
       checked = checked;
       front = read.bytes;
       piece = [];
       report = report;
       refused = c.loop-number.refused;
-      read = read_on _ _ _ checked [] read c.in-End.ensures.0;
+      read = read_on _ _ _ checked [] read c.in-End.ensures.gives.0;
       one_line = no_piece;
       ends =
-          ended_at _ _ _ read.bytes [] checked _ c.end_of.ensures (read_through _ _ _ _ read.consumed c.in-End.ensures.1)
+          ended_at _ _ _ read.bytes [] checked _ c.end_of.ensures (read_through _ _ _ _ read.consumed c.in-End.ensures.gives.1)
           (ended_lines read.bytes checked read.cut) refl;
       tells = told;
       puts = subst (Puts _ _ _ _ _ _) (ended_puts _ _ (length checked) report c.end_of.ensures) puts;
       failed = ended_unfailed _ _ _ c.end_of.ensures;
     }
 
-pub returns-in-OutOfMemory : goal.returns-in-OutOfMemory
-returns-in-OutOfMemory g c =
-    let (checked, report, read, told, count, puts) = c.loop-number.invariant in
-    let (piece, consumed, one) = c.in-OutOfMemory.ensures in
+pub returns-in-OutOfMemory-clause-tells : goal.returns-in-OutOfMemory-clause-tells
+returns-in-OutOfMemory-clause-tells g c =
+    let (checked, report, read, told, count, puts, calls) = c.loop-number.invariant in
+    let (piece, consumed, one) = c.in-OutOfMemory.ensures.gives in
     record {
       checked = checked;
       front = read.bytes;
@@ -55,10 +57,10 @@ returns-in-OutOfMemory g c =
       failed = λ f. absurd (cc);
     }
 
-pub returns-in-Unreadable : goal.returns-in-Unreadable
-returns-in-Unreadable g c =
-    let (checked, report, read, told, count, puts) = c.loop-number.invariant in
-    let (piece, consumed, one) = c.in-Unreadable.ensures in
+pub returns-in-Unreadable-clause-tells : goal.returns-in-Unreadable-clause-tells
+returns-in-Unreadable-clause-tells g c =
+    let (checked, report, read, told, count, puts, calls) = c.loop-number.invariant in
+    let (piece, consumed, one) = c.in-Unreadable.ensures.gives in
     record {
       checked = checked;
       front = read.bytes;
@@ -73,9 +75,9 @@ returns-in-Unreadable g c =
       failed = λ f. absurd (cc);
     }
 
-pub returns : goal.returns
-returns g c =
-    let (checked, report, read, told, count, puts) = c.loop-number.invariant in
+pub returns-clause-tells : goal.returns-clause-tells
+returns-clause-tells g c =
+    let (checked, report, read, told, count, puts, calls) = c.loop-number.invariant in
     record {
       checked = checked;
       front = read.bytes;
@@ -90,18 +92,18 @@ returns g c =
       failed = λ f. absurd (cc);
     }
 
-pub returns-in-Err : goal.returns-in-Err
-returns-in-Err g c =
-    let (checked, report, read, told, count, puts) = c.loop-number.invariant in
-    let (piece, consumed, one, more, through) = c.in-Line.ensures in
+pub returns-in-Err-clause-tells : goal.returns-in-Err-clause-tells
+returns-in-Err-clause-tells g c =
+    let (checked, report, read, told, count, puts, calls) = c.loop-number.invariant in
+    let (piece, consumed, one, more, through) = c.in-Line.ensures.gives in
     let (put, stops, put_now) = c.in-Err.ensures in
     line_stops _ _ _ _ _ _ _ _ _ _ _ _ checked report _ _ _ piece put c.in-Err.end read told count puts consumed
     (given_whole _ _ piece _ _ _ c.as_slice.ensures.value one more through) stops put_now
 
-pub returns-then-last : goal.returns-then-last
-returns-then-last g c =
-    let (checked, report, read, told, count, puts) = c.loop-number.invariant in
-    let (piece, consumed, one, more, through) = c.in-Line.ensures in
+pub returns-then-last-clause-tells : goal.returns-then-last-clause-tells
+returns-then-last-clause-tells g c =
+    let (checked, report, read, told, count, puts, calls) = c.loop-number.invariant in
+    let (piece, consumed, one, more, through) = c.in-Line.ensures.gives in
     let (put, (unfailed, tells), put_now) = c.in-Ok.ensures in
     let line = c.as_slice.result.now in
     record {
@@ -125,8 +127,8 @@ returns-then-last g c =
 
 pub loop-number-preserved : goal.loop-number-preserved
 loop-number-preserved g c =
-    let (checked, report, read, told, count, puts) = c.loop-number.invariant in
-    let (piece, consumed, one, more, through) = c.in-Line.ensures in
+    let (checked, report, read, told, count, puts, calls) = c.loop-number.invariant in
+    let (piece, consumed, one, more, through) = c.in-Line.ensures.gives in
     let (put, (unfailed, tells), put_now) = c.in-Ok.ensures in
     let line = c.as_slice.result.now in (
       checked ++ line ∷ [],
@@ -136,4 +138,29 @@ loop-number-preserved g c =
       line_told _ 1 checked line report put _ _ told (numbered c.args.mode.now _ _ line put c.in-Ok.bad count tells),
       counted _ checked line count,
       put_on _ _ _ _ _ _ _ _ report put puts put_now,
+      line_on _ _ _ _ _ calls (ap Line c.if-last.false) c.in-Line.ensures.call,
     )
+
+pub returns-clause-reads : goal.returns-clause-reads
+returns-clause-reads g c =
+    let (checked, report, read, told, count, puts, (lines, calls)) = c.loop-number.invariant in (lines, _, calls, inl refl)
+
+pub returns-in-End-clause-reads : goal.returns-in-End-clause-reads
+returns-in-End-clause-reads g c =
+    let (checked, report, read, told, count, puts, calls) = c.loop-number.invariant in last_read _ _ _ _ _ calls c.in-End.ensures.call
+
+pub returns-in-OutOfMemory-clause-reads : goal.returns-in-OutOfMemory-clause-reads
+returns-in-OutOfMemory-clause-reads g c =
+    let (checked, report, read, told, count, puts, calls) = c.loop-number.invariant in last_read _ _ _ _ _ calls c.in-OutOfMemory.ensures.call
+
+pub returns-in-Unreadable-clause-reads : goal.returns-in-Unreadable-clause-reads
+returns-in-Unreadable-clause-reads g c =
+    let (checked, report, read, told, count, puts, calls) = c.loop-number.invariant in last_read _ _ _ _ _ calls c.in-Unreadable.ensures.call
+
+pub returns-in-Err-clause-reads : goal.returns-in-Err-clause-reads
+returns-in-Err-clause-reads g c =
+    let (checked, report, read, told, count, puts, calls) = c.loop-number.invariant in last_read _ _ _ _ _ calls c.in-Line.ensures.call
+
+pub returns-then-last-clause-reads : goal.returns-then-last-clause-reads
+returns-then-last-clause-reads g c =
+    let (checked, report, read, told, count, puts, calls) = c.loop-number.invariant in last_read _ _ _ _ _ calls c.in-Line.ensures.call

@@ -1,6 +1,7 @@
 -- the lines so far were read and told
 use Rattle.std.proofs.Common.{◌≡◌, ◌+◌, ℕ, List, length}
 use Rattle.cron_checking.specs.Puts.{Puts}
+use Rattle.cron_checking.specs.Reads.{Read, AreLinesRead}
 use Rattle.cron_checking.specs.Reports.{TellsLines}
 use Rattle.cron_checking.proofs.Telling.{IsReadSoFar}
 use Rattle.cron_checking.proofs.check.tell_lines.Given as goal
@@ -12,3 +13,4 @@ invariant-loop-number g l =
     × TellsLines l.mode 1 checked report l.refused
     × (l.number ≡ 1 + length checked)
     × Puts g.W.Write.contents g.W.Watchable.writes l.initial.gathered l.initial.out l.gathered l.out report
+    × ((lines : List Read) × AreLinesRead g.R.Readable.reads lines l.initial.reader l.reader)

@@ -2,8 +2,10 @@ use Rattle.std.proofs.Common.{◌≡◌, ◌+◌, ◌<◌, zero, suc, List, [], 
 use Rattle.std.specs.Io.{StopsAt, appended_bytes}
 use Rattle.std.specs.Io.BufRead.{take_through, drop_through}
 use Rattle.std.specs.Io.KnownBytes.{Consumes, IsAtEnd}
+use Rattle.std.specs.declared.io.Error.{Error}
 use Rattle.cron_checking.specs.Lines.{IsReadThrough}
 use Rattle.cron_checking.specs.Reading.{Gives, IsCut, IsOneLine}
+use Rattle.cron_checking.specs.Reads.{GaveLine}
 use Rattle.cron_checking.specs.declared.reading.Given.TheVariants.{Line}
 use Rattle.cron_checking.proofs.LineLemmas.{line_first, line_alone, line_last, one_at_most, none_after}
 use Rattle.cron_checking.proofs.reading.read_line.Goals as goal
@@ -39,10 +41,10 @@ some_read size all before (suc count) e sum none some = omega arith
 nonempty : (bytes : List ℕ) → 0 < length bytes → bytes ≡ [] → ⊥
 nonempty bytes some e = let n : length bytes ≡ 0 = ap length e in absurd (omega arith)
 
-pub returns-in-Ok-eq0 : goal.returns-in-Ok-eq0
-returns-in-Ok-eq0 g c =
-    ended _ _ _ c.read_until.ensures.none_lost
-    (at_end c.read_until.result c.in-Ok-eq0.field-0 _ c.in-Ok-eq0.is c.in-Ok-eq0.field-0-test c.read_until.ensures.end)
+pub returns-in-Ok-eq0-clause-gives : goal.returns-in-Ok-eq0-clause-gives
+returns-in-Ok-eq0-clause-gives g c =
+    ended _ _ _ c.read_once.ensures.none_lost
+    (at_end c.read_once.result c.in-Ok-eq0.field-0 _ c.in-Ok-eq0.is c.in-Ok-eq0.field-0-test c.read_once.ensures.end)
 
 -- the piece of a line
 line_given : (old new : Option (List ℕ)) (piece line before : List ℕ) (ended last : Bool) → before ≡ [] → Consumes old new piece → IsCut piece line ended
@@ -64,34 +66,57 @@ line_given old new piece line before false last none c cut e some p q =
       λ is_last. last_piece old new piece before none one p q,
     )
 
-pub returns-in-Ok : goal.returns-in-Ok
-returns-in-Ok g c =
-    let all = appended_all _ c.read_until.new.buf.items c.clear.ensures.items in
-    line_given _ _ c.read_until.new.buf.items _ _ c.cut_line_feed.result _ c.clear.ensures.items (subst (Consumes _ _) all c.read_until.ensures.none_lost)
-    c.cut_line_feed.ensures refl (some_read _ _ _ _ c.read_until.new.buf.ok.0 c.in-Ok.ensures.ok c.clear.ensures.len c.in-Ok.field-0-test.1)
+pub returns-in-Ok-clause-gives : goal.returns-in-Ok-clause-gives
+returns-in-Ok-clause-gives g c =
+    let all = appended_all _ c.read_once.new.line.items c.clear.ensures.items in
+    line_given _ _ c.read_once.new.line.items _ _ c.cut_line_feed.result _ c.clear.ensures.items (subst (Consumes _ _) all c.read_once.ensures.none_lost)
+    c.cut_line_feed.ensures refl (some_read _ _ _ _ c.read_once.new.line.ok.0 c.in-Ok.ensures.ok c.clear.ensures.len c.in-Ok.field-0-test.1)
     c.in-Ok.ensures.bytes c.in-Ok.ensures.rest
 
-pub returns-in-Err : goal.returns-in-Err
-returns-in-Err g c =
-    let all = appended_all _ c.read_until.new.buf.items c.clear.ensures.items in (
-      c.read_until.new.buf.items,
-      subst (Consumes _ _) all c.read_until.ensures.none_lost,
-      one_at_most _ (subst (λ (t : List ℕ). StopsAt t 10) all c.read_until.ensures.stops),
+pub returns-in-Err-clause-gives : goal.returns-in-Err-clause-gives
+returns-in-Err-clause-gives g c =
+    let all = appended_all _ c.read_once.new.line.items c.clear.ensures.items in (
+      c.read_once.new.line.items,
+      subst (Consumes _ _) all c.read_once.ensures.none_lost,
+      one_at_most _ (subst (λ (t : List ℕ). StopsAt t 10) all c.read_once.ensures.stops),
     )
 
-pub returns-in-Err-2 : goal.returns-in-Err-2
-returns-in-Err-2 g c =
-    let all = appended_all _ c.read_until.new.buf.items c.clear.ensures.items in (
-      c.read_until.new.buf.items,
-      subst (Consumes _ _) all c.read_until.ensures.none_lost,
-      one_at_most _ (subst (λ (t : List ℕ). StopsAt t 10) all c.read_until.ensures.stops),
+pub returns-in-Err-2-clause-gives : goal.returns-in-Err-2-clause-gives
+returns-in-Err-2-clause-gives g c =
+    let all = appended_all _ c.read_once.new.line.items c.clear.ensures.items in (
+      c.read_once.new.line.items,
+      subst (Consumes _ _) all c.read_once.ensures.none_lost,
+      one_at_most _ (subst (λ (t : List ℕ). StopsAt t 10) all c.read_once.ensures.stops),
     )
 
 pub cut_line_feed-requires : goal.cut_line_feed-requires
 cut_line_feed-requires g c =
-    let all = appended_all _ c.read_until.new.buf.items c.clear.ensures.items in
+    let all = appended_all _ c.read_once.new.line.items c.clear.ensures.items in
     record {
-      some = some_read _ _ _ _ c.read_until.new.buf.ok.0 c.in-Ok.ensures.ok c.clear.ensures.len c.in-Ok.field-0-test.1;
+      some = some_read _ _ _ _ c.read_once.new.line.ok.0 c.in-Ok.ensures.ok c.clear.ensures.len c.in-Ok.field-0-test.1;
       one = subst (λ
-          (t : List ℕ). StopsAt t 10) all c.read_until.ensures.stops;
+          (t : List ℕ). StopsAt t 10) all c.read_once.ensures.stops;
     }
+
+-- a piece from which a line feed was taken
+gave_line : (answer : Result ℕ Error) (n : ℕ) (piece line read : List ℕ) (ended last : Bool) → answer ≡ Ok n → read ≡ piece → IsCut piece line ended
+    → last ≡ not ended → Line last ≡ Line false → GaveLine (record { answer = answer; bytes = read })
+gave_line answer n piece line read true last is all cut e more = (rw is refl, (line, all ∙ cut.0))
+gave_line answer n piece line read false last is all cut e more = absurd (cc)
+
+pub returns-in-Ok-eq0-clause-call : goal.returns-in-Ok-eq0-clause-call
+returns-in-Ok-eq0-clause-call g c = (record { answer = _; bytes = _ }, c.read_once.ensures.call, λ more. absurd (cc))
+
+pub returns-in-Ok-clause-call : goal.returns-in-Ok-clause-call
+returns-in-Ok-clause-call g c =
+    let all = appended_all _ c.read_once.new.line.items c.clear.ensures.items in (
+      record { answer = _; bytes = _ },
+      c.read_once.ensures.call,
+      gave_line _ _ _ _ _ c.cut_line_feed.result _ c.in-Ok.is all c.cut_line_feed.ensures refl,
+    )
+
+pub returns-in-Err-clause-call : goal.returns-in-Err-clause-call
+returns-in-Err-clause-call g c = (record { answer = _; bytes = _ }, c.read_once.ensures.call, λ more. absurd (cc))
+
+pub returns-in-Err-2-clause-call : goal.returns-in-Err-2-clause-call
+returns-in-Err-2-clause-call g c = (record { answer = _; bytes = _ }, c.read_once.ensures.call, λ more. absurd (cc))

@@ -22,6 +22,7 @@ returns-in_default-finish g c =
       mark = c.finish.ensures.mark ∙ went;
       untouched = λ listed. absurd (cc);
       calls = λ item. (_, _, c.send_items.ensures.calls, c.finish.ensures.calls);
+      gathers = λ item. (_, c.send_items.ensures.gathers, c.finish.ensures.calls);
     }
 
 pub returns-in-WriteFailed-clause-writes : goal.returns-in-WriteFailed-clause-writes
@@ -46,3 +47,6 @@ returns-in-WriteFailed-clause-untouched c = search rules
 
 pub returns-in-WriteFailed-clause-calls : goal.returns-in-WriteFailed-clause-calls
 returns-in-WriteFailed-clause-calls g c item = (_, _, c.send_items.ensures.calls, c.in-WriteFailed.ensures.calls)
+
+pub returns-in-WriteFailed-clause-gathers : goal.returns-in-WriteFailed-clause-gathers
+returns-in-WriteFailed-clause-gathers g c item = (_, c.send_items.ensures.gathers, c.in-WriteFailed.ensures.calls)

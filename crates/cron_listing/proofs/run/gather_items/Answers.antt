@@ -1,12 +1,17 @@
-use Rattle.std.proofs.Common.{◌≡◌, ℕ, ◌+◌, ◌-◌, ◌<◌, Option, Some, List, [], ◌++◌, sym, ap, ◌∙◌, subst, append_assoc, append-nil, arith, rules}
+use Rattle.std.proofs.Common.{◌≡◌, ℕ, ◌+◌, ◌-◌, ◌<◌, Option, Some, List, [], ◌∷◌, ◌++◌, false, Result, refl, sym, ap, ◌∙◌, subst, append_assoc, append-nil, arith, rules}
+use Rattle.std.proofs.lemmas.List.{map-append}
 use Rattle.cron_time.specs.Walk.Cursor.{Walk, Steps}
 use Rattle.cron_moments.specs.MomentText.{item_line}
 use Rattle.cron_moments.specs.Readings.{Reading}
 use Rattle.cron_listing.specs.Output.{direction, answer_line, answers_of, first_there, last_item, lines_of}
-use Rattle.cron_writer.specs.Watching.{IsGathered}
+use Rattle.std.specs.Prelude.{map}
+use Rattle.std.specs.declared.io.Error.{Error}
+use Rattle.cron_writer.specs.Calls.{AreGathered, Gathers}
+use Rattle.cron_writer.specs.Watching.{has_failed, IsGathered}
+use Rattle.cron_writer.specs.declared.watched.Watched.{Watched}
 use Rattle.cron_listing.proofs.Lines.{lines_none, lines_step, lines_stop, last_done, last_more, last_stop}
 use Rattle.cron_writer.proofs.Calling.{no_write, writes_on}
-use Rattle.cron_writer.proofs.Gathering.{gathered_part, nothing_gathered}
+use Rattle.cron_writer.proofs.Gathering.{gathered_on, gathered_part, nothing_gathered}
 use Rattle.cron_listing.proofs.run.gather_items.Goals as goal
 
 one_less : (count i : ℕ) → i < count → count - i ≡ count - (i + 1) + 1
@@ -29,9 +34,17 @@ still back w count i all so_far h e = e ∙ ap (λ (n : ℕ). first_there (last_
 no_more : (all sent rest : List ℕ) → all ≡ sent ++ rest → rest ≡ [] → sent ≡ all
 no_more all sent rest e n = sym (e ∙ (ap (λ (l : List ℕ). sent ++ l) n ∙ append-nil sent))
 
+-- the line of one more item was gathered
+one_gathered :
+    {W : Type 0} (writes : W → List ℕ → Result ℕ Error → W → Type 0) (r : Reading) (old mid new : Watched W) (held kept : List ℕ)
+    → (items : List Reading) × AreGathered writes (map item_line items) old mid [] held → has_failed mid ≡ false
+    → Gathers writes mid new held kept (item_line r) → (items : List Reading) × AreGathered writes (map item_line items) old new [] kept
+one_gathered writes r old mid new held kept (items, h) fresh g =
+    (items ++ r ∷ [], rw (map-append item_line items (r ∷ [])) (gathered_on writes (map item_line items) (item_line r) old mid new [] held kept h fresh g))
+
 pub returns-in_default-clause-lines : goal.returns-in_default-clause-lines
 returns-in_default-clause-lines g c =
-    let (so_far, split, was, kept, made) = c.loop.invariant in
+    let (so_far, split, was, kept, made, fresh, items) = c.loop.invariant in
     let steps = subst (λ (r : Option Reading). Steps (direction c.args.back) c.loop.walk r c.step.new.walk) c.in_default.is c.step.ensures in
     let end = ap (lines_of c.args.back c.loop.walk) (one_less c.args.count c.loop.counter c.loop-test.true)
     ∙ lines_stop c.args.back c.loop.walk c.step.new.walk (c.args.count - (c.loop.counter + 1)) steps in
@@ -39,7 +52,7 @@ returns-in_default-clause-lines g c =
 
 pub returns-then-failed-clause-lines : goal.returns-then-failed-clause-lines
 returns-then-failed-clause-lines g c =
-    let (so_far, split, was, kept, made) = c.loop.invariant in
+    let (so_far, split, was, kept, made, fresh, items) = c.loop.invariant in
     let steps = subst (λ (r : Option Reading). Steps (direction c.args.back) c.loop.walk r c.step.new.walk) c.in-Some.is c.step.ensures in
     let line = ap item_line c.show.ensures in
     gathered_part _ _ _ _ _ (so_far ++ item_line c.show.new.self) _
@@ -48,11 +61,11 @@ returns-then-failed-clause-lines g c =
 
 pub loop-init : goal.loop-init
 loop-init g c =
-    ([], search rules, rw c.requires.nothing (nothing_gathered _ _), search rules, no_write _ _ _)
+    ([], search rules, rw c.requires.nothing (nothing_gathered _ _), search rules, no_write _ _ _, c.requires.fresh, ([], (refl, c.requires.nothing)))
 
 pub loop-preserved : goal.loop-preserved
 loop-preserved g c =
-    let (so_far, split, was, kept, made) = c.loop.invariant in
+    let (so_far, split, was, kept, made, fresh, items) = c.loop.invariant in
     let steps = subst (λ (r : Option Reading). Steps (direction c.args.back) c.loop.walk r c.step.new.walk) c.in-Some.is c.step.ensures in
     let line = ap item_line c.show.ensures in (
       so_far ++ item_line c.show.new.self,
@@ -62,36 +75,48 @@ loop-preserved g c =
       last_more c.args.back c.loop.walk c.step.new.walk c.in-Some.moment (c.args.count - (c.loop.counter + 1)) _ c.loop.last
           (still c.args.back c.loop.walk c.args.count c.loop.counter _ c.loop.last c.loop-test.true kept) steps,
       writes_on _ _ _ _ _ _ _ made c.push_to.ensures.calls,
+      sym c.failed.ensures ∙ c.if-failed.false,
+      one_gathered _ c.show.new.self _ _ _ _ _ items fresh c.push_to.ensures.gathers,
     )
 
 pub returns-clause-lines : goal.returns-clause-lines
 returns-clause-lines g c =
-    let (so_far, split, was, kept, made) = c.loop.invariant in
+    let (so_far, split, was, kept, made, fresh, items) = c.loop.invariant in
     let none : c.args.count - c.loop.counter ≡ 0 = omega arith in
     let end = ap (lines_of c.args.back c.loop.walk) none ∙ lines_none c.args.back c.loop.walk in
     subst (IsGathered _ _ _ _) (no_more _ so_far _ split end) was
 
 pub returns-in_default-clause-last : goal.returns-in_default-clause-last
-returns-in_default-clause-last g c fresh =
-    let (so_far, split, was, kept, made) = c.loop.invariant in
+returns-in_default-clause-last g c unmarked =
+    let (so_far, split, was, kept, made, fresh, items) = c.loop.invariant in
     let steps = subst (λ (r : Option Reading). Steps (direction c.args.back) c.loop.walk r c.step.new.walk) c.in_default.is c.step.ensures in
     last_stop c.args.back c.loop.walk c.step.new.walk (c.args.count - (c.loop.counter + 1)) _ c.loop.last
     (still c.args.back c.loop.walk c.args.count c.loop.counter _ c.loop.last c.loop-test.true kept) steps
 
 pub returns-clause-last : goal.returns-clause-last
-returns-clause-last g c fresh =
-    let (so_far, split, was, kept, made) = c.loop.invariant in
+returns-clause-last g c unmarked =
+    let (so_far, split, was, kept, made, fresh, items) = c.loop.invariant in
     last_done c.args.back c.loop.walk (c.args.count - c.loop.counter) _ c.loop.last kept (omega arith)
 
 pub returns-then-failed-clause-last : goal.returns-then-failed-clause-last
 returns-then-failed-clause-last c = search rules
 
 pub returns-in_default-clause-calls : goal.returns-in_default-clause-calls
-returns-in_default-clause-calls g c = let (so_far, split, was, kept, made) = c.loop.invariant in made
+returns-in_default-clause-calls g c = let (so_far, split, was, kept, made, fresh, items) = c.loop.invariant in made
 
 pub returns-then-failed-clause-calls : goal.returns-then-failed-clause-calls
 returns-then-failed-clause-calls g c =
-    let (so_far, split, was, kept, made) = c.loop.invariant in writes_on _ _ _ _ _ _ _ made c.push_to.ensures.calls
+    let (so_far, split, was, kept, made, fresh, items) = c.loop.invariant in writes_on _ _ _ _ _ _ _ made c.push_to.ensures.calls
 
 pub returns-clause-calls : goal.returns-clause-calls
-returns-clause-calls g c = let (so_far, split, was, kept, made) = c.loop.invariant in made
+returns-clause-calls g c = let (so_far, split, was, kept, made, fresh, items) = c.loop.invariant in made
+
+pub returns-in_default-clause-gathers : goal.returns-in_default-clause-gathers
+returns-in_default-clause-gathers g c = let (so_far, split, was, kept, made, fresh, items) = c.loop.invariant in items
+
+pub returns-then-failed-clause-gathers : goal.returns-then-failed-clause-gathers
+returns-then-failed-clause-gathers g c =
+    let (so_far, split, was, kept, made, fresh, items) = c.loop.invariant in one_gathered _ c.show.new.self _ _ _ _ _ items fresh c.push_to.ensures.gathers
+
+pub returns-clause-gathers : goal.returns-clause-gathers
+returns-clause-gathers g c = let (so_far, split, was, kept, made, fresh, items) = c.loop.invariant in items

@@ -1,6 +1,6 @@
 use Rattle.std.proofs.Common.{◌≡◌, Bool, Option, [], List, ℕ, subst}
 use Rattle.cron_writer.specs.Watching.{IsSent}
-use Rattle.cron_writer.proofs.Calling.{handed_on}
+use Rattle.cron_writer.specs.Calls.{HandsOn}
 use Rattle.cron_writer.proofs.Sending.{nothing_sent}
 use Rattle.cron_listing.proofs.run.refuse.Goals as goal
 
@@ -13,4 +13,4 @@ returns-clause-ends g c =
     (c.send.ensures.sent _ [] (nothing_sent _ _)))
 
 pub returns-clause-calls : goal.returns-clause-calls
-returns-clause-calls g c = (_, _, handed_on _ _ _ _ _ _ c.send.ensures.calls, c.finish.ensures.calls)
+returns-clause-calls g c = (_, _, subst (HandsOn _ _ _ _ _) c.as_bytes.ensures.value c.send.ensures.calls, c.finish.ensures.calls)

@@ -42,3 +42,6 @@ returns-in-Ok-clause-calls g c = (_, _, c.send_items-last.ensures.calls, c.finis
 
 pub returns-in-Err-clause-calls : goal.returns-in-Err-clause-calls
 returns-in-Err-clause-calls g c = (_, _, c.send_complaint.ensures.calls, c.finish-in-Err.ensures.calls)
+
+pub returns-in-Ok-clause-gathers : goal.returns-in-Ok-clause-gathers
+returns-in-Ok-clause-gathers g c listed = (_, c.send_items-last.ensures.gathers, c.finish.ensures.calls)

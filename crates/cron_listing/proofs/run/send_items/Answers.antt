@@ -17,3 +17,7 @@ returns-clause-lines c = search rules
 
 pub returns-clause-calls : goal.returns-clause-calls
 returns-clause-calls g c = writes_on _ _ _ _ _ _ _ c.gather_items-last.ensures.calls (handed_on _ _ _ _ _ _ c.send.ensures.calls)
+
+pub returns-clause-gathers : goal.returns-clause-gathers
+returns-clause-gathers g c =
+    let (items, gathered) = c.gather_items-last.ensures.gathers in (items, (_, _, gathered, c.send.ensures.calls))
