@@ -6,3 +6,5 @@ pub mod answer;
 pub mod arguments;
 pub mod printer;
 pub mod ring;
+#[cfg(test)]
+mod tests;
