@@ -1,4 +1,5 @@
 //! What callers of `cron` promise, proved from its public contracts alone, and each run once.
+//! `cron_layers` has its tests.
 #![tactic(auto)]
 
 mod check;
@@ -7,8 +8,6 @@ mod instants;
 mod items;
 mod literals;
 mod restarts;
-#[cfg(test)]
-mod tests;
 mod units;
 
 pub use check::fault_of;

@@ -23,8 +23,6 @@ use jiff::tz::TimeZone;
 
 pub mod laws;
 mod runs;
-#[cfg(test)]
-mod tests;
 
 pub use runs::{Fires, missed};
 

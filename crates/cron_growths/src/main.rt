@@ -2,6 +2,7 @@
 //! the growths between the lines.
 #![tactic(auto)]
 
+mod checks;
 mod fires;
 mod lines;
 mod readers;
@@ -15,5 +16,6 @@ fn main(rt: HostRuntime) -> Result<(), Error> {
     searches::run(&rt, &schedule)?;
     walks::run(&rt, &schedule)?;
     fires::run(&rt, &schedule)?;
-    lines::run(&rt, &schedule)
+    lines::run(&rt, &schedule)?;
+    checks::run(&rt)
 }

@@ -10,7 +10,6 @@ use cron_units::way::Way;
 use std::fmt::Display;
 use std::ops::Bound;
 use std::process::Abort;
-use std::test::Fail;
 
 /// Makes the set of what items denote, as far as they aren't refused.
 fn set_of<T: TimeUnitField>(items: &[Item<'_>]) -> T {
@@ -27,14 +26,9 @@ fn summer() -> Months {
 }
 
 /// Compares the members of a set with those that are wanted.
-fn check_members<T: TimeUnitField>(
-    rt: &(impl Abort + AllocGlobal),
-    set: &T,
-    wanted: &[u32],
-) -> Result<(), Fail> {
-    let told: Vec<u32> = set.iter().collect(rt.alloc())?;
+fn check_members<T: TimeUnitField>(rt: &(impl Abort + AllocGlobal), set: &T, wanted: &[u32]) {
+    let told: Vec<u32> = set.iter().collect(rt.alloc()).expect(rt, "memory");
     assert_eq!(rt; told.as_slice(), wanted);
-    Ok(())
 }
 
 /// Compares the next member from each end with what is wanted.
@@ -54,14 +48,9 @@ fn check_nearest<T: TimeUnitField>(rt: &impl Abort, set: &T, way: Way, ordinal: 
 }
 
 /// Compares what a value shows with a text.
-fn check_text(
-    rt: &(impl Abort + AllocGlobal),
-    value: &impl Display,
-    wanted: &str,
-) -> Result<(), Fail> {
-    let told = value.to_string(rt.alloc())?;
+fn check_text(rt: &(impl Abort + AllocGlobal), value: &impl Display, wanted: &str) {
+    let told = value.to_string(rt.alloc()).expect(rt, "memory");
     assert_eq!(rt; told.as_str(), wanted);
-    Ok(())
 }
 
 #[test]
@@ -74,13 +63,12 @@ fn the_ends_of_a_set_meet(rt: HostRuntime) {
 }
 
 #[test]
-fn a_range_holds_its_included_bounds(rt: HostRuntime) -> Result<(), Fail> {
+fn a_range_holds_its_included_bounds(rt: HostRuntime) {
     let months = summer();
     let mut members = months.range((Bound::Included(1), Bound::Included(6)));
     assert_eq!(rt; members.next(), Some(5));
     assert_eq!(rt; members.next_back(), Some(6));
     assert_eq!(rt; members.next(), None);
-    Ok(())
 }
 
 #[test]
@@ -116,29 +104,28 @@ fn a_unit_tells_its_name_and_its_question_mark(rt: HostRuntime) {
 }
 
 #[test]
-fn an_unknown_name_is_named(rt: HostRuntime) -> Result<(), Fail> {
+fn an_unknown_name_is_named(rt: HostRuntime) {
     let unknown = RefusedItem {
         definition: Months::definition(),
         refusal: Refusal::UnknownName("Foo"),
     };
-    check_text(&rt, &unknown, "'Foo' is not a valid month name.")
+    check_text(&rt, &unknown, "'Foo' is not a valid month name.");
 }
 
 const TOO_LARGE: &str = "Hours must be less than 23. ('24' specified.)";
 
 #[test]
-fn an_error_holds_its_message(rt: HostRuntime) -> Result<(), Fail> {
+fn an_error_holds_its_message(rt: HostRuntime) {
     let large = RefusedItem {
         definition: Hours::definition(),
         refusal: Refusal::TooLarge(24),
     };
     let error = refused(rt.alloc(), large);
-    check_text(&rt, &error, TOO_LARGE)?;
+    check_text(&rt, &error, TOO_LARGE);
     let ErrorKind::Expression(text) = error.kind() else {
-        return Err(error.into());
+        panic!(rt; "no error of an expression");
     };
     assert_eq!(rt; text.as_str(), TOO_LARGE);
-    Ok(())
 }
 
 /// Makes the years at the ends of the words that hold a set.
@@ -155,10 +142,10 @@ fn edges() -> Years {
 }
 
 #[test]
-fn years_stand_in_three_words(rt: HostRuntime) -> Result<(), Fail> {
+fn years_stand_in_three_words(rt: HostRuntime) {
     let years = edges();
     assert_eq!(rt; years.count(), 6);
-    check_members(&rt, &years, &[1970, 2033, 2034, 2097, 2098, 2100])
+    check_members(&rt, &years, &[1970, 2033, 2034, 2097, 2098, 2100]);
 }
 
 // The bounds of the middle word's ends.
@@ -192,20 +179,16 @@ fn the_nearest_year_may_stand_in_another_word(rt: HostRuntime) {
 }
 
 /// Compares the years of an item with those that are wanted.
-fn check_years(
-    rt: &(impl Abort + AllocGlobal),
-    item: Item<'_>,
-    wanted: &[u32],
-) -> Result<(), Fail> {
+fn check_years(rt: &(impl Abort + AllocGlobal), item: Item<'_>, wanted: &[u32]) {
     let years: Years = set_of(&[item]);
-    check_members(rt, &years, wanted)
+    check_members(rt, &years, wanted);
 }
 
 #[test]
-fn years_go_on_by_steps(rt: HostRuntime) -> Result<(), Fail> {
-    check_years(&rt, Item::Stepped(Base::Every, 63), &[1970, 2033, 2096])?;
-    check_years(&rt, Item::Stepped(Base::Single(2098), 2), &[2098, 2100])?;
-    check_years(&rt, Item::Stepped(Base::Every, 2100), &[1970])
+fn years_go_on_by_steps(rt: HostRuntime) {
+    check_years(&rt, Item::Stepped(Base::Every, 63), &[1970, 2033, 2096]);
+    check_years(&rt, Item::Stepped(Base::Single(2098), 2), &[2098, 2100]);
+    check_years(&rt, Item::Stepped(Base::Every, 2100), &[1970]);
 }
 
 #[test]

@@ -12,24 +12,25 @@ mod pages;
 mod wanting;
 mod writers;
 
-use std::alloc::{AllocError, Global};
-use std::test::Fail;
+use std::alloc::Global;
+use std::process::Abort;
 
-fn push_text(texts: &mut Vec<String>, alloc: Global, text: &str) -> Result<(), AllocError> {
-    texts.push(String::from_str(alloc, text)?)?;
-    Ok(())
+fn push_text(rt: &(impl Abort + AllocGlobal), texts: &mut Vec<String>, text: &str) {
+    texts
+        .push(String::from_str(rt.alloc(), text).expect(rt, "memory"))
+        .expect(rt, "memory");
 }
 
 // The arguments of a command line, which `|` stands between.
-fn arguments_in(alloc: Global, line: &str) -> Result<Vec<String>, AllocError> {
-    let mut arguments = Vec::new(alloc);
+fn arguments_in(rt: &(impl Abort + AllocGlobal), line: &str) -> Vec<String> {
+    let mut arguments = Vec::new(rt.alloc());
     for argument in line.split('|') {
-        push_text(&mut arguments, alloc, argument)?;
+        push_text(rt, &mut arguments, argument);
     }
-    Ok(arguments)
+    arguments
 }
 
 // So many first bytes of a text.
-fn cut(text: &str, room: usize) -> Result<&str, Fail> {
-    Ok(text.get(..room).ok_or("no letter ends here")?)
+fn cut<'a>(rt: &impl Abort, text: &'a str, room: usize) -> &'a str {
+    text.get(..room).expect(rt, "no letter ends here")
 }

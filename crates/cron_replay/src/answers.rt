@@ -73,16 +73,20 @@ fn add_days(alloc: Global, text: &mut String, days: &DaysOfMonth) -> Result<(), 
     text.push('L')
 }
 
-/// Writes the seven sets, from the seconds to the years.
+/// Adds the seven sets, from the seconds to the years.
+fn add_sets(alloc: Global, text: &mut String, schedule: &Schedule) -> Result<(), AllocError> {
+    add_set(alloc, text, schedule.seconds(), "0-59")?;
+    add_set(alloc, text, schedule.minutes(), "0-59")?;
+    add_set(alloc, text, schedule.hours(), "0-23")?;
+    add_days(alloc, text, schedule.days_of_month())?;
+    add_set(alloc, text, schedule.months(), "1-12")?;
+    add_set(alloc, text, schedule.days_of_week(), "1-7")?;
+    add_set(alloc, text, schedule.years(), "1970-2100")
+}
+
 fn sets_text(alloc: Global, schedule: &Schedule) -> Result<String, AllocError> {
     let mut text = String::new(alloc);
-    add_set(alloc, &mut text, schedule.seconds(), "0-59")?;
-    add_set(alloc, &mut text, schedule.minutes(), "0-59")?;
-    add_set(alloc, &mut text, schedule.hours(), "0-23")?;
-    add_days(alloc, &mut text, schedule.days_of_month())?;
-    add_set(alloc, &mut text, schedule.months(), "1-12")?;
-    add_set(alloc, &mut text, schedule.days_of_week(), "1-7")?;
-    add_set(alloc, &mut text, schedule.years(), "1970-2100")?;
+    add_sets(alloc, &mut text, schedule)?;
     Ok(text)
 }
 

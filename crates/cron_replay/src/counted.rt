@@ -25,6 +25,11 @@ struct Tally {
 }
 
 impl Tally {
+    /// No fires.
+    fn new() -> Tally {
+        Tally { count: 0, sum: 0 }
+    }
+
     fn add(self, fire: Moment) -> Tally {
         let moved = self.sum.wrapping_mul(FACTOR);
         Tally {
@@ -34,27 +39,30 @@ impl Tally {
     }
 }
 
-/// The fires of one run.
-fn uncut(setting: &Setting, end: Timestamp) -> Tally {
-    let mut tally = Tally { count: 0, sum: 0 };
-    for fire in Fires::between(&setting.schedule, setting.start, end, &setting.zone) {
+/// A tally with the fires after one instant and not after another added.
+fn add_fires(tally: Tally, setting: &Setting, from: Timestamp, to: Timestamp) -> Tally {
+    let mut tally = tally;
+    for fire in Fires::between(&setting.schedule, from, to, &setting.zone) {
         tally = tally.add(fire);
     }
     tally
 }
 
+/// The fires of one run.
+fn uncut(setting: &Setting, end: Timestamp) -> Tally {
+    add_fires(Tally::new(), setting, setting.start, end)
+}
+
 /// The fires of runs over an hour each.
 fn hour_by_hour(setting: &Setting, end: Timestamp) -> Result<Tally> {
-    let mut tally = Tally { count: 0, sum: 0 };
+    let mut tally = Tally::new();
     let mut from = setting.start;
     for _ in 0..u64::MAX {
         if from >= end {
             break;
         }
         let to = from.saturating_add(SignedDuration::from_hours(1))?.min(end);
-        for fire in Fires::between(&setting.schedule, from, to, &setting.zone) {
-            tally = tally.add(fire);
-        }
+        tally = add_fires(tally, setting, from, to);
         from = to;
     }
     Ok(tally)
@@ -62,7 +70,7 @@ fn hour_by_hour(setting: &Setting, end: Timestamp) -> Result<Tally> {
 
 /// The fires of runs that are cut after ten, each gone on with from its last fire.
 fn ten_by_ten(setting: &Setting, end: Timestamp) -> Tally {
-    let mut tally = Tally { count: 0, sum: 0 };
+    let mut tally = Tally::new();
     let mut run = Fires::after(&setting.schedule, setting.start, &setting.zone);
     for count in 1..u64::MAX {
         let Some(fire) = run.next() else {
@@ -79,20 +87,37 @@ fn ten_by_ten(setting: &Setting, end: Timestamp) -> Tally {
     tally
 }
 
+/// Compares a tally with that of a row.
+fn compare_tally(
+    report: &mut Report<'_>,
+    row: Row<'_>,
+    cut_by: &str,
+    answers: &str,
+    tally: Tally,
+) -> Result<()> {
+    let (count, sum) = (tally.count, tally.sum);
+    let told = format!(in report.alloc(); "{count}, {sum}")?;
+    report.compare(row, cut_by, answers, told.as_str())
+}
+
+/// Compares the tallies of runs that are cut in each way.
+fn compare_tallies(
+    report: &mut Report<'_>,
+    row: Row<'_>,
+    setting: &Setting,
+    end: Timestamp,
+    answers: &str,
+) -> Result<()> {
+    let by_hour = hour_by_hour(setting, end)?;
+    compare_tally(report, row, "one run", answers, uncut(setting, end))?;
+    compare_tally(report, row, "hour by hour", answers, by_hour)?;
+    compare_tally(report, row, "ten by ten", answers, ten_by_ten(setting, end))
+}
+
 pub(crate) fn replay(report: &mut Report<'_>, row: Row<'_>) -> Result<()> {
-    let alloc = report.alloc();
     let case = case_of(row.text)?;
     let (end, answers) = cut(case.rest)?;
-    let setting = setting_of(alloc, case)?;
+    let setting = setting_of(report.alloc(), case)?;
     let end = start_at(end, &setting.zone)?;
-    for (cut_by, tally) in [
-        ("one run", uncut(&setting, end)),
-        ("hour by hour", hour_by_hour(&setting, end)?),
-        ("ten by ten", ten_by_ten(&setting, end)),
-    ] {
-        let (count, sum) = (tally.count, tally.sum);
-        let told = format!(in alloc; "{count}, {sum}")?;
-        report.compare(row, cut_by, answers, told.as_str())?;
-    }
-    Ok(())
+    compare_tallies(report, row, &setting, end, answers)
 }

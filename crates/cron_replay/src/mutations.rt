@@ -34,37 +34,48 @@ fn place_at(text: &str, at: usize) -> Option<Place<'_>> {
     })
 }
 
-/// The text with the character and the next one exchanged, where there is a next one.
-fn exchanged(alloc: Global, place: Place<'_>) -> Result<Option<String>, AllocError> {
+/// Adds the text with the character and the next one exchanged, where there is a next one.
+fn push_exchanged(
+    texts: &mut Vec<String>,
+    alloc: Global,
+    place: Place<'_>,
+) -> Result<(), AllocError> {
     let Place {
         front,
         character,
         back,
     } = place;
     let mut rest = back.chars();
-    let Some(next) = rest.next() else {
-        return Ok(None);
-    };
-    let rest = rest.as_str();
-    Ok(Some(format!(in alloc; "{front}{next}{character}{rest}")?))
+    if let Some(next) = rest.next() {
+        let rest = rest.as_str();
+        texts.push(format!(in alloc; "{front}{next}{character}{rest}")?)?;
+    }
+    Ok(())
 }
 
-/// The texts in which the character is dropped, doubled, exchanged with the next one, and replaced.
-fn changed(alloc: Global, place: Place<'_>) -> Result<Vec<String>, AllocError> {
+/// Adds the texts in which the character is dropped, doubled, exchanged with the next one, and replaced.
+fn push_changed(
+    texts: &mut Vec<String>,
+    alloc: Global,
+    place: Place<'_>,
+) -> Result<(), AllocError> {
     let Place {
         front,
         character,
         back,
     } = place;
-    let mut texts = Vec::new(alloc);
     texts.push(format!(in alloc; "{front}{back}")?)?;
     texts.push(format!(in alloc; "{front}{character}{character}{back}")?)?;
-    if let Some(text) = exchanged(alloc, place)? {
-        texts.push(text)?;
-    }
+    push_exchanged(texts, alloc, place)?;
     for other in OTHERS.chars() {
         texts.push(format!(in alloc; "{front}{other}{back}")?)?;
     }
+    Ok(())
+}
+
+fn changed(alloc: Global, place: Place<'_>) -> Result<Vec<String>, AllocError> {
+    let mut texts = Vec::new(alloc);
+    push_changed(&mut texts, alloc, place)?;
     Ok(texts)
 }
 

@@ -118,15 +118,24 @@ impl Source {
     }
 }
 
-pub(crate) fn replay(report: &mut Report<'_>, row: Row<'_>) -> Result<()> {
-    let alloc = report.alloc();
-    let case = case_of(row.text)?;
-    let (now, answers) = cut(case.rest)?;
-    let setting = setting_of(alloc, case)?;
-    let now = start_at(now, &setting.zone)?;
+fn compare_sources(
+    report: &mut Report<'_>,
+    row: Row<'_>,
+    setting: &Setting,
+    now: Timestamp,
+    answers: &str,
+) -> Result<()> {
     for source in SOURCES {
-        let told = source.told(alloc, &setting, now)?;
+        let told = source.told(report.alloc(), setting, now)?;
         report.compare(row, source.name(), answers, told.as_str())?;
     }
     Ok(())
+}
+
+pub(crate) fn replay(report: &mut Report<'_>, row: Row<'_>) -> Result<()> {
+    let case = case_of(row.text)?;
+    let (now, answers) = cut(case.rest)?;
+    let setting = setting_of(report.alloc(), case)?;
+    let now = start_at(now, &setting.zone)?;
+    compare_sources(report, row, &setting, now, answers)
 }

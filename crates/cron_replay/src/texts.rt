@@ -18,6 +18,20 @@ use crate::characters::text_meant;
 use crate::readers::{READERS, Reader};
 use crate::report::{Report, Row, cut};
 use anyhow::Result;
+use cron::Schedule;
+use cron::error::Error;
+use std::alloc::{AllocError, Global};
+
+fn compare_outcome(
+    report: &mut Report<'_>,
+    row: Row<'_>,
+    reader: Reader,
+    read: &Result<Schedule, Error>,
+    answer: &str,
+) -> Result<()> {
+    let told = outcome(report.alloc(), read)?;
+    report.compare(row, reader.name(), answer, told.as_str())
+}
 
 /// Compares what a reader makes of a text, and what is kept of it: a schedule keeps the text, and a
 /// refusal its message.
@@ -29,16 +43,19 @@ pub(crate) fn compare_reader(
     answer: &str,
 ) -> Result<()> {
     let read = reader.read(report.alloc(), text);
-    let told = outcome(report.alloc(), &read)?;
-    report.compare(row, reader.name(), answer, told.as_str())?;
+    compare_outcome(report, row, reader, &read, answer)?;
     let wanted = if read.is_ok() { text } else { answer };
     report.compare(row, "what is kept", wanted, kept(&read))
 }
 
+/// What `from_str` makes of a text.
+fn answer_of(alloc: Global, text: &str) -> Result<String, AllocError> {
+    outcome(alloc, &Reader::FromStr.read(alloc, text))
+}
+
 /// Compares what the other readers make of a text with what `from_str` makes of it.
 pub(crate) fn compare_readers(report: &mut Report<'_>, row: Row<'_>, text: &str) -> Result<()> {
-    let read = Reader::FromStr.read(report.alloc(), text);
-    let answer = outcome(report.alloc(), &read)?;
+    let answer = answer_of(report.alloc(), text)?;
     for reader in READERS {
         if !matches!(reader, Reader::FromStr) {
             compare_reader(report, row, reader, text, answer.as_str())?;

@@ -19,13 +19,13 @@
 //! `walks_of_eight_calls.txt` has every list of eight calls from four starts about a fold of four items,
 //! with what an index answers that is moved along these items.
 
-use crate::makers::MAKERS;
+use crate::makers::{MAKERS, Maker};
 use crate::report::{Report, Row, cut};
-use crate::settings::{case_of, listed, setting_of};
+use crate::settings::{Case, Setting, case_of, listed, setting_of};
 use crate::texts::compare_beginnings;
 use anyhow::{Result, bail};
 use cron::schedule::Turn;
-use std::alloc::Global;
+use std::alloc::{AllocError, Global};
 
 /// The call that a character stands for.
 fn turn_of(call: char) -> Result<Turn> {
@@ -45,15 +45,47 @@ fn turns_of(alloc: Global, calls: &str) -> Result<Vec<Turn>> {
     Ok(turns)
 }
 
+/// What a walk of one maker answers to these calls.
+fn told_by(
+    alloc: Global,
+    maker: Maker,
+    setting: &Setting,
+    turns: &[Turn],
+) -> Result<String, AllocError> {
+    let answers = maker.answers(alloc, setting, turns)?;
+    listed(alloc, answers.as_slice())
+}
+
+fn compare_makers(
+    report: &mut Report<'_>,
+    row: Row<'_>,
+    setting: &Setting,
+    turns: &[Turn],
+    answers: &str,
+) -> Result<()> {
+    for maker in MAKERS {
+        let told = told_by(report.alloc(), maker, setting, turns)?;
+        report.compare(row, maker.name(), answers, told.as_str())?;
+    }
+    Ok(())
+}
+
+/// Compares what the walks of all makers answer.
+fn compare_walks(
+    report: &mut Report<'_>,
+    row: Row<'_>,
+    case: Case<'_>,
+    calls: &str,
+    answers: &str,
+) -> Result<()> {
+    let turns = turns_of(report.alloc(), calls)?;
+    let setting = setting_of(report.alloc(), case)?;
+    compare_makers(report, row, &setting, turns.as_slice(), answers)
+}
+
 pub(crate) fn replay(report: &mut Report<'_>, row: Row<'_>) -> Result<()> {
     let case = case_of(row.text)?;
     let (calls, answers) = cut(case.rest)?;
-    let turns = turns_of(report.alloc(), calls)?;
-    let setting = setting_of(report.alloc(), case)?;
-    for maker in MAKERS {
-        let told = maker.answers(report.alloc(), &setting, turns.as_slice())?;
-        let told = listed(report.alloc(), told.as_slice())?;
-        report.compare(row, maker.name(), answers, told.as_str())?;
-    }
+    compare_walks(report, row, case, calls, answers)?;
     compare_beginnings(report, row, case.expression)
 }

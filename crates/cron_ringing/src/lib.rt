@@ -6,5 +6,3 @@ pub mod answer;
 pub mod arguments;
 pub mod printer;
 pub mod ring;
-#[cfg(test)]
-mod tests;

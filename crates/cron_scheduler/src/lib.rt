@@ -20,8 +20,6 @@ mod machine;
 mod plan;
 mod runs;
 mod stop;
-#[cfg(test)]
-mod tests;
 
 pub use clock::AlarmClock;
 pub use job::Job;

@@ -6,7 +6,6 @@ use cron_writer::watched::Watched;
 use jiff::tz::TimeZone;
 use std::io::{self, BufReader, ErrorKind, Read};
 use std::process::Abort;
-use std::test::Fail;
 
 // A file is told so, with its faults alone, and the check ends so.
 fn check_faults(rt: &(impl Abort + AllocGlobal), file: &[u8], outcome: Outcome, told: &str) {
@@ -37,7 +36,7 @@ fn check_sets(rt: &(impl Abort + AllocGlobal), file: &[u8], outcome: Outcome, to
 }
 
 #[test]
-fn lines_end_in_line_feeds(rt: HostRuntime) -> Result<(), Fail> {
+fn lines_end_in_line_feeds(rt: HostRuntime) {
     let read = Outcome::AllRead;
     check_faults(&rt, b"", read, "");
     check_faults(&rt, b"\n\n\r\n \t\r\n", read, "");
@@ -50,11 +49,10 @@ fn lines_end_in_line_feeds(rt: HostRuntime) -> Result<(), Fail> {
         read,
         "1: 0 0 0 * * * *\n3: 0 0 * * * * *\n",
     );
-    Ok(())
 }
 
 #[test]
-fn refused_lines_are_numbered(rt: HostRuntime) -> Result<(), Fail> {
+fn refused_lines_are_numbered(rt: HostRuntime) {
     let refused = Outcome::SomeRefused;
     let told = "2: Seconds must be less than 59. ('60' specified.)\n4: Invalid cron expression.\n";
     let file = b"@daily\n60 * * * * *\n#\n* * * * *\n".as_slice();
@@ -65,13 +63,12 @@ fn refused_lines_are_numbered(rt: HostRuntime) -> Result<(), Fail> {
         refused,
         "1: Invalid cron expression.\n2: Invalid cron expression.\n",
     );
-    Ok(())
 }
 
 // The last day of February in 2024 is a Thursday, and no thirtieth is in it.
 #[test]
-fn the_first_fire_or_none_is_told(rt: HostRuntime) -> Result<(), Fail> {
-    let start = "2024-02-01T00:00:00Z".parse()?;
+fn the_first_fire_or_none_is_told(rt: HostRuntime) {
+    let start = "2024-02-01T00:00:00Z".parse().expect(&rt, "an instant");
     let mode = Mode::Next(start, TimeZone::UTC);
     let file = "0 0 12 L 2 *\n0 0 0 30 2 *\n0 0 0 L 2 Fri\n";
     let mut reader = file.as_bytes();
@@ -80,11 +77,10 @@ fn the_first_fire_or_none_is_told(rt: HostRuntime) -> Result<(), Fail> {
     assert_eq!(rt; end, Outcome::AllRead);
     let told = "1: 2024-02-29 12:00:00 +00:00\n2: none\n3: 2025-02-28 00:00:00 +00:00\n";
     assert_eq!(rt; out.into_inner().as_slice(), told.as_bytes());
-    Ok(())
 }
 
 #[test]
-fn a_line_that_is_not_utf8_ends_the_check(rt: HostRuntime) -> Result<(), Fail> {
+fn a_line_that_is_not_utf8_ends_the_check(rt: HostRuntime) {
     let ended = Outcome::NotUtf8;
     check_faults(&rt, b"@daily\n# \xff\n60", ended, "2: not UTF-8\n");
     check_sets(
@@ -93,25 +89,25 @@ fn a_line_that_is_not_utf8_ends_the_check(rt: HostRuntime) -> Result<(), Fail> {
         ended,
         "1: 0 0 0 * * * *\n2: not UTF-8\n",
     );
-    Ok(())
 }
 
 // A word of a million letters.
 #[test]
-fn a_long_line_is_told_whole(rt: HostRuntime) -> Result<(), Fail> {
+fn a_long_line_is_told_whole(rt: HostRuntime) {
     let mut file = Vec::new(rt.alloc());
     let mut told = String::from_str(
         rt.alloc(),
         "1: The 'Seconds' field does not support using names. '",
-    )?;
+    )
+    .expect(&rt, "memory");
     for _ in 0..1_000_000 {
-        file.push(b'a')?;
-        told.push('a')?;
+        file.push(b'a').expect(&rt, "memory");
+        told.push('a').expect(&rt, "memory");
     }
-    told.push_str("' specified.\n")?;
-    file.extend_from_slice(b" * * * * *\n")?;
+    told.push_str("' specified.\n").expect(&rt, "memory");
+    file.extend_from_slice(b" * * * * *\n")
+        .expect(&rt, "memory");
     check_faults(&rt, file.as_slice(), Outcome::SomeRefused, told.as_str());
-    Ok(())
 }
 
 /// Gives one byte a call, and fails at the end.
@@ -141,21 +137,20 @@ fn check_failing(
     kind: ErrorKind,
     outcome: Outcome,
     told: &str,
-) -> Result<(), Fail> {
-    let mut reader = BufReader::new(rt.alloc(), Failing { rest: file, kind })?;
+) {
+    let mut reader = BufReader::new(rt.alloc(), Failing { rest: file, kind }).expect(rt, "memory");
     let mut out = Watched::new(Vec::new(rt.alloc()));
     let end = check(rt.alloc(), &Mode::Faults, &mut reader, &mut out);
     assert_eq!(rt; end, outcome);
     assert_eq!(rt; out.into_inner().as_slice(), told.as_bytes());
-    Ok(())
 }
 
 #[test]
-fn a_failed_read_ends_the_check(rt: HostRuntime) -> Result<(), Fail> {
+fn a_failed_read_ends_the_check(rt: HostRuntime) {
     let told = "1: Invalid cron expression.\nerror: the file can't be read\n";
     let broken = Outcome::Unreadable;
-    check_failing(&rt, b"0\n60 * ", ErrorKind::ConnectionReset, broken, told)?;
-    check_failing(&rt, b"0\n", ErrorKind::IsADirectory, broken, told)?;
+    check_failing(&rt, b"0\n60 * ", ErrorKind::ConnectionReset, broken, told);
+    check_failing(&rt, b"0\n", ErrorKind::IsADirectory, broken, told);
     let wanting = "1: Invalid cron expression.\nerror: out of memory\n";
     check_failing(
         &rt,
@@ -163,5 +158,5 @@ fn a_failed_read_ends_the_check(rt: HostRuntime) -> Result<(), Fail> {
         ErrorKind::OutOfMemory,
         Outcome::OutOfMemory,
         wanting,
-    )
+    );
 }

@@ -2,33 +2,28 @@
 
 use cron_checking::arguments::request_of;
 use cron_checking::line::Mode;
-use std::alloc::{AllocError, Global};
 use std::process::Abort;
-use std::test::Fail;
 
 // The words of a line, which `|` stands between.
-fn words_in(alloc: Global, line: &str) -> Result<Vec<String>, AllocError> {
-    let mut words = Vec::new(alloc);
+fn words_in(rt: &(impl Abort + AllocGlobal), line: &str) -> Vec<String> {
+    let mut words = Vec::new(rt.alloc());
     if line.is_empty() {
-        return Ok(words);
+        return words;
     }
     for word in line.split('|') {
-        words.push(String::from_str(alloc, word)?)?;
+        words
+            .push(String::from_str(rt.alloc(), word).expect(rt, "memory"))
+            .expect(rt, "memory");
     }
-    Ok(words)
+    words
 }
 
 // The words ask for this file in this mode: `faults`, `sets`, `next`, or `none` where they can't be read.
-fn check_words(
-    rt: &(impl Abort + AllocGlobal),
-    line: &str,
-    mode: &str,
-    file: Option<&str>,
-) -> Result<(), Fail> {
-    let words = words_in(rt.alloc(), line)?;
+fn check_words(rt: &(impl Abort + AllocGlobal), line: &str, mode: &str, file: Option<&str>) {
+    let words = words_in(rt, line);
     let Some(request) = request_of(words.as_slice()) else {
         assert_eq!(rt; mode, "none", "{line}");
-        return Ok(());
+        return;
     };
     let found = match request.mode {
         Mode::Faults => "faults",
@@ -37,22 +32,21 @@ fn check_words(
     };
     assert_eq!(rt; found, mode, "{line}");
     assert_eq!(rt; request.file, file, "{line}");
-    Ok(())
 }
 
 #[test]
-fn a_mode_and_a_path_are_read(rt: HostRuntime) -> Result<(), Fail> {
-    check_words(&rt, "", "faults", None)?;
-    check_words(&rt, "crontab", "faults", Some("crontab"))?;
-    check_words(&rt, "--sets", "sets", None)?;
-    check_words(&rt, "--sets|./--sets", "sets", Some("./--sets"))?;
-    check_words(&rt, "--next|2024-01-01T00:00:00Z|UTC", "next", None)?;
+fn a_mode_and_a_path_are_read(rt: HostRuntime) {
+    check_words(&rt, "", "faults", None);
+    check_words(&rt, "crontab", "faults", Some("crontab"));
+    check_words(&rt, "--sets", "sets", None);
+    check_words(&rt, "--sets|./--sets", "sets", Some("./--sets"));
+    check_words(&rt, "--next|2024-01-01T00:00:00Z|UTC", "next", None);
     check_words(
         &rt,
         "--next|2024-01-01T00:00:00Z|UTC|a b",
         "next",
         Some("a b"),
-    )?;
+    );
     for line in [
         "one|two",
         "--help",
@@ -62,7 +56,6 @@ fn a_mode_and_a_path_are_read(rt: HostRuntime) -> Result<(), Fail> {
         "--next|now|UTC",
         "--next|2024-01-01T00:00:00Z|Mars",
     ] {
-        check_words(&rt, line, "none", None)?;
+        check_words(&rt, line, "none", None);
     }
-    Ok(())
 }

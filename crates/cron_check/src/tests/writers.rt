@@ -8,7 +8,6 @@ use cron_writer::watchable::Watchable;
 use cron_writer::watched::Watched;
 use std::io::{self, Cursor, ErrorKind, Write};
 use std::process::Abort;
-use std::test::Fail;
 
 const FILE: &str = "@daily\n60 * * * * *\n\n0 0 9 * * 0\n";
 
@@ -25,10 +24,10 @@ fn check_to<W: Watchable>(rt: &(impl Abort + AllocGlobal), writer: W, outcome: O
 }
 
 #[test]
-fn a_failed_write_ends_the_check_where_it_stands(rt: HostRuntime) -> Result<(), Fail> {
+fn a_failed_write_ends_the_check_where_it_stands(rt: HostRuntime) {
     let told = TOLD.as_bytes();
     for room in 0..=told.len() {
-        let mut held = Vec::from_elem(rt.alloc(), 0_u8, room)?;
+        let mut held = Vec::from_elem(rt.alloc(), 0_u8, room).expect(&rt, "memory");
         let end = if room < told.len() {
             Outcome::WriteFailed
         } else {
@@ -37,7 +36,6 @@ fn a_failed_write_ends_the_check_where_it_stands(rt: HostRuntime) -> Result<(), 
         let _full = check_to(&rt, Cursor::new(held.as_mut_slice()), end);
         assert_eq!(rt; held.as_slice(), &told[..room], "at {room}");
     }
-    Ok(())
 }
 
 /// Holds every byte, and fails in the flush.
@@ -80,22 +78,21 @@ impl Write for WholeLines {
 }
 
 // How many calls tell of so many lines that are refused.
-fn calls_for(rt: &impl AllocGlobal, lines: u32) -> Result<u32, Fail> {
+fn calls_for(rt: &(impl Abort + AllocGlobal), lines: u32) -> u32 {
     let mut file = String::new(rt.alloc());
     for _ in 0..lines {
-        file.push_str("60 * * * * *\n")?;
+        file.push_str("60 * * * * *\n").expect(rt, "memory");
     }
     let mut out = Watched::new(WholeLines(0));
     let _end = check(rt.alloc(), &Mode::Faults, &mut file.as_bytes(), &mut out);
-    Ok(out.into_inner().0)
+    out.into_inner().0
 }
 
 // The line of such a fault has 51 bytes where its number has one digit, 52 where it has two, and 53 where it has three.
 // So 4,096 bytes hold those of the lines 1 to 78, and then those of the lines 79 to 155.
 #[test]
-fn lines_are_written_many_at_a_time(rt: HostRuntime) -> Result<(), Fail> {
+fn lines_are_written_many_at_a_time(rt: HostRuntime) {
     for (lines, calls) in [(0, 0), (1, 1), (78, 1), (79, 2), (155, 2), (156, 3)] {
-        assert_eq!(rt; calls_for(&rt, lines)?, calls, "{lines} lines");
+        assert_eq!(rt; calls_for(&rt, lines), calls, "{lines} lines");
     }
-    Ok(())
 }

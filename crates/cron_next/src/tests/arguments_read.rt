@@ -3,9 +3,7 @@
 use super::arguments_in;
 use super::compared::check_same;
 use cron_listing::arguments::{Request, request_of};
-use std::alloc::{AllocError, Global};
 use std::process::Abort;
-use std::test::Fail;
 
 // Lines of which one argument can't be read, or that have another count of arguments.
 const WRONG: &str = "\
@@ -51,22 +49,20 @@ fn is_wrong(arguments: &[String]) -> bool {
     request_of(arguments).is_none()
 }
 
-fn check_wrong(rt: &(impl Abort + AllocGlobal), line: &str) -> Result<(), Fail> {
-    let arguments = arguments_in(rt.alloc(), line)?;
+fn check_wrong(rt: &(impl Abort + AllocGlobal), line: &str) {
+    let arguments = arguments_in(rt, line);
     check_same(rt, &line, is_wrong(arguments.as_slice()), true);
-    Ok(())
 }
 
 #[test]
-fn a_line_with_a_wrong_argument_asks_for_nothing(rt: HostRuntime) -> Result<(), Fail> {
+fn a_line_with_a_wrong_argument_asks_for_nothing(rt: HostRuntime) {
     let mut rows = 0u32;
     for line in WRONG.lines() {
-        check_wrong(&rt, line)?;
+        check_wrong(&rt, line);
         rows = rows.saturating_add(1);
     }
     assert_eq!(rt; rows, 36);
     assert!(rt; is_wrong(&[]));
-    Ok(())
 }
 
 // A line, and the second, the offset there, the count and the way that it asks for.
@@ -89,18 +85,18 @@ fn offset_at_start(asked: &Request<'_>) -> i32 {
 }
 
 fn facts(
-    alloc: Global,
+    rt: &(impl Abort + AllocGlobal),
     second: i64,
     offset: i32,
     count: u32,
     back: bool,
-) -> Result<String, AllocError> {
-    format!(in alloc; "{second} {offset} {count} {back}")
+) -> String {
+    format!(in rt.alloc(); "{second} {offset} {count} {back}").expect(rt, "memory")
 }
 
-fn facts_of(alloc: Global, asked: &Request<'_>) -> Result<String, AllocError> {
+fn facts_of(rt: &(impl Abort + AllocGlobal), asked: &Request<'_>) -> String {
     facts(
-        alloc,
+        rt,
         asked.start.as_second(),
         offset_at_start(asked),
         asked.count,
@@ -108,44 +104,32 @@ fn facts_of(alloc: Global, asked: &Request<'_>) -> Result<String, AllocError> {
     )
 }
 
-fn check_facts(
-    rt: &(impl Abort + AllocGlobal),
-    line: &str,
-    asked: &Request<'_>,
-    want: &str,
-) -> Result<(), Fail> {
-    let got = facts_of(rt.alloc(), asked)?;
+fn check_facts(rt: &(impl Abort + AllocGlobal), line: &str, asked: &Request<'_>, want: &str) {
+    let got = facts_of(rt, asked);
     check_same(rt, &line, got.as_str(), want);
-    Ok(())
 }
 
-fn check_asked(
-    rt: &(impl Abort + AllocGlobal),
-    line: &str,
-    arguments: &[String],
-    want: &str,
-) -> Result<(), Fail> {
-    let (expression, _) = line.split_once('|').ok_or("one argument")?;
+fn check_asked(rt: &(impl Abort + AllocGlobal), line: &str, arguments: &[String], want: &str) {
+    let (expression, _) = line.split_once('|').expect(rt, "one argument");
     let Some(asked) = request_of(arguments) else {
-        return Err("the arguments can't be read".into());
+        panic!(rt; "the arguments can't be read");
     };
     assert_eq!(rt; asked.expression, expression);
-    check_facts(rt, line, &asked, want)
+    check_facts(rt, line, &asked, want);
 }
 
-fn check_row(rt: &(impl Abort + AllocGlobal), row: &str) -> Result<(), Fail> {
-    let (line, want) = row.split_once(" = ").ok_or("no facts")?;
-    let arguments = arguments_in(rt.alloc(), line)?;
-    check_asked(rt, line, arguments.as_slice(), want)
+fn check_row(rt: &(impl Abort + AllocGlobal), row: &str) {
+    let (line, want) = row.split_once(" = ").expect(rt, "no facts");
+    let arguments = arguments_in(rt, line);
+    check_asked(rt, line, arguments.as_slice(), want);
 }
 
 #[test]
-fn a_line_asks_for_what_its_arguments_say(rt: HostRuntime) -> Result<(), Fail> {
+fn a_line_asks_for_what_its_arguments_say(rt: HostRuntime) {
     let mut rows = 0u32;
     for row in RIGHT.lines() {
-        check_row(&rt, row)?;
+        check_row(&rt, row);
         rows = rows.saturating_add(1);
     }
     assert_eq!(rt; rows, 11);
-    Ok(())
 }

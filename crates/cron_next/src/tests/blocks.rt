@@ -9,10 +9,8 @@ use super::limited::Limited;
 use crate::run::{Outcome, Page};
 use crate::watched::Watched;
 use cron::schedule::Moment;
-use std::alloc::Global;
 use std::io::{self, ErrorKind, Write};
 use std::process::Abort;
-use std::test::Fail;
 
 pub(super) const EVERY_SECOND: &str = "* * * * * *";
 
@@ -25,64 +23,56 @@ const LINE: usize = 27;
 const BLOCK: usize = 151 * LINE;
 
 /// The lines of so many seconds after the start of 2020.
-pub(super) fn seconds_listed(alloc: Global) -> Result<String, Fail> {
-    let mut text = String::new(alloc);
+pub(super) fn seconds_listed(rt: &(impl Abort + AllocGlobal)) -> String {
+    let mut text = String::new(rt.alloc());
     for second in 1..=LINES {
         let (minute, second) = (second / 60, second % 60);
-        writeln!(text, "2020-01-01 00:{minute:02}:{second:02} +00:00")?;
+        writeln!(text, "2020-01-01 00:{minute:02}:{second:02} +00:00").expect(rt, "memory");
     }
-    Ok(text)
+    text
 }
 
-fn list_seconds<W: Write>(alloc: Global, out: &mut Watched<W>) -> Result<Outcome, Fail>
+fn list_seconds<W: Write>(rt: &(impl Abort + AllocGlobal), out: &mut Watched<W>) -> Outcome
     requires { has_failed out.old ≡ false }
 {
-    run_from_start(alloc, EVERY_SECOND, LINES, out)
+    run_from_start(rt, EVERY_SECOND, LINES, out)
 }
 
-fn page_of_seconds<W: Write>(alloc: Global, out: &mut Watched<W>) -> Result<Page, Fail>
+fn page_of_seconds<W: Write>(rt: &(impl Abort + AllocGlobal), out: &mut Watched<W>) -> Page
     requires { has_failed out.old ≡ false }
 {
-    let first = moment("2020-01-01T00:00:00", 0)?;
-    page_ahead(alloc, EVERY_SECOND, &first, LINES, out)
+    let first = moment(rt, "2020-01-01T00:00:00", 0);
+    page_ahead(rt, EVERY_SECOND, &first, LINES, out)
 }
 
 // A writer that takes all, so many bytes a call, holds the whole list.
-fn check_listed(rt: &(impl Abort + AllocGlobal), text: &str, step: usize) -> Result<(), Fail> {
+fn check_listed(rt: &(impl Abort + AllocGlobal), text: &str, step: usize) {
     let mut out = Watched::new(Limited::new(rt.alloc(), usize::MAX, step));
-    let told = list_seconds(rt.alloc(), &mut out)?;
+    let told = list_seconds(rt, &mut out);
     check_same(rt, &step, told, Outcome::Listed);
     check_bytes(rt, &step, out.into_inner().held.as_slice(), text.as_bytes());
-    Ok(())
 }
 
 // So does one that the page is written to.
-fn check_paged(
-    rt: &(impl Abort + AllocGlobal),
-    text: &str,
-    last: Moment,
-    step: usize,
-) -> Result<(), Fail> {
+fn check_paged(rt: &(impl Abort + AllocGlobal), text: &str, last: Moment, step: usize) {
     let mut out = Watched::new(Limited::new(rt.alloc(), usize::MAX, step));
-    let told = page_of_seconds(rt.alloc(), &mut out)?;
+    let told = page_of_seconds(rt, &mut out);
     check_same(rt, &step, told, Page::Listed(last));
     check_bytes(rt, &step, out.into_inner().held.as_slice(), text.as_bytes());
-    Ok(())
 }
 
-fn check_written(rt: &(impl Abort + AllocGlobal), text: &str) -> Result<(), Fail> {
-    let last = moment("2020-01-01T00:06:40", 0)?;
+fn check_written(rt: &(impl Abort + AllocGlobal), text: &str) {
+    let last = moment(rt, "2020-01-01T00:06:40", 0);
     for step in [1, LINE - 1, 1000, BLOCK - 1, BLOCK, usize::MAX] {
-        check_listed(rt, text, step)?;
-        check_paged(rt, text, last, step)?;
+        check_listed(rt, text, step);
+        check_paged(rt, text, last, step);
     }
-    Ok(())
 }
 
 #[test]
-fn many_lines_are_written_whole(rt: HostRuntime) -> Result<(), Fail> {
-    let text = seconds_listed(rt.alloc())?;
-    check_written(&rt, text.as_str())
+fn many_lines_are_written_whole(rt: HostRuntime) {
+    let text = seconds_listed(&rt);
+    check_written(&rt, text.as_str());
 }
 
 // So many first bytes of the text.
@@ -97,40 +87,25 @@ fn check_held(rt: &impl Abort, writer: &Limited, text: &str, room: usize) {
     check_same(rt, &room, writer.failures, 1);
 }
 
-fn check_failed_list(
-    rt: &(impl Abort + AllocGlobal),
-    text: &str,
-    writer: Limited,
-) -> Result<(), Fail> {
+fn check_failed_list(rt: &(impl Abort + AllocGlobal), text: &str, writer: Limited) {
     let room = writer.room;
     let mut out = Watched::new(writer);
-    let told = list_seconds(rt.alloc(), &mut out)?;
+    let told = list_seconds(rt, &mut out);
     check_same(rt, &room, told, Outcome::WriteFailed);
     check_held(rt, &out.into_inner(), text, room);
-    Ok(())
 }
 
-fn check_failed_page(
-    rt: &(impl Abort + AllocGlobal),
-    text: &str,
-    writer: Limited,
-) -> Result<(), Fail> {
+fn check_failed_page(rt: &(impl Abort + AllocGlobal), text: &str, writer: Limited) {
     let room = writer.room;
     let mut out = Watched::new(writer);
-    let told = page_of_seconds(rt.alloc(), &mut out)?;
+    let told = page_of_seconds(rt, &mut out);
     check_same(rt, &room, told, Page::WriteFailed);
     check_held(rt, &out.into_inner(), text, room);
-    Ok(())
 }
 
-fn check_failed(
-    rt: &(impl Abort + AllocGlobal),
-    text: &str,
-    room: usize,
-    step: usize,
-) -> Result<(), Fail> {
-    check_failed_list(rt, text, Limited::new(rt.alloc(), room, step))?;
-    check_failed_page(rt, text, Limited::new(rt.alloc(), room, step))
+fn check_failed(rt: &(impl Abort + AllocGlobal), text: &str, room: usize, step: usize) {
+    check_failed_list(rt, text, Limited::new(rt.alloc(), room, step));
+    check_failed_page(rt, text, Limited::new(rt.alloc(), room, step));
 }
 
 // Within each of three blocks: before its first byte, after that, after its first line and further on.
@@ -149,37 +124,30 @@ const ROOMS: [usize; 12] = [
     2 * BLOCK + 2000,
 ];
 
-fn check_failed_steps(
-    rt: &(impl Abort + AllocGlobal),
-    text: &str,
-    room: usize,
-) -> Result<(), Fail> {
+fn check_failed_steps(rt: &(impl Abort + AllocGlobal), text: &str, room: usize) {
     for step in [7, 1000, usize::MAX] {
-        check_failed(rt, text, room, step)?;
+        check_failed(rt, text, room, step);
     }
-    Ok(())
 }
 
-fn check_failed_rooms(rt: &(impl Abort + AllocGlobal), text: &str) -> Result<(), Fail> {
+fn check_failed_rooms(rt: &(impl Abort + AllocGlobal), text: &str) {
     for room in ROOMS {
-        check_failed_steps(rt, text, room)?;
+        check_failed_steps(rt, text, room);
     }
-    Ok(())
 }
 
 // At the last byte of a block, of what is gathered at once, and of the list.
-fn check_failed_ends(rt: &(impl Abort + AllocGlobal), text: &str) -> Result<(), Fail> {
+fn check_failed_ends(rt: &(impl Abort + AllocGlobal), text: &str) {
     for room in [BLOCK - 1, 4095, 4096, 4097, text.len().saturating_sub(1)] {
-        check_failed(rt, text, room, usize::MAX)?;
+        check_failed(rt, text, room, usize::MAX);
     }
-    Ok(())
 }
 
 #[test]
-fn a_failed_write_among_many_lines_is_the_last(rt: HostRuntime) -> Result<(), Fail> {
-    let text = seconds_listed(rt.alloc())?;
-    check_failed_rooms(&rt, text.as_str())?;
-    check_failed_ends(&rt, text.as_str())
+fn a_failed_write_among_many_lines_is_the_last(rt: HostRuntime) {
+    let text = seconds_listed(&rt);
+    check_failed_rooms(&rt, text.as_str());
+    check_failed_ends(&rt, text.as_str());
 }
 
 // Counts its calls, and those whose piece ends within a line.
@@ -205,49 +173,45 @@ impl Write for Counting {
     }
 }
 
-fn writes_for(alloc: Global, expression: &str, count: u32) -> Result<Counting, Fail> {
+fn writes_for(rt: &(impl Abort + AllocGlobal), expression: &str, count: u32) -> Counting {
     let mut out = Watched::new(Counting {
         writes: 0,
         cut_lines: 0,
         flushes: 0,
     });
-    let _told = run_from_start(alloc, expression, count, &mut out)?;
-    Ok(out.into_inner())
+    let _told = run_from_start(rt, expression, count, &mut out);
+    out.into_inner()
 }
 
-fn check_writes(rt: &(impl Abort + AllocGlobal), count: u32, writes: u32) -> Result<(), Fail> {
-    let writer = writes_for(rt.alloc(), EVERY_SECOND, count)?;
+fn check_writes(rt: &(impl Abort + AllocGlobal), count: u32, writes: u32) {
+    let writer = writes_for(rt, EVERY_SECOND, count);
     check_same(rt, &count, writer.writes, writes);
     check_same(rt, &count, writer.cut_lines, 0);
     check_same(rt, &count, writer.flushes, 1);
-    Ok(())
 }
 
 #[test]
-fn lines_are_written_whole_and_many_at_a_time(rt: HostRuntime) -> Result<(), Fail> {
+fn lines_are_written_whole_and_many_at_a_time(rt: HostRuntime) {
     for (count, writes) in [(0, 0), (1, 1), (151, 1), (152, 2), (302, 2), (303, 3)] {
-        check_writes(&rt, count, writes)?;
+        check_writes(&rt, count, writes);
     }
-    Ok(())
 }
 
 #[test]
-fn a_refused_expression_is_told_in_three_pieces(rt: HostRuntime) -> Result<(), Fail> {
-    let writer = writes_for(rt.alloc(), "60 * * * * *", 1)?;
+fn a_refused_expression_is_told_in_three_pieces(rt: HostRuntime) {
+    let writer = writes_for(&rt, "60 * * * * *", 1);
     check_same(&rt, &"writes", writer.writes, 3);
     check_same(&rt, &"flushes", writer.flushes, 1);
-    Ok(())
 }
 
-fn check_asked_again(rt: &(impl Abort + AllocGlobal), text: &str) -> Result<(), Fail> {
+fn check_asked_again(rt: &(impl Abort + AllocGlobal), text: &str) {
     for kind in [ErrorKind::Interrupted, ErrorKind::WouldBlock] {
-        check_failed_list(rt, text, Limited::failing(rt.alloc(), BLOCK + 1, kind))?;
+        check_failed_list(rt, text, Limited::failing(rt.alloc(), BLOCK + 1, kind));
     }
-    Ok(())
 }
 
 #[test]
-fn a_call_that_asks_to_be_tried_again_ends_many_lines_too(rt: HostRuntime) -> Result<(), Fail> {
-    let text = seconds_listed(rt.alloc())?;
-    check_asked_again(&rt, text.as_str())
+fn a_call_that_asks_to_be_tried_again_ends_many_lines_too(rt: HostRuntime) {
+    let text = seconds_listed(&rt);
+    check_asked_again(&rt, text.as_str());
 }

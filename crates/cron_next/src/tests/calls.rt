@@ -14,28 +14,28 @@ use jiff::civil::DateTime;
 use jiff::tz::{Offset, TimeZone};
 use std::alloc::Global;
 use std::io::Write;
-use std::test::Fail;
+use std::process::Abort;
 
 /// The start of 2020.
-pub(super) fn start() -> Result<Timestamp, Fail> {
-    Ok("2020-01-01T00:00:00Z".parse()?)
+pub(super) fn start(rt: &impl Abort) -> Timestamp {
+    "2020-01-01T00:00:00Z".parse().expect(rt, "an instant")
 }
 
-fn civil(shown: &str) -> Result<DateTime, Fail> {
-    Ok(shown.parse()?)
+fn civil(rt: &impl Abort, shown: &str) -> DateTime {
+    shown.parse().expect(rt, shown)
 }
 
-fn offset(ahead: i32) -> Result<Offset, Fail> {
-    Ok(Offset::from_seconds(ahead)?)
+fn offset(rt: &impl Abort, ahead: i32) -> Offset {
+    Offset::from_seconds(ahead).expect(rt, "an offset")
 }
 
-fn moment_of(shown: DateTime, offset: Offset) -> Result<Moment, Fail> {
-    Ok(Moment::from_parts(shown, offset).ok_or("no civil second of the range")?)
+fn moment_of(rt: &impl Abort, shown: DateTime, offset: Offset) -> Moment {
+    Moment::from_parts(shown, offset).expect(rt, "no civil second of the range")
 }
 
 /// The moment at which a clock so many seconds ahead of UTC shows this.
-pub(super) fn moment(shown: &str, ahead: i32) -> Result<Moment, Fail> {
-    moment_of(civil(shown)?, offset(ahead)?)
+pub(super) fn moment(rt: &impl Abort, shown: &str, ahead: i32) -> Moment {
+    moment_of(rt, civil(rt, shown), offset(rt, ahead))
 }
 
 /// Runs ahead in UTC.
@@ -53,14 +53,14 @@ pub(super) fn run_ahead<W: Write>(
 
 /// Runs ahead in UTC from the start of 2020.
 pub(super) fn run_from_start<W: Write>(
-    alloc: Global,
+    rt: &(impl Abort + AllocGlobal),
     expression: &str,
     count: u32,
     out: &mut Watched<W>,
-) -> Result<Outcome, Fail>
+) -> Outcome
     requires { has_failed out.old ≡ false }
 {
-    Ok(run_ahead(alloc, expression, start()?, count, out))
+    run_ahead(rt.alloc(), expression, start(rt), count, out)
 }
 
 /// The status of the answer to these arguments.
@@ -76,14 +76,14 @@ pub(super) fn code_of_answer<W: Write>(
 
 /// Lists the page that follows a moment in UTC.
 pub(super) fn page_ahead<W: Write>(
-    alloc: Global,
+    rt: &(impl Abort + AllocGlobal),
     expression: &str,
     last: &Moment,
     size: u32,
     out: &mut Watched<W>,
-) -> Result<Page, Fail>
+) -> Page
     requires { has_failed out.old ≡ false }
 {
-    let schedule = Schedule::from_str(alloc, expression)?;
-    Ok(page(&schedule, last, &TimeZone::UTC, size, false, out))
+    let schedule = Schedule::from_str(rt.alloc(), expression).expect(rt, "a schedule");
+    page(&schedule, last, &TimeZone::UTC, size, false, out)
 }

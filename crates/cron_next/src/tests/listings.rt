@@ -10,9 +10,8 @@ use crate::run::{Outcome, run};
 use crate::watched::Watched;
 use cron_listing::arguments::{Request, request_of};
 use jiff::tz::TimeZone;
-use std::alloc::{AllocError, Global};
+use std::alloc::Global;
 use std::process::Abort;
-use std::test::Fail;
 
 // Each block is the arguments, and then the lines that are listed. A `>` stands between blocks.
 const LISTED: &str = "\
@@ -120,72 +119,59 @@ fn check_run(
     check_held(rt, line, out, want);
 }
 
-fn check_arguments(
-    rt: &(impl Abort + AllocGlobal),
-    line: &str,
-    arguments: &[String],
-    want: &str,
-) -> Result<(), Fail> {
+fn check_arguments(rt: &(impl Abort + AllocGlobal), line: &str, arguments: &[String], want: &str) {
     let Some(asked) = request_of(arguments) else {
-        return Err("the arguments can't be read".into());
+        panic!(rt; "the arguments can't be read");
     };
     check_run(rt, line, &asked, Outcome::Listed, want);
-    Ok(())
 }
 
-fn check_block(rt: &(impl Abort + AllocGlobal), block: &str) -> Result<(), Fail> {
-    let (line, want) = block.split_once('\n').ok_or("no line")?;
-    let arguments = arguments_in(rt.alloc(), line)?;
-    check_arguments(rt, line, arguments.as_slice(), want)
+fn check_block(rt: &(impl Abort + AllocGlobal), block: &str) {
+    let (line, want) = block.split_once('\n').expect(rt, "no line");
+    let arguments = arguments_in(rt, line);
+    check_arguments(rt, line, arguments.as_slice(), want);
 }
 
 #[test]
-fn lists_what_the_arguments_ask_for(rt: HostRuntime) -> Result<(), Fail> {
+fn lists_what_the_arguments_ask_for(rt: HostRuntime) {
     let mut blocks = 0u32;
     for block in LISTED.split('>') {
-        check_block(&rt, block)?;
+        check_block(&rt, block);
         blocks = blocks.saturating_add(1);
     }
     check_same(&rt, &"the end", blocks, 16);
-    Ok(())
 }
 
 // The one line that is written for a refused expression.
-fn check_refused(
-    rt: &(impl Abort + AllocGlobal),
-    expression: &str,
-    want: &str,
-) -> Result<(), Fail> {
+fn check_refused(rt: &(impl Abort + AllocGlobal), expression: &str, want: &str) {
     let asked = Request {
         expression,
-        start: start()?,
+        start: start(rt),
         zone: TimeZone::UTC,
         count: 3,
         back: false,
     };
     check_run(rt, expression, &asked, Outcome::Refused, want);
-    Ok(())
 }
 
-fn complaint(alloc: Global, told: &str) -> Result<String, AllocError> {
-    format!(in alloc; "error: {told}\n")
+fn complaint(rt: &(impl Abort + AllocGlobal), told: &str) -> String {
+    format!(in rt.alloc(); "error: {told}\n").expect(rt, "memory")
 }
 
-fn check_told(rt: &(impl Abort + AllocGlobal), row: &str) -> Result<(), Fail> {
-    let (expression, told) = row.split_once('|').ok_or("no message")?;
-    let want = complaint(rt.alloc(), told)?;
-    check_refused(rt, expression, want.as_str())
+fn check_told(rt: &(impl Abort + AllocGlobal), row: &str) {
+    let (expression, told) = row.split_once('|').expect(rt, "no message");
+    let want = complaint(rt, told);
+    check_refused(rt, expression, want.as_str());
 }
 
 #[test]
-fn tells_why_an_expression_is_refused(rt: HostRuntime) -> Result<(), Fail> {
+fn tells_why_an_expression_is_refused(rt: HostRuntime) {
     let mut rows = 0u32;
     for row in REFUSED.lines() {
-        check_told(&rt, row)?;
+        check_told(&rt, row);
         rows = rows.saturating_add(1);
     }
     check_same(&rt, &"the end", rows, 14);
-    Ok(())
 }
 
 fn check_answer(
@@ -201,36 +187,30 @@ fn check_answer(
     check_same(rt, &line, out.into_inner().as_slice(), want.as_bytes());
 }
 
-fn check_status(
-    rt: &(impl Abort + AllocGlobal),
-    line: &str,
-    status: u8,
-    want: &str,
-) -> Result<(), Fail> {
-    let arguments = arguments_in(rt.alloc(), line)?;
+fn check_status(rt: &(impl Abort + AllocGlobal), line: &str, status: u8, want: &str) {
+    let arguments = arguments_in(rt, line);
     check_answer(rt, line, arguments.as_slice(), status, want);
-    Ok(())
 }
 
 #[test]
-fn the_status_tells_how_a_run_ended(rt: HostRuntime) -> Result<(), Fail> {
+fn the_status_tells_how_a_run_ended(rt: HostRuntime) {
     check_status(
         &rt,
         "@daily|2020-01-01T00:00:00Z|UTC|1",
         0,
         "2020-01-02 00:00:00 +00:00\n",
-    )?;
-    check_status(&rt, "@daily|2020-01-01T00:00:00Z|UTC|0", 0, "")?;
+    );
+    check_status(&rt, "@daily|2020-01-01T00:00:00Z|UTC|0", 0, "");
     check_status(
         &rt,
         "@dally|2020-01-01T00:00:00Z|UTC|1",
         1,
         "error: Invalid cron expression.\n",
-    )?;
+    );
     check_status(
         &rt,
         "@dally|2020-01-01T00:00:00Z|utc|1",
         2,
         "usage: cron_next EXPRESSION START ZONE COUNT [back]\n",
-    )
+    );
 }

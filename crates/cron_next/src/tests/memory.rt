@@ -13,7 +13,6 @@ use jiff::Timestamp;
 use std::alloc::{AllocError, Global};
 use std::io::{self, Write};
 use std::process::Abort;
-use std::test::Fail;
 
 pub(super) const MOST_BLOCKS: usize = 20_000;
 
@@ -67,26 +66,20 @@ fn run_without_memory(
     outcome
 }
 
-fn check_wanting_run(
-    rt: &(impl Abort + AllocGlobal),
-    start: Timestamp,
-    expression: &str,
-) -> Result<(), Fail> {
-    let mut blocks = Vec::with_capacity(rt.alloc(), MOST_BLOCKS)?;
-    let mut out = Watched::new(Vec::with_capacity(rt.alloc(), 100)?);
+fn check_wanting_run(rt: &(impl Abort + AllocGlobal), start: Timestamp, expression: &str) {
+    let mut blocks = Vec::with_capacity(rt.alloc(), MOST_BLOCKS).expect(rt, "memory");
+    let mut out = Watched::new(Vec::with_capacity(rt.alloc(), 100).expect(rt, "memory"));
     let outcome = run_without_memory(rt, start, expression, &mut blocks, &mut out);
     check_same(rt, &expression, outcome, Outcome::Refused);
     check_same(rt, &expression, out.into_inner().as_slice(), WANTING);
-    Ok(())
 }
 
 #[test]
-fn a_run_without_memory_says_so(rt: HostRuntime) -> Result<(), Fail> {
-    let start = start()?;
+fn a_run_without_memory_says_so(rt: HostRuntime) {
+    let start = start(&rt);
     for expression in ["@daily", "60 * * * * *", "no expression"] {
-        check_wanting_run(&rt, start, expression)?;
+        check_wanting_run(&rt, start, expression);
     }
-    Ok(())
 }
 
 // Takes all memory in its first write, and looks in each whether a byte is left.
@@ -129,19 +122,18 @@ impl Write for Greedy {
     }
 }
 
-fn check_begun(rt: &(impl Abort + AllocGlobal), start: Timestamp, text: &str) -> Result<(), Fail> {
-    let mut out = Watched::new(Greedy::new(rt.alloc(), text.len())?);
+fn check_begun(rt: &(impl Abort + AllocGlobal), start: Timestamp, text: &str) {
+    let mut out = Watched::new(Greedy::new(rt.alloc(), text.len()).expect(rt, "memory"));
     let outcome = run_ahead(rt.alloc(), EVERY_SECOND, start, LINES, &mut out);
     let mut writer = out.into_inner();
     give_back(rt, &mut writer.blocks);
     check_same(rt, &"the end", outcome, Outcome::Listed);
     check_same(rt, &"the end", writer.byte_left, false);
     check_bytes(rt, &"the end", writer.held.as_slice(), text.as_bytes());
-    Ok(())
 }
 
 #[test]
-fn a_list_that_was_begun_takes_no_memory(rt: HostRuntime) -> Result<(), Fail> {
-    let text = seconds_listed(rt.alloc())?;
-    check_begun(&rt, start()?, text.as_str())
+fn a_list_that_was_begun_takes_no_memory(rt: HostRuntime) {
+    let text = seconds_listed(&rt);
+    check_begun(&rt, start(&rt), text.as_str());
 }

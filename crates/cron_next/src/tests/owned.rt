@@ -14,7 +14,6 @@ use std::alloc::{AllocError, Global};
 use std::borrow::CowStr;
 use std::mem;
 use std::process::Abort;
-use std::test::Fail;
 
 // Expressions that are accepted.
 const ACCEPTED: &str = "\
@@ -53,12 +52,12 @@ const ACCEPTED: &str = "\
 
 const COUNT: usize = 32;
 
-fn texts(alloc: Global) -> Result<Vec<String>, AllocError> {
-    let mut texts = Vec::with_capacity(alloc, COUNT)?;
+fn texts(rt: &(impl Abort + AllocGlobal)) -> Vec<String> {
+    let mut texts = Vec::with_capacity(rt.alloc(), COUNT).expect(rt, "memory");
     for text in ACCEPTED.lines() {
-        push_text(&mut texts, alloc, text)?;
+        push_text(rt, &mut texts, text);
     }
-    Ok(texts)
+    texts
 }
 
 // Texts, and what they are read as. The list of the texts stays, so that no room comes free.
@@ -69,11 +68,11 @@ struct Reading {
 }
 
 impl Reading {
-    fn new(alloc: Global) -> Result<Reading, AllocError> {
-        Ok(Reading {
-            texts: texts(alloc)?,
-            read: Vec::with_capacity(alloc, COUNT)?,
-        })
+    fn new(rt: &(impl Abort + AllocGlobal)) -> Reading {
+        Reading {
+            texts: texts(rt),
+            read: Vec::with_capacity(rt.alloc(), COUNT).expect(rt, "memory"),
+        }
     }
 
     fn read_strings(&mut self, alloc: Global) -> Result<(), AllocError> {
@@ -100,59 +99,40 @@ fn read_both(alloc: Global, strings: &mut Reading, cows: &mut Reading) -> bool {
     strings && cows
 }
 
-fn read_without_memory(
-    rt: &(impl Abort + AllocGlobal),
-    strings: &mut Reading,
-    cows: &mut Reading,
-) -> Result<(), Fail> {
-    let mut blocks = Vec::with_capacity(rt.alloc(), MOST_BLOCKS)?;
+fn read_without_memory(rt: &(impl Abort + AllocGlobal), strings: &mut Reading, cows: &mut Reading) {
+    let mut blocks = Vec::with_capacity(rt.alloc(), MOST_BLOCKS).expect(rt, "memory");
     take_all_memory(&mut blocks, rt.alloc());
     let are_read = read_both(rt.alloc(), strings, cows);
     give_back(rt, &mut blocks);
     assert!(rt; are_read);
-    Ok(())
 }
 
-fn check_schedule(
-    rt: &(impl Abort + AllocGlobal),
-    text: &str,
-    schedule: &Schedule,
-) -> Result<(), Fail> {
-    let same = Schedule::from_str(rt.alloc(), text)?;
+fn check_schedule(rt: &(impl Abort + AllocGlobal), text: &str, schedule: &Schedule) {
+    let same = Schedule::from_str(rt.alloc(), text).expect(rt, "a schedule");
     check_same(rt, &text, are_same(schedule, &same), true);
-    Ok(())
 }
 
-fn check_result(
-    rt: &(impl Abort + AllocGlobal),
-    text: &str,
-    read: &Result<Schedule, Error>,
-) -> Result<(), Fail> {
+fn check_result(rt: &(impl Abort + AllocGlobal), text: &str, read: &Result<Schedule, Error>) {
     match read {
-        Ok(schedule) => check_schedule(rt, text, schedule)?,
+        Ok(schedule) => check_schedule(rt, text, schedule),
         Err(error) => assert!(rt; false, "{text}: {error}"),
     }
-    Ok(())
 }
 
-fn check_read(
-    rt: &(impl Abort + AllocGlobal),
-    read: &[Result<Schedule, Error>],
-) -> Result<(), Fail> {
+fn check_read(rt: &(impl Abort + AllocGlobal), read: &[Result<Schedule, Error>]) {
     assert_eq!(rt; read.len(), COUNT);
     for (text, read) in ACCEPTED.lines().zip(read) {
-        check_result(rt, text, read)?;
+        check_result(rt, text, read);
     }
-    Ok(())
 }
 
 #[test]
-fn owned_texts_are_read_without_memory(rt: HostRuntime) -> Result<(), Fail> {
-    let mut strings = Reading::new(rt.alloc())?;
-    let mut cows = Reading::new(rt.alloc())?;
-    read_without_memory(&rt, &mut strings, &mut cows)?;
-    check_read(&rt, strings.read.as_slice())?;
-    check_read(&rt, cows.read.as_slice())
+fn owned_texts_are_read_without_memory(rt: HostRuntime) {
+    let mut strings = Reading::new(&rt);
+    let mut cows = Reading::new(&rt);
+    read_without_memory(&rt, &mut strings, &mut cows);
+    check_read(&rt, strings.read.as_slice());
+    check_read(&rt, cows.read.as_slice());
 }
 
 type Walk = Result<OwnedScheduleIterator<'static>, AllocError>;
@@ -169,45 +149,35 @@ fn walks_without_memory(
     rt: &(impl Abort + AllocGlobal),
     schedule: &Schedule,
     start: Timestamp,
-) -> Result<(Walk, Walk), Fail> {
-    let mut blocks = Vec::with_capacity(rt.alloc(), MOST_BLOCKS)?;
+) -> (Walk, Walk) {
+    let mut blocks = Vec::with_capacity(rt.alloc(), MOST_BLOCKS).expect(rt, "memory");
     take_all_memory(&mut blocks, rt.alloc());
     let walks = walks_from(schedule, start);
     give_back(rt, &mut blocks);
-    Ok(walks)
+    walks
 }
 
-fn first_of(walk: Walk) -> Result<Option<Moment>, Fail> {
-    Ok(walk?.next())
+fn first_of(rt: &impl Abort, walk: Walk) -> Option<Moment> {
+    walk.expect(rt, "a walk").next()
 }
 
-fn check_shown(rt: &(impl Abort + AllocGlobal), first: Moment) -> Result<(), Fail> {
-    let text = first.to_string(rt.alloc())?;
+fn check_shown(rt: &(impl Abort + AllocGlobal), first: Moment) {
+    let text = first.to_string(rt.alloc()).expect(rt, "memory");
     check_same(rt, &"first", text.as_str(), "2020-01-02 00:00:00 +00:00");
-    Ok(())
 }
 
-fn check_firsts(
-    rt: &(impl Abort + AllocGlobal),
-    first: Option<Moment>,
-    same: Option<Moment>,
-) -> Result<(), Fail> {
-    check_shown(rt, first.ok_or("the walk is empty")?)?;
+fn check_firsts(rt: &(impl Abort + AllocGlobal), first: Option<Moment>, same: Option<Moment>) {
+    check_shown(rt, first.expect(rt, "the walk is empty"));
     check_same(rt, &"first", first, same);
-    Ok(())
 }
 
-fn check_walks(
-    rt: &(impl Abort + AllocGlobal),
-    schedule: &Schedule,
-    start: Timestamp,
-) -> Result<(), Fail> {
-    let (after, upcoming) = walks_without_memory(rt, schedule, start)?;
-    check_firsts(rt, first_of(after)?, first_of(upcoming)?)
+fn check_walks(rt: &(impl Abort + AllocGlobal), schedule: &Schedule, start: Timestamp) {
+    let (after, upcoming) = walks_without_memory(rt, schedule, start);
+    check_firsts(rt, first_of(rt, after), first_of(rt, upcoming));
 }
 
 #[test]
-fn owned_walks_are_made_without_memory(rt: HostRuntime) -> Result<(), Fail> {
-    let schedule = Schedule::from_str(rt.alloc(), "@daily")?;
-    check_walks(&rt, &schedule, start()?)
+fn owned_walks_are_made_without_memory(rt: HostRuntime) {
+    let schedule = Schedule::from_str(rt.alloc(), "@daily").expect(&rt, "a schedule");
+    check_walks(&rt, &schedule, start(&rt));
 }

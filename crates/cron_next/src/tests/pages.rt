@@ -13,10 +13,8 @@ use crate::watched::Watched;
 use cron::Schedule;
 use cron::schedule::Moment;
 use jiff::tz::TimeZone;
-use std::alloc::Global;
 use std::io::{ErrorKind, Write};
 use std::process::Abort;
-use std::test::Fail;
 
 // Four items in the fold of Chicago, of which the two texts list the last three, and the first three
 // from the last.
@@ -28,40 +26,41 @@ const LATER_THREE: &str =
 const EARLIER_THREE: &str =
     "2022-11-06 01:30:00 -05:00\n2022-11-06 01:00:00 -06:00\n2022-11-06 01:00:00 -05:00\n";
 
-fn first() -> Result<Moment, Fail> {
-    moment("2022-11-06T01:00:00", -18_000)
+fn first(rt: &impl Abort) -> Moment {
+    moment(rt, "2022-11-06T01:00:00", -18_000)
 }
 
-fn last() -> Result<Moment, Fail> {
-    moment("2022-11-06T01:30:00", -21_600)
+fn last(rt: &impl Abort) -> Moment {
+    moment(rt, "2022-11-06T01:30:00", -21_600)
 }
 
 // A page of the items beside one in Chicago.
 fn page_in_chicago<W: Write>(
+    rt: &impl Abort,
     schedule: &Schedule,
     last: Moment,
     size: u32,
     back: bool,
     out: &mut Watched<W>,
-) -> Result<Page, Fail>
+) -> Page
     requires { has_failed out.old ≡ false }
 {
-    let zone = TimeZone::posix("CST6CDT,M3.2.0,M11.1.0")?;
-    Ok(page(schedule, &last, &zone, size, back, out))
+    let zone = TimeZone::posix("CST6CDT,M3.2.0,M11.1.0").expect(rt, "a zone");
+    page(schedule, &last, &zone, size, back, out)
 }
 
 // A page of the items of the fold beside one of them.
 fn page_of_fold<W: Write>(
-    alloc: Global,
+    rt: &(impl Abort + AllocGlobal),
     last: Moment,
     size: u32,
     back: bool,
     out: &mut Watched<W>,
-) -> Result<Page, Fail>
+) -> Page
     requires { has_failed out.old ≡ false }
 {
-    let schedule = Schedule::from_str(alloc, FOLD)?;
-    page_in_chicago(&schedule, last, size, back, out)
+    let schedule = Schedule::from_str(rt.alloc(), FOLD).expect(rt, "a schedule");
+    page_in_chicago(rt, &schedule, last, size, back, out)
 }
 
 fn check_page(
@@ -71,50 +70,44 @@ fn check_page(
     back: bool,
     text: &str,
     listed: Moment,
-) -> Result<(), Fail> {
+) {
     let mut out = Watched::new(Limited::new(rt.alloc(), usize::MAX, usize::MAX));
-    let told = page_of_fold(rt.alloc(), last, size, back, &mut out)?;
+    let told = page_of_fold(rt, last, size, back, &mut out);
     check_same(rt, &text, told, Page::Listed(listed));
     check_same(rt, &text, out.into_inner().held.as_slice(), text.as_bytes());
-    Ok(())
 }
 
 #[test]
-fn a_page_lists_what_follows_an_item(rt: HostRuntime) -> Result<(), Fail> {
-    check_page(&rt, first()?, 9, false, LATER_THREE, last()?)?;
-    check_page(&rt, first()?, 0, false, "", first()?)?;
-    check_page(&rt, last()?, 9, false, "", last()?)
+fn a_page_lists_what_follows_an_item(rt: HostRuntime) {
+    check_page(&rt, first(&rt), 9, false, LATER_THREE, last(&rt));
+    check_page(&rt, first(&rt), 0, false, "", first(&rt));
+    check_page(&rt, last(&rt), 9, false, "", last(&rt));
 }
 
 #[test]
-fn a_page_lists_what_precedes_an_item(rt: HostRuntime) -> Result<(), Fail> {
-    check_page(&rt, last()?, 9, true, EARLIER_THREE, first()?)
+fn a_page_lists_what_precedes_an_item(rt: HostRuntime) {
+    check_page(&rt, last(&rt), 9, true, EARLIER_THREE, first(&rt));
 }
 
 // The page of the one item that follows.
-fn check_next(
-    rt: &(impl Abort + AllocGlobal),
-    last: Moment,
-    text: &str,
-    listed: Moment,
-) -> Result<(), Fail> {
-    check_page(rt, last, 1, false, text, listed)
+fn check_next(rt: &(impl Abort + AllocGlobal), last: Moment, text: &str, listed: Moment) {
+    check_page(rt, last, 1, false, text, listed);
 }
 
 #[test]
-fn pages_of_one_item_follow_one_another(rt: HostRuntime) -> Result<(), Fail> {
-    let second = moment("2022-11-06T01:00:00", -21_600)?;
-    let third = moment("2022-11-06T01:30:00", -18_000)?;
-    check_next(&rt, first()?, "2022-11-06 01:00:00 -06:00\n", second)?;
-    check_next(&rt, second, "2022-11-06 01:30:00 -05:00\n", third)?;
-    check_next(&rt, third, "2022-11-06 01:30:00 -06:00\n", last()?)?;
-    check_next(&rt, last()?, "", last()?)
+fn pages_of_one_item_follow_one_another(rt: HostRuntime) {
+    let second = moment(&rt, "2022-11-06T01:00:00", -21_600);
+    let third = moment(&rt, "2022-11-06T01:30:00", -18_000);
+    check_next(&rt, first(&rt), "2022-11-06 01:00:00 -06:00\n", second);
+    check_next(&rt, second, "2022-11-06 01:30:00 -05:00\n", third);
+    check_next(&rt, third, "2022-11-06 01:30:00 -06:00\n", last(&rt));
+    check_next(&rt, last(&rt), "", last(&rt));
 }
 
-fn page_after_first(alloc: Global, out: &mut Watched<Limited>) -> Result<Page, Fail>
+fn page_after_first(rt: &(impl Abort + AllocGlobal), out: &mut Watched<Limited>) -> Page
     requires { has_failed out.old ≡ false }
 {
-    page_of_fold(alloc, first()?, 9, false, out)
+    page_of_fold(rt, first(rt), 9, false, out)
 }
 
 // A writer that failed once, and holds this.
@@ -124,37 +117,30 @@ fn check_held(rt: &impl Abort, writer: &Limited, text: &str) {
 }
 
 // A page that fails, over a writer that then holds this.
-fn check_failed_page(
-    rt: &(impl Abort + AllocGlobal),
-    writer: Limited,
-    text: &str,
-) -> Result<(), Fail> {
+fn check_failed_page(rt: &(impl Abort + AllocGlobal), writer: Limited, text: &str) {
     let mut out = Watched::new(writer);
-    let told = page_after_first(rt.alloc(), &mut out)?;
+    let told = page_after_first(rt, &mut out);
     check_same(rt, &text, told, Page::WriteFailed);
     check_held(rt, &out.into_inner(), text);
-    Ok(())
 }
 
 // A writer that fails after this text.
-fn check_failed_write(rt: &(impl Abort + AllocGlobal), text: &str) -> Result<(), Fail> {
+fn check_failed_write(rt: &(impl Abort + AllocGlobal), text: &str) {
     for kind in [ErrorKind::BrokenPipe, ErrorKind::Interrupted] {
-        check_failed_page(rt, Limited::failing(rt.alloc(), text.len(), kind), text)?;
+        check_failed_page(rt, Limited::failing(rt.alloc(), text.len(), kind), text);
     }
-    Ok(())
 }
 
 #[test]
-fn a_failed_write_ends_a_page_where_it_stands(rt: HostRuntime) -> Result<(), Fail> {
+fn a_failed_write_ends_a_page_where_it_stands(rt: HostRuntime) {
     for (room, _) in LATER_THREE.char_indices() {
-        check_failed_write(&rt, cut(LATER_THREE, room)?)?;
+        check_failed_write(&rt, cut(&rt, LATER_THREE, room));
     }
-    Ok(())
 }
 
 #[test]
-fn a_failed_flush_fails_a_page(rt: HostRuntime) -> Result<(), Fail> {
-    check_failed_page(&rt, Limited::unflushed(rt.alloc()), LATER_THREE)
+fn a_failed_flush_fails_a_page(rt: HostRuntime) {
+    check_failed_page(&rt, Limited::unflushed(rt.alloc()), LATER_THREE);
 }
 
 fn check_untouched(rt: &impl Abort, writer: &Limited) {
@@ -163,11 +149,10 @@ fn check_untouched(rt: &impl Abort, writer: &Limited) {
 }
 
 #[test]
-fn a_moment_of_another_schedule_is_no_item(rt: HostRuntime) -> Result<(), Fail> {
-    let other = moment("2020-01-01T02:00:00", 0)?;
+fn a_moment_of_another_schedule_is_no_item(rt: HostRuntime) {
+    let other = moment(&rt, "2020-01-01T02:00:00", 0);
     let mut out = Watched::new(Limited::unflushed(rt.alloc()));
-    let told = page_ahead(rt.alloc(), "@daily", &other, 9, &mut out)?;
+    let told = page_ahead(&rt, "@daily", &other, 9, &mut out);
     check_same(&rt, &"02:00", told, Page::NotAnItem);
     check_untouched(&rt, &out.into_inner());
-    Ok(())
 }

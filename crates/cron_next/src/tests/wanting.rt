@@ -12,7 +12,6 @@ use std::alloc::Global;
 use std::borrow::CowStr;
 use std::fmt::Write;
 use std::process::Abort;
-use std::test::Fail;
 
 fn is_wanting(error: &Error) -> bool {
     matches!(error.kind(), ErrorKind::OutOfMemory)
@@ -51,81 +50,72 @@ fn wanting_texts(alloc: Global) -> u32 {
     count
 }
 
-fn check_again(rt: &(impl Abort + AllocGlobal), schedule: &Schedule) -> Result<(), Fail> {
-    let again = Schedule::from_str(rt.alloc(), "@daily")?;
+fn check_again(rt: &(impl Abort + AllocGlobal), schedule: &Schedule) {
+    let again = Schedule::from_str(rt.alloc(), "@daily").expect(rt, "a schedule");
     assert!(rt; are_same(&again, schedule));
-    assert!(rt; schedule.clone()? == *schedule);
-    Ok(())
+    assert!(rt; schedule.clone().expect(rt, "memory") == *schedule);
 }
 
-fn check_wanting_calls(rt: &(impl Abort + AllocGlobal), schedule: &Schedule) -> Result<(), Fail> {
+fn check_wanting_calls(rt: &(impl Abort + AllocGlobal), schedule: &Schedule) {
     let alloc = rt.alloc();
-    let mut blocks = Vec::with_capacity(alloc, MOST_BLOCKS)?;
+    let mut blocks = Vec::with_capacity(alloc, MOST_BLOCKS).expect(rt, "memory");
     take_all_memory(&mut blocks, alloc);
     let texts = wanting_texts(alloc);
     let is_cloned = schedule.clone().is_ok();
     give_back(rt, &mut blocks);
     assert_eq!(rt; texts, 4);
     assert!(rt; !is_cloned);
-    Ok(())
 }
 
 #[test]
-fn calls_without_memory_say_so_and_change_nothing(rt: HostRuntime) -> Result<(), Fail> {
-    let schedule = Schedule::from_str(rt.alloc(), "@daily")?;
-    check_wanting_calls(&rt, &schedule)?;
-    check_again(&rt, &schedule)
+fn calls_without_memory_say_so_and_change_nothing(rt: HostRuntime) {
+    let schedule = Schedule::from_str(rt.alloc(), "@daily").expect(&rt, "a schedule");
+    check_wanting_calls(&rt, &schedule);
+    check_again(&rt, &schedule);
 }
 
-fn show(text: &mut String, answer: Option<Moment>) -> Result<(), Fail> {
-    let moment = answer.ok_or("the walk has no such item")?;
-    write!(text, "{moment}, ")?;
-    Ok(())
+fn show(rt: &impl Abort, text: &mut String, answer: Option<Moment>) {
+    let moment = answer.expect(rt, "the walk has no such item");
+    write!(text, "{moment}, ").expect(rt, "memory");
 }
 
 // The texts of two answers.
-fn told(alloc: Global, answers: &[Option<Moment>]) -> Result<String, Fail> {
-    let mut text = String::new(alloc);
+fn told(rt: &(impl Abort + AllocGlobal), answers: &[Option<Moment>]) -> String {
+    let mut text = String::new(rt.alloc());
     for answer in answers {
-        show(&mut text, *answer)?;
+        show(rt, &mut text, *answer);
     }
-    Ok(text)
+    text
 }
 
 fn is_played(alloc: Global, walk: &mut ScheduleIterator<'_>) -> bool {
     walk.play(alloc, &[Turn::Next, Turn::Next]).is_ok()
 }
 
-fn check_wanting_play(
-    rt: &(impl Abort + AllocGlobal),
-    walk: &mut ScheduleIterator<'_>,
-) -> Result<(), Fail> {
-    let mut blocks = Vec::with_capacity(rt.alloc(), MOST_BLOCKS)?;
+fn check_wanting_play(rt: &(impl Abort + AllocGlobal), walk: &mut ScheduleIterator<'_>) {
+    let mut blocks = Vec::with_capacity(rt.alloc(), MOST_BLOCKS).expect(rt, "memory");
     take_all_memory(&mut blocks, rt.alloc());
     let is_played = is_played(rt.alloc(), walk);
     give_back(rt, &mut blocks);
     assert!(rt; !is_played);
-    Ok(())
 }
 
-fn check_told(rt: &(impl Abort + AllocGlobal), answers: &[Option<Moment>]) -> Result<(), Fail> {
-    let text = told(rt.alloc(), answers)?;
+fn check_told(rt: &(impl Abort + AllocGlobal), answers: &[Option<Moment>]) {
+    let text = told(rt, answers);
     let wanted = "2020-01-02 00:00:00 +00:00, 2020-01-01 00:00:00 +00:00, ";
     check_same(rt, &"start", text.as_str(), wanted);
-    Ok(())
 }
 
-fn check_play(
-    rt: &(impl Abort + AllocGlobal),
-    walk: &mut ScheduleIterator<'_>,
-) -> Result<(), Fail> {
-    check_wanting_play(rt, walk)?;
-    let answers = walk.play(rt.alloc(), &[Turn::Next, Turn::NextBack])?;
-    check_told(rt, answers.as_slice())
+fn check_play(rt: &(impl Abort + AllocGlobal), walk: &mut ScheduleIterator<'_>) {
+    check_wanting_play(rt, walk);
+    let answers = walk
+        .play(rt.alloc(), &[Turn::Next, Turn::NextBack])
+        .expect(rt, "memory");
+    check_told(rt, answers.as_slice());
 }
 
 #[test]
-fn a_list_of_calls_without_memory_leaves_the_walk(rt: HostRuntime) -> Result<(), Fail> {
-    let schedule = Schedule::from_str(rt.alloc(), "@daily")?;
-    check_play(&rt, &mut schedule.after(start()?, &TimeZone::UTC))
+fn a_list_of_calls_without_memory_leaves_the_walk(rt: HostRuntime) {
+    let schedule = Schedule::from_str(rt.alloc(), "@daily").expect(&rt, "a schedule");
+    check_play(&rt, &mut schedule.after(start(&rt), &TimeZone::UTC));
 }

@@ -1,8 +1,8 @@
 //! What a failure prints.
 
-use crate::printer::WriteFailed;
-use crate::ring::Failure;
 use cron::Schedule;
+use cron_ringing::printer::WriteFailed;
+use cron_ringing::ring::Failure;
 use cron_scheduler::Stop;
 use std::alloc::{AllocError, Global};
 use std::test::Fail;

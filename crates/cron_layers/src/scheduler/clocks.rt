@@ -1,6 +1,6 @@
 //! A clock that is told what to show.
 
-use crate::AlarmClock;
+use cron_scheduler::AlarmClock;
 use jiff::Timestamp;
 use std::alloc::Global;
 

@@ -5,14 +5,14 @@ mod machine;
 mod stops;
 mod told;
 
-use crate::{Plan, Start, Stop};
 use clocks::{Fault, Told};
 use cron::Schedule;
 use cron::schedule::Moment;
+use cron_scheduler::{Plan, Start, Stop};
 use jiff::Timestamp;
 use jiff::tz::TimeZone;
-use std::alloc::{AllocError, Global};
-use std::test::Fail;
+use std::alloc::AllocError;
+use std::process::Abort;
 
 // Chicago goes from -06:00 to -05:00 on 2022-03-13, and back on 2022-11-06.
 const CHICAGO: &str = "CST6CDT,M3.2.0,M11.1.0";
@@ -28,33 +28,33 @@ struct Ran {
 
 // Runs a plan in Chicago on a clock that shows these times, in seconds since 1970.
 fn run_told(
-    alloc: Global,
+    rt: &(impl Abort + AllocGlobal),
     expression: &str,
     start: Start,
     most: Option<u64>,
     times: &[i64],
-) -> Result<Ran, Fail> {
-    let schedule = Schedule::from_str(alloc, expression)?;
-    let zone = TimeZone::posix(CHICAGO)?;
+) -> Ran {
+    let schedule = Schedule::from_str(rt.alloc(), expression).expect(rt, "a schedule");
+    let zone = TimeZone::posix(CHICAGO).expect(rt, "a zone");
     let plan = Plan {
         schedule: &schedule,
         zone: &zone,
         start,
         most,
     };
-    let mut clock = Told::new(alloc, times);
-    let mut fires = Vec::new(alloc);
+    let mut clock = Told::new(rt.alloc(), times);
+    let mut fires = Vec::new(rt.alloc());
     let answer = plan.run(
         &mut clock,
         &mut |fire: Moment| { Ok(fires.push(fire.timestamp().as_second())?) },
     );
-    Ok(Ran {
+    Ran {
         answer,
         fires,
         waits: clock.into_waits(),
-    })
+    }
 }
 
-fn after(second: i64) -> Result<Start, Fail> {
-    Ok(Start::After(Timestamp::from_second(second)?))
+fn after(rt: &impl Abort, second: i64) -> Start {
+    Start::After(Timestamp::from_second(second).expect(rt, "an instant"))
 }

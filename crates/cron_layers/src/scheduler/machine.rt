@@ -1,15 +1,14 @@
 //! The clock of the machine, over a clock of the runtime that is handed in.
 
-use crate::{AlarmClock, MachineClock, Plan, Start};
 use cron::Schedule;
 use cron::schedule::Moment;
+use cron_scheduler::{AlarmClock, MachineClock, Plan, Start};
 use jiff::Timestamp;
 use jiff::tz::TimeZone;
 use std::alloc::AllocError;
 use std::cell::Cell;
 use std::io;
 use std::rt::Clock;
-use std::test::Fail;
 use std::time::Duration;
 
 // A clock of a runtime that shows seconds, and counts its sleeps.
@@ -36,18 +35,21 @@ impl Clock for Counting {
 }
 
 #[test]
-fn it_wakes_each_minute_until_the_fire(rt: HostRuntime) -> Result<(), Fail> {
+fn it_wakes_each_minute_until_the_fire(rt: HostRuntime) {
     let counting = Counting {
         seconds: Cell::new(1790),
         sleeps: Cell::new(0),
     };
-    let schedule = Schedule::from_str(rt.alloc(), "0 0 * * * *")?;
+    let schedule = Schedule::from_str(rt.alloc(), "0 0 * * * *").expect(&rt, "a schedule");
     let mut clock = MachineClock(&counting);
-    assert_eq!(rt; clock.now()?, Timestamp::from_second(1790)?);
+    assert_eq!(rt;
+        clock.now().expect(&rt, "a time"),
+        Timestamp::from_second(1790).expect(&rt, "an instant")
+    );
     let plan = Plan {
         schedule: &schedule,
         zone: &TimeZone::UTC,
-        start: Start::After(clock.now()?),
+        start: Start::After(clock.now().expect(&rt, "a time")),
         most: Some(2),
     };
     let mut fires = Vec::new(rt.alloc());
@@ -56,8 +58,8 @@ fn it_wakes_each_minute_until_the_fire(rt: HostRuntime) -> Result<(), Fail> {
         &mut |fire: Moment| -> Result<(), AllocError> {
             Ok(fires.push(fire.timestamp().as_second())?)
         },
-    )?;
+    )
+    .expect(&rt, "a run");
     assert_eq!(rt; fires.as_slice(), [3600, 7200].as_slice());
     assert_eq!(rt; counting.sleeps.get(), 31 + 60);
-    Ok(())
 }
