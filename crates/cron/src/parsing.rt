@@ -55,7 +55,7 @@ impl Schedule {
     // Reads a text and keeps it, or gives it back where it means nothing. There is no allocator to take
     // memory from.
     #[inline(always)]
-    fn kept(text: String) -> Result<Schedule, String>
+    fn keep(text: String) -> Result<Schedule, String>
         ensures means { IfOk result (λ s. Means (string_bytes text) s.sets) }
         ensures source { IfOk result (λ s. s.source ≡ string_bytes text) }
         ensures same { IfErr result (λ back. back ≡ text) }
@@ -75,7 +75,7 @@ impl Schedule {
         ensures refused { IfErr result (Tells (IsRefusal (string_bytes text))) }
         ensures accepted { IfErr result (λ _. MeansNothing (string_bytes text)) }
     {
-        match Schedule::kept(text) {
+        match Schedule::keep(text) {
             Ok(schedule) => Ok(schedule),
             Err(text) => Err(Schedule::refusal(alloc, text.as_str())),
         }

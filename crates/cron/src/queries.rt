@@ -13,7 +13,7 @@ ghost use Rattle.cron_time.specs.Search.Times.{IsNearestTime, time_of_parts};
 use crate::schedule::Schedule;
 use cron_moments::civil::civil_number;
 pub use cron_moments::readings::Found;
-pub use cron_time::search::found::{Search, Survey, TimeFound};
+pub use cron_time::search::answers::{Search, Survey, TimeFound};
 use cron_time::search::search;
 use cron_time::search::survey::survey;
 use cron_time::search::times::nearest_time;

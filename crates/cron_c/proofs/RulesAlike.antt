@@ -18,8 +18,8 @@ use Rattle.jiff_tz.specs.Tzif.{HasBadRule, transition_at, tzif_view}
 use Rattle.jiff_tz.specs.TzifAgree.{FooterAgrees, RowAgrees}
 use Rattle.jiff_tz.specs.TzifReader.{TzifText, read_tzif}
 use Rattle.jiff_tz.specs.TzifText.{TransitionText, no_row}
-use Rattle.cron_clocks.specs.Tables.{turn_at, turns_of}
-use Rattle.cron_clocks.proofs.TableLemmas.{turn_is, turns_length}
+use Rattle.cron_clocks.specs.Tables.{row_at, transitions_of}
+use Rattle.cron_clocks.proofs.TableLemmas.{transition_is, transitions_length}
 use Rattle.cron_c.specs.ZoneFiles.{HasDoubleTurn, IsFileOf, turn_count}
 use Rattle.cron_c.proofs.Items.{offset_once}
 
@@ -99,20 +99,20 @@ none_said bytes (inr bad) t file =
     let text : bad.text ≡ tzif_view t = cc in
     let rule : option_map tz_view t.posix_tz ≡ Some (tz_view bad.rule) = sym (ap (λ (x : TzifText). x.rule) text) ∙ bad.is_rule in
     bad.disagrees (subst (λ (rows : List TransitionText). FooterAgrees rows bad.rule) (sym (ap (λ (x : TzifText). x.transitions) text))
-    (no_rule_agrees (turns_of t) bad.rule t.posix_tz rule file.1))
+    (no_rule_agrees (transitions_of t) bad.rule t.posix_tz rule file.1))
 
 -- ---- tables that read the same have their turns at the same seconds
 
-second_alike : (t u : Tzif) (i : ℕ) → turns_of t ≡ turns_of u → i < turn_count t → i < turn_count u → (transition_at t i).second ≡ (transition_at u i).second
+second_alike : (t u : Tzif) (i : ℕ) → transitions_of t ≡ transitions_of u → i < turn_count t → i < turn_count u → (transition_at t i).second ≡ (transition_at u i).second
 second_alike t u i same short other =
-    ap (λ (r : TransitionText). r.second) (sym (turn_is t i short) ∙ ap (λ (rows : List TransitionText). turn_at rows i) same ∙ turn_is u i other)
+    ap (λ (r : TransitionText). r.second) (sym (transition_is t i short) ∙ ap (λ (rows : List TransitionText). row_at rows i) same ∙ transition_is u i other)
 
 pub double_too : (bytes : List ℕ) (t u : Tzif) → IsFileOf bytes t → IsFileOf bytes u → HasDoubleTurn t → HasDoubleTurn u
 double_too bytes t u file other (i, short, same) =
     let both : Ok (tzif_view t) ≡ Ok (tzif_view u) = sym file.0 ∙ other.0 in
     let view : tzif_view t ≡ tzif_view u = cc in
-    let rows : turns_of t ≡ turns_of u = ap (λ (x : TzifText). x.transitions) view in
-    let size : turn_count t ≡ turn_count u = sym (turns_length t) ∙ ap length rows ∙ turns_length u in (
+    let rows : transitions_of t ≡ transitions_of u = ap (λ (x : TzifText). x.transitions) view in
+    let size : turn_count t ≡ turn_count u = sym (transitions_length t) ∙ ap length rows ∙ transitions_length u in (
       i,
       omega arith,
       sym (second_alike t u i rows (omega arith) (omega arith)) ∙ same ∙ second_alike t u (i + 1) rows (omega arith) (omega arith),

@@ -24,8 +24,8 @@ use Rattle.jiff_tz.specs.TzifText.{transition_text}
 use Rattle.jiff_tz.specs.Zone as Zone
 use Rattle.jiff_tz.proofs.ZoneTheorems.{count_is, goes_on}
 use Rattle.cron_clocks.specs.Clocks.{LookupsAgree}
-use Rattle.cron_clocks.specs.Tables.{turns_of}
-use Rattle.cron_clocks.proofs.TableLemmas.{turns_length}
+use Rattle.cron_clocks.specs.Tables.{transitions_of}
+use Rattle.cron_clocks.proofs.TableLemmas.{transitions_length}
 use Rattle.cron_clocks.proofs.RuleAgreement.{plain_agree}
 use Rattle.cron_clocks.proofs.RuleSeasons.{shown_plain}
 use Rattle.cron_instants.proofs.FireLemmas.{int_le-true, int_le-false}
@@ -162,10 +162,10 @@ start_past_is t count l =
     rw some refl
 
 -- a list that says the same as the table has as many turns
-pub turns_told : (t : Tzif) (ts : List Transition) → map transition_text ts ≡ turns_of t → length ts ≡ turn_count t
+pub turns_told : (t : Tzif) (ts : List Transition) → map transition_text ts ≡ transitions_of t → length ts ≡ turn_count t
 turns_told t ts same =
     let own : length (map transition_text ts) ≡ length ts = grind (arith, common_steps) in
-    sym own ∙ ap length same ∙ turns_length t
+    sym own ∙ ap length same ∙ transitions_length t
 
 -- ---- a list of the eras of a table
 

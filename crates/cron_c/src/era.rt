@@ -4,7 +4,7 @@ ghost use Rattle.std.specs.Prelude.{◌≡◌, ◌↔◌, ◌<◌, ◌+◌, true
 ghost use Rattle.cron_c.specs.Zones.{IsSomeZone};
 ghost use Rattle.cron_c.specs.Histories.{IsHistory, has_started, meets};
 
-use crate::table::steady;
+use crate::era_table::steady;
 use crate::zone::{CronZone, FIXED, zone_in};
 use jiff::tz::Offset;
 

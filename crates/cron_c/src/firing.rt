@@ -26,8 +26,8 @@ fn nearest_fire(
 {
     let fields = fields_of(schedule);
     match way {
-        Way::Ahead => first_after(&fields, zone, now),
-        Way::Back => last_by(&fields, zone, now),
+        Way::Ahead => first_after(&fields, now, zone),
+        Way::Back => last_by(&fields, now, zone),
     }
 }
 

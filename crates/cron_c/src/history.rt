@@ -42,8 +42,8 @@ fn first_of_zone(fields: &ScheduleFields, zone: &TimeZone<'_>, begin: &Begin) ->
     ensures { IsEarliest (λ r. IsItem fields.now (plain_zone zone.now) r × IsBeyond begin.now r) result }
 {
     match begin {
-        Begin::After(now) => first_after(fields, zone, *now),
-        Begin::Past(item) => first_past(fields, zone, item),
+        Begin::After(now) => first_after(fields, *now, zone),
+        Begin::Past(item) => first_past(fields, item, zone),
     }
 }
 
@@ -59,7 +59,7 @@ fn first_of_era(fields: &ScheduleFields, era: &CronEra, begin: &Begin) -> Option
         return first_of_zone(fields, &zone, begin);
     }
     match Timestamp::from_second(era.starts - 1) {
-        Ok(before) => first_after(fields, &zone, before),
+        Ok(before) => first_after(fields, before, &zone),
         Err(_) => None,
     }
 }
@@ -107,7 +107,7 @@ fn last_of_era(fields: &ScheduleFields, era: &CronEra, until: Timestamp) -> Opti
     let Some(zone) = zone_in(&era.zone) else {
         return None;
     };
-    let Some(found) = last_by(fields, &zone, until) else {
+    let Some(found) = last_by(fields, until, &zone) else {
         return None;
     };
     if instant_of(&found) < era.starts {

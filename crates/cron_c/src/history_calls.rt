@@ -68,7 +68,7 @@ fn fire_at(schedule: &CronSchedule, eras: &[CronEra], second: i64, item: &mut Cr
 }
 
 // What was found, where its instant isn't past `now`.
-fn due(found: Option<Moment>, now: Timestamp) -> Option<Moment>
+fn take_due(found: Option<Moment>, now: Timestamp) -> Option<Moment>
     ensures { result ≡ due_by now.nanosecond found }
 {
     let Some(moment) = found else {
@@ -93,14 +93,14 @@ fn fill(
     requires { IsHistory eras.now }
     ensures { FillsOf (λ r. IsHistoryItem fields.now eras.now r × IsBeyond begin.now r × IsBy now.nanosecond r) items.old items.new count.new result }
 {
-    let mut next = due(first_of_history(fields, eras, begin), now);
+    let mut next = take_due(first_of_history(fields, eras, begin), now);
     for at in 0..items.len() {
         let Some(moment) = next else {
             *count = at;
             return Status::Done;
         };
         items[at] = item_of(&moment);
-        next = due(first_of_history(fields, eras, &Begin::Past(moment)), now);
+        next = take_due(first_of_history(fields, eras, &Begin::Past(moment)), now);
     }
     *count = items.len();
     match next {

@@ -4,19 +4,19 @@
 
 mod buffer;
 mod era;
+mod era_table;
 mod firing;
 mod history;
 mod history_calls;
 mod item;
 mod listing;
 mod named;
-mod reading;
+mod parse_call;
 mod runs;
 mod savings;
 mod schedule;
 mod searching;
 mod status;
-mod table;
 mod text;
 mod version;
 mod zone;
@@ -31,7 +31,7 @@ pub use history_calls::{
 pub use item::CronItem;
 pub use listing::{cron_c_list_after, cron_c_list_before, cron_c_list_next, cron_c_list_prev};
 pub use named::cron_c_zone_parse;
-pub use reading::cron_c_parse;
+pub use parse_call::cron_c_parse;
 pub use runs::{cron_c_fires_between, cron_c_fires_past};
 pub use schedule::CronSchedule;
 pub use searching::{cron_c_after, cron_c_before, cron_c_next, cron_c_prev};

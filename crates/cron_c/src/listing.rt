@@ -12,7 +12,7 @@ use crate::item::{CronItem, item_of, moment_of};
 use crate::schedule::{CronSchedule, fields_of};
 use crate::status::Status;
 use crate::zone::{CronZone, zone_in};
-use cron_time::walk::resume::resumed;
+use cron_time::walk::resume::resume;
 use cron_time::walk::state::State;
 use cron_time::walk::step::step;
 use cron_units::fields::ScheduleFields;
@@ -88,16 +88,16 @@ fn list_on(
         return Status::NotAnItem;
     };
     let fields = fields_of(schedule);
-    let Some(from) = resumed(&fields, &zone, &given) else {
+    let Some(from) = resume(&fields, &zone, &given) else {
         return Status::NotAnItem;
     };
     *count = fill(way, &fields, &zone, from, items);
     Status::Done
 }
 
-/// Writes the first items of a walk ahead that starts at an instant as far as they fit, and how many they are.
-/// Where it starts in a fold, the first may be at the instant itself, or one before it, and later ones may be
-/// left out.
+/// Writes the first items of a walk ahead that starts at an instant as far as they fit, and how many
+/// they are. Where it starts in a fold, the first may be at the instant itself, or one before it, and
+/// later ones may be left out.
 #[unsafe(no_mangle)]
 pub extern "C" fn cron_c_list_after(
     schedule: &CronSchedule,
@@ -111,8 +111,8 @@ pub extern "C" fn cron_c_list_after(
     list(Way::Ahead, schedule, zone, instant, items, count).code()
 }
 
-/// Writes the first items of a walk back that starts at an instant. Where it starts in a fold, the first may be
-/// at the instant itself, or one after it, and earlier ones may be left out.
+/// Writes the first items of a walk back that starts at an instant. Where it starts in a fold, the first
+/// may be at the instant itself, or one after it, and earlier ones may be left out.
 #[unsafe(no_mangle)]
 pub extern "C" fn cron_c_list_before(
     schedule: &CronSchedule,

@@ -74,7 +74,7 @@ fn run_past(
     let Ok(now) = Timestamp::from_second(now) else {
         return Status::BadInstant;
     };
-    let run = Run::past_up_to(fields_of(schedule), &given, now, &zone);
+    let run = Run::past_by(fields_of(schedule), &given, now, &zone);
     fill(run, items, count)
 }
 

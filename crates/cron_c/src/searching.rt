@@ -13,7 +13,7 @@ use crate::schedule::{CronSchedule, fields_of};
 use crate::status::Status;
 use crate::zone::{CronZone, zone_in};
 use cron_moments::moment::Moment;
-use cron_time::walk::resume::resumed;
+use cron_time::walk::resume::resume;
 use cron_time::walk::state::State;
 use cron_time::walk::step::step;
 use cron_units::way::Way;
@@ -42,7 +42,7 @@ fn beside(
         (λ answer. (w : Walk) × IsResumed (sets_of schedule.now) (plain_zone zone.now) item.now w × (answer ≡ (step way w).answer)) }
 {
     let fields = fields_of(schedule);
-    match resumed(&fields, zone, item) {
+    match resume(&fields, zone, item) {
         Some(given) => {
             let mut state = given;
             step(&fields, zone, way, &mut state);

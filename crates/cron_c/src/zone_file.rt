@@ -4,9 +4,9 @@ ghost use Rattle.cron_c.specs.Calls.{Answers};
 ghost use Rattle.cron_c.specs.ZoneFiles.{ReadsHistory};
 
 use crate::era::CronEra;
+use crate::era_table::write_eras;
 use crate::savings::tell_saving;
 use crate::status::Status;
-use crate::table::write_eras;
 use jiff_core::Error;
 use jiff_tz::Tzif;
 use std::alloc::Global;

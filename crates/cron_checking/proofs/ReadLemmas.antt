@@ -2,8 +2,8 @@
 use Rattle.std.proofs.Common.{◌≡◌, ℕ, false, List, [], ◌∷◌, ◌++◌, Result, refl, subst, inr}
 use Rattle.std.specs.declared.io.Error.{Error}
 use Rattle.cron_checking.specs.Reads.{Read, GaveLine, IsRead, AreLinesRead, AreReads}
-use Rattle.cron_checking.specs.declared.reading.Given.{Given}
-use Rattle.cron_checking.specs.declared.reading.Given.TheVariants.{Line}
+use Rattle.cron_checking.specs.declared.line_reader.Given.{Given}
+use Rattle.cron_checking.specs.declared.line_reader.Given.TheVariants.{Line}
 
 -- one more read, after others that gave a line and its line feed
 read_after : {R : Type 0} (reads : R → Result ℕ Error → List ℕ → R → Type 0) (rs : List Read) (r : Read) (old mid new : R)

@@ -3,8 +3,8 @@ use Rattle.std.specs.Prelude.{◌≡◌, ◌≤◌, ◌≢◌, ℕ, Bool, true, 
 use Rattle.std.specs.List.{AllByRecursion}
 use Rattle.std.specs.Io.KnownBytes.{Consumes}
 use Rattle.cron_checking.specs.Lines.{lines_of, IsReadThrough}
-use Rattle.cron_checking.specs.declared.reading.Given.{Given}
-use Rattle.cron_checking.specs.declared.reading.Given.TheVariants.{Line, End}
+use Rattle.cron_checking.specs.declared.line_reader.Given.{Given}
+use Rattle.cron_checking.specs.declared.line_reader.Given.TheVariants.{Line, End}
 
 -- no byte is a line feed
 abbrev pub IsOneLine : List ℕ → Type 0

@@ -1,8 +1,8 @@
 -- The calls that reach a reader, one by one.
 use Rattle.std.specs.Prelude.{◌≡◌, ◌++◌, ℕ, false, List, [], ◌∷◌, ◌⊎◌, IsOk, Result}
 use Rattle.std.specs.declared.io.Error.{Error}
-use Rattle.cron_checking.specs.declared.reading.Given.{Given}
-use Rattle.cron_checking.specs.declared.reading.Given.TheVariants.{Line}
+use Rattle.cron_checking.specs.declared.line_reader.Given.{Given}
+use Rattle.cron_checking.specs.declared.line_reader.Given.TheVariants.{Line}
 
 -- one read: what was answered, and the bytes that were read
 pub record Read : Type 0 where

@@ -10,9 +10,9 @@ ghost use Rattle.cron_writer.specs.Watching.{has_failed, writer_of, IsSent};
 ghost use Rattle.cron_checking.specs.declared.check.Outcome.TheVariants.{WriteFailed};
 
 use crate::line::{Mode, tell_line};
+use crate::line_reader::{Given, read_line};
 use crate::output::put;
 use crate::readable::Readable;
-use crate::reading::{Given, read_line};
 use cron_writer::gathered::Gathered;
 use cron_writer::watchable::Watchable;
 use cron_writer::watched::Watched;

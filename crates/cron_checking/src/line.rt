@@ -61,7 +61,7 @@ fn tell_sets(
     match mode {
         Mode::Faults => Ok(()),
         Mode::Short => tell_short(number, fields, text),
-        Mode::Next(start, zone) => match first_after(fields, zone, *start) {
+        Mode::Next(start, zone) => match first_after(fields, *start, zone) {
             Some(first) => writeln!(text, "{number}: {first}"),
             None => writeln!(text, "{number}: none"),
         },

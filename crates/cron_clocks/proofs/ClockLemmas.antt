@@ -1,4 +1,4 @@
--- What a clock of a rule shows in a second of UTC, from the turns of its year.
+-- What a clock of a rule shows in a second of UTC, from the transitions of its year.
 use Rattle.std.proofs.Common.{◌≡◌, inl, inr, cond, ℤ, pos, ◌+ℤ◌, ◌-ℤ◌, ◌*ℤ◌, ◌≤ℤ◌, ◌<ℤ◌, int_le, int_lt, to_z, of_z, w32, w64, FitsSigned, Option, Some, None, refl, sym, ap, ◌∙◌, arith}
 use Rattle.std.proofs.lemmas.Int.{by_lt_z}
 use Rattle.std.specs.Int.{int_div_euclid}
@@ -13,11 +13,11 @@ use Rattle.jiff_tz.specs.declared.timezone.TimeZone.TheVariants.{Posix}
 use Rattle.jiff_tz.specs.PosixRule.{clamp_to, first_nanosecond, in_window, last_nanosecond, match_some, nanos_per_day, rule_day, rule_nanos}
 use Rattle.jiff_tz.specs.Year.{year_of_day, year_of_nanos}
 use Rattle.jiff_tz.specs.Zone.{offset_at}
-use Rattle.cron_clocks.specs.Spans.{AreTurns, IsAtSecond, IsFarInside, IsTurn, year_end}
-use Rattle.cron_clocks.specs.Turns.{TurnsAt, year_start}
+use Rattle.cron_clocks.specs.Spans.{AreTransitions, IsAtSecond, IsFarInside, IsTransition, year_end}
+use Rattle.cron_clocks.specs.Transitions.{TransitionsAt, year_start}
 use Rattle.cron_clocks.proofs.RuleSeasons.{shows_by}
 use Rattle.cron_clocks.proofs.SpanLemmas.{fits_back}
-use Rattle.cron_clocks.proofs.RuleTurns.{clamp_inside}
+use Rattle.cron_clocks.proofs.RuleTransitions.{clamp_inside}
 use Rattle.cron_clocks.proofs.RuleYears.{first_day-next, year_of_nanos-is}
 use Rattle.cron_clocks.proofs.Windows.{le_yes, le_no, lt_yes, lt_no}
 
@@ -50,7 +50,7 @@ same_le a b =
 window_at : (a b t : ℤ) → in_window (nanos_of_seconds a, nanos_of_seconds b) t ≡ in_window (a, b) (second_of t)
 window_at a b t = rw (same_le a b, le_at a t, lt_at b t, le_at b t, lt_at a t) refl
 
--- ---- a turn away from the edges of its year is where it is at each offset
+-- ---- a transition away from the edges of its year is where it is at each offset
 
 at_second : (last moment second : ℤ) → IsAtSecond last moment second → (second +ℤ pos 93_600) ≤ℤ last → moment ≡ nanos_of_seconds second
 at_second last moment second (inl there) far = there.0
@@ -64,67 +64,67 @@ unclamped low high n k e above below =
     (λ over. let kept : clamp_to low high n ≡ high = rw (lt_no n low more, lt_yes high n over) refl in absurd (omega (arith, signed_arith)))
     (λ under. sym (clamp_inside low high n more under) ∙ e))
 
-turns_by : (y : ℤ) (turn : DayTime) (r : ℤ) (o : Option ℤ) → rule_day y turn.date ≡ o → rule_nanos y turn (pos 0) ≡ nanos_of_seconds r
-    → IsFarInside (year_start y) (year_end y) r → TurnsAt turn y r
+transitions_by : (y : ℤ) (transition : DayTime) (r : ℤ) (o : Option ℤ) → rule_day y transition.date ≡ o → rule_nanos y transition (pos 0) ≡ nanos_of_seconds r
+    → IsFarInside (year_start y) (year_end y) r → TransitionsAt transition y r
 unfolding rule_nanos
-turns_by y turn r None none is far s small =
+transitions_by y transition r None none is far s small =
     let last : last_nanosecond y ≡ nanos_of_seconds r =
     sym (ap (λ (o : Option ℤ). match_some o (last_nanosecond y) (λ (k : ℤ). clamp_to (first_nanosecond y) (last_nanosecond y)
-    (k *ℤ nanos_per_day +ℤ nanos_of_seconds (turn.time -ℤ pos 0)))) none) ∙ is in
+    (k *ℤ nanos_per_day +ℤ nanos_of_seconds (transition.time -ℤ pos 0)))) none) ∙ is in
     absurd (omega (arith, signed_arith, far.1))
-turns_by y turn r (Some day) some is far s small =
-    let clamped : clamp_to (first_nanosecond y) (last_nanosecond y) (day *ℤ nanos_per_day +ℤ nanos_of_seconds (turn.time -ℤ pos 0)) ≡ nanos_of_seconds r =
+transitions_by y transition r (Some day) some is far s small =
+    let clamped : clamp_to (first_nanosecond y) (last_nanosecond y) (day *ℤ nanos_per_day +ℤ nanos_of_seconds (transition.time -ℤ pos 0)) ≡ nanos_of_seconds r =
     sym (ap (λ (o : Option ℤ). match_some o (last_nanosecond y) (λ (k : ℤ). clamp_to (first_nanosecond y) (last_nanosecond y)
-    (k *ℤ nanos_per_day +ℤ nanos_of_seconds (turn.time -ℤ pos 0)))) some) ∙ is in
+    (k *ℤ nanos_per_day +ℤ nanos_of_seconds (transition.time -ℤ pos 0)))) some) ∙ is in
     let low = far.0 in
     let high = far.1 in
-    let whole : day *ℤ nanos_per_day +ℤ nanos_of_seconds (turn.time -ℤ pos 0) ≡ nanos_of_seconds r =
+    let whole : day *ℤ nanos_per_day +ℤ nanos_of_seconds (transition.time -ℤ pos 0) ≡ nanos_of_seconds r =
     unclamped (first_nanosecond y) (last_nanosecond y) _ (nanos_of_seconds r) clamped (omega (arith, signed_arith, low)) (omega (arith, signed_arith, high)) in
-    let moved : day *ℤ nanos_per_day +ℤ nanos_of_seconds (turn.time -ℤ s) ≡ nanos_of_seconds (r -ℤ s) = omega (arith, signed_arith, whole) in
+    let moved : day *ℤ nanos_per_day +ℤ nanos_of_seconds (transition.time -ℤ s) ≡ nanos_of_seconds (r -ℤ s) = omega (arith, signed_arith, whole) in
     rw (some, moved)
     (clamp_inside (first_nanosecond y) (last_nanosecond y) (nanos_of_seconds (r -ℤ s)) (omega (arith, signed_arith, low, small))
     (omega (arith, signed_arith, high, small)))
 
-turns_at : (y : ℤ) (turn : DayTime) (r : ℤ) → IsTurn turn y r → IsFarInside (year_start y) (year_end y) r → TurnsAt turn y r
-turns_at y turn r is far = turns_by y turn r (rule_day y turn.date) refl (at_second _ _ _ is.value far.1) far
+transitions_at : (y : ℤ) (transition : DayTime) (r : ℤ) → IsTransition transition y r → IsFarInside (year_start y) (year_end y) r → TransitionsAt transition y r
+transitions_at y transition r is far = transitions_by y transition r (rule_day y transition.date) refl (at_second _ _ _ is.value far.1) far
 
 -- ---- what is shown
 
-pub shown_among : (rule : TimeZone) (d : Dst) (first last start end n : ℤ) → rule.dst ≡ Some d → AreTurns d first last start end
+pub shown_among : (rule : TimeZone) (d : Dst) (first last start end n : ℤ) → rule.dst ≡ Some d → AreTransitions d first last start end
     → IsFarInside first last start → IsFarInside first last end → first ≤ℤ n → n <ℤ last
     → (t : ℤ) → int_div_euclid t (pos 1_000_000_000) ≡ n
     → offset_at (Posix rule) t ≡ cond (in_window (start -ℤ rule.std_offset.seconds, end -ℤ d.offset.seconds) n) d.offset.seconds rule.std_offset.seconds
-shown_among rule d first last start end n some turns start_far end_far low high t e =
-    let y = turns.number in
-    let next = first_day-next y (y +ℤ pos 1) turns.year refl in
-    let to = turns.to in
+shown_among rule d first last start end n some transitions start_far end_far low high t e =
+    let y = transitions.number in
+    let next = first_day-next y (y +ℤ pos 1) transitions.year refl in
+    let to = transitions.to in
     let year : year_of_nanos t ≡ y = ap year_of_day (days_of t) ∙ ap (λ k. year_of_nanos (nanos_of_seconds k)) e
-    ∙ year_of_nanos-is y (y +ℤ pos 1) n turns.year refl (rw (← turns.from) low) (omega (arith, signed_arith)) in
-    let starts = turns_at y d.rule.start start turns.starts (rw (← turns.from, ← turns.to) start_far) in
-    let ends = turns_at y d.rule.end end turns.ends (rw (← turns.from, ← turns.to) end_far) in
-    shows_by rule d some y start end t starts ends (rw (← turns.from) start_far.0) year
+    ∙ year_of_nanos-is y (y +ℤ pos 1) n transitions.year refl (rw (← transitions.from) low) (omega (arith, signed_arith)) in
+    let starts = transitions_at y d.rule.start start transitions.starts (rw (← transitions.from, ← transitions.to) start_far) in
+    let ends = transitions_at y d.rule.end end transitions.ends (rw (← transitions.from, ← transitions.to) end_far) in
+    shows_by rule d some y start end t starts ends (rw (← transitions.from) start_far.0) year
     ∙ ap (λ w. cond w d.offset.seconds rule.std_offset.seconds)
     (window_at (start -ℤ rule.std_offset.seconds) (end -ℤ d.offset.seconds) t
     ∙ ap (λ k. in_window (start -ℤ rule.std_offset.seconds, end -ℤ d.offset.seconds) k) e)
 
--- ---- a turn in UTC
+-- ---- a transition in UTC
 
-pub fits_utc : (turn s r : ℤ) → IsWithin 400_000_000_000 turn → IsOffsetSeconds s → r ≡ to_z w32 (of_z w32 s)
-    → FitsSigned w64 (to_z w64 (of_z w64 turn) -ℤ to_z w64 (of_z w64 r))
-fits_utc turn s r near small e =
+pub fits_utc : (transition s r : ℤ) → IsWithin 400_000_000_000 transition → IsOffsetSeconds s → r ≡ to_z w32 (of_z w32 s)
+    → FitsSigned w64 (to_z w64 (of_z w64 transition) -ℤ to_z w64 (of_z w64 r))
+fits_utc transition s r near small e =
     let offset : to_z w32 (of_z w32 s) ≡ s = omega (arith, ints, small) in
-    let turn_back : to_z w64 (of_z w64 turn) ≡ turn = omega (arith, ints, near) in
+    let transition_back : to_z w64 (of_z w64 transition) ≡ transition = omega (arith, ints, near) in
     let back : to_z w64 (of_z w64 s) ≡ s = omega (arith, ints, small) in
-    rw (turn_back, e, offset, back) (fits_back turn s near (omega (arith, signed_arith, small), omega (arith, signed_arith, small)))
+    rw (transition_back, e, offset, back) (fits_back transition s near (omega (arith, signed_arith, small), omega (arith, signed_arith, small)))
 
-pub in_utc : (turn s r : ℤ) → IsWithin 400_000_000_000 turn → IsOffsetSeconds s → r ≡ to_z w32 (of_z w32 s)
-    → to_z w64 (of_z w64 (to_z w64 (of_z w64 turn) -ℤ to_z w64 (of_z w64 r))) ≡ turn -ℤ s
-in_utc turn s r near small e =
+pub in_utc : (transition s r : ℤ) → IsWithin 400_000_000_000 transition → IsOffsetSeconds s → r ≡ to_z w32 (of_z w32 s)
+    → to_z w64 (of_z w64 (to_z w64 (of_z w64 transition) -ℤ to_z w64 (of_z w64 r))) ≡ transition -ℤ s
+in_utc transition s r near small e =
     let offset : to_z w32 (of_z w32 s) ≡ s = omega (arith, ints, small) in
-    let turn_back : to_z w64 (of_z w64 turn) ≡ turn = omega (arith, ints, near) in
+    let transition_back : to_z w64 (of_z w64 transition) ≡ transition = omega (arith, ints, near) in
     let back : to_z w64 (of_z w64 s) ≡ s = omega (arith, ints, small) in
-    rw (turn_back, e, offset, back) (omega (arith, ints, small, near))
+    rw (transition_back, e, offset, back) (omega (arith, ints, small, near))
 
-pub stays_near : (turn s first last : ℤ) → IsWithin 400_000_000_000 turn → IsOffsetSeconds s → IsWithin 400_000_000_000 first
-    → IsWithin 400_000_000_000 last → IsFarInside first last turn → IsWithin 400_000_000_000 (turn -ℤ s)
-stays_near turn s first last near small from to far = (omega (arith, signed_arith, small, from, far), omega (arith, signed_arith, small, to, far))
+pub stays_near : (transition s first last : ℤ) → IsWithin 400_000_000_000 transition → IsOffsetSeconds s → IsWithin 400_000_000_000 first
+    → IsWithin 400_000_000_000 last → IsFarInside first last transition → IsWithin 400_000_000_000 (transition -ℤ s)
+stays_near transition s first last near small from to far = (omega (arith, signed_arith, small, from, far), omega (arith, signed_arith, small, to, far))

@@ -1,7 +1,7 @@
 pub mod ToldLemmas
 pub mod FixedZones
 pub mod RuleDays
-pub mod RuleTurns
+pub mod RuleTransitions
 pub mod RuleYears
 pub mod Windows
 pub mod Seasons
@@ -13,5 +13,5 @@ pub mod SteadyLemmas
 pub mod OffsetLemmas
 pub mod TableLemmas
 pub mod ClockLemmas
-pub mod CalmLemmas
+pub mod SeasonBoundsLemmas
 pub mod SeasonLemmas

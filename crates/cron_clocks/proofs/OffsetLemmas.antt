@@ -1,4 +1,4 @@
--- The readings of a civil second under a rule, from where it lies among the turns.
+-- The readings of a civil second under a rule, from where it lies among the transitions.
 use Rattle.std.proofs.Common.{◌≡◌, ℕ, ℤ, ◌+ℤ◌, ◌-ℤ◌, ◌<ℤ◌, true, false, [], ◌∷◌, refl, arith}
 use Rattle.std.specs.Ordering.{int_eq}
 use Rattle.std.proofs.lemmas.Int.{ints}

@@ -1,4 +1,4 @@
--- In a rule whose turns lie apart the look-ups agree.
+-- In a rule whose transitions lie apart the look-ups agree.
 use Rattle.std.proofs.Common.{◌≡◌, ℕ, ◌/◌, ◌<◌, false, ◌⊎◌, inl, inr, ℤ, pos, ◌+ℤ◌, ◌-ℤ◌, ◌≤ℤ◌, ◌<ℤ◌, int_lt, Option, Some, None, refl, sym, ap, subst, ◌∙◌, arith, rules}
 use Rattle.std.proofs.lemmas.Int.{by_lt_z}
 use Rattle.jiff_core.specs.Calendar.{IsYear}
@@ -16,11 +16,11 @@ use Rattle.jiff_tz.specs.declared.timezone.TimeZone.TheVariants.{Posix}
 use Rattle.jiff_tz.specs.PosixRule.{first_day, rule_nanos, ambiguous_by, ambiguous_at_by}
 use Rattle.jiff_tz.specs.Zone.{ambiguous_at}
 use Rattle.jiff_tz.proofs.PosixLemmas.{ambiguous_at-some}
-use Rattle.cron_moments.specs.Civil.{civil, seconds_in_range}
+use Rattle.cron_moments.specs.Civil.{civil, days_in_range, seconds_in_range}
 use Rattle.cron_moments.proofs.CivilLemmas.{epoch_day-civil, civil_nanos-civil, date-civil}
 use Rattle.cron_moments.proofs.DateLemmas.{low_at}
 use Rattle.cron_clocks.specs.Clocks.{LookupsAgree, shown_offset}
-use Rattle.cron_clocks.specs.Turns.{TurnsAreApart, AlwaysInOrder, TurnsAt, year_start}
+use Rattle.cron_clocks.specs.Transitions.{TransitionsAreApart, AlwaysInOrder, TransitionsAt, year_start}
 use Rattle.cron_clocks.proofs.RuleSeasons.{saving_within, saving_across, shown_plain, shows_either}
 use Rattle.cron_clocks.proofs.RuleTold.{told_within, told_across}
 use Rattle.cron_clocks.proofs.RuleYears.{first_day-next}
@@ -36,7 +36,7 @@ pub record InYear (c : ℕ) (y : ℤ) : Type 0 where
   pub from : year_start y ≤ℤ pos c
   pub to : pos c <ℤ year_start (y +ℤ pos 1)
 
-last_first_day : pos 47_847 ≤ℤ first_day (pos 9999)
+last_first_day : pos days_in_range ≤ℤ first_day (pos 9999)
 last_first_day =
     let end = days_from_civil-day_count (pos 10000) 1 1 in
     let count = day_count-end in
@@ -93,8 +93,8 @@ module _ (rule : TimeZone) (d : Dst) (some : rule.dst ≡ Some d) (c : ℕ) (h :
   abbrev told_by : ℤ → ℤ → AmbiguousOffset
   told_by start end = ambiguous_by rule.std_offset d.offset (nanos_of_seconds start, nanos_of_seconds end) (nanos_of_seconds (pos c))
 
-  -- what jiff tells, by the turns of the year
-  told_is : (start end : ℤ) → TurnsAt d.rule.start y start → TurnsAt d.rule.end y end → ambiguous_at (Posix rule) (civil c) ≡ told_by start end
+  -- what jiff tells, by the transitions of the year
+  told_is : (start end : ℤ) → TransitionsAt d.rule.start y start → TransitionsAt d.rule.end y end → ambiguous_at (Posix rule) (civil c) ≡ told_by start end
   unfolding ambiguous_at
   told_is start end first second =
       let at_start : rule_nanos y d.rule.start (pos 0) ≡ nanos_of_seconds start = first (pos 0) no_offset ∙ omega (arith, signed_arith) in
@@ -119,20 +119,20 @@ module _ (rule : TimeZone) (d : Dst) (some : rule.dst ≡ Some d) (c : ℕ) (h :
 
   within_told : ¬ (d.offset.seconds ≡ rule.std_offset.seconds) → AlwaysInOrder d.rule.start d.rule.end → IsTold passes (ambiguous_at (Posix rule) (civil c))
   unfolding saving_within
-  within_told other turns =
-      let turn = turns y (civil c).date.year_in in
-      let here = around_second rule.std_offset.seconds d.offset.seconds rule.std_offset.in_range d.offset.in_range (saving_within rule d some turns) in
-      subst (IsTold passes) (sym (told_is turn.first turn.second turn.first_turns turn.second_turns))
-      (told_within (shown_offset (Posix rule)) (pos c) turn.first turn.second rule.std_offset.seconds d.offset.seconds
+  within_told other transitions =
+      let transition = transitions y (civil c).date.year_in in
+      let here = around_second rule.std_offset.seconds d.offset.seconds rule.std_offset.in_range d.offset.in_range (saving_within rule d some transitions) in
+      subst (IsTold passes) (sym (told_is transition.first transition.second transition.first_transitions transition.second_transitions))
+      (told_within (shown_offset (Posix rule)) (pos c) transition.first transition.second rule.std_offset.seconds d.offset.seconds
       rule.std_offset.in_range d.offset.in_range here other (shows_either rule d some) rule.std_offset d.offset refl refl)
 
   across_told : ¬ (rule.std_offset.seconds ≡ d.offset.seconds) → AlwaysInOrder d.rule.end d.rule.start → IsTold passes (ambiguous_at (Posix rule) (civil c))
   unfolding saving_across
-  across_told other turns =
-      let turn = turns y (civil c).date.year_in in
-      let here = around_second d.offset.seconds rule.std_offset.seconds d.offset.in_range rule.std_offset.in_range (saving_across rule d some turns) in
-      subst (IsTold passes) (sym (told_is turn.second turn.first turn.second_turns turn.first_turns))
-      (told_across (shown_offset (Posix rule)) (pos c) turn.first turn.second d.offset.seconds rule.std_offset.seconds
+  across_told other transitions =
+      let transition = transitions y (civil c).date.year_in in
+      let here = around_second d.offset.seconds rule.std_offset.seconds d.offset.in_range rule.std_offset.in_range (saving_across rule d some transitions) in
+      subst (IsTold passes) (sym (told_is transition.second transition.first transition.second_transitions transition.first_transitions))
+      (told_across (shown_offset (Posix rule)) (pos c) transition.first transition.second d.offset.seconds rule.std_offset.seconds
       d.offset.in_range rule.std_offset.in_range here other (λ n. swap (shows_either rule d some n)) rule.std_offset d.offset refl refl)
 
   -- a saving that saves nothing
@@ -146,20 +146,20 @@ module _ (rule : TimeZone) (d : Dst) (some : rule.dst ≡ Some d) (c : ℕ) (h :
       subst (IsTold passes) (sym (ambiguous_at-some rule d (civil c) some))
       (rw (first, second) (shown (pos c -ℤ std), λ x k. sym k ∙ shown (pos c -ℤ x)))
 
-  told : TurnsAreApart d → IsTold passes (ambiguous_at (Posix rule) (civil c))
-  told turns =
+  told : TransitionsAreApart d → IsTold passes (ambiguous_at (Posix rule) (civil c))
+  told transitions =
       by_lt_z d.offset.seconds rule.std_offset.seconds
-      (λ less. by_order turns (λ same. omega (arith, signed_arith)))
+      (λ less. by_order transitions (λ same. omega (arith, signed_arith)))
       (λ least. by_lt_z rule.std_offset.seconds d.offset.seconds
-      (λ more. by_order turns (λ same. omega (arith, signed_arith)))
+      (λ more. by_order transitions (λ same. omega (arith, signed_arith)))
       (λ most. same_told (omega (arith, signed_arith))))
     where
-      by_order : TurnsAreApart d → ¬ (d.offset.seconds ≡ rule.std_offset.seconds) → IsTold passes (ambiguous_at (Posix rule) (civil c))
+      by_order : TransitionsAreApart d → ¬ (d.offset.seconds ≡ rule.std_offset.seconds) → IsTold passes (ambiguous_at (Posix rule) (civil c))
       by_order (inl order) other = within_told other order
       by_order (inr order) other = across_told (λ same. other (sym same)) order
 
-pub apart_agree : (rule : TimeZone) (d : Dst) → rule.dst ≡ Some d → TurnsAreApart d → LookupsAgree (Posix rule)
-apart_agree rule d some turns = agree_where_told (Posix rule) (λ c h. told rule d some c h turns)
+pub apart_agree : (rule : TimeZone) (d : Dst) → rule.dst ≡ Some d → TransitionsAreApart d → LookupsAgree (Posix rule)
+apart_agree rule d some transitions = agree_where_told (Posix rule) (λ c h. told rule d some c h transitions)
 
 -- a rule with no saving
 plain_told : (rule : TimeZone) (c : ℕ) → rule.dst ≡ None → IsTold (Holds (Posix rule) c) (ambiguous_at (Posix rule) (civil c))

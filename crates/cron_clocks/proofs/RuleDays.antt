@@ -9,7 +9,7 @@ use Rattle.jiff_core.proofs.MarchLemmas.{days_of_months-late, leap_day}
 use Rattle.jiff_core.proofs.SignedLemmas.{signed_arith}
 use Rattle.jiff_tz.specs.declared.posix.Day.TheVariants.{JulianOne, JulianZero, WeekdayOfMonth}
 use Rattle.jiff_tz.specs.PosixRule.{first_day, rule_day, sunday_number, nth_weekday, last_weekday}
-use Rattle.cron_clocks.specs.Turns.{IsAmong}
+use Rattle.cron_clocks.specs.Transitions.{IsAmong}
 
 -- the days before a month, in the shorter years and in each
 leap_few : (y : ℤ) → leap_day y ≤ 1

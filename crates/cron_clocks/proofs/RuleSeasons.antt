@@ -12,7 +12,7 @@ use Rattle.jiff_tz.specs.PosixRule.{match_some, dst_at_by, in_window, int_same, 
 use Rattle.jiff_tz.specs.Year.{year_of_nanos}
 use Rattle.jiff_tz.specs.Zone.{offset_at}
 use Rattle.cron_clocks.specs.Clocks.{shown_offset}
-use Rattle.cron_clocks.specs.Turns.{TurnsAt, AlwaysInOrder, year_start}
+use Rattle.cron_clocks.specs.Transitions.{TransitionsAt, AlwaysInOrder, year_start}
 use Rattle.cron_clocks.proofs.Seasons.{Season}
 use Rattle.cron_clocks.proofs.Windows.{window_in_order, window_turned, span_inside, span_early, span_late}
 
@@ -23,7 +23,7 @@ picked false std d = refl
 not_same : (a b : ℤ) → b <ℤ a → int_same a b ≡ false
 not_same a b h = let above : int_le a b ≡ false = grind (arith, ints) in rw above refl
 
--- a window that doesn't begin as the year does is the two turns
+-- a window that doesn't begin as the year does is the two transitions
 plain_window : (a b f l : ℤ) (left : Bool) → f <ℤ a → ◌≡◌ {A = ℤ × ℤ} (cond (int_same a f && left) (a, l) (a, b)) (a, b)
 plain_window a b f l left h = rw (not_same a f h) refl
 
@@ -43,7 +43,7 @@ module _ (rule : TimeZone) (d : Dst) (some : rule.dst ≡ Some d) where
   abbrev dst : ℤ
   dst = d.offset.seconds
 
-  window_is : (y start end : ℤ) → TurnsAt d.rule.start y start → TurnsAt d.rule.end y end → (year_start y +ℤ pos 93_600) ≤ℤ start
+  window_is : (y start end : ℤ) → TransitionsAt d.rule.start y start → TransitionsAt d.rule.end y end → (year_start y +ℤ pos 93_600) ≤ℤ start
       → utc_window d y rule.std_offset ≡ (nanos_of_seconds (start -ℤ std), nanos_of_seconds (end -ℤ dst))
   unfolding utc_window
   window_is y start end first second low =
@@ -51,7 +51,7 @@ module _ (rule : TimeZone) (d : Dst) (some : rule.dst ≡ Some d) where
       rw (first std rule.std_offset.in_range, second dst d.offset.in_range)
       (plain_window (nanos_of_seconds (start -ℤ std)) (nanos_of_seconds (end -ℤ dst)) (first_nanosecond y) (last_nanosecond y) _ (omega (arith, signed_arith)))
 
-  pub shows_by : (y start end t : ℤ) → TurnsAt d.rule.start y start → TurnsAt d.rule.end y end → (year_start y +ℤ pos 93_600) ≤ℤ start
+  pub shows_by : (y start end t : ℤ) → TransitionsAt d.rule.start y start → TransitionsAt d.rule.end y end → (year_start y +ℤ pos 93_600) ≤ℤ start
       → year_of_nanos t ≡ y → offset_at (Posix rule) t ≡ cond (in_window (nanos_of_seconds (start -ℤ std), nanos_of_seconds (end -ℤ dst)) t) dst std
   unfolding offset_at
   shows_by y start end t first second low year =
@@ -62,24 +62,24 @@ module _ (rule : TimeZone) (d : Dst) (some : rule.dst ≡ Some d) where
 
   -- a saving within the year
   unfoldable pub saving_within : AlwaysInOrder d.rule.start d.rule.end → (y : ℤ) → IsYear y → Season shows std dst y
-  saving_within turns y year =
-      let turn = turns y year in
-      let low = turn.low in
-      let apart = turn.apart in
+  saving_within transitions y year =
+      let transition = transitions y year in
+      let low = transition.low in
+      let apart = transition.apart in
       let std_in = rule.std_offset.in_range in
       let dst_in = d.offset.in_range in
-      let a : ℤ = nanos_of_seconds (turn.first -ℤ std) in
-      let b : ℤ = nanos_of_seconds (turn.second -ℤ dst) in
+      let a : ℤ = nanos_of_seconds (transition.first -ℤ std) in
+      let b : ℤ = nanos_of_seconds (transition.second -ℤ dst) in
       let span = λ (n : ℤ). window_in_order a b (nanos_of_seconds n) (omega (arith, signed_arith)) in
       let shown = λ (n : ℤ) (e : year_of_nanos (nanos_of_seconds n) ≡ y).
-      shows_by y turn.first turn.second (nanos_of_seconds n) turn.first_turns turn.second_turns (omega (arith, signed_arith)) e
+      shows_by y transition.first transition.second (nanos_of_seconds n) transition.first_transitions transition.second_transitions (omega (arith, signed_arith)) e
       ∙ ap (λ w. cond w dst std) (span n) in
       record {
-        first = turn.first;
-        second = turn.second;
+        first = transition.first;
+        second = transition.second;
         low = low;
         apart = apart;
-        high = turn.high;
+        high = transition.high;
         before = λ n e early. shown n e ∙ ap (λ w. cond w dst std) (span_early a b (nanos_of_seconds n) (omega (arith, signed_arith)));
         between = λ n e from to.
             shown n e ∙ ap (λ w. cond w dst std) (span_inside a b (nanos_of_seconds n) (omega (arith, signed_arith)) (omega (arith, signed_arith)));
@@ -88,24 +88,24 @@ module _ (rule : TimeZone) (d : Dst) (some : rule.dst ≡ Some d) where
 
   -- a saving across the new year
   unfoldable pub saving_across : AlwaysInOrder d.rule.end d.rule.start → (y : ℤ) → IsYear y → Season shows dst std y
-  saving_across turns y year =
-      let turn = turns y year in
-      let low = turn.low in
-      let apart = turn.apart in
+  saving_across transitions y year =
+      let transition = transitions y year in
+      let low = transition.low in
+      let apart = transition.apart in
       let std_in = rule.std_offset.in_range in
       let dst_in = d.offset.in_range in
-      let a : ℤ = nanos_of_seconds (turn.first -ℤ dst) in
-      let b : ℤ = nanos_of_seconds (turn.second -ℤ std) in
+      let a : ℤ = nanos_of_seconds (transition.first -ℤ dst) in
+      let b : ℤ = nanos_of_seconds (transition.second -ℤ std) in
       let span = λ (n : ℤ). window_turned b a (nanos_of_seconds n) (omega (arith, signed_arith)) in
       let shown = λ (n : ℤ) (e : year_of_nanos (nanos_of_seconds n) ≡ y).
-      shows_by y turn.second turn.first (nanos_of_seconds n) turn.second_turns turn.first_turns (omega (arith, signed_arith)) e
+      shows_by y transition.second transition.first (nanos_of_seconds n) transition.second_transitions transition.first_transitions (omega (arith, signed_arith)) e
       ∙ ap (λ w. cond w dst std) (span n) in
       record {
-        first = turn.first;
-        second = turn.second;
+        first = transition.first;
+        second = transition.second;
         low = low;
         apart = apart;
-        high = turn.high;
+        high = transition.high;
         before = λ n e early. shown n e ∙ ap (λ w. cond (not w) dst std) (span_early a b (nanos_of_seconds n) (omega (arith, signed_arith)));
         between = λ n e from to.
             shown n e ∙ ap (λ w. cond (not w) dst std) (span_inside a b (nanos_of_seconds n) (omega (arith, signed_arith)) (omega (arith, signed_arith)));

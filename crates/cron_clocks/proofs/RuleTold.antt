@@ -7,7 +7,7 @@ use Rattle.jiff_core.proofs.SignedLemmas.{signed_arith}
 use Rattle.jiff_tz.specs.declared.ambiguous.AmbiguousOffset.{AmbiguousOffset}
 use Rattle.jiff_tz.specs.declared.ambiguous.AmbiguousOffset.TheVariants.{Unambiguous, Gap, Fold}
 use Rattle.jiff_tz.specs.PosixRule.{in_window, in_span, saturating_add, saturating_sub, shift_between, ambiguous_ahead, ambiguous_behind, ambiguous_by, civil_min, civil_max}
-use Rattle.cron_clocks.proofs.RuleTurns.{clamp_inside}
+use Rattle.cron_clocks.proofs.RuleTransitions.{clamp_inside}
 use Rattle.cron_clocks.proofs.Seasons.{IsAround, IsFarInside}
 use Rattle.cron_clocks.proofs.ToldLemmas.{IsTold}
 use Rattle.cron_clocks.proofs.Windows.{lt_yes, lt_no, inside_span, outside_span, window_in_order, window_turned}
@@ -81,7 +81,7 @@ module _ (P : AmbiguousOffset → Type 0) (std dst : Offset) where
   behind_by false false true a b c d = c refl refl refl
   behind_by false false false a b c d = d refl refl refl
 
--- ---- a civil second of a year in which a clock shows one offset from one turn to the next, and else the other
+-- ---- a civil second of a year in which a clock shows one offset from one transition to the next, and else the other
 
 module _ (shows : ℤ → ℤ) (c first second outer inner : ℤ) (outer_in : IsOffsetSeconds outer) (inner_in : IsOffsetSeconds inner)
     (here : IsAround shows outer inner c first second) (other : ¬ (inner ≡ outer))
@@ -190,7 +190,7 @@ module _ (shows : ℤ → ℤ) (c first second outer inner : ℤ) (outer_in : Is
     back_second : back second ≡ at (second -ℤ shift)
     back_second = moved_back std dst second here.second_in
 
-    -- the saving begins at the first turn
+    -- the saving begins at the first transition
     module _ (e : std.seconds ≡ outer) (f : dst.seconds ≡ inner) where
       within : in_window (at first, at second) (at c) ≡ in_span (at first) (at second) (at c)
       within = window_in_order (at first) (at second) (at c) (omega (arith, signed_arith))
@@ -252,7 +252,7 @@ module _ (shows : ℤ → ℤ) (c first second outer inner : ℤ) (outer_in : Is
           (λ least. let more : std.seconds <ℤ dst.seconds = ahead std.seconds dst.seconds least (λ same. other (sym f ∙ same ∙ e)) in
           rw (lt_no dst.seconds std.seconds least, lt_yes std.seconds dst.seconds more) (within_ahead (omega (arith, signed_arith))))
 
-    -- the saving begins at the second turn
+    -- the saving begins at the second transition
     module _ (e : std.seconds ≡ inner) (f : dst.seconds ≡ outer) where
       across : in_window (at second, at first) (at c) ≡ not (in_span (at first) (at second) (at c))
       across = window_turned (at second) (at first) (at c) (omega (arith, signed_arith))

@@ -8,7 +8,7 @@ use Rattle.jiff_core.proofs.SignedLemmas.{signed_arith}
 use Rattle.jiff_tz.specs.PosixRule.{first_day}
 use Rattle.jiff_tz.specs.Year.{year_of_nanos}
 use Rattle.jiff_tz.proofs.YearLemmas.{years_within_is}
-use Rattle.cron_clocks.specs.Turns.{year_start}
+use Rattle.cron_clocks.specs.Transitions.{year_start}
 
 not_negative : (z : ℤ) → pos 0 ≤ℤ z → pos (unsigned_abs z) ≡ z
 not_negative (pos n) h = refl

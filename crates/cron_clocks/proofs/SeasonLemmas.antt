@@ -10,10 +10,10 @@ use Rattle.jiff_core.proofs.MarchLemmas.{day_count-early}
 use Rattle.jiff_core.proofs.SignedLemmas.{signed_arith}
 use Rattle.jiff_tz.specs.declared.posix.TimeZone.{TimeZone}
 use Rattle.jiff_tz.specs.PosixRule.{first_day}
-use Rattle.cron_moments.specs.Civil.{seconds_in_range}
-use Rattle.cron_clocks.specs.Seasons.{AreOrdered, IsCourse, IsSeason, IsYearAt, IsYearOf, TellsOne}
+use Rattle.cron_moments.specs.Civil.{days_in_range, seconds_in_range, years_in_range}
+use Rattle.cron_clocks.specs.Seasons.{AreOrdered, IsSeasonBounds, IsSeason, IsYearAt, IsYearOf, TellsOne}
 use Rattle.cron_clocks.specs.Spans.{year_end}
-use Rattle.cron_clocks.specs.Turns.{common_year, week, year_start}
+use Rattle.cron_clocks.specs.Transitions.{common_year, week, year_start}
 use Rattle.cron_clocks.proofs.RuleYears.{first_day-next}
 use Rattle.cron_clocks.proofs.SpanLemmas.{as_number}
 
@@ -35,10 +35,10 @@ kept_up z low high =
 
 -- ---- the year of a second
 
-march_days_few : (k : ℕ) → k < 131 → march_days (11_969 + k) ≡ 4_371_587 + (1461 * k + 1) / 4
+march_days_few : (k : ℕ) → k < years_in_range → march_days (11_969 + k) ≡ 4_371_587 + (1461 * k + 1) / 4
 march_days_few k h = omega arith
 
-first_of : (k : ℕ) → k < 131 → first_day (pos (1970 + k)) ≡ pos ((1461 * k + 1) / 4)
+first_of : (k : ℕ) → k < years_in_range → first_day (pos (1970 + k)) ≡ pos ((1461 * k + 1) / 4)
 first_of k h =
     let e : pos (1970 + k) +ℤ pos 10000 ≡ pos (suc (11_969 + k)) = omega (arith, signed_arith) in
     omega (
@@ -50,7 +50,7 @@ first_of k h =
     )
 
 -- a day of one of these years comes before the next
-day_high : (day k : ℕ) → day < 47_847 → k ≡ (4 * day + 2) / 1461 → pos day <ℤ (first_day (pos (1970 + k)) +ℤ pos (days_in_year (pos (1970 + k))))
+day_high : (day k : ℕ) → day < days_in_range → k ≡ (4 * day + 2) / 1461 → pos day <ℤ (first_day (pos (1970 + k)) +ℤ pos (days_in_year (pos (1970 + k))))
 day_high day k h e =
     elim (cases_lt k 130) [
       | inl lt ↦ let next = first_day-next (pos (1970 + k)) (pos (1970 + (k + 1))) (omega (arith, signed_arith), omega (arith, signed_arith))
@@ -82,7 +82,7 @@ year_at n k h e =
 
 -- ---- the seasons of a year
 
-module _ (rule : TimeZone) (a b e f : ℕ) (outer inner : Offset) (course : IsCourse rule a b e f outer inner) (order : AreOrdered a b e f)
+module _ (rule : TimeZone) (a b e f : ℕ) (outer inner : Offset) (season_bounds : IsSeasonBounds rule a b e f outer inner) (order : AreOrdered a b e f)
     (first n : ℕ) (of : IsYearOf first n) where
   abbrev y : ℤ
   y = of.number
@@ -145,8 +145,8 @@ module _ (rule : TimeZone) (a b e f : ℕ) (outer inner : Offset) (course : IsCo
       elim (cases_lt k first) [
         | inl less ↦ let last = before_it k (omega arith) less (omega arith) in
             let starts = last.1 in
-            course.after (y -ℤ pos 1) k last.0 (omega (arith, signed_arith))
-        | inr more ↦ course.before y k (in_it k (omega arith) more (short k (omega arith))) (omega (arith, signed_arith))
+            season_bounds.after (y -ℤ pos 1) k last.0 (omega (arith, signed_arith))
+        | inr more ↦ season_bounds.before y k (in_it k (omega arith) more (short k (omega arith))) (omega (arith, signed_arith))
       ]
 
   tells_between : (k : ℕ) → first + b ≤ k → k < first + e → TellsOne rule k inner
@@ -155,7 +155,7 @@ module _ (rule : TimeZone) (a b e f : ℕ) (outer inner : Offset) (course : IsCo
       let room = of.room in
       let other = order.other in
       let end = order.high in
-      course.between y k (in_it k (omega arith) (omega arith) (short k (omega arith))) (omega (arith, signed_arith)) (omega (arith, signed_arith))
+      season_bounds.between y k (in_it k (omega arith) (omega arith) (short k (omega arith))) (omega (arith, signed_arith)) (omega (arith, signed_arith))
 
   tells_late : (k : ℕ) → k < seconds_in_range → first + f ≤ k → k < first + a + 31_536_000 → TellsOne rule k outer
   tells_late k h low high =
@@ -165,10 +165,10 @@ module _ (rule : TimeZone) (a b e f : ℕ) (outer inner : Offset) (course : IsCo
       let other = order.other in
       let end = order.high in
       by_lt_z (pos k) (year_end y)
-      (λ less. course.after y k (in_it k h (omega arith) less) (omega (arith, signed_arith)))
+      (λ less. season_bounds.after y k (in_it k h (omega arith) less) (omega (arith, signed_arith)))
       (λ more. let next = after_it k h more (omega arith) in
       let starts = next.1 in
-      course.before (y +ℤ pos 1) k next.0 (omega (arith, signed_arith)))
+      season_bounds.before (y +ℤ pos 1) k next.0 (omega (arith, signed_arith)))
 
   pub early : n < first + a → IsSeason rule n (first + f - 31_536_000) (first + a) outer
   early less =

@@ -6,10 +6,10 @@ use Rattle.jiff_core.specs.Timestamp.{IsOffsetSeconds, nanos_of_seconds}
 use Rattle.jiff_core.proofs.CalendarLemmas.{days_in_year_bounds}
 use Rattle.jiff_core.proofs.SignedLemmas.{signed_arith}
 use Rattle.jiff_tz.specs.Year.{year_of_nanos}
-use Rattle.cron_clocks.specs.Turns.{year_start, week, common_year}
+use Rattle.cron_clocks.specs.Transitions.{year_start, week, common_year}
 use Rattle.cron_clocks.proofs.RuleYears.{first_day-next, year_of_nanos-is}
 
--- in the year y a clock shows one offset from one turn to the next, and before and after them the other
+-- in the year y a clock shows one offset from one transition to the next, and before and after them the other
 pub record Season (shows : ℤ → ℤ) (outer inner y : ℤ) : Type 0 where
   pub first : ℤ
   pub second : ℤ
@@ -28,7 +28,7 @@ IsNear c n = ((c -ℤ pos 93_599) ≤ℤ n) × (n ≤ℤ (c +ℤ pos 93_599))
 abbrev pub IsFarInside : ℤ → Type 0
 IsFarInside a = IsWithin 10_000_000_000 a
 
--- around the civil second c a clock shows one offset from one turn to the next, and before and after them the other
+-- around the civil second c a clock shows one offset from one transition to the next, and before and after them the other
 pub record IsAround (shows : ℤ → ℤ) (outer inner c first second : ℤ) : Type 0 where
   pub first_in : IsFarInside first
   pub second_in : IsFarInside second

@@ -1,4 +1,4 @@
--- What a rule tells of the civil seconds between its turns.
+-- What a rule tells of the civil seconds between its transitions.
 use Rattle.std.proofs.Common.{◌≡◌, ℕ, ◌<◌, inl, inr, ℤ, pos, negsuc, ◌+ℤ◌, ◌-ℤ◌, ◌*ℤ◌, ◌≤ℤ◌, ◌<ℤ◌, int_le, int_lt, Option, Some, None, refl, sym, ap, subst, ◌∙◌, arith, rules, unsigned_abs, FitsSigned, w64}
 use Rattle.jiff_core.specs.Calendar.{IsYear, IsWithin}
 use Rattle.jiff_core.specs.DateTime.{civil_nanos}
@@ -15,32 +15,32 @@ use Rattle.jiff_tz.proofs.PosixLemmas.{ambiguous_at-some}
 use Rattle.cron_moments.specs.Civil.{civil, seconds_in_range}
 use Rattle.cron_moments.proofs.CivilLemmas.{civil_nanos-civil}
 use Rattle.cron_clocks.proofs.RuleAgreement.{InYear, in_year}
-use Rattle.cron_clocks.proofs.RuleTurns.{clamp_inside}
+use Rattle.cron_clocks.proofs.RuleTransitions.{clamp_inside}
 use Rattle.cron_clocks.proofs.RuleYears.{first_day-next, year_of_nanos-is}
 use Rattle.cron_clocks.proofs.Windows.{le_yes, le_no, lt_yes, lt_no}
 use Rattle.cron_clocks.specs.Spans.{IsAtSecond, IsFirstFrom, IsNarrowed, IsToldAlike, IsUnparted, PartsAlike, year_end}
 use Rattle.cron_clocks.specs.Steady.{IsToldBy}
 use Rattle.std.proofs.lemmas.Int.{by_lt_z}
 
--- ---- moments on one side of each turn are told alike
+-- ---- moments on one side of each transition are told alike
 
 abbrev OnOneSide : ℤ → ℤ → ℤ → Type 0
-OnOneSide turn n m = (int_le turn n ≡ int_le turn m) × (int_lt n turn ≡ int_lt m turn)
+OnOneSide transition n m = (int_le transition n ≡ int_le transition m) × (int_lt n transition ≡ int_lt m transition)
 
 told_alike : (std dst : Offset) (start end n m : ℤ) → OnOneSide start n m → OnOneSide end n m
     → OnOneSide (saturating_add start (shift_between std dst)) n m → OnOneSide (saturating_sub end (shift_between std dst)) n m
     → ambiguous_by std dst (start, end) n ≡ ambiguous_by std dst (start, end) m
 told_alike std dst start end n m a b e f = rw (a.0, a.1, b.0, b.1, e.0, e.1, f.0, f.1) refl
 
--- ---- civil seconds with no turn between them are on one side of it
+-- ---- civil seconds with no transition between them are on one side of it
 
-on_one_side : (moment turn first end k c : ℤ) → IsFirstFrom moment turn → IsUnparted first end turn
+on_one_side : (moment transition first end k c : ℤ) → IsFirstFrom moment transition → IsUnparted first end transition
     → first ≤ℤ k → k <ℤ end → first ≤ℤ c → c <ℤ end → OnOneSide moment (nanos_of_seconds k) (nanos_of_seconds c)
-on_one_side moment turn first end k c (after, by) (inl before) k_low k_high c_low c_high =
+on_one_side moment transition first end k c (after, by) (inl before) k_low k_high c_low c_high =
     let k_past : moment ≤ℤ nanos_of_seconds k = omega (arith, signed_arith) in
     let c_past : moment ≤ℤ nanos_of_seconds c = omega (arith, signed_arith) in
     (le_yes _ _ k_past ∙ sym (le_yes _ _ c_past), lt_no _ _ k_past ∙ sym (lt_no _ _ c_past))
-on_one_side moment turn first end k c (after, by) (inr late) k_low k_high c_low c_high =
+on_one_side moment transition first end k c (after, by) (inr late) k_low k_high c_low c_high =
     let k_short : nanos_of_seconds k <ℤ moment = omega (arith, signed_arith) in
     let c_short : nanos_of_seconds c <ℤ moment = omega (arith, signed_arith) in
     (le_no _ _ k_short ∙ sym (le_no _ _ c_short), lt_yes _ _ k_short ∙ sym (lt_yes _ _ c_short))
@@ -84,19 +84,19 @@ same_order last a b s t one other =
 -- ---- the other end of a gap or a fold
 
 abbrev InHand : ℤ → Type 0
-InHand turn = ((pos 0 -ℤ pos 100_000_000) ≤ℤ turn) × (turn ≤ℤ pos 5_000_000_000)
+InHand transition = ((pos 0 -ℤ pos 100_000_000) ≤ℤ transition) × (transition ≤ℤ pos 5_000_000_000)
 
-moved_on : (std dst : Offset) (moment turn : ℤ) → InHand turn → IsFirstFrom moment turn
-    → IsFirstFrom (saturating_add moment (shift_between std dst)) (turn +ℤ (dst.seconds -ℤ std.seconds))
-moved_on std dst moment turn near (after, by) =
+moved_on : (std dst : Offset) (moment transition : ℤ) → InHand transition → IsFirstFrom moment transition
+    → IsFirstFrom (saturating_add moment (shift_between std dst)) (transition +ℤ (dst.seconds -ℤ std.seconds))
+moved_on std dst moment transition near (after, by) =
     let std_in = std.in_range in
     let dst_in = dst.in_range in
     let stays = clamp_inside civil_min civil_max (moment +ℤ shift_between std dst) (omega (arith, signed_arith)) (omega (arith, signed_arith)) in
     rw stays (omega (arith, signed_arith), omega (arith, signed_arith))
 
-moved_back : (std dst : Offset) (moment turn : ℤ) → InHand turn → IsFirstFrom moment turn
-    → IsFirstFrom (saturating_sub moment (shift_between std dst)) (turn -ℤ (dst.seconds -ℤ std.seconds))
-moved_back std dst moment turn near (after, by) =
+moved_back : (std dst : Offset) (moment transition : ℤ) → InHand transition → IsFirstFrom moment transition
+    → IsFirstFrom (saturating_sub moment (shift_between std dst)) (transition -ℤ (dst.seconds -ℤ std.seconds))
+moved_back std dst moment transition near (after, by) =
     let std_in = std.in_range in
     let dst_in = dst.in_range in
     let stays = clamp_inside civil_min civil_max (moment -ℤ shift_between std dst) (omega (arith, signed_arith)) (omega (arith, signed_arith)) in
@@ -144,53 +144,53 @@ same_year k y h year low high =
     sym (year_of_nanos-is (civil k).date.year ((civil k).date.year +ℤ pos 1) (pos k) (civil k).date.year_in refl place.from place.to)
     ∙ year_of_nanos-is y (y +ℤ pos 1) (pos k) year refl low (omega (arith, signed_arith))
 
--- ---- where the turn of a year lies
+-- ---- where the transition of a year lies
 
-turn_at : (y : ℤ) (turn : DayTime) (day first end second : ℤ) → rule_day y turn.date ≡ Some day
-    → first ≡ first_day y *ℤ pos 86_400 → end ≡ year_end y → second ≡ day *ℤ pos 86_400 +ℤ turn.time
-    → clamp_to (nanos_of_seconds first) (nanos_of_seconds end -ℤ pos 1) (nanos_of_seconds second) ≡ rule_nanos y turn (pos 0)
+row_at : (y : ℤ) (transition : DayTime) (day first end second : ℤ) → rule_day y transition.date ≡ Some day
+    → first ≡ first_day y *ℤ pos 86_400 → end ≡ year_end y → second ≡ day *ℤ pos 86_400 +ℤ transition.time
+    → clamp_to (nanos_of_seconds first) (nanos_of_seconds end -ℤ pos 1) (nanos_of_seconds second) ≡ rule_nanos y transition (pos 0)
 unfolding rule_nanos
-turn_at y turn day first end second is e f g =
+row_at y transition day first end second is e f g =
     let a : nanos_of_seconds first ≡ first_nanosecond y = omega (arith, signed_arith) in
     let b : nanos_of_seconds end -ℤ pos 1 ≡ last_nanosecond y = omega (arith, signed_arith) in
-    let m : nanos_of_seconds second ≡ day *ℤ nanos_per_day +ℤ nanos_of_seconds (turn.time -ℤ pos 0) = omega (arith, signed_arith) in
+    let m : nanos_of_seconds second ≡ day *ℤ nanos_per_day +ℤ nanos_of_seconds (transition.time -ℤ pos 0) = omega (arith, signed_arith) in
     ap (λ (v : ℤ). clamp_to v (nanos_of_seconds end -ℤ pos 1) (nanos_of_seconds second)) a
     ∙ ap (λ (v : ℤ). clamp_to (first_nanosecond y) v (nanos_of_seconds second)) b
     ∙ ap (λ (v : ℤ). clamp_to (first_nanosecond y) (last_nanosecond y) v) m
     ∙ sym (ap (λ (o : Option ℤ). match_some o (last_nanosecond y) (λ (k : ℤ). clamp_to (first_nanosecond y) (last_nanosecond y)
-    (k *ℤ nanos_per_day +ℤ nanos_of_seconds (turn.time -ℤ pos 0)))) is)
+    (k *ℤ nanos_per_day +ℤ nanos_of_seconds (transition.time -ℤ pos 0)))) is)
 
-pub turn_found : (y : ℤ) (turn : DayTime) (day first end second kept : ℤ) → rule_day y turn.date ≡ Some day
+pub transition_found : (y : ℤ) (transition : DayTime) (day first end second kept : ℤ) → rule_day y transition.date ≡ Some day
     → first ≡ first_day y *ℤ pos 86_400 → end ≡ year_end y
     → IsAtSecond end (clamp_to (nanos_of_seconds first) (nanos_of_seconds end -ℤ pos 1) (nanos_of_seconds second)) kept
-    → second ≡ day *ℤ pos 86_400 +ℤ turn.time → IsAtSecond (year_end y) (rule_nanos y turn (pos 0)) kept
-turn_found y turn day first end second kept is e f found g =
-    subst (λ (v : ℤ). IsAtSecond v (rule_nanos y turn (pos 0)) kept) f
-    (subst (λ (v : ℤ). IsAtSecond end v kept) (turn_at y turn day first end second is e f g) found)
+    → second ≡ day *ℤ pos 86_400 +ℤ transition.time → IsAtSecond (year_end y) (rule_nanos y transition (pos 0)) kept
+transition_found y transition day first end second kept is e f found g =
+    subst (λ (v : ℤ). IsAtSecond v (rule_nanos y transition (pos 0)) kept) f
+    (subst (λ (v : ℤ). IsAtSecond end v kept) (row_at y transition day first end second is e f g) found)
 
 last_there : (y end : ℤ) → end ≡ year_end y → IsAtSecond (year_end y) (last_nanosecond y) end
 last_there y end e = inr (omega (arith, signed_arith), e)
 
 -- a day that the year lacks is its end
-pub turn_lacking : (y : ℤ) (turn : DayTime) (end : ℤ) → rule_day y turn.date ≡ None → end ≡ year_end y → IsAtSecond (year_end y) (rule_nanos y turn (pos 0)) end
+pub transition_lacking : (y : ℤ) (transition : DayTime) (end : ℤ) → rule_day y transition.date ≡ None → end ≡ year_end y → IsAtSecond (year_end y) (rule_nanos y transition (pos 0)) end
 unfolding rule_nanos
-turn_lacking y turn end none e =
+transition_lacking y transition end none e =
     subst (λ (o : Option ℤ). IsAtSecond (year_end y) (match_some o (last_nanosecond y) (λ (k : ℤ). clamp_to (first_nanosecond y) (last_nanosecond y)
-    (k *ℤ nanos_per_day +ℤ nanos_of_seconds (turn.time -ℤ pos 0)))) end) (sym none) (last_there y end e)
+    (k *ℤ nanos_per_day +ℤ nanos_of_seconds (transition.time -ℤ pos 0)))) end) (sym none) (last_there y end e)
 
--- ---- a span that no turn parts
+-- ---- a span that no transition parts
 
-pub fits_back : (turn saving : ℤ) → IsWithin 400_000_000_000 turn → IsWithin 200_000 saving → FitsSigned w64 (turn -ℤ saving)
-fits_back turn saving a b = search rules
+pub fits_back : (transition saving : ℤ) → IsWithin 400_000_000_000 transition → IsWithin 200_000 saving → FitsSigned w64 (transition -ℤ saving)
+fits_back transition saving a b = search rules
 
 -- a number that isn't negative
 pub as_number : (z : ℤ) → pos 0 ≤ℤ z → z ≡ pos (unsigned_abs z)
 as_number (pos n) h = refl
 as_number (negsuc n) h = absurd (omega (arith, signed_arith))
 
-pub narrowed : (first end from to turn same : ℤ) → IsUnparted first end turn → IsNarrowed first end from to → turn ≡ same → IsUnparted from to same
-narrowed first end from to turn same (inl before) within e = inl (omega (arith, signed_arith))
-narrowed first end from to turn same (inr late) within e = inr (omega (arith, signed_arith))
+pub narrowed : (first end from to transition same : ℤ) → IsUnparted first end transition → IsNarrowed first end from to → transition ≡ same → IsUnparted from to same
+narrowed first end from to transition same (inl before) within e = inl (omega (arith, signed_arith))
+narrowed first end from to transition same (inr late) within e = inr (omega (arith, signed_arith))
 
 module _ (rule : TimeZone) (d : Dst) (some : rule.dst ≡ Some d) (c : ℕ) (h : c < seconds_in_range) (y : ℤ) (here : (civil c).date.year ≡ y) where
   abbrev at_start : ℤ
@@ -218,8 +218,8 @@ module _ (rule : TimeZone) (d : Dst) (some : rule.dst ≡ Some d) (c : ℕ) (h :
       let next = first_day-next y (y +ℤ pos 1) year_in refl in
       omega (arith, signed_arith)
 
-  in_hand : (turn : ℤ) → (first_day y *ℤ pos 86_400) ≤ℤ turn → turn ≤ℤ year_end y → InHand turn
-  in_hand turn low high =
+  in_hand : (transition : ℤ) → (first_day y *ℤ pos 86_400) ≤ℤ transition → transition ≤ℤ year_end y → InHand transition
+  in_hand transition low high =
       let from = year_low in
       let to = year_high in
       let length = days_in_year_bounds y in
@@ -234,7 +234,7 @@ module _ (rule : TimeZone) (d : Dst) (some : rule.dst ≡ Some d) (c : ℕ) (h :
       ∙ ap (λ v. ambiguous_by rule.std_offset d.offset (rule_nanos v d.rule.start (pos 0), rule_nanos v d.rule.end (pos 0)) (civil_nanos (civil k))) same
       ∙ ap (λ n. ambiguous_by rule.std_offset d.offset (at_start, at_end) n) moment
 
-  -- where the turns lie tells the offsets of the civil second
+  -- where the transitions lie tells the offsets of the civil second
   pub told_among : (start end : ℤ) (a b : Option Offset)
       → IsAtSecond (year_end y) at_start start → (first_day y *ℤ pos 86_400) ≤ℤ start → start ≤ℤ year_end y
       → IsAtSecond (year_end y) at_end end → (first_day y *ℤ pos 86_400) ≤ℤ end → end ≤ℤ year_end y

@@ -1,5 +1,5 @@
 pub mod Clocks
-pub mod Turns
+pub mod Transitions
 pub mod Spans
 pub mod Steady
 pub mod Tables

@@ -9,7 +9,7 @@ use Rattle.jiff_tz.specs.PosixRule.{ambiguous_at}
 use Rattle.cron_moments.specs.Civil.{civil, seconds_in_range}
 use Rattle.cron_clocks.specs.Clocks.{IsShown}
 use Rattle.cron_clocks.specs.Spans.{year_end}
-use Rattle.cron_clocks.specs.Turns.{year_start, week, common_year}
+use Rattle.cron_clocks.specs.Transitions.{year_start, week, common_year}
 
 -- the second n of the range, which is of UTC or civil, lies in the year y
 pub record IsYearAt (y : ℤ) (n : ℕ) : Type 0 where
@@ -42,7 +42,7 @@ pub record AreInOrder (a b e f : ℤ) : Type 0 where
 
 -- in every year the rule tells the one offset up to its second outer_end and from outer_first on, and the other between inner_first
 -- and inner_end
-pub record IsCourse (rule : TimeZone) (outer_end inner_first inner_end outer_first : ℕ) (outer inner : Offset) : Type 0 where
+pub record IsSeasonBounds (rule : TimeZone) (outer_end inner_first inner_end outer_first : ℕ) (outer inner : Offset) : Type 0 where
   pub before : (y : ℤ) (n : ℕ) → IsYearAt y n → pos n <ℤ (year_start y +ℤ pos outer_end) → TellsOne rule n outer
   pub between : (y : ℤ) (n : ℕ) → IsYearAt y n → (year_start y +ℤ pos inner_first) ≤ℤ pos n
       → pos n <ℤ (year_start y +ℤ pos inner_end) → TellsOne rule n inner

@@ -1,4 +1,4 @@
--- Civil seconds between the turns of a rule.
+-- Civil seconds between the transitions of a rule.
 use Rattle.std.specs.Prelude.{◌≡◌, ℕ, ◌⊎◌, ℤ, ◌+ℤ◌, pos, ◌-ℤ◌, ◌*ℤ◌, ◌≤ℤ◌, ◌<ℤ◌}
 use Rattle.jiff_core.specs.Calendar.{IsYear, days_in_year}
 use Rattle.jiff_core.specs.Timestamp.{nanos_of_seconds}
@@ -13,9 +13,9 @@ use Rattle.cron_moments.specs.Civil.{civil}
 abbrev pub IsFirstFrom : ℤ → ℤ → Type 0
 IsFirstFrom moment second = ((nanos_of_seconds second -ℤ pos 1_000_000_000) <ℤ moment) × (moment ≤ℤ nanos_of_seconds second)
 
--- the turn doesn't lie among the seconds after the first one
+-- the transition doesn't lie among the seconds after the first one
 abbrev pub IsUnparted : ℤ → ℤ → ℤ → Type 0
-IsUnparted first end turn = (turn ≤ℤ first) ⊎ (end ≤ℤ turn)
+IsUnparted first end transition = (transition ≤ℤ first) ⊎ (end ≤ℤ transition)
 
 -- the second span lies in the first one
 abbrev pub IsNarrowed : ℤ → ℤ → ℤ → ℤ → Type 0
@@ -30,7 +30,7 @@ abbrev pub IsAtSecond : ℤ → ℤ → ℤ → Type 0
 IsAtSecond last moment second =
     ((moment ≡ nanos_of_seconds second) × (second <ℤ last)) ⊎ ((moment ≡ nanos_of_seconds second -ℤ pos 1) × (second ≡ last))
 
--- the moments of two turns part the moment of second n as their own seconds part it
+-- the moments of two transitions part the moment of second n as their own seconds part it
 pub record PartsAlike (std dst : Offset) (w : ℤ × ℤ) (start end saving n : ℤ) : Type 0 where
   pub window : in_window w (nanos_of_seconds n) ≡ in_window (start, end) n
   pub starts_ahead : in_span w.0 (saturating_add w.0 (shift_between std dst)) (nanos_of_seconds n) ≡ in_span start (start +ℤ saving) n
@@ -42,21 +42,21 @@ pub record PartsAlike (std dst : Offset) (w : ℤ × ℤ) (start end saving n : 
 abbrev pub year_end : ℤ → ℤ
 year_end y = (first_day y +ℤ pos (days_in_year y)) *ℤ pos 86_400
 
--- the turn lies at that second of the year, or beyond the edge at which the second is
-pub record IsTurn (turn : DayTime) (y second : ℤ) : Type 0 where
-  pub value : IsAtSecond (year_end y) (rule_nanos y turn (pos 0)) second
+-- the transition lies at that second of the year, or beyond the edge at which the second is
+pub record IsTransition (transition : DayTime) (y second : ℤ) : Type 0 where
+  pub value : IsAtSecond (year_end y) (rule_nanos y transition (pos 0)) second
   pub low : (first_day y *ℤ pos 86_400) ≤ℤ second
   pub high : second ≤ℤ year_end y
 
--- these are the civil seconds of a year, and those at which the two turns lie in it
-pub record AreTurns (d : Dst) (first last start end : ℤ) : Type 0 where
+-- these are the civil seconds of a year, and those at which the two transitions lie in it
+pub record AreTransitions (d : Dst) (first last start end : ℤ) : Type 0 where
   pub number : ℤ
   pub year : IsYear number
   pub from : first ≡ first_day number *ℤ pos 86_400
   pub to : last ≡ year_end number
-  pub starts : IsTurn d.rule.start number start
-  pub ends : IsTurn d.rule.end number end
+  pub starts : IsTransition d.rule.start number start
+  pub ends : IsTransition d.rule.end number end
 
--- the turn lies so far from the edges of the year that no clock shows another year
+-- the transition lies so far from the edges of the year that no clock shows another year
 abbrev pub IsFarInside : ℤ → ℤ → ℤ → Type 0
-IsFarInside first last turn = ((first +ℤ pos 93_600) ≤ℤ turn) × ((turn +ℤ pos 93_600) ≤ℤ last)
+IsFarInside first last transition = ((first +ℤ pos 93_600) ≤ℤ transition) × ((transition +ℤ pos 93_600) ≤ℤ last)

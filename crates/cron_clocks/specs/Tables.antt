@@ -1,4 +1,4 @@
--- Civil seconds between the turns of a zone's table.
+-- Civil seconds between the transitions of a zone's table.
 use Rattle.std.specs.Prelude.{◌≡◌, ℕ, ◌-◌, ◌<◌, ℤ, pos, ◌≤ℤ◌, ◌<ℤ◌, Bool, true, false, List, Option, MatchOption, get_or, length, map, if◌then◌else◌}
 use Rattle.jiff_core.specs.declared.civil.datetime.DateTime.{DateTime}
 use Rattle.jiff_tz.specs.declared.ambiguous.AmbiguousOffset.{AmbiguousOffset}
@@ -13,24 +13,24 @@ use Rattle.cron_clocks.specs.Spans.{IsUnparted}
 abbrev pub IsToldAlikeIn : Tzif → ℕ → ℤ → ℤ → Type 0
 IsToldAlikeIn z c first end = (k : ℕ) → first ≤ℤ pos k → pos k <ℤ end → ambiguous_at z (civil k) ≡ ambiguous_at z (civil c)
 
--- the turns of a table
-abbrev pub turns_of : Tzif → List TransitionText
-turns_of z = map transition_text z.transitions.items
+-- the transitions of a table
+abbrev pub transitions_of : Tzif → List TransitionText
+transitions_of z = map transition_text z.transitions.items
 
-abbrev pub turn_at : List TransitionText → ℕ → TransitionText
-turn_at turns i = get_or turns i no_row
+abbrev pub row_at : List TransitionText → ℕ → TransitionText
+row_at transitions i = get_or transitions i no_row
 
--- the turn after the first n of them doesn't begin among the seconds after the first one
+-- the transition after the first n of them doesn't begin among the seconds after the first one
 abbrev pub IsShortOf : List TransitionText → ℕ → ℤ → ℤ → Type 0
-IsShortOf turns n first end = n < length turns → IsUnparted first end (civil_start (turn_at turns n))
+IsShortOf transitions n first end = n < length transitions → IsUnparted first end (civil_start (row_at transitions n))
 
 -- nor does it, and the last of the first n neither begins nor ends there
-pub record IsBetweenTurns (turns : List TransitionText) (n : ℕ) (first end : ℤ) : Type 0 where
-  pub begun : 0 < n → IsUnparted first end (civil_start (turn_at turns (n - 1)))
-  pub ended : 0 < n → IsUnparted first end (civil_end (turn_at turns (n - 1)))
-  pub next : IsShortOf turns n first end
+pub record IsBetweenTransitions (transitions : List TransitionText) (n : ℕ) (first end : ℤ) : Type 0 where
+  pub begun : 0 < n → IsUnparted first end (civil_start (row_at transitions (n - 1)))
+  pub ended : 0 < n → IsUnparted first end (civil_end (row_at transitions (n - 1)))
+  pub next : IsShortOf transitions n first end
 
--- the offsets of a civil datetime past the first n turns, in the gap or the fold of the last of them or behind it
+-- the offsets of a civil datetime past the first n transitions, in the gap or the fold of the last of them or behind it
 abbrev pub offsets_around : Tzif → ℕ → Bool → DateTime → AmbiguousOffset
 offsets_around z n inside dt = if inside then offsets_in (transition_at z (n - 1)) else ambiguous_after z n dt
 
@@ -39,7 +39,7 @@ abbrev pub IsAlikeAround : Tzif → ℕ → Bool → ℕ → ℤ → ℤ → Typ
 IsAlikeAround z n inside c first end =
     (k : ℕ) → first ≤ℤ pos k → pos k <ℤ end → offsets_around z n inside (civil k) ≡ offsets_around z n inside (civil c)
 
--- the turn, if there is one, is the last of the first n, and the second lies in its gap or fold
-abbrev pub IsTurnAround : Tzif → ℕ → ℤ → Option Transition → Type 0
-IsTurnAround z n second turn =
-    MatchOption turn (is_inside z n second ≡ false) (λ t. (is_inside z n second ≡ true) × (offsets_in t ≡ offsets_in (transition_at z (n - 1))))
+-- the transition, if there is one, is the last of the first n, and the second lies in its gap or fold
+abbrev pub IsTransitionAround : Tzif → ℕ → ℤ → Option Transition → Type 0
+IsTransitionAround z n second transition =
+    MatchOption transition (is_inside z n second ≡ false) (λ t. (is_inside z n second ≡ true) × (offsets_in t ≡ offsets_in (transition_at z (n - 1))))

@@ -5,13 +5,13 @@ ghost use Rattle.jiff.specs.Words.{plain_zone, IsFixed};
 ghost use Rattle.jiff_tz.specs.declared.timezone.TimeZone.TheVariants.{Posix};
 ghost use Rattle.cron_clocks.specs.Clocks.{IsPlain, LookupsAgree};
 
-use crate::turns::turns_apart;
+use crate::transitions::transitions_apart;
 use jiff::tz::TimeZone;
 use jiff_tz::posix;
 
 /// Whether what a clock in the zone shows at an instant, and the readings of a civil second in it,
 /// are known to agree. They are in UTC, in a zone with one offset, in a rule with no saving, and in one
-/// whose two turns lie a week or more from each other and from the edges of a year of 365 days, as far
+/// whose two transitions lie a week or more from each other and from the edges of a year of 365 days, as far
 /// as its months and weeks tell. `false` says nothing: it is answered for every other rule, and for a
 /// zone from a file.
 pub fn lookups_agree(zone: &TimeZone<'_>) -> bool
@@ -31,7 +31,7 @@ fn rule_agrees(rule: posix::TimeZone) -> bool
     ensures plain { rule.dst ≡ None → IsTrue result }
 {
     match rule.dst {
-        Some(dst) => turns_apart(dst),
+        Some(dst) => transitions_apart(dst),
         None => true,
     }
 }

@@ -7,11 +7,11 @@ ghost use Rattle.jiff_tz.specs.Zone.{offset_at};
 ghost use Rattle.jiff_tz.specs.declared.timezone.TimeZone.TheVariants.{Posix};
 ghost use Rattle.cron_moments.specs.Civil.{seconds_in_range};
 ghost use Rattle.cron_clocks.specs.Clocks.{IsShown};
-ghost use Rattle.cron_clocks.specs.Spans.{AreTurns, IsFarInside};
+ghost use Rattle.cron_clocks.specs.Spans.{AreTransitions, IsFarInside};
 ghost use Rattle.cron_clocks.specs.Steady.{IsKnown};
 
 use crate::offsets::Placed;
-use crate::rule::{Span, Turns, between_turns, saving_of, turns_around};
+use crate::rule::{Span, Transitions, between_transitions, saving_of, transitions_around};
 use crate::season::season_at;
 use crate::stretch::{Stretch, season_stretch, told_stretch};
 use cron_moments::civil::{FURTHEST_OFFSET, SECONDS};
@@ -22,39 +22,45 @@ use jiff_tz::posix;
 // Each clock is nearer to UTC, in seconds.
 const FAR: i64 = FURTHEST_OFFSET + 1;
 
-// Whether a turn lies so far from the edges of its year that it lies in that year in UTC as well.
-fn is_far_inside(year: Span, turn: i64) -> bool
+// Whether a transition lies so far from the edges of its year that it lies in that year in UTC as well.
+fn is_far_inside(year: Span, transition: i64) -> bool
     requires first { IsWithin 400_000_000_000 year.first }
     requires end { IsWithin 400_000_000_000 year.end }
-    ensures { IsTrue result → IsFarInside year.first year.end turn }
+    ensures { IsTrue result → IsFarInside year.first year.end transition }
 {
-    year.first + FAR <= turn && turn <= year.end - FAR
+    year.first + FAR <= transition && transition <= year.end - FAR
 }
 
-// Whether both turns of a year lie so far from its edges.
-fn are_far_inside(turns: Turns) -> bool
-    ensures start { IsTrue result → IsFarInside turns.year.first turns.year.end turns.start }
-    ensures end { IsTrue result → IsFarInside turns.year.first turns.year.end turns.end }
+// Whether both transitions of a year lie so far from its edges.
+fn are_far_inside(transitions: Transitions) -> bool
+    ensures start { IsTrue result → IsFarInside transitions.year.first transitions.year.end transitions.start }
+    ensures end { IsTrue result → IsFarInside transitions.year.first transitions.year.end transitions.end }
 {
-    is_far_inside(turns.year, turns.start) && is_far_inside(turns.year, turns.end)
+    is_far_inside(transitions.year, transitions.start)
+        && is_far_inside(transitions.year, transitions.end)
 }
 
-// The offset that a clock shows in a second of UTC, from the turns of its year. It isn't known where one
-// of them lies at an edge of the year.
-fn offset_among(rule: posix::TimeZone, dst: posix::Dst, turns: Turns, second: u32) -> Option<Offset>
+// The offset that a clock shows in a second of UTC, from the transitions of its year. It isn't known
+// where one of them lies at an edge of the year.
+fn offset_among(
+    rule: posix::TimeZone,
+    dst: posix::Dst,
+    transitions: Transitions,
+    second: u32,
+) -> Option<Offset>
     requires saving { rule.dst ≡ Some dst }
-    requires turns { AreTurns dst turns.year.first turns.year.end turns.start turns.end }
-    requires low { turns.year.first ≤ℤ pos second }
-    requires high { pos second <ℤ turns.year.end }
+    requires transitions { AreTransitions dst transitions.year.first transitions.year.end transitions.start transitions.end }
+    requires low { transitions.year.first ≤ℤ pos second }
+    requires high { pos second <ℤ transitions.year.end }
     ensures { IfSome result (λ o. IsShown (Posix rule) (pos second) o.seconds) }
 {
-    if !are_far_inside(turns) {
+    if !are_far_inside(transitions) {
         return None;
     }
     let placed = Placed {
         at: i64::from(second),
-        start: turns.start - i64::from(rule.std_offset.seconds),
-        end: turns.end - i64::from(dst.offset.seconds),
+        start: transitions.start - i64::from(rule.std_offset.seconds),
+        end: transitions.end - i64::from(dst.offset.seconds),
         saving: saving_of(rule, dst),
     };
     let shown = if placed.lasts() {
@@ -65,25 +71,36 @@ fn offset_among(rule: posix::TimeZone, dst: posix::Dst, turns: Turns, second: u3
     Some(Offset::from_plain(shown))
 }
 
-// The stretch becomes that of a civil second, if this is one of the year of the turns.
-fn learn(rule: posix::TimeZone, dst: posix::Dst, turns: Turns, second: i64, stretch: &mut Stretch)
+// The stretch becomes that of a civil second, if this is one of the year of the transitions.
+fn learn(
+    rule: posix::TimeZone,
+    dst: posix::Dst,
+    transitions: Transitions,
+    second: i64,
+    stretch: &mut Stretch,
+)
     requires saving { rule.dst ≡ Some dst }
-    requires turns { AreTurns dst turns.year.first turns.year.end turns.start turns.end }
+    requires transitions { AreTransitions dst transitions.year.first transitions.year.end transitions.start transitions.end }
     requires known { IsKnown (Posix rule) stretch.old }
     ensures { IsKnown (Posix rule) stretch.new }
 {
     if second < 0 || second >= SECONDS {
         return;
     }
-    if turns.year.has(second) {
+    if transitions.year.has(second) {
         let civil = second as u32;
-        *stretch = told_stretch(rule, civil, between_turns(rule, dst, turns, civil));
+        *stretch = told_stretch(
+            rule,
+            civil,
+            between_transitions(rule, dst, transitions, civil),
+        );
     }
 }
 
-// The offset that a clock shows in a second of UTC by a rule, if it's known from the turns of that year.
-// Where the clock shows the same year, they tell the stretch of the civil second that it shows, too.
-fn offset_by_turns(
+// The offset that a clock shows in a second of UTC by a rule, if it's known from the transitions of that
+// year. Where the clock shows the same year, they tell the stretch of the civil second that it shows,
+// too.
+fn offset_by_transitions(
     rule: posix::TimeZone,
     dst: posix::Dst,
     second: u32,
@@ -95,15 +112,15 @@ fn offset_by_turns(
     ensures shown { IfSome result (λ o. IsShown (Posix rule) (pos second) o.seconds) }
     ensures known { IsKnown (Posix rule) stretch.new }
 {
-    let turns = turns_around(dst, second);
-    let offset = offset_among(rule, dst, turns, second)?;
+    let transitions = transitions_around(dst, second);
+    let offset = offset_among(rule, dst, transitions, second)?;
     let shown = i64::from(second) + i64::from(offset.seconds());
-    learn(rule, dst, turns, shown, stretch);
+    learn(rule, dst, transitions, shown, stretch);
     Some(offset)
 }
 
 // The offset that a clock shows in a second of UTC by a rule, if it's known from the season of the second,
-// or else from the turns of its year. The stretch becomes that of the season.
+// or else from the transitions of its year. The stretch becomes that of the season.
 fn offset_by(rule: posix::TimeZone, second: u32, stretch: &mut Stretch) -> Option<Offset>
     requires range { second < seconds_in_range }
     requires known { IsKnown (Posix rule) stretch.old }
@@ -119,12 +136,12 @@ fn offset_by(rule: posix::TimeZone, second: u32, stretch: &mut Stretch) -> Optio
             *stretch = season_stretch(season);
             Some(offset)
         }
-        None => offset_by_turns(rule, dst, second, stretch),
+        None => offset_by_transitions(rule, dst, second, stretch),
     }
 }
 
-// The offset that a clock shows at an instant in a zone with a rule. What its turns don't tell the zone is
-// asked.
+// The offset that a clock shows at an instant in a zone with a rule. What its transitions don't tell the
+// zone is asked.
 #[inline(never)]
 fn offset_by_rule(
     zone: &TimeZone<'_>,
@@ -162,8 +179,8 @@ fn offset_at(zone: &TimeZone<'_>, instant: Timestamp, second: i64, stretch: &mut
     }
 }
 
-/// The number of the civil second that a clock in the zone shows at an instant. Where the turns of a rule
-/// are worked out for it, the stretch becomes that of this civil second, if they tell it.
+/// The number of the civil second that a clock in the zone shows at an instant. Where the transitions of
+/// a rule are worked out for it, the stretch becomes that of this civil second, if they tell it.
 #[inline(always)]
 pub fn shown_at(zone: &TimeZone<'_>, instant: Timestamp, stretch: &mut Stretch) -> i64
     requires { IsKnown (plain_zone zone.now) stretch.old }

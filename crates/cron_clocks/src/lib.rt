@@ -10,6 +10,6 @@ mod rule;
 mod season;
 pub mod stretch;
 mod table;
-mod turns;
+mod transitions;
 
 pub use agreement::lookups_agree;

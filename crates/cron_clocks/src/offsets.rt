@@ -1,4 +1,4 @@
-//! The offsets at which a rule reads a civil second, from the seconds at which its turns lie.
+//! The offsets at which a rule reads a civil second, from the seconds at which its transitions lie.
 ghost use Rattle.std.specs.Prelude.{◌≡◌, ◌+ℤ◌, ◌-ℤ◌, ◌<ℤ◌, ℤ};
 ghost use Rattle.jiff_core.specs.Calendar.{IsWithin};
 ghost use Rattle.jiff_core.specs.Timestamp.{nanos_of_seconds};
@@ -8,7 +8,7 @@ ghost use Rattle.cron_clocks.specs.Steady.{IsToldBy};
 
 use jiff::tz::Offset;
 
-/// A second among the two turns of its year, all on the clock that turns, and how far that clock is
+/// A second among the two transitions of its year, all on the clock before it, and how far that clock is
 /// ahead in the saving.
 #[derive(Clone, Copy)]
 pub(crate) struct Placed {
@@ -110,7 +110,7 @@ fn offsets_behind(
     }
 }
 
-/// The offsets at which a second is read: none in a gap; one; or two in a fold, that before the turn
+/// The offsets at which a second is read: none in a gap; one; or two in a fold, that before the transition
 /// and that after it.
 pub(crate) fn offsets_among(
     standard: Offset,

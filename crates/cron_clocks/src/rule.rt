@@ -1,4 +1,4 @@
-//! The civil seconds between the turns of a rule.
+//! The civil seconds between the transitions of a rule.
 ghost use Rattle.std.specs.Prelude.{◌≡◌, ◌≤◌, ◌<◌, pos, neg_ℤ, ◌+ℤ◌, ◌-ℤ◌, ◌*ℤ◌, ◌≤ℤ◌, ◌<ℤ◌, IsTrue, Some, true};
 ghost use Rattle.jiff_core.specs.Calendar.{IsYear, IsBetween, IsWithin, days_in_year};
 ghost use Rattle.jiff_core.specs.Date.{epoch_day};
@@ -7,11 +7,11 @@ ghost use Rattle.jiff_tz.specs.PosixDay.{is_rule_day};
 ghost use Rattle.jiff_tz.specs.PosixRule.{clamp_to, rule_day, rule_nanos, sunday_number, weekday_of_month};
 ghost use Rattle.jiff_tz.specs.PosixRule as Rule;
 ghost use Rattle.cron_moments.specs.Civil.{civil, seconds_in_range};
-ghost use Rattle.cron_clocks.specs.Spans.{AreTurns, IsAtSecond, IsNarrowed, IsTurn, IsToldAlike, IsUnparted, year_end};
+ghost use Rattle.cron_clocks.specs.Spans.{AreTransitions, IsAtSecond, IsNarrowed, IsTransition, IsToldAlike, IsUnparted, year_end};
 ghost use Rattle.cron_clocks.specs.Steady.{IsToldBy};
 
 use crate::offsets::{Placed, offsets_among};
-use crate::turns::DAY;
+use crate::transitions::DAY;
 use cron_moments::civil::{SECONDS, civil_of};
 use jiff::tz::Offset;
 use jiff_core::civil::{Date, days_in_year, is_leap_year};
@@ -120,7 +120,7 @@ fn day_in(day: Day, year: i16) -> Option<i32>
 }
 
 // The second, or the edge of the span that is nearer to it.
-fn kept_within(span: Span, second: i64) -> i64
+fn clamp_to_span(span: Span, second: i64) -> i64
     requires { span.first <ℤ span.end }
     ensures value { IsAtSecond span.end (clamp_to (nanos_of_seconds span.first) (nanos_of_seconds span.end -ℤ pos 1) (nanos_of_seconds second)) result }
     ensures bound { IsBetween span.first span.end result }
@@ -142,26 +142,26 @@ fn second_of(day: i32, time: i32) -> i64
     i64::from(day) * DAY + i64::from(time)
 }
 
-// The civil second at which a rule's turn lies in the year, on the clock that turns.
-fn turn_in(turn: DayTime, year: i16, span: Span) -> i64
+// The civil second at which a rule's transition lies in the year, on the clock before it.
+fn transition_in(transition: DayTime, year: i16, span: Span) -> i64
     requires year { IsYear year }
     requires first { span.first ≡ Rule.first_day year *ℤ pos 86_400 }
     requires end { span.end ≡ year_end year }
     requires low { IsWithin 400_000_000_000 span.first }
     requires high { IsWithin 400_000_000_000 span.end }
-    ensures turn { IsTurn turn year result }
+    ensures transition { IsTransition transition year result }
     ensures bound { IsWithin 400_000_000_000 result }
 {
-    match day_in(turn.date, year) {
-        Some(day) => kept_within(span, second_of(day, turn.time)),
+    match day_in(transition.date, year) {
+        Some(day) => clamp_to_span(span, second_of(day, transition.time)),
         None => span.end,
     }
 }
 
-/// The civil seconds of a year, and those at which the turns of a rule lie in it, each on the clock that
-/// turns.
+/// The civil seconds of a year, and those at which the transitions of a rule lie in it, each on the
+/// clock before it.
 #[derive(Clone, Copy)]
-pub(crate) struct Turns {
+pub(crate) struct Transitions {
     pub year: Span,
     pub start: i64,
     pub end: i64,
@@ -171,57 +171,57 @@ pub(crate) struct Turns {
     pub ghost end_near: { IsWithin 400_000_000_000 end },
 }
 
-// The turns of a rule in a year.
-fn turns_of(dst: Dst, number: i16) -> Turns
+// The transitions of a rule in a year.
+fn transitions_of(dst: Dst, number: i16) -> Transitions
     requires { IsYear number }
-    ensures turns { AreTurns dst result.year.first result.year.end result.start result.end }
+    ensures transitions { AreTransitions dst result.year.first result.year.end result.start result.end }
     ensures first { result.year.first ≡ Rule.first_day number *ℤ pos 86_400 }
     ensures end { result.year.end ≡ year_end number }
 {
     let year = year_span(number);
-    Turns {
+    Transitions {
         year,
-        start: turn_in(dst.rule.start, number, year),
-        end: turn_in(dst.rule.end, number, year),
+        start: transition_in(dst.rule.start, number, year),
+        end: transition_in(dst.rule.end, number, year),
     }
 }
 
-/// The turns of a rule in the year of a civil second.
-pub(crate) fn turns_around(dst: Dst, second: u32) -> Turns
+/// The transitions of a rule in the year of a civil second.
+pub(crate) fn transitions_around(dst: Dst, second: u32) -> Transitions
     requires { second < seconds_in_range }
-    ensures turns { AreTurns dst result.year.first result.year.end result.start result.end }
+    ensures transitions { AreTransitions dst result.year.first result.year.end result.start result.end }
     ensures low { result.year.first ≤ℤ pos second }
     ensures high { pos second <ℤ result.year.end }
 {
-    turns_of(dst, civil_of(second).to_plain().date.year)
+    transitions_of(dst, civil_of(second).to_plain().date.year)
 }
 
-/// The part of the span that has the second in it, where the span is parted at the turn.
-pub(crate) fn parted(span: Span, second: i64, turn: i64) -> Span
+/// The part of the span that has the second in it, where the span is parted at the transition.
+pub(crate) fn part(span: Span, second: i64, transition: i64) -> Span
     requires low { span.first ≤ℤ second }
     requires high { second <ℤ span.end }
     ensures low { result.first ≤ℤ second }
     ensures high { second <ℤ result.end }
     ensures narrowed { IsNarrowed span.first span.end result.first result.end }
-    ensures unparted { IsUnparted result.first result.end turn }
+    ensures unparted { IsUnparted result.first result.end transition }
 {
-    if turn <= span.first || span.end <= turn {
+    if transition <= span.first || span.end <= transition {
         span
-    } else if turn <= second {
+    } else if transition <= second {
         Span {
-            first: turn,
+            first: transition,
             end: span.end,
         }
     } else {
         Span {
             first: span.first,
-            end: turn,
+            end: transition,
         }
     }
 }
 
-/// The part of a span that holds the civil second, where two turns part the span.
-pub(crate) fn parted_twice(span: Span, second: i64, one: i64, other: i64) -> Span
+/// The part of a span that holds the civil second, where two transitions part the span.
+pub(crate) fn part_twice(span: Span, second: i64, one: i64, other: i64) -> Span
     requires low { span.first ≤ℤ second }
     requires high { second <ℤ span.end }
     ensures low { result.first ≤ℤ second }
@@ -230,7 +230,7 @@ pub(crate) fn parted_twice(span: Span, second: i64, one: i64, other: i64) -> Spa
     ensures one { IsUnparted result.first result.end one }
     ensures other { IsUnparted result.first result.end other }
 {
-    parted(parted(span, second, one), second, other)
+    part(part(span, second, one), second, other)
 }
 
 /// How far the clock is ahead in the saving, in seconds.
@@ -250,27 +250,32 @@ pub(crate) struct Told {
     pub later: Option<Offset>,
 }
 
-/// What a rule tells of a civil second of the year of the turns, and the civil seconds of the year around
-/// it with no turn between them. At a turn a gap or a fold begins or ends, and so does one as long as the
-/// saving after the start of it, and before its end.
-pub(crate) fn between_turns(rule: TimeZone, dst: Dst, turns: Turns, second: u32) -> Told
+/// What a rule tells of a civil second of the year of the transitions, and the civil seconds of the year
+/// around it with no transition between them. At a transition a gap or a fold begins or ends, and so
+/// does one as long as the saving after the start of it, and before its end.
+pub(crate) fn between_transitions(
+    rule: TimeZone,
+    dst: Dst,
+    transitions: Transitions,
+    second: u32,
+) -> Told
     requires range { second < seconds_in_range }
     requires saving { rule.dst ≡ Some dst }
-    requires turns { AreTurns dst turns.year.first turns.year.end turns.start turns.end }
-    requires low { turns.year.first ≤ℤ pos second }
-    requires high { pos second <ℤ turns.year.end }
+    requires transitions { AreTransitions dst transitions.year.first transitions.year.end transitions.start transitions.end }
+    requires low { transitions.year.first ≤ℤ pos second }
+    requires high { pos second <ℤ transitions.year.end }
     ensures alike { IsToldAlike rule second result.span.first result.span.end }
     ensures low { result.span.first ≤ℤ pos second }
     ensures high { pos second <ℤ result.span.end }
     ensures narrowed { IsNarrowed (pos 0) (pos seconds_in_range) result.span.first result.span.end }
     ensures told { IsToldBy (Rule.ambiguous_at rule (civil second)) result.earlier result.later }
 {
-    let Turns { year, start, end } = turns;
+    let Transitions { year, start, end } = transitions;
     let at = i64::from(second);
     let saving = saving_of(rule, dst);
-    let in_year = parted_twice(WHOLE, at, year.first, year.end);
-    let by_start = parted_twice(in_year, at, start, start + saving);
-    let span = parted_twice(by_start, at, end, end - saving);
+    let in_year = part_twice(WHOLE, at, year.first, year.end);
+    let by_start = part_twice(in_year, at, start, start + saving);
+    let span = part_twice(by_start, at, end, end - saving);
     let placed = Placed {
         at,
         start,

@@ -1,18 +1,19 @@
 //! Seasons: the times of the year in which a rule tells one offset in every year.
 //!
-//! A year's turns are some work to find. But where they lie apart, most seconds are far from each second
-//! at which a turn can lie in any year, and of those the place in the year tells what the clock shows.
+//! A year's transitions are some work to find. But where they lie apart, most seconds are far from each
+//! second at which a transition can lie in any year, and of those the place in the year tells what the
+//! clock shows.
 ghost use Rattle.std.specs.Prelude.{◌≡◌, ◌<◌, ◌≤◌, pos, ◌+ℤ◌, ◌-ℤ◌, ◌≤ℤ◌, ◌<ℤ◌, IfSome, Some, None};
 ghost use Rattle.jiff_tz.specs.PosixRule as Rule;
 ghost use Rattle.jiff_tz.specs.declared.posix.TimeZone.{TimeZone};
 ghost use Rattle.jiff_tz.specs.declared.timezone.TimeZone.TheVariants.{Posix};
 ghost use Rattle.cron_moments.specs.Civil.{civil, seconds_in_range};
-ghost use Rattle.cron_clocks.specs.Seasons.{AreInOrder, AreOrdered, IsCourse, IsSeason, IsYearOf};
+ghost use Rattle.cron_clocks.specs.Seasons.{AreInOrder, AreOrdered, IsSeasonBounds, IsSeason, IsYearOf};
 ghost use Rattle.cron_clocks.specs.Spans.{IsNarrowed, IsToldAlike};
 ghost use Rattle.cron_clocks.specs.Steady.{IsToldBy};
 
-use crate::rule::{Span, Told, WHOLE, between_turns, turns_around};
-use crate::turns::{SecondsOfYear, is_before, is_inside, seconds_of};
+use crate::rule::{Span, Told, WHOLE, between_transitions, transitions_around};
+use crate::transitions::{SecondsOfYear, is_week_before, is_week_inside, seconds_of};
 use cron_moments::civil::{FURTHEST_OFFSET, SECONDS, SECONDS_PER_DAY};
 use jiff::tz::Offset;
 use jiff_tz::posix::{Dst, TimeZone};
@@ -50,11 +51,11 @@ impl Season {
     }
 }
 
-// The course of a year by a rule: the seconds of every year up to which the one offset is shown, from
-// which the other is, up to which it is, and from which the one is again. What isn't among them is known
-// from the turns of the year alone.
+// The bounds of a year's seasons by a rule: the seconds of every year up to which the one offset is
+// shown, from which the other is, up to which it is, and from which the one is again. What isn't among
+// them is known from the transitions of the year alone.
 #[derive(Clone, Copy)]
-struct Course {
+struct SeasonBounds {
     outer_end: u32,
     inner_first: u32,
     inner_end: u32,
@@ -64,13 +65,13 @@ struct Course {
     ghost order: { AreOrdered outer_end inner_first inner_end outer_first },
 }
 
-// The course of a year whose two turns lie among these seconds.
-fn course_among(
+// The bounds of a year's seasons whose two transitions lie among these seconds.
+fn season_bounds_among(
     earlier: SecondsOfYear,
     later: SecondsOfYear,
     outer: Offset,
     inner: Offset,
-) -> Course
+) -> SeasonBounds
     requires { AreInOrder earlier.first earlier.last later.first later.last }
     ensures outer_end { pos result.outer_end ≡ earlier.first -ℤ pos 187_200 }
     ensures inner_first { pos result.inner_first ≡ earlier.last +ℤ pos 187_200 }
@@ -79,7 +80,7 @@ fn course_among(
     ensures outer { result.outer ≡ outer }
     ensures inner { result.inner ≡ inner }
 {
-    Course {
+    SeasonBounds {
         outer_end: (earlier.first - APART) as u32,
         inner_first: (earlier.last + APART) as u32,
         inner_end: (later.first - APART) as u32,
@@ -89,22 +90,22 @@ fn course_among(
     }
 }
 
-// The course of a year by a rule whose turns lie apart.
-fn course_of(rule: TimeZone, dst: Dst) -> Option<Course>
+// The bounds of a year's seasons by a rule whose transitions lie apart.
+fn season_bounds_of(rule: TimeZone, dst: Dst) -> Option<SeasonBounds>
     requires { rule.dst ≡ Some dst }
-    ensures { IfSome result (λ c. IsCourse rule c.outer_end c.inner_first c.inner_end c.outer_first c.outer c.inner) }
+    ensures { IfSome result (λ c. IsSeasonBounds rule c.outer_end c.inner_first c.inner_end c.outer_first c.outer c.inner) }
 {
     let start = seconds_of(dst.rule.start);
     let end = seconds_of(dst.rule.end);
-    if !is_inside(start) || !is_inside(end) {
+    if !is_week_inside(start) || !is_week_inside(end) {
         return None;
     }
     let standard = Offset::from_plain(rule.std_offset);
     let saving = Offset::from_plain(dst.offset);
-    if is_before(start, end) {
-        Some(course_among(start, end, standard, saving))
-    } else if is_before(end, start) {
-        Some(course_among(end, start, saving, standard))
+    if is_week_before(start, end) {
+        Some(season_bounds_among(start, end, standard, saving))
+    } else if is_week_before(end, start) {
+        Some(season_bounds_among(end, start, saving, standard))
     } else {
         None
     }
@@ -122,28 +123,32 @@ fn year_start_of(second: u32) -> u32
 
 // The season of a second, if it lies in one, from the second that begins its year. Those at the edges of
 // the year go on in the years beside it, which are no shorter than the shorter years.
-fn season_among(course: Course, year_start: u32, second: u32) -> Option<Season>
+fn season_among(season_bounds: SeasonBounds, year_start: u32, second: u32) -> Option<Season>
     requires { IsYearOf year_start second }
-    ensures { (rule : TimeZone) → IsCourse rule course.outer_end course.inner_first course.inner_end course.outer_first course.outer course.inner
+    ensures { (rule : TimeZone) → IsSeasonBounds rule season_bounds.outer_end season_bounds.inner_first season_bounds.inner_end season_bounds.outer_first season_bounds.outer season_bounds.inner
         → IfSome result (λ s. IsSeason rule second s.first s.end s.offset) }
 {
     let (outer_end, inner_first) = (
-        year_start + course.outer_end,
-        year_start + course.inner_first,
+        year_start + season_bounds.outer_end,
+        year_start + season_bounds.inner_first,
     );
     let (inner_end, outer_first) = (
-        year_start + course.inner_end,
-        year_start + course.outer_first,
+        year_start + season_bounds.inner_end,
+        year_start + season_bounds.outer_first,
     );
     let (first, end, offset) = if second < outer_end {
-        (outer_first.saturating_sub(YEAR), outer_end, course.outer)
+        (
+            outer_first.saturating_sub(YEAR),
+            outer_end,
+            season_bounds.outer,
+        )
     } else if inner_first <= second && second < inner_end {
-        (inner_first, inner_end, course.inner)
+        (inner_first, inner_end, season_bounds.inner)
     } else if outer_first <= second {
         (
             outer_first,
             (outer_end + YEAR).min(SECONDS as u32),
-            course.outer,
+            season_bounds.outer,
         )
     } else {
         return None;
@@ -157,8 +162,8 @@ pub(crate) fn season_at(rule: TimeZone, dst: Dst, second: u32) -> Option<Season>
     requires saving { rule.dst ≡ Some dst }
     ensures { IfSome result (λ s. IsSeason rule second s.first s.end s.offset) }
 {
-    let course = course_of(rule, dst)?;
-    season_among(course, year_start_of(second), second)
+    let season_bounds = season_bounds_of(rule, dst)?;
+    season_among(season_bounds, year_start_of(second), second)
 }
 
 /// What a rule tells of a civil second.
@@ -179,6 +184,6 @@ pub(crate) fn told_at(rule: TimeZone, second: u32) -> Told
     };
     match season_at(rule, dst, second) {
         Some(season) => season.told(),
-        None => between_turns(rule, dst, turns_around(dst, second), second),
+        None => between_transitions(rule, dst, transitions_around(dst, second), second),
     }
 }

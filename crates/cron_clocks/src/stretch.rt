@@ -20,7 +20,7 @@ use jiff::tz::{Offset, TimeZone};
 use jiff_tz::posix;
 
 /// Civil seconds from a first one to an end, each with its readings at the same offsets: none in a
-/// gap; one; or two in a fold, that before the turn and that after it.
+/// gap; one; or two in a fold, that before the transition and that after it.
 #[derive(Clone, Copy)]
 pub struct Stretch {
     /// The first civil second.
@@ -130,7 +130,7 @@ impl Stretch {
     }
 
     /// A stretch with this civil second in it: all of the range in a zone with one offset, and else what
-    /// lies between two turns of a rule or of a file's table.
+    /// lies between two transitions of a rule or of a file's table.
     #[inline(never)]
     pub fn at(zone: &TimeZone<'_>, second: u32) -> Stretch
         requires { second < seconds_in_range }

@@ -1,68 +1,68 @@
-//! The civil seconds between the turns of a zone's table.
+//! The civil seconds between the transitions of a zone's table.
 ghost use Rattle.std.specs.Prelude.{◌≡◌, ◌≤◌, ◌<◌, pos, ◌≤ℤ◌, ◌<ℤ◌, false, int_le, length};
 ghost use Rattle.jiff_tz.specs.Tzif.{ambiguous_at, civil_count_at, civil_start, is_inside, offsets_in, type_after};
 ghost use Rattle.cron_moments.specs.Civil.{civil, seconds_in_range};
 ghost use Rattle.cron_clocks.specs.Spans.{IsNarrowed};
 ghost use Rattle.cron_clocks.specs.Steady.{IsToldBy};
-ghost use Rattle.cron_clocks.specs.Tables.{IsAlikeAround, IsBetweenTurns, IsShortOf, IsToldAlikeIn, IsTurnAround, offsets_around, turns_of};
+ghost use Rattle.cron_clocks.specs.Tables.{IsAlikeAround, IsBetweenTransitions, IsShortOf, IsToldAlikeIn, IsTransitionAround, offsets_around, transitions_of};
 
-use crate::rule::{Span, Told, WHOLE, parted, parted_twice};
+use crate::rule::{Span, Told, WHOLE, part, part_twice};
 use crate::season::told_at;
 use jiff::tz::Offset;
 use jiff_tz::Tzif;
 use jiff_tz::tzif::Transition;
 
-// How many turns of the table begin at or before the second, on the clock that turns.
-fn turns_by(table: &Tzif, second: i64) -> usize
+// How many transitions of the table begin at or before the second, on the clock before it.
+fn transitions_by(table: &Tzif, second: i64) -> usize
     ensures value { result ≡ civil_count_at table.now second }
-    ensures bound { result ≤ length (turns_of table.now) }
+    ensures bound { result ≤ length (transitions_of table.now) }
 {
     table.transitions().partition_point(
-        |turn: &Transition| -> bool
-            ensures { result ≡ int_le (civil_start turn.now) second }
-        { turn.civil_start() <= second },
+        |transition: &Transition| -> bool
+            ensures { result ≡ int_le (civil_start transition.now) second }
+        { transition.civil_start() <= second },
     )
 }
 
-// The part of the span around this second up to where the turn begins that follows so many.
+// The part of the span around this second up to where the transition begins that follows so many.
 fn up_to_next(table: &Tzif, count: usize, at: i64, span: Span) -> Span
     requires low { span.first ≤ℤ at }
     requires high { at <ℤ span.end }
     ensures low { result.first ≤ℤ at }
     ensures high { at <ℤ result.end }
     ensures narrowed { IsNarrowed span.first span.end result.first result.end }
-    ensures next { IsShortOf (turns_of table.now) count result.first result.end }
+    ensures next { IsShortOf (transitions_of table.now) count result.first result.end }
 {
-    let turns = table.transitions();
-    if count >= turns.len() {
+    let transitions = table.transitions();
+    if count >= transitions.len() {
         return span;
     }
-    parted(span, at, turns[count].civil_start())
+    part(span, at, transitions[count].civil_start())
 }
 
-// The part of it that lies between where the last of so many turns begins or ends and where the next
+// The part of it that lies between where the last of so many transitions begins or ends and where the next
 // begins.
-fn between_turns(table: &Tzif, count: usize, at: i64, span: Span) -> Span
+fn between_transitions(table: &Tzif, count: usize, at: i64, span: Span) -> Span
     requires low { span.first ≤ℤ at }
     requires high { at <ℤ span.end }
-    requires count { count ≤ length (turns_of table.now) }
+    requires count { count ≤ length (transitions_of table.now) }
     ensures low { result.first ≤ℤ at }
     ensures high { at <ℤ result.end }
     ensures narrowed { IsNarrowed span.first span.end result.first result.end }
-    ensures between { IsBetweenTurns (turns_of table.now) count result.first result.end }
+    ensures between { IsBetweenTransitions (transitions_of table.now) count result.first result.end }
 {
     let ahead = up_to_next(table, count, at, span);
     if count == 0 {
         return ahead;
     }
     let last = table.transitions()[count - 1];
-    parted_twice(ahead, at, last.civil_start(), last.civil_end())
+    part_twice(ahead, at, last.civil_start(), last.civil_end())
 }
 
-// The turn in whose gap or fold the second lies, where so many begin at or before it.
-fn turn_around(table: &Tzif, count: usize, at: i64) -> Option<Transition>
-    requires { count ≤ length (turns_of table.now) }
-    ensures { IsTurnAround table.now count at result }
+// The transition in whose gap or fold the second lies, where so many begin at or before it.
+fn transition_around(table: &Tzif, count: usize, at: i64) -> Option<Transition>
+    requires { count ≤ length (transitions_of table.now) }
+    ensures { IsTransitionAround table.now count at result }
 {
     if count == 0 {
         return None;
@@ -75,11 +75,11 @@ fn turn_around(table: &Tzif, count: usize, at: i64) -> Option<Transition>
     }
 }
 
-// The offsets at which a civil second is read that lies in a turn's gap or fold.
-fn offsets_inside(turn: Transition) -> (Option<Offset>, Option<Offset>)
-    ensures { IsToldBy (offsets_in turn) result.0 result.1 }
+// The offsets at which a civil second is read that lies in a transition's gap or fold.
+fn offsets_inside(transition: Transition) -> (Option<Offset>, Option<Offset>)
+    ensures { IsToldBy (offsets_in transition) result.0 result.1 }
 {
-    let (before, after) = (turn.before, turn.after.offset);
+    let (before, after) = (transition.before, transition.after.offset);
     if before.seconds < after.seconds {
         return (None, None);
     }
@@ -92,9 +92,9 @@ fn offsets_inside(turn: Transition) -> (Option<Offset>, Option<Offset>)
     )
 }
 
-// The offset of the clock past so many turns.
+// The offset of the clock past so many transitions.
 fn offset_past(table: &Tzif, count: usize) -> Offset
-    requires { count ≤ length (turns_of table.now) }
+    requires { count ≤ length (transitions_of table.now) }
     ensures { result ≡ (type_after table.now count).offset }
 {
     if count == 0 {
@@ -104,11 +104,11 @@ fn offset_past(table: &Tzif, count: usize) -> Offset
     }
 }
 
-// What is told of a civil second behind the last of so many turns: past all of them by the rule, if
+// What is told of a civil second behind the last of so many transitions: past all of them by the rule, if
 // there is one.
-fn behind_turns(table: &Tzif, count: usize, second: u32) -> Told
+fn behind_transitions(table: &Tzif, count: usize, second: u32) -> Told
     requires range { second < seconds_in_range }
-    requires count { count ≤ length (turns_of table.now) }
+    requires count { count ≤ length (transitions_of table.now) }
     ensures alike { IsAlikeAround table.now count false second result.span.first result.span.end }
     ensures low { result.span.first ≤ℤ pos second }
     ensures high { pos second <ℤ result.span.end }
@@ -125,20 +125,20 @@ fn behind_turns(table: &Tzif, count: usize, second: u32) -> Told
     }
 }
 
-// What is told of a civil second past so many turns.
+// What is told of a civil second past so many transitions.
 fn told_past(table: &Tzif, count: usize, second: u32) -> Told
     requires range { second < seconds_in_range }
-    requires count { count ≤ length (turns_of table.now) }
+    requires count { count ≤ length (transitions_of table.now) }
     ensures alike { IsAlikeAround table.now count (is_inside table.now count (pos second)) second result.span.first result.span.end }
     ensures low { result.span.first ≤ℤ pos second }
     ensures high { pos second <ℤ result.span.end }
     ensures narrowed { IsNarrowed (pos 0) (pos seconds_in_range) result.span.first result.span.end }
     ensures told { IsToldBy (offsets_around table.now count (is_inside table.now count (pos second)) (civil second)) result.earlier result.later }
 {
-    let Some(turn) = turn_around(table, count, i64::from(second)) else {
-        return behind_turns(table, count, second);
+    let Some(transition) = transition_around(table, count, i64::from(second)) else {
+        return behind_transitions(table, count, second);
     };
-    let (earlier, later) = offsets_inside(turn);
+    let (earlier, later) = offsets_inside(transition);
     Told {
         span: WHOLE,
         earlier,
@@ -156,10 +156,10 @@ pub(crate) fn told_in(table: &Tzif, second: u32) -> Told
     ensures told { IsToldBy (ambiguous_at table.now (civil second)) result.earlier result.later }
 {
     let at = i64::from(second);
-    let count = turns_by(table, at);
+    let count = transitions_by(table, at);
     let told = told_past(table, count, second);
     Told {
-        span: between_turns(table, count, at, told.span),
+        span: between_transitions(table, count, at, told.span),
         earlier: told.earlier,
         later: told.later,
     }

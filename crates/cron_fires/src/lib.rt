@@ -48,16 +48,16 @@ pub fn first_fire_after(schedule: &Schedule, now: Timestamp, zone: &TimeZone<'_>
     ensures { IsFirstAfter schedule.now.sets (plain_zone zone.now) now.nanosecond result }
 {
     let fields = fields_of(schedule);
-    instants::first_after(&fields, zone, now)
+    instants::first_after(&fields, now, zone)
 }
 
 /// The next fire after this one. Where two share an instant, the one with the lesser civil second comes
 /// first. `None` where the schedule fires no more. The moment may be one at which it doesn't fire.
-pub fn first_fire_past(schedule: &Schedule, item: &Moment, zone: &TimeZone<'_>) -> Option<Moment>
-    ensures { IsFirstPast schedule.now.sets (plain_zone zone.now) item.now result }
+pub fn first_fire_past(schedule: &Schedule, fire: &Moment, zone: &TimeZone<'_>) -> Option<Moment>
+    ensures { IsFirstPast schedule.now.sets (plain_zone zone.now) fire.now result }
 {
     let fields = fields_of(schedule);
-    instants::first_past(&fields, zone, item)
+    instants::first_past(&fields, fire, zone)
 }
 
 /// The last fire whose instant is `now` or comes before it. Where two share an instant, the one with the
@@ -66,5 +66,5 @@ pub fn last_fire_by(schedule: &Schedule, now: Timestamp, zone: &TimeZone<'_>) ->
     ensures { IsLastBy schedule.now.sets (plain_zone zone.now) now.nanosecond result }
 {
     let fields = fields_of(schedule);
-    instants::last_by(&fields, zone, now)
+    instants::last_by(&fields, now, zone)
 }

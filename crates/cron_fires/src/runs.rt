@@ -45,11 +45,11 @@ impl<'a> Fires<'a> {
 
     /// The fires that are later than a moment, as a run goes on that was cut after it. The moment may be
     /// one at which the schedule doesn't fire.
-    pub fn after_item(schedule: &Schedule, item: &Moment, zone: &'a TimeZone<'a>) -> Fires<'a>
-        ensures { result ≡ fires_past schedule.now.sets (plain_zone zone.now) item.now }
+    pub fn past(schedule: &Schedule, fire: &Moment, zone: &'a TimeZone<'a>) -> Fires<'a>
+        ensures { result ≡ fires_past schedule.now.sets (plain_zone zone.now) fire.now }
     {
         Fires {
-            run: Run::after_item(fields_of(schedule), item, zone),
+            run: Run::past(fields_of(schedule), fire, zone),
         }
     }
 

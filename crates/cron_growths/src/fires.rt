@@ -23,7 +23,7 @@ pub fn run(rt: &HostRuntime, schedule: &Schedule) -> Result<(), Error> {
     println!(rt; "first_fire_after: {fire}")?;
     let next = first_fire_past(schedule, &fire, &zone);
     println!(rt; "first_fire_past: {}", next.is_some())?;
-    let next = Fires::after_item(schedule, &fire, &zone).next();
-    println!(rt; "Fires::after_item: {}", next.is_some())?;
+    let next = Fires::past(schedule, &fire, &zone).next();
+    println!(rt; "Fires::past: {}", next.is_some())?;
     Ok(())
 }

@@ -7,8 +7,8 @@ pub mod AgreementLemmas
 pub mod AscentLemmas
 pub mod FireLemmas
 pub mod RunLemmas
-pub mod CalmLemmas
-pub mod TurnLemmas
-pub mod SpreadLemmas
-pub mod TableSpread
+pub mod MonotoneLemmas
+pub mod TransitionLemmas
+pub mod OffsetRangeLemmas
+pub mod TableOffsetRange
 pub mod OrderedLemmas

@@ -11,10 +11,10 @@ use Rattle.cron_clocks.specs.declared.stretch.Stretch.{Stretch}
 use Rattle.cron_moments.specs.Civil.{seconds_in_range}
 use Rattle.cron_moments.specs.Readings.{Reading, reading, readings}
 use Rattle.cron_time.proofs.PlaceLemmas.{nothing_in_nil}
-use Rattle.cron_instants.specs.Inner.Calm.{IsCalm, IsInOrder, IsSettled}
-use Rattle.cron_instants.specs.Inner.Spread.{IsRead, IsSpread, width}
-use Rattle.cron_instants.specs.declared.calm.Calm.{Calm}
-use Rattle.cron_instants.specs.declared.spread.Spread.{Spread}
+use Rattle.cron_instants.specs.Inner.Monotone.{IsMonotone, IsInOrder, IsSettled}
+use Rattle.cron_instants.specs.Inner.OffsetRange.{IsRead, IsOffsetRange, width}
+use Rattle.cron_instants.specs.declared.monotone.Monotone.{Monotone}
+use Rattle.cron_instants.specs.declared.offset_range.OffsetRange.{OffsetRange}
 
 pub only_reading : (q r : Reading) (i : ℕ) → slice_get (q ∷ []) i ≡ Some r → r ≡ q
 only_reading q r zero e = cc
@@ -27,7 +27,7 @@ sides x y = by_test (int_lt x y) refl
     by_test true is = let less = lt-true x y is in inl (omega (arith, signed_arith))
     by_test false is = let more = lt-false x y is in inr (omega (arith, signed_arith))
 
-module _ (z : TimeZone) (p : Spread) (st : Stretch) (o : Offset) (spread : IsSpread z p) (known : IsKnown z st) (one : st.earlier ≡ Some o)
+module _ (z : TimeZone) (p : OffsetRange) (st : Stretch) (o : Offset) (offset_range : IsOffsetRange z p) (known : IsKnown z st) (one : st.earlier ≡ Some o)
     (alone : st.later ≡ None) where
   once : (k : ℕ) → st.first ≤ k → k < st.end → readings z k ≡ reading k o ∷ []
   once k low high = known k low high ∙ ap (λ v. readings_at k v st.later) one ∙ ap (readings_at k (Some o)) alone
@@ -46,18 +46,18 @@ module _ (z : TimeZone) (p : Spread) (st : Stretch) (o : Offset) (spread : IsSpr
     settled_before : pos c <ℤ p.edge → IsSettled z c o
     settled_before short = record {
       once = once c low high;
-      behind = λ q h less. spread.ordered q (reading c o) h (read c range low high) less short (inr (once c low high));
+      behind = λ q h less. offset_range.ordered q (reading c o) h (read c range low high) less short (inr (once c low high));
     }
 
     -- and those after it later, where the stretch goes on far enough
     ordered_before : (k : ℕ) → pos k ≡ pos c +ℤ width p → k < st.end → k < seconds_in_range → pos k <ℤ p.edge → IsInOrder z c o
     ordered_before k far inside within short =
-        let some = spread.some in record {
+        let some = offset_range.some in record {
           settled = settled_before (omega (arith, signed_arith));
           ahead = λ q h more. elim (sides (pos q.second) p.edge) [
-            | inl less ↦ spread.ordered (reading c o) q (read c range low high) h more less (inl (once c low high))
+            | inl less ↦ offset_range.ordered (reading c o) q (read c range low high) h more less (inl (once c low high))
             | inr past ↦
-                let late = spread.upto (reading k o) q (read k within (omega (arith, signed_arith)) inside) h short past (once k (omega
+                let late = offset_range.upto (reading k o) q (read k within (omega (arith, signed_arith)) inside) h short past (once k (omega
                 (arith, signed_arith)) inside) in
                 omega (arith, signed_arith)
           ];
@@ -69,11 +69,11 @@ module _ (z : TimeZone) (p : Spread) (st : Stretch) (o : Offset) (spread : IsSpr
       once = once c low high;
       behind = λ q h less. elim (cases_lt q.second st.first) [
         | inl out ↦ elim (sides (pos q.second) p.edge) [
-          | inl short ↦ spread.past q (reading c o) h (read c range low high) short over
+          | inl short ↦ offset_range.past q (reading c o) h (read c range low high) short over
           | inr past ↦
-              let one_end = spread.among q h past in
-              let some = spread.some in
-              let other = spread.among (reading c o) (read c range low high) (omega (arith, signed_arith)) in
+              let one_end = offset_range.among q h past in
+              let some = offset_range.some in
+              let other = offset_range.among (reading c o) (read c range low high) (omega (arith, signed_arith)) in
               omega (arith, signed_arith, one_end.0, one_end.1, other.0, other.1)
         ]
         | inr inside ↦ let same = at_offset q h inside (omega arith) in omega (arith, signed_arith)
@@ -87,9 +87,9 @@ module _ (z : TimeZone) (p : Spread) (st : Stretch) (o : Offset) (spread : IsSpr
       ahead = λ q h more. elim (cases_lt q.second st.end) [
         | inl inside ↦ let same = at_offset q h (omega arith) inside in omega (arith, signed_arith)
         | inr out ↦
-            let some = spread.some in
-            let one_end = spread.among q h (omega (arith, signed_arith)) in
-            let other = spread.among (reading c o) (read c range low high) (omega (arith, signed_arith)) in
+            let some = offset_range.some in
+            let one_end = offset_range.among q h (omega (arith, signed_arith)) in
+            let other = offset_range.among (reading c o) (read c range low high) (omega (arith, signed_arith)) in
             omega (arith, signed_arith, one_end.0, one_end.1, other.0, other.1)
       ];
     }
@@ -98,34 +98,34 @@ nat_of : (x : ℤ) → pos 0 ≤ℤ x → (n : ℕ) × (x ≡ pos n)
 nat_of (pos n) h = (n, refl)
 nat_of (negsuc n) h = absurd (omega (arith, signed_arith))
 
-module _ (z : TimeZone) (p : Spread) (st : Stretch) (o : Offset) (spread : IsSpread z p) (known : IsKnown z st) (one : st.earlier ≡ Some o)
+module _ (z : TimeZone) (p : OffsetRange) (st : Stretch) (o : Offset) (offset_range : IsOffsetRange z p) (known : IsKnown z st) (one : st.earlier ≡ Some o)
     (alone : st.later ≡ None)
     (c : ℕ) (range : c < seconds_in_range) (low : st.first ≤ c) (high : c < st.end) (end : ℤ) (within : end ≤ℤ pos st.end)
     (short : end ≤ℤ pos seconds_in_range)
-    (calm : Calm) (offset : calm.offset ≡ o) (upto : (k : ℕ) → k < calm.end → (pos k +ℤ width p) <ℤ end) where
-  -- a stretch before the edge is calm up to its end or the edge
-  before_by : end ≤ℤ p.edge → (k : ℕ) → c ≤ k → k < calm.end → (w : ℕ) × (width p ≡ pos w) → IsInOrder z k o
+    (monotone : Monotone) (offset : monotone.offset ≡ o) (upto : (k : ℕ) → k < monotone.end → (pos k +ℤ width p) <ℤ end) where
+  -- a stretch before the edge is monotone up to its end or the edge
+  before_by : end ≤ℤ p.edge → (k : ℕ) → c ≤ k → k < monotone.end → (w : ℕ) × (width p ≡ pos w) → IsInOrder z k o
   before_by less k from to w =
       let wide = w.1 in
       let far = upto k to in
-      ordered_before z p st o spread known one alone k (omega (arith, signed_arith)) (omega arith) (omega (arith, signed_arith)) (k + w.0)
+      ordered_before z p st o offset_range known one alone k (omega (arith, signed_arith)) (omega arith) (omega (arith, signed_arith)) (k + w.0)
       (omega (arith, signed_arith)) (omega (arith, signed_arith)) (omega (arith, signed_arith)) (omega (arith, signed_arith))
 
-  pub calm_before : pos c <ℤ p.edge → end ≤ℤ p.edge → IsCalm z c calm
-  calm_before here less =
-      let some = spread.some in record {
-        settled = subst (IsSettled z c) (sym offset) (settled_before z p st o spread known one alone c range low high here);
+  pub monotone_before : pos c <ℤ p.edge → end ≤ℤ p.edge → IsMonotone z c monotone
+  monotone_before here less =
+      let some = offset_range.some in record {
+        settled = subst (IsSettled z c) (sym offset) (settled_before z p st o offset_range known one alone c range low high here);
         on = λ k from to. subst (IsInOrder z k) (sym offset) (before_by less k from to (nat_of (width p) (omega (arith, signed_arith))));
       }
 
   -- one past the edge is, where it has begun long enough before
-  pub calm_past : (pos st.first +ℤ width p) ≤ℤ pos c → (p.edge +ℤ width p) ≤ℤ pos c → IsCalm z c calm
-  calm_past begun over =
-      let some = spread.some in record {
-        settled = subst (IsSettled z c) (sym offset) (settled_past z p st o spread known one alone c range low high begun over);
+  pub monotone_past : (pos st.first +ℤ width p) ≤ℤ pos c → (p.edge +ℤ width p) ≤ℤ pos c → IsMonotone z c monotone
+  monotone_past begun over =
+      let some = offset_range.some in record {
+        settled = subst (IsSettled z c) (sym offset) (settled_past z p st o offset_range known one alone c range low high begun over);
         on = λ k from to.
             let far = upto k to in
-            subst (IsInOrder z k) (sym offset) (ordered_past z p st o spread known one alone k (omega (arith, signed_arith)) (omega arith) (omega
+            subst (IsInOrder z k) (sym offset) (ordered_past z p st o offset_range known one alone k (omega (arith, signed_arith)) (omega arith) (omega
             (arith, signed_arith))
             (omega (arith, signed_arith)) (omega (arith, signed_arith)) (omega (arith, signed_arith)));
       }

@@ -1,4 +1,4 @@
 pub mod Beyond
-pub mod Calm
+pub mod Monotone
 pub mod Left
-pub mod Spread
+pub mod OffsetRange

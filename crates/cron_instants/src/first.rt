@@ -1,16 +1,16 @@
 //! The first item after an instant. Where no transition is near, a later time of the clock is a later
-//! instant, so the next match on the clock is that item. Elsewhere it is searched for by instants.
+//! instant, so the next match on the clock is that item. Elsewhere it is search_next for by instants.
 ghost use Rattle.std.specs.Prelude.{◌≡◌, ◌≤◌, ◌<◌, pos, ◌-ℤ◌, IfSome};
 ghost use Rattle.jiff.specs.Words.{plain_zone};
 ghost use Rattle.cron_clocks.specs.Steady.{IsKnown};
 ghost use Rattle.cron_moments.specs.Civil.{seconds_in_range};
 ghost use Rattle.cron_units.specs.declared.way.Way.TheVariants.{Ahead};
 ghost use Rattle.cron_instants.specs.Inner.Beyond.{IsBest, IsBeyond};
-ghost use Rattle.cron_instants.specs.Inner.Calm.{IsCalm};
+ghost use Rattle.cron_instants.specs.Inner.Monotone.{IsMonotone};
 
-use crate::calm::{Calm, calm_around, calm_past};
 use crate::mark::Mark;
-use crate::search::nearest_item;
+use crate::monotone::{Monotone, monotone_around, monotone_past};
+use crate::nearest::nearest_item;
 use cron_clocks::stretch::Stretch;
 use cron_moments::civil::SECONDS;
 use cron_moments::moment::{Moment, moment_numbered};
@@ -20,22 +20,27 @@ use cron_units::way::Way;
 use jiff::tz::TimeZone;
 
 // What is known of a civil second, in whose stretch it may lie.
-fn calm_about(zone: &TimeZone<'_>, stretch: &Stretch, second: u32) -> Option<Calm>
+fn monotone_about(zone: &TimeZone<'_>, stretch: &Stretch, second: u32) -> Option<Monotone>
     requires range { second < seconds_in_range }
     requires known { IsKnown (plain_zone zone.now) stretch.now }
-    ensures { IfSome result (λ calm. IsCalm (plain_zone zone.now) second calm) }
+    ensures { IfSome result (λ monotone. IsMonotone (plain_zone zone.now) second monotone) }
 {
     if stretch.has(second) {
-        return calm_around(zone, stretch, second);
+        return monotone_around(zone, stretch, second);
     }
     let around = Stretch::at(zone, second);
-    calm_around(zone, &around, second)
+    monotone_around(zone, &around, second)
 }
 
 // The civil second that a clock shows at a mark, and what is known of it, if it is read at that instant.
-fn settled_at(zone: &TimeZone<'_>, mark: Mark, shown: i64, stretch: &Stretch) -> Option<(u32, Calm)>
+fn settled_at(
+    zone: &TimeZone<'_>,
+    mark: Mark,
+    shown: i64,
+    stretch: &Stretch,
+) -> Option<(u32, Monotone)>
     requires { IsKnown (plain_zone zone.now) stretch.now }
-    ensures calm { IfSome result (λ p. IsCalm (plain_zone zone.now) p.0 p.1) }
+    ensures monotone { IfSome result (λ p. IsMonotone (plain_zone zone.now) p.0 p.1) }
     ensures instant { IfSome result (λ p. mark.instant ≡ pos p.0 -ℤ p.1.offset.seconds) }
     ensures upto { IfSome result (λ p. p.0 ≤ mark.second) }
     ensures range { IfSome result (λ p. p.0 < seconds_in_range) }
@@ -44,14 +49,14 @@ fn settled_at(zone: &TimeZone<'_>, mark: Mark, shown: i64, stretch: &Stretch) ->
         return None;
     }
     let second = shown as u32;
-    let calm = calm_about(zone, stretch, second)?;
-    if i64::from(second) - i64::from(calm.offset.seconds()) != mark.instant {
+    let monotone = monotone_about(zone, stretch, second)?;
+    if i64::from(second) - i64::from(monotone.offset.seconds()) != mark.instant {
         return None;
     }
     if mark.second < second {
         return None;
     }
-    Some((second, calm))
+    Some((second, monotone))
 }
 
 // The nearest item ahead of a mark, from the civil second that a clock shows at it.
@@ -60,19 +65,19 @@ fn item_past(
     zone: &TimeZone<'_>,
     mark: Mark,
     second: u32,
-    calm: Calm,
+    monotone: Monotone,
 ) -> Option<Moment>
-    requires calm { IsCalm (plain_zone zone.now) second calm }
-    requires instant { mark.instant ≡ pos second -ℤ calm.offset.seconds }
+    requires monotone { IsMonotone (plain_zone zone.now) second monotone }
+    requires instant { mark.instant ≡ pos second -ℤ monotone.offset.seconds }
     requires upto { second ≤ mark.second }
     requires range { second < seconds_in_range }
     ensures { IsBest Ahead (IsBeyond Ahead fields.now (plain_zone zone.now) mark.instant mark.second) result }
 {
     let next = nearest_match(fields, Way::Ahead, i64::from(second) + 1)?;
-    if next < calm.end {
-        return Some(moment_numbered(next, calm.offset));
+    if next < monotone.end {
+        return Some(moment_numbered(next, monotone.offset));
     }
-    match calm_past(zone, next) {
+    match monotone_past(zone, next) {
         Some(there) => Some(moment_numbered(next, there.offset)),
         None => nearest_item(fields, zone, Way::Ahead, mark),
     }
@@ -91,7 +96,7 @@ pub(crate) fn first_item(
     ensures { IsBest Ahead (IsBeyond Ahead fields.now (plain_zone zone.now) mark.instant mark.second) result }
 {
     match settled_at(zone, mark, shown, stretch) {
-        Some((second, calm)) => item_past(fields, zone, mark, second, calm),
+        Some((second, monotone)) => item_past(fields, zone, mark, second, monotone),
         None => nearest_item(fields, zone, Way::Ahead, mark),
     }
 }

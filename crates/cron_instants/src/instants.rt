@@ -1,10 +1,10 @@
-//! Items of the timeline of seven sets in a zone, by their instants. None of these calls takes memory.
+//! Fires of seven sets in a zone, by their instants. None of these calls takes memory.
 ghost use Rattle.jiff.specs.Words.{plain_zone};
 ghost use Rattle.cron_instants.specs.Instants.{IsFirstAfter, IsFirstPast, IsLastBy};
 
 use crate::first::first_item;
 use crate::mark::Mark;
-use crate::search::nearest_item;
+use crate::nearest::nearest_item;
 use cron_clocks::clock::shown_at;
 use cron_clocks::stretch::Stretch;
 use cron_moments::moment::{Moment, civil_second};
@@ -13,8 +13,8 @@ use cron_units::way::Way;
 use jiff::Timestamp;
 use jiff::tz::TimeZone;
 
-/// The earliest item whose instant comes after `now`. `None` where there is none.
-pub fn first_after(fields: &ScheduleFields, zone: &TimeZone<'_>, now: Timestamp) -> Option<Moment>
+/// The earliest fire whose instant comes after `now`. `None` where there is none.
+pub fn first_after(fields: &ScheduleFields, now: Timestamp, zone: &TimeZone<'_>) -> Option<Moment>
     ensures { IsFirstAfter fields.now (plain_zone zone.now) now.nanosecond result }
 {
     let mut stretch = Stretch::empty();
@@ -22,17 +22,17 @@ pub fn first_after(fields: &ScheduleFields, zone: &TimeZone<'_>, now: Timestamp)
     first_item(fields, zone, Mark::behind(now), shown, &stretch)
 }
 
-/// The earliest item that is later than this one. `None` where there is none. The one that is handed in
-/// may be no item of the timeline.
-pub fn first_past(fields: &ScheduleFields, zone: &TimeZone<'_>, item: &Moment) -> Option<Moment>
-    ensures { IsFirstPast fields.now (plain_zone zone.now) item.now result }
+/// The earliest fire that is later than this one. `None` where there is none. The one that is handed in
+/// may be no fire of the timeline.
+pub fn first_past(fields: &ScheduleFields, fire: &Moment, zone: &TimeZone<'_>) -> Option<Moment>
+    ensures { IsFirstPast fields.now (plain_zone zone.now) fire.now result }
 {
-    let shown = i64::from(civil_second(item));
-    first_item(fields, zone, Mark::of(item), shown, &Stretch::empty())
+    let shown = i64::from(civil_second(fire));
+    first_item(fields, zone, Mark::of(fire), shown, &Stretch::empty())
 }
 
-/// The latest item whose instant is `now` or comes before it. `None` where there is none.
-pub fn last_by(fields: &ScheduleFields, zone: &TimeZone<'_>, now: Timestamp) -> Option<Moment>
+/// The latest fire whose instant is `now` or comes before it. `None` where there is none.
+pub fn last_by(fields: &ScheduleFields, now: Timestamp, zone: &TimeZone<'_>) -> Option<Moment>
     ensures { IsLastBy fields.now (plain_zone zone.now) now.nanosecond result }
 {
     nearest_item(fields, zone, Way::Back, Mark::behind(now))

@@ -2,13 +2,13 @@
 //! latest by an instant, and runs over them.
 #![tactic(auto)]
 
-mod calm;
 mod first;
 pub mod instants;
 mod item;
+mod joined;
 pub mod laws;
 mod mark;
+mod monotone;
+mod nearest;
+mod offset_range;
 pub mod run;
-mod search;
-mod spread;
-mod wide;

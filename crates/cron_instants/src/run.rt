@@ -1,12 +1,12 @@
-//! Runs over the items of a timeline, in the order of their instants.
+//! Runs over the fires of a timeline, in the order of their instants.
 ghost use Rattle.std.specs.Prelude.{◌≡◌};
 ghost use Rattle.std.specs.Iterator.{YieldsFirst};
 ghost use Rattle.jiff.specs.Words.{plain_zone};
 ghost use Rattle.cron_instants.specs.Fires.{fires_after, fires_between, fires_past, fires_past_by};
 ghost use Rattle.cron_instants.specs.Inner.Left as left;
 
-use crate::calm::{Calm, next_item};
 use crate::mark::Mark;
+use crate::monotone::{Monotone, next_item};
 use cron_moments::calendar::KnownMonth;
 use cron_moments::moment::Moment;
 use cron_time::search::month_days::MonthDays;
@@ -15,14 +15,14 @@ use jiff::Timestamp;
 use jiff::tz::TimeZone;
 use std::marker::Model;
 
-/// Some of the items of the timeline of seven sets in a zone, the earliest first. Contracts see those
+/// Some of the fires of the timeline of seven sets in a zone, the earliest first. Contracts see those
 /// that are left. It takes no memory.
 #[derive(Drop)]
 pub struct Run<'a> {
     fields: ScheduleFields,
     zone: &'a TimeZone<'a>,
     mark: Mark,
-    calm: Option<Calm>,
+    monotone: Option<Monotone>,
     days: MonthDays,
     until: Option<i64>,
 }
@@ -32,14 +32,14 @@ impl<'a> Model for Run<'a> {
     ghost use Rattle.jiff.specs.Words.{plain_zone};
     ghost use Rattle.cron_moments.specs.Readings.{Reading};
     ghost use Rattle.cron_time.specs.Search.Inner.MonthDays.{KnowsDays};
-    ghost use Rattle.cron_instants.specs.Inner.Calm.{IsKnown};
+    ghost use Rattle.cron_instants.specs.Inner.Monotone.{IsKnown};
     ghost use Rattle.cron_instants.specs.Inner.Left.{left_beyond};
 
     ghost Value = { List Reading };
 
     ghost view = { λ r. left_beyond r.fields (plain_zone r.zone.now) r.mark.instant r.mark.second r.until };
 
-    ghost invariant = { λ r. IsKnown r.fields (plain_zone r.zone.now) r.mark.instant r.mark.second r.calm × KnowsDays r.fields r.days };
+    ghost invariant = { λ r. IsKnown r.fields (plain_zone r.zone.now) r.mark.instant r.mark.second r.monotone × KnowsDays r.fields r.days };
 }
 
 // Whether the instant isn't past the last one, if there is a last one.
@@ -54,7 +54,7 @@ fn is_within(until: Option<i64>, instant: i64) -> bool
 }
 
 impl<'a> Run<'a> {
-    // The items beyond a place, about which nothing is known yet, up to and with an instant if there is a
+    // The fires beyond a place, about which nothing is known yet, up to and with an instant if there is a
     // last one.
     fn beyond(
         fields: ScheduleFields,
@@ -68,27 +68,27 @@ impl<'a> Run<'a> {
             fields,
             zone,
             mark,
-            calm: None,
+            monotone: None,
             days: MonthDays::unknown(KnownMonth::january_1970()),
             until,
         }
     }
 
-    /// The items whose instant comes after `start`.
+    /// The fires whose instant comes after `start`.
     pub fn after(fields: ScheduleFields, start: Timestamp, zone: &'a TimeZone<'a>) -> Run<'a>
         ensures { result ≡ fires_after fields (plain_zone zone.now) start.nanosecond }
     {
         Run::beyond(fields, Mark::behind(start), None, zone)
     }
 
-    /// The items that are later than this one, which may be none of the timeline.
-    pub fn after_item(fields: ScheduleFields, item: &Moment, zone: &'a TimeZone<'a>) -> Run<'a>
-        ensures { result ≡ fires_past fields (plain_zone zone.now) item.now }
+    /// The fires that are later than this one, which may be none of the timeline.
+    pub fn past(fields: ScheduleFields, fire: &Moment, zone: &'a TimeZone<'a>) -> Run<'a>
+        ensures { result ≡ fires_past fields (plain_zone zone.now) fire.now }
     {
-        Run::beyond(fields, Mark::of(item), None, zone)
+        Run::beyond(fields, Mark::of(fire), None, zone)
     }
 
-    /// The items whose instant comes after `last` and not after `now`.
+    /// The fires whose instant comes after `last` and not after `now`.
     pub fn between(
         fields: ScheduleFields,
         last: Timestamp,
@@ -101,40 +101,40 @@ impl<'a> Run<'a> {
         Run::beyond(fields, Mark::behind(last), until, zone)
     }
 
-    /// The items that are later than this one, which may be none of the timeline, and whose instant doesn't
+    /// The fires that are later than this one, which may be none of the timeline, and whose instant doesn't
     /// come after `now`.
-    pub fn past_up_to(
+    pub fn past_by(
         fields: ScheduleFields,
-        item: &Moment,
+        fire: &Moment,
         now: Timestamp,
         zone: &'a TimeZone<'a>,
     ) -> Run<'a>
-        ensures { result ≡ fires_past_by fields (plain_zone zone.now) item.now now.nanosecond }
+        ensures { result ≡ fires_past_by fields (plain_zone zone.now) fire.now now.nanosecond }
     {
         let until = Some(now.to_plain().floor_second());
-        Run::beyond(fields, Mark::of(item), until, zone)
+        Run::beyond(fields, Mark::of(fire), until, zone)
     }
 
-    // Takes the earliest item that is left.
+    // Takes the earliest fire that is left.
     fn take_first(&mut self) -> Option<Moment>
         ensures { YieldsFirst (λ rest. rest) self.old result self.new }
     {
-        let (next, calm) = next_item(
+        let (next, monotone) = next_item(
             &self.fields,
             self.zone,
             self.mark,
-            self.calm,
+            self.monotone,
             &mut self.days,
         );
-        self.calm = calm;
-        let Some(item) = next else {
+        self.monotone = monotone;
+        let Some(fire) = next else {
             return None;
         };
-        self.mark = Mark::of(&item);
+        self.mark = Mark::of(&fire);
         if !is_within(self.until, self.mark.instant) {
             return None;
         }
-        Some(item)
+        Some(fire)
     }
 }
 

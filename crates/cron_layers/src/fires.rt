@@ -1,7 +1,7 @@
 //! First and last fires, runs and missed fires: in folds, over turns of zones from files, at new years and
 //! at the ends of the range.
 
-mod turns;
+mod transitions;
 mod zone_files;
 
 use cron::Schedule;
@@ -72,7 +72,7 @@ fn a_run_has_both_hours_of_a_fold(rt: HostRuntime) {
     );
     let first = run.next().expect(&rt, "a fire");
     assert_eq!(rt; first.timestamp().as_second(), HALF_PAST);
-    let mut again = Fires::after_item(&schedule, &first, &zone);
+    let mut again = Fires::past(&schedule, &first, &zone);
     let second = run.next();
     assert_eq!(rt; seconds(second), Some(HALF_PAST + 3600));
     assert_eq!(rt; again.next(), second);

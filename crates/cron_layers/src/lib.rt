@@ -13,6 +13,6 @@ mod ringing;
 #[cfg(test)]
 mod scheduler;
 #[cfg(test)]
-mod turns;
+mod transitions;
 #[cfg(test)]
 mod units;

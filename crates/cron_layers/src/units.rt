@@ -1,7 +1,7 @@
 //! Outside values, and each generic function once.
 
 use cron_units::error::ErrorKind;
-use cron_units::specifier::{Base, Item, Refusal, RefusedItem, add_item, refused};
+use cron_units::specifier::{Base, Item, Refusal, RefusedItem, add_item, item_error};
 use cron_units::time_unit::{
     DaysOfMonth, DaysOfWeek, Hours, Months, OrdinalIter, Seconds, TimeUnitField, TimeUnitSpec,
     Years, empty, only, whole,
@@ -120,7 +120,7 @@ fn an_error_holds_its_message(rt: HostRuntime) {
         definition: Hours::definition(),
         refusal: Refusal::TooLarge(24),
     };
-    let error = refused(rt.alloc(), large);
+    let error = item_error(rt.alloc(), large);
     check_text(&rt, &error, TOO_LARGE);
     let ErrorKind::Expression(text) = error.kind() else {
         panic!(rt; "no error of an expression");

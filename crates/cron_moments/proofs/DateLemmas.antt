@@ -8,6 +8,7 @@ use Rattle.jiff_core.proofs.SignedLemmas.{signed_arith}
 use Rattle.jiff_core.proofs.CalendarLemmas.{days_from_civil-day_count, day_count-epoch, days_in_month_bounds}
 use Rattle.jiff_core.proofs.MarchLemmas.{day_count-early}
 use Rattle.jiff_core.proofs.DateLemmas.{IsEarlier, days_from_civil-next_year, epoch_day-lt, epoch_day_same, cases_date}
+use Rattle.cron_moments.specs.Civil.{days_in_range}
 use Rattle.cron_moments.specs.CivilDates.{date_numbered}
 use Rattle.cron_moments.specs.Calendar.{rank_of_date}
 
@@ -88,14 +89,14 @@ earlier_rank a b low (inr (e, inl lt)) =
 earlier_rank a b low (inr (e, inr (f, lt))) =
     let y : unsigned_abs a.year ≡ unsigned_abs b.year = rw e refl in omega (arith, y, f, lt)
 
-pub epoch_at : (n : ℕ) → n < 47_847 → epoch_day (date_numbered n).0 ≡ pos n
+pub epoch_at : (n : ℕ) → n < days_in_range → epoch_day (date_numbered n).0 ≡ pos n
 epoch_at n h = (date_numbered n).1 (omega arith)
 
-pub low_at : (n : ℕ) → n < 47_847 → pos 1970 ≤ℤ (date_numbered n).0.year
+pub low_at : (n : ℕ) → n < days_in_range → pos 1970 ≤ℤ (date_numbered n).0.year
 low_at n h = low_year (date_numbered n).0 (omega (arith, signed_arith, epoch_at n h))
 
 -- the places of the days of the range go up with their numbers
-pub rank_lt : (i j : ℕ) → i < j → j < 47_847 → rank_of_date (date_numbered i).0 < rank_of_date (date_numbered j).0
+pub rank_lt : (i j : ℕ) → i < j → j < days_in_range → rank_of_date (date_numbered i).0 < rank_of_date (date_numbered j).0
 rank_lt i j lt h =
     let a = date_numbered i in
     let b = date_numbered j in

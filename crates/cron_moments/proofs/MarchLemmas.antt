@@ -7,6 +7,7 @@ use Rattle.jiff_core.specs.March.{march_days}
 use Rattle.jiff_core.proofs.CalendarLemmas.{days_from_civil-day_count}
 use Rattle.jiff_core.proofs.MarchLemmas.{leap_day, day_count-late, day_count-early, day_in_month, day_in_early_month}
 use Rattle.jiff_core.proofs.SignedLemmas.{signed_arith}
+use Rattle.cron_moments.specs.Civil.{days_in_range, years_in_range}
 use Rattle.cron_moments.specs.CivilDates.{date_numbered}
 use Rattle.cron_moments.specs.Calendar.{day_number, first_month, months_end, year_of, month_of, length_of, rank, rank_of_date}
 use Rattle.cron_moments.proofs.NumberLemmas.{number_is}
@@ -17,7 +18,7 @@ lacking month = cond (nat_lt month 25_202) 0 1
 
 -- the leap day that is lacking after so many years
 abbrev lacking_after : ℕ → ℕ
-lacking_after years = cond (nat_lt years 131) 0 1
+lacking_after years = cond (nat_lt years years_in_range) 0 1
 
 -- and the one that is lacking from a day number on
 abbrev pub lacking_at : ℕ → ℕ
@@ -29,10 +30,10 @@ years_before month = (1461 * ((month - 23_630) / 12) + 1) / 4
 abbrev pub months_before : ℕ → ℕ
 months_before month = (153 * ((month - 23_630) % 12) + 2) / 5
 
-march_days_few : (k : ℕ) → k < 131 → march_days (11_969 + k) ≡ 4_371_587 + (1461 * k + 1) / 4
+march_days_few : (k : ℕ) → k < years_in_range → march_days (11_969 + k) ≡ 4_371_587 + (1461 * k + 1) / 4
 march_days_few k h = omega arith
 
-march_days_last : (k : ℕ) → k ≡ 131 → march_days (11_969 + k) + 1 ≡ 4_371_587 + (1461 * k + 1) / 4
+march_days_last : (k : ℕ) → k ≡ years_in_range → march_days (11_969 + k) + 1 ≡ 4_371_587 + (1461 * k + 1) / 4
 march_days_last k h = omega arith
 
 -- the days of the years and months before, and those of the month
@@ -93,11 +94,11 @@ leap_at k fourth h = grind (arith, nat_tests)
 
 -- the day that lies that many days behind the first of March of a year
 record IsMarchDay (number years rest : ℕ) : Type 0 where
-  years_in : years ≤ 131
+  years_in : years ≤ years_in_range
   rest_in : rest < 365 + leap_day (pos (1970 + years))
   days : number + 306 + lacking_after years ≡ (1461 * years + 1) / 4 + rest
 
-rest_at : (days years : ℕ) → years ≡ (4 * days + 2) / 1461 → years < 131 → days < 47_847 → days - (1461 * years + 1) / 4 < 365 + leap_day (pos (1970 + years))
+rest_at : (days years : ℕ) → years ≡ (4 * days + 2) / 1461 → years < years_in_range → days < days_in_range → days - (1461 * years + 1) / 4 < 365 + leap_day (pos (1970 + years))
 rest_at days years e h fits =
     elim (cases_eq (years % 4) 2) [
       | inl fourth ↦ elim (cases_lt years 130) [
@@ -107,23 +108,23 @@ rest_at days years e h fits =
       | inr other ↦ omega arith
     ]
 
-march_day : (number lacking years : ℕ) → number < 47_847 → lacking ≡ lacking_at number → years ≡ (4 * (number + 306 + lacking) + 2) / 1461
+march_day : (number lacking years : ℕ) → number < days_in_range → lacking ≡ lacking_at number → years ≡ (4 * (number + 306 + lacking) + 2) / 1461
     → IsMarchDay number years (number + 306 + lacking - (1461 * years + 1) / 4)
 march_day number lacking years h el ey =
     elim (cases_lt number 47_541) [
       | inl lt ↦ let none : lacking ≡ 0 = el ∙ rw (lt-ltb number 47_541 lt) refl in
-          let few : years < 131 = omega arith in
+          let few : years < years_in_range = omega arith in
           record {
             years_in = omega arith;
             rest_in = rest_at (number + 306 + lacking) years ey few (omega arith);
-            days = rw (lt-ltb years 131 few) (omega arith);
+            days = rw (lt-ltb years years_in_range few) (omega arith);
           }
       | inr ge ↦ let one : lacking ≡ 1 = el ∙ rw (le-ltb number 47_541 ge) refl in
-          let last : years ≡ 131 = omega arith in
+          let last : years ≡ years_in_range = omega arith in
           record {
             years_in = omega arith;
             rest_in = omega arith;
-            days = rw (le-ltb years 131 (omega arith)) (omega arith);
+            days = rw (le-ltb years years_in_range (omega arith)) (omega arith);
           }
     ]
 
@@ -158,29 +159,29 @@ pub record IsMade (number month day : ℕ) : Type 0 where
   pub last : day ≤ length_of month
   pub number_is : day_number month day ≡ number
 
-march_end : (number years rest : ℕ) → number < 47_847 → IsMarchDay number years rest
+march_end : (number years rest : ℕ) → number < days_in_range → IsMarchDay number years rest
     → (first_month ≤ 23_630 + 12 * years + (5 * rest + 2) / 153) × (23_630 + 12 * years + (5 * rest + 2) / 153 < months_end)
 march_end number years rest h d =
-    elim (cases_lt years 131) [
+    elim (cases_lt years years_in_range) [
       | inl lt ↦ let few : number + 306 ≡ (1461 * years + 1) / 4 + rest = omega (arith, d.days, cond_lt years lt) in
           let short : rest < 366 = omega (arith, d.rest_in, leap_day_few (pos (1970 + years))) in
           (omega arith, omega arith)
-      | inr ge ↦ let years_are : years ≡ 131 = omega (arith, d.years_in) in
+      | inr ge ↦ let years_are : years ≡ years_in_range = omega (arith, d.years_in) in
           let few : number + 307 ≡ (1461 * years + 1) / 4 + rest = omega (arith, d.days, cond_ge years ge) in
           (omega arith, omega arith)
     ]
   where
-    cond_lt : (years : ℕ) → years < 131 → lacking_after years ≡ 0
-    cond_lt years lt = rw (lt-ltb years 131 lt) refl
+    cond_lt : (years : ℕ) → years < years_in_range → lacking_after years ≡ 0
+    cond_lt years lt = rw (lt-ltb years years_in_range lt) refl
 
-    cond_ge : (years : ℕ) → 131 ≤ years → lacking_after years ≡ 1
-    cond_ge years ge = rw (le-ltb years 131 ge) refl
+    cond_ge : (years : ℕ) → years_in_range ≤ years → lacking_after years ≡ 1
+    cond_ge years ge = rw (le-ltb years years_in_range ge) refl
 
 lacking_by_year : (years months : ℕ) → months < 12 → lacking (23_630 + 12 * years + months) ≡ lacking_after years
 lacking_by_year years months h =
-    elim (cases_lt years 131) [
-      | inl lt ↦ rw (lt-ltb years 131 lt, lt-ltb (23_630 + 12 * years + months) 25_202 (omega arith)) refl
-      | inr ge ↦ rw (le-ltb years 131 ge, le-ltb (23_630 + 12 * years + months) 25_202 (omega arith)) refl
+    elim (cases_lt years years_in_range) [
+      | inl lt ↦ rw (lt-ltb years years_in_range lt, lt-ltb (23_630 + 12 * years + months) 25_202 (omega arith)) refl
+      | inr ge ↦ rw (le-ltb years years_in_range ge, le-ltb (23_630 + 12 * years + months) 25_202 (omega arith)) refl
     ]
 
 before : (years months : ℕ) → months < 12
@@ -191,7 +192,7 @@ before years months h =
     let m : (23_630 + 12 * years + months - 23_630) % 12 ≡ months = omega arith in
     (rw y refl, rw m refl)
 
-made_of : (number years rest : ℕ) → number < 47_847 → IsMarchDay number years rest
+made_of : (number years rest : ℕ) → number < days_in_range → IsMarchDay number years rest
     → IsMade number (23_630 + 12 * years + (5 * rest + 2) / 153) (rest + 1 - (153 * ((5 * rest + 2) / 153) + 2) / 5)
 made_of number years rest h d =
     let months = (5 * rest + 2) / 153 in
@@ -210,7 +211,7 @@ made_of number years rest h d =
       number_is = omega (arith, closed, b, lacking_by_year years ((5 * rest + 2) / 153) few, d.days);
     }
 
-pub made_from : (number lacking years : ℕ) → number < 47_847 → lacking ≡ lacking_at number → years ≡ (4 * (number + 306 + lacking) + 2) / 1461
+pub made_from : (number lacking years : ℕ) → number < days_in_range → lacking ≡ lacking_at number → years ≡ (4 * (number + 306 + lacking) + 2) / 1461
     → (rest : ℕ) → rest ≡ number + 306 + lacking - (1461 * years + 1) / 4
     → IsMade number (23_630 + 12 * years + (5 * rest + 2) / 153) (rest + 1 - (153 * ((5 * rest + 2) / 153) + 2) / 5)
 made_from number lacking years h el ey rest er =
@@ -218,7 +219,7 @@ made_from number lacking years h el ey rest er =
     made_of number years rest h (rw er d)
 
 -- its rank is that of the date
-pub made_rank : (number lacking : ℕ) → number < 47_847 → lacking ≡ lacking_at number
+pub made_rank : (number lacking : ℕ) → number < days_in_range → lacking ≡ lacking_at number
     → (before : ℕ) → before ≡ (1461 * ((4 * (number + 306 + lacking) + 2) / 1461) + 1) / 4
     → (sooner : ℕ) → sooner ≡ (153 * ((5 * (number + 306 + lacking - before) + 2) / 153) + 2) / 5
     → rank (23_630 + 12 * ((4 * (number + 306 + lacking) + 2) / 1461) + (5 * (number + 306 + lacking - before) + 2) / 153)
@@ -237,7 +238,7 @@ made_rank number lacking h el before eb sooner es =
 
 -- the days of a month go on from its first
 pub number_on : (month day : ℕ) → first_month ≤ month → month < months_end → 1 ≤ day → day ≤ length_of month
-    → (day_number month 1 + day ≡ day_number month day + 1) × (day_number month day < 47_847)
+    → (day_number month 1 + day ≡ day_number month day + 1) × (day_number month day < days_in_range)
 number_on month day low high first last =
     let one = number_closed month 1 low high (omega arith) (omega arith) in
     let here = number_closed month day low high first last in

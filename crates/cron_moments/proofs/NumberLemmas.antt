@@ -5,6 +5,7 @@ use Rattle.jiff_core.specs.Calendar.{days_from_civil}
 use Rattle.jiff_core.specs.Date.{epoch_day}
 use Rattle.jiff_core.proofs.CalendarLemmas.{weekday_number-parts}
 use Rattle.jiff_core.proofs.SignedLemmas.{signed_arith}
+use Rattle.cron_moments.specs.Civil.{days_in_range}
 use Rattle.cron_moments.specs.Calendar.{rank, rank_of_date, day_number, year_of, month_of, length_of, first_month, months_end, weekday_number}
 use Rattle.cron_moments.specs.CivilDates.{date_numbered}
 use Rattle.cron_moments.proofs.CivilLemmas.{is_date_numbered}
@@ -12,7 +13,7 @@ use Rattle.cron_moments.proofs.DateLemmas.{low_day, high_day}
 
 -- n is the number of the day of the month
 pub record IsNumber (month day n : ℕ) : Type 0 where
-  pub in_range : n < 47_847
+  pub in_range : n < days_in_range
   pub epoch : days_from_civil (pos (year_of month)) (month_of month) day ≡ pos n
   pub at : rank_of_date (date_numbered n).0 ≡ rank month day
 
@@ -42,7 +43,7 @@ number_is month day low high first last =
     let above : pos 0 ≤ℤ epoch_day d = low_day d (omega (arith, signed_arith)) in
     let below : epoch_day d ≤ℤ pos 47_846 = high_day d (omega (arith, signed_arith)) in
     let e : epoch_day d ≡ pos (day_number month day) = nonnegative (epoch_day d) above in
-    let small : day_number month day < 47_847 = omega (arith, signed_arith) in
+    let small : day_number month day < days_in_range = omega (arith, signed_arith) in
     let same : d ≡ (date_numbered (day_number month day)).0 = is_date_numbered d (day_number month day) (omega arith) e in
     record {
       in_range = small;

@@ -9,6 +9,10 @@ use Rattle.cron_moments.specs.CivilDates.{date_numbered}
 abbrev pub days_in_range : ℕ
 days_in_range = 47_847
 
+-- 1970 to 2100: the years
+abbrev pub years_in_range : ℕ
+years_in_range = 131
+
 abbrev pub seconds_in_range : ℕ
 seconds_in_range = 4_133_980_800
 

@@ -46,7 +46,7 @@ fn days_of_months(months: u32) -> u32
 
 // The leap day that is lacking from a number on.
 #[inline(always)]
-fn lacking(number: u32, from: u32) -> u32
+fn missing_leap_day(number: u32, from: u32) -> u32
     ensures value { result ≡ cond (nat_lt number from) 0 1 }
     ensures bound { result ≤ 1 }
 {
@@ -63,7 +63,7 @@ fn number_of(month: u32, day: u32) -> u32
 {
     let months = month - FIRST_MARCH;
     let first = days_of_years(months / 12) + days_of_months(months % 12);
-    first + day - lacking(month, MARCH_2100) - (DAYS_FROM_FIRST_MARCH + 1)
+    first + day - missing_leap_day(month, MARCH_2100) - (DAYS_FROM_FIRST_MARCH + 1)
 }
 
 /// The month and the day of the month with this number.
@@ -74,7 +74,7 @@ fn month_and_day(number: u32) -> (u32, u32)
     ensures month { (first_month ≤ result.0) × (result.0 < months_end) }
     ensures day { (1 ≤ result.1) × (result.1 ≤ 31) }
 {
-    let days = number + DAYS_FROM_FIRST_MARCH + lacking(number, DAYS_TO_MARCH_2100);
+    let days = number + DAYS_FROM_FIRST_MARCH + missing_leap_day(number, DAYS_TO_MARCH_2100);
     let years = (4 * days + 2) / 1461;
     let rest = days - days_of_years(years);
     let months = (5 * rest + 2) / 153;

@@ -99,7 +99,7 @@ pub(crate) fn outcome(alloc: Global, read: &Result<Schedule, Error>) -> Result<S
 }
 
 /// The text that a schedule or a refusal keeps.
-pub(crate) fn kept(read: &Result<Schedule, Error>) -> &str {
+pub(crate) fn kept_text(read: &Result<Schedule, Error>) -> &str {
     match read {
         Ok(schedule) => schedule.source(),
         Err(error) => match error.kind() {

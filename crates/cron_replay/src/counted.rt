@@ -81,7 +81,7 @@ fn ten_by_ten(setting: &Setting, end: Timestamp) -> Tally {
         }
         tally = tally.add(fire);
         if count % 10 == 0 {
-            run = Fires::after_item(&setting.schedule, &fire, &setting.zone);
+            run = Fires::past(&setting.schedule, &fire, &setting.zone);
         }
     }
     tally

@@ -13,7 +13,7 @@
 //! spelling, white space at each place, and texts with several faults. The random ones were made by
 //! chance, half of them by changing a few characters of a text that is read.
 
-use crate::answers::{kept, outcome};
+use crate::answers::{kept_text, outcome};
 use crate::characters::text_meant;
 use crate::readers::{READERS, Reader};
 use crate::report::{Report, Row, cut};
@@ -45,7 +45,7 @@ pub(crate) fn compare_reader(
     let read = reader.read(report.alloc(), text);
     compare_outcome(report, row, reader, &read, answer)?;
     let wanted = if read.is_ok() { text } else { answer };
-    report.compare(row, "what is kept", wanted, kept(&read))
+    report.compare(row, "what is kept", wanted, kept_text(&read))
 }
 
 /// What `from_str` makes of a text.

@@ -63,7 +63,7 @@ impl Plan<'_> {
         }
         match rest.start {
             Start::After(now) => first_fire_after(self.schedule, now, self.zone),
-            Start::Past(item) => first_fire_past(self.schedule, &item, self.zone),
+            Start::Past(fire) => first_fire_past(self.schedule, &fire, self.zone),
         }
     }
 

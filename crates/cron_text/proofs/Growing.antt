@@ -9,8 +9,8 @@ use Rattle.cron_text.specs.Inner.Places.{NoConnector}
 use Rattle.cron_text.specs.Inner.Views.{connector_view}
 use Rattle.cron_text.specs.Tokens.{Token, Symbol, symbol_of, comma, dash, slash, after_space, after_gap}
 use Rattle.cron_text.proofs.FieldStates.{grows}
-use Rattle.cron_text.specs.declared.fields.Connector.{Connector}
-use Rattle.cron_text.specs.declared.fields.Connector.TheVariants.{Comma, Dash, Slash}
+use Rattle.cron_text.specs.declared.field_texts.Connector.{Connector}
+use Rattle.cron_text.specs.declared.field_texts.Connector.TheVariants.{Comma, Dash, Slash}
 
 before_by : (s w l : Bool) → (not s || not ((w && true) || (l && false))) ≡ not (w && s)
 before_by true true true = refl

@@ -13,8 +13,8 @@ use Rattle.cron_text.specs.Meaning.{trimmed_front}
 use Rattle.cron_text.specs.Tokens.{Token, Symbol, number, word, foreign, tokens, symbol_of, sign_of, is_space, is_digit, is_letter, in_one_run, after_space, after_byte, after_gap, BeginsNoSpace}
 use Rattle.cron_text.specs.Inner.Places.{IsPlace, IsConnector, NoConnector, token_between}
 use Rattle.cron_text.specs.Inner.Views.{connector_view}
-use Rattle.cron_text.specs.declared.fields.Connector.{Connector}
-use Rattle.cron_text.specs.declared.fields.Connector.TheVariants.{Comma, Dash, Slash}
+use Rattle.cron_text.specs.declared.field_texts.Connector.{Connector}
+use Rattle.cron_text.specs.declared.field_texts.Connector.TheVariants.{Comma, Dash, Slash}
 use Rattle.cron_text.specs.declared.tokens.Place.{Place}
 use Rattle.cron_text.proofs.TokenRuns.{tokens-nil, tokens-cons, after_gap-space, digit_no_space, letter_no_space, run_is_token}
 use Rattle.cron_text.proofs.Trims.{front_stays, front_more, front_none}

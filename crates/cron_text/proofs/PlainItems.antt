@@ -10,8 +10,8 @@ use Rattle.cron_text.specs.Inner.Places.{IsTokenAt, NoConnector, token_between, 
 use Rattle.cron_text.specs.Inner.PlainReading.{IsSymbolAt, IsBehind, IsItemAt, IsAddedAt}
 use Rattle.cron_text.specs.Inner.Views.{connector_view, symbol_view}
 use Rattle.cron_text.specs.Tokens.{Token, Symbol, tokens, symbol_of, sign_of, number, word, star, is_space, is_digit, is_letter}
-use Rattle.cron_text.specs.declared.fields.Connector.{Connector}
-use Rattle.cron_text.specs.declared.fields.Connector.TheVariants.{Comma, Dash, Slash}
+use Rattle.cron_text.specs.declared.field_texts.Connector.{Connector}
+use Rattle.cron_text.specs.declared.field_texts.Connector.TheVariants.{Comma, Dash, Slash}
 use Rattle.cron_text.specs.declared.symbols.Symbol as code
 use Rattle.cron_text.specs.declared.tokens.Place.{Place}
 use Rattle.cron_units.proofs.DenotedSets.{denotes_push}

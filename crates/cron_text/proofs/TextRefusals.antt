@@ -6,7 +6,7 @@ use Rattle.cron_units.specs.Sets.{Sets}
 use Rattle.cron_units.specs.Units.{FieldSet}
 use Rattle.cron_text.specs.Fault.{IsFaultOf, IsRefusal}
 use Rattle.cron_text.specs.Inner.TextReading.{IsRefusalOf}
-use Rattle.cron_text.specs.declared.fields.Unread.{Unread}
+use Rattle.cron_text.specs.declared.field_texts.Unread.{Unread}
 use Rattle.cron_text.specs.Tokens.{Token, tokens}
 
 none_is_some : (o : Option Sets) (s : Sets) → o ≡ None → o ≡ Some s → ⊥

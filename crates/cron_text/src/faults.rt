@@ -5,7 +5,7 @@ ghost use Rattle.cron_text.specs.FaultText.{fault_text};
 ghost use Rattle.cron_units.specs.Texts.{Tells};
 
 use cron_units::error::Error;
-use cron_units::specifier::{RefusedItem, refused, text_error};
+use cron_units::specifier::{RefusedItem, item_error, text_error};
 use std::alloc::Global;
 use std::fmt;
 
@@ -41,6 +41,6 @@ pub fn fault_error(alloc: Global, fault: Fault<'_>) -> Error
 {
     match fault {
         Fault::Syntax => text_error(alloc, SYNTAX),
-        Fault::Refused(item) => refused(alloc, item),
+        Fault::Refused(item) => item_error(alloc, item),
     }
 }

@@ -2,7 +2,7 @@
 #![tactic(auto)]
 
 mod faults;
-mod fields;
+mod field_texts;
 mod items;
 mod plain;
 mod shorthands;

@@ -11,7 +11,7 @@ ghost use Rattle.cron_text.specs.Tokens.{number};
 ghost use Rattle.cron_text.specs.Inner.Places.{IsPlace, tokens_from};
 ghost use Rattle.cron_text.specs.Inner.PlainReading.{IsAddedAt, IsBehind, IsItemAt, IsSymbolAt, IsWordAt};
 
-use super::fields::connector_at;
+use super::field_texts::connector_at;
 use super::symbols::digits_at;
 use super::tokens::{Place, is_digit, is_letter, skip_space};
 use cron_units::specifier::{Base, Item, add_item, add_name, add_names};

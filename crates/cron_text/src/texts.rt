@@ -9,7 +9,7 @@ ghost use Rattle.cron_units.specs.Units.{FieldSet, unmarked};
 ghost use Rattle.cron_text.specs.Meaning.{DenoteYears, DenoteSets, Means, MeansNothing, six_units, field_sets, shorthand_of, trimmed_end};
 
 use super::faults::Fault;
-use super::fields::{Unread, read_field};
+use super::field_texts::{Unread, read_field};
 use super::shorthands::shorthand_named;
 use super::tokens::{Place, skip_space, trimmed_end};
 use cron_units::fields::ScheduleFields;

@@ -13,7 +13,7 @@ ghost use Rattle.cron_units.specs.Views.{base_view, item_view, refusal_view, ste
 mod messages;
 
 use crate::time_unit::{Key, Ordinal, TimeUnitField, add_steps};
-pub use messages::{RefusedItem, refused, text_error};
+pub use messages::{RefusedItem, item_error, text_error};
 
 /// What an item ranges over before its step.
 #[derive(Clone, Copy)]

@@ -1,7 +1,7 @@
 //! Schedules, and walks over the moments that they mean in a zone.
 
-mod course;
 mod expression;
+mod inputs;
 mod json;
 mod play;
 mod walk;

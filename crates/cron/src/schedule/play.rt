@@ -2,7 +2,7 @@
 ghost use Rattle.std.specs.Prelude.{◌≡◌, IfOk, OnErr};
 
 use crate::schedule::Moment;
-use crate::schedule::course::Lent;
+use crate::schedule::inputs::Borrowed;
 use crate::schedule::walk::Walker;
 use std::alloc::{AllocError, Global};
 
@@ -15,7 +15,7 @@ pub enum Turn {
     NextBack,
 }
 
-impl<'a> Walker<Lent<'a>> {
+impl<'a> Walker<Borrowed<'a>> {
     ghost use Rattle.cron.specs.Turns.{IsPlayed};
 
     /// The answers of these calls in order. Where room is refused the walk stays as it was.

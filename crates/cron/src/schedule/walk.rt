@@ -1,5 +1,5 @@
 //! A walk over the timeline of sets in a zone, and the same walk reversed.
-use super::course::{Course, Lent, Owned};
+use super::inputs::{Borrowed, Inputs, Owned};
 use cron_moments::moment::Moment;
 use cron_time::walk::state::State;
 use cron_time::walk::step::step;
@@ -7,36 +7,36 @@ use cron_units::way::Way;
 use jiff::Timestamp;
 use std::marker::Model;
 
-/// A walk over the timeline of a course. Contracts see its sets, its zone and its cursor.
+/// A walk over the timeline of its inputs. Contracts see its sets, its zone and its cursor.
 #[derive(Drop)]
-pub struct Walker<C: Course> {
-    course: C,
+pub struct Walker<C: Inputs> {
+    inputs: C,
     state: State,
 }
 
-/// A walk over the timeline of a schedule in a zone, both of which are lent to it.
-pub type ScheduleIterator<'a> = Walker<Lent<'a>>;
+/// A walk over the timeline of a schedule in a zone, both of which it borrows.
+pub type ScheduleIterator<'a> = Walker<Borrowed<'a>>;
 
 /// A walk over the timeline of a schedule in a zone, which owns its sets and its zone.
 pub type OwnedScheduleIterator<'z> = Walker<Owned<'z>>;
 
-impl<C: Course> Model for Walker<C> {
+impl<C: Inputs> Model for Walker<C> {
     ghost use Rattle.cron_time.specs.Walk.Cursor.{Walk};
     ghost use Rattle.cron_time.specs.Walk.Inner.Placed.{cursor_of, stand_of, IsPlaced, Knows};
 
     ghost Value = { Walk };
 
     ghost view = { λ w. record {
-      sets = C.sets w.course;
-      zone = C.zone w.course;
-      cursor = cursor_of (C.sets w.course) (C.zone w.course) (stand_of w.state);
+      sets = C.sets w.inputs;
+      zone = C.zone w.inputs;
+      cursor = cursor_of (C.sets w.inputs) (C.zone w.inputs) (stand_of w.state);
     } };
 
-    ghost invariant = { λ w. IsPlaced (C.sets w.course) (C.zone w.course) (stand_of w.state)
-        × Knows (C.sets w.course) (C.zone w.course) w.state };
+    ghost invariant = { λ w. IsPlaced (C.sets w.inputs) (C.zone w.inputs) (stand_of w.state)
+        × Knows (C.sets w.inputs) (C.zone w.inputs) w.state };
 }
 
-impl<C: Course> Walker<C> {
+impl<C: Inputs> Walker<C> {
     ghost use Rattle.std.specs.Prelude.{◌≡◌};
     ghost use Rattle.cron_units.specs.declared.way.Way.TheVariants.{Back};
     ghost use Rattle.cron_time.specs.Walk.Cursor.{Start};
@@ -44,26 +44,26 @@ impl<C: Course> Walker<C> {
     ghost use Rattle.cron_time.specs.Walk.Rest.{Gives};
 
     /// A walk whose cursor is at a start.
-    pub(crate) fn starting(course: C, start: Timestamp) -> Walker<C>
-        ensures sets { result.sets ≡ C.sets course }
-        ensures zone { result.zone ≡ C.zone course }
+    pub(crate) fn starting(inputs: C, start: Timestamp) -> Walker<C>
+        ensures sets { result.sets ≡ C.sets inputs }
+        ensures zone { result.zone ≡ C.zone inputs }
         ensures cursor { result.cursor ≡ Start start.nanosecond }
     {
         Walker {
-            course,
+            inputs,
             state: State::starting(start),
         }
     }
 
     /// A walk that stands at a place.
-    pub(crate) fn at(course: C, state: State) -> Walker<C>
-        requires placed { IsPlaced (C.sets course) (C.zone course) (stand_of state) }
-        requires known { Knows (C.sets course) (C.zone course) state }
-        ensures sets { result.sets ≡ C.sets course }
-        ensures zone { result.zone ≡ C.zone course }
-        ensures cursor { result.cursor ≡ cursor_of (C.sets course) (C.zone course) (stand_of state) }
+    pub(crate) fn at(inputs: C, state: State) -> Walker<C>
+        requires placed { IsPlaced (C.sets inputs) (C.zone inputs) (stand_of state) }
+        requires known { Knows (C.sets inputs) (C.zone inputs) state }
+        ensures sets { result.sets ≡ C.sets inputs }
+        ensures zone { result.zone ≡ C.zone inputs }
+        ensures cursor { result.cursor ≡ cursor_of (C.sets inputs) (C.zone inputs) (stand_of state) }
     {
-        Walker { course, state }
+        Walker { inputs, state }
     }
 
     #[inline(always)]
@@ -71,16 +71,16 @@ impl<C: Course> Walker<C> {
         ensures { Gives way self.old result self.new }
     {
         step(
-            self.course.fields(),
-            self.course.zone(),
+            self.inputs.fields(),
+            self.inputs.zone(),
             way,
             &mut self.state,
         );
         self.state.answer()
     }
 
-    /// The item before the cursor, to which the cursor moves. `None` where there is none, and from then on for ever,
-    /// in both directions.
+    /// The item before the cursor, to which the cursor moves. `None` where there is none, and from then
+    /// on for ever, in both directions.
     pub fn next_back(&mut self) -> Option<Moment>
         ensures { Gives Back self.old result self.new }
     {
@@ -95,7 +95,7 @@ impl<C: Course> Walker<C> {
     }
 }
 
-impl<C: Course> Iterator for Walker<C> {
+impl<C: Inputs> Iterator for Walker<C> {
     ghost use Rattle.std.specs.Iterator.{item_count};
     ghost use Rattle.cron_units.specs.declared.way.Way.TheVariants.{Ahead};
     ghost use Rattle.cron_time.specs.Walk.Rest.{Gives, rest_ahead};
@@ -106,8 +106,8 @@ impl<C: Course> Iterator for Walker<C> {
 
     ghost remaining = { item_count rest_ahead };
 
-    /// The item after the cursor, to which the cursor moves. `None` where there is none, and from then on for ever,
-    /// in both directions.
+    /// The item after the cursor, to which the cursor moves. `None` where there is none, and from then
+    /// on for ever, in both directions.
     fn next(&mut self) -> Option<Moment> {
         self.step(Way::Ahead)
     }
@@ -115,17 +115,17 @@ impl<C: Course> Iterator for Walker<C> {
 
 /// A walk with the two directions exchanged.
 #[derive(Drop)]
-pub struct Reversed<C: Course> {
+pub struct Reversed<C: Inputs> {
     walk: Walker<C>,
 }
 
 /// A [`ScheduleIterator`] with the two directions exchanged.
-pub type RevScheduleIterator<'a> = Reversed<Lent<'a>>;
+pub type RevScheduleIterator<'a> = Reversed<Borrowed<'a>>;
 
 /// An [`OwnedScheduleIterator`] with the two directions exchanged.
 pub type OwnedRevScheduleIterator<'z> = Reversed<Owned<'z>>;
 
-impl<C: Course> Model for Reversed<C> {
+impl<C: Inputs> Model for Reversed<C> {
     ghost use Rattle.cron_time.specs.Walk.Cursor.{Walk};
 
     ghost Value = { Walk };
@@ -133,12 +133,12 @@ impl<C: Course> Model for Reversed<C> {
     ghost view = { λ r. r.walk };
 }
 
-impl<C: Course> Reversed<C> {
+impl<C: Inputs> Reversed<C> {
     ghost use Rattle.cron_units.specs.declared.way.Way.TheVariants.{Ahead};
     ghost use Rattle.cron_time.specs.Walk.Rest.{Gives};
 
-    /// The item after the cursor, to which the cursor moves. `None` where there is none, and from then on for ever,
-    /// in both directions.
+    /// The item after the cursor, to which the cursor moves. `None` where there is none, and from then
+    /// on for ever, in both directions.
     pub fn next_back(&mut self) -> Option<Moment>
         ensures { Gives Ahead self.old result self.new }
     {
@@ -146,7 +146,7 @@ impl<C: Course> Reversed<C> {
     }
 }
 
-impl<C: Course> Iterator for Reversed<C> {
+impl<C: Inputs> Iterator for Reversed<C> {
     ghost use Rattle.std.specs.Iterator.{item_count};
     ghost use Rattle.cron_units.specs.declared.way.Way.TheVariants.{Back};
     ghost use Rattle.cron_time.specs.Walk.Rest.{Gives, rest_back};
@@ -157,8 +157,8 @@ impl<C: Course> Iterator for Reversed<C> {
 
     ghost remaining = { item_count rest_back };
 
-    /// The item before the cursor, to which the cursor moves. `None` where there is none, and from then on for ever,
-    /// in both directions.
+    /// The item before the cursor, to which the cursor moves. `None` where there is none, and from then
+    /// on for ever, in both directions.
     fn next(&mut self) -> Option<Moment> {
         self.walk.next_back()
     }

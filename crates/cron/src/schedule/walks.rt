@@ -5,10 +5,10 @@ ghost use Rattle.jiff.specs.Words.{plain_zone};
 ghost use Rattle.cron_time.specs.Walk.Cursor.{Start};
 ghost use Rattle.cron_time.specs.Walk.Resume.{IsAbsent, IsResumed};
 
-use super::course::{Lent, Owned};
+use super::inputs::{Borrowed, Owned};
 use super::walk::Walker;
 use super::{Moment, OwnedScheduleIterator, Schedule, ScheduleIterator};
-use cron_time::walk::resume::resumed;
+use cron_time::walk::resume::resume;
 use jiff::Timestamp;
 use jiff::tz::TimeZone;
 use std::alloc::AllocError;
@@ -39,7 +39,7 @@ impl Schedule {
         ensures cursor { result.cursor ≡ Start start.nanosecond }
     {
         let fields = self.fields();
-        Walker::starting(Lent { fields, zone }, start)
+        Walker::starting(Borrowed { fields, zone }, start)
     }
 
     /// [`Schedule::after`] from the present instant, with what is said there of a fold. An item at
@@ -64,9 +64,9 @@ impl Schedule {
             (IsAbsent self.now.sets (plain_zone zone.now) item.now)
             (IsResumed self.now.sets (plain_zone zone.now) item.now) }
     {
-        let state = resumed(self.fields(), zone, item)?;
+        let state = resume(self.fields(), zone, item)?;
         let fields = self.fields();
-        Some(Walker::at(Lent { fields, zone }, state))
+        Some(Walker::at(Borrowed { fields, zone }, state))
     }
 
     /// The walk of [`Schedule::after`], over the schedule's sets and the zone itself. It takes no

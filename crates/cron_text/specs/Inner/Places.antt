@@ -12,8 +12,8 @@ use Rattle.cron_text.specs.Tokens.{tokens, is_digit, symbol_of, star, after_gap,
 use Rattle.cron_text.specs.Inner.FieldReading.{FieldState, furthest}
 use Rattle.cron_text.specs.Inner.Numbers.{IsCapped}
 use Rattle.cron_text.specs.Inner.Views.{symbol_view, connector_view, after_growth}
-use Rattle.cron_text.specs.declared.fields.Connector.{Connector}
-use Rattle.cron_text.specs.declared.fields.Growth.{Growth}
+use Rattle.cron_text.specs.declared.field_texts.Connector.{Connector}
+use Rattle.cron_text.specs.declared.field_texts.Growth.{Growth}
 use Rattle.cron_text.specs.declared.symbols.Symbol.{Symbol}
 use Rattle.cron_text.specs.declared.symbols.Token.{Token}
 use Rattle.cron_text.specs.declared.tokens.Place.{Place}

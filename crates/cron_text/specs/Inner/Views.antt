@@ -7,10 +7,10 @@ use Rattle.cron_units.specs.Views.{item_view}
 use Rattle.cron_units.specs.declared.specifier.Item.{Item}
 use Rattle.cron_text.specs.declared.symbols.Symbol.{Symbol}
 use Rattle.cron_text.specs.declared.symbols.Symbol.TheVariants.{Number, Word, Star, Question, Comma, Dash, Slash, Foreign}
-use Rattle.cron_text.specs.declared.fields.Connector as connector
-use Rattle.cron_text.specs.declared.fields.Connector.TheVariants as connectors
-use Rattle.cron_text.specs.declared.fields.Growth.{Growth}
-use Rattle.cron_text.specs.declared.fields.Growth.TheVariants.{Grown, Next}
+use Rattle.cron_text.specs.declared.field_texts.Connector as connector
+use Rattle.cron_text.specs.declared.field_texts.Connector.TheVariants as connectors
+use Rattle.cron_text.specs.declared.field_texts.Growth.{Growth}
+use Rattle.cron_text.specs.declared.field_texts.Growth.TheVariants.{Grown, Next}
 use Rattle.cron_text.specs.Inner.FieldReading.{FieldState}
 
 abbrev pub symbol_view : Symbol → spec.Symbol

@@ -7,7 +7,7 @@ use Rattle.cron_units.specs.declared.way.Way.{Way}
 use Rattle.cron_units.specs.declared.way.Way.TheVariants.{Ahead, Back}
 use Rattle.cron_units.specs.Nearest.{LiesFrom, Precedes, IsNearestAt}
 use Rattle.cron_time.specs.Search.Inner.Blocks.{AllFail}
-use Rattle.cron_moments.specs.Civil.{civil}
+use Rattle.cron_moments.specs.Civil.{civil, days_in_range}
 use Rattle.cron_moments.specs.CivilDates.{date_numbered}
 use Rattle.cron_time.specs.Search.Counts.{Stretch, count_within, candidates, is_gap_match, gap_matches, low_end, high_end, passed, span, conversions, days_of}
 use Rattle.cron_time.specs.Search.Inner.DaySearch.{candidate_day, IsAsked, day_of}
@@ -30,16 +30,16 @@ Within limit way first answer s =
     (s.to ≤ limit) × ((k : ℕ) → k < limit → LiesFrom way first k → NotPast way k answer → (s.from ≤ k) × (k < s.to))
     × ((k : ℕ) → s.from ≤ k → k < s.to → LiesFrom way first k × NotPast way k answer)
 
-days_within : (way : Way) (s : Sets) (first : ℤ) (answer : Option ℕ) (stretch : Stretch) (days : ℕ) → Within 47_847 way first answer stretch
-    → IsTally 47_847 (IsPassedTo way (candidate_day s) first answer) days → days ≡ candidates s stretch
+days_within : (way : Way) (s : Sets) (first : ℤ) (answer : Option ℕ) (stretch : Stretch) (days : ℕ) → Within days_in_range way first answer stretch
+    → IsTally days_in_range (IsPassedTo way (candidate_day s) first answer) days → days ≡ candidates s stretch
 unfolding Within
 days_within way s first answer stretch days w counted =
     let test : ℕ → Bool = λ day. is_candidate s (date_numbered day).0 in
-    kind_unique 47_847 (IsPassedTo way (candidate_day s) first answer) days (count_within test stretch) counted
-    (kind_same 47_847 _ _ _
-    (λ k lt p. let both = w.2 k p.0 p.1 in record { passes = and_from (nat_lt k 47_847) (test k) (lt-ltb k 47_847 lt) p.2; lies = both.0; until = both.1 })
-    (λ k lt p. let both = w.1 k lt p.lies p.until in (both.0, both.1, (and_parts (nat_lt k 47_847) (test k) p.passes).1))
-    (within_kind 47_847 test stretch w.0))
+    kind_unique days_in_range (IsPassedTo way (candidate_day s) first answer) days (count_within test stretch) counted
+    (kind_same days_in_range _ _ _
+    (λ k lt p. let both = w.2 k p.0 p.1 in record { passes = and_from (nat_lt k days_in_range) (test k) (lt-ltb k days_in_range lt) p.2; lies = both.0; until = both.1 })
+    (λ k lt p. let both = w.1 k lt p.lies p.until in (both.0, both.1, (and_parts (nat_lt k days_in_range) (test k) p.passes).1))
+    (within_kind days_in_range test stretch w.0))
 
 -- a civil second that matches and doesn't stand is a gap match
 gap_from : (s : Sets) (z : TimeZone) (k : ℕ) → k < 4_133_980_800 → matches s (civil k) ≡ true → stands s z k ≡ false → is_gap_match s z k ≡ true
@@ -111,7 +111,7 @@ days_from_back : (c k : ℕ) → c / 86_400 ≤ k → NotPast Back k (Some (c / 
 days_from_back c k h = elim (cases_lt (c / 86_400) k) [ inl lt ↦ inl lt | inr ge ↦ inr (omega arith) ]
 
 ends_days : (way : Way) (from : ℤ) (start c : ℕ) → Starts way from start → c < 4_133_980_800
-    → Within 47_847 way (pos (start / 86_400)) (Some (c / 86_400)) (span way from (Some c))
+    → Within days_in_range way (pos (start / 86_400)) (Some (c / 86_400)) (span way from (Some c))
 unfolding Within
 ends_days Ahead from start c st lt =
     let e : start ≡ low_end from = st.is_first in
@@ -121,7 +121,7 @@ ends_days Back from start c st lt =
     let s = st.in_range in
     (omega arith, λ k small lies. days_to_back from start c k e lies, λ k low high. (omega (arith, signed_arith), days_from_back c k low))
 
-whole_days : (way : Way) (from : ℤ) (start : ℕ) → Starts way from start → Within 47_847 way (pos (start / 86_400)) None (span way from None)
+whole_days : (way : Way) (from : ℤ) (start : ℕ) → Starts way from start → Within days_in_range way (pos (start / 86_400)) None (span way from None)
 unfolding Within
 whole_days Ahead from start st =
     let e : start ≡ low_end from = st.is_first in
@@ -169,7 +169,7 @@ answer_second way s z start f h =
 
 pub days_counted : (way : Way) (s : Sets) (z : TimeZone) (from : ℤ) (start days : ℕ) (found : Option Found) → Starts way from start
     → IsFound way s z (pos start) (option_map found_items found)
-    → IsTally 47_847 (IsPassedTo way (candidate_day s) (pos (start / 86_400)) (day_of found)) days → days ≡ days_of way s from (second_of found)
+    → IsTally days_in_range (IsPassedTo way (candidate_day s) (pos (start / 86_400)) (day_of found)) days → days ≡ days_of way s from (second_of found)
 days_counted way s z from start days None st h counted =
     days_within way s (pos (start / 86_400)) None (span way from None) days (whole_days way from start st) counted
 days_counted way s z from start days (Some f) st h counted =
@@ -209,10 +209,10 @@ outside_conversions Back s z (negsuc b) h = empty_stretch (is_gap_match s z) (pa
 pub within_end : (test : ℕ → Bool) (s : Stretch) → count_within test s ≤ s.to
 within_end test s = kind_bound s.to _ _ (within_kind s.to test s (omega arith))
 
-pub days_at_most : (way : Way) (s : Sets) (from : ℤ) (answer : Option ℕ) → IfSome answer (λ c. c < 4_133_980_800) → days_of way s from answer ≤ 47_847
+pub days_at_most : (way : Way) (s : Sets) (from : ℤ) (answer : Option ℕ) → IfSome answer (λ c. c < 4_133_980_800) → days_of way s from answer ≤ days_in_range
 days_at_most way s from answer h = omega (arith, within_end (λ day. is_candidate s (date_numbered day).0) (span way from answer), span_end way from answer h)
   where
-    span_end : (way : Way) (from : ℤ) (answer : Option ℕ) → IfSome answer (λ c. c < 4_133_980_800) → (span way from answer).to ≤ 47_847
+    span_end : (way : Way) (from : ℤ) (answer : Option ℕ) → IfSome answer (λ c. c < 4_133_980_800) → (span way from answer).to ≤ days_in_range
     span_end Ahead from None h = omega arith
     span_end Ahead from (Some c) h = omega arith
     span_end Back (pos b) None h = omega arith

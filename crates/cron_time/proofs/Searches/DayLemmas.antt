@@ -5,6 +5,7 @@ use Rattle.std.proofs.lemmas.Bool.{both_ways, cases_Bool, and_parts, and_from, a
 use Rattle.jiff_core.specs.declared.civil.date.Date.{Date}
 use Rattle.jiff_core.specs.Calendar.{days_in_month, is_leap_year}
 use Rattle.jiff_core.proofs.SignedLemmas.{signed_arith}
+use Rattle.cron_moments.specs.Civil.{days_in_range}
 use Rattle.cron_units.specs.declared.way.Way.{Way}
 use Rattle.cron_units.specs.declared.way.Way.TheVariants.{Ahead, Back}
 use Rattle.cron_units.specs.Nearest.{LiesFrom, Precedes, IsNearest, IsNearestAt}
@@ -27,12 +28,12 @@ pub split_rank : (s : Sets) → IsSplit 100 (matches_month s) (matches_day s) (m
 split_rank s = both_split 100 (matches_month s) (matches_day s) (matches_rank s) (λ n. refl)
 
 -- the ranks go with the numbers
-precedes_rank : (way : Way) (i j : ℕ) → i < 47_847 → j < 47_847 → Precedes way i j
+precedes_rank : (way : Way) (i j : ℕ) → i < days_in_range → j < days_in_range → Precedes way i j
     → Precedes way (rank_of_date (date_numbered i).0) (rank_of_date (date_numbered j).0)
 precedes_rank Ahead i j hi hj h = rank_lt i j h hj
 precedes_rank Back i j hi hj h = rank_lt j i h hi
 
-pub lies_rank : (way : Way) (i j : ℕ) → i < 47_847 → j < 47_847 → LiesFrom way (pos i) j
+pub lies_rank : (way : Way) (i j : ℕ) → i < days_in_range → j < days_in_range → LiesFrom way (pos i) j
     → LiesFrom way (pos (rank_of_date (date_numbered i).0)) (rank_of_date (date_numbered j).0)
 lies_rank way i j hi hj h =
     elim (first_or_later way i j h) [
@@ -40,7 +41,7 @@ lies_rank way i j hi hj h =
       | inr later ↦ lies_after way _ _ (precedes_rank way i j hi hj later)
     ]
 
-pub rank_lies : (way : Way) (i j : ℕ) → i < 47_847 → j < 47_847 → LiesFrom way (pos (rank_of_date (date_numbered i).0)) (rank_of_date (date_numbered j).0)
+pub rank_lies : (way : Way) (i j : ℕ) → i < days_in_range → j < days_in_range → LiesFrom way (pos (rank_of_date (date_numbered i).0)) (rank_of_date (date_numbered j).0)
     → LiesFrom way (pos i) j
 rank_lies way i j hi hj h =
     elim (lies_or_before way i j) [
@@ -48,12 +49,12 @@ rank_lies way i j hi hj h =
       | inr early ↦ lies_not_before way _ _ h (precedes_rank way j i hj hi early)
     ]
 
-pub past_rank : (way : Way) (i j : ℕ) → i < 47_847 → j < 47_847 → LiesFrom way (beyond way i) j
+pub past_rank : (way : Way) (i j : ℕ) → i < days_in_range → j < days_in_range → LiesFrom way (beyond way i) j
     → LiesFrom way (beyond way (rank_of_date (date_numbered i).0)) (rank_of_date (date_numbered j).0)
 past_rank way i j hi hj h =
     beyond_after way _ _ (precedes_rank way i j hi hj (after_beyond way i j h))
 
-pub rank_past : (way : Way) (i j : ℕ) → i < 47_847 → j < 47_847
+pub rank_past : (way : Way) (i j : ℕ) → i < days_in_range → j < days_in_range
     → LiesFrom way (beyond way (rank_of_date (date_numbered i).0)) (rank_of_date (date_numbered j).0) → LiesFrom way (beyond way i) j
 rank_past way i j hi hj h =
     let later = after_beyond way _ _ h in
@@ -83,14 +84,14 @@ rank_candidate s d low =
     rw parts (rw e refl)
 
 -- a day is a candidate exactly if its rank is
-pub candidate_rank : (s : Sets) (j : ℕ) → j < 47_847 → matches_rank s (rank_of_date (date_numbered j).0) ≡ is_candidate s (date_numbered j).0
+pub candidate_rank : (s : Sets) (j : ℕ) → j < days_in_range → matches_rank s (rank_of_date (date_numbered j).0) ≡ is_candidate s (date_numbered j).0
 candidate_rank s j h = rank_candidate s (date_numbered j).0 (low_at j h)
 
-pub candidate_fails : (s : Sets) (j : ℕ) → (j < 47_847 → matches_rank s (rank_of_date (date_numbered j).0) ≡ false) → candidate_day s j ≡ false
+pub candidate_fails : (s : Sets) (j : ℕ) → (j < days_in_range → matches_rank s (rank_of_date (date_numbered j).0) ≡ false) → candidate_day s j ≡ false
 candidate_fails s j h =
-    elim (cases_lt j 47_847) [
-      | inl lt ↦ and_right (nat_lt j 47_847) (is_candidate s (date_numbered j).0) (sym (candidate_rank s j lt) ∙ h lt)
-      | inr ge ↦ and_left (nat_lt j 47_847) (is_candidate s (date_numbered j).0) (le-ltb j 47_847 ge)
+    elim (cases_lt j days_in_range) [
+      | inl lt ↦ and_right (nat_lt j days_in_range) (is_candidate s (date_numbered j).0) (sym (candidate_rank s j lt) ∙ h lt)
+      | inr ge ↦ and_left (nat_lt j days_in_range) (is_candidate s (date_numbered j).0) (le-ltb j days_in_range ge)
     ]
 
 same_day : (s : Sets) (m d a b : ℕ) → m ≡ a → d ≡ b → matches_day s m d ≡ true → matches_day s a b ≡ true
@@ -116,7 +117,7 @@ month_passes s d range h =
     subst P e parts.0
 
 -- so does that of a day whose date matches
-pub own_month : (s : Sets) (day : ℕ) (d : Day) → day < 47_847 → IsInRange d → day_rank d ≡ rank_of_date (date_numbered day).0
+pub own_month : (s : Sets) (day : ℕ) (d : Day) → day < days_in_range → IsInRange d → day_rank d ≡ rank_of_date (date_numbered day).0
     → matches_date s (date_numbered day).0 ≡ true → matches_month s d.month ≡ true
 own_month s day d small range e h =
     let candidate = (and_parts (is_candidate s (date_numbered day).0) (contains s.days_of_week (weekday_number (date_numbered day).0)) h).0 in
@@ -169,27 +170,27 @@ is_candidate_rank s d range h =
 
 -- what fails by its rank, and what is out of range, fails by its number
 number_fails : (ranked numbered : ℕ → Bool) (j : ℕ)
-    → ((i : ℕ) → i < 47_847 → ranked (rank_of_date (date_numbered i).0) ≡ numbered i)
-    → (j < 47_847 → ranked (rank_of_date (date_numbered j).0) ≡ false) → (nat_lt j 47_847 && numbered j) ≡ false
+    → ((i : ℕ) → i < days_in_range → ranked (rank_of_date (date_numbered i).0) ≡ numbered i)
+    → (j < days_in_range → ranked (rank_of_date (date_numbered j).0) ≡ false) → (nat_lt j days_in_range && numbered j) ≡ false
 number_fails ranked numbered j same h =
-    elim (cases_lt j 47_847) [
-      | inl lt ↦ and_right (nat_lt j 47_847) (numbered j) (sym (same j lt) ∙ h lt)
-      | inr ge ↦ and_left (nat_lt j 47_847) (numbered j) (le-ltb j 47_847 ge)
+    elim (cases_lt j days_in_range) [
+      | inl lt ↦ and_right (nat_lt j days_in_range) (numbered j) (sym (same j lt) ∙ h lt)
+      | inr ge ↦ and_left (nat_lt j days_in_range) (numbered j) (le-ltb j days_in_range ge)
     ]
 
 -- the nearest day by ranks is the nearest by numbers
 pub by_numbers : (way : Way) (ranked numbered : ℕ → Bool) (places numbers : ℤ) (found : Option Day)
-    → ((j : ℕ) → j < 47_847 → ranked (rank_of_date (date_numbered j).0) ≡ numbered j)
+    → ((j : ℕ) → j < days_in_range → ranked (rank_of_date (date_numbered j).0) ≡ numbered j)
     → ((d : Day) → IsInRange d → ranked (day_rank d) ≡ true → d.day ≤ length_of d.month)
-    → ((j : ℕ) → j < 47_847 → LiesFrom way numbers j → LiesFrom way places (rank_of_date (date_numbered j).0))
-    → ((j : ℕ) → j < 47_847 → LiesFrom way places (rank_of_date (date_numbered j).0) → LiesFrom way numbers j) → IfSome found IsInRange
-    → IsNearest way ranked places (option_map day_rank found) → IsNearest way (λ n. nat_lt n 47_847 && numbered n) numbers (option_map number_of found)
+    → ((j : ℕ) → j < days_in_range → LiesFrom way numbers j → LiesFrom way places (rank_of_date (date_numbered j).0))
+    → ((j : ℕ) → j < days_in_range → LiesFrom way places (rank_of_date (date_numbered j).0) → LiesFrom way numbers j) → IfSome found IsInRange
+    → IsNearest way ranked places (option_map day_rank found) → IsNearest way (λ n. nat_lt n days_in_range && numbered n) numbers (option_map number_of found)
 by_numbers way ranked numbered places numbers None same fits to back range h = λ k lies. number_fails ranked numbered k same (λ lt. h _ (to k lt lies))
 by_numbers way ranked numbered places numbers (Some d) same fits to back range h =
     let n = number_is d.month d.day range.0 range.1 range.2 (fits d range h.passes) in
     let P : ℕ → Type 0 = λ p. LiesFrom way places p in
     record {
-      passes = and_from (nat_lt (number_of d) 47_847) (numbered (number_of d)) (lt-ltb (number_of d) 47_847 n.in_range)
+      passes = and_from (nat_lt (number_of d) days_in_range) (numbered (number_of d)) (lt-ltb (number_of d) days_in_range n.in_range)
           (sym (same (number_of d) n.in_range) ∙ ap ranked n.at ∙ h.passes);
       lies = back (number_of d) n.in_range (subst P (sym n.at) h.lies);
       nearest = λ k lies early. number_fails ranked numbered k same (λ lt.
@@ -198,8 +199,8 @@ by_numbers way ranked numbered places numbers (Some d) same fits to back range h
     }
 
 pub by_number : (way : Way) (s : Sets) (places numbers : ℤ) (found : Option Day)
-    → ((j : ℕ) → j < 47_847 → LiesFrom way numbers j → LiesFrom way places (rank_of_date (date_numbered j).0))
-    → ((j : ℕ) → j < 47_847 → LiesFrom way places (rank_of_date (date_numbered j).0) → LiesFrom way numbers j) → IfSome found IsInRange
+    → ((j : ℕ) → j < days_in_range → LiesFrom way numbers j → LiesFrom way places (rank_of_date (date_numbered j).0))
+    → ((j : ℕ) → j < days_in_range → LiesFrom way places (rank_of_date (date_numbered j).0) → LiesFrom way numbers j) → IfSome found IsInRange
     → IsNearest way (matches_rank s) places (option_map day_rank found) → IsNearest way (candidate_day s) numbers (option_map number_of found)
 by_number way s places numbers found to back range h =
     by_numbers way (matches_rank s) (λ n. is_candidate s (date_numbered n).0) places numbers found (candidate_rank s) (day_fits s) to back range h

@@ -7,7 +7,7 @@ use Rattle.cron_units.specs.declared.way.Way.TheVariants.{Ahead, Back}
 use Rattle.cron_units.specs.Nearest.{LiesFrom, Precedes}
 use Rattle.cron_units.specs.Units.{contains}
 use Rattle.cron_time.specs.Search.Inner.Blocks.{Enters}
-use Rattle.cron_moments.specs.Civil.{civil}
+use Rattle.cron_moments.specs.Civil.{civil, days_in_range}
 use Rattle.cron_moments.specs.CivilDates.{date_numbered}
 use Rattle.cron_time.specs.Search.Inner.DaySearch.{candidate_day, FindsInDay, FindsTime, Finds, IsAskedIn, time_of}
 use Rattle.cron_moments.specs.Found.{second_of}
@@ -134,7 +134,7 @@ asked_to way s start day from k o at date enters p = (
 )
 
 -- the times asked are the civil seconds asked in the day
-pub day_asked : (way : Way) (s : Sets) (z : TimeZone) (start : ℤ) (day from count : ℕ) (o : Option Found) → day < 47_847
+pub day_asked : (way : Way) (s : Sets) (z : TimeZone) (start : ℤ) (day from count : ℕ) (o : Option Found) → day < days_in_range
     → matches_date s (date_numbered day).0 ≡ true → Enters way 86_400 start day from → FindsInDay way s z day from (option_map found_items o)
     → IsTally 86_400 (IsPassedTo way (matches_second s) (pos from) (time_of o)) count
     → IsTally 4_133_980_800 (IsAskedIn way s start day (second_of o)) count

@@ -3,6 +3,7 @@ use Rattle.std.proofs.Common.{◌≡◌, ℕ, ◌+◌, ◌*◌, ◌/◌, ◌%◌
 use Rattle.std.proofs.lemmas.Bool.{and_cases, and_from, and_left, and_parts, le-ltb, lt-ltb, ltb-false, ltb-true}
 use Rattle.jiff_core.proofs.SignedLemmas.{signed_arith}
 use Rattle.jiff_tz.specs.declared.timezone.TimeZone.{TimeZone}
+use Rattle.cron_moments.specs.Civil.{days_in_range}
 use Rattle.cron_units.specs.declared.way.Way.{Way}
 use Rattle.cron_units.specs.declared.way.Way.TheVariants.{Ahead, Back}
 use Rattle.cron_units.specs.Nearest.{LiesFrom, Precedes}
@@ -25,8 +26,8 @@ use Rattle.cron_time.proofs.Searches.WayLemmas.{after_beyond, lies_self}
 -- nothing stands on a day whose date doesn't match
 day_fails : (s : Sets) (z : TimeZone) (n : ℕ) → matching_day s (n / 86_400) ≡ false → stands s z n ≡ false
 day_fails s z n h =
-    elim (and_cases (nat_lt (n / 86_400) 47_847) (matches_date s (date_numbered (n / 86_400)).0) h) [
-      | inl far ↦ let ge : 47_847 ≤ n / 86_400 = ltb-false (n / 86_400) 47_847 far in
+    elim (and_cases (nat_lt (n / 86_400) days_in_range) (matches_date s (date_numbered (n / 86_400)).0) h) [
+      | inl far ↦ let ge : days_in_range ≤ n / 86_400 = ltb-false (n / 86_400) days_in_range far in
           and_left (nat_lt n 4_133_980_800) (has_item (items_of s z n)) (le-ltb n 4_133_980_800 (omega arith))
       | inr out ↦ unmatched s z n (matches_at s n ∙ and_left (matches_date s (date_numbered (n / 86_400)).0) (matches_second s (n % 86_400)) out)
     ]
@@ -38,10 +39,10 @@ split_days s z = record {
   passes = λ m r h o i. (and_parts (nat_lt r 86_400) (stands s z (m * 86_400 + r)) i).1;
 }
 
-pub day_in_range : (s : Sets) (day : ℕ) → matching_day s day ≡ true → (day < 47_847) × (matches_date s (date_numbered day).0 ≡ true)
+pub day_in_range : (s : Sets) (day : ℕ) → matching_day s day ≡ true → (day < days_in_range) × (matches_date s (date_numbered day).0 ≡ true)
 day_in_range s day h =
-    let parts = and_parts (nat_lt day 47_847) (matches_date s (date_numbered day).0) h in
-    (ltb-true day 47_847 parts.0, parts.1)
+    let parts = and_parts (nat_lt day days_in_range) (matches_date s (date_numbered day).0) h in
+    (ltb-true day days_in_range parts.0, parts.1)
 
 not_in_day : (way : Way) (day n : ℕ) → LiesFrom way (beyond_day way day) n → Precedes way (n / 86_400) day → ⊥
 not_in_day Ahead day n lies lt = omega (arith, signed_arith)
@@ -52,10 +53,10 @@ not_of_day Ahead day n lies e = omega (arith, signed_arith)
 not_of_day Back day n lies e = omega (arith, signed_arith)
 
 -- the search past a day begins at that day, of which nothing lies past it
-pub begins : (way : Way) (s : Sets) (z : TimeZone) (day : ℕ) → day < 47_847 → matches_date s (date_numbered day).0 ≡ true
+pub begins : (way : Way) (s : Sets) (z : TimeZone) (day : ℕ) → day < days_in_range → matches_date s (date_numbered day).0 ≡ true
     → Reaches way 86_400 (matching_day s) (stands s z) (beyond_day way day) (pos day) day
 begins way s z day small h = record {
-  block = and_from (nat_lt day 47_847) (matches_date s (date_numbered day).0) (lt-ltb day 47_847 small) h;
+  block = and_from (nat_lt day days_in_range) (matches_date s (date_numbered day).0) (lt-ltb day days_in_range small) h;
   lies = lies_self way day;
   failed = λ n lies early. absurd (not_in_day way day n lies early);
 }
@@ -92,8 +93,8 @@ day_found way s z day m from (Some f) reached past extreme e h = record {
   items = h.items;
 }
 
-pub fewer_days : (way : Way) (day next : ℕ) → day < 47_847 → next < 47_847 → LiesFrom way (beyond way day) next
-    → left_to_reach way 47_847 (Some next) < left_to_reach way 47_847 (Some day)
+pub fewer_days : (way : Way) (day next : ℕ) → day < days_in_range → next < days_in_range → LiesFrom way (beyond way day) next
+    → left_to_reach way days_in_range (Some next) < left_to_reach way days_in_range (Some day)
 fewer_days Ahead day next h g lies = let past = after_beyond Ahead day next lies in omega (arith, past)
 fewer_days Back day next h g lies = let past = after_beyond Back day next lies in omega (arith, past)
 

@@ -2,6 +2,7 @@
 use Rattle.std.proofs.Common.{◌≡◌, ℕ, ◌+◌, ◌-◌, ◌<◌, ◌≤◌, ◌&&◌, Bool, true, List, pos, Some, None, refl, sym, ap, subst, ◌∙◌, inl, inr, arith}
 use Rattle.std.specs.Prelude.{nat_le, nat_lt}
 use Rattle.std.proofs.lemmas.Bool.{and_from, and_left, cases_lt, le-leb, lt-ltb, le-ltb, or_left}
+use Rattle.cron_moments.specs.Civil.{days_in_range}
 use Rattle.cron_bits.specs.Words.{has_bit, bit_of_three, then_bits}
 use Rattle.cron_units.specs.declared.way.Way.{Way}
 use Rattle.cron_units.specs.Nearest.{LiesFrom, IsNearest}
@@ -77,14 +78,14 @@ each_date s w day small =
 
 -- ---- the nearest day is the next one
 
-matches_each : (s : Sets) (day : ℕ) → IncludesEachDate s → day < 47_847 → matching_day s day ≡ true
-matches_each s day each small = and_from (nat_lt day 47_847) (matches_date s (date_numbered day).0) (lt-ltb day 47_847 small) (each day small)
+matches_each : (s : Sets) (day : ℕ) → IncludesEachDate s → day < days_in_range → matching_day s day ≡ true
+matches_each s day each small = and_from (nat_lt day days_in_range) (matches_date s (date_numbered day).0) (lt-ltb day days_in_range small) (each day small)
 
-pub each_own : (way : Way) (s : Sets) (day : ℕ) → IncludesEachDate s → day < 47_847 → IsNearest way (matching_day s) (pos day) (Some day)
+pub each_own : (way : Way) (s : Sets) (day : ℕ) → IncludesEachDate s → day < days_in_range → IsNearest way (matching_day s) (pos day) (Some day)
 each_own way s day each small =
     record { passes = matches_each s day each small; lies = lies_self way day; nearest = λ k lies early. lies_not_before way day k lies early }
 
-pub each_next : (way : Way) (s : Sets) (day next : ℕ) → IncludesEachDate s → pos next ≡ beyond way day → next < 47_847
+pub each_next : (way : Way) (s : Sets) (day next : ℕ) → IncludesEachDate s → pos next ≡ beyond way day → next < days_in_range
     → IsNearest way (matching_day s) (beyond way day) (Some next)
 each_next way s day next each e small = record {
   passes = matches_each s next each small;
@@ -92,6 +93,6 @@ each_next way s day next each e small = record {
   nearest = λ k lies early. absurd (not_between way day next k e lies early);
 }
 
-pub each_end : (way : Way) (s : Sets) (day : ℕ) → ((k : ℕ) → LiesFrom way (beyond way day) k → 47_847 ≤ k)
+pub each_end : (way : Way) (s : Sets) (day : ℕ) → ((k : ℕ) → LiesFrom way (beyond way day) k → days_in_range ≤ k)
     → IsNearest way (matching_day s) (beyond way day) None
-each_end way s day out = λ k lies. and_left (nat_lt k 47_847) (matches_date s (date_numbered k).0) (le-ltb k 47_847 (out k lies))
+each_end way s day out = λ k lies. and_left (nat_lt k days_in_range) (matches_date s (date_numbered k).0) (le-ltb k days_in_range (out k lies))

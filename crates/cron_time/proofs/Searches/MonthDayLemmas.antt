@@ -3,6 +3,7 @@ use Rattle.std.proofs.Common.{◌≡◌, ℕ, zero, suc, ◌+◌, ◌-◌, ◌*�
 use Rattle.std.proofs.lemmas.Bool.{both_ways, cases_Bool, cases_eq, and_parts, cases_lt, lt-ltb, le-ltb, leb-true, le-leb, lt-leb, eq-eqb, ne_eqb}
 use Rattle.jiff_core.proofs.SignedLemmas.{signed_arith}
 use Rattle.jiff_core.proofs.CalendarLemmas.{days_in_month_bounds}
+use Rattle.cron_moments.specs.Civil.{days_in_range}
 use Rattle.cron_bits.specs.Words.{has_bit}
 use Rattle.cron_bits.proofs.Doubling.{shifted}
 use Rattle.cron_bits.proofs.WordLemmas.{bit_and_test, bit_none, bit_past}
@@ -176,7 +177,7 @@ known_place s m day place low high (inr days) set e =
     (sym (number_is m.month (place + 1) low high fits.0 fits.1).at ∙ ap (λ n. rank_of_date (date_numbered n).0) is, omega (arith, fits, short), days)
 
 -- the month of a day whose date matches lies in its sets
-pub month_of_day : (s : Sets) (day month place : ℕ) → day < 47_847 → first_month ≤ month → month < months_end → place < 31
+pub month_of_day : (s : Sets) (day month place : ℕ) → day < days_in_range → first_month ≤ month → month < months_end → place < 31
     → rank month (place + 1) ≡ rank_of_date (date_numbered day).0 → matches_date s (date_numbered day).0 ≡ true → matches_month s month ≡ true
 month_of_day s day month place small low high short e h =
     own_month s day (record { month = month; day = place + 1 }) small (low, high, omega arith, omega arith) e h
@@ -304,7 +305,7 @@ pub record Dated (number : ℕ) : Type 0 where
   pub day : ℕ
   pub is : IsMade number month day
 
-pub dated : (number : ℕ) → number < 47_847 → Dated number
+pub dated : (number : ℕ) → number < days_in_range → Dated number
 dated number h =
     let lacking = lacking_at number in
     let years = (4 * (number + 306 + lacking) + 2) / 1461 in
@@ -320,7 +321,7 @@ ranked_at s p month day e f some =
     rw (e, f) (regroup (matches_month s month) (nat_le 1 day) (matches_day s month day) (matches_weekday s month day) (le-leb 1 day some))
 
 -- a date matches exactly if its rank does
-pub matching_rank : (s : Sets) (j : ℕ) → j < 47_847 → matches_ranked s (rank_of_date (date_numbered j).0) ≡ matches_date s (date_numbered j).0
+pub matching_rank : (s : Sets) (j : ℕ) → j < days_in_range → matches_ranked s (rank_of_date (date_numbered j).0) ≡ matches_date s (date_numbered j).0
 matching_rank s j h =
     let d = dated j h in
     let made = d.is in
@@ -343,7 +344,7 @@ ranked_fits s d range h =
     (matching_fits s d.month d.day (subst (P d.month) f (subst Q e parts.1))).1
 
 -- the nearest one past a day, by numbers
-pub matching_past : (way : Way) (s : Sets) (day month place : ℕ) (found : Option Day) → day < 47_847
+pub matching_past : (way : Way) (s : Sets) (day month place : ℕ) (found : Option Day) → day < days_in_range
     → rank month (place + 1) ≡ rank_of_date (date_numbered day).0 → IfSome found IsInRange
     → IsNearest way (matches_ranked s) (beyond way (rank month (place + 1))) (option_map day_rank found)
     → IsNearest way (matching_day s) (beyond way day) (option_map number_of found)
@@ -353,7 +354,7 @@ matching_past way s day month place found small e range h =
     (λ j lt lies. past_rank way day j small lt lies) (λ j lt lies. rank_past way day j small lt lies) range (subst P e h)
 
 -- the nearest one from a day on, by numbers
-pub matching_from : (way : Way) (s : Sets) (day : ℕ) (start : Day) (found : Option Day) → day < 47_847
+pub matching_from : (way : Way) (s : Sets) (day : ℕ) (start : Day) (found : Option Day) → day < days_in_range
     → day_rank start ≡ rank_of_date (date_numbered day).0 → IfSome found IsInRange
     → IsNearest way (matches_ranked s) (pos (day_rank start)) (option_map day_rank found)
     → IsNearest way (matching_day s) (pos day) (option_map number_of found)

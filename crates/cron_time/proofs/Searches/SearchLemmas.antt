@@ -8,7 +8,7 @@ use Rattle.cron_units.specs.declared.way.Way.TheVariants.{Ahead, Back}
 use Rattle.cron_units.specs.Nearest.{LiesFrom, Precedes, IsNearest}
 use Rattle.cron_units.specs.Units.{contains}
 use Rattle.cron_time.specs.Search.Inner.Blocks.{Reaches, ReachesIfAny, left_to_reach}
-use Rattle.cron_moments.specs.Civil.{civil}
+use Rattle.cron_moments.specs.Civil.{civil, days_in_range}
 use Rattle.cron_moments.specs.CivilDates.{date_numbered}
 use Rattle.cron_time.specs.Search.Counts.{high_end}
 use Rattle.cron_moments.specs.Readings.{Reading}
@@ -34,7 +34,7 @@ use Rattle.cron_time.proofs.Searches.TallyLemmas.{kind_none, kind_joined, kind_s
 use Rattle.cron_time.proofs.Searches.WayLemmas.{side, before, same, after, after_beyond, lies_div, precedes_along}
 
 -- the nearest day, by numbers
-pub first_number : (way : Way) (s : Sets) (day : ℕ) (start : Day) (found : Option Day) → day < 47_847 → day_rank start ≡ rank_of_date (date_numbered day).0
+pub first_number : (way : Way) (s : Sets) (day : ℕ) (start : Day) (found : Option Day) → day < days_in_range → day_rank start ≡ rank_of_date (date_numbered day).0
     → IfSome found IsInRange → IsNearest way (matches_rank s) (pos (day_rank start)) (option_map day_rank found)
     → IsNearest way (candidate_day s) (pos day) (option_map number_of found)
 first_number way s day start found small e range h =
@@ -42,7 +42,7 @@ first_number way s day start found small e range h =
     by_number way s _ _ found (λ j lt lies. lies_rank way day j small lt lies) (λ j lt lies. rank_lies way day j small lt lies) range (subst P e h)
 
 -- the nearest one past a day, by numbers
-pub past_number : (way : Way) (s : Sets) (day : ℕ) (d : Day) (found : Option Day) → day < 47_847 → day_rank d ≡ rank_of_date (date_numbered day).0
+pub past_number : (way : Way) (s : Sets) (day : ℕ) (d : Day) (found : Option Day) → day < days_in_range → day_rank d ≡ rank_of_date (date_numbered day).0
     → IfSome found IsInRange → IsNearest way (matches_rank s) (beyond way (day_rank d)) (option_map day_rank found)
     → IsNearest way (candidate_day s) (beyond way day) (option_map number_of found)
 past_number way s day d found small e range h =
@@ -57,7 +57,7 @@ next_number way s d found fits passes range h =
     past_number way s (number_of d) d found n.in_range (sym n.at) range h
 
 -- the search past a day starts at the day past it
-past_start_day : (way : Way) (day start : ℕ) → day < 47_847 → Starts way (beyond_day way day) start → beyond way day ≡ pos (start / 86_400)
+past_start_day : (way : Way) (day start : ℕ) → day < days_in_range → Starts way (beyond_day way day) start → beyond way day ≡ pos (start / 86_400)
 past_start_day Ahead day start small h = let e = h.is_first in omega (arith, signed_arith, e, h.in_range)
 past_start_day Back zero start small h = let e = h.is_first in absurd (omega (arith, signed_arith, e))
 past_start_day Back (suc day) start small h =
@@ -66,7 +66,7 @@ past_start_day Back (suc day) start small h =
     let e : start + 1 ≡ high_end (pos (day * 86_400 + 86_399)) = subst P last h.is_first in
     omega (arith, signed_arith, e, h.in_range)
 
-pub past_start : (way : Way) (s : Sets) (day start : ℕ) (next : Option ℕ) → day < 47_847 → Starts way (beyond_day way day) start
+pub past_start : (way : Way) (s : Sets) (day start : ℕ) (next : Option ℕ) → day < days_in_range → Starts way (beyond_day way day) start
     → IsNearest way (candidate_day s) (beyond way day) next → IsNearest way (candidate_day s) (pos (start / 86_400)) next
 past_start way s day start next small h nearest =
     let P : ℤ → Type 0 = λ n. IsNearest way (candidate_day s) n next in
@@ -139,14 +139,14 @@ day_found way s z start day (Some f) reached e h = record {
 pub days_found : (way : Way) (s : Sets) (z : TimeZone) (start day count : ℕ) (found : Option Found)
     → Reaches way 86_400 (candidate_day s) (stands s z) (pos start) (pos (start / 86_400)) day → is_some found ≡ true
     → Finds way s z (pos start) day (option_map found_items found)
-    → IsTally 47_847 (IsPassedBefore way (candidate_day s) (pos (start / 86_400)) (Some day)) count
-    → IsTally 47_847 (IsPassedTo way (candidate_day s) (pos (start / 86_400)) (day_of found)) (count + 1)
+    → IsTally days_in_range (IsPassedBefore way (candidate_day s) (pos (start / 86_400)) (Some day)) count
+    → IsTally days_in_range (IsPassedTo way (candidate_day s) (pos (start / 86_400)) (day_of found)) (count + 1)
 days_found way s z start day count None reached e h counted = cc
 days_found way s z start day count (Some f) reached e h counted =
     let same_day : f.first.second / 86_400 ≡ day = found_day way s z day h.from f h.finds in
-    let P : ℕ → Type 0 = λ d. IsTally 47_847 (IsPassedTo way (candidate_day s) (pos (start / 86_400)) (Some d)) (count + 1) in
-    let small : day < 47_847 = ltb-true day 47_847 (and_parts (nat_lt day 47_847) (is_candidate s (date_numbered day).0) reached.block).0 in
-    subst P (sym same_day) (passed_found way 47_847 (candidate_day s) (pos (start / 86_400)) day count small reached.block reached.lies counted)
+    let P : ℕ → Type 0 = λ d. IsTally days_in_range (IsPassedTo way (candidate_day s) (pos (start / 86_400)) (Some d)) (count + 1) in
+    let small : day < days_in_range = ltb-true day days_in_range (and_parts (nat_lt day days_in_range) (is_candidate s (date_numbered day).0) reached.block).0 in
+    subst P (sym same_day) (passed_found way days_in_range (candidate_day s) (pos (start / 86_400)) day count small reached.block reached.lies counted)
 
 -- the day of a civil second that matches is a candidate
 pub match_date : (s : Sets) (k : ℕ) → matches s (civil k) ≡ true → is_candidate s (date_numbered (k / 86_400)).0 ≡ true
@@ -156,7 +156,7 @@ match_date s k h =
 
 match_candidate : (s : Sets) (k : ℕ) → k < 4_133_980_800 → matches s (civil k) ≡ true → candidate_day s (k / 86_400) ≡ true
 match_candidate s k lt h =
-    and_from (nat_lt (k / 86_400) 47_847) (is_candidate s (date_numbered (k / 86_400)).0) (lt-ltb (k / 86_400) 47_847 (omega arith)) (match_date s k h)
+    and_from (nat_lt (k / 86_400) days_in_range) (is_candidate s (date_numbered (k / 86_400)).0) (lt-ltb (k / 86_400) days_in_range (omega arith)) (match_date s k h)
 
 -- before the first candidate nothing is asked
 none_before : (way : Way) (s : Sets) (start k : ℕ) (next : Option ℕ) → IsNearest way (candidate_day s) (pos (start / 86_400)) next → k < 4_133_980_800
@@ -246,19 +246,19 @@ asked_found way s z start day a b (Some f) e h early here =
 
 -- the search of the days comes to an end
 pub fewer_days : (way : Way) (s : Sets) (day : ℕ) (next : Option ℕ) → candidate_day s day ≡ true → IsNearest way (candidate_day s) (beyond way day) next
-    → left_to_reach way 47_847 next < left_to_reach way 47_847 (Some day)
-fewer_days Ahead s day None c h = omega (arith, ltb-true day 47_847 (and_parts (nat_lt day 47_847) (is_candidate s (date_numbered day).0) c).0)
+    → left_to_reach way days_in_range next < left_to_reach way days_in_range (Some day)
+fewer_days Ahead s day None c h = omega (arith, ltb-true day days_in_range (and_parts (nat_lt day days_in_range) (is_candidate s (date_numbered day).0) c).0)
 fewer_days Ahead s day (Some n) c h = omega (
   arith,
   signed_arith,
   after_beyond Ahead day n h.lies,
-  ltb-true n 47_847 (and_parts (nat_lt n 47_847) (is_candidate s (date_numbered n).0) h.passes).0,
+  ltb-true n days_in_range (and_parts (nat_lt n days_in_range) (is_candidate s (date_numbered n).0) h.passes).0,
 )
 fewer_days Back s day None c h = omega arith
 fewer_days Back s day (Some n) c h = omega (arith, signed_arith, after_beyond Back day n h.lies)
 
-pub candidate_in : (s : Sets) (day : ℕ) → candidate_day s day ≡ true → day < 47_847
-candidate_in s day h = ltb-true day 47_847 (and_parts (nat_lt day 47_847) (is_candidate s (date_numbered day).0) h).0
+pub candidate_in : (s : Sets) (day : ℕ) → candidate_day s day ≡ true → day < days_in_range
+candidate_in s day h = ltb-true day days_in_range (and_parts (nat_lt day days_in_range) (is_candidate s (date_numbered day).0) h).0
 
 -- what was asked before the end was asked as far as no answer
 pub asked_none_left : (way : Way) (s : Sets) (start : ℤ) (count : ℕ) → IsTally 4_133_980_800 (IsAskedBefore way s start None) count

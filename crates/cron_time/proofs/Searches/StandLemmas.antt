@@ -4,7 +4,7 @@ use Rattle.std.proofs.lemmas.Bool.{both_ways, and_parts, and_cases, and_from, an
 use Rattle.std.proofs.lemmas.Nat.{div-add-mod'}
 use Rattle.jiff_tz.specs.declared.timezone.TimeZone.{TimeZone}
 use Rattle.cron_time.specs.Search.Inner.Blocks.{IsSplit}
-use Rattle.cron_moments.specs.Civil.{civil, time_numbered}
+use Rattle.cron_moments.specs.Civil.{civil, days_in_range, time_numbered}
 use Rattle.cron_moments.specs.CivilDates.{date_numbered}
 use Rattle.cron_time.specs.Search.Inner.DaySearch.{candidate_day}
 use Rattle.cron_time.specs.Search.Inner.Numbers.{matches_second, stands_at}
@@ -65,7 +65,7 @@ silent s z day r h =
     and_right (nat_lt r 86_400) (stands s z (day * 86_400 + r))
     (and_right (nat_lt (day * 86_400 + r) 4_133_980_800) (has_item (items_of s z (day * 86_400 + r))) (rw h refl))
 
-pub heard : (s : Sets) (z : TimeZone) (day r : ℕ) → day < 47_847 → r < 86_400 → has_item (items_of s z (day * 86_400 + r)) ≡ true → stands_at s z day r ≡ true
+pub heard : (s : Sets) (z : TimeZone) (day r : ℕ) → day < days_in_range → r < 86_400 → has_item (items_of s z (day * 86_400 + r)) ≡ true → stands_at s z day r ≡ true
 heard s z day r small h item =
     and_from (nat_lt r 86_400) (stands s z (day * 86_400 + r)) (lt-ltb r 86_400 h)
     (and_from (nat_lt (day * 86_400 + r) 4_133_980_800) (has_item (items_of s z (day * 86_400 + r)))
@@ -74,8 +74,8 @@ heard s z day r small h item =
 -- nothing stands on a day that is no candidate
 day_fails : (s : Sets) (z : TimeZone) (n : ℕ) → candidate_day s (n / 86_400) ≡ false → stands s z n ≡ false
 day_fails s z n h =
-    elim (and_cases (nat_lt (n / 86_400) 47_847) (is_candidate s (date_numbered (n / 86_400)).0) h) [
-      | inl far ↦ let ge : 47_847 ≤ n / 86_400 = ltb-false (n / 86_400) 47_847 far in
+    elim (and_cases (nat_lt (n / 86_400) days_in_range) (is_candidate s (date_numbered (n / 86_400)).0) h) [
+      | inl far ↦ let ge : days_in_range ≤ n / 86_400 = ltb-false (n / 86_400) days_in_range far in
           and_left (nat_lt n 4_133_980_800) (has_item (items_of s z n)) (le-ltb n 4_133_980_800 (omega arith))
       | inr out ↦ unmatched s z n (matches_at s n ∙ and_left (matches_date s (date_numbered (n / 86_400)).0) (matches_second s (n % 86_400))
           (and_left (is_candidate s (date_numbered (n / 86_400)).0) _ out))

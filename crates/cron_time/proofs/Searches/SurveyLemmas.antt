@@ -10,7 +10,7 @@ use Rattle.jiff_tz.specs.declared.timezone.TimeZone.{TimeZone}
 use Rattle.cron_units.specs.declared.way.Way.TheVariants.{Ahead}
 use Rattle.cron_units.specs.Nearest.{IsNearestAt}
 use Rattle.cron_units.specs.Sets.{Sets}
-use Rattle.cron_moments.specs.Civil.{civil}
+use Rattle.cron_moments.specs.Civil.{civil, days_in_range}
 use Rattle.cron_moments.specs.CivilDates.{date_numbered}
 use Rattle.cron_time.specs.Search.Counts.{count_within, candidates, is_gap_match, gap_matches, low_end, passed, span, conversions, days_of}
 use Rattle.cron_time.specs.Search.Inner.Blocks.{AllFail}
@@ -320,7 +320,7 @@ survey_end s z from next (suc n) k days asked lt so none =
     days_all all (inr b) =
         let D : ℤ → Type 0 = λ m. days_of Ahead s m None ≡ days_of Ahead s (pos (b.last + 1)) None in
         let same = subst D (sym b.next_is) refl in
-        let days_at = seam (day_test s) b.last (low_end from / 86_400) 47_847 (omega (arith, b.low)) (omega (arith, b.high)) b.candidate in
+        let days_at = seam (day_test s) b.last (low_end from / 86_400) days_in_range (omega (arith, b.low)) (omega (arith, b.high)) b.candidate in
         let taken = ap (count_by is_before_last_second) (take_all (k - 1 + 1) (standing_from s z from) (omega (arith, all, b.some))) in
         let again = taken_more is_before_last_second (standing_from s z from) (k - 1) b.last b.at in
         omega (arith, same, b.looked, days_at, again, taken)

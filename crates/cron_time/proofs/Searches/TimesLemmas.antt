@@ -1,6 +1,7 @@
 -- The search of the times of one day.
 use Rattle.std.proofs.Common.{◌≡◌, ℕ, ◌+◌, ◌*◌, ◌%◌, ◌<◌, ◌≤◌, true, false, pos, Option, Some, None, is_some, option_map, IfSome, arith, refl, sym, subst, ◌∙◌}
 use Rattle.jiff_tz.specs.declared.timezone.TimeZone.{TimeZone}
+use Rattle.cron_moments.specs.Civil.{days_in_range}
 use Rattle.cron_units.specs.declared.way.Way.{Way}
 use Rattle.cron_units.specs.Nearest.{IsNearest}
 use Rattle.cron_time.specs.Search.Inner.Blocks.{Reaches, ReachesIfAny}
@@ -20,13 +21,13 @@ use Rattle.cron_time.proofs.Searches.TallyLemmas.{passed_found}
 
 -- the search of a matching day has come to a time
 pub record AtTime (way : Way) (s : Sets) (z : TimeZone) (day from time : ℕ) : Type 0 where
-  pub day_in : day < 47_847
+  pub day_in : day < days_in_range
   pub time_in : time < 86_400
   pub matching : matches_date s (date_numbered day).0 ≡ true
   pub reached : Reaches way 1 (matches_second s) (stands_at s z day) (pos from) (pos from) time
 
 -- it has come to the next time, if there is one
-pub at_next : (way : Way) (s : Sets) (z : TimeZone) (day from time : ℕ) (next : Option ℕ) → next ≡ Some time → day < 47_847
+pub at_next : (way : Way) (s : Sets) (z : TimeZone) (day from time : ℕ) (next : Option ℕ) → next ≡ Some time → day < days_in_range
     → matches_date s (date_numbered day).0 ≡ true → IfSome next (λ n. (0 ≤ n) × (n < 86_400))
     → ReachesIfAny way 1 (matches_second s) (stands_at s z day) (pos from) (pos from) next → AtTime way s z day from time
 at_next way s z day from time next is day_in matching bound reached =

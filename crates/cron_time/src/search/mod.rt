@@ -15,9 +15,9 @@ ghost use Rattle.cron_time.specs.Search.Inner.Tally.{Adds, IsPassedTo};
 ghost use Rattle.cron_time.specs.Matches.{matches_date};
 ghost use Rattle.cron_time.specs.Search.{IsFound};
 
+pub mod answers;
 pub mod civil_seconds;
 pub(crate) mod days;
-pub mod found;
 pub(crate) mod inquiry;
 mod leap_days;
 pub mod month_days;
@@ -29,8 +29,8 @@ pub mod survey;
 pub mod times;
 mod ways;
 
+use crate::search::answers::Search;
 use crate::search::days::{Day, day_past, day_with, nearest_day, some_month_has_a_day};
-use crate::search::found::Search;
 use crate::search::inquiry::Inquiry;
 use crate::search::neighbours::{Neighbours, TimesOfDay, time_past};
 use crate::search::ways::entry;
@@ -214,7 +214,8 @@ pub(crate) fn search_from(inquiry: &mut Inquiry<'_>, way: Way, from: i64) -> Opt
     search_days_either_way(inquiry, way, start)
 }
 
-/// A search from a number in a new inquiry, with the numbers of dates and of look-ups of readings that it took.
+/// A search from a number in a new inquiry, with the numbers of dates and of look-ups of readings that
+/// it took.
 pub fn search(fields: &ScheduleFields, zone: &TimeZone<'_>, way: Way, from: i64) -> Search
     ensures found { IsFound way
         fields.now

@@ -43,8 +43,8 @@ pub struct MonthDays {
     days: u64,
 }
 
-// The days of a month that lie in their set: by their numbers, and the last one where it is marked. The length
-// of the month matters for the last numbers alone.
+// The days of a month that lie in their set: by their numbers, and the last one where it is marked. The
+// length of the month matters for the last numbers alone.
 #[inline(always)]
 fn days_in_set(fields: &ScheduleFields, month: u32) -> u64
     requires { month < months_end }
@@ -202,7 +202,7 @@ impl MonthDays {
 
     // The days of the month of a day, and the place of the day among them.
     #[inline(never)]
-    fn looked_up(&mut self, fields: &ScheduleFields, day: u32) -> u32
+    fn look_up(&mut self, fields: &ScheduleFields, day: u32) -> u32
         requires in_range { day < days_in_range }
         requires matching { matches_date fields.now (date_numbered day).0 ≡ true }
         ensures place { rank self.new.month (result + 1) ≡ rank_of_date (date_numbered day).0 }
@@ -217,7 +217,7 @@ impl MonthDays {
 
     // The place of a day whose date matches, in its month, whose days are known from now on.
     #[inline(always)]
-    fn entered(&mut self, fields: &ScheduleFields, day: u32) -> u32
+    fn enter(&mut self, fields: &ScheduleFields, day: u32) -> u32
         requires in_range { day < days_in_range }
         requires matching { matches_date fields.now (date_numbered day).0 ≡ true }
         requires known { KnowsDays fields.now self.old }
@@ -228,7 +228,7 @@ impl MonthDays {
     {
         match self.place_of(day) {
             Some(place) => place,
-            None => self.looked_up(fields, day),
+            None => self.look_up(fields, day),
         }
     }
 
@@ -325,7 +325,7 @@ impl MonthDays {
         if includes_each_date(fields) {
             return past_below(way, day, DAYS);
         }
-        let place = self.entered(fields, day);
+        let place = self.enter(fields, day);
         let next = self.ranked_past(fields, way, place)?;
         Some(self.month.number_of(next.day))
     }

@@ -4,7 +4,7 @@ ghost use Rattle.jiff.specs.Words.{plain_zone};
 ghost use Rattle.cron_time.specs.Search.Counts.{candidates, gap_matches};
 ghost use Rattle.cron_time.specs.Search.Surveys.{days_again, standing_from, surveyed, surveyed_days};
 
-use crate::search::found::Survey;
+use crate::search::answers::Survey;
 use crate::search::inquiry::Inquiry;
 use crate::search::search_from;
 use crate::search::ways::beyond;
@@ -14,7 +14,7 @@ use cron_units::way::Way;
 use jiff::tz::TimeZone;
 
 // So many were found, at the cost of the inquiry.
-fn counted(inquiry: &Inquiry<'_>, seconds: u32) -> Survey
+fn survey_of(inquiry: &Inquiry<'_>, seconds: u32) -> Survey
     ensures { result ≡ record {
       seconds = seconds;
       days = inquiry.now.days;
@@ -49,8 +49,8 @@ pub fn survey(fields: &ScheduleFields, zone: &TimeZone<'_>, from: i64, count: u3
                 seconds += 1;
                 next = beyond(Way::Ahead, civil_second(&found.first));
             }
-            None => return counted(&inquiry, seconds),
+            None => return survey_of(&inquiry, seconds),
         }
     }
-    counted(&inquiry, seconds)
+    survey_of(&inquiry, seconds)
 }

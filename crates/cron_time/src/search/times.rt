@@ -5,7 +5,7 @@ ghost use Rattle.std.specs.Prelude.{◌<◌, ◌≤◌, MatchOption, option_map}
 ghost use Rattle.cron_units.specs.Sets.{AreSets};
 ghost use Rattle.cron_time.specs.Search.Times.{IsNearestTime, time_of_parts};
 
-use crate::search::found::TimeFound;
+use crate::search::answers::TimeFound;
 use crate::search::inquiry::Inquiry;
 use crate::search::neighbours::{Neighbours, TimesOfDay};
 use cron_units::fields::ScheduleFields;

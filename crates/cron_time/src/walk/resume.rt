@@ -45,7 +45,7 @@ fn is_later(found: &Found, moment: Moment) -> Option<bool>
 
 /// Where a walk stands that has answered a moment; `None` where the moment is no item of the
 /// timeline.
-pub fn resumed(fields: &ScheduleFields, zone: &TimeZone<'_>, moment: &Moment) -> Option<State>
+pub fn resume(fields: &ScheduleFields, zone: &TimeZone<'_>, moment: &Moment) -> Option<State>
     ensures { MatchOption result
         (IsAbsent fields.now (plain_zone zone.now) moment.now)
         (λ state. IsPlaced fields.now (plain_zone zone.now) (stand_of state)

@@ -83,7 +83,7 @@ impl<'a> fmt::Display for RefusedItem<'a> {
 }
 
 /// Makes the error that tells a refusal.
-pub fn refused(alloc: Global, item: RefusedItem<'_>) -> Error
+pub fn item_error(alloc: Global, item: RefusedItem<'_>) -> Error
     ensures { Tells (λ text. text ≡ message (definition_view item.entry.definition) (refusal_view item.entry.refusal)) result }
 {
     match format!(in alloc; "{item}") {

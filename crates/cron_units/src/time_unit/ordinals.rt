@@ -7,7 +7,7 @@ ghost use Rattle.cron_units.specs.Tables.{definition_view, AreKeyed};
 
 use super::{Definition, Ordinal, OrdinalIter, TimeUnitField};
 use crate::way::Way;
-use cron_bits::wide::widened;
+use cron_bits::wide::widen;
 use cron_bits::words::Words;
 use std::alloc::AllocError;
 use std::marker::{Model, PhantomData};
@@ -168,7 +168,7 @@ impl<U: UnitTable<W>, W: Words> TimeUnitField for Ordinals<U, W> {
     }
 
     fn ascending(&self) -> OrdinalIter<'_> {
-        OrdinalIter::new(widened(self.words), U::least())
+        OrdinalIter::new(widen(self.words), U::least())
     }
 
     fn nearest(&self, way: Way, from: Ordinal) -> Option<Ordinal> {

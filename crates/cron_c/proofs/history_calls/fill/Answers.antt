@@ -6,8 +6,8 @@ use Rattle.cron_c.proofs.history_calls.fill.Goals as goal
 
 pub loop-at-init : goal.loop-at-init
 loop-at-init c =
-    filled_begins c.args.fields.now c.args.eras.now c.args.begin.now c.args.now.nanosecond c.args.items.now c.first_of_history.result c.due-next.result
-    c.first_of_history.ensures c.due-next.ensures
+    filled_begins c.args.fields.now c.args.eras.now c.args.begin.now c.args.now.nanosecond c.args.items.now c.first_of_history.result c.take_due-next.result
+    c.first_of_history.ensures c.take_due-next.ensures
 
 pub loop-at-preserved : goal.loop-at-preserved
 loop-at-preserved c =
@@ -15,8 +15,8 @@ loop-at-preserved c =
     let so_far = subst (λ (o : Option Reading). IsFilled due c.args.items.now c.loop-at.items c.loop-at.at o) c.in-Some.is c.loop-at.invariant in
     let room : c.loop-at.at < length c.args.items.now = omega (arith, c.loop-at-test.true) in
     filled_goes_on c.args.fields.now c.args.eras.now c.args.begin.now c.args.now.nanosecond c.args.items.now c.loop-at.items c.in-Some.moment c.item_of.result
-    c.first_of_history-in-loop-at.result c.due-next-in-loop-at.result c.loop-at.at so_far room c.item_of.ensures c.first_of_history-in-loop-at.ensures
-    c.due-next-in-loop-at.ensures
+    c.first_of_history-in-loop-at.result c.take_due-next-in-loop-at.result c.loop-at.at so_far room c.item_of.ensures c.first_of_history-in-loop-at.ensures
+    c.take_due-next-in-loop-at.ensures
 
 pub returns-in_default : goal.returns-in_default
 returns-in_default c =

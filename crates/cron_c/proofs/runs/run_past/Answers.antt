@@ -12,7 +12,7 @@ returns c =
     let given = c.in-Some-moment_of.given in
     let now_is : c.in-Ok.now.nanosecond ≡ c.args.now *ℤ pos 1_000_000_000 = search rules in
     let to : IsInstant c.args.now = search rules in
-    let filled = rw (c.past_up_to-run.ensures, c.fields_of.ensures, now_is) at c.fill.ensures in
+    let filled = rw (c.past_by-run.ensures, c.fields_of.ensures, now_is) at c.fill.ensures in
     past_says sets c.args.zone.now zone given c.args.item.now c.args.now c.args.items.now c.fill.new.items c.fill.new.count c.fill.result
     c.in-Some.ensures c.in-Some-moment_of.ensures to filled
 

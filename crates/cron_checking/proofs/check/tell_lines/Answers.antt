@@ -5,7 +5,7 @@ use Rattle.cron_checking.specs.Lines.{AreEnded}
 use Rattle.cron_checking.specs.Puts.{Puts}
 use Rattle.cron_checking.specs.Reports.{TellsLine}
 use Rattle.cron_checking.specs.declared.line.Mode.{Mode}
-use Rattle.cron_checking.specs.declared.reading.Given.TheVariants.{Line}
+use Rattle.cron_checking.specs.declared.line_reader.Given.TheVariants.{Line}
 use Rattle.cron_checking.proofs.Putting.{nothing_put, put_on}
 use Rattle.cron_checking.proofs.ReadLemmas.{line_on, last_read}
 use Rattle.cron_checking.proofs.Telling.{nothing_read, no_piece, line_read, read_on, read_whole, read_through, ended_lines, given_whole, whole_on, line_told, ended_at, ended_puts, ended_unfailed, line_stops}

@@ -10,20 +10,20 @@ has-requires c = search rules
 pub overflow_cast-civil : goal.overflow_cast-civil
 overflow_cast-civil c = search rules
 
-pub between_turns-requires-clause-range : goal.between_turns-requires-clause-range
-between_turns-requires-clause-range c = search rules
+pub between_transitions-requires-clause-range : goal.between_transitions-requires-clause-range
+between_transitions-requires-clause-range c = search rules
 
-pub between_turns-requires-clause-saving : goal.between_turns-requires-clause-saving
-between_turns-requires-clause-saving c = search rules
+pub between_transitions-requires-clause-saving : goal.between_transitions-requires-clause-saving
+between_transitions-requires-clause-saving c = search rules
 
-pub between_turns-requires-clause-turns : goal.between_turns-requires-clause-turns
-between_turns-requires-clause-turns c = search rules
+pub between_transitions-requires-clause-transitions : goal.between_transitions-requires-clause-transitions
+between_transitions-requires-clause-transitions c = search rules
 
-pub between_turns-requires-clause-low : goal.between_turns-requires-clause-low
-between_turns-requires-clause-low c = search rules
+pub between_transitions-requires-clause-low : goal.between_transitions-requires-clause-low
+between_transitions-requires-clause-low c = search rules
 
-pub between_turns-requires-clause-high : goal.between_turns-requires-clause-high
-between_turns-requires-clause-high c = search rules
+pub between_transitions-requires-clause-high : goal.between_transitions-requires-clause-high
+between_transitions-requires-clause-high c = search rules
 
 pub told_stretch-requires-clause-range : goal.told_stretch-requires-clause-range
 told_stretch-requires-clause-range c = search rules

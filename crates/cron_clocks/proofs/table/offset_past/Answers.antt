@@ -2,7 +2,7 @@ use Rattle.std.proofs.Common.{◌∙◌, ◌-◌, ◌<◌, ap, arith, sym}
 use Rattle.jiff_tz.specs.declared.tzif.transition.Transition.{Transition}
 use Rattle.jiff_tz.specs.Tzif.{transition_at}
 use Rattle.jiff_tz.specs.TzifText.{TransitionText, TypeText}
-use Rattle.cron_clocks.proofs.TableLemmas.{first_type, last_type, same_offset, turn_of}
+use Rattle.cron_clocks.proofs.TableLemmas.{first_type, last_type, same_offset, transition_of}
 use Rattle.cron_clocks.proofs.table.offset_past.Goals as goal
 
 pub returns-then-count-eq0 : goal.returns-then-count-eq0
@@ -14,7 +14,7 @@ returns-then-count-eq0 c =
 pub returns-else-count-eq0 : goal.returns-else-count-eq0
 returns-else-count-eq0 c =
     let some : 0 < c.args.count = omega (arith, c.if-count-eq0.false) in
-    let same = turn_of c.args.table.now c.transitions.result.now (c.args.count - 1) c.index-transitions-count.result c.transitions.ensures
+    let same = transition_of c.args.table.now c.transitions.result.now (c.args.count - 1) c.index-transitions-count.result c.transitions.ensures
     c.index-transitions-count.is
     (omega (arith, some, c.requires)) in
     c.from_plain-else-count-eq0.ensures

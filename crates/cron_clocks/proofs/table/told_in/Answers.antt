@@ -9,14 +9,14 @@ returns-clause-alike c =
     let z = c.args.table.now in
     let at : to_z w64 (of_z w64 c.from-at.result) ≡ pos c.args.second = omega (arith, signed_casts, c.from-at.ensures, c.requires) in
     let told = c.told_past-told.ensures in
-    let span = rw at at c.between_turns.ensures in
-    alike_where z c.args.second c.turns_by-count.result c.told_past-told.result.span.first c.told_past-told.result.span.end
-    c.between_turns.result.first c.between_turns.result.end (c.turns_by-count.ensures.value ∙ ap (civil_count_at z) at)
+    let span = rw at at c.between_transitions.ensures in
+    alike_where z c.args.second c.transitions_by-count.result c.told_past-told.result.span.first c.told_past-told.result.span.end
+    c.between_transitions.result.first c.between_transitions.result.end (c.transitions_by-count.ensures.value ∙ ap (civil_count_at z) at)
     span.low span.high told.narrowed span.narrowed span.between told.alike
 
 pub returns-clause-told : goal.returns-clause-told
 returns-clause-told c =
     let z = c.args.table.now in
     let at : to_z w64 (of_z w64 c.from-at.result) ≡ pos c.args.second = omega (arith, signed_casts, c.from-at.ensures, c.requires) in
-    told_where z c.args.second c.turns_by-count.result c.told_past-told.result.earlier c.told_past-told.result.later c.requires
-    (c.turns_by-count.ensures.value ∙ ap (civil_count_at z) at) c.told_past-told.ensures.told
+    told_where z c.args.second c.transitions_by-count.result c.told_past-told.result.earlier c.told_past-told.result.later c.requires
+    (c.transitions_by-count.ensures.value ∙ ap (civil_count_at z) at) c.told_past-told.ensures.told

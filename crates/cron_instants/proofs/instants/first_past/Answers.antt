@@ -4,5 +4,5 @@ use Rattle.cron_instants.proofs.instants.first_past.Goals as goal
 
 pub returns : goal.returns
 returns c =
-    item.first_past c.args.fields.now (plain_zone c.args.zone.now) c.args.item.now c.first_item.result
+    item.first_past c.args.fields.now (plain_zone c.args.zone.now) c.args.fire.now c.first_item.result
     (rw (c.of.ensures.instant, c.of.ensures.second) at c.first_item.ensures)

@@ -2,7 +2,7 @@ use Rattle.std.proofs.Common.{◌≡◌, false, Option, Some, None, MatchOption,
 use Rattle.std.specs.Prelude.{is_some}
 use Rattle.std.proofs.lemmas.Bool.{false≢true}
 use Rattle.cron_text.specs.Inner.Places.{NoConnector, tokens_from}
-use Rattle.cron_text.specs.declared.fields.Connector.{Connector}
+use Rattle.cron_text.specs.declared.field_texts.Connector.{Connector}
 use Rattle.cron_units.proofs.DenotedSets.{denotes_none}
 use Rattle.cron_text.proofs.PlainItems.{list_first, list_next, list_taken}
 use Rattle.cron_text.proofs.plain.read_plain.Goals as goal

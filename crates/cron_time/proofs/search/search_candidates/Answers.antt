@@ -1,4 +1,5 @@
 use Rattle.std.proofs.Common.{◌/◌, pos, refl, sym, arith, ◌∙◌}
+use Rattle.cron_moments.specs.Civil.{days_in_range}
 use Rattle.cron_time.specs.Search.Inner.Blocks.{Reaches}
 use Rattle.cron_time.specs.Search.Inner.DaySearch.{candidate_day}
 use Rattle.cron_time.specs.Search.Inner.Days.{number_of}
@@ -36,7 +37,7 @@ search_day-found-requires g c =
       range = range.0;
       candidate = rw kept.same.sets range.1;
       lies = reached.lies;
-      days_room = omega (arith, day.is, kind_bound 47_847 _ _ day.tally, c.requires.days_room);
+      days_room = omega (arith, day.is, kind_bound days_in_range _ _ day.tally, c.requires.days_room);
       room = omega (arith, asked.is, kind_bound 4_133_980_800 _ _ asked.tally, c.requires.room);
     }
 
@@ -61,7 +62,7 @@ returns-then-is_some g c =
     record {
       found = day_found c.args.way s z c.args.start (number_of c.in-Some.day) _ reached some found;
       same = same_on _ _ _ kept.same searched.same;
-      days = adds_more 47_847 _ _ _ _ _ days searched.days
+      days = adds_more days_in_range _ _ _ _ _ days searched.days
           (days_found c.args.way s z c.args.start (number_of c.in-Some.day) _ _ reached some found days.tally);
       conversions = adds_on 4_133_980_800 _ _ _ _ _ _ asked here
           (asked_found c.args.way s z c.args.start (number_of c.in-Some.day) _ _ _ some found asked.tally here.tally);
@@ -90,7 +91,7 @@ loop-next-preserved g c =
       same = same_on _ _ _ (same_on _ _ _ kept.same searched.same) (looks_same _ _ looked);
       reached = days_next c.args.way s z c.args.start _ _ reached (rw none at found) next;
       range = found_passes c.args.way s _ _ c.day_past-next.ensures.range nearest;
-      days = adds_more 47_847 _ _ _ _ _ day (looked.days ∙ searched.days)
+      days = adds_more days_in_range _ _ _ _ _ day (looked.days ∙ searched.days)
           (passed_next _ _ _ _ (number_of c.in-Some.day) _ _ (candidate_in s (number_of c.in-Some.day) reached.block) reached.block reached.lies next
           day.tally);
       conversions = adds_on 4_133_980_800 _ _ _ _ _ _ asked more

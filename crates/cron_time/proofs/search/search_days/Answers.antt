@@ -1,4 +1,5 @@
 use Rattle.std.proofs.Common.{◌/◌, None, pos, refl, arith, ◌∙◌}
+use Rattle.cron_moments.specs.Civil.{days_in_range}
 use Rattle.cron_units.specs.Nearest.{IsNearest}
 use Rattle.cron_time.specs.Search.Inner.DaySearch.{candidate_day}
 use Rattle.cron_time.proofs.Searches.AskedLemmas.{looks_same, same_on}
@@ -13,7 +14,7 @@ returns-then-not-some_month_has_a_day g c =
     let looked = c.some_month_has_a_day.ensures.same in
     let none : IsNearest c.args.way (candidate_day s) (pos (c.args.start / 86_400)) None = λ k lies. no_day s
     (c.if-not-some_month_has_a_day.ensures.none refl) k in
-    let none_passed = passed_start c.args.way 47_847 (candidate_day s) (pos (c.args.start / 86_400)) None none in
+    let none_passed = passed_start c.args.way days_in_range (candidate_day s) (pos (c.args.start / 86_400)) None none in
     let none_asked = asked_start c.args.way s c.args.start None none in
     record {
       found = days_start c.args.way s c.args.inquiry.now.zone c.args.start None none;

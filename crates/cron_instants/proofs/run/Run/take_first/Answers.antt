@@ -15,21 +15,21 @@ pub returns-then-not-is_within : goal.returns-then-not-is_within
 returns-then-not-is_within c =
     let fits : FitsSigned w64 c.of-self-inside.result.instant = search rules in
     let asked = rw (to_z-of_z fits, c.of-self-inside.ensures.instant) at c.is_within.ensures in
-    let late : is_within c.self.inside.until (instant c.in-Some.item) ≡ false = sym asked ∙ c.if-not-is_within.true in
+    let late : is_within c.self.inside.until (instant c.in-Some.fire) ≡ false = sym asked ∙ c.if-not-is_within.true in
     let found = rw c.in-Some.is at c.next_item-next.ensures.next.nearest in (
       sym c.self.view_is
           ∙ left-late c.self.inside.fields (plain_zone c.self.inside.zone.now) c.self.inside.mark.instant c.self.inside.mark.second
-          c.self.inside.until c.in-Some.item found late,
+          c.self.inside.until c.in-Some.fire found late,
       rw (c.of-self-inside.ensures.instant, c.of-self-inside.ensures.second)
-          (late-left c.self.inside.fields (plain_zone c.self.inside.zone.now) c.self.inside.until c.in-Some.item late),
+          (late-left c.self.inside.fields (plain_zone c.self.inside.zone.now) c.self.inside.until c.in-Some.fire late),
     )
 
 pub returns : goal.returns
 returns c =
     let fits : FitsSigned w64 c.of-self-inside.result.instant = search rules in
     let asked = rw (to_z-of_z fits, c.of-self-inside.ensures.instant) at c.is_within.ensures in
-    let due : is_within c.self.inside.until (instant c.in-Some.item) ≡ true = sym asked ∙ c.if-not-is_within.false in
+    let due : is_within c.self.inside.until (instant c.in-Some.fire) ≡ true = sym asked ∙ c.if-not-is_within.false in
     let found = rw c.in-Some.is at c.next_item-next.ensures.next.nearest in
     rw (c.of-self-inside.ensures.instant, c.of-self-inside.ensures.second) (sym c.self.view_is
     ∙ left-first c.self.inside.fields (plain_zone c.self.inside.zone.now) c.self.inside.mark.instant c.self.inside.mark.second
-    c.self.inside.until c.in-Some.item found due)
+    c.self.inside.until c.in-Some.fire found due)

@@ -24,4 +24,4 @@ returns-in-Past c =
     let most = c.args.rest.now.most in
     let answer = c.first_fire_past.result in
     subst (λ (start : Start). IsFirst s z start most answer) (sym c.in-Past.is)
-    (first_planned s z (Past c.in-Past.item) most answer (sym c.eq.ensures ∙ c.if-eq.false) (first-past s z c.in-Past.item answer c.first_fire_past.ensures))
+    (first_planned s z (Past c.in-Past.fire) most answer (sym c.eq.ensures ∙ c.if-eq.false) (first-past s z c.in-Past.fire answer c.first_fire_past.ensures))

@@ -1,5 +1,6 @@
 use Rattle.std.proofs.Common.{pos, Some}
 use Rattle.jiff.specs.Words.{plain_zone}
+use Rattle.cron_moments.specs.Civil.{days_in_range}
 use Rattle.cron_clocks.specs.Steady.{IsKnown}
 use Rattle.cron_time.specs.Search.{stands}
 use Rattle.cron_time.specs.Search.Inner.Blocks.{Reaches, left_to_reach}
@@ -18,4 +19,4 @@ invariant-loop-next g l = record {
 }
 
 abbrev pub decreases-loop-next : goal.decreases-loop-next
-decreases-loop-next g l = left_to_reach l.way 47_847 (Some l.day)
+decreases-loop-next g l = left_to_reach l.way days_in_range (Some l.day)

@@ -65,7 +65,7 @@ returns-in-None c =
     let asked = rw (kept.same.sets, kept.same.zone, c.loop-seconds.next-is, c.in-None.is) at searched.conversions in
     let end = survey_end s z c.args.from c.loop-seconds.next c.args.count c.loop-seconds.seconds c.loop-seconds.inquiry.days
     c.loop-seconds.inquiry.conversions c.loop-seconds-test.true so none in
-    rw (c.counted.ensures, days, asked) (record {
+    rw (c.survey_of.ensures, days, asked) (record {
       seconds = end.seconds;
       conversions = end.conversions;
       days = end.days;
@@ -79,4 +79,4 @@ returns c =
     let all : c.loop-seconds.seconds ≡ c.args.count = omega (arith, c.loop-seconds-test.false, kept.few) in
     let end = survey_full c.args.fields.now (plain_zone c.args.zone.now) c.args.from c.loop-seconds.next c.args.count c.loop-seconds.seconds
     c.loop-seconds.inquiry.days c.loop-seconds.inquiry.conversions all so in
-    rw c.counted-2.ensures (record { seconds = end.seconds; conversions = end.conversions; days = end.days })
+    rw c.survey_of-2.ensures (record { seconds = end.seconds; conversions = end.conversions; days = end.days })

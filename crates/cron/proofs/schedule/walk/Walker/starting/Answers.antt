@@ -2,4 +2,4 @@ use Rattle.cron.proofs.schedule.walk.Walker.starting.Goals as goal
 
 pub invariant_of-result : goal.invariant_of-result
 invariant_of-result g c =
-    (rw c.starting.ensures.stand tt, c.starting.ensures.known (g.C.Course.sets c.args.course) (g.C.Course.zone c.args.course))
+    (rw c.starting.ensures.stand tt, c.starting.ensures.known (g.C.Inputs.sets c.args.inputs) (g.C.Inputs.zone c.args.inputs))

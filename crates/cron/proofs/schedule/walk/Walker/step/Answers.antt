@@ -5,5 +5,5 @@ use Rattle.cron.proofs.schedule.walk.Walker.step.Goals as goal
 pub returns : goal.returns
 returns g c =
     let stop = rw (c.fields.ensures, c.zone.ensures) at c.step.ensures.leads in
-    gives c.args.way (g.C.Course.sets c.self.inside.course) (g.C.Course.zone c.self.inside.course) (stand_of c.self.inside.state)
+    gives c.args.way (g.C.Inputs.sets c.self.inside.inputs) (g.C.Inputs.zone c.self.inside.inputs) (stand_of c.self.inside.state)
     (stand_of c.step.new.state) c.args.self.now c.answer.result c.self.invariant.0 c.self.view_is stop c.answer.ensures

@@ -5,4 +5,4 @@ use Rattle.cron_units.proofs.time_unit.ordinals.OrdinalsTimeUnitField.ascending.
 pub returns : goal.returns
 returns g c =
     c.new.ensures ∙ placed_wide g.U.UnitTable.unit (g.W.Words.has c.self.inside.words) _ c.args.self.now c.least.result 192
-    g.met.U.UnitTable.is_unit.ordered c.self.invariant.none_past g.met.U.UnitTable.iterates c.self.view_is c.least.ensures c.widened.ensures.bits
+    g.met.U.UnitTable.is_unit.ordered c.self.invariant.none_past g.met.U.UnitTable.iterates c.self.view_is c.least.ensures c.widen.ensures.bits

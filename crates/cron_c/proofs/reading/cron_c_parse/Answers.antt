@@ -1,4 +1,0 @@
-use Rattle.cron_c.proofs.reading.cron_c_parse.Goals as goal
-
-pub returns : goal.returns
-returns c = (c.parse.result, c.parse.ensures, c.code.ensures)

@@ -1,0 +1,46 @@
+-- Civil seconds about which the clock and the instants have one order.
+use Rattle.std.specs.Prelude.{◌≡◌, ℕ, ◌≤◌, ◌<◌, ℤ, pos, ◌-ℤ◌, ◌<ℤ◌, true, Option, Some, None}
+use Rattle.jiff_core.specs.declared.Offset.{Offset}
+use Rattle.jiff_tz.specs.declared.timezone.TimeZone.{TimeZone}
+use Rattle.cron_units.specs.declared.way.Way.TheVariants.{Ahead}
+use Rattle.cron_units.specs.Sets.{Sets}
+use Rattle.cron_moments.specs.Readings.{Reading, instant, reading}
+use Rattle.cron_time.specs.Matches.{is_match}
+use Rattle.cron_instants.specs.Inner.Beyond.{IsBest, IsBeyond}
+use Rattle.cron_instants.specs.Inner.OffsetRange.{IsOnce, IsRead}
+use Rattle.cron_instants.specs.declared.monotone.Monotone.{Monotone}
+
+-- the civil second is read once, at this offset, and what the clock shows before it is read earlier
+pub record IsSettled (z : TimeZone) (c : ℕ) (o : Offset) : Type 0 where
+  pub once : IsOnce z (reading c o)
+  pub behind : (q : Reading) → IsRead z q → q.second < c → instant q <ℤ (pos c -ℤ o.seconds)
+
+-- and what it shows after it is read later
+pub record IsInOrder (z : TimeZone) (c : ℕ) (o : Offset) : Type 0 where
+  pub settled : IsSettled z c o
+  pub ahead : (q : Reading) → IsRead z q → c < q.second → (pos c -ℤ o.seconds) <ℤ instant q
+
+-- the civil second is settled, and it and those behind it up to an end, which may lie before it, are in order
+pub record IsMonotone (z : TimeZone) (c : ℕ) (monotone : Monotone) : Type 0 where
+  pub settled : IsSettled z c monotone.offset
+  pub on : (k : ℕ) → c ≤ k → k < monotone.end → IsInOrder z k monotone.offset
+
+-- what is known after an item, which is named by its instant and its civil second
+pub record IsKnownMonotone (s : Sets) (z : TimeZone) (i : ℤ) (c : ℕ) (known : Monotone) : Type 0 where
+  pub matching : is_match s c ≡ true
+  pub instant_is : i ≡ pos c -ℤ known.offset.seconds
+  pub monotone : IsMonotone z c known
+
+abbrev pub IsKnown : Sets → TimeZone → ℤ → ℕ → Option Monotone → Type 0
+IsKnown s z i c None = Unit {0}
+IsKnown s z i c (Some monotone) = IsKnownMonotone s z i c monotone
+
+-- nothing is known after no item
+abbrev pub IsKnownAfter : Sets → TimeZone → Option Reading → Option Monotone → Type 0
+IsKnownAfter s z None known = known ≡ None
+IsKnownAfter s z (Some r) known = IsKnown s z (instant r) r.second known
+
+-- the nearest item ahead, and what is known after it
+pub record IsNext (s : Sets) (z : TimeZone) (i : ℤ) (c : ℕ) (next : Option Reading) (known : Option Monotone) : Type 0 where
+  pub nearest : IsBest Ahead (IsBeyond Ahead s z i c) next
+  pub after : IsKnownAfter s z next known

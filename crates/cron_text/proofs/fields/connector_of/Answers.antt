@@ -1,5 +1,0 @@
-use Rattle.std.proofs.Common.{rules}
-use Rattle.cron_text.proofs.fields.connector_of.Goals as goal
-
-pub returns-in-45 : goal.returns-in-45
-returns-in-45 c = search rules
