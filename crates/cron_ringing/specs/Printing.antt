@@ -8,15 +8,8 @@ use Rattle.cron_moments.specs.MomentText.{item_line}
 use Rattle.cron_scheduler.specs.declared.stop.Stop.{Stop}
 use Rattle.cron_scheduler.specs.Runs.{IsRun, ran}
 use Rattle.cron_ringing.specs.declared.printer.Printer.{Printer}
-use Rattle.cron_writer.specs.Calls.{HandsOn, IsFlushed}
+use Rattle.cron_writer.specs.Calls.{HandsOnFlushed}
 use Rattle.cron_writer.specs.Watching.{has_failed, writer_of, IsSent}
-
--- A text was handed on, each time all that was left of it, and then the writer was flushed once; and it wasn't called once a
--- call had failed.
-abbrev pub HandsOnFlushed : {W : Type 0} → (W → List ℕ → Result ℕ Error → W → Type 0) → (W → Result ⊤ Error → W → Type 0)
-    → W → Bool → W → Bool → List ℕ → Type 0
-HandsOnFlushed {W} writes flushes old was new failed text =
-    (last : W) × (mark : Bool) × HandsOn writes old was last mark text × IsFlushed flushes last mark new failed
 
 -- The text stands after what was handed on before, and the answer tells whether a call has failed.
 abbrev pub PrintsText : {W E : Type 0} → (W → List ℕ → Result ℕ Error → W → Type 0) → (W → Result ⊤ Error → W → Type 0)
