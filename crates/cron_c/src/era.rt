@@ -4,7 +4,7 @@ ghost use Rattle.std.specs.Prelude.{◌≡◌, ◌↔◌, ◌<◌, ◌+◌, true
 ghost use Rattle.cron_c.specs.Zones.{IsSomeZone};
 ghost use Rattle.cron_c.specs.Histories.{IsHistory, has_started, meets};
 
-use crate::era_table::steady;
+use crate::era_table::fixed_rule;
 use crate::zone::{CronZone, FIXED, zone_in};
 use jiff::tz::Offset;
 
@@ -24,7 +24,7 @@ fn is_fixed(zone: &CronZone) -> bool
 {
     match Offset::from_seconds(zone.offset) {
         Ok(offset) => {
-            let _rule = steady(offset.to_plain());
+            let _rule = fixed_rule(offset.to_plain());
             true
         }
         Err(_) => false,

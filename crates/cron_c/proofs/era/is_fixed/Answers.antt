@@ -19,9 +19,9 @@ pub returns-in-Ok : goal.returns-in-Ok
 returns-in-Ok c =
     let fits : FitsSigned w32 c.args.zone.now.offset = search rules in
     let value = rw (to_z-of_z fits) at c.in-Ok.ensures.value in
-    let rule = ap (λ (o : Offset). o.seconds) (c.steady-rule.ensures.offset ∙ c.to_plain.ensures) in
-    let saving = subst (λ (dst : Option Dst). IsSavingIn c.args.zone.now dst) (sym c.steady-rule.ensures.saving) c.requires in
-    (λ is. (Posix c.steady-rule.result, (sym (rule ∙ value), saving)), λ some. refl)
+    let rule = ap (λ (o : Offset). o.seconds) (c.fixed_rule-rule.ensures.offset ∙ c.to_plain.ensures) in
+    let saving = subst (λ (dst : Option Dst). IsSavingIn c.args.zone.now dst) (sym c.fixed_rule-rule.ensures.saving) c.requires in
+    (λ is. (Posix c.fixed_rule-rule.result, (sym (rule ∙ value), saving)), λ some. refl)
 
 pub returns-in-Err : goal.returns-in-Err
 returns-in-Err c =
