@@ -1,4 +1,4 @@
-//! First and last fires, runs and missed fires: in folds, over turns of zones from files, at new years and
+//! First and last fires, runs and missed fires: in folds, over transitions of zones from files, at new years and
 //! at the ends of the range.
 
 mod transitions;

@@ -9,7 +9,7 @@ use jiff::civil::DateTime;
 use jiff::tz::{Offset, TimeZone};
 use std::process::Abort;
 
-// Half past one on 2022-11-06, before the turn and after it, and on the day after.
+// Half past one on 2022-11-06, before the transition and after it, and on the day after.
 const FIRST: i64 = 1_667_716_200;
 
 const SECOND: i64 = 1_667_719_800;

@@ -1,4 +1,4 @@
-//! Runs over turns of the clock, over new years and at the ends of the range. The instants are those of
+//! Runs over transitions of the clock, over new years and at the ends of the range. The instants are those of
 //! Python's `zoneinfo`.
 
 use super::zone_files::{NOON, read_file};
