@@ -2,7 +2,6 @@
 //! the growths between the lines.
 #![tactic(auto)]
 
-mod checks;
 mod fires;
 mod lines;
 mod readers;
@@ -16,6 +15,5 @@ fn main(rt: HostRuntime) -> Result<(), Error> {
     searches::run(&rt, &schedule)?;
     walks::run(&rt, &schedule)?;
     fires::run(&rt, &schedule)?;
-    lines::run(&rt, &schedule)?;
-    checks::run(&rt)
+    lines::run(&rt, &schedule)
 }
