@@ -1,0 +1,4 @@
+pub mod YearLemmas
+pub mod SteadyLemmas
+pub mod ZoneLemmas
+pub mod KeptLemmas

@@ -1,0 +1,4 @@
+pub mod Due
+pub mod Dues
+pub mod FirstDues
+pub mod Inner

@@ -1,0 +1,6 @@
+//! Due fires: each matching civil second once, also where the clock of a zone changes. It is due at the
+//! first instant at which the clock shows it or a later one.
+#![tactic(auto)]
+
+mod numbers;
+mod steady;

@@ -1,0 +1,98 @@
+//! How long a clock in a zone keeps its offset.
+ghost use Rattle.std.specs.Prelude.{◌≡◌, neg_ℤ, pos, ◌*ℤ◌, ◌≤ℤ◌, ◌<ℤ◌, ℤ};
+ghost use Rattle.std.specs.Int.{int_div_euclid};
+ghost use Rattle.jiff.specs.Words.{plain_zone};
+ghost use Rattle.jiff_core.specs.Calendar.{IsBetween, IsYear};
+ghost use Rattle.jiff_core.specs.Date.{epoch_day};
+ghost use Rattle.jiff_tz.specs.PosixRule.{first_day};
+ghost use Rattle.jiff_core.specs.Timestamp.{nanos_of_seconds};
+ghost use Rattle.jiff_tz.specs.Zone.{next_at};
+ghost use Rattle.cron_clocks.specs.Clocks.{shown_offset};
+ghost use Rattle.cron_dues.specs.Inner.Steady.{IsKept, IsOneYear, IsShortOf};
+
+use crate::numbers::lesser;
+use cron_moments::civil::{SECONDS, SECONDS_PER_DAY};
+use jiff::Timestamp;
+use jiff::tz::{Offset, TimeZone};
+use jiff_core::civil::Date;
+
+// The days from the first date of `jiff` to 1970-01-01.
+const DAYS_FROM_FIRST_DATE: i64 = 4_371_587;
+
+const DAY: i64 = SECONDS_PER_DAY as i64;
+
+// Past each instant at which a civil second of the range can be due.
+const NEVER: i64 = 2 * SECONDS;
+
+/// An offset that a clock keeps up to an end, in whole seconds since 1970-01-01T00:00:00Z.
+#[derive(Clone, Copy)]
+pub(crate) struct Steady {
+    pub offset: Offset,
+    pub end: i64,
+}
+
+// The date of a second of UTC.
+fn date_at(second: i64) -> Date
+    requires { IsBetween (neg_ℤ (pos 1_000_000)) (pos 8_000_000_000) second }
+    ensures { epoch_day result ≡ int_div_euclid second (pos 86_400) }
+{
+    let day = second.div_euclid(DAY) + DAYS_FROM_FIRST_DATE;
+    Date::from_days_since_min(day as u32)
+}
+
+// The second of UTC that begins a year.
+fn new_year(year: i16) -> i64
+    requires { IsYear year }
+    ensures value { result ≡ first_day year *ℤ pos 86_400 }
+    ensures bound { IsBetween (neg_ℤ (pos 400_000_000_000)) (pos 400_000_000_000) result }
+{
+    i64::from(Date::constrain(year, 1, 1).to_unix_epoch_day()) * DAY
+}
+
+// The second of UTC that ends the year of a second.
+fn year_end(second: i64) -> i64
+    requires { IsBetween (neg_ℤ (pos 1_000_000)) (pos 8_000_000_000) second }
+    ensures year { IsOneYear second result }
+    ensures later { second <ℤ result }
+    ensures bound { IsBetween (neg_ℤ (pos 400_000_000_000)) (pos 400_000_000_000) result }
+{
+    let year = date_at(second).year;
+    if year >= 9999 {
+        return second + 1;
+    }
+    new_year(year + 1)
+}
+
+// Up to which second of UTC no transition comes, as far as the next one tells.
+fn transition_end(zone: jiff_tz::TimeZone<'_>, at: jiff_core::Timestamp, second: i64) -> i64
+    requires at { at.nanosecond ≡ nanos_of_seconds second }
+    requires bound { IsBetween (neg_ℤ (pos 1_000_000)) (pos 8_000_000_000) second }
+    ensures untouched { (k : ℤ) → second <ℤ k → k <ℤ result → IsShortOf (next_at zone.entry (nanos_of_seconds second)) (nanos_of_seconds k) }
+    ensures later { second <ℤ result }
+    ensures bound { result ≤ℤ pos 8_267_961_600 }
+{
+    let Some(transition) = zone.next_transition(at) else {
+        return NEVER;
+    };
+    let whole = transition.timestamp.floor_second();
+    if whole <= second {
+        return second + 1;
+    }
+    lesser(whole, NEVER)
+}
+
+/// The offset that a clock in a zone shows at a second of UTC, and up to where it keeps it.
+pub(crate) fn steady_from(zone: &TimeZone<'_>, second: i64) -> Steady
+    requires { IsBetween (neg_ℤ (pos 1_000_000)) (pos 8_000_000_000) second }
+    ensures offset { result.offset.seconds ≡ shown_offset (plain_zone zone.now) second }
+    ensures kept { IsKept (plain_zone zone.now) second result.end result.offset.seconds }
+    ensures later { second <ℤ result.end }
+{
+    let at = Timestamp::from_second(second).unwrap();
+    let offset = zone.to_offset(at);
+    let untouched = transition_end(zone.to_plain(), at.to_plain(), second);
+    Steady {
+        offset,
+        end: lesser(untouched, year_end(second)),
+    }
+}
