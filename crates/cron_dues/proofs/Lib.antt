@@ -2,3 +2,4 @@ pub mod YearLemmas
 pub mod SteadyLemmas
 pub mod ZoneLemmas
 pub mod KeptLemmas
+pub mod DueLemmas

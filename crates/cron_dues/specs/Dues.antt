@@ -5,7 +5,7 @@ use Rattle.cron_units.specs.Sets.{Sets}
 use Rattle.cron_moments.specs.Civil.{civil, seconds_in_range}
 use Rattle.cron_time.specs.Matches.{matches}
 use Rattle.cron_time.specs.Timeline.{numbers_below}
-use Rattle.cron_dues.specs.Due.{Due, due}
+use Rattle.cron_dues.specs.Due.{Due, due, instant}
 
 -- the civil seconds of the range that match, in ascending order
 unfoldable pub matching_seconds : Sets → List ℕ
@@ -17,11 +17,11 @@ dues s z = map (due z) (matching_seconds s)
 
 -- the due instant comes after the instant t, which is in nanoseconds since 1970
 abbrev pub is_due_after : ℤ → Due → Bool
-is_due_after t d = int_lt t (d.instant *ℤ pos 1_000_000_000)
+is_due_after t d = int_lt t (instant d *ℤ pos 1_000_000_000)
 
 -- it is t, or comes before it
 abbrev pub is_due_by : ℤ → Due → Bool
-is_due_by t d = int_le (d.instant *ℤ pos 1_000_000_000) t
+is_due_by t d = int_le (instant d *ℤ pos 1_000_000_000) t
 
 -- the nominal civil second comes after that of another due fire
 abbrev pub is_past : Due → Due → Bool

@@ -2,5 +2,6 @@
 //! first instant at which the clock shows it or a later one.
 #![tactic(auto)]
 
+mod fire;
 mod numbers;
 mod steady;

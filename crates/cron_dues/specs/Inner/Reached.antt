@@ -1,19 +1,38 @@
 -- How far a clock in a zone has come.
-use Rattle.std.specs.Prelude.{◌≡◌, ◌↔◌, ℕ, ℤ, pos, ◌≤ℤ◌, ◌<ℤ◌}
+use Rattle.std.specs.Prelude.{◌≡◌, ◌↔◌, ◌⊎◌, ℕ, ◌<◌, ℤ, pos, ◌+ℤ◌, ◌-ℤ◌, ◌≤ℤ◌, ◌<ℤ◌, unsigned_abs}
 use Rattle.jiff_tz.specs.declared.timezone.TimeZone.{TimeZone}
+use Rattle.cron_moments.specs.Civil.{seconds_in_range}
 use Rattle.cron_dues.specs.Due.{clock, due_instant}
+use Rattle.cron_dues.specs.Inner.Steady.{IsKept}
+use Rattle.cron_dues.specs.declared.steady.Steady.{Steady}
 
 -- no instant before n shows the civil second c or a later one
-abbrev pub IsUnreachedBefore : TimeZone → ℤ → ℤ → Type 0
-IsUnreachedBefore z c n = (m : ℤ) → m <ℤ n → clock z m <ℤ c
+abbrev pub IsUnreachedBefore : TimeZone → ℕ → ℤ → Type 0
+IsUnreachedBefore z c n = (m : ℤ) → m <ℤ n → clock z m <ℤ pos c
 
--- up to n the clock has shown the second m, and none later
-pub record IsGreatestBy (z : TimeZone) (n m : ℤ) : Type 0 where
+-- up to n the clock has shown the second m
+pub record IsShownBy (z : TimeZone) (n m : ℤ) : Type 0 where
   pub at : ℤ
   pub by : at ≤ℤ n
   pub shown : clock z at ≡ m
+
+-- and none later
+pub record IsGreatestBy (z : TimeZone) (n m : ℤ) : Type 0 where
+  pub shown : IsShownBy z n m
   pub greatest : (k : ℤ) → k ≤ℤ n → clock z k ≤ℤ m
 
 -- the civil seconds that are due up to n are those up to m
 abbrev pub IsReachedBy : TimeZone → ℤ → ℤ → Type 0
-IsReachedBy z n m = (c : ℕ) → (pos c ≤ℤ m) ↔ (due_instant z c ≤ℤ n)
+IsReachedBy z n m = (c : ℕ) → c < seconds_in_range → (pos c ≤ℤ m) ↔ (due_instant z c ≤ℤ n)
+
+-- from an instant on, up to an end, the clock keeps this offset; before it the civil second c isn't reached
+pub record IsOnTheWay (z : TimeZone) (c : ℕ) (from : ℤ) (steady : Steady) : Type 0 where
+  pub unreached : IsUnreachedBefore z c from
+  pub low : (pos c -ℤ pos 93_599) ≤ℤ from
+  pub high : from ≤ℤ (pos c +ℤ pos 93_599)
+  pub kept : IsKept z from steady.end steady.offset.seconds
+  pub later : from <ℤ steady.end
+
+-- how many instants are left at which c may be due
+abbrev pub left_until : ℕ → ℤ → ℕ
+left_until c from = unsigned_abs (pos c +ℤ pos 93_600 -ℤ from)

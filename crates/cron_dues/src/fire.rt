@@ -1,0 +1,99 @@
+//! A due fire.
+ghost use Rattle.jiff_core.specs.Calendar.{IsBetween};
+ghost use Rattle.std.specs.Prelude.{◌≡◌, neg_ℤ, pos, ◌*ℤ◌, ◌+ℤ◌};
+ghost use Rattle.jiff_core.specs.DateTime.{civil_nanos};
+ghost use Rattle.jiff_core.specs.Timestamp.{nanos_of_seconds};
+ghost use Rattle.cron_moments.specs.Civil.{civil};
+ghost use Rattle.cron_dues.specs.Due.{instant, parts};
+
+use cron_moments::civil::civil_of;
+use jiff::Timestamp;
+use jiff::civil::DateTime;
+use jiff::tz::Offset;
+use std::marker::Model;
+
+/// A due fire: a matching civil second, which is the nominal time, the instant at which it is due, and how
+/// far the clock is ahead of UTC then. Two fires of one gap share their instant, and no nominal time.
+#[derive(Clone, Copy, Debug, PartialEq, Eq)]
+pub struct DueFire {
+    second: u32,
+    past: u32,
+    offset: Offset,
+}
+
+impl Model for DueFire {
+    ghost use Rattle.cron_dues.specs.Due.{Due};
+
+    ghost Value = { Due };
+
+    ghost view = { λ d. record { second = d.second; past = d.past; offset = d.offset } };
+
+    ghost inverse = { λ r. record { second = r.second; past = r.past; offset = r.offset } };
+}
+
+impl DueFire {
+    /// The nominal time: the civil second that matches.
+    pub fn nominal(&self) -> DateTime
+        ensures { result ≡ civil self.now.second }
+    {
+        civil_of(self.second)
+    }
+
+    /// The due instant.
+    pub fn timestamp(&self) -> Timestamp
+        ensures { result.nanosecond ≡ instant self.now *ℤ pos 1_000_000_000 }
+    {
+        Timestamp::from_second(due_second(self)).unwrap()
+    }
+
+    /// How far the clock is ahead of UTC at the due instant.
+    pub fn offset(&self) -> Offset
+        ensures { result ≡ self.now.offset }
+    {
+        self.offset
+    }
+
+    /// By how many seconds what the clock shows at the due instant lies past the nominal time: 0 outside of
+    /// gaps.
+    pub fn seconds_past(&self) -> u32
+        ensures { result ≡ self.now.past }
+    {
+        self.past
+    }
+
+    /// What the clock shows at the due instant. After the last matches of 2100 that may lie in 2101.
+    pub fn shown(&self) -> DateTime
+        ensures { civil_nanos result ≡ nanos_of_seconds (pos self.now.second +ℤ pos self.now.past) }
+    {
+        self.offset.to_datetime(self.timestamp())
+    }
+}
+
+/// A due fire from its parts.
+#[inline(always)]
+pub(crate) fn due_fire(second: u32, past: u32, offset: Offset) -> DueFire
+    ensures { result ≡ parts second past offset }
+{
+    DueFire {
+        second,
+        past,
+        offset,
+    }
+}
+
+/// The due instant, in seconds since 1970-01-01T00:00:00Z.
+#[inline(always)]
+pub(crate) fn due_second(fire: &DueFire) -> i64
+    ensures value { result ≡ instant fire.now }
+    ensures bound { IsBetween (neg_ℤ (pos 93_599)) (pos 8_590_028_189) result }
+{
+    i64::from(fire.second) + i64::from(fire.past) - i64::from(fire.offset.seconds())
+}
+
+/// The number of the civil second that matches.
+#[inline(always)]
+pub(crate) fn nominal_second(fire: &DueFire) -> u32
+    ensures { result ≡ fire.now.second }
+{
+    fire.second
+}
