@@ -48,12 +48,11 @@ pub due_near : (z : TimeZone) (c : ℕ) → ((pos c -ℤ pos 93_599) ≤ℤ due_
 due_near z c =
     let is = due_is z c in
     let there = is.reached in
-    let here = clock_near z (due_instant z c) in
-    (
+    let here = clock_near z (due_instant z c) in (
       omega (arith, signed_arith, here.1, there),
       by_lt_z (pos c +ℤ pos 93_599) (due_instant z c)
-      (λ less. let early = is.first (pos c +ℤ pos 93_599) less in let near = clock_near z (pos c +ℤ pos 93_599) in absurd (omega (arith, signed_arith, near.0)))
-      (λ le. le),
+          (λ less. let early = is.first (pos c +ℤ pos 93_599) less in let near = clock_near z (pos c +ℤ pos 93_599) in absurd (omega (arith, signed_arith, near.0)))
+          (λ le. le),
     )
 
 -- a civil second is due by each instant at which the clock shows it or a later one
@@ -71,11 +70,11 @@ due_ascends z c d le = let there = (due_is z d).reached in due_by z c (due_insta
 pub reached_of : (z : TimeZone) (n m : ℤ) → IsGreatestBy z n m → IsReachedBy z n m
 reached_of z n m greatest c range = (
   λ le. let at = greatest.shown in
-  let shown = at.shown in
-  let by = at.by in
-  let due = due_by z c at.at (omega (arith, signed_arith)) in omega (arith, signed_arith),
+      let shown = at.shown in
+      let by = at.by in
+      let due = due_by z c at.at (omega (arith, signed_arith)) in omega (arith, signed_arith),
   λ by. let there = (due_is z c).reached in
-  let most = greatest.greatest (due_instant z c) by in omega (arith, signed_arith),
+      let most = greatest.greatest (due_instant z c) by in omega (arith, signed_arith),
 )
 
 pub none_reached : (z : TimeZone) (n : ℤ) → n <ℤ (pos 0 -ℤ pos 93_600) → IsReachedBy z n (pos 0 -ℤ pos 1)
@@ -92,7 +91,7 @@ all_reached z n late c range = (
 
 -- ---- the due fire
 
-as_natural : (k : ℤ) → pos 0 ≤ℤ k → pos (unsigned_abs k) ≡ k
+pub as_natural : (k : ℤ) → pos 0 ≤ℤ k → pos (unsigned_abs k) ≡ k
 as_natural (pos n) h = refl
 as_natural (negsuc n) h = absurd (omega (arith, signed_arith))
 

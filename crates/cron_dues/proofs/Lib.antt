@@ -3,3 +3,5 @@ pub mod SteadyLemmas
 pub mod ZoneLemmas
 pub mod KeptLemmas
 pub mod DueLemmas
+pub mod WayLemmas
+pub mod ReachLemmas

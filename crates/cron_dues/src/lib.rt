@@ -4,4 +4,6 @@
 
 mod fire;
 mod numbers;
+mod reach;
 mod steady;
+mod way_to;

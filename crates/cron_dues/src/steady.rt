@@ -1,5 +1,5 @@
 //! How long a clock in a zone keeps its offset.
-ghost use Rattle.std.specs.Prelude.{◌≡◌, neg_ℤ, pos, ◌*ℤ◌, ◌≤ℤ◌, ◌<ℤ◌, ℤ};
+ghost use Rattle.std.specs.Prelude.{◌≡◌, neg_ℤ, pos, ◌*ℤ◌, ◌+ℤ◌, ◌≤ℤ◌, ◌<ℤ◌, ℤ};
 ghost use Rattle.std.specs.Int.{int_div_euclid};
 ghost use Rattle.jiff.specs.Words.{plain_zone};
 ghost use Rattle.jiff_core.specs.Calendar.{IsBetween, IsYear};
@@ -29,6 +29,19 @@ const NEVER: i64 = 2 * SECONDS;
 pub(crate) struct Steady {
     pub offset: Offset,
     pub end: i64,
+    pub ghost near: { IsBetween (neg_ℤ (pos 1_000_000)) (pos 8_267_961_600) end },
+}
+
+impl Steady {
+    /// What the clock shows at a second of UTC, as the number of a civil second.
+    #[inline(always)]
+    pub(crate) fn shown(&self, at: i64) -> i64
+        requires { IsBetween (neg_ℤ (pos 1_000_000)) (pos 8_267_961_600) at }
+        ensures value { result ≡ at +ℤ self.now.offset.seconds }
+        ensures bound { IsBetween (neg_ℤ (pos 2_000_000)) (pos 9_000_000_000) result }
+    {
+        at + i64::from(self.offset.seconds())
+    }
 }
 
 // The date of a second of UTC.

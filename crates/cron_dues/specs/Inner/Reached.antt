@@ -1,5 +1,5 @@
 -- How far a clock in a zone has come.
-use Rattle.std.specs.Prelude.{◌≡◌, ◌↔◌, ◌⊎◌, ℕ, ◌<◌, ℤ, pos, ◌+ℤ◌, ◌-ℤ◌, ◌≤ℤ◌, ◌<ℤ◌, unsigned_abs}
+use Rattle.std.specs.Prelude.{◌≡◌, ◌↔◌, ◌⊎◌, ℕ, ◌<◌, ℤ, pos, ◌+ℤ◌, ◌-ℤ◌, ◌≤ℤ◌, ◌<ℤ◌, Bool, int_le, unsigned_abs}
 use Rattle.jiff_tz.specs.declared.timezone.TimeZone.{TimeZone}
 use Rattle.cron_moments.specs.Civil.{seconds_in_range}
 use Rattle.cron_dues.specs.Due.{clock, due_instant}
@@ -36,3 +36,23 @@ pub record IsOnTheWay (z : TimeZone) (c : ℕ) (from : ℤ) (steady : Steady) : 
 -- how many instants are left at which c may be due
 abbrev pub left_until : ℕ → ℤ → ℕ
 left_until c from = unsigned_abs (pos c +ℤ pos 93_600 -ℤ from)
+
+-- the clock comes to the end of the steady instants before it shows the civil second c or a later one
+abbrev pub ends_before : Steady → ℕ → Bool
+ends_before steady c = int_le (steady.end +ℤ steady.offset.seconds) (pos c)
+
+-- up to an instant, that one left out, the clock has shown nothing later than this second; it has shown it, or it is earlier than
+-- what the clock shows at n
+pub record IsGathered (z : TimeZone) (n from greatest : ℤ) (steady : Steady) : Type 0 where
+  pub most : (k : ℤ) → k <ℤ from → clock z k ≤ℤ greatest
+  pub reached : (greatest ≡ n -ℤ pos 93_600) ⊎ IsShownBy z n greatest
+  pub low : (n -ℤ pos 187_198) ≤ℤ from
+  pub high : from ≤ℤ n
+  pub kept : IsKept z from steady.end steady.offset.seconds
+  pub later : from <ℤ steady.end
+  pub low_greatest : (n -ℤ pos 93_600) ≤ℤ greatest
+  pub high_greatest : greatest ≤ℤ (n +ℤ pos 93_600)
+
+-- how many instants are left up to n
+abbrev pub left_to : ℤ → ℤ → ℕ
+left_to n from = unsigned_abs (n +ℤ pos 1 -ℤ from)
