@@ -1,11 +1,11 @@
 -- The due instant of a civil second is the first at which the clock shows it or a later one.
-use Rattle.std.proofs.Common.{◌≡◌, ◌↔◌, unsigned_abs, negsuc, ℕ, zero, suc, ◌<◌, ℤ, pos, ◌+ℤ◌, ◌-ℤ◌, ◌≤ℤ◌, ◌<ℤ◌, int_le, refl, sym, arith}
+use Rattle.std.proofs.Common.{◌≡◌, unsigned_abs, negsuc, ℕ, zero, suc, ℤ, pos, ◌+ℤ◌, ◌-ℤ◌, ◌≤ℤ◌, ◌<ℤ◌, refl, arith}
 use Rattle.std.proofs.lemmas.Int.{by_lt_z}
 use Rattle.jiff_core.proofs.SignedLemmas.{signed_arith}
 use Rattle.jiff_core.specs.Timestamp.{nanos_of_seconds}
 use Rattle.jiff_tz.specs.declared.timezone.TimeZone.{TimeZone}
 use Rattle.cron_clocks.proofs.Windows.{le_yes, le_no}
-use Rattle.cron_dues.specs.Due.{IsDueAt, clock, due_instant, first_reaching, DueInstantsAreFirst, FiresAreDue, due, instant, offset_near}
+use Rattle.cron_dues.specs.Due.{IsDueAt, clock, due_instant, first_reaching, DueInstantsAreFirst, FiresAreDue, offset_near}
 use Rattle.cron_dues.specs.Inner.Reached.{IsUnreachedBefore, IsGreatestBy, IsReachedBy}
 
 -- ---- a clock is nearer than 26 hours to UTC

@@ -5,3 +5,5 @@ pub mod KeptLemmas
 pub mod DueLemmas
 pub mod WayLemmas
 pub mod ReachLemmas
+pub mod ListLemmas
+pub mod MemberLemmas

@@ -1,15 +1,14 @@
 -- On the way to the due instant of a civil second.
-use Rattle.std.proofs.Common.{◌≡◌, ℕ, ◌<◌, false, true, ℤ, pos, ◌+ℤ◌, ◌-ℤ◌, ◌≤ℤ◌, ◌<ℤ◌, unsigned_abs, refl, sym, ap, ◌∙◌, ◌⊎◌, inl, inr, arith}
+use Rattle.std.proofs.Common.{◌≡◌, ℕ, ◌<◌, false, true, ℤ, pos, ◌+ℤ◌, ◌-ℤ◌, ◌≤ℤ◌, ◌<ℤ◌, unsigned_abs, refl, ap, ◌⊎◌, inl, inr, arith}
 use Rattle.std.proofs.lemmas.Int.{by_lt_z}
 use Rattle.jiff_core.proofs.SignedLemmas.{signed_arith}
-use Rattle.jiff_core.specs.declared.Offset.{Offset}
 use Rattle.jiff_tz.specs.declared.timezone.TimeZone.{TimeZone}
 use Rattle.cron_clocks.specs.Clocks.{shown_offset}
 use Rattle.cron_clocks.proofs.TableLemmas.{same_offset}
 use Rattle.cron_instants.proofs.FireLemmas.{int_le-true, int_le-false}
-use Rattle.cron_dues.specs.Due.{IsDueAt, Due, clock, due, due_instant, offset_shown, parts}
+use Rattle.cron_dues.specs.Due.{IsDueAt, clock, due, due_instant, offset_shown, parts}
 use Rattle.cron_dues.specs.Inner.Steady.{IsKept}
-use Rattle.cron_dues.specs.Inner.Reached.{IsOnTheWay, IsUnreachedBefore, ends_before, left_until}
+use Rattle.cron_dues.specs.Inner.Reached.{IsOnTheWay, ends_before, left_until}
 use Rattle.cron_dues.specs.declared.steady.Steady.{Steady}
 use Rattle.cron_dues.proofs.DueLemmas.{as_natural, clock_near, due_is, due_once}
 

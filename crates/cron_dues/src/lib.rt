@@ -2,7 +2,9 @@
 //! first instant at which the clock shows it or a later one.
 #![tactic(auto)]
 
-mod fire;
+pub mod dues;
+pub mod fire;
+mod matching;
 mod numbers;
 mod reach;
 mod steady;

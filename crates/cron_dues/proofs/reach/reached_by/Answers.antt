@@ -1,4 +1,4 @@
-use Rattle.std.proofs.Common.{rules, FitsSigned, w64, to_z-of_z, pos, ◌≡◌, ◌-ℤ◌, ◌≤ℤ◌, ◌<ℤ◌, arith, sym, ◌∙◌}
+use Rattle.std.proofs.Common.{rules, FitsSigned, w64, to_z-of_z, pos, ◌≡◌, arith}
 use Rattle.std.specs.Int.{int_div_euclid}
 use Rattle.jiff_core.proofs.SignedLemmas.{signed_casts}
 use Rattle.jiff.specs.Words.{plain_zone}

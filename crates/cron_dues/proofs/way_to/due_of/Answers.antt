@@ -1,4 +1,4 @@
-use Rattle.std.proofs.Common.{rules, FitsSigned, w64, to_z-of_z, pos, ◌≡◌, ◌-ℤ◌, arith, sym, ◌∙◌}
+use Rattle.std.proofs.Common.{rules, FitsSigned, w64, to_z-of_z, arith, sym, ◌∙◌}
 use Rattle.jiff_core.proofs.SignedLemmas.{signed_casts}
 use Rattle.jiff.specs.Words.{plain_zone}
 use Rattle.cron_dues.proofs.WayLemmas.{way_from, way_on}

@@ -1,0 +1,51 @@
+//! Due fires of seven sets in a zone. None of these calls takes memory.
+ghost use Rattle.jiff.specs.Words.{plain_zone};
+ghost use Rattle.cron_dues.specs.FirstDues.{IsFirstDueAfter, IsFirstDuePast, IsLastDueBy};
+ghost use Rattle.cron_dues.specs.Inner.Nearest.{IsNearestDue};
+
+use crate::fire::{DueFire, nominal_second};
+use crate::matching::nearest_match;
+use crate::reach::reached_by;
+use crate::way_to::due_of;
+use cron_units::fields::ScheduleFields;
+use cron_units::way::Way;
+use jiff::Timestamp;
+use jiff::tz::TimeZone;
+
+// The due fire of the nearest civil second that matches, from a number on.
+fn nearest_due(fields: &ScheduleFields, zone: &TimeZone<'_>, way: Way, from: i64) -> Option<DueFire>
+    ensures { IsNearestDue way fields.now (plain_zone zone.now) from result }
+{
+    let second = nearest_match(fields, way, from)?;
+    Some(due_of(zone, second))
+}
+
+/// Of the due fires whose instant comes after `now` the first. `None` where there is none.
+///
+/// A loop goes on from the fire that it ran, by `first_past`: several may share an instant, and this call
+/// answers only the first of them.
+pub fn first_after(fields: &ScheduleFields, zone: &TimeZone<'_>, now: Timestamp) -> Option<DueFire>
+    ensures { IsFirstDueAfter fields.now (plain_zone zone.now) now.nanosecond result }
+{
+    nearest_due(fields, zone, Way::Ahead, reached_by(zone, now) + 1)
+}
+
+/// Of the due fires past this one the first. `None` where there is none. The one that is handed in may be
+/// none of these sets: its nominal time alone counts.
+pub fn first_past(fields: &ScheduleFields, zone: &TimeZone<'_>, fire: &DueFire) -> Option<DueFire>
+    ensures { IsFirstDuePast fields.now (plain_zone zone.now) fire.now result }
+{
+    nearest_due(
+        fields,
+        zone,
+        Way::Ahead,
+        i64::from(nominal_second(fire)) + 1,
+    )
+}
+
+/// Of the due fires whose instant is `now` or comes before it the last. `None` where there is none.
+pub fn last_by(fields: &ScheduleFields, zone: &TimeZone<'_>, now: Timestamp) -> Option<DueFire>
+    ensures { IsLastDueBy fields.now (plain_zone zone.now) now.nanosecond result }
+{
+    nearest_due(fields, zone, Way::Back, reached_by(zone, now))
+}
