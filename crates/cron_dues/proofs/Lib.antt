@@ -7,3 +7,4 @@ pub mod WayLemmas
 pub mod ReachLemmas
 pub mod ListLemmas
 pub mod MemberLemmas
+pub mod LawLemmas

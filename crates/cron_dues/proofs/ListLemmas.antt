@@ -127,3 +127,56 @@ among-below (suc n) k h = elim (among-join (numbers_below n) (n ∷ []) k h) [
     | inr none ↦ absurd (among-none k none)
   ]
 ]
+
+-- ---- lists that ascend
+
+-- the key of each element is less than that of those behind it
+abbrev pub Ascends : {A : Type 0} → (A → ℕ) → List A → Type 0
+Ascends key [] = Unit {0}
+Ascends key (x ∷ l) = ((y : _) → Among l y → key x < key y) × Ascends key l
+
+pub ascends-at : {A : Type 0} (key : A → ℕ) (l : List A) (i j : ℕ) (x y : A) → Ascends key l → i < j → slice_get l i ≡ Some x → slice_get l j ≡ Some y
+    → key x < key y
+ascends-at key [] i j x y up less e f = absurd (nothing_in_nil i x e)
+ascends-at key (a ∷ l) zero zero x y up less e f = absurd (omega arith)
+ascends-at key (a ∷ l) zero (suc j) x y up less e f = let same : a ≡ x = cc in rw (← same) (up.0 y (j, f))
+ascends-at key (a ∷ l) (suc i) zero x y up less e f = absurd (omega arith)
+ascends-at key (a ∷ l) (suc i) (suc j) x y up less e f = ascends-at key l i j x y up.1 (omega arith) e f
+
+pub ascends-join : {A : Type 0} (key : A → ℕ) (l m : List A) → Ascends key l → Ascends key m
+    → ((x y : A) → Among l x → Among m y → key x < key y) → Ascends key (l ++ m)
+ascends-join key [] m up over less = over
+ascends-join key (a ∷ l) m up over less = (
+  λ y h. elim (among-join l m y h) [ inl in_l ↦ up.0 y in_l | inr in_m ↦ less a y (among-first a l) in_m ],
+  ascends-join key l m up.1 over (λ x y one other. less x y (among-rest a x l one) other),
+)
+
+ascends_filter-by : {A : Type 0} (key : A → ℕ) (p : A → Bool) (x : A) (l : List A) (b : Bool) → Ascends key (x ∷ l) → Ascends key (filter p l)
+    → Ascends key (cond b (x ∷ filter p l) (filter p l))
+ascends_filter-by key p x l true up below = (λ y h. up.0 y (among-filter p l y h).0, below)
+ascends_filter-by key p x l false up below = below
+
+pub ascends-filter : {A : Type 0} (key : A → ℕ) (p : A → Bool) (l : List A) → Ascends key l → Ascends key (filter p l)
+ascends-filter key p [] up = up
+ascends-filter key p (x ∷ l) up = ascends_filter-by key p x l (p x) up (ascends-filter key p l up.1)
+
+pub ascends-map : {A B : Type 0} (key : B → ℕ) (f : A → B) (l : List A) → Ascends (λ x. key (f x)) l → Ascends key (map f l)
+ascends-map key f [] up = tt
+ascends-map key f (x ∷ l) up = (
+  λ y h. let source = among-map f l y h in rw source.is (up.0 source.of source.there),
+  ascends-map key f l up.1,
+)
+
+pub numbers-ascend : (n : ℕ) → Ascends (λ k. k) (numbers_below n)
+unfolding numbers_below
+numbers-ascend zero = tt
+numbers-ascend (suc n) =
+    ascends-join (λ k. k) (numbers_below n) (n ∷ []) (numbers-ascend n) (λ y h. absurd (among-none y h), tt)
+    (λ x y one other. elim (among-cases n [] y other) [
+      | inl e ↦ let less = among-below n x one in omega arith
+      | inr none ↦ absurd (among-none y none)
+    ])
+
+pub map-back : {A B : Type 0} (f : A → B) (g : B → A) (l : List A) → ((x : A) → g (f x) ≡ x) → map g (map f l) ≡ l
+map-back f g [] back = refl
+map-back f g (x ∷ l) back = rw (back x) (ap (λ m. x ∷ m) (map-back f g l back))

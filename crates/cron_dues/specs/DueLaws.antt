@@ -1,0 +1,55 @@
+-- What holds of the due fires of all sets in every zone.
+use Rattle.std.specs.Prelude.{◌≡◌, ℕ, ◌<◌, ◌≤◌, ℤ, ◌≤ℤ◌, List, [], Some, map, slice_get}
+use Rattle.jiff_tz.specs.declared.timezone.TimeZone.{TimeZone}
+use Rattle.cron_units.specs.Sets.{Sets}
+use Rattle.cron_moments.specs.Civil.{seconds_in_range}
+use Rattle.cron_moments.specs.Readings.{Reading, readings}
+use Rattle.cron_moments.specs.Readings as moments
+use Rattle.cron_clocks.specs.Clocks.{HasInstant, LookupsAgree}
+use Rattle.cron_dues.specs.Due.{Due, due, due_instant, instant}
+use Rattle.cron_dues.specs.Dues.{dues, matching_seconds}
+
+-- the nominal seconds of the due fires are the civil seconds that match, in order ..
+abbrev pub FiresAreTheMatches : Type 0
+FiresAreTheMatches = (s : Sets) (z : TimeZone) → map (λ d. d.second) (dues s z) ≡ matching_seconds s
+
+-- .. each greater than those before it, so that each match is due once ..
+abbrev pub NominalSecondsAscend : Type 0
+NominalSecondsAscend =
+    (s : Sets) (z : TimeZone) (i j : ℕ) (d e : Due)
+    → i < j
+    → slice_get (dues s z) i ≡ Some d
+    → slice_get (dues s z) j ≡ Some e
+    → d.second < e.second
+
+-- .. and due instants never decrease
+abbrev pub DueInstantsNeverDecrease : Type 0
+DueInstantsNeverDecrease =
+    (s : Sets) (z : TimeZone) (i j : ℕ) (d e : Due)
+    → i ≤ j
+    → slice_get (dues s z) i ≡ Some d
+    → slice_get (dues s z) j ≡ Some e
+    → instant d ≤ℤ instant e
+
+-- n is the instant of one of the readings of a civil second, and of none a later one
+pub record IsFirstReading (z : TimeZone) (c : ℕ) (n : ℤ) : Type 0 where
+  pub has : HasInstant (readings z c) n
+  pub first : (i : ℕ) (r : Reading) → slice_get (readings z c) i ≡ Some r → n ≤ℤ moments.instant r
+
+-- where the look-ups agree, and the clock doesn't pass over the civil second, its due instant is that of its first reading
+abbrev pub FirstReadingsAreDue : Type 0
+FirstReadingsAreDue =
+    (z : TimeZone) (c : ℕ)
+    → LookupsAgree z
+    → c < seconds_in_range
+    → (due z c).past ≡ 0
+    → IsFirstReading z c (due_instant z c)
+
+-- there a civil second with no reading is due when the clock passes over it
+abbrev pub GapsArePassedOver : Type 0
+GapsArePassedOver =
+    (z : TimeZone) (c : ℕ)
+    → LookupsAgree z
+    → c < seconds_in_range
+    → readings z c ≡ []
+    → 0 < (due z c).past
