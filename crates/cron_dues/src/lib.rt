@@ -4,6 +4,7 @@
 
 pub mod dues;
 pub mod fire;
+pub mod laws;
 mod matching;
 mod numbers;
 mod reach;

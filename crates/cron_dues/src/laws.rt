@@ -1,0 +1,41 @@
+//! Laws over the definitions: the functions do nothing, and a caller calls one for what its contract says.
+
+ghost use Rattle.cron_dues.specs.Due.{DueInstantsAreFirst, FiresAreDue};
+ghost use Rattle.cron_dues.specs.DueLaws.{DueInstantsNeverDecrease, FiresAreTheMatches, FirstReadingsAreDue, GapsArePassedOver, NominalSecondsAscend};
+
+/// The due instant of a civil second is the first at which the clock of the zone shows it or a later one,
+/// in any zone.
+pub fn due_instants_are_first()
+    ensures { DueInstantsAreFirst }
+{}
+
+/// A due fire is due at that instant.
+pub fn fires_are_due()
+    ensures { FiresAreDue }
+{}
+
+/// The nominal seconds of the due fires are the civil seconds that match, in order.
+pub fn fires_are_the_matches()
+    ensures { FiresAreTheMatches }
+{}
+
+/// Each is greater than those before it.
+pub fn nominal_seconds_ascend()
+    ensures { NominalSecondsAscend }
+{}
+
+/// Due instants never decrease from fire to fire, in any zone.
+pub fn due_instants_never_decrease()
+    ensures { DueInstantsNeverDecrease }
+{}
+
+/// Where the look-ups of a zone agree, and the clock doesn't pass over a civil second, it is due at its
+/// first reading.
+pub fn first_readings_are_due()
+    ensures { FirstReadingsAreDue }
+{}
+
+/// Where they agree, a civil second with no reading is due when the clock passes over it.
+pub fn gaps_are_passed_over()
+    ensures { GapsArePassedOver }
+{}
