@@ -1,5 +1,5 @@
 -- Laws of due fires.
-use Rattle.std.proofs.Common.{◌≡◌, ℕ, zero, suc, ◌<◌, ◌≤◌, ℤ, pos, ◌-ℤ◌, ◌+ℤ◌, ◌≤ℤ◌, [], ◌∷◌, true, false, cond, unsigned_abs, Some, inl, inr, refl, sym, ap, ◌∙◌, arith}
+use Rattle.std.proofs.Common.{◌≡◌, ℕ, zero, suc, ◌<◌, ◌≤◌, ℤ, pos, ◌-ℤ◌, ◌≤ℤ◌, [], ◌∷◌, true, false, cond, Some, inl, inr, refl, sym, ap, ◌∙◌, arith}
 use Rattle.std.specs.Prelude.{slice_get}
 use Rattle.std.proofs.lemmas.Bool.{cases_lt}
 use Rattle.jiff_core.proofs.SignedLemmas.{signed_arith}
@@ -20,7 +20,7 @@ use Rattle.cron_dues.specs.Due.{Due, clock, due, due_instant, instant}
 use Rattle.cron_dues.specs.Dues.{dues, matching_seconds}
 use Rattle.cron_dues.specs.DueLaws.{FiresAreTheMatches, NominalSecondsAscend, DueInstantsNeverDecrease, FirstReadingsAreDue, GapsArePassedOver}
 use Rattle.cron_dues.proofs.DueLemmas.{as_natural, due_ascends, due_by, due_is, fire_due}
-use Rattle.cron_dues.proofs.ListLemmas.{Ascends, Among, ascends-at, ascends-filter, ascends-map, map-back, numbers-ascend}
+use Rattle.cron_dues.proofs.ListLemmas.{Ascends, ascends-at, ascends-filter, ascends-map, map-back, numbers-ascend}
 use Rattle.cron_dues.proofs.MemberLemmas.{own-of}
 
 pub fires_are_matches : FiresAreTheMatches

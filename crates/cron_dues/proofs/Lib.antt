@@ -8,3 +8,4 @@ pub mod ReachLemmas
 pub mod ListLemmas
 pub mod MemberLemmas
 pub mod LawLemmas
+pub mod RunLemmas

@@ -1,5 +1,5 @@
 -- Lists that ascend by a key.
-use Rattle.std.proofs.Common.{◌≡◌, ℕ, zero, suc, ◌<◌, Bool, true, false, cond, List, [], ◌∷◌, ◌++◌, Some, ◌⊎◌, inl, inr, refl, sym, ap, ◌∙◌, arith}
+use Rattle.std.proofs.Common.{◌≡◌, ℕ, zero, suc, ◌<◌, ◌≤◌, nat_lt, Bool, true, false, cond, List, [], ◌∷◌, ◌++◌, Some, ◌⊎◌, inl, inr, refl, sym, ap, ◌∙◌, arith}
 use Rattle.std.specs.Prelude.{filter, map, slice_get}
 use Rattle.std.proofs.lemmas.Bool.{cases_lt}
 use Rattle.cron_time.proofs.PlaceLemmas.{nothing_in_nil}
@@ -180,3 +180,43 @@ numbers-ascend (suc n) =
 pub map-back : {A B : Type 0} (f : A → B) (g : B → A) (l : List A) → ((x : A) → g (f x) ≡ x) → map g (map f l) ≡ l
 map-back f g [] back = refl
 map-back f g (x ∷ l) back = rw (back x) (ap (λ m. x ∷ m) (map-back f g l back))
+
+pub filter-alike : {A : Type 0} (p t : A → Bool) (l : List A) → ((x : A) → Among l x → p x ≡ t x) → filter p l ≡ filter t l
+filter-alike p t [] alike = refl
+filter-alike p t (x ∷ l) alike =
+    ap (λ b. cond b (x ∷ filter p l) (filter p l)) (alike x (among-first x l))
+    ∙ ap (λ m. cond (t x) (x ∷ m) m) (filter-alike p t l (λ y h. alike y (among-rest x y l h)))
+
+past_no : (a b : ℕ) → a ≤ b → nat_lt b a ≡ false
+past_no a b h = grind arith
+
+past_yes : (a b : ℕ) → b < a → nat_lt b a ≡ true
+past_yes a b h = grind arith
+
+-- of an ascending list what passes a test that is passed from there on: the first, and those behind it
+pub first-passing : {A : Type 0} (key : A → ℕ) (p : A → Bool) (l : List A) (r : A) → ((a b : A) → p a ≡ true → key a < key b → p b ≡ true)
+    → Ascends key l → Among l r → p r ≡ true → ((q : A) → Among l q → p q ≡ true → key r ≤ key q) → filter p l ≡ r ∷ filter (λ q. nat_lt (key r) (key q)) l
+first-passing key p [] r on up here passes least = absurd (among-none r here)
+first-passing key p (x ∷ l) r on up here passes least =
+    by_test (p x) (λ there. first-passing key p l r on up.1 there passes (λ q h t. least q (among-rest x q l h) t)) refl
+  where
+    at_first : p x ≡ true → r ≡ x
+    at_first is = elim (among-cases x l r here) [
+      | inl e ↦ e
+      | inr there ↦ let later = up.0 r there in let first = least x (among-first x l) is in absurd (omega arith)
+    ]
+
+    by_test : (b : Bool) → (Among l r → filter p l ≡ r ∷ filter (λ q. nat_lt (key r) (key q)) l) → p x ≡ b
+        → cond b (x ∷ filter p l) (filter p l) ≡ r ∷ cond (nat_lt (key r) (key x)) (x ∷ filter (λ q. nat_lt (key r) (key q)) l) (filter (λ q. nat_lt (key r) (key q)) l)
+    by_test true below is =
+        let all : filter p l ≡ l = filter-all p l (λ q h. on x q is (up.0 q h)) in
+        let later : filter (λ q. nat_lt (key x) (key q)) l ≡ l = filter-all (λ q. nat_lt (key x) (key q)) l (λ q h. past_yes (key q) (key x) (up.0 q h)) in
+        let itself : nat_lt (key x) (key x) ≡ false = past_no (key x) (key x) (omega arith) in
+        rw (at_first is, itself) (ap (λ m. x ∷ m) (all ∙ sym later))
+    by_test false below is = elim (among-cases x l r here) [
+      | inl e ↦ let same : p x ≡ true = ap p (sym e) ∙ passes in absurd (cc)
+      | inr there ↦
+          let less = up.0 r there in
+          let fails : nat_lt (key r) (key x) ≡ false = past_no (key x) (key r) (omega arith) in
+          rw fails (below there)
+    ]

@@ -63,16 +63,16 @@ own-of s z d h =
 
 -- ---- the first and the last of them
 
-less-true : (a b : ℕ) → nat_lt a b ≡ true → a < b
+pub less-true : (a b : ℕ) → nat_lt a b ≡ true → a < b
 less-true a b h = grind arith
 
-true-less : (a b : ℕ) → a < b → nat_lt a b ≡ true
+pub true-less : (a b : ℕ) → a < b → nat_lt a b ≡ true
 true-less a b h = grind arith
 
-not_both : (b : Bool) → b ≡ true → b ≡ false → ⊥
+pub not_both : (b : Bool) → b ≡ true → b ≡ false → ⊥
 not_both b t f = cc
 
-ahead_least : (s : Sets) (start : ℤ) (c k : ℕ) → IsNearestAt Ahead (is_match s) start c → is_match s k ≡ true → start ≤ℤ pos k → c ≤ k
+pub ahead_least : (s : Sets) (start : ℤ) (c k : ℕ) → IsNearestAt Ahead (is_match s) start c → is_match s k ≡ true → start ≤ℤ pos k → c ≤ k
 ahead_least s start c k near match lies = elim (cases_lt k c) [
   | inl less ↦ absurd (not_both (is_match s k) match (near.nearest k lies less))
   | inr ge ↦ ge
@@ -84,7 +84,7 @@ back_greatest s start c k near match lies = elim (cases_lt c k) [
   | inr ge ↦ ge
 ]
 
-nearest-own : (s : Sets) (z : TimeZone) (d : Due) → is_match s d.second ≡ true → d ≡ due z d.second → IsDue s z d
+pub nearest-own : (s : Sets) (z : TimeZone) (d : Due) → is_match s d.second ≡ true → d ≡ due z d.second → IsDue s z d
 nearest-own s z d match own = rw own (due-of s z d.second match)
 
 pub first-of : (s : Sets) (z : TimeZone) (p : Due → Bool) (start : ℤ) (answer : Option Due)
@@ -115,10 +115,10 @@ last-of s z p start (Some d) lies passes near = (
 
 -- ---- by an instant
 
-abbrev second_of : ℤ → ℤ
+abbrev pub second_of : ℤ → ℤ
 second_of t = int_div_euclid t (pos 1_000_000_000)
 
-after-lies : (s : Sets) (z : TimeZone) (t m : ℤ) → IsReachedBy z (second_of t) m → (c : ℕ) → is_match s c ≡ true → is_due_after t (due z c) ≡ true
+pub after-lies : (s : Sets) (z : TimeZone) (t m : ℤ) → IsReachedBy z (second_of t) m → (c : ℕ) → is_match s c ≡ true → is_due_after t (due z c) ≡ true
     → (m +ℤ pos 1) ≤ℤ pos c
 after-lies s z t m reached c match after =
     let due_at = fire_due z c in
@@ -127,7 +127,7 @@ after-lies s z t m reached c match after =
     (λ more. omega (arith, signed_arith))
     (λ le. let by = (reached c (match_in_range s c match)).0 le in absurd (omega (arith, signed_arith)))
 
-lies-after : (s : Sets) (z : TimeZone) (t m : ℤ) → IsReachedBy z (second_of t) m → (c : ℕ) → is_match s c ≡ true → (m +ℤ pos 1) ≤ℤ pos c
+pub lies-after : (s : Sets) (z : TimeZone) (t m : ℤ) → IsReachedBy z (second_of t) m → (c : ℕ) → is_match s c ≡ true → (m +ℤ pos 1) ≤ℤ pos c
     → is_due_after t (due z c) ≡ true
 lies-after s z t m reached c match lies =
     let due_at = fire_due z c in

@@ -1,3 +1,4 @@
 pub mod Steady
 pub mod Reached
 pub mod Nearest
+pub mod Left

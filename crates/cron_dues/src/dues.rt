@@ -12,8 +12,13 @@ use cron_units::way::Way;
 use jiff::Timestamp;
 use jiff::tz::TimeZone;
 
-// The due fire of the nearest civil second that matches, from a number on.
-fn nearest_due(fields: &ScheduleFields, zone: &TimeZone<'_>, way: Way, from: i64) -> Option<DueFire>
+/// The due fire of the nearest civil second that matches, from a number on.
+pub(crate) fn nearest_due(
+    fields: &ScheduleFields,
+    zone: &TimeZone<'_>,
+    way: Way,
+    from: i64,
+) -> Option<DueFire>
     ensures { IsNearestDue way fields.now (plain_zone zone.now) from result }
 {
     let second = nearest_match(fields, way, from)?;

@@ -8,5 +8,6 @@ pub mod laws;
 mod matching;
 mod numbers;
 mod reach;
+pub mod run;
 mod steady;
 mod way_to;

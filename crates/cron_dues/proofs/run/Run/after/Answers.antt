@@ -1,0 +1,11 @@
+use Rattle.std.proofs.Common.{rules, ◌∙◌, pos, ◌+ℤ◌, FitsSigned, w64, to_z-of_z}
+use Rattle.jiff.specs.Words.{plain_zone}
+use Rattle.cron_dues.proofs.RunLemmas.{left-after}
+use Rattle.cron_dues.proofs.run.Run.after.Goals as goal
+
+pub returns : goal.returns
+returns c =
+    let fits : FitsSigned w64 c.reached_by.result = search rules in
+    let fits-next : FitsSigned w64 (c.reached_by.result +ℤ pos 1) = search rules in
+    (rw (to_z-of_z fits, to_z-of_z fits-next) at c.from.ensures)
+    ∙ left-after c.args.fields (plain_zone c.args.zone.now) c.args.start.nanosecond c.reached_by.result c.reached_by.ensures.reached

@@ -1,0 +1,22 @@
+-- What a run has left: the due fires from a civil second on, and up to an instant if there is a last one.
+use Rattle.std.specs.Prelude.{ℤ, pos, Bool, true, int_le, Option, Some, None, List, filter}
+use Rattle.jiff_tz.specs.declared.timezone.TimeZone.{TimeZone}
+use Rattle.cron_units.specs.Sets.{Sets}
+use Rattle.cron_dues.specs.Due.{Due, instant}
+use Rattle.cron_dues.specs.Dues.{dues}
+
+-- an instant, in seconds, isn't past the last one
+abbrev pub is_within : Option ℤ → ℤ → Bool
+is_within None n = true
+is_within (Some last) n = int_le n last
+
+-- the nominal second is this one or a later one
+abbrev pub is_from : ℤ → Due → Bool
+is_from from d = int_le from (pos d.second)
+
+abbrev pub left_until : Option ℤ → List Due → List Due
+left_until None l = l
+left_until (Some last) l = filter (λ d. is_within (Some last) (instant d)) l
+
+abbrev pub left_from : Sets → TimeZone → ℤ → Option ℤ → List Due
+left_from s z from until = left_until until (filter (is_from from) (dues s z))
