@@ -29,7 +29,7 @@ fn fire_past(
     fire: &Option<DueFire>,
 ) -> Option<DueFire> {
     match fire {
-        Some(due) => first_past(fields, zone, due),
+        Some(due) => first_past(fields, due, zone),
         None => None,
     }
 }
@@ -43,7 +43,7 @@ pub(crate) fn fires_after(
     count: usize,
 ) -> Result<String> {
     let mut text = String::new(alloc);
-    let mut next = first_after(fields, zone, instant);
+    let mut next = first_after(fields, instant, zone);
     for _ in 0..count {
         add_fire(&mut text, &next)?;
         next = fire_past(fields, zone, &next);
@@ -59,6 +59,6 @@ pub(crate) fn last_fire(
     instant: Timestamp,
 ) -> Result<String> {
     let mut text = String::new(alloc);
-    add_fire(&mut text, &last_by(fields, zone, instant))?;
+    add_fire(&mut text, &last_by(fields, instant, zone))?;
     Ok(text)
 }

@@ -11,7 +11,7 @@ use Rattle.cron_units.specs.Sets.{Sets}
 use Rattle.cron_moments.specs.Civil.{civil, seconds_in_range}
 use Rattle.cron_time.specs.Matches.{matches}
 use Rattle.cron_time.specs.Timeline.{numbers_below}
-use Rattle.cron_instants.specs.Inner.Beyond.{is_match}
+use Rattle.cron_time.specs.Matches.{is_match}
 use Rattle.cron_instants.proofs.FireLemmas.{int_le-true, int_lt-true}
 use Rattle.cron_instants.proofs.MatchLemmas.{match_in_range}
 use Rattle.cron_clocks.proofs.Windows.{le_yes, lt_yes}

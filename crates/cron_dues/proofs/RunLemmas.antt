@@ -6,7 +6,7 @@ use Rattle.jiff_tz.specs.declared.timezone.TimeZone.{TimeZone}
 use Rattle.cron_units.specs.Sets.{Sets}
 use Rattle.cron_units.specs.declared.way.Way.TheVariants.{Ahead}
 use Rattle.cron_clocks.proofs.Windows.{le_yes, le_no}
-use Rattle.cron_instants.specs.Inner.Beyond.{is_match}
+use Rattle.cron_time.specs.Matches.{is_match}
 use Rattle.cron_instants.proofs.FireLemmas.{int_le-true, int_le-false}
 use Rattle.cron_dues.specs.Due.{Due, due_instant, instant}
 use Rattle.cron_dues.specs.Dues.{dues, dues_after, dues_past, dues_between, dues_past_by, is_due_after, is_due_by, is_past}

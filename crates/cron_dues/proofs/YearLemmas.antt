@@ -9,7 +9,7 @@ use Rattle.jiff_core.proofs.DateLemmas.{civil as civil_date, epoch_day-ordinal}
 use Rattle.jiff_core.proofs.SignedLemmas.{signed_arith}
 use Rattle.jiff_tz.specs.PosixRule.{first_day}
 use Rattle.jiff_tz.proofs.YearLemmas.{back_year}
-use Rattle.cron_clocks.specs.Turns.{year_start}
+use Rattle.cron_clocks.specs.Transitions.{year_start}
 use Rattle.cron_clocks.proofs.RuleYears.{first_day-next, year_of_nanos-is}
 use Rattle.cron_instants.proofs.FireLemmas.{int_le-false}
 use Rattle.cron_dues.specs.Inner.Steady.{IsOneYear}

@@ -4,9 +4,9 @@ ghost use Rattle.cron_dues.specs.FirstDues.{IsFirstDueAfter, IsFirstDuePast, IsL
 ghost use Rattle.cron_dues.specs.Inner.Nearest.{IsNearestDue};
 
 use crate::fire::{DueFire, nominal_second};
-use crate::matching::nearest_match;
 use crate::reach::reached_by;
 use crate::way_to::due_of;
+use cron_time::search::civil_seconds::nearest_match;
 use cron_units::fields::ScheduleFields;
 use cron_units::way::Way;
 use jiff::Timestamp;
@@ -29,7 +29,7 @@ pub(crate) fn nearest_due(
 ///
 /// A loop goes on from the fire that it ran, by `first_past`: several may share an instant, and this call
 /// answers only the first of them.
-pub fn first_after(fields: &ScheduleFields, zone: &TimeZone<'_>, now: Timestamp) -> Option<DueFire>
+pub fn first_after(fields: &ScheduleFields, now: Timestamp, zone: &TimeZone<'_>) -> Option<DueFire>
     ensures { IsFirstDueAfter fields.now (plain_zone zone.now) now.nanosecond result }
 {
     nearest_due(fields, zone, Way::Ahead, reached_by(zone, now) + 1)
@@ -37,7 +37,7 @@ pub fn first_after(fields: &ScheduleFields, zone: &TimeZone<'_>, now: Timestamp)
 
 /// Of the due fires past this one the first. `None` where there is none. The one that is handed in may be
 /// none of these sets: its nominal time alone counts.
-pub fn first_past(fields: &ScheduleFields, zone: &TimeZone<'_>, fire: &DueFire) -> Option<DueFire>
+pub fn first_past(fields: &ScheduleFields, fire: &DueFire, zone: &TimeZone<'_>) -> Option<DueFire>
     ensures { IsFirstDuePast fields.now (plain_zone zone.now) fire.now result }
 {
     nearest_due(
@@ -49,7 +49,7 @@ pub fn first_past(fields: &ScheduleFields, zone: &TimeZone<'_>, fire: &DueFire) 
 }
 
 /// Of the due fires whose instant is `now` or comes before it the last. `None` where there is none.
-pub fn last_by(fields: &ScheduleFields, zone: &TimeZone<'_>, now: Timestamp) -> Option<DueFire>
+pub fn last_by(fields: &ScheduleFields, now: Timestamp, zone: &TimeZone<'_>) -> Option<DueFire>
     ensures { IsLastDueBy fields.now (plain_zone zone.now) now.nanosecond result }
 {
     nearest_due(fields, zone, Way::Back, reached_by(zone, now))

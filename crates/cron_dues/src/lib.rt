@@ -5,7 +5,6 @@
 pub mod dues;
 pub mod fire;
 pub mod laws;
-mod matching;
 mod numbers;
 mod reach;
 pub mod run;

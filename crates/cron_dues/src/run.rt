@@ -93,7 +93,7 @@ impl<'a> Run<'a> {
     }
 
     /// Those past this one whose instant doesn't come after `now`.
-    pub fn past_up_to(
+    pub fn past_by(
         fields: ScheduleFields,
         fire: &DueFire,
         now: Timestamp,

@@ -4,7 +4,7 @@ use Rattle.jiff_tz.specs.declared.timezone.TimeZone.{TimeZone}
 use Rattle.cron_units.specs.declared.way.Way.{Way}
 use Rattle.cron_units.specs.Nearest.{IsNearestAt, LiesFrom}
 use Rattle.cron_units.specs.Sets.{Sets}
-use Rattle.cron_instants.specs.Inner.Beyond.{is_match}
+use Rattle.cron_time.specs.Matches.{is_match}
 use Rattle.cron_dues.specs.Due.{Due, due}
 
 -- its nominal second is the nearest from a number on that matches

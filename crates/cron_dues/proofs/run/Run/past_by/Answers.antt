@@ -1,7 +1,7 @@
 use Rattle.std.proofs.Common.{rules, ◌≡◌, ◌∙◌, pos, ◌+ℤ◌, FitsSigned, w64, to_z-of_z, ap}
 use Rattle.jiff.specs.Words.{plain_zone}
 use Rattle.cron_dues.proofs.RunLemmas.{left-past_by}
-use Rattle.cron_dues.proofs.run.Run.past_up_to.Goals as goal
+use Rattle.cron_dues.proofs.run.Run.past_by.Goals as goal
 
 pub returns : goal.returns
 returns c =
