@@ -3,6 +3,7 @@
 use anyhow::Result;
 use cron_dues::dues::{first_after, first_past, last_by};
 use cron_dues::fire::DueFire;
+use cron_dues::run::Run;
 use cron_units::fields::ScheduleFields;
 use jiff::Timestamp;
 use jiff::tz::TimeZone;
@@ -47,6 +48,22 @@ pub(crate) fn fires_after(
     for _ in 0..count {
         add_fire(&mut text, &next)?;
         next = fire_past(fields, zone, &next);
+    }
+    Ok(text)
+}
+
+/// The same by one run.
+pub(crate) fn run_after(
+    alloc: Global,
+    fields: &ScheduleFields,
+    zone: &TimeZone<'_>,
+    instant: Timestamp,
+    count: usize,
+) -> Result<String> {
+    let mut text = String::new(alloc);
+    let mut run = Run::after(*fields, instant, zone);
+    for _ in 0..count {
+        add_fire(&mut text, &run.next())?;
     }
     Ok(text)
 }

@@ -1,6 +1,6 @@
 //! Rows: what is asked, an expression, a zone, an instant, and the answers.
 
-use crate::fires::{fires_after, last_fire};
+use crate::fires::{fires_after, last_fire, run_after};
 use crate::zones::{bytes_named, zone_named};
 use anyhow::{Context, Result};
 use cron::Schedule;
@@ -52,7 +52,7 @@ fn question_of(row: &str) -> Result<Question<'_>> {
     })
 }
 
-// The answers in a zone, as a row has them.
+// The answers in a zone, as a row has them. Those by calls one after another, or else those of a run.
 fn answers_in(
     rt: &HostRuntime,
     fields: &ScheduleFields,
@@ -61,11 +61,14 @@ fn answers_in(
 ) -> Result<String> {
     let instant = question.instant.parse::<Timestamp>()?;
     if question.asked == "by" {
-        last_fire(rt.alloc(), fields, zone, instant)
-    } else {
-        let count = question.answers.split(", ").count();
-        fires_after(rt.alloc(), fields, zone, instant, count)
+        return last_fire(rt.alloc(), fields, zone, instant);
     }
+    let count = question.answers.split(", ").count();
+    let fires = fires_after(rt.alloc(), fields, zone, instant, count)?;
+    if fires.as_str() != question.answers {
+        return Ok(fires);
+    }
+    run_after(rt.alloc(), fields, zone, instant, count)
 }
 
 // The answers in the zone of the question, which a text of all zones from files may have.

@@ -1,6 +1,6 @@
 -- Laws of due fires.
-use Rattle.std.proofs.Common.{◌≡◌, ℕ, zero, suc, ◌<◌, ◌≤◌, ℤ, pos, ◌-ℤ◌, ◌≤ℤ◌, [], ◌∷◌, true, false, cond, Some, inl, inr, refl, sym, ap, ◌∙◌, arith}
-use Rattle.std.specs.Prelude.{slice_get}
+use Rattle.std.proofs.Common.{◌≡◌, ℕ, zero, suc, ◌<◌, ◌≤◌, ℤ, pos, ◌-ℤ◌, ◌≤ℤ◌, [], ◌∷◌, ◌++◌, nat_lt, true, false, cond, Some, inl, inr, refl, sym, ap, ◌∙◌, arith}
+use Rattle.std.specs.Prelude.{filter, slice_get}
 use Rattle.std.proofs.lemmas.Bool.{cases_lt}
 use Rattle.jiff_core.proofs.SignedLemmas.{signed_arith}
 use Rattle.std.specs.Ordering.{int_eq}
@@ -18,9 +18,9 @@ use Rattle.cron_time.proofs.PlaceLemmas.{nothing_in_nil}
 use Rattle.cron_clocks.specs.Clocks.{HasInstant, LookupsAgree}
 use Rattle.cron_dues.specs.Due.{Due, clock, due, due_instant, instant}
 use Rattle.cron_dues.specs.Dues.{dues, matching_seconds}
-use Rattle.cron_dues.specs.DueLaws.{FiresAreTheMatches, NominalSecondsAscend, DueInstantsNeverDecrease, FirstReadingsAreDue, GapsArePassedOver}
+use Rattle.cron_dues.specs.DueLaws.{FiresAreTheMatches, NominalSecondsAscend, DueInstantsNeverDecrease, FirstReadingsAreDue, GapsArePassedOver, CutListsGoOn}
 use Rattle.cron_dues.proofs.DueLemmas.{as_natural, due_ascends, due_by, due_is, fire_due}
-use Rattle.cron_dues.proofs.ListLemmas.{Ascends, ascends-at, ascends-filter, ascends-map, map-back, numbers-ascend}
+use Rattle.cron_dues.proofs.ListLemmas.{Ascends, ascends-at, ascends-filter, ascends-map, cut-behind, map-back, numbers-ascend}
 use Rattle.cron_dues.proofs.MemberLemmas.{own-of}
 
 pub fires_are_matches : FiresAreTheMatches
@@ -112,3 +112,10 @@ gaps_passed z c agree range none = elim (cases_lt 0 (due z c).past) [
   | inl more ↦ more
   | inr le ↦ absurd (nothing_read z c (due_instant z c) none (agree.shown_read c (due_instant z c) range (shown_then z c (omega arith))))
 ]
+
+-- ---- cut lists
+
+pub cut_lists : CutListsGoOn
+cut_lists s z done fire rest e =
+    let up : Ascends (λ (d : Due). d.second) (done ++ fire ∷ rest) = rw (← e) (dues-ascend s z) in
+    ap (filter (λ (d : Due). nat_lt fire.second d.second)) e ∙ cut-behind (λ (d : Due). d.second) done fire rest up

@@ -220,3 +220,14 @@ first-passing key p (x ∷ l) r on up here passes least =
           let fails : nat_lt (key r) (key x) ≡ false = past_no (key x) (key r) (omega arith) in
           rw fails (below there)
     ]
+
+-- behind an element of an ascending list come those of greater keys
+pub cut-behind : {A : Type 0} (key : A → ℕ) (done : List A) (r : A) (rest : List A) → Ascends key (done ++ r ∷ rest)
+    → filter (λ q. nat_lt (key r) (key q)) (done ++ r ∷ rest) ≡ rest
+cut-behind key [] r rest up =
+    let itself : nat_lt (key r) (key r) ≡ false = past_no (key r) (key r) (omega arith) in
+    rw itself (filter-all (λ q. nat_lt (key r) (key q)) rest (λ q h. past_yes (key q) (key r) (up.0 q h)))
+cut-behind key (x ∷ done) r rest up =
+    let less = up.0 r (join-among done (r ∷ rest) r (inr (among-first r rest))) in
+    let fails : nat_lt (key r) (key x) ≡ false = past_no (key x) (key r) (omega arith) in
+    rw fails (cut-behind key done r rest up.1)

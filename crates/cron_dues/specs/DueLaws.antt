@@ -1,5 +1,5 @@
 -- What holds of the due fires of all sets in every zone.
-use Rattle.std.specs.Prelude.{◌≡◌, ℕ, ◌<◌, ◌≤◌, ℤ, ◌≤ℤ◌, [], Some, map, slice_get}
+use Rattle.std.specs.Prelude.{◌≡◌, ℕ, ◌<◌, ◌≤◌, ℤ, ◌≤ℤ◌, List, [], ◌∷◌, ◌++◌, Some, map, slice_get}
 use Rattle.jiff_tz.specs.declared.timezone.TimeZone.{TimeZone}
 use Rattle.cron_units.specs.Sets.{Sets}
 use Rattle.cron_moments.specs.Civil.{seconds_in_range}
@@ -7,7 +7,7 @@ use Rattle.cron_moments.specs.Readings.{Reading, readings}
 use Rattle.cron_moments.specs.Readings as moments
 use Rattle.cron_clocks.specs.Clocks.{HasInstant, LookupsAgree}
 use Rattle.cron_dues.specs.Due.{Due, due, due_instant, instant}
-use Rattle.cron_dues.specs.Dues.{dues, matching_seconds}
+use Rattle.cron_dues.specs.Dues.{dues, dues_past, matching_seconds}
 
 -- the nominal seconds of the due fires are the civil seconds that match, in order ..
 abbrev pub FiresAreTheMatches : Type 0
@@ -53,3 +53,10 @@ GapsArePassedOver =
     → c < seconds_in_range
     → readings z c ≡ []
     → 0 < (due z c).past
+
+-- a list of all due fires that is cut after one of them goes on past that one
+abbrev pub CutListsGoOn : Type 0
+CutListsGoOn =
+    (s : Sets) (z : TimeZone) (done : List Due) (fire : Due) (rest : List Due)
+    → dues s z ≡ done ++ fire ∷ rest
+    → dues_past s z fire ≡ rest

@@ -1,7 +1,7 @@
 //! Laws over the definitions: the functions do nothing, and a caller calls one for what its contract says.
 
 ghost use Rattle.cron_dues.specs.Due.{DueInstantsAreFirst, FiresAreDue};
-ghost use Rattle.cron_dues.specs.DueLaws.{DueInstantsNeverDecrease, FiresAreTheMatches, FirstReadingsAreDue, GapsArePassedOver, NominalSecondsAscend};
+ghost use Rattle.cron_dues.specs.DueLaws.{CutListsGoOn, DueInstantsNeverDecrease, FiresAreTheMatches, FirstReadingsAreDue, GapsArePassedOver, NominalSecondsAscend};
 
 /// The due instant of a civil second is the first at which the clock of the zone shows it or a later one,
 /// in any zone.
@@ -38,4 +38,9 @@ pub fn first_readings_are_due()
 /// Where they agree, a civil second with no reading is due when the clock passes over it.
 pub fn gaps_are_passed_over()
     ensures { GapsArePassedOver }
+{}
+
+/// A list of all due fires that is cut after one of them goes on past that one.
+pub fn cut_lists_go_on()
+    ensures { CutListsGoOn }
 {}
