@@ -3,6 +3,8 @@
 #![tactic(auto)]
 
 mod late_clock;
+#[cfg(test)]
+mod tests;
 
 use cron_ringing::answer::{Status, answer};
 use cron_ringing::arguments::Request;

@@ -1,5 +1,6 @@
-//! Tests of the crates below `cron` and of those above it that hold no program, over what they make public.
-//! `cron_vectors` has the tests of `cron`.
+//! Tests of the crates below `cron`, of `cron_fires` and of `cron_callers`, over what they make public.
+//! `cron_vectors` has the tests of `cron`, `cron_next` those of `cron_listing`, and `cron_alarm` those of
+//! `cron_scheduler` and `cron_ringing`.
 #![tactic(auto)]
 
 #[cfg(test)]
@@ -8,10 +9,6 @@ mod agreement;
 mod callers;
 #[cfg(test)]
 mod fires;
-#[cfg(test)]
-mod ringing;
-#[cfg(test)]
-mod scheduler;
 #[cfg(test)]
 mod transitions;
 #[cfg(test)]
