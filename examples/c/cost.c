@@ -71,7 +71,7 @@ static double cost_of_steps(const cron_c_schedule *schedule, const cron_c_zone *
 
 enum { ERAS = 237 };
 
-/* As many eras as the zone's file of Chicago has: two clock changes a year up to autumn 2007, and then its rule. */
+/* As many eras as the zone's file of Chicago has: two transitions a year up to autumn 2007, and then its rule. */
 static void make_eras(cron_c_era *eras, const cron_c_zone *rule)
 {
     for (int place = 0; place < ERAS; place++) {

@@ -137,7 +137,7 @@ static const cron_c_era SEVENTIES[] = {
 };
 enum { ERAS = sizeof SEVENTIES / sizeof *SEVENTIES };
 
-/* The clock changes of those years, as the zone database tells them. */
+/* The transitions of those years, as the zone database tells them. */
 static void histories(void)
 {
     cron_c_schedule half_past = parsed("0 30 1 * * *"), in_gap = parsed("0 30 2 * * *");

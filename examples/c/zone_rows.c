@@ -3,7 +3,7 @@
 #include "pyongyang.h"
 #include "rows.h"
 
-/* The clock changes of Pyongyang, as `zdump` tells them, and a place that no call may write to. */
+/* The transitions of Pyongyang, as `zdump` tells them, and a place that no call may write to. */
 enum { ERAS = 6, ROOM = ERAS + 1 };
 static const int64_t STARTS[ERAS] = {INT64_MIN, -1948782180, -1830414600, -768646800, 1439564400, 1525446000};
 static const int32_t OFFSETS[ERAS] = {30180, 30600, 32400, 32400, 30600, 32400};

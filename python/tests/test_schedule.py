@@ -65,7 +65,7 @@ class Answers(unittest.TestCase):
         answer = Schedule("0 30 2 * * *").after(chicago(2022, 3, 12, 12))
         self.assertEqual(answer.isoformat(), "2022-03-14T02:30:00-05:00")
 
-    def test_the_past_has_its_own_clock_changes(self):
+    def test_the_past_has_its_own_transitions(self):
         # In 1974 the clock went forward on 6 January.
         answers = Schedule("0 0 12 1,10 1 * 1974").between(chicago(1973, 12, 1), chicago(1974, 2, 1))
         self.assertEqual([it.isoformat() for it in answers], ["1974-01-01T12:00:00-06:00", "1974-01-10T12:00:00-05:00"])
@@ -234,7 +234,7 @@ class Refusals(unittest.TestCase):
                 with self.assertRaisesRegex(TypeError, said):
                     schedule.between(*ends)
 
-    def test_a_zone_of_another_package_with_clock_changes_is_refused(self):
+    def test_a_zone_of_another_package_with_transitions_is_refused(self):
         with self.assertRaisesRegex(ZoneError, r"moment\.astimezone\(zoneinfo\.ZoneInfo\("):
             Schedule("@daily").after(datetime(2024, 1, 1, tzinfo=Seasonal()))
 

@@ -1,4 +1,4 @@
-"""Each zone of the machine against `zoneinfo`: the quarters of an hour on its clock around its clock changes. And where
+"""Each zone of the machine against `zoneinfo`: the quarters of an hour on its clock around its transitions. And where
 the file of a zone is found, and how long it is kept."""
 
 import gc
@@ -59,7 +59,7 @@ HEADER = struct.Struct(">4sc15x6L")
 
 
 def count_of_changes(data):
-    """How many clock changes the table of a zone's file has: that of its second block, if it has one."""
+    """How many transitions the table of a zone's file has: that of its second block, if it has one."""
     _, version, utc, wall, leap, turns, types, letters = HEADER.unpack_from(data)
     if version >= b"2":
         turns = HEADER.unpack_from(data, HEADER.size + turns * 5 + types * 6 + letters + leap * 8 + wall + utc)[5]

@@ -10,7 +10,7 @@ class TextError(CronError):
 
 
 class ZoneError(CronError):
-    """The zone is no ZoneInfo and has clock changes; or it has no key or no file that can be read, a file that is refused or isn't
+    """The zone is no ZoneInfo and has transitions; or it has no key or no file that can be read, a file that is refused or isn't
     the one that it was read from, or an offset with a part of a second."""
 
 
