@@ -160,3 +160,50 @@ fn a_failed_read_ends_the_check(rt: HostRuntime) {
         wanting,
     );
 }
+
+/// A terminal: it gives what was typed before its end, then no byte once, and then what was typed behind.
+#[derive(Drop)]
+struct Terminal<'a> {
+    front: &'a [u8],
+    has_ended: bool,
+    behind: &'a [u8],
+}
+
+impl<'a> Read for Terminal<'a> {
+    fn read(&mut self, buf: &mut [u8]) -> io::Result<usize> {
+        if !self.front.is_empty() {
+            return self.front.read(buf);
+        }
+        if !self.has_ended {
+            self.has_ended = true;
+            return Ok(0);
+        }
+        self.behind.read(buf)
+    }
+}
+
+// A check of what stands before the end leaves what stands behind it to the next reading.
+fn check_left(rt: &(impl Abort + AllocGlobal), front: &[u8]) {
+    let terminal = Terminal {
+        front,
+        has_ended: false,
+        behind: b"2\n",
+    };
+    let mut reader = BufReader::new(rt.alloc(), terminal).expect(rt, "memory");
+    let mut out = Watched::new(Vec::new(rt.alloc()));
+    let end = check(rt.alloc(), &Mode::Faults, &mut reader, &mut out);
+    let mut rest = Vec::new(rt.alloc());
+    let _count = reader.read_to_end(&mut rest).expect(rt, "bytes");
+    assert_eq!(rt;
+        (end, rest.as_slice()),
+        (Outcome::AllRead, b"2\n".as_slice())
+    );
+}
+
+// Where the end is typed twice, the second end isn't for this check.
+#[test]
+fn what_stands_behind_the_end_is_left(rt: HostRuntime) {
+    for front in ["", "@daily", "@daily\n"] {
+        check_left(&rt, front.as_bytes());
+    }
+}
