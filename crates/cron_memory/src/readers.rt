@@ -1,87 +1,48 @@
-//! The readers, and the reading of a JSON value.
+//! The readers of an owned text, and the views of what they read.
 
-use crate::support::{ACCEPTED, REFUSED, check_accepted, check_refused, tell_early};
-use cron::Schedule;
-use serde_json::Value;
+use anyhow::Error;
+use cron::{Schedule, TimeUnitSpec};
 use std::borrow::CowStr;
-use std::test::Fail;
+use std::ops::Bound;
 
-#[test]
-fn from_str_accepts(rt: HostRuntime) -> Result<(), Fail> {
-    check_accepted(&rt, Schedule::from_str(rt.alloc(), ACCEPTED))
-}
+const TEXT: &str = "0 0,30 1-3 6,L * ?";
 
-#[test]
-fn from_str_refuses(rt: HostRuntime) -> Result<(), Fail> {
-    check_refused(&rt, Schedule::from_str(rt.alloc(), REFUSED))
-}
-
-#[test]
-fn try_from_str_accepts(rt: HostRuntime) -> Result<(), Fail> {
-    check_accepted(&rt, Schedule::try_from_str(rt.alloc(), ACCEPTED))
-}
-
-#[test]
-fn try_from_str_refuses(rt: HostRuntime) -> Result<(), Fail> {
-    check_refused(&rt, Schedule::try_from_str(rt.alloc(), REFUSED))
-}
-
-#[test]
-fn try_from_string_accepts(rt: HostRuntime) -> Result<(), Fail> {
-    let Ok(text) = String::from_str(rt.alloc(), ACCEPTED) else {
-        return tell_early(&rt);
+// The schedule that the other calls are made of.
+pub fn run(rt: &HostRuntime) -> Result<Schedule, Error> {
+    let text = String::from_str(rt.alloc(), TEXT)?;
+    let other = String::from_str(rt.alloc(), TEXT)?;
+    println!(rt; "set up")?;
+    let schedule = Schedule::try_from_string(rt.alloc(), text)?;
+    println!(rt; "try_from_string: {schedule}")?;
+    let same = Schedule::try_from_cow(rt.alloc(), CowStr::Owned(other))?;
+    println!(rt; "try_from_cow: {same}")?;
+    println!(rt; "source: {}", schedule.source())?;
+    println!(rt; "eq: {}", schedule == same)?;
+    println!(rt; "timeunitspec_eq: {}", schedule.timeunitspec_eq(&same))?;
+    let text = String::from(same);
+    println!(rt; "String::from: {text}")?;
+    views(rt, &schedule)?;
+    let Err(error) = Schedule::from_str(rt.alloc(), "* * *") else {
+        return Ok(schedule);
     };
-    check_accepted(&rt, Schedule::try_from_string(rt.alloc(), text))
+    println!(rt; "set up")?;
+    println!(rt; "kind: {:?}", error.kind())?;
+    Ok(schedule)
 }
 
-#[test]
-fn try_from_string_refuses(rt: HostRuntime) -> Result<(), Fail> {
-    let Ok(text) = String::from_str(rt.alloc(), REFUSED) else {
-        return tell_early(&rt);
-    };
-    check_refused(&rt, Schedule::try_from_string(rt.alloc(), text))
-}
-
-#[test]
-fn try_from_borrowed_cow_accepts(rt: HostRuntime) -> Result<(), Fail> {
-    let text = CowStr::Borrowed(ACCEPTED);
-    check_accepted(&rt, Schedule::try_from_cow(rt.alloc(), text))
-}
-
-#[test]
-fn try_from_borrowed_cow_refuses(rt: HostRuntime) -> Result<(), Fail> {
-    let text = CowStr::Borrowed(REFUSED);
-    check_refused(&rt, Schedule::try_from_cow(rt.alloc(), text))
-}
-
-#[test]
-fn try_from_owned_cow_accepts(rt: HostRuntime) -> Result<(), Fail> {
-    let Ok(text) = String::from_str(rt.alloc(), ACCEPTED) else {
-        return tell_early(&rt);
-    };
-    check_accepted(&rt, Schedule::try_from_cow(rt.alloc(), CowStr::Owned(text)))
-}
-
-#[test]
-fn try_from_owned_cow_refuses(rt: HostRuntime) -> Result<(), Fail> {
-    let Ok(text) = String::from_str(rt.alloc(), REFUSED) else {
-        return tell_early(&rt);
-    };
-    check_refused(&rt, Schedule::try_from_cow(rt.alloc(), CowStr::Owned(text)))
-}
-
-#[test]
-fn from_value_accepts(rt: HostRuntime) -> Result<(), Fail> {
-    let Ok(text) = String::from_str(rt.alloc(), ACCEPTED) else {
-        return tell_early(&rt);
-    };
-    check_accepted(&rt, Schedule::from_value(rt.alloc(), &Value::String(text)))
-}
-
-#[test]
-fn from_value_refuses(rt: HostRuntime) -> Result<(), Fail> {
-    let Ok(text) = String::from_str(rt.alloc(), REFUSED) else {
-        return tell_early(&rt);
-    };
-    check_refused(&rt, Schedule::from_value(rt.alloc(), &Value::String(text)))
+fn views(rt: &HostRuntime, schedule: &Schedule) -> Result<(), Error> {
+    println!(rt; "seconds: {}", schedule.seconds().count())?;
+    println!(rt; "minutes: {}", schedule.minutes().includes(30))?;
+    println!(rt; "hours: {}", schedule.hours().iter().count())?;
+    let days = schedule.days_of_month();
+    let last_days = days.range((Bound::Included(2), Bound::Unbounded)).count();
+    println!(rt; "days_of_month: {last_days}")?;
+    println!(rt; "last_day: {}", days.last_day())?;
+    println!(rt; "months: {}", schedule.months().is_all())?;
+    println!(rt;
+        "days_of_week: {}",
+        schedule.days_of_week().iter().rev().count()
+    )?;
+    println!(rt; "years: {}", schedule.years().count())?;
+    Ok(())
 }

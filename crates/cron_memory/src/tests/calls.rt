@@ -1,6 +1,6 @@
 //! The calls of a schedule and of a walk.
 
-use crate::support::{ACCEPTED, is_accepted, is_memory, tell, tell_early};
+use super::support::{ACCEPTED, is_accepted, is_memory, tell, tell_early};
 use cron::Schedule;
 use cron::error::{Error, ErrorKind};
 use cron::schedule::{Moment, Turn};

@@ -1,6 +1,6 @@
 //! The calls of the checker of lines.
 
-use crate::support::{ACCEPTED, is_accepted, tell, tell_early};
+use super::support::{ACCEPTED, is_accepted, tell, tell_early};
 use cron::Schedule;
 use cron_checking::check::{Outcome, check};
 use cron_checking::line::Mode;

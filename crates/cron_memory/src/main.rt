@@ -1,11 +1,13 @@
-//! Calls that take no memory, one after another, with a line after each. `tools/count_growths` counts
-//! the growths between the lines.
+//! The program makes calls that take no memory, one after another, with a line after each:
+//! `tools/count_growths` counts the growths between the lines. The tests make calls that take memory.
 #![tactic(auto)]
 
 mod fires;
 mod lines;
 mod readers;
 mod searches;
+#[cfg(test)]
+mod tests;
 mod walks;
 
 use anyhow::Error;

@@ -1,12 +1,7 @@
 //! Each call that takes memory, made once where memory may run out: it gives the right answer, or says
 //! that it is out of memory and changes nothing. `tools/refuse_memory` refuses each growth in turn.
-#![tactic(auto)]
 
-#[cfg(test)]
 mod calls;
-#[cfg(test)]
 mod checks;
-#[cfg(test)]
 mod readers;
-#[cfg(test)]
 mod support;
