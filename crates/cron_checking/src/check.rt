@@ -119,8 +119,8 @@ fn tell_lines<R: Readable, W: Watchable>(
     Outcome::Unreadable
 }
 
-/// The line that tells why a check ended, where no report tells it: of out of memory, and of a reader
-/// that failed. Else it is empty.
+/// The line that tells why a check ended where no report tells it: memory ran out, or the reader
+/// failed. Else it is empty.
 pub fn closing_line(end: Outcome) -> &'static str
     ensures { result.now ≡ closing_line end }
 {

@@ -157,9 +157,9 @@ pub fn refuse<W: Watchable>(out: &mut Watched<W>, line: &str) -> Outcome
 
 /// Writes a line for each of the first `count` items of the expression after the start, or before
 /// it where `back` says so, and flushes. A refused expression is told by one line. It takes memory
-/// in the reading alone, so a list that was begun never ends out of memory. The list is a walk's.
-/// One that is begun in a fold may leave out items after the start, or begin with the start itself or an
-/// instant before it, and with `back` the other way round.
+/// in the reading alone, so a list that was begun doesn't end for lack of memory. The list is a
+/// walk's. One that is begun in a fold may leave out items after the start, or begin with the start
+/// itself or an instant before it, and with `back` the other way round.
 ///
 /// Whole lines are handed to the writer together, up to 4,096 bytes a call, and the last of them
 /// before the flush. So who reads sees a short list at once, and a long one in blocks. The line of a
