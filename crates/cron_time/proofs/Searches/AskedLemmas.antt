@@ -1,5 +1,5 @@
 -- How many questions for a member are asked.
-use Rattle.std.proofs.Common.{◌≡◌, ℕ, ◌+◌, ◌-◌, ◌*◌, ◌/◌, ◌%◌, ◌<◌, Bool, pos, Option, Some, None, ap, subst, ◌∙◌, ◌⊎◌, inl, inr, arith}
+use Rattle.std.proofs.Common.{◌≡◌, ℕ, ◌+◌, ◌-◌, ◌*◌, ◌/◌, ◌%◌, ◌<◌, Bool, pos, Option, Some, None, ap, sym, subst, ◌∙◌, ◌⊎◌, inl, inr, arith}
 use Rattle.std.proofs.lemmas.Bool.{both_ways}
 use Rattle.jiff_core.proofs.SignedLemmas.{signed_arith}
 use Rattle.cron_units.specs.declared.way.Way.{Way}
@@ -7,43 +7,55 @@ use Rattle.cron_units.specs.declared.way.Way.TheVariants.{Ahead, Back}
 use Rattle.cron_units.specs.Nearest.{LiesFrom}
 use Rattle.cron_time.specs.Search.Inner.Blocks.{AllFail}
 use Rattle.cron_time.specs.Search.Inner.Filled.{HasOne}
-use Rattle.cron_time.specs.Search.Inner.Inquired.{Inquired, one_conversion, one_day, IsSame, LooksAlone, Asks, AsksFor, AsksPast, outermost}
+use Rattle.cron_time.specs.Search.Inner.Inquired.{Inquired, one_conversion, one_day, IsSame}
+use Rattle.cron_time.specs.Search.Inner.Questions.{Joins, AsksFor, AsksPast, outermost}
 use Rattle.cron_time.proofs.Searches.BlockLemmas.{div_of, mod_of}
 
--- a single unit asks once
-pub one_asked : (parts : ℕ) (found : Option ℕ) (old new : ℕ) → parts ≡ 1 → AsksFor parts found old new → Asks 1 old new
-one_asked parts None old new e h =
-    let n = h.is_count in let one : h.count ≡ 1 = omega (arith, n) in rw (← one) h.asks
-one_asked parts (Some k) old new e h =
-    let n = h.is_count in let one : h.count ≡ 1 = omega (arith, n) in rw (← one) h.asks
+-- of a single unit one question is counted
+pub one_asked : {C : Type 0} (Counts : ℕ → C → C → Type 0) (parts : ℕ) (found : Option ℕ) (old new : C) → parts ≡ 1 → AsksFor Counts parts found old new
+    → Counts 1 old new
+one_asked Counts parts None old new e h =
+    let n = h.is_count in let one : h.count ≡ 1 = omega (arith, n) in subst (λ m. Counts m old new) one h.asks
+one_asked Counts parts (Some k) old new e h =
+    let n = h.is_count in let one : h.count ≡ 1 = omega (arith, n) in subst (λ m. Counts m old new) one h.asks
 
-pub asks_on : (m n a b c : ℕ) → Asks m a b → Asks n b c → Asks (m + n) a c
-asks_on m n a b c h k = omega (arith, h, k)
+-- that is the count of a search of more units too, where it finds none
+pub asked_out : {C : Type 0} (Counts : ℕ → C → C → Type 0) (parts inner : ℕ) (found : Option ℕ) (a b : C) → parts ≡ 1 → AsksFor Counts parts found a b
+    → AsksFor Counts (inner + 1) None a b
+asked_out Counts parts inner found a b e h =
+    record { count = 1; asks = one_asked Counts parts found a b e h; is_count = (omega arith, omega arith) }
 
 -- an outer unit, and the inner ones from there
-pub asked_first : (parts n k a b c : ℕ) → Asks 1 a b → AsksFor parts (Some n) b c → AsksFor (parts + 1) (Some k) a c
-asked_first parts n k a b c h i =
-    let m = i.is_count in record { count = 1 + i.count; asks = asks_on 1 i.count a b c h i.asks; is_count = (omega (arith, m), omega (arith, m)) }
+pub asked_all : {C : Type 0} (Counts : ℕ → C → C → Type 0) → Joins Counts → (parts : ℕ) (a b c : C) → Counts 1 a b → Counts parts b c → Counts (parts + 1) a c
+asked_all Counts join parts a b c h i = let e : 1 + parts ≡ parts + 1 = omega arith in subst (λ n. Counts n a c) e (join 1 parts a b c h i)
 
-pub asked_none : (parts a b c : ℕ) → Asks 1 a b → AsksFor parts None b c → AsksFor (parts + 1) None a c
-asked_none parts a b c h i =
-    let m = i.is_count in record { count = 1 + i.count; asks = asks_on 1 i.count a b c h i.asks; is_count = (omega (arith, m), omega (arith, m)) }
+pub asked_first : {C : Type 0} (Counts : ℕ → C → C → Type 0) → Joins Counts → (parts n k : ℕ) (a b c : C) → Counts 1 a b
+    → AsksFor Counts parts (Some n) b c → AsksFor Counts (parts + 1) (Some k) a c
+asked_first Counts join parts n k a b c h i =
+    let m = i.is_count in record { count = 1 + i.count; asks = join 1 i.count a b c h i.asks; is_count = (omega (arith, m), omega (arith, m)) }
+
+asked_none : {C : Type 0} (Counts : ℕ → C → C → Type 0) → Joins Counts → (parts : ℕ) (a b c : C) → Counts 1 a b → AsksFor Counts parts None b c
+    → AsksFor Counts (parts + 1) None a c
+asked_none Counts join parts a b c h i =
+    let m = i.is_count in record { count = 1 + i.count; asks = join 1 i.count a b c h i.asks; is_count = (omega (arith, m), omega (arith, m)) }
 
 -- and then past the block of the outer number
-pub asked_past : (parts : ℕ) (found : Option ℕ) (a b c d : ℕ) → Asks 1 a b → AsksFor parts None b c → AsksPast parts found c d → AsksFor (parts + 1) found a d
-asked_past parts None a b c d h i (inl e) = rw e (asked_none parts a b c h i)
-asked_past parts None a b c d h i (inr j) =
+pub asked_past : {C : Type 0} (Counts : ℕ → C → C → Type 0) → Joins Counts → (parts : ℕ) (found : Option ℕ) (a b c d : C) → Counts 1 a b
+    → AsksFor Counts parts None b c → AsksPast Counts parts found c d → AsksFor Counts (parts + 1) found a d
+asked_past Counts join parts None a b c d h i (inl e) =
+    subst (λ last. AsksFor Counts (parts + 1) None a last) (sym e) (asked_none Counts join parts a b c h i)
+asked_past Counts join parts None a b c d h i (inr j) =
     let m = i.is_count in
     record {
       count = 1 + i.count + 1;
-      asks = asks_on (1 + i.count) 1 a c d (asks_on 1 i.count a b c h i.asks) j;
+      asks = join (1 + i.count) 1 a c d (join 1 i.count a b c h i.asks) j;
       is_count = (omega (arith, m), omega (arith, m));
     }
-asked_past parts (Some k) a b c d h i j =
+asked_past Counts join parts (Some k) a b c d h i j =
     let m = i.is_count in
     record {
       count = 1 + i.count + (1 + parts);
-      asks = asks_on (1 + i.count) (1 + parts) a c d (asks_on 1 i.count a b c h i.asks) j;
+      asks = join (1 + i.count) (1 + parts) a c d (join 1 i.count a b c h i.asks) j;
       is_count = (omega (arith, m), omega (arith, m));
     }
 
@@ -76,18 +88,7 @@ pub start_outermost : (way : Way) (limit w from start : ℕ) → 0 < limit → 0
 start_outermost way limit w from start positive wide at (inl e) = e ∙ ap (λ n. n % w) at ∙ (outermost_parts way limit w positive wide).1
 start_outermost way limit w from start positive wide at (inr e) = e
 
--- looks one after another
-pub looks_on : (a b c : Inquired) → LooksAlone a b → LooksAlone b c → LooksAlone a c
-looks_on a b c h k = record {
-  sets = k.sets ∙ h.sets;
-  zone = k.zone ∙ h.zone;
-  days = k.days ∙ h.days;
-  conversions = k.conversions ∙ h.conversions;
-}
-
-pub looks_same : (a b : Inquired) → LooksAlone a b → IsSame a b
-looks_same a b h = record { sets = h.sets; zone = h.zone }
-
+-- what is asked stays the same over two steps
 pub same_on : (a b c : Inquired) → IsSame a b → IsSame b c → IsSame a c
 same_on a b c h k = record { sets = k.sets ∙ h.sets; zone = k.zone ∙ h.zone }
 

@@ -15,7 +15,7 @@ use Rattle.cron_time.specs.Matches.{matches_date}
 use Rattle.cron_time.specs.Search.{has_item, items_of, stands, IsFound}
 use Rattle.cron_time.specs.Search.Inner.Blocks.{Enters, IsExtreme, IsSplit, Reaches, left_to_reach}
 use Rattle.cron_time.specs.Search.Inner.DaySearch.{FindsInDay}
-use Rattle.cron_time.specs.Search.Inner.Inquired.{outermost}
+use Rattle.cron_time.specs.Search.Inner.Questions.{outermost}
 use Rattle.cron_time.specs.Search.Inner.MonthDays.{matching_day}
 use Rattle.cron_time.specs.Search.Inner.Numbers.{beyond, beyond_day, matches_second, stands_at}
 use Rattle.cron_time.proofs.Searches.BlockLemmas.{BlockFails, block_fails, block_found}

@@ -19,7 +19,7 @@ use Rattle.cron_moments.proofs.MarchLemmas.{IsMade, lacking_at, made_from, numbe
 use Rattle.cron_moments.proofs.NumberLemmas.{number_is, weekday_by_number}
 use Rattle.cron_time.specs.Search.Inner.Blocks.{IsSplit, Reaches, AllFail}
 use Rattle.cron_time.specs.Search.Inner.Days.{day_rank, has_number, number_of, IsInRange}
-use Rattle.cron_time.specs.Search.Inner.Inquired.{outermost}
+use Rattle.cron_time.specs.Search.Inner.Questions.{outermost}
 use Rattle.cron_time.specs.Search.Inner.MonthDays.{AreDaysOf, KnowsDays, has_matching, matches_ranked, matches_weekday, matching_day}
 use Rattle.cron_time.specs.Search.Inner.Numbers.{beyond, beyond_block, matches_day, matches_month, matches_rank}
 use Rattle.cron_time.specs.Matches.{has_day, matches_date}

@@ -261,10 +261,6 @@ adds_more limit P Q old mid new h e t = record { count = h.count + 1; is = omega
 pub adds_as : (limit more : ℕ) (P Q : ℕ → Type 0) (old mid new : ℕ) (h : Adds limit P mid new) → mid ≡ old → IsTally more Q h.count → Adds more Q old new
 adds_as limit more P Q old mid new h e t = record { count = h.count; is = omega (arith, h.is, e); tally = t }
 
--- a count that stayed from there on
-pub adds_to : (limit : ℕ) (P : ℕ → Type 0) (old mid new : ℕ) (h : Adds limit P old mid) → new ≡ mid → Adds limit P old new
-adds_to limit P old mid new h e = record { count = h.count; is = omega (arith, h.is, e); tally = h.tally }
-
 -- two counts one after the other
 pub adds_on : (limit : ℕ) (P Q R : ℕ → Type 0) (old mid new : ℕ) (h : Adds limit P old mid) (k : Adds limit Q mid new)
     → IsTally limit R (h.count + k.count) → Adds limit R old new

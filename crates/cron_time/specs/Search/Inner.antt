@@ -5,6 +5,8 @@ pub mod Tally
 pub mod DaySearch
 pub mod Starts
 pub mod Inquired
+pub mod Members
+pub mod Questions
 pub mod Filled
 pub mod MonthDays
 pub mod LeapDays

@@ -8,7 +8,7 @@ ghost use Rattle.cron_time.specs.Search.Inner.MonthDays.{KnowsDays};
 ghost use Rattle.cron_time.specs.Search.Inner.Numbers.{beyond, beyond_block, matches_second, way_of};
 
 use crate::search::days::some_month_has_a_day;
-use crate::search::inquiry::Inquiry;
+use crate::search::members::Members;
 use crate::search::month_days::MonthDays;
 use crate::search::neighbours::{Neighbours, TimesOfDay, time_past};
 use crate::search::start_of;
@@ -17,7 +17,6 @@ use cron_moments::calendar::KnownMonth;
 use cron_moments::civil::SECONDS_PER_DAY;
 use cron_units::fields::ScheduleFields;
 use cron_units::way::Way;
-use jiff::tz::TimeZone;
 
 // The nearest time of day from one on.
 #[inline(always)]
@@ -26,9 +25,8 @@ fn time_from(fields: &ScheduleFields, way: Way, from: u32) -> Option<u32>
     ensures nearest { IsNearest way (matches_second fields.now) (pos from) result }
     ensures bound { IfSome result (λ n. n < 86_400) }
 {
-    let zone = TimeZone::UTC;
-    let mut inquiry = Inquiry::new(fields, &zone);
-    TimesOfDay::nearest(&mut inquiry, way, from)
+    let members = Members::of(fields);
+    TimesOfDay::nearest(&members, way, from)
 }
 
 // The nearest time of day past one.
@@ -39,9 +37,8 @@ fn time_after(fields: &ScheduleFields, way: Way, time: u32) -> Option<u32>
     ensures nearest { IsNearest way (matches_second fields.now) (beyond way time) result }
     ensures bound { IfSome result (λ n. n < 86_400) }
 {
-    let zone = TimeZone::UTC;
-    let mut inquiry = Inquiry::new(fields, &zone);
-    time_past(&mut inquiry, way, time)
+    let members = Members::of(fields);
+    time_past(&members, way, time)
 }
 
 // The nearest match in the days past one whose date matches. `BACK` says the way once more, so that each has
@@ -107,9 +104,8 @@ pub fn nearest_match(fields: &ScheduleFields, way: Way, from: i64) -> Option<u32
     ensures bound { IfSome result (λ n. n < seconds_in_range) }
 {
     let start = start_of(way, from)?;
-    let zone = TimeZone::UTC;
-    let mut inquiry = Inquiry::new(fields, &zone);
-    if !some_month_has_a_day(&mut inquiry) {
+    let members = Members::of(fields);
+    if !some_month_has_a_day(&members) {
         return None;
     }
     let mut days = MonthDays::unknown(KnownMonth::january_1970());

@@ -4,14 +4,12 @@ ghost use Rattle.cron_units.specs.Nearest.{IsNearest};
 ghost use Rattle.cron_moments.specs.Civil.{seconds_in_range};
 ghost use Rattle.cron_moments.specs.CivilDates.{date_numbered};
 ghost use Rattle.cron_time.specs.Search.Inner.Days.{day_rank, has_number, IsInRange, longest};
-ghost use Rattle.cron_time.specs.Search.Inner.Inquired.{LooksAlone};
 ghost use Rattle.cron_time.specs.Search.Inner.Numbers.{beyond, matches_day, matches_month, matches_rank};
 ghost use Rattle.cron_moments.specs.Calendar.{length_of, rank_of_date, first_month, months_end};
 
-use crate::search::inquiry::{Inquiry, Unit};
-use crate::search::neighbours::{
-    Months, MonthsOfYear, Neighbours, Years, nearest_past, past_in_parts,
-};
+use crate::search::members::{Members, Unit};
+use crate::search::months::{Months, MonthsOfYear, Years};
+use crate::search::neighbours::{Neighbours, nearest_past, past_in_parts};
 use crate::search::ways::entry;
 use cron_moments::calendar::{KnownMonth, SHORTEST, length_of};
 use cron_moments::civil::SECONDS_PER_DAY;
@@ -46,52 +44,49 @@ fn longest_month(month: u32) -> u32
 }
 
 /// Whether some month of the set has the least day of the set in some year. Each month has a last day.
-pub(crate) fn some_month_has_a_day(inquiry: &mut Inquiry<'_>) -> bool
-    ensures none { result ≡ false → (p : ℕ) → matches_rank inquiry.old.sets p ≡ false }
-    ensures same { LooksAlone inquiry.old inquiry.new }
+pub(crate) fn some_month_has_a_day(members: &Members<'_>) -> bool
+    ensures { result ≡ false → (p : ℕ) → matches_rank members.now p ≡ false }
 {
-    if inquiry.takes_last_day() {
+    if members.takes_last_day() {
         return true;
     }
-    let Some(least) = inquiry.member(Unit::Day, Way::Ahead, 0) else {
+    let Some(least) = members.nearest(Unit::Day, Way::Ahead, 0) else {
         return false;
     };
     if least <= 29 {
         return true;
     }
-    let mut next = inquiry.member(Unit::Month, Way::Ahead, 0);
+    let mut next = members.nearest(Unit::Month, Way::Ahead, 0);
     while let Some(month) = next {
         if least <= longest_month(month) {
             return true;
         }
-        next = inquiry.member(Unit::Month, Way::Ahead, month + 1);
+        next = members.nearest(Unit::Month, Way::Ahead, month + 1);
     }
     false
 }
 
 /// The nearest one past a month that lies in the sets: first in its own year, which isn't asked for.
 #[inline(always)]
-pub(crate) fn month_past(inquiry: &mut Inquiry<'_>, way: Way, month: u32) -> Option<u32>
+pub(crate) fn month_past(members: &Members<'_>, way: Way, month: u32) -> Option<u32>
     requires range { (first_month ≤ month) × (month < months_end) }
-    requires matching { matches_month inquiry.old.sets month ≡ true }
-    ensures nearest { IsNearest way (matches_month inquiry.old.sets) (beyond way month) result }
+    requires matching { matches_month members.now month ≡ true }
+    ensures nearest { IsNearest way (matches_month members.now) (beyond way month) result }
     ensures bound { IfSome result (λ n. (first_month ≤ n) × (n < months_end)) }
-    ensures same { LooksAlone inquiry.old inquiry.new }
 {
-    let rest = nearest_past::<MonthsOfYear>(inquiry, way, month % 12);
-    past_in_parts::<Years, MonthsOfYear>(inquiry, way, 12, month, rest)
+    let rest = nearest_past::<MonthsOfYear>(members, way, month % 12);
+    past_in_parts::<Years, MonthsOfYear>(members, way, 12, month, rest)
 }
 
 // The nearest day of a month whose number lies in the set. The length of the month matters for the
 // last numbers alone.
 #[inline(always)]
-fn numbered_day(inquiry: &mut Inquiry<'_>, way: Way, month: u32, from: u32) -> Option<u32>
+fn numbered_day(members: &Members<'_>, way: Way, month: u32, from: u32) -> Option<u32>
     requires { month < months_end }
-    ensures nearest { IsNearest way (has_number inquiry.old.sets.days_of_month.ordinals (length_of month)) (pos from) result }
+    ensures nearest { IsNearest way (has_number members.now.days_of_month.ordinals (length_of month)) (pos from) result }
     ensures bound { IfSome result (λ n. (1 ≤ n) × (n ≤ length_of month)) }
-    ensures same { LooksAlone inquiry.old inquiry.new }
 {
-    let day = inquiry.member(Unit::Day, way, from)?;
+    let day = members.nearest(Unit::Day, way, from)?;
     if day <= SHORTEST {
         return Some(day);
     }
@@ -101,7 +96,7 @@ fn numbered_day(inquiry: &mut Inquiry<'_>, way: Way, month: u32, from: u32) -> O
     }
     match way {
         Way::Ahead => None,
-        Way::Back => inquiry.member(Unit::Day, way, last),
+        Way::Back => members.nearest(Unit::Day, way, last),
     }
 }
 
@@ -127,14 +122,13 @@ fn with_last_day(way: Way, last: u32, from: u32, numbered: Option<u32>) -> Optio
 
 // The nearest day of the month that lies in its set.
 #[inline(always)]
-fn day_of_month(inquiry: &mut Inquiry<'_>, way: Way, month: u32, from: u32) -> Option<u32>
+fn day_of_month(members: &Members<'_>, way: Way, month: u32, from: u32) -> Option<u32>
     requires { month < months_end }
-    ensures nearest { IsNearest way (matches_day inquiry.old.sets month) (pos from) result }
+    ensures nearest { IsNearest way (matches_day members.now month) (pos from) result }
     ensures bound { IfSome result (λ n. (1 ≤ n) × (n ≤ 31)) }
-    ensures same { LooksAlone inquiry.old inquiry.new }
 {
-    let numbered = numbered_day(inquiry, way, month, from);
-    if inquiry.takes_last_day() {
+    let numbered = numbered_day(members, way, month, from);
+    if members.takes_last_day() {
         return with_last_day(way, length_of(month), from, numbered);
     }
     numbered
@@ -142,45 +136,38 @@ fn day_of_month(inquiry: &mut Inquiry<'_>, way: Way, month: u32, from: u32) -> O
 
 // The nearest day from one on, of the months from the first one that lies in the sets.
 #[inline(always)]
-fn nearest_in_months(
-    inquiry: &mut Inquiry<'_>,
-    way: Way,
-    from: Day,
-    first: Option<u32>,
-) -> Option<Day>
+fn nearest_in_months(members: &Members<'_>, way: Way, from: Day, first: Option<u32>) -> Option<Day>
     requires day { from.day < 100 }
-    requires first { IsNearest way (matches_month inquiry.old.sets) (pos from.month) first }
+    requires first { IsNearest way (matches_month members.now) (pos from.month) first }
     requires bound { IfSome first (λ n. (first_month ≤ n) × (n < months_end)) }
     ensures nearest { IsNearest way
-        (matches_rank inquiry.old.sets)
+        (matches_rank members.now)
         (pos (day_rank from))
         (option_map day_rank result) }
     ensures range { IfSome result IsInRange }
-    ensures same { LooksAlone inquiry.old inquiry.new }
 {
     let mut next = first;
     while let Some(month) = next {
         let start = entry(way, 100, from.month, from.day, month);
-        if let Some(day) = day_of_month(inquiry, way, month, start) {
+        if let Some(day) = day_of_month(members, way, month, start) {
             return Some(Day { month, day });
         }
-        next = month_past(inquiry, way, month);
+        next = month_past(members, way, month);
     }
     None
 }
 
 /// The nearest day whose year, month and day of the month lie in their sets.
-pub(crate) fn nearest_day(inquiry: &mut Inquiry<'_>, way: Way, from: Day) -> Option<Day>
+pub(crate) fn nearest_day(members: &Members<'_>, way: Way, from: Day) -> Option<Day>
     requires { IsInRange from }
     ensures nearest { IsNearest way
-        (matches_rank inquiry.old.sets)
+        (matches_rank members.now)
         (pos (day_rank from))
         (option_map day_rank result) }
     ensures range { IfSome result IsInRange }
-    ensures same { LooksAlone inquiry.old inquiry.new }
 {
-    let first = Months::nearest(inquiry, way, from.month);
-    nearest_in_months(inquiry, way, from, first)
+    let first = Months::nearest(members, way, from.month);
+    nearest_in_months(members, way, from, first)
 }
 
 // The rank past that of a day.
@@ -206,15 +193,14 @@ fn rank_past(way: Way, day: Day) -> Day
 
 /// The nearest one past a day whose year and month lie in their sets: they aren't asked for.
 #[inline(always)]
-pub(crate) fn day_past(inquiry: &mut Inquiry<'_>, way: Way, day: Day) -> Option<Day>
+pub(crate) fn day_past(members: &Members<'_>, way: Way, day: Day) -> Option<Day>
     requires range { IsInRange day }
-    requires matching { matches_month inquiry.old.sets day.month ≡ true }
+    requires matching { matches_month members.now day.month ≡ true }
     ensures nearest { IsNearest way
-        (matches_rank inquiry.old.sets)
+        (matches_rank members.now)
         (beyond way (day_rank day))
         (option_map day_rank result) }
     ensures range { IfSome result IsInRange }
-    ensures same { LooksAlone inquiry.old inquiry.new }
 {
-    nearest_in_months(inquiry, way, rank_past(way, day), Some(day.month))
+    nearest_in_months(members, way, rank_past(way, day), Some(day.month))
 }

@@ -1,40 +1,29 @@
 //! What a search asks, and how often.
-ghost use Rattle.std.specs.Prelude.{◌≡◌, ◌+◌, ◌^◌, ◌<◌, ◌≤◌, pos, IfSome, MatchOption, true, false};
+ghost use Rattle.std.specs.Prelude.{◌≡◌, ◌^◌, ◌<◌, ◌≤◌, MatchOption, true, false};
 ghost use Rattle.jiff.specs.Words.{plain_zone};
-ghost use Rattle.cron_units.specs.Nearest.{IsNearest};
 ghost use Rattle.cron_units.specs.Units.{contains};
 ghost use Rattle.cron_moments.specs.Civil.{seconds_in_range};
 ghost use Rattle.cron_moments.specs.CivilDates.{date_numbered};
 ghost use Rattle.cron_moments.specs.Found.{items_if_any};
-ghost use Rattle.cron_time.specs.Search.Inner.Inquired.{Inquired, unasked, one_day, one_conversion, one_question, members, unit_of};
+ghost use Rattle.cron_time.specs.Search.Inner.Inquired.{Inquired, unasked, one_day, one_conversion};
 ghost use Rattle.cron_moments.specs.Calendar.{day_number, length_of, first_month, months_end};
 ghost use Rattle.cron_moments.specs.Calendar.{weekday_number};
 ghost use Rattle.cron_moments.specs.Readings.{readings};
 ghost use Rattle.cron_clocks.specs.Steady.{IsKnown};
 
+use crate::search::members::Members;
 use crate::search::reading::readings_within;
 use cron_clocks::stretch::Stretch;
 use cron_moments::calendar::{KnownMonth, weekday_of};
 use cron_moments::readings::Found;
 use cron_units::fields::ScheduleFields;
-use cron_units::way::Way;
 use jiff::tz::TimeZone;
 use std::marker::Model;
 
-/// The units that a search looks for members of.
-#[derive(Clone, Copy)]
-pub(crate) enum Unit {
-    Second,
-    Minute,
-    Hour,
-    Day,
-    Month,
-    Year,
-}
-
-/// The sets and the zone that a search asks, and how often it has asked. No two public calls share
-/// one. Its methods alone ask, and each raises its own count by one. It knows the month of the date that
-/// was made last, and the stretch of civil seconds, at first an empty one, in which it looked for a reading last.
+/// The sets and the zone that a counted search asks, and how often it has asked. No two public calls share
+/// one. Its methods alone make dates and ask the zone, and each raises its own count by one. It knows the month
+/// of the date that was made last, and the stretch of civil seconds, at first an empty one, in which it looked
+/// for a reading last.
 #[derive(Drop)]
 pub(crate) struct Inquiry<'a> {
     fields: &'a ScheduleFields,
@@ -43,7 +32,6 @@ pub(crate) struct Inquiry<'a> {
     stretch: Stretch,
     days: u64,
     conversions: u64,
-    questions: u64,
 }
 
 impl<'a> Model for Inquiry<'a> {
@@ -57,7 +45,6 @@ impl<'a> Model for Inquiry<'a> {
       zone = plain_zone i.zone.now;
       days = i.days;
       conversions = i.conversions;
-      questions = i.questions;
     } };
 
     ghost use Rattle.cron_clocks.specs.Steady.{IsKnown};
@@ -78,8 +65,15 @@ impl<'a> Inquiry<'a> {
             stretch: Stretch::empty(),
             days: 0,
             conversions: 0,
-            questions: 0,
         }
+    }
+
+    /// The sets, as far as members of theirs are asked for. That isn't counted.
+    #[inline(always)]
+    pub(crate) fn members(&self) -> Members<'a>
+        ensures { result ≡ self.now.sets }
+    {
+        Members::of(self.fields)
     }
 
     /// The month of the date that was made last.
@@ -100,40 +94,6 @@ impl<'a> Inquiry<'a> {
         ensures { result ≡ self.now.conversions }
     {
         self.conversions
-    }
-
-    /// The questions for a neighbouring member, counted from 0 again after 2^64.
-    pub(crate) fn questions(&self) -> u64
-        ensures { result ≡ self.now.questions }
-    {
-        self.questions
-    }
-
-    /// Asks for the member of a unit's set that is nearest to a number.
-    #[inline(always)]
-    pub(crate) fn member(&mut self, unit: Unit, way: Way, from: u32) -> Option<u32>
-        ensures nearest { IsNearest way (contains (members unit self.old.sets)) (pos from) result }
-        ensures bound { IfSome result (λ n. ((unit_of unit).least ≤ n) × (n ≤ (unit_of unit).greatest)) }
-        ensures counted { self.new ≡ one_question self.old }
-    {
-        self.questions = self.questions.wrapping_add(1);
-        match unit {
-            Unit::Second => self.fields.nearest_second(way, from),
-            Unit::Minute => self.fields.nearest_minute(way, from),
-            Unit::Hour => self.fields.nearest_hour(way, from),
-            Unit::Day => self.fields.nearest_day(way, from),
-            Unit::Month => self.fields.nearest_month(way, from),
-            Unit::Year => self.fields.nearest_year(way, from),
-        }
-    }
-
-    /// Tells whether the last day of each month is one of the days, besides the numbered ones.
-    #[inline(always)]
-    pub(crate) fn takes_last_day(&self) -> bool
-        ensures { result ≡ self.now.sets.days_of_month.last_day }
-    {
-        let fields = self.fields;
-        fields.days_of_month.last_day()
     }
 
     /// Makes the date of a day of a month, and tests whether its weekday lies in its set: the number of the day.

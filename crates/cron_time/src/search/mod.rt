@@ -17,14 +17,17 @@ ghost use Rattle.cron_time.specs.Search.{IsFound};
 
 pub mod answers;
 pub mod civil_seconds;
+mod counter;
 pub(crate) mod days;
 pub(crate) mod inquiry;
 mod leap_days;
+pub(crate) mod members;
 pub mod month_days;
+mod months;
 mod neighbours;
 pub mod onward;
 mod readable;
-mod reading;
+pub(crate) mod reading;
 pub mod survey;
 pub mod times;
 mod ways;
@@ -75,7 +78,7 @@ pub(crate) fn search_times(
         if found.is_some() {
             return found;
         }
-        next = time_past(inquiry, way, time);
+        next = time_past(&inquiry.members(), way, time);
     }
     None
 }
@@ -111,7 +114,7 @@ fn search_day(inquiry: &mut Inquiry<'_>, way: Way, start: u32, day: Day) -> Opti
         start % SECONDS_PER_DAY,
         number,
     );
-    let first = TimesOfDay::nearest(inquiry, way, from);
+    let first = TimesOfDay::nearest(&inquiry.members(), way, from);
     search_times(inquiry, way, number, from, first)
 }
 
@@ -140,7 +143,7 @@ pub(crate) fn search_candidates<const BACK: bool>(
         if found.is_some() {
             return found;
         }
-        next = day_past(inquiry, way, day);
+        next = day_past(&inquiry.members(), way, day);
     }
     None
 }
@@ -154,10 +157,11 @@ fn search_days<const BACK: bool>(inquiry: &mut Inquiry<'_>, way: Way, start: u32
     requires room { inquiry.old.conversions < 2 ^ 60 }
     ensures { Searches way start result inquiry.old inquiry.new }
 {
-    if !some_month_has_a_day(inquiry) {
+    let members = inquiry.members();
+    if !some_month_has_a_day(&members) {
         return None;
     }
-    let first = nearest_day(inquiry, way, day_with(inquiry.month(), start));
+    let first = nearest_day(&members, way, day_with(inquiry.month(), start));
     search_candidates::<BACK>(inquiry, way, start, first)
 }
 

@@ -14,15 +14,16 @@ ghost use Rattle.cron_moments.specs.Civil.{days_in_range};
 ghost use Rattle.cron_moments.specs.CivilDates.{date_numbered};
 ghost use Rattle.cron_time.specs.Matches.{matches_date};
 ghost use Rattle.cron_time.specs.Search.Inner.Days.{day_rank, IsInRange};
-ghost use Rattle.cron_time.specs.Search.Inner.Inquired.{outermost};
+ghost use Rattle.cron_time.specs.Search.Inner.Questions.{outermost};
 ghost use Rattle.cron_time.specs.Search.Inner.MonthDays.{AreDaysOf, KnowsDays, LeadsOn, matches_ranked, matching_day};
 ghost use Rattle.cron_time.specs.Search.Inner.Numbers.{beyond, beyond_block, matches_day, matches_month, way_of};
 
 use crate::matching::includes_each_date;
 use crate::search::days::{Day, month_past};
-use crate::search::inquiry::Inquiry;
 use crate::search::leap_days::{leap_february, wants_leap_days};
-use crate::search::neighbours::{Months, Neighbours};
+use crate::search::members::Members;
+use crate::search::months::Months;
+use crate::search::neighbours::Neighbours;
 use crate::search::ways::{entry, past_below};
 use cron_bits::words::Words;
 use cron_moments::calendar::{KnownMonth, SHORTEST, length_of};
@@ -30,7 +31,6 @@ use cron_units::fields::ScheduleFields;
 use cron_units::time_unit::TimeUnitSpec;
 use cron_units::time_unit::layout::{bits, bits_of_days};
 use cron_units::way::Way;
-use jiff::tz::TimeZone;
 
 /// The end of the days of the range.
 const DAYS: u32 = 47_847;
@@ -112,12 +112,11 @@ fn next_month(fields: &ScheduleFields, way: Way, month: u32) -> Option<u32>
     if beside.is_some() {
         return beside;
     }
-    let zone = TimeZone::UTC;
-    let mut inquiry = Inquiry::new(fields, &zone);
+    let members = Members::of(fields);
     if wants_leap_days(fields) {
-        return Months::nearest(&mut inquiry, way, leap_february(way, month));
+        return Months::nearest(&members, way, leap_february(way, month));
     }
-    month_past(&mut inquiry, way, month)
+    month_past(&members, way, month)
 }
 
 // The nearest month from one on that lies in the sets. It asks no zone.
@@ -127,9 +126,8 @@ fn wanted_month(fields: &ScheduleFields, way: Way, month: u32) -> Option<u32>
     ensures nearest { IsNearest way (matches_month fields.now) (pos month) result }
     ensures bound { IfSome result (λ n. (first_month ≤ n) × (n < months_end)) }
 {
-    let zone = TimeZone::UTC;
-    let mut inquiry = Inquiry::new(fields, &zone);
-    Months::nearest(&mut inquiry, way, month)
+    let members = Members::of(fields);
+    Months::nearest(&members, way, month)
 }
 
 // The nearest bit from a place on.

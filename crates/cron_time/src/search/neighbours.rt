@@ -3,11 +3,11 @@ ghost use Rattle.std.specs.Prelude.{◌≡◌, ℕ, ◌+◌, ◌*◌, ◌/◌, �
 ghost use Rattle.cron_units.specs.Nearest.{IsNearest};
 ghost use Rattle.cron_units.specs.Sets.{Sets, AreSets};
 ghost use Rattle.cron_units.specs.Units.{contains};
-ghost use Rattle.cron_time.specs.Search.Inner.Inquired.{LooksAlone, Asks, AsksFor, AsksPast, outermost};
-ghost use Rattle.cron_time.specs.Search.Inner.Numbers.{beyond, beyond_block, matches_month, matches_month_of_year, matches_rest, matches_second};
-ghost use Rattle.cron_moments.specs.Calendar.{first_month, months_end};
+ghost use Rattle.cron_time.specs.Search.Inner.Questions.{AsksFor, AsksPast, outermost};
+ghost use Rattle.cron_time.specs.Search.Inner.Numbers.{beyond, beyond_block, matches_rest, matches_second};
 
-use crate::search::inquiry::{Inquiry, Unit};
+use crate::search::counter::{Counter, Uncounted};
+use crate::search::members::{Members, Unit};
 use crate::search::ways::{entry, extreme, past};
 use cron_units::way::Way;
 
@@ -24,17 +24,30 @@ pub(crate) trait Neighbours {
 
     ghost LIMIT: { ℕ };
 
-    /// The nearest one from a number on.
-    fn nearest(inquiry: &mut Inquiry<'_>, way: Way, from: u32) -> Option<u32>
+    /// The nearest one from a number on, with a count of the questions for a member.
+    fn nearest_counted<C: Counter>(
+        members: &Members<'_>,
+        counter: &mut C,
+        way: Way,
+        from: u32,
+    ) -> Option<u32>
         requires { from + 1 < 2 ^ 32 }
-        ensures nearest { IsNearest way (passes inquiry.old.sets) (pos from) result }
+        ensures nearest { IsNearest way (passes members.now) (pos from) result }
         ensures bound { IfSome result (λ n. (least ≤ n) × (n < LIMIT)) }
-        ensures same { LooksAlone inquiry.old inquiry.new }
-        ensures questions { AreSets inquiry.old.sets
-            → AsksFor parts result inquiry.old.questions inquiry.new.questions }
-        ensures outermost { AreSets inquiry.old.sets
+        ensures questions { AreSets members.now → AsksFor C.Counts parts result counter.old counter.new }
+        ensures outermost { AreSets members.now
             → from ≡ outermost way LIMIT
-            → Asks parts inquiry.old.questions inquiry.new.questions };
+            → C.Counts parts counter.old counter.new };
+
+    /// The nearest one from a number on.
+    #[inline(always)]
+    final fn nearest(members: &Members<'_>, way: Way, from: u32) -> Option<u32>
+        requires { from + 1 < 2 ^ 32 }
+        ensures nearest { IsNearest way (passes members.now) (pos from) result }
+        ensures bound { IfSome result (λ n. (least ≤ n) × (n < LIMIT)) }
+    {
+        Self::nearest_counted(members, &mut Uncounted, way, from)
+    }
 
     /// Sets that were read have such a number.
     ghost filled: { (s : Sets) → AreSets s → (n : ℕ) × (n < LIMIT) × (passes s n ≡ true) };
@@ -42,8 +55,9 @@ pub(crate) trait Neighbours {
 
 /// The nearest number past the block of an outer number, in its parts.
 #[inline(always)]
-fn nearest_past_block<O: Neighbours, I: Neighbours>(
-    inquiry: &mut Inquiry<'_>,
+fn nearest_past_block<O: Neighbours, I: Neighbours, C: Counter>(
+    members: &Members<'_>,
+    counter: &mut C,
     way: Way,
     width: u32,
     outer: u32,
@@ -54,24 +68,24 @@ fn nearest_past_block<O: Neighbours, I: Neighbours>(
     requires fits { (O.LIMIT + 1) * I.LIMIT < 2 ^ 32 }
     requires outer { outer < O.LIMIT }
     ensures nearest { IsNearest way
-        (λ n. O.passes inquiry.old.sets (n / I.LIMIT) && I.passes inquiry.old.sets (n % I.LIMIT))
+        (λ n. O.passes members.now (n / I.LIMIT) && I.passes members.now (n % I.LIMIT))
         (beyond_block way I.LIMIT outer)
         result }
     ensures bound { IfSome result (λ n. (O.least * I.LIMIT ≤ n) × (n < O.LIMIT * I.LIMIT)) }
-    ensures same { LooksAlone inquiry.old inquiry.new }
-    ensures questions { AreSets inquiry.old.sets
-        → AsksPast I.parts result inquiry.old.questions inquiry.new.questions }
+    ensures questions { AreSets members.now
+        → AsksPast C.Counts I.parts result counter.old counter.new }
 {
-    let next = O::nearest(inquiry, way, past(way, outer)?)?;
-    let inner = I::nearest(inquiry, way, extreme(way, width))?;
+    let next = O::nearest_counted(members, counter, way, past(way, outer)?)?;
+    let inner = I::nearest_counted(members, counter, way, extreme(way, width))?;
     Some(next * width + inner)
 }
 
 /// The nearest number whose quotient by the limit of the inner numbers, the width of a block, is one of the outer
 /// unit, and whose rest is one of the inner numbers.
 #[inline(always)]
-fn nearest_in_parts<O: Neighbours, I: Neighbours>(
-    inquiry: &mut Inquiry<'_>,
+pub(crate) fn nearest_in_parts<O: Neighbours, I: Neighbours, C: Counter>(
+    members: &Members<'_>,
+    counter: &mut C,
     way: Way,
     width: u32,
     from: u32,
@@ -82,46 +96,40 @@ fn nearest_in_parts<O: Neighbours, I: Neighbours>(
     requires fits { (O.LIMIT + 1) * I.LIMIT < 2 ^ 32 }
     requires from { from + 1 < 2 ^ 32 }
     ensures nearest { IsNearest way
-        (λ n. O.passes inquiry.old.sets (n / I.LIMIT) && I.passes inquiry.old.sets (n % I.LIMIT))
+        (λ n. O.passes members.now (n / I.LIMIT) && I.passes members.now (n % I.LIMIT))
         (pos from)
         result }
     ensures bound { IfSome result (λ n. (O.least * I.LIMIT ≤ n) × (n < O.LIMIT * I.LIMIT)) }
-    ensures same { LooksAlone inquiry.old inquiry.new }
-    ensures questions { AreSets inquiry.old.sets
-        → AsksFor (I.parts + 1) result inquiry.old.questions inquiry.new.questions }
-    ensures outermost { AreSets inquiry.old.sets
+    ensures questions { AreSets members.now
+        → AsksFor C.Counts (I.parts + 1) result counter.old counter.new }
+    ensures outermost { AreSets members.now
         → from ≡ outermost way (O.LIMIT * I.LIMIT)
-        → Asks (I.parts + 1) inquiry.old.questions inquiry.new.questions }
+        → C.Counts (I.parts + 1) counter.old counter.new }
 {
     let (first, rest) = (from / width, from % width);
-    let outer = O::nearest(inquiry, way, first)?;
+    let outer = O::nearest_counted(members, counter, way, first)?;
     let start = entry(way, width, first, rest, outer);
-    if let Some(inner) = I::nearest(inquiry, way, start) {
+    if let Some(inner) = I::nearest_counted(members, counter, way, start) {
         return Some(outer * width + inner);
     }
-    nearest_past_block::<O, I>(inquiry, way, width, outer)
+    nearest_past_block::<O, I, C>(members, counter, way, width, outer)
 }
 
 /// The nearest one past a number.
 #[inline(always)]
-pub(crate) fn nearest_past<N: Neighbours>(
-    inquiry: &mut Inquiry<'_>,
-    way: Way,
-    n: u32,
-) -> Option<u32>
+pub(crate) fn nearest_past<N: Neighbours>(members: &Members<'_>, way: Way, n: u32) -> Option<u32>
     requires { n + 2 < 2 ^ 32 }
-    ensures nearest { IsNearest way (N.passes inquiry.old.sets) (beyond way n) result }
+    ensures nearest { IsNearest way (N.passes members.now) (beyond way n) result }
     ensures bound { IfSome result (λ k. (N.least ≤ k) × (k < N.LIMIT)) }
-    ensures same { LooksAlone inquiry.old inquiry.new }
 {
-    N::nearest(inquiry, way, past(way, n)?)
+    N::nearest(members, way, past(way, n)?)
 }
 
 /// The nearest number past one whose quotient is one of the outer unit: first in its own block, with
 /// the nearest inner number past its rest.
 #[inline(always)]
 pub(crate) fn past_in_parts<O: Neighbours, I: Neighbours>(
-    inquiry: &mut Inquiry<'_>,
+    members: &Members<'_>,
     way: Way,
     width: u32,
     from: u32,
@@ -132,21 +140,20 @@ pub(crate) fn past_in_parts<O: Neighbours, I: Neighbours>(
     requires positive { 0 < I.LIMIT }
     requires fits { (O.LIMIT + 1) * I.LIMIT < 2 ^ 32 }
     requires block { (O.least ≤ from / I.LIMIT) × (from / I.LIMIT < O.LIMIT) }
-    requires matching { O.passes inquiry.old.sets (from / I.LIMIT) ≡ true }
-    requires inner { IsNearest way (I.passes inquiry.old.sets) (beyond way (from % I.LIMIT)) inner }
+    requires matching { O.passes members.now (from / I.LIMIT) ≡ true }
+    requires inner { IsNearest way (I.passes members.now) (beyond way (from % I.LIMIT)) inner }
     requires inner_bound { IfSome inner (λ n. n < I.LIMIT) }
     ensures nearest { IsNearest way
-        (λ n. O.passes inquiry.old.sets (n / I.LIMIT) && I.passes inquiry.old.sets (n % I.LIMIT))
+        (λ n. O.passes members.now (n / I.LIMIT) && I.passes members.now (n % I.LIMIT))
         (beyond way from)
         result }
     ensures bound { IfSome result (λ n. (O.least * I.LIMIT ≤ n) × (n < O.LIMIT * I.LIMIT)) }
-    ensures same { LooksAlone inquiry.old inquiry.new }
 {
     let outer = from / width;
     if let Some(rest) = inner {
         return Some(outer * width + rest);
     }
-    nearest_past_block::<O, I>(inquiry, way, width, outer)
+    nearest_past_block::<O, I, Uncounted>(members, &mut Uncounted, way, width, outer)
 }
 
 /// The seconds of a minute.
@@ -164,8 +171,14 @@ impl Neighbours for Seconds {
     ghost LIMIT = { 60 };
 
     #[inline(always)]
-    fn nearest(inquiry: &mut Inquiry<'_>, way: Way, from: u32) -> Option<u32> {
-        inquiry.member(Unit::Second, way, from)
+    fn nearest_counted<C: Counter>(
+        members: &Members<'_>,
+        counter: &mut C,
+        way: Way,
+        from: u32,
+    ) -> Option<u32> {
+        counter.count_one();
+        members.nearest(Unit::Second, way, from)
     }
 
     ghost filled = { seconds_filled };
@@ -186,8 +199,14 @@ impl Neighbours for Minutes {
     ghost LIMIT = { 60 };
 
     #[inline(always)]
-    fn nearest(inquiry: &mut Inquiry<'_>, way: Way, from: u32) -> Option<u32> {
-        inquiry.member(Unit::Minute, way, from)
+    fn nearest_counted<C: Counter>(
+        members: &Members<'_>,
+        counter: &mut C,
+        way: Way,
+        from: u32,
+    ) -> Option<u32> {
+        counter.count_one();
+        members.nearest(Unit::Minute, way, from)
     }
 
     ghost filled = { minutes_filled };
@@ -208,8 +227,14 @@ impl Neighbours for Hours {
     ghost LIMIT = { 24 };
 
     #[inline(always)]
-    fn nearest(inquiry: &mut Inquiry<'_>, way: Way, from: u32) -> Option<u32> {
-        inquiry.member(Unit::Hour, way, from)
+    fn nearest_counted<C: Counter>(
+        members: &Members<'_>,
+        counter: &mut C,
+        way: Way,
+        from: u32,
+    ) -> Option<u32> {
+        counter.count_one();
+        members.nearest(Unit::Hour, way, from)
     }
 
     ghost filled = { hours_filled };
@@ -230,8 +255,13 @@ impl Neighbours for SecondsOfHour {
     ghost LIMIT = { 3600 };
 
     #[inline(always)]
-    fn nearest(inquiry: &mut Inquiry<'_>, way: Way, from: u32) -> Option<u32> {
-        nearest_in_parts::<Minutes, Seconds>(inquiry, way, 60, from)
+    fn nearest_counted<C: Counter>(
+        members: &Members<'_>,
+        counter: &mut C,
+        way: Way,
+        from: u32,
+    ) -> Option<u32> {
+        nearest_in_parts::<Minutes, Seconds, C>(members, counter, way, 60, from)
     }
 
     ghost filled = { rest_filled };
@@ -252,8 +282,13 @@ impl Neighbours for TimesOfDay {
     ghost LIMIT = { 86_400 };
 
     #[inline(always)]
-    fn nearest(inquiry: &mut Inquiry<'_>, way: Way, from: u32) -> Option<u32> {
-        nearest_in_parts::<Hours, SecondsOfHour>(inquiry, way, 3600, from)
+    fn nearest_counted<C: Counter>(
+        members: &Members<'_>,
+        counter: &mut C,
+        way: Way,
+        from: u32,
+    ) -> Option<u32> {
+        nearest_in_parts::<Hours, SecondsOfHour, C>(members, counter, way, 3600, from)
     }
 
     ghost filled = { times_filled };
@@ -261,93 +296,24 @@ impl Neighbours for TimesOfDay {
 
 // The nearest second of the hour past one whose minute lies in its set.
 #[inline(always)]
-fn rest_past(inquiry: &mut Inquiry<'_>, way: Way, rest: u32) -> Option<u32>
+fn rest_past(members: &Members<'_>, way: Way, rest: u32) -> Option<u32>
     requires fits { rest < 3600 }
-    requires matching { matches_rest inquiry.old.sets rest ≡ true }
-    ensures nearest { IsNearest way (matches_rest inquiry.old.sets) (beyond way rest) result }
+    requires matching { matches_rest members.now rest ≡ true }
+    ensures nearest { IsNearest way (matches_rest members.now) (beyond way rest) result }
     ensures bound { IfSome result (λ n. n < 3600) }
-    ensures same { LooksAlone inquiry.old inquiry.new }
 {
-    let second = nearest_past::<Seconds>(inquiry, way, rest % 60);
-    past_in_parts::<Minutes, Seconds>(inquiry, way, 60, rest, second)
+    let second = nearest_past::<Seconds>(members, way, rest % 60);
+    past_in_parts::<Minutes, Seconds>(members, way, 60, rest, second)
 }
 
 /// The nearest time of day past one that lies in the sets: its hour and minute aren't asked for again.
 #[inline(always)]
-pub(crate) fn time_past(inquiry: &mut Inquiry<'_>, way: Way, time: u32) -> Option<u32>
+pub(crate) fn time_past(members: &Members<'_>, way: Way, time: u32) -> Option<u32>
     requires fits { time < 86_400 }
-    requires matching { matches_second inquiry.old.sets time ≡ true }
-    ensures nearest { IsNearest way (matches_second inquiry.old.sets) (beyond way time) result }
+    requires matching { matches_second members.now time ≡ true }
+    ensures nearest { IsNearest way (matches_second members.now) (beyond way time) result }
     ensures bound { IfSome result (λ n. n < 86_400) }
-    ensures same { LooksAlone inquiry.old inquiry.new }
 {
-    let rest = rest_past(inquiry, way, time % 3600);
-    past_in_parts::<Hours, SecondsOfHour>(inquiry, way, 3600, time, rest)
-}
-
-/// The months of a year, from 0 for January.
-pub(crate) struct MonthsOfYear;
-
-impl Neighbours for MonthsOfYear {
-    ghost use Rattle.cron_time.specs.Search.Inner.Filled.{months_filled};
-
-    ghost passes = { matches_month_of_year };
-
-    ghost parts = { 1 };
-
-    ghost least = { 0 };
-
-    ghost LIMIT = { 12 };
-
-    #[inline(always)]
-    fn nearest(inquiry: &mut Inquiry<'_>, way: Way, from: u32) -> Option<u32> {
-        let month = inquiry.member(Unit::Month, way, from + 1)?;
-        Some(month - 1)
-    }
-
-    ghost filled = { months_filled };
-}
-
-/// The years.
-pub(crate) struct Years;
-
-impl Neighbours for Years {
-    ghost use Rattle.cron_time.specs.Search.Inner.Filled.{years_filled};
-
-    ghost passes = { λ s. contains s.years };
-
-    ghost parts = { 1 };
-
-    ghost least = { 1970 };
-
-    ghost LIMIT = { 2101 };
-
-    #[inline(always)]
-    fn nearest(inquiry: &mut Inquiry<'_>, way: Way, from: u32) -> Option<u32> {
-        inquiry.member(Unit::Year, way, from)
-    }
-
-    ghost filled = { years_filled };
-}
-
-/// The months, numbered from January of the year 0 on.
-pub(crate) struct Months;
-
-impl Neighbours for Months {
-    ghost use Rattle.cron_time.specs.Search.Inner.Filled.{all_months_filled};
-
-    ghost passes = { matches_month };
-
-    ghost parts = { 2 };
-
-    ghost least = { first_month };
-
-    ghost LIMIT = { months_end };
-
-    #[inline(always)]
-    fn nearest(inquiry: &mut Inquiry<'_>, way: Way, from: u32) -> Option<u32> {
-        nearest_in_parts::<Years, MonthsOfYear>(inquiry, way, 12, from)
-    }
-
-    ghost filled = { all_months_filled };
+    let rest = rest_past(members, way, time % 3600);
+    past_in_parts::<Hours, SecondsOfHour>(members, way, 3600, time, rest)
 }

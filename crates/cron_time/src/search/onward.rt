@@ -12,7 +12,7 @@ ghost use Rattle.cron_time.specs.Search.Inner.Numbers.{beyond, matches_second, s
 ghost use Rattle.cron_time.specs.Matches.{matches_date};
 ghost use Rattle.cron_time.specs.Search.{IsFound};
 
-use crate::search::inquiry::Inquiry;
+use crate::search::members::Members;
 use crate::search::month_days::MonthDays;
 use crate::search::neighbours::{Neighbours, TimesOfDay, time_past};
 use crate::search::readable::search_readable;
@@ -46,8 +46,8 @@ fn search_times_past(
     ensures known { IsKnown (plain_zone zone.now) stretch.new }
 {
     let from = past(way, time)?;
-    let mut inquiry = Inquiry::new(fields, zone);
-    let first = time_past(&mut inquiry, way, time);
+    let members = Members::of(fields);
+    let first = time_past(&members, way, time);
     search_readable(fields, zone, way, day, from, first, stretch)
 }
 
@@ -73,8 +73,8 @@ fn search_day_times(
         (option_map found_items result) }
     ensures known { IsKnown (plain_zone zone.now) stretch.new }
 {
-    let mut inquiry = Inquiry::new(fields, zone);
-    let first = TimesOfDay::nearest(&mut inquiry, way, from);
+    let members = Members::of(fields);
+    let first = TimesOfDay::nearest(&members, way, from);
     search_readable(fields, zone, way, day, from, first, stretch)
 }
 

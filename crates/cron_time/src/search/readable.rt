@@ -13,7 +13,7 @@ ghost use Rattle.cron_time.specs.Search.Inner.DaySearch.{FindsInDay};
 ghost use Rattle.cron_time.specs.Search.Inner.Numbers.{beyond, matches_second};
 ghost use Rattle.cron_time.specs.Search.Inner.Gaps.{AreTogether, LeadsPast};
 
-use crate::search::inquiry::Inquiry;
+use crate::search::members::Members;
 use crate::search::neighbours::{Neighbours, TimesOfDay};
 use crate::search::reading::readings_within;
 use crate::search::ways::past_below;
@@ -72,8 +72,8 @@ fn past_gap(
     ensures bound { IfSome result (λ n. n < 86_400) }
 {
     let from = past_stretch(stretch, way, day, time)?;
-    let mut inquiry = Inquiry::new(fields, zone);
-    TimesOfDay::nearest(&mut inquiry, way, from)
+    let members = Members::of(fields);
+    TimesOfDay::nearest(&members, way, from)
 }
 
 /// A day whose date matches: its times of day are gone through from the first one on, until one has a reading.

@@ -6,11 +6,11 @@ ghost use Rattle.cron_units.specs.Sets.{AreSets};
 ghost use Rattle.cron_time.specs.Search.Times.{IsNearestTime, time_of_parts};
 
 use crate::search::answers::TimeFound;
-use crate::search::inquiry::Inquiry;
+use crate::search::counter::Questions;
+use crate::search::members::Members;
 use crate::search::neighbours::{Neighbours, TimesOfDay};
 use cron_units::fields::ScheduleFields;
 use cron_units::way::Way;
-use jiff::tz::TimeZone;
 
 /// The time of day nearest to a given one, whose hour, minute and second lie in their sets.
 pub fn nearest_time(
@@ -32,10 +32,11 @@ pub fn nearest_time(
         ((1 ≤ result.questions) × (result.questions ≤ 7))
         (λ time. (3 ≤ result.questions) × (result.questions ≤ 7)) }
 {
-    let zone = TimeZone::UTC;
-    let mut inquiry = Inquiry::new(fields, &zone);
-    let found = TimesOfDay::nearest(&mut inquiry, way, hour * 3600 + minute * 60 + second);
-    let questions = inquiry.questions() as u8;
+    let members = Members::of(fields);
+    let mut counter = Questions { asked: 0 };
+    let from = hour * 3600 + minute * 60 + second;
+    let found = TimesOfDay::nearest_counted(&members, &mut counter, way, from);
+    let questions = counter.asked as u8;
     match found {
         Some(time) => TimeFound {
             time: Some((time / 3600, time / 60 % 60, time % 60)),

@@ -2,7 +2,7 @@
 ghost use Rattle.std.specs.Prelude.{◌≡◌, ℕ, ◌+◌, ◌*◌, ◌^◌, ◌<◌, ◌≤◌, ◌⊎◌, pos, MatchOption};
 ghost use Rattle.cron_units.specs.Nearest.{LiesFrom};
 ghost use Rattle.cron_time.specs.Search.Inner.Blocks.{Enters, IsExtreme};
-ghost use Rattle.cron_time.specs.Search.Inner.Inquired.{outermost};
+ghost use Rattle.cron_time.specs.Search.Inner.Questions.{outermost};
 ghost use Rattle.cron_time.specs.Search.Inner.Numbers.{beyond};
 
 use cron_units::way::Way;

@@ -8,8 +8,9 @@ ghost use Rattle.cron_time.specs.Walk.Resume.{IsAbsent, IsAtItem};
 ghost use Rattle.cron_time.specs.Search.{items_of};
 
 use crate::matching;
-use crate::search::inquiry::Inquiry;
+use crate::search::reading::readings_within;
 use crate::walk::state::State;
+use cron_clocks::stretch::Stretch;
 use cron_moments::civil::{SECONDS, civil_of};
 use cron_moments::moment::{Moment, civil_second};
 use cron_moments::readings::Found;
@@ -24,7 +25,7 @@ fn items_at(fields: &ScheduleFields, zone: &TimeZone<'_>, second: u32) -> Option
     if !matching::includes(fields, civil_of(second)) {
         return None;
     }
-    Inquiry::new(fields, zone).readings(second)
+    readings_within(zone, second, &mut Stretch::empty())
 }
 
 // Which of the items a moment is: the later one, or the first.

@@ -10,7 +10,7 @@ ghost use Rattle.cron_time.specs.Walk.Inner.Stop.{IsReached, LeadsTo};
 ghost use Rattle.cron_time.specs.Matches.{matches_date};
 
 use crate::search::days::some_month_has_a_day;
-use crate::search::inquiry::Inquiry;
+use crate::search::members::Members;
 use crate::search::onward::{search_onward, search_past};
 use crate::walk::bounds::bound;
 use crate::walk::state::{Stage, State};
@@ -48,8 +48,8 @@ fn from_start(fields: &ScheduleFields, zone: &TimeZone<'_>, way: Way, state: &mu
     ensures leads { LeadsTo way fields.now (plain_zone zone.now) (kept.Start state.old.start.nanosecond) (stand_of state.new) }
     ensures known { Knows fields.now (plain_zone zone.now) state.new }
 {
-    let mut inquiry = Inquiry::new(fields, zone);
-    if !some_month_has_a_day(&mut inquiry) {
+    let members = Members::of(fields);
+    if !some_month_has_a_day(&members) {
         state.arrive(way, None);
         return;
     }

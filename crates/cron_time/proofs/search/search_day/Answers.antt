@@ -1,4 +1,4 @@
-use Rattle.std.proofs.Common.{◌≡◌, ◌/◌, ◌+◌, ◌*◌, ◌%◌, ℕ, pos, true, None, option_map, sym, subst, ◌∙◌, arith}
+use Rattle.std.proofs.Common.{◌≡◌, ◌/◌, ◌+◌, ◌*◌, ◌%◌, ℕ, pos, true, None, option_map, sym, subst, arith}
 use Rattle.cron_moments.specs.CivilDates.{date_numbered}
 use Rattle.cron_time.specs.Search.Inner.Blocks.{Enters}
 use Rattle.cron_time.specs.Search.Inner.DaySearch.{FindsInDay}
@@ -37,7 +37,7 @@ search_times-requires-clause-matching c =
     let asked = dated _ _ c.matching_day.ensures.counted in
     let date = date_passes s (number_of c.args.day) (is_candidate_rank s c.args.day c.requires.range c.requires.candidate) c.in_ok-number.ensures.matches.1 in
     let P : ℕ → Type 0 = λ n. matches_date s (date_numbered n).0 ≡ true in
-    rw (c.nearest-first.ensures.same.sets ∙ asked.same.sets) (subst P (sym c.in_ok-number.ensures.matches.0) date)
+    rw asked.same.sets (subst P (sym c.in_ok-number.ensures.matches.0) date)
 
 pub returns-clause-found : goal.returns-clause-found
 returns-clause-found c =
@@ -48,8 +48,7 @@ returns-clause-found c =
     let o = option_map found_items c.search_times.result in
     let E : ℕ → Type 0 = λ n. Enters c.args.way 86_400 (pos (c.args.start / 86_400 * 86_400 + c.args.start % 86_400)) n c.entry-from.result in
     let F : ℕ → Type 0 = λ n. FindsInDay c.args.way s z n c.entry-from.result o in
-    let looked = c.nearest-first.ensures.same in
-    let found = rw (looked.sets ∙ asked.same.sets, looked.zone ∙ asked.same.zone) at c.search_times.ensures.found in
+    let found = rw (asked.same.sets, asked.same.zone) at c.search_times.ensures.found in
     day_finds c.args.way s z (pos c.args.start) (number_of c.args.day) c.entry-from.result o
     (start_parts 86_400 c.args.start (λ p. Enters c.args.way 86_400 p (number_of c.args.day) c.entry-from.result)
     (subst E same c.entry-from.ensures.enters)) (subst F same found)
@@ -65,10 +64,9 @@ returns-clause-conversions c =
     let o = option_map found_items c.search_times.result in
     let E : ℕ → Type 0 = λ n. Enters c.args.way 86_400 (pos (c.args.start / 86_400 * 86_400 + c.args.start % 86_400)) n c.entry-from.result in
     let F : ℕ → Type 0 = λ n. FindsInDay c.args.way s z n c.entry-from.result o in
-    let looked = c.nearest-first.ensures.same in
-    let found = rw (looked.sets ∙ asked.same.sets, looked.zone ∙ asked.same.zone) at c.search_times.ensures.found in
-    let times = rw (looked.sets ∙ asked.same.sets) at c.search_times.ensures.conversions in
-    adds_as _ _ _ _ _ _ _ times (looked.conversions ∙ asked.conversions)
+    let found = rw (asked.same.sets, asked.same.zone) at c.search_times.ensures.found in
+    let times = rw asked.same.sets at c.search_times.ensures.conversions in
+    adds_as _ _ _ _ _ _ _ times asked.conversions
     (day_asked c.args.way s z (pos c.args.start) (number_of c.args.day) c.entry-from.result times.count c.search_times.result n.in_range date
     (start_parts 86_400 c.args.start (λ p. Enters c.args.way 86_400 p (number_of c.args.day) c.entry-from.result)
     (subst E same c.entry-from.ensures.enters)) (subst F same found) times.tally)

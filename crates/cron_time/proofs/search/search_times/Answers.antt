@@ -1,7 +1,7 @@
 use Rattle.std.proofs.Common.{pos, refl, sym, arith, ◌∙◌}
 use Rattle.cron_time.specs.Search.Inner.Blocks.{Reaches}
 use Rattle.cron_time.specs.Search.Inner.Numbers.{matches_second, stands_at}
-use Rattle.cron_time.proofs.Searches.AskedLemmas.{looks_same, same_on, converted}
+use Rattle.cron_time.proofs.Searches.AskedLemmas.{same_on, converted}
 use Rattle.cron_time.proofs.Searches.TallyLemmas.{kind_bound, adds_none, adds_more, passed_start, passed_next}
 use Rattle.cron_time.proofs.Searches.TimesLemmas.{at_next, time_found, time_counted, time_silent, times_start, times_next, time_low}
 use Rattle.cron_time.proofs.search.search_times.Goals as goal
@@ -20,7 +20,7 @@ time_past-next-requires-clause-matching c =
     let s = c.args.inquiry.now.sets in
     let reached : Reaches c.args.way 1 (matches_second s) (stands_at s c.args.inquiry.now.zone c.args.day) (pos c.args.from) (pos c.args.from)
     c.in-Some.time = rw c.in-Some.is at c.loop-next.invariant.reached in
-    rw ((converted _ _ c.readings-found.ensures.counted).same.sets ∙ c.loop-next.invariant.same.sets) reached.block
+    rw (c.members.ensures ∙ (converted _ _ c.readings-found.ensures.counted).same.sets ∙ c.loop-next.invariant.same.sets) reached.block
 
 pub readings-found-requires-clause-in_range : goal.readings-found-requires-clause-in_range
 readings-found-requires-clause-in_range c =
@@ -55,14 +55,13 @@ loop-next-preserved c =
     let readings = rw kept.same.zone at c.readings-found.ensures.readings in
     let asked = converted _ _ c.readings-found.ensures.counted in
     let early = rw c.in-Some.is at kept.conversions in
-    let sets = asked.same.sets ∙ kept.same.sets in
+    let sets = c.members.ensures ∙ asked.same.sets ∙ kept.same.sets in
     let next = rw sets at c.time_past-next.ensures.nearest in
-    let looked = c.time_past-next.ensures.same in
     record {
-      same = same_on _ _ _ (same_on _ _ _ kept.same asked.same) (looks_same _ _ looked);
-      days = looked.days ∙ asked.days ∙ kept.days;
+      same = same_on _ _ _ kept.same asked.same;
+      days = asked.days ∙ kept.days;
       reached = times_next _ _ _ _ _ _ _ at (time_silent _ _ _ _ _ _ _ at readings (sym c.if-is_some.ensures)) next;
       bound = time_low c.time_past-next.result c.time_past-next.ensures.bound;
-      conversions = adds_more 86_400 _ _ _ _ _ early (looked.conversions ∙ asked.more)
+      conversions = adds_more 86_400 _ _ _ _ _ early asked.more
           (passed_next _ _ _ _ _ _ _ at.time_in at.reached.block at.reached.lies next early.tally);
     }

@@ -1,15 +1,13 @@
 use Rattle.std.proofs.Common.{◌<◌, ◌≤◌, pos, IfSome}
 use Rattle.cron_time.specs.Search.Inner.Blocks.{ReachesIfAny, left_to_reach}
 use Rattle.cron_time.specs.Search.Inner.Days.{day_rank}
-use Rattle.cron_time.specs.Search.Inner.Inquired.{LooksAlone}
 use Rattle.cron_time.specs.Search.Inner.Numbers.{matches_month, matches_rank}
 use Rattle.cron_moments.specs.Calendar.{first_month, months_end}
 use Rattle.cron_time.proofs.search.days.nearest_in_months.Given as goal
 
 abbrev pub invariant-loop-next : goal.invariant-loop-next
 invariant-loop-next l = record {
-  same : LooksAlone l.fn.inquiry l.inquiry;
-  reached : ReachesIfAny l.way 100 (matches_month l.fn.inquiry.sets) (matches_rank l.fn.inquiry.sets) (pos (day_rank l.from)) (pos l.from.month) l.next;
+  reached : ReachesIfAny l.way 100 (matches_month l.members) (matches_rank l.members) (pos (day_rank l.from)) (pos l.from.month) l.next;
   bound : IfSome l.next (λ n. (first_month ≤ n) × (n < months_end));
 }
 

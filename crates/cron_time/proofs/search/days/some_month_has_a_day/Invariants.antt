@@ -3,14 +3,12 @@ use Rattle.cron_units.specs.declared.way.Way.TheVariants.{Ahead}
 use Rattle.cron_units.specs.Units.{contains}
 use Rattle.cron_time.specs.Search.Inner.Blocks.{left_to_reach}
 use Rattle.cron_time.specs.Search.Inner.Days.{longest}
-use Rattle.cron_time.specs.Search.Inner.Inquired.{LooksAlone}
 use Rattle.cron_time.specs.Search.Inner.Tally.{Before}
 use Rattle.cron_time.proofs.search.days.some_month_has_a_day.Given as goal
 
 abbrev pub invariant-loop-next : goal.invariant-loop-next
 invariant-loop-next l = record {
-  same : LooksAlone l.fn.inquiry l.inquiry;
-  short : (m : ℕ) → Before Ahead m l.next → contains l.fn.inquiry.sets.months m ≡ true → longest m < l.least;
+  short : (m : ℕ) → Before Ahead m l.next → contains l.members.months m ≡ true → longest m < l.least;
   bound : IfSome l.next (λ n. (1 ≤ n) × (n ≤ 12));
 }
 

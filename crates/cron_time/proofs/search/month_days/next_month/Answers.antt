@@ -13,8 +13,8 @@ returns-then-is_some-clause-leads c = search rules
 pub returns-then-is_some-clause-bound : goal.returns-then-is_some-clause-bound
 returns-then-is_some-clause-bound c = search rules
 
-pub new-inquiry-requires : goal.new-inquiry-requires
-new-inquiry-requires c = search rules
+pub of-members-requires : goal.of-members-requires
+of-members-requires c = search rules
 
 pub wants_leap_days-requires : goal.wants_leap_days-requires
 wants_leap_days-requires c = search rules

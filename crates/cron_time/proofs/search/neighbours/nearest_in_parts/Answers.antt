@@ -1,13 +1,12 @@
 use Rattle.std.proofs.Common.{◌≡◌, ◌/◌, arith, rules}
-use Rattle.cron_units.specs.Sets.{AreSets}
-use Rattle.cron_time.specs.Search.Inner.Inquired.{outermost}
+use Rattle.cron_time.specs.Search.Inner.Questions.{outermost}
 use Rattle.cron_time.proofs.Searches.CarryLemmas.{Carried, both, both_parts, carry_none, carry_first, carry_past, in_bounds}
-use Rattle.cron_time.proofs.Searches.AskedLemmas.{one_asked, asked_first, asked_past, outermost_finds, outermost_parts, start_outermost}
+use Rattle.cron_time.proofs.Searches.AskedLemmas.{one_asked, asked_all, asked_first, asked_out, asked_past, outermost_finds, outermost_parts, start_outermost}
 use Rattle.cron_time.proofs.search.neighbours.nearest_in_parts.Goals as goal
 
 pub returns-in_err-outer-clause-nearest : goal.returns-in_err-outer-clause-nearest
 returns-in_err-outer-clause-nearest g c =
-    let s = c.args.inquiry.now.sets in
+    let s = c.args.members.now in
     let w = g.I.Neighbours.LIMIT in
     let o = g.O.Neighbours.passes s in
     let i = g.I.Neighbours.passes s in
@@ -16,14 +15,14 @@ returns-in_err-outer-clause-nearest g c =
 
 pub returns-in_err-outer-clause-outermost : goal.returns-in_err-outer-clause-outermost
 returns-in_err-outer-clause-outermost g c = λ sets at.
-    let one = g.met.O.Neighbours.filled c.args.inquiry.now.sets sets in
+    let one = g.met.O.Neighbours.filled c.args.members.now sets in
     let parts = outermost_parts c.args.way g.O.Neighbours.LIMIT g.I.Neighbours.LIMIT (omega (arith, one.1)) c.requires.positive in
     let first : c.args.from / c.args.width ≡ outermost c.args.way g.O.Neighbours.LIMIT = rw (c.requires.width, at) parts.0 in
-    outermost_finds c.args.way g.O.Neighbours.LIMIT (g.O.Neighbours.passes c.args.inquiry.now.sets) one (rw first at c.in_err-outer.ensures.nearest)
+    outermost_finds c.args.way g.O.Neighbours.LIMIT (g.O.Neighbours.passes c.args.members.now) one (rw first at c.in_err-outer.ensures.nearest)
 
 pub returns-in-Some-clause-nearest : goal.returns-in-Some-clause-nearest
 returns-in-Some-clause-nearest g c =
-    let s = c.args.inquiry.now.sets in
+    let s = c.args.members.now in
     let w = g.I.Neighbours.LIMIT in
     let o = g.O.Neighbours.passes s in
     let i = g.I.Neighbours.passes s in
@@ -35,26 +34,25 @@ returns-in-Some-clause-nearest g c =
       first = first;
       enters = enters;
     } in
-    let inner = rw c.nearest.ensures.same.sets at c.in-Some.ensures.nearest in
     rw c.requires.width (carry_first c.args.way w o i (both w o i) c.args.from c.in_ok-outer.outer c.entry-start.result c.in-Some.inner carried
-    c.in-Some.ensures.bound.1 inner)
+    c.in-Some.ensures.bound.1 c.in-Some.ensures.nearest)
 
 pub returns-in-Some-clause-questions : goal.returns-in-Some-clause-questions
 returns-in-Some-clause-questions g c = λ sets.
-    let later : AreSets c.nearest.new.inquiry.sets = rw c.nearest.ensures.same.sets sets in
-    asked_first _ _ _ _ _ _ (one_asked _ _ _ _ c.requires.unit (c.nearest.ensures.questions sets)) (c.in-Some.ensures.questions later)
+    asked_first _ g.met.C.Counter.joined _ _ _ _ _ _ (one_asked _ _ _ _ _ c.requires.unit (c.nearest_counted.ensures.questions sets))
+    (c.in-Some.ensures.questions sets)
 
 pub returns-in-Some-clause-outermost : goal.returns-in-Some-clause-outermost
 returns-in-Some-clause-outermost g c = λ sets at.
-    let later : AreSets c.nearest.new.inquiry.sets = rw c.nearest.ensures.same.sets sets in
-    let one = g.met.O.Neighbours.filled c.args.inquiry.now.sets sets in
+    let one = g.met.O.Neighbours.filled c.args.members.now sets in
     let start = start_outermost c.args.way g.O.Neighbours.LIMIT g.I.Neighbours.LIMIT c.args.from c.entry-start.result (omega (arith, one.1))
     c.requires.positive at (rw c.requires.width at c.entry-start.ensures.value) in
-    omega (arith, one_asked _ _ _ _ c.requires.unit (c.nearest.ensures.questions sets), c.nearest-2.ensures.outermost later start)
+    asked_all _ g.met.C.Counter.joined _ _ _ _ (one_asked _ _ _ _ _ c.requires.unit (c.nearest_counted.ensures.questions sets))
+    (c.nearest_counted-2.ensures.outermost sets start)
 
 pub returns-clause-nearest : goal.returns-clause-nearest
 returns-clause-nearest g c =
-    let s = c.args.inquiry.now.sets in
+    let s = c.args.members.now in
     let w = g.I.Neighbours.LIMIT in
     let o = g.O.Neighbours.passes s in
     let i = g.I.Neighbours.passes s in
@@ -62,25 +60,21 @@ returns-clause-nearest g c =
     let enters = rw c.requires.width at c.entry-start.ensures.enters in
     let carried : Carried c.args.way w o i (both w o i) c.args.from c.in_ok-outer.outer c.entry-start.result =
     record { split = both_parts w o i; positive = c.requires.positive; first = first; enters = enters } in
-    let none = rw c.nearest.ensures.same.sets at c.in_default.ensures.nearest in
-    let past = rw (c.nearest-2.ensures.same.sets, c.nearest.ensures.same.sets) at c.nearest_past_block.ensures.nearest in
-    carry_past c.args.way w o i (both w o i) c.args.from c.in_ok-outer.outer c.entry-start.result _ carried none past
+    carry_past c.args.way w o i (both w o i) c.args.from c.in_ok-outer.outer c.entry-start.result _ carried
+    c.in_default.ensures.nearest c.nearest_past_block.ensures.nearest
 
 pub returns-clause-questions : goal.returns-clause-questions
 returns-clause-questions g c = λ sets.
-    let later : AreSets c.nearest.new.inquiry.sets = rw c.nearest.ensures.same.sets sets in
-    let last : AreSets c.nearest-2.new.inquiry.sets = rw c.nearest-2.ensures.same.sets later in
-    asked_past _ _ _ _ _ _ (one_asked _ _ _ _ c.requires.unit (c.nearest.ensures.questions sets))
-    (c.in_default.ensures.questions later) (c.nearest_past_block.ensures.questions last)
+    asked_past _ g.met.C.Counter.joined _ _ _ _ _ _ (one_asked _ _ _ _ _ c.requires.unit (c.nearest_counted.ensures.questions sets))
+    (c.in_default.ensures.questions sets) (c.nearest_past_block.ensures.questions sets)
 
 pub returns-clause-outermost : goal.returns-clause-outermost
 returns-clause-outermost g c = λ sets at.
-    let later : AreSets c.nearest.new.inquiry.sets = rw c.nearest.ensures.same.sets sets in
-    let one = g.met.O.Neighbours.filled c.args.inquiry.now.sets sets in
+    let one = g.met.O.Neighbours.filled c.args.members.now sets in
     let start = start_outermost c.args.way g.O.Neighbours.LIMIT g.I.Neighbours.LIMIT c.args.from c.entry-start.result (omega (arith, one.1))
     c.requires.positive at (rw c.requires.width at c.entry-start.ensures.value) in
-    let full = g.met.I.Neighbours.filled c.nearest.new.inquiry.sets later in
-    outermost_finds c.args.way g.I.Neighbours.LIMIT (g.I.Neighbours.passes c.nearest.new.inquiry.sets) full (rw start at c.in_default.ensures.nearest)
+    let full = g.met.I.Neighbours.filled c.args.members.now sets in
+    outermost_finds c.args.way g.I.Neighbours.LIMIT (g.I.Neighbours.passes c.args.members.now) full (rw start at c.in_default.ensures.nearest)
 
 pub nonzero_div-first : goal.nonzero_div-first
 nonzero_div-first g c = search rules
@@ -88,8 +82,8 @@ nonzero_div-first g c = search rules
 pub nonzero_rem-rest : goal.nonzero_rem-rest
 nonzero_rem-rest g c = search rules
 
-pub nearest-requires : goal.nearest-requires
-nearest-requires g c = search rules
+pub nearest_counted-requires : goal.nearest_counted-requires
+nearest_counted-requires g c = search rules
 
 pub branch-outer-requires : goal.branch-outer-requires
 branch-outer-requires g c κs = search rules
@@ -100,11 +94,9 @@ from_residual-requires g c κs = search rules
 pub returns-in_err-outer-clause-bound : goal.returns-in_err-outer-clause-bound
 returns-in_err-outer-clause-bound g c = search rules
 
-pub returns-in_err-outer-clause-same : goal.returns-in_err-outer-clause-same
-returns-in_err-outer-clause-same g c = search rules
-
 pub returns-in_err-outer-clause-questions : goal.returns-in_err-outer-clause-questions
-returns-in_err-outer-clause-questions g c = search rules
+returns-in_err-outer-clause-questions g c = λ sets.
+    rw c.from_residual.ensures (asked_out _ _ _ _ _ _ c.requires.unit (c.nearest_counted.ensures.questions sets))
 
 pub entry-start-requires-clause-rest_in : goal.entry-start-requires-clause-rest_in
 entry-start-requires-clause-rest_in g c = search rules
@@ -112,8 +104,8 @@ entry-start-requires-clause-rest_in g c = search rules
 pub entry-start-requires-clause-lies : goal.entry-start-requires-clause-lies
 entry-start-requires-clause-lies g c = search rules
 
-pub nearest-requires-2 : goal.nearest-requires-2
-nearest-requires-2 g c = search rules
+pub nearest_counted-requires-2 : goal.nearest_counted-requires-2
+nearest_counted-requires-2 g c = search rules
 
 pub overflow_mul-result : goal.overflow_mul-result
 overflow_mul-result g c =
@@ -132,9 +124,6 @@ returns-in-Some-clause-bound g c =
     rw c.requires.width (in_bounds g.O.Neighbours.least c.in_ok-outer.outer g.O.Neighbours.LIMIT g.I.Neighbours.LIMIT c.in-Some.inner
     c.in_ok-outer.ensures.bound.0 c.in_ok-outer.ensures.bound.1 c.in-Some.ensures.bound.1)
 
-pub returns-in-Some-clause-same : goal.returns-in-Some-clause-same
-returns-in-Some-clause-same g c = search rules
-
 pub nearest_past_block-requires-clause-unit : goal.nearest_past_block-requires-clause-unit
 nearest_past_block-requires-clause-unit g c = search rules
 
@@ -149,6 +138,3 @@ nearest_past_block-requires-clause-outer g c = search rules
 
 pub returns-clause-bound : goal.returns-clause-bound
 returns-clause-bound g c = search rules
-
-pub returns-clause-same : goal.returns-clause-same
-returns-clause-same g c = search rules

@@ -1,4 +1,3 @@
-use Rattle.std.proofs.Common.{ap}
 use Rattle.jiff.specs.Words.{plain_zone}
 use Rattle.cron_time.proofs.Searches.GapLemmas.{day_in_gap, leads_past}
 use Rattle.cron_time.proofs.search.readable.past_gap.Goals as goal
@@ -12,4 +11,4 @@ pub returns-clause-leads : goal.returns-clause-leads
 returns-clause-leads c =
     let past = c.in_ok-from.ensures in
     leads_past c.args.way c.args.fields.now (plain_zone c.args.zone.now) c.args.stretch.now c.args.day c.args.time c.in_ok-from.from _
-    c.requires.known c.requires.silent past.1 past.2 (rw (ap (λ q. q.sets) c.new-inquiry.ensures) at c.nearest.ensures.nearest)
+    c.requires.known c.requires.silent past.1 past.2 (rw c.of-members.ensures at c.nearest.ensures.nearest)

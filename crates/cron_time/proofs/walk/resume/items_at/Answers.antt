@@ -1,8 +1,6 @@
 use Rattle.std.proofs.Common.{ap, sym, ◌∙◌}
 use Rattle.jiff_core.specs.declared.civil.datetime.DateTime.{DateTime}
-use Rattle.cron_time.specs.Search.Inner.Inquired.{Inquired}
 use Rattle.cron_time.specs.Matches.{matches}
-use Rattle.cron_moments.specs.Readings.{readings}
 use Rattle.cron_time.proofs.Walks.ResumeLemmas.{no_items, all_items}
 use Rattle.cron_time.proofs.walk.resume.items_at.Goals as goal
 
@@ -14,5 +12,4 @@ returns-then-not-includes c =
 pub returns : goal.returns
 returns c =
     let shown = ap (λ (d : DateTime). matches c.args.fields.now d) c.civil_of.ensures in
-    let zone = ap (λ (q : Inquired). readings q.zone c.args.second) c.new.ensures in
-    c.readings.ensures.readings ∙ (zone ∙ all_items _ _ _ (sym shown ∙ (sym c.includes.ensures ∙ c.if-not-includes.false)))
+    c.readings_within.ensures.readings ∙ all_items _ _ _ (sym shown ∙ (sym c.includes.ensures ∙ c.if-not-includes.false))

@@ -1,4 +1,4 @@
-use Rattle.std.proofs.Common.{ap, refl}
+use Rattle.std.proofs.Common.{refl}
 use Rattle.jiff.specs.Words.{plain_zone}
 use Rattle.cron_time.proofs.Searches.OnwardLemmas.{nowhere}
 use Rattle.cron_time.proofs.Walks.RestLemmas.{start_nowhere}
@@ -8,5 +8,5 @@ pub returns-then-not-some_month_has_a_day-clause-leads : goal.returns-then-not-s
 returns-then-not-some_month_has_a_day-clause-leads c =
     let s = c.args.fields.now in
     let z = plain_zone c.args.zone.now in
-    let none = rw (ap (λ q. q.sets) c.new-inquiry.ensures) at (c.if-not-some_month_has_a_day.ensures.none refl) in
+    let none = rw c.of-members.ensures at (c.if-not-some_month_has_a_day.ensures refl) in
     rw c.arrive.ensures.stand (start_nowhere c.args.way s z _ (nowhere s z none))
