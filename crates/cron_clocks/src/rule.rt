@@ -68,7 +68,7 @@ fn sunday_zero(date: Date) -> u8
     ensures value { result ≡ sunday_number (epoch_day date) }
     ensures bound { result < 7 }
 {
-    (date.weekday().index() + 1) % 7
+    date.weekday().to_sunday_zero_offset() as u8
 }
 
 // The day number of the weekday in the week of the month, where week 5 is the last.

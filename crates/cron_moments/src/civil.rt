@@ -10,6 +10,9 @@ use jiff_core::civil::{Date, Time};
 /// The civil seconds of the range, 1970-01-01 00:00:00 to 2100-12-31 23:59:59.
 pub const SECONDS: i64 = 4_133_980_800;
 
+/// The days of the range.
+pub const DAYS: u32 = 47_847;
+
 /// The seconds of a day.
 pub const SECONDS_PER_DAY: u32 = 86_400;
 

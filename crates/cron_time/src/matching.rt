@@ -3,6 +3,7 @@
 ghost use Rattle.std.specs.Prelude.{◌≡◌, ℕ, ◌+◌, ◌<◌, ◌≤◌, true};
 ghost use Rattle.cron_bits.specs.Words.{has_bit};
 ghost use Rattle.cron_units.specs.Units.{contains};
+ghost use Rattle.cron_moments.specs.Civil.{years_in_range};
 ghost use Rattle.cron_time.specs.Matches.{IncludesEachDate, matches, is_candidate, matches_date, matches_day_of_month, matches_time};
 
 use cron_bits::words::Words;
@@ -67,7 +68,7 @@ fn is_full(word: u64, count: u32) -> bool
 // Whether each year of the range lies in its set.
 #[inline(always)]
 fn includes_each_year(fields: &ScheduleFields) -> bool
-    ensures { result ≡ true → (k : ℕ) → k < 131 → contains fields.now.years (1970 + k) ≡ true }
+    ensures { result ≡ true → (k : ℕ) → k < years_in_range → contains fields.now.years (1970 + k) ≡ true }
 {
     let (first, second, third) = three(&fields.years);
     if !is_full(first, 64) {

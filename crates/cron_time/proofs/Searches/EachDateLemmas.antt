@@ -2,7 +2,7 @@
 use Rattle.std.proofs.Common.{◌≡◌, ℕ, ◌+◌, ◌-◌, ◌<◌, ◌≤◌, ◌&&◌, Bool, true, List, pos, Some, None, refl, sym, ap, subst, ◌∙◌, inl, inr, arith}
 use Rattle.std.specs.Prelude.{nat_le, nat_lt}
 use Rattle.std.proofs.lemmas.Bool.{and_from, and_left, cases_lt, le-leb, lt-ltb, le-ltb, or_left}
-use Rattle.cron_moments.specs.Civil.{days_in_range}
+use Rattle.cron_moments.specs.Civil.{days_in_range, years_in_range}
 use Rattle.cron_bits.specs.Words.{has_bit, bit_of_three, then_bits}
 use Rattle.cron_units.specs.declared.way.Way.{Way}
 use Rattle.cron_units.specs.Nearest.{LiesFrom, IsNearest}
@@ -40,7 +40,7 @@ bits_past q r k second third less =
     ]
 
 pub each_bit : (p q r k : ℕ) → ((i : ℕ) → i < 64 → has_bit p i ≡ true) → ((i : ℕ) → i < 64 → has_bit q i ≡ true)
-    → ((i : ℕ) → i < 3 → has_bit r i ≡ true) → k < 131 → bit_of_three p q r k ≡ true
+    → ((i : ℕ) → i < 3 → has_bit r i ≡ true) → k < years_in_range → bit_of_three p q r k ≡ true
 each_bit p q r k first second third less =
     elim (cases_lt k 64) [
       | inl lt ↦ then_low (has_bit p) (then_bits (has_bit q) (has_bit r)) k lt ∙ first k lt
@@ -48,7 +48,7 @@ each_bit p q r k first second third less =
     ]
 
 pub record AreWhole (s : Sets) : Type 0 where
-  pub years : (k : ℕ) → k < 131 → contains s.years (1970 + k) ≡ true
+  pub years : (k : ℕ) → k < years_in_range → contains s.years (1970 + k) ≡ true
   pub months : (k : ℕ) → k < 12 → contains s.months (1 + k) ≡ true
   pub days : (k : ℕ) → k < 31 → contains s.days_of_month.ordinals (1 + k) ≡ true
   pub week : (k : ℕ) → k < 7 → contains s.days_of_week (1 + k) ≡ true
@@ -57,7 +57,7 @@ each_ranked : (s : Sets) (month day : ℕ) → AreWhole s → first_month ≤ mo
     → matches_ranked s (rank month day) ≡ true
 each_ranked s month day w low high first last =
     let short = longest_31 month in
-    let year = has_from s.years 1970 131 (year_of month) w.years (omega arith) (omega arith) in
+    let year = has_from s.years 1970 years_in_range (year_of month) w.years (omega arith) (omega arith) in
     let month_in = has_from s.months 1 12 (month_of month) w.months (omega arith) (omega arith) in
     let day_in = has_from s.days_of_month.ordinals 1 31 day w.days first (omega (arith, last, short)) in
     let week = has_from s.days_of_week 1 7 (weekday_number (date_numbered (day_number month day)).0) w.week (omega arith) (omega arith) in

@@ -26,14 +26,12 @@ use crate::search::months::Months;
 use crate::search::neighbours::Neighbours;
 use crate::search::ways::{entry, past_below};
 use cron_bits::words::Words;
-use cron_moments::calendar::{KnownMonth, SHORTEST, length_of};
+use cron_moments::calendar::{KnownMonth, SHORTEST, length_of, weekday_of};
+use cron_moments::civil::DAYS;
 use cron_units::fields::ScheduleFields;
 use cron_units::time_unit::TimeUnitSpec;
 use cron_units::time_unit::layout::{bits, bits_of_days};
 use cron_units::way::Way;
-
-/// The end of the days of the range.
-const DAYS: u32 = 47_847;
 
 /// A month, and a bit for each of its days, the first one for the first day: 1 where the date matches.
 /// If no bit is 1, nobody may have looked.
@@ -71,7 +69,7 @@ fn weekdays_from(fields: &ScheduleFields, day: u32) -> u64
     let two = week | week << 7;
     let four = two | two << 14;
     let eight = four | four << 28;
-    eight >> ((day + 4) % 7)
+    eight >> (weekday_of(day) - 1)
 }
 
 // The month beside one in its year, if it lies in the set.

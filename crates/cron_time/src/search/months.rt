@@ -1,5 +1,6 @@
 //! The nearest year, and the nearest month of the range or of a year.
-ghost use Rattle.cron_units.specs.Units.{contains};
+ghost use Rattle.std.specs.Prelude.{◌+◌};
+ghost use Rattle.cron_units.specs.Units.{contains, years};
 ghost use Rattle.cron_moments.specs.Calendar.{first_month, months_end};
 ghost use Rattle.cron_time.specs.Search.Inner.Numbers.{matches_month, matches_month_of_year};
 
@@ -47,9 +48,9 @@ impl Neighbours for Years {
 
     ghost parts = { 1 };
 
-    ghost least = { 1970 };
+    ghost least = { years.least };
 
-    ghost LIMIT = { 2101 };
+    ghost LIMIT = { years.greatest + 1 };
 
     #[inline(always)]
     fn nearest_counted<C: Counter>(

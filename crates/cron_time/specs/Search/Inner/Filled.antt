@@ -4,7 +4,7 @@ use Rattle.std.specs.List.{range_with_len}
 use Rattle.std.proofs.Common.{arith, refl, sym, subst, inl, inr, eqb-true}
 use Rattle.std.proofs.lemmas.Bool.{and_from, or_cases, or_left, eq-eqb}
 use Rattle.cron_units.specs.Sets.{Sets, IsFilled, AreSets}
-use Rattle.cron_units.specs.Units.{TimeUnit, whole, contains}
+use Rattle.cron_units.specs.Units.{TimeUnit, whole, contains, years}
 use Rattle.cron_time.specs.Search.Inner.Numbers.{matches_month, matches_rest, matches_second}
 use Rattle.cron_moments.specs.Calendar.{months_end}
 
@@ -59,7 +59,7 @@ minutes_filled s a = let m = member_of _ s.minutes (omega arith) a.minutes in (m
 pub hours_filled : (s : Sets) → AreSets s → HasOne 24 (contains s.hours)
 hours_filled s a = let m = member_of _ s.hours (omega arith) a.hours in (m.number, m.high, m.is_member)
 
-pub years_filled : (s : Sets) → AreSets s → HasOne 2101 (contains s.years)
+pub years_filled : (s : Sets) → AreSets s → HasOne (years.greatest + 1) (contains s.years)
 years_filled s a = let m = member_of _ s.years (omega arith) a.years in (m.number, m.high, m.is_member)
 
 pub months_filled : (s : Sets) → AreSets s → HasOne 12 (λ n. contains s.months (n + 1))

@@ -1,7 +1,10 @@
-use Rattle.std.proofs.Common.{ℕ, Bool, ◌&&◌, nat_lt, ◌+◌, ◌*◌, ◌%◌, ◌^◌, ◌<◌, ◌≡◌, refl, ap, ◌∙◌, arith, bit_or}
+use Rattle.std.proofs.Common.{ℕ, Bool, ◌&&◌, nat_lt, ◌+◌, ◌-◌, ◌*◌, ◌%◌, ◌^◌, ◌<◌, ◌≡◌, refl, ap, sym, ◌∙◌, arith, bit_or}
 use Rattle.cron_bits.specs.Words.{has_bit}
 use Rattle.cron_units.specs.Sets.{Sets}
 use Rattle.cron_units.specs.Units.{contains}
+use Rattle.cron_moments.specs.CivilDates.{date_numbered}
+use Rattle.cron_moments.proofs.DateLemmas.{epoch_at}
+use Rattle.cron_moments.proofs.NumberLemmas.{weekday_by_number}
 use Rattle.cron_time.proofs.Searches.WeekLemmas.{once, repeats, twice, week_from}
 use Rattle.cron_time.proofs.search.month_days.weekdays_from.Goals as goal
 
@@ -19,5 +22,7 @@ returns c = λ k less.
     let two : (j : ℕ) → j < 64 → has_bit w2 j ≡ repeats p 14 j = λ j l. twice p w 7 j l refl one in
     let four : (j : ℕ) → j < 64 → has_bit w4 j ≡ repeats p 28 j = λ j l. twice p w2 14 j l refl two in
     let eight : (j : ℕ) → j < 64 → has_bit w8 j ≡ repeats p 56 j = λ j l. twice p w4 28 j l refl four in
-    let at : 1 + (k + (c.args.day + 4) % 7) % 7 ≡ (c.args.day + k + 4) % 7 + 1 = omega arith in
-    week_from p w8 ((c.args.day + 4) % 7) k less (omega arith) eight ∙ ap (contains c.args.fields.now.days_of_week) at
+    let shift : c.weekday_of.result ≡ (c.args.day + 4) % 7 + 1 = c.weekday_of.ensures
+    ∙ sym (weekday_by_number (date_numbered c.args.day).0 c.args.day (epoch_at c.args.day c.requires)) in
+    let at : 1 + (k + (c.weekday_of.result - 1)) % 7 ≡ (c.args.day + k + 4) % 7 + 1 = omega (arith, shift) in
+    week_from p w8 (c.weekday_of.result - 1) k less (omega (arith, shift)) eight ∙ ap (contains c.args.fields.now.days_of_week) at
