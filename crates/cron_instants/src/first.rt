@@ -1,5 +1,5 @@
 //! The first item after an instant. Where no transition is near, a later time of the clock is a later
-//! instant, so the next match on the clock is that item. Elsewhere it is search_next for by instants.
+//! instant, so the next match on the clock is that item. Elsewhere the search goes by instants.
 ghost use Rattle.std.specs.Prelude.{◌≡◌, ◌≤◌, ◌<◌, pos, ◌-ℤ◌, IfSome};
 ghost use Rattle.jiff.specs.Words.{plain_zone};
 ghost use Rattle.cron_clocks.specs.Steady.{IsKnown};
