@@ -1,20 +1,17 @@
 -- Laws of due fires.
-use Rattle.std.proofs.Common.{◌≡◌, ℕ, zero, suc, ◌<◌, ◌≤◌, ℤ, pos, ◌-ℤ◌, ◌≤ℤ◌, [], ◌∷◌, ◌++◌, nat_lt, true, false, cond, Some, inl, inr, refl, sym, ap, ◌∙◌, arith}
+use Rattle.std.proofs.Common.{◌≡◌, ℕ, ◌<◌, ◌≤◌, ℤ, pos, ◌-ℤ◌, ◌≤ℤ◌, [], ◌∷◌, ◌++◌, nat_lt, Some, inl, inr, refl, sym, ap, ◌∙◌, arith}
 use Rattle.std.specs.Prelude.{filter, slice_get}
 use Rattle.std.proofs.lemmas.Bool.{cases_lt}
 use Rattle.jiff_core.proofs.SignedLemmas.{signed_arith}
-use Rattle.std.specs.Ordering.{int_eq}
-use Rattle.jiff_tz.specs.declared.ambiguous.AmbiguousOffset.{AmbiguousOffset}
-use Rattle.jiff_tz.specs.declared.ambiguous.AmbiguousOffset.TheVariants.{Unambiguous, Gap, Fold}
 use Rattle.jiff_tz.specs.declared.timezone.TimeZone.{TimeZone}
-use Rattle.jiff_tz.specs.Zone.{ambiguous_at}
 use Rattle.cron_units.specs.Sets.{Sets}
 use Rattle.cron_moments.specs.Civil.{civil, seconds_in_range}
-use Rattle.cron_moments.specs.Readings.{Reading, reading, readings, readings_by}
+use Rattle.cron_moments.specs.Readings.{Reading, readings}
 use Rattle.cron_moments.specs.Readings as moments
 use Rattle.cron_time.specs.Matches.{matches}
 use Rattle.cron_time.specs.Timeline.{numbers_below}
 use Rattle.cron_time.proofs.PlaceLemmas.{nothing_in_nil}
+use Rattle.cron_time.proofs.TimelineLemmas.{readings-second}
 use Rattle.cron_clocks.specs.Clocks.{HasInstant, LookupsAgree}
 use Rattle.cron_dues.specs.Due.{Due, clock, due, due_instant, instant}
 use Rattle.cron_dues.specs.Dues.{dues, matching_seconds}
@@ -56,33 +53,12 @@ never_decrease s z i j d e le here there = elim (cases_lt i j) [
 
 -- ---- readings
 
-second_one : (c : ℕ) (i : ℕ) (q r : Reading) → q.second ≡ c → slice_get (q ∷ []) i ≡ Some r → r.second ≡ c
-second_one c zero q r is e = let same : q ≡ r = cc in rw (← same) is
-second_one c (suc i) q r is e = absurd (nothing_in_nil i r e)
-
-second_two : (c : ℕ) (i : ℕ) (p q r : Reading) → p.second ≡ c → q.second ≡ c → slice_get (p ∷ q ∷ []) i ≡ Some r → r.second ≡ c
-second_two c zero p q r one other e = let same : p ≡ r = cc in rw (← same) one
-second_two c (suc i) p q r one other e = second_one c i q r other e
-
-second_by : (c : ℕ) (a : AmbiguousOffset) (i : ℕ) (r : Reading) → slice_get (readings_by c a) i ≡ Some r → r.second ≡ c
-second_by c (Unambiguous o) i r e = second_one c i (reading c o) r refl e
-second_by c (Gap b a) i r e = absurd (nothing_in_nil i r e)
-second_by c (Fold b a) i r e =
-    elim (int_eq b.seconds a.seconds) as (λ same. slice_get (cond same (reading c b ∷ []) (reading c b ∷ reading c a ∷ [])) i ≡ Some r → r.second ≡ c) [
-      | true ↦ λ k. second_one c i (reading c b) r refl k
-      | false ↦ λ k. second_two c i (reading c b) (reading c a) r refl refl k
-    ] e
-
-second_at : (z : TimeZone) (c i : ℕ) (r : Reading) → slice_get (readings z c) i ≡ Some r → r.second ≡ c
-unfolding readings
-second_at z c i r e = second_by c (ambiguous_at z (civil c)) i r e
-
 -- at the instant of a reading the clock shows its second
 shown_at : (z : TimeZone) (c i : ℕ) (r : Reading) → LookupsAgree z → c < seconds_in_range → slice_get (readings z c) i ≡ Some r
     → clock z (moments.instant r) ≡ pos c
 shown_at z c i r agree range e =
     let shown = agree.readings_shown c i r range e in
-    let second = second_at z c i r e in
+    let second = readings-second z c i r e in
     omega (arith, signed_arith)
 
 no_later : (z : TimeZone) (c i : ℕ) (r : Reading) → LookupsAgree z → c < seconds_in_range → slice_get (readings z c) i ≡ Some r

@@ -36,7 +36,11 @@ second_by c (Fold b a) i r e =
       | false ↦ λ k. second_two c i (reading c b) (reading c a) r refl refl k
     ] e
 
--- an item has the civil second that it stands for
+-- a reading has the civil second that it stands for, and so has an item
+pub readings-second : (z : TimeZone) (c i : ℕ) (r : Reading) → slice_get (readings z c) i ≡ Some r → r.second ≡ c
+unfolding readings
+readings-second z c i r e = second_by c (ambiguous_at z (civil c)) i r e
+
 pub items_of-second : (s : Sets) (z : TimeZone) (c : ℕ) (i : ℕ) (r : Reading) → slice_get (items_of s z c) i ≡ Some r → r.second ≡ c
 unfolding items_of readings
 items_of-second s z c i r e =
