@@ -17,7 +17,8 @@ use Rattle.cron_dues.specs.Due.{Due, clock, due, due_instant, instant}
 use Rattle.cron_dues.specs.Dues.{dues, matching_seconds}
 use Rattle.cron_dues.specs.DueLaws.{FiresAreTheMatches, NominalSecondsAscend, DueInstantsNeverDecrease, FirstReadingsAreDue, GapsArePassedOver, CutListsGoOn}
 use Rattle.cron_dues.proofs.DueLemmas.{as_natural, due_ascends, due_by, due_is, fire_due}
-use Rattle.cron_dues.proofs.ListLemmas.{Ascends, ascends-at, ascends-filter, ascends-map, cut-behind, map-back, numbers-ascend}
+use Rattle.cron_time.proofs.ListLemmas.{map-back}
+use Rattle.cron_dues.proofs.ListLemmas.{Ascends, ascends-at, ascends-filter, ascends-map, cut-behind, numbers-ascend}
 use Rattle.cron_dues.proofs.MemberLemmas.{own-of}
 
 pub fires_are_matches : FiresAreTheMatches

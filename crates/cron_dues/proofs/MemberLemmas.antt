@@ -21,7 +21,7 @@ use Rattle.cron_dues.specs.FirstDues.{IsDue, IsFirst, IsLast, IsFirstDueAfter, I
 use Rattle.cron_dues.specs.Inner.Reached.{IsReachedBy}
 use Rattle.cron_dues.specs.Inner.Nearest.{IsNearestDue}
 use Rattle.cron_dues.proofs.DueLemmas.{fire_due}
-use Rattle.cron_dues.proofs.ListLemmas.{Among, among-below, among-filter, among-map, below-among, filter-among, map-among}
+use Rattle.cron_time.proofs.ListLemmas.{Among, among-below, among-filter, among-map, below-among, filter-among, map-among}
 
 -- ---- which they are
 

@@ -16,7 +16,8 @@ use Rattle.cron_dues.specs.Inner.Nearest.{IsNearestDue}
 use Rattle.cron_dues.specs.Inner.Left.{is_from, is_within, left_from, left_until}
 use Rattle.cron_dues.proofs.DueLemmas.{due_ascends, fire_due}
 use Rattle.cron_dues.proofs.LawLemmas.{dues-ascend}
-use Rattle.cron_dues.proofs.ListLemmas.{among-filter, filter-alike, filter-none, first-passing}
+use Rattle.cron_time.proofs.ListLemmas.{among-filter, filter-alike, filter-none}
+use Rattle.cron_dues.proofs.ListLemmas.{first-passing}
 use Rattle.cron_dues.proofs.MemberLemmas.{after-lies, ahead_least, less-true, lies-after, nearest-own, not_both, own-of, second_of, true-less}
 
 same_tests : (a b : Bool) → (a ≡ true → b ≡ true) → (b ≡ true → a ≡ true) → a ≡ b

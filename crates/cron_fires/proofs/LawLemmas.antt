@@ -12,7 +12,8 @@ use Rattle.cron_instants.specs.Fires.{fires, fires_after, fires_past, fires_betw
 use Rattle.cron_instants.specs.Instants.{IsAmong}
 use Rattle.cron_instants.specs.Order.{is_earlier}
 use Rattle.cron_instants.proofs.AgreementLemmas.{instants_apart}
-use Rattle.cron_instants.proofs.AscentLemmas.{Ascends, KeepsOn, among-cases, among-cut, among-filter, ascends-filter, cut-behind, earlier-not_itself, filter-all, filter-alike, filter-among, filter-none, filter-swap, filter-within}
+use Rattle.cron_time.proofs.ListLemmas.{among-cases, among-filter, filter-alike, filter-all, filter-among, filter-none, filter-swap, filter-within}
+use Rattle.cron_instants.proofs.AscentLemmas.{Ascends, KeepsOn, among-cut, ascends-filter, cut-behind, earlier-not_itself}
 use Rattle.cron_instants.proofs.FireLemmas.{after-keeps_on, fires-ascend, fires-ascend_at, fires-of_item, first-after, int_le-true, int_lt-true, item-of_fires, past-keeps_on}
 use Rattle.cron_instants.proofs.OrderLemmas.{before-less, before-not_less}
 use Rattle.cron_fires.specs.Laws.{AgreeingZonesTellApart, CutRunsGoOn, CutRunsPastGoOn, CutStretchesGoOn, FiresAreTheItems, FiresAscend, LoopsAreRuns, NextIsPast, StretchesAreJoined, StretchesHaveTheirItems}

@@ -5,6 +5,7 @@ use Rattle.std.proofs.lemmas.Bool.{cases_lt}
 use Rattle.jiff_core.proofs.SignedLemmas.{signed_arith}
 use Rattle.cron_instants.proofs.AgreementLemmas.{same_offset, same_reading}
 use Rattle.cron_moments.specs.Readings.{Reading, instant}
+use Rattle.cron_time.proofs.ListLemmas.{among-cases, among-filter, among-first, among-none, among-rest, filter-all, filter-fails, filter-none}
 use Rattle.cron_time.proofs.PlaceLemmas.{nothing_in_nil}
 use Rattle.cron_units.specs.declared.way.Way.TheVariants.{Ahead}
 use Rattle.cron_instants.specs.Fires.{insert, earliest_first}
@@ -48,24 +49,6 @@ earlier-other a b h apart = by_test (is_earlier b a) refl
     by_test : (t : Bool) → is_earlier b a ≡ t → t ≡ true
     by_test true is = refl
     by_test false is = absurd (apart (neither-earlier a b h is))
-
--- ---- what stands in a list
-
-pub among-first : (r : Reading) (l : List Reading) → IsAmong (r ∷ l) r
-among-first r l = (0, refl)
-
-pub among-rest : (r q : Reading) (l : List Reading) → IsAmong l q → IsAmong (r ∷ l) q
-among-rest r q l h = (suc h.0, h.1)
-
-cases_at : (r : Reading) (l : List Reading) (q : Reading) (i : ℕ) → slice_get (r ∷ l) i ≡ Some q → (q ≡ r) ⊎ IsAmong l q
-cases_at r l q zero e = let same : q ≡ r = cc in inl same
-cases_at r l q (suc i) e = inr (i, e)
-
-pub among-cases : (r : Reading) (l : List Reading) (q : Reading) → IsAmong (r ∷ l) q → (q ≡ r) ⊎ IsAmong l q
-among-cases r l q h = cases_at r l q h.0 h.1
-
-pub among-none : (q : Reading) → IsAmong [] q → ⊥
-among-none q h = nothing_in_nil h.0 q h.1
 
 -- each reading is earlier than those behind it
 abbrev pub Ascends : List Reading → Type 0
@@ -168,43 +151,7 @@ ascends-at (r ∷ l) zero (suc j) x y up lt e f =
     let same : r ≡ x = cc in ap (λ v. is_earlier v y) (sym same) ∙ up.0 y (j, f)
 ascends-at (r ∷ l) (suc i) (suc j) x y up lt e f = ascends-at l i j x y up.1 (omega arith) e f
 
--- ---- filters
-
-pub filter-all : (p : Reading → Bool) (l : List Reading) → ((q : Reading) → IsAmong l q → p q ≡ true) → filter p l ≡ l
-filter-all p [] all = refl
-filter-all p (r ∷ l) all =
-    let passes : p r ≡ true = all r (among-first r l) in
-    rw passes (ap (λ m. r ∷ m) (filter-all p l (λ q h. all q (among-rest r q l h))))
-
-pub filter-none : (p : Reading → Bool) (l : List Reading) → ((q : Reading) → IsAmong l q → p q ≡ false) → filter p l ≡ []
-filter-none p [] none = refl
-filter-none p (r ∷ l) none =
-    let fails : p r ≡ false = none r (among-first r l) in
-    rw fails (filter-none p l (λ q h. none q (among-rest r q l h)))
-
-pub filter-alike : (p t : Reading → Bool) (l : List Reading) → ((q : Reading) → IsAmong l q → p q ≡ t q) → filter p l ≡ filter t l
-filter-alike p t [] alike = refl
-filter-alike p t (r ∷ l) alike =
-    ap (λ b. cond b (r ∷ filter p l) (filter p l)) (alike r (among-first r l))
-    ∙ ap (λ m. cond (t r) (r ∷ m) m) (filter-alike p t l (λ q h. alike q (among-rest r q l h)))
-
-pub filter-passes : (p : Reading → Bool) (r : Reading) (l : List Reading) → p r ≡ true → filter p (r ∷ l) ≡ r ∷ filter p l
-filter-passes p r l h = rw h refl
-
-pub filter-fails : (p : Reading → Bool) (r : Reading) (l : List Reading) → p r ≡ false → filter p (r ∷ l) ≡ filter p l
-filter-fails p r l h = rw h refl
-
-pub among-filter : (p : Reading → Bool) (l : List Reading) (q : Reading) → IsAmong (filter p l) q → IsAmong l q × (p q ≡ true)
-among-filter p [] q h = absurd (among-none q h)
-among-filter p (r ∷ l) q h = by_test (p r) (among-filter p l q) refl h
-  where
-    by_test : (b : Bool) → (IsAmong (filter p l) q → IsAmong l q × (p q ≡ true)) → p r ≡ b
-        → IsAmong (cond b (r ∷ filter p l) (filter p l)) q → IsAmong (r ∷ l) q × (p q ≡ true)
-    by_test true below is k = elim (among-cases r (filter p l) q k) [
-      | inl e ↦ ((0, ap Some (sym e)), ap p e ∙ is)
-      | inr there ↦ let both = below there in (among-rest r q l both.0, both.1)
-    ]
-    by_test false below is k = let both = below k in (among-rest r q l both.0, both.1)
+-- ---- what is left of a list
 
 -- what passes the test passes it from there on
 abbrev pub KeepsOn : (Reading → Bool) → Type 0
@@ -252,21 +199,6 @@ first-left p l (Some r) on up found = first-passing p l r on up found.0.0 found.
 
 -- ---- parts of an ascending list
 
-filter_among-by : (p : Reading → Bool) (r q : Reading) (l m : List Reading) (b : Bool) → p r ≡ b → p q ≡ true → (IsAmong l q → IsAmong m q)
-    → IsAmong (r ∷ l) q → IsAmong (cond b (r ∷ m) m) q
-filter_among-by p r q l m true is passes below h = elim (among-cases r l q h) [
-  | inl e ↦ (0, ap Some (sym e))
-  | inr there ↦ among-rest r q m (below there)
-]
-filter_among-by p r q l m false is passes below h = elim (among-cases r l q h) [
-  | inl e ↦ let same : p r ≡ true = ap p (sym e) ∙ passes in absurd (cc)
-  | inr there ↦ below there
-]
-
-pub filter-among : (p : Reading → Bool) (l : List Reading) (q : Reading) → IsAmong l q → p q ≡ true → IsAmong (filter p l) q
-filter-among p [] q h passes = h
-filter-among p (r ∷ l) q h passes = filter_among-by p r q l (filter p l) (p r) refl passes (λ there. filter-among p l q there passes) h
-
 ascends_filter-by : (p : Reading → Bool) (r : Reading) (l : List Reading) (b : Bool) → Ascends (r ∷ l) → Ascends (filter p l)
     → Ascends (cond b (r ∷ filter p l) (filter p l))
 ascends_filter-by p r l true up below = (λ q h. up.0 q (among-filter p l q h).0, below)
@@ -288,29 +220,6 @@ once-ascending l i j x up e f = elim (cases_lt i j) [
     | inr low ↦ omega arith
   ]
 ]
-
-both_filters : (p t : Reading → Bool) (r : Reading) (l : List Reading) (b c : Bool) → p r ≡ b → t r ≡ c → filter p (filter t l) ≡ filter t (filter p l)
-    → filter p (cond c (r ∷ filter t l) (filter t l)) ≡ filter t (cond b (r ∷ filter p l) (filter p l))
-both_filters p t r l true true f g same = filter-passes p r (filter t l) f ∙ ap (λ m. r ∷ m) same ∙ sym (filter-passes t r (filter p l) g)
-both_filters p t r l true false f g same = same ∙ sym (filter-fails t r (filter p l) g)
-both_filters p t r l false true f g same = filter-fails p r (filter t l) f ∙ same
-both_filters p t r l false false f g same = same
-
-pub filter-swap : (p t : Reading → Bool) (l : List Reading) → filter p (filter t l) ≡ filter t (filter p l)
-filter-swap p t [] = refl
-filter-swap p t (r ∷ l) = both_filters p t r l (p r) (t r) refl refl (filter-swap p t l)
-
-within_by : (p t : Reading → Bool) (r : Reading) (l : List Reading) (b c : Bool) → p r ≡ b → t r ≡ c → (t r ≡ true → p r ≡ true)
-    → filter t (filter p l) ≡ filter t l → filter t (cond b (r ∷ filter p l) (filter p l)) ≡ cond c (r ∷ filter t l) (filter t l)
-within_by p t r l true true f g less same = filter-passes t r (filter p l) g ∙ ap (λ m. r ∷ m) same
-within_by p t r l true false f g less same = filter-fails t r (filter p l) g ∙ same
-within_by p t r l false true f g less same = let passes = less g in absurd (cc)
-within_by p t r l false false f g less same = same
-
--- a test that only passes what another one passes needs no other one before it
-pub filter-within : (p t : Reading → Bool) (l : List Reading) → ((q : Reading) → t q ≡ true → p q ≡ true) → filter t (filter p l) ≡ filter t l
-filter-within p t [] less = refl
-filter-within p t (r ∷ l) less = within_by p t r l (p r) (t r) refl refl (less r) (filter-within p t l less)
 
 among-behind : (done : List Reading) (last : Reading) (rest : List Reading) → IsAmong (done ++ last ∷ rest) last
 among-behind [] last rest = among-first last rest

@@ -12,7 +12,8 @@ use Rattle.cron_time.proofs.TimelineLaws.{stand_once}
 use Rattle.cron_instants.specs.Fires.{fires, fires_after, fires_past, is_after, is_by}
 use Rattle.cron_instants.specs.Instants.{IsAmong, IsItem, IsEarliest, IsFirstAfter, IsFirstPast}
 use Rattle.cron_instants.specs.Order.{is_earlier}
-use Rattle.cron_instants.proofs.AscentLemmas.{Ascends, KeepsOn, ascends-at, ascends-earliest_first, among-earliest_first, among-filter, earliest_first-among, earlier-through, filter-fails, filter-none, filter-passes, first-left, once-of}
+use Rattle.cron_time.proofs.ListLemmas.{among-filter, filter-fails, filter-none, filter-passes}
+use Rattle.cron_instants.proofs.AscentLemmas.{Ascends, KeepsOn, ascends-at, ascends-earliest_first, among-earliest_first, earliest_first-among, earlier-through, first-left, once-of}
 use Rattle.cron_instants.proofs.OrderLemmas.{before-true}
 
 -- ---- the fires are the items, each once, and ascend

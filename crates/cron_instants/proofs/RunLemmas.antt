@@ -14,7 +14,8 @@ use Rattle.cron_instants.specs.Instants.{IsItem, IsEarliest}
 use Rattle.cron_instants.specs.Order.{is_earlier}
 use Rattle.cron_instants.specs.Inner.Beyond.{beyond, IsBest, IsBeyond}
 use Rattle.cron_instants.specs.Inner.Left.{is_within, left_until, left_beyond}
-use Rattle.cron_instants.proofs.AscentLemmas.{KeepsOn, among-filter, filter-alike, filter-fails, filter-none, filter-passes}
+use Rattle.cron_time.proofs.ListLemmas.{among-filter, filter-alike, filter-fails, filter-none, filter-passes}
+use Rattle.cron_instants.proofs.AscentLemmas.{KeepsOn}
 use Rattle.cron_instants.proofs.BestLemmas.{best_of_more}
 use Rattle.cron_instants.proofs.FireLemmas.{first-of_fires, int_le-false, int_le-true, int_lt-true, item-of_fires, not_later}
 use Rattle.cron_instants.proofs.ItemLemmas.{after_beyond, beyond_after, item_of, stands_of}

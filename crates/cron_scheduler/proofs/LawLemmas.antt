@@ -5,7 +5,7 @@ use Rattle.std.proofs.lemmas.Int.{ints}
 use Rattle.jiff_core.specs.declared.Timestamp.{Timestamp}
 use Rattle.cron_moments.specs.Readings.{Reading}
 use Rattle.cron_instants.specs.Fires.{is_by}
-use Rattle.cron_instants.proofs.AscentLemmas.{filter-alike}
+use Rattle.cron_time.proofs.ListLemmas.{filter-alike}
 use Rattle.cron_fires.proofs.LawLemmas.{cut_after, cut_past}
 use Rattle.cron_scheduler.specs.declared.plan.Start.TheVariants.{After, Past}
 use Rattle.cron_scheduler.specs.Runs.{is_due}

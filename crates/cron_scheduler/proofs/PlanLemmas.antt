@@ -9,7 +9,7 @@ use Rattle.cron_moments.specs.Readings.{Reading, instant}
 use Rattle.cron_instants.specs.Order.{is_earlier}
 use Rattle.cron_instants.specs.Fires.{fires, fires_past, is_by}
 use Rattle.cron_instants.specs.Instants.{IsAmong}
-use Rattle.cron_instants.proofs.AscentLemmas.{among-first, among-rest, among-filter}
+use Rattle.cron_time.proofs.ListLemmas.{among-filter, among-first, among-rest}
 use Rattle.cron_instants.proofs.FireLemmas.{late-keeps_on}
 use Rattle.cron_scheduler.specs.declared.plan.Start.{Start}
 use Rattle.cron_scheduler.specs.Plans.{fires_from}

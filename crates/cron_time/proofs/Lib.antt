@@ -1,4 +1,5 @@
 pub mod PlaceLemmas
+pub mod ListLemmas
 pub mod JoinedLemmas
 pub mod TimelineLemmas
 pub mod TimelineLaws
