@@ -5,7 +5,6 @@
 pub mod dues;
 pub mod fire;
 pub mod laws;
-mod numbers;
 mod reach;
 pub mod run;
 mod steady;

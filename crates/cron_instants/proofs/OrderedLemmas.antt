@@ -1,7 +1,9 @@
 -- Where a stretch of one offset lies far enough from the others, its civil seconds are in order.
 use Rattle.std.proofs.Common.{◌≡◌, ℕ, zero, suc, ◌+◌, ◌<◌, ◌≤◌, ℤ, pos, negsuc, ◌+ℤ◌, ◌≤ℤ◌, ◌<ℤ◌, int_lt, Bool, true, false, [], ◌∷◌, Some, None, ◌⊎◌, inl, inr, refl, sym, ap, subst, ◌∙◌, arith}
 use Rattle.std.specs.Prelude.{slice_get}
+use Rattle.std.specs.Int.{int_min}
 use Rattle.std.proofs.lemmas.Bool.{cases_lt}
+use Rattle.std.proofs.lemmas.Int.{clamps, ints}
 use borrow.Author.Differences.{lt-true, lt-false}
 use Rattle.jiff_core.proofs.SignedLemmas.{signed_arith}
 use Rattle.jiff_core.specs.declared.Offset.{Offset}
@@ -19,6 +21,10 @@ use Rattle.cron_instants.specs.declared.offset_range.OffsetRange.{OffsetRange}
 pub only_reading : (q r : Reading) (i : ℕ) → slice_get (q ∷ []) i ≡ Some r → r ≡ q
 only_reading q r zero e = cc
 only_reading q r (suc i) e = absurd (nothing_in_nil i r e)
+
+-- what is at most each of two numbers is at most the lesser
+pub at_most_lesser : (n x y r : ℤ) → r ≡ int_min x y → n ≤ℤ x → n ≤ℤ y → n ≤ℤ r
+at_most_lesser n x y r e h k = rw e (omega (arith, ints, clamps))
 
 pub sides : (x y : ℤ) → (x <ℤ y) ⊎ (y ≤ℤ x)
 sides x y = by_test (int_lt x y) refl

@@ -32,16 +32,6 @@ pub(crate) struct Monotone {
     pub end: u32,
 }
 
-// The lesser of two numbers.
-#[inline(always)]
-fn lesser(one: i64, other: i64) -> i64
-    ensures one { result ≤ℤ one }
-    ensures other { result ≤ℤ other }
-    ensures greatest { (n : ℤ) → n ≤ℤ one → n ≤ℤ other → n ≤ℤ result }
-{
-    if one < other { one } else { other }
-}
-
 // Civil seconds that end so many seconds before an end, if there are any.
 fn monotone_up_to(offset: Offset, end: i64, width: i64) -> Monotone
     requires width { IsBetween (pos 0) (pos 4_294_967_295) width }
@@ -70,9 +60,9 @@ fn monotone_in(stretch: &Stretch, second: u32, offset_range: OffsetRange) -> Opt
     let offset = one_offset(stretch)?;
     let at = i64::from(second);
     let width = offset_range.width();
-    let end = lesser(i64::from(stretch.end), SECONDS);
+    let end = i64::from(stretch.end).min(SECONDS);
     if at < offset_range.edge {
-        return Some(monotone_up_to(offset, lesser(end, offset_range.edge), width));
+        return Some(monotone_up_to(offset, end.min(offset_range.edge), width));
     }
     let past = at - width;
     if past < i64::from(stretch.first) || past < offset_range.edge {

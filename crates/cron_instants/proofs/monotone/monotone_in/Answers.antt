@@ -1,58 +1,58 @@
 use Rattle.std.proofs.Common.{◌≡◌, ◌∙◌, ◌-ℤ◌, pos, of_z, to_z, w64, FitsSigned, to_z-of_z, arith, rules}
 use Rattle.jiff_core.proofs.SignedLemmas.{signed_arith, signed_casts}
 use Rattle.cron_instants.specs.Inner.OffsetRange.{width}
-use Rattle.cron_instants.proofs.OrderedLemmas.{monotone_before, monotone_past}
+use Rattle.cron_instants.proofs.OrderedLemmas.{at_most_lesser, monotone_before, monotone_past}
 use Rattle.cron_instants.proofs.monotone.monotone_in.Goals as goal
 
 pub monotone_up_to-requires-clause-end : goal.monotone_up_to-requires-clause-end
 monotone_up_to-requires-clause-end c =
-    let fits : FitsSigned w64 c.lesser.result = search rules in
-    let fits-end : FitsSigned w64 c.lesser-end.result = search rules in
+    let fits : FitsSigned w64 c.min.result = search rules in
+    let fits-end : FitsSigned w64 c.min-end.result = search rules in
     let fits-edge : FitsSigned w64 c.args.offset_range.edge = search rules in
     let from : to_z w64 (of_z w64 c.from.result) ≡ pos c.args.stretch.now.end = omega (arith, signed_casts, c.from.ensures, c.ranges) in
     let at : to_z w64 (of_z w64 c.from-at.result) ≡ pos c.args.second = omega (arith, signed_casts, c.from-at.ensures, c.requires) in
-    let end = rw from at c.lesser-end.ensures in
-    let low-end = end.greatest (pos 0) (omega (arith, signed_arith)) (omega (arith, signed_arith)) in
-    let least = rw (to_z-of_z fits-end, to_z-of_z fits-edge) at c.lesser.ensures in
+    let end = rw from at c.min-end.ensures in
+    let low-end = at_most_lesser (pos 0) _ _ _ end.value (omega (arith, signed_arith)) (omega (arith, signed_arith)) in
+    let least = rw (to_z-of_z fits-end, to_z-of_z fits-edge) at c.min.ensures in
     let short = rw (to_z-of_z fits-edge, at) at c.if-at-offset_range.true in
-    let low = least.greatest (pos 0) low-end (omega (arith, signed_casts)) in
-    rw (to_z-of_z fits) (low, omega (arith, signed_arith, end.other, least.one))
+    let low = at_most_lesser (pos 0) _ _ _ least.value low-end (omega (arith, signed_casts)) in
+    rw (to_z-of_z fits) (low, omega (arith, signed_arith, end.other_bound, least.self_bound))
 
 pub returns-then-at-offset_range : goal.returns-then-at-offset_range
 returns-then-at-offset_range c z offset_range known =
-    let fits : FitsSigned w64 c.lesser.result = search rules in
+    let fits : FitsSigned w64 c.min.result = search rules in
     let fits-width : FitsSigned w64 c.width-width.result = search rules in
-    let fits-end : FitsSigned w64 c.lesser-end.result = search rules in
+    let fits-end : FitsSigned w64 c.min-end.result = search rules in
     let fits-edge : FitsSigned w64 c.args.offset_range.edge = search rules in
     let from : to_z w64 (of_z w64 c.from.result) ≡ pos c.args.stretch.now.end = omega (arith, signed_casts, c.from.ensures, c.ranges) in
     let at : to_z w64 (of_z w64 c.from-at.result) ≡ pos c.args.second = omega (arith, signed_casts, c.from-at.ensures, c.requires) in
     let short = rw (to_z-of_z fits-edge, at) at c.if-at-offset_range.true in
-    let end = rw from at c.lesser-end.ensures in
-    let least = rw (to_z-of_z fits-end, to_z-of_z fits-edge) at c.lesser.ensures in
+    let end = rw from at c.min-end.ensures in
+    let least = rw (to_z-of_z fits-end, to_z-of_z fits-edge) at c.min.ensures in
     let upto = rw (to_z-of_z fits, to_z-of_z fits-width, c.width-width.ensures.value) at c.monotone_up_to.ensures.end in
     let low = c.requires.low in
     let high = c.requires.high in
     let one = rw c.in_ok-offset.was at c.one_offset.ensures in
-    monotone_before z c.args.offset_range c.args.stretch.now c.in_ok-offset.offset offset_range known one.0 one.1 c.args.second c.requires.range low high c.lesser.result
-    (omega (arith, signed_arith, end.one, least.one)) (omega (arith, signed_arith, end.other, least.one)) c.monotone_up_to.result c.monotone_up_to.ensures.offset upto
-    (omega (arith, signed_casts)) least.other
+    monotone_before z c.args.offset_range c.args.stretch.now c.in_ok-offset.offset offset_range known one.0 one.1 c.args.second c.requires.range low high c.min.result
+    (omega (arith, signed_arith, end.self_bound, least.self_bound)) (omega (arith, signed_arith, end.other_bound, least.self_bound)) c.monotone_up_to.result c.monotone_up_to.ensures.offset upto
+    (omega (arith, signed_casts)) least.other_bound
 
 pub monotone_up_to-requires-2-clause-end : goal.monotone_up_to-requires-2-clause-end
 monotone_up_to-requires-2-clause-end c =
-    let fits-end : FitsSigned w64 c.lesser-end.result = search rules in
+    let fits-end : FitsSigned w64 c.min-end.result = search rules in
     let from : to_z w64 (of_z w64 c.from.result) ≡ pos c.args.stretch.now.end = omega (arith, signed_casts, c.from.ensures, c.ranges) in
-    let end = rw from at c.lesser-end.ensures in
-    rw (to_z-of_z fits-end) (end.greatest (pos 0) (omega (arith, signed_arith)) (omega (arith, signed_arith)), end.other)
+    let end = rw from at c.min-end.ensures in
+    rw (to_z-of_z fits-end) (at_most_lesser (pos 0) _ _ _ end.value (omega (arith, signed_arith)) (omega (arith, signed_arith)), end.other_bound)
 
 pub returns : goal.returns
 returns c z offset_range known =
     let fits-width : FitsSigned w64 c.width-width.result = search rules in
-    let fits-end : FitsSigned w64 c.lesser-end.result = search rules in
+    let fits-end : FitsSigned w64 c.min-end.result = search rules in
     let fits-edge : FitsSigned w64 c.args.offset_range.edge = search rules in
     let from : to_z w64 (of_z w64 c.from.result) ≡ pos c.args.stretch.now.end = omega (arith, signed_casts, c.from.ensures, c.ranges) in
     let at : to_z w64 (of_z w64 c.from-at.result) ≡ pos c.args.second = omega (arith, signed_casts, c.from-at.ensures, c.requires) in
     let first : to_z w64 (of_z w64 c.from-2.result) ≡ pos c.args.stretch.now.first = omega (arith, signed_casts, c.from-2.ensures, c.ranges) in
-    let end = rw from at c.lesser-end.ensures in
+    let end = rw from at c.min-end.ensures in
     let upto = rw (to_z-of_z fits-end, to_z-of_z fits-width, c.width-width.ensures.value) at c.monotone_up_to-2.ensures.end in
     let value = c.width-width.ensures.value in
     let bound = c.width-width.ensures.bound in
@@ -65,6 +65,6 @@ returns c z offset_range known =
     let low = c.requires.low in
     let high = c.requires.high in
     let one = rw c.in_ok-offset.was at c.one_offset.ensures in
-    monotone_past z c.args.offset_range c.args.stretch.now c.in_ok-offset.offset offset_range known one.0 one.1 c.args.second c.requires.range low high c.lesser-end.result
-    end.one end.other c.monotone_up_to-2.result c.monotone_up_to-2.ensures.offset upto
+    monotone_past z c.args.offset_range c.args.stretch.now c.in_ok-offset.offset offset_range known one.0 one.1 c.args.second c.requires.range low high c.min-end.result
+    end.self_bound end.other_bound c.monotone_up_to-2.result c.monotone_up_to-2.ensures.offset upto
     (omega (arith, signed_casts)) (omega (arith, signed_casts))
