@@ -33,7 +33,9 @@ pub trait Words: Copy {
     fn every_nth(first: u32, every: u32) -> Self
         requires { 0 < every }
         ensures fit { IsFit result }
-        ensures bits { (k : ℕ) → has result k ≡ (nat_lt k size && (nat_le first k && nat_eq ((k - first) % every) 0)) };
+        ensures bits { (k : ℕ)
+            → has result k
+            ≡ (nat_lt k size && (nat_le first k && nat_eq ((k - first) % every) 0)) };
 
     /// Tells whether a bit is 1.
     fn contains(self, place: u32) -> bool
@@ -75,12 +77,16 @@ pub trait Words: Copy {
     /// Finds the first bit that is 1.
     fn lowest(self) -> Option<u32>
         requires { IsFit self }
-        ensures { MatchOption result ((k : ℕ) → has self k ≡ false) (λ i. (i < size) × (has self i ≡ true) × ((k : ℕ) → k < i → has self k ≡ false)) };
+        ensures { MatchOption result
+            ((k : ℕ) → has self k ≡ false)
+            (λ i. (i < size) × (has self i ≡ true) × ((k : ℕ) → k < i → has self k ≡ false)) };
 
     /// Finds the last bit that is 1.
     fn highest(self) -> Option<u32>
         requires { IsFit self }
-        ensures { MatchOption result ((k : ℕ) → has self k ≡ false) (λ i. (i < size) × (has self i ≡ true) × ((k : ℕ) → i < k → has self k ≡ false)) };
+        ensures { MatchOption result
+            ((k : ℕ) → has self k ≡ false)
+            (λ i. (i < size) × (has self i ≡ true) × ((k : ℕ) → i < k → has self k ≡ false)) };
 
     /// Counts the bits that are 1.
     fn count(self) -> u32

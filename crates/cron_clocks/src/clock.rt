@@ -33,8 +33,10 @@ fn is_far_inside(year: Span, transition: i64) -> bool
 
 // Whether both transitions of a year lie so far from its edges.
 fn are_far_inside(transitions: Transitions) -> bool
-    ensures start { IsTrue result → IsFarInside transitions.year.first transitions.year.end transitions.start }
-    ensures end { IsTrue result → IsFarInside transitions.year.first transitions.year.end transitions.end }
+    ensures start { IsTrue result
+        → IsFarInside transitions.year.first transitions.year.end transitions.start }
+    ensures end { IsTrue result
+        → IsFarInside transitions.year.first transitions.year.end transitions.end }
 {
     is_far_inside(transitions.year, transitions.start)
         && is_far_inside(transitions.year, transitions.end)
@@ -49,7 +51,11 @@ fn offset_among(
     second: u32,
 ) -> Option<Offset>
     requires saving { rule.dst ≡ Some dst }
-    requires transitions { AreTransitions dst transitions.year.first transitions.year.end transitions.start transitions.end }
+    requires transitions { AreTransitions dst
+        transitions.year.first
+        transitions.year.end
+        transitions.start
+        transitions.end }
     requires low { transitions.year.first ≤ℤ pos second }
     requires high { pos second <ℤ transitions.year.end }
     ensures { IfSome result (λ o. IsShown (Posix rule) (pos second) o.seconds) }
@@ -80,7 +86,11 @@ fn learn(
     stretch: &mut Stretch,
 )
     requires saving { rule.dst ≡ Some dst }
-    requires transitions { AreTransitions dst transitions.year.first transitions.year.end transitions.start transitions.end }
+    requires transitions { AreTransitions dst
+        transitions.year.first
+        transitions.year.end
+        transitions.start
+        transitions.end }
     requires known { IsKnown (Posix rule) stretch.old }
     ensures { IsKnown (Posix rule) stretch.new }
 {

@@ -74,8 +74,12 @@ fn offsets_ahead(
     placed: Placed,
 ) -> (Option<Offset>, Option<Offset>)
     requires { standard.seconds <ℤ saving.seconds }
-    ensures { (w : ℤ × ℤ) → PartsAlike standard saving w placed.start placed.end placed.saving placed.at
-        → IsToldBy (ambiguous_ahead standard saving w (nanos_of_seconds placed.at)) result.0 result.1 }
+    ensures { (w : ℤ × ℤ)
+        → PartsAlike standard saving w placed.start placed.end placed.saving placed.at
+        → IsToldBy
+        (ambiguous_ahead standard saving w (nanos_of_seconds placed.at))
+        result.0
+        result.1 }
 {
     if !placed.lasts() {
         (Some(standard), None)
@@ -96,8 +100,12 @@ fn offsets_behind(
     placed: Placed,
 ) -> (Option<Offset>, Option<Offset>)
     requires { saving.seconds <ℤ standard.seconds }
-    ensures { (w : ℤ × ℤ) → PartsAlike standard saving w placed.start placed.end placed.saving placed.at
-        → IsToldBy (ambiguous_behind standard saving w (nanos_of_seconds placed.at)) result.0 result.1 }
+    ensures { (w : ℤ × ℤ)
+        → PartsAlike standard saving w placed.start placed.end placed.saving placed.at
+        → IsToldBy
+        (ambiguous_behind standard saving w (nanos_of_seconds placed.at))
+        result.0
+        result.1 }
 {
     if placed.lasts() {
         (Some(saving), None)
@@ -118,7 +126,8 @@ pub(crate) fn offsets_among(
     placed: Placed,
 ) -> (Option<Offset>, Option<Offset>)
     requires { placed.saving ≡ saving.seconds -ℤ standard.seconds }
-    ensures { (w : ℤ × ℤ) → PartsAlike standard saving w placed.start placed.end placed.saving placed.at
+    ensures { (w : ℤ × ℤ)
+        → PartsAlike standard saving w placed.start placed.end placed.saving placed.at
         → IsToldBy (ambiguous_by standard saving w (nanos_of_seconds placed.at)) result.0 result.1 }
 {
     if placed.saving < 0 {

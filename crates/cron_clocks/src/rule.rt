@@ -122,7 +122,12 @@ fn day_in(day: Day, year: i16) -> Option<i32>
 // The second, or the edge of the span that is nearer to it.
 fn clamp_to_span(span: Span, second: i64) -> i64
     requires { span.first <ℤ span.end }
-    ensures value { IsAtSecond span.end (clamp_to (nanos_of_seconds span.first) (nanos_of_seconds span.end -ℤ pos 1) (nanos_of_seconds second)) result }
+    ensures value { IsAtSecond span.end
+        (clamp_to
+        (nanos_of_seconds span.first)
+        (nanos_of_seconds span.end -ℤ pos 1)
+        (nanos_of_seconds second))
+        result }
     ensures bound { IsBetween span.first span.end result }
 {
     if second < span.first {
@@ -174,7 +179,11 @@ pub(crate) struct Transitions {
 // The transitions of a rule in a year.
 fn transitions_of(dst: Dst, number: i16) -> Transitions
     requires { IsYear number }
-    ensures transitions { AreTransitions dst result.year.first result.year.end result.start result.end }
+    ensures transitions { AreTransitions dst
+        result.year.first
+        result.year.end
+        result.start
+        result.end }
     ensures first { result.year.first ≡ Rule.first_day number *ℤ pos 86_400 }
     ensures end { result.year.end ≡ year_end number }
 {
@@ -189,7 +198,11 @@ fn transitions_of(dst: Dst, number: i16) -> Transitions
 /// The transitions of a rule in the year of a civil second.
 pub(crate) fn transitions_around(dst: Dst, second: u32) -> Transitions
     requires { second < seconds_in_range }
-    ensures transitions { AreTransitions dst result.year.first result.year.end result.start result.end }
+    ensures transitions { AreTransitions dst
+        result.year.first
+        result.year.end
+        result.start
+        result.end }
     ensures low { result.year.first ≤ℤ pos second }
     ensures high { pos second <ℤ result.year.end }
 {
@@ -261,7 +274,11 @@ pub(crate) fn between_transitions(
 ) -> Told
     requires range { second < seconds_in_range }
     requires saving { rule.dst ≡ Some dst }
-    requires transitions { AreTransitions dst transitions.year.first transitions.year.end transitions.start transitions.end }
+    requires transitions { AreTransitions dst
+        transitions.year.first
+        transitions.year.end
+        transitions.start
+        transitions.end }
     requires low { transitions.year.first ≤ℤ pos second }
     requires high { pos second <ℤ transitions.year.end }
     ensures alike { IsToldAlike rule second result.span.first result.span.end }

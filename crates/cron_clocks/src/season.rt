@@ -93,7 +93,14 @@ fn season_bounds_among(
 // The bounds of a year's seasons by a rule whose transitions lie apart.
 fn season_bounds_of(rule: TimeZone, dst: Dst) -> Option<SeasonBounds>
     requires { rule.dst ≡ Some dst }
-    ensures { IfSome result (λ c. IsSeasonBounds rule c.outer_end c.inner_first c.inner_end c.outer_first c.outer c.inner) }
+    ensures { IfSome result
+        (λ c. IsSeasonBounds rule
+        c.outer_end
+        c.inner_first
+        c.inner_end
+        c.outer_first
+        c.outer
+        c.inner) }
 {
     let start = seconds_of(dst.rule.start);
     let end = seconds_of(dst.rule.end);
@@ -125,7 +132,14 @@ fn year_start_of(second: u32) -> u32
 // the year go on in the years beside it, which are no shorter than the shorter years.
 fn season_among(season_bounds: SeasonBounds, year_start: u32, second: u32) -> Option<Season>
     requires { IsYearOf year_start second }
-    ensures { (rule : TimeZone) → IsSeasonBounds rule season_bounds.outer_end season_bounds.inner_first season_bounds.inner_end season_bounds.outer_first season_bounds.outer season_bounds.inner
+    ensures { (rule : TimeZone)
+        → IsSeasonBounds rule
+        season_bounds.outer_end
+        season_bounds.inner_first
+        season_bounds.inner_end
+        season_bounds.outer_first
+        season_bounds.outer
+        season_bounds.inner
         → IfSome result (λ s. IsSeason rule second s.first s.end s.offset) }
 {
     let (outer_end, inner_first) = (

@@ -67,7 +67,8 @@ pub(crate) fn told_stretch(rule: posix::TimeZone, second: u32, told: Told) -> St
 
 /// The civil seconds of a season.
 pub(crate) fn season_stretch(season: Season) -> Stretch
-    ensures { (rule : PlainRule) (n : ℕ) → IsSeason rule n season.first season.end season.offset → IsKnown (Posix rule) result }
+    ensures { (rule : PlainRule) (n : ℕ) → IsSeason rule n season.first season.end season.offset
+        → IsKnown (Posix rule) result }
 {
     Stretch {
         first: season.first,

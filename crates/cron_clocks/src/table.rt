@@ -49,7 +49,11 @@ fn between_transitions(table: &Tzif, count: usize, at: i64, span: Span) -> Span
     ensures low { result.first ≤ℤ at }
     ensures high { at <ℤ result.end }
     ensures narrowed { IsNarrowed span.first span.end result.first result.end }
-    ensures between { IsBetweenTransitions (transitions_of table.now) count result.first result.end }
+    ensures between { IsBetweenTransitions
+        (transitions_of table.now)
+        count
+        result.first
+        result.end }
 {
     let ahead = up_to_next(table, count, at, span);
     if count == 0 {
@@ -113,7 +117,10 @@ fn behind_transitions(table: &Tzif, count: usize, second: u32) -> Told
     ensures low { result.span.first ≤ℤ pos second }
     ensures high { pos second <ℤ result.span.end }
     ensures narrowed { IsNarrowed (pos 0) (pos seconds_in_range) result.span.first result.span.end }
-    ensures told { IsToldBy (offsets_around table.now count false (civil second)) result.earlier result.later }
+    ensures told { IsToldBy
+        (offsets_around table.now count false (civil second))
+        result.earlier
+        result.later }
 {
     match table.posix_tz() {
         Some(rule) if count == table.transitions().len() => told_at(rule, second),
@@ -129,11 +136,18 @@ fn behind_transitions(table: &Tzif, count: usize, second: u32) -> Told
 fn told_past(table: &Tzif, count: usize, second: u32) -> Told
     requires range { second < seconds_in_range }
     requires count { count ≤ length (transitions_of table.now) }
-    ensures alike { IsAlikeAround table.now count (is_inside table.now count (pos second)) second result.span.first result.span.end }
+    ensures alike { IsAlikeAround table.now count
+        (is_inside table.now count (pos second))
+        second
+        result.span.first
+        result.span.end }
     ensures low { result.span.first ≤ℤ pos second }
     ensures high { pos second <ℤ result.span.end }
     ensures narrowed { IsNarrowed (pos 0) (pos seconds_in_range) result.span.first result.span.end }
-    ensures told { IsToldBy (offsets_around table.now count (is_inside table.now count (pos second)) (civil second)) result.earlier result.later }
+    ensures told { IsToldBy
+        (offsets_around table.now count (is_inside table.now count (pos second)) (civil second))
+        result.earlier
+        result.later }
 {
     let Some(transition) = transition_around(table, count, i64::from(second)) else {
         return behind_transitions(table, count, second);

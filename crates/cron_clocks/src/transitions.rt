@@ -60,7 +60,8 @@ pub(crate) fn is_week_before(earlier: SecondsOfYear, later: SecondsOfYear) -> bo
 
 /// The seconds of a year among which the transition lies in every year.
 pub(crate) fn seconds_of(transition: DayTime) -> SecondsOfYear
-    ensures transitions { IsInside result.first result.last → AlwaysTransitionsWithin result.first result.last transition }
+    ensures transitions { IsInside result.first result.last
+        → AlwaysTransitionsWithin result.first result.last transition }
     ensures order { result.first ≤ℤ result.last }
     ensures bound { IsWithin 100_000_000 result.last }
 {
@@ -118,7 +119,8 @@ fn days_before(month: u8) -> u16
 fn days_of_week(month: u8, week: u8) -> DaysOfYear
     requires month_in { (1 ≤ month) × (month ≤ 12) }
     requires week_in { (1 ≤ week) × (week ≤ 5) }
-    ensures among { (weekday : ℕ) → IsAlwaysAmong result.first result.last (Day.WeekdayOfMonth month week weekday) }
+    ensures among { (weekday : ℕ)
+        → IsAlwaysAmong result.first result.last (Day.WeekdayOfMonth month week weekday) }
     ensures order { result.first ≤ result.last }
     ensures bound { result.last < 500 }
 {

@@ -71,7 +71,9 @@ fn item_past(
     requires instant { mark.instant ≡ pos second -ℤ monotone.offset.seconds }
     requires upto { second ≤ mark.second }
     requires range { second < seconds_in_range }
-    ensures { IsBest Ahead (IsBeyond Ahead fields.now (plain_zone zone.now) mark.instant mark.second) result }
+    ensures { IsBest Ahead
+        (IsBeyond Ahead fields.now (plain_zone zone.now) mark.instant mark.second)
+        result }
 {
     let next = nearest_match(fields, Way::Ahead, i64::from(second) + 1)?;
     if next < monotone.end {
@@ -93,7 +95,9 @@ pub(crate) fn first_item(
     stretch: &Stretch,
 ) -> Option<Moment>
     requires { IsKnown (plain_zone zone.now) stretch.now }
-    ensures { IsBest Ahead (IsBeyond Ahead fields.now (plain_zone zone.now) mark.instant mark.second) result }
+    ensures { IsBest Ahead
+        (IsBeyond Ahead fields.now (plain_zone zone.now) mark.instant mark.second)
+        result }
 {
     match settled_at(zone, mark, shown, stretch) {
         Some((second, monotone)) => item_past(fields, zone, mark, second, monotone),

@@ -55,7 +55,9 @@ fn monotone_in(stretch: &Stretch, second: u32, offset_range: OffsetRange) -> Opt
     requires high { second < stretch.now.end }
     requires range { second < seconds_in_range }
     requires order { offset_range.least ≤ℤ offset_range.greatest }
-    ensures { IfSome result (λ monotone. (z : Zone) → IsOffsetRange z offset_range → IsKnownStretch z stretch.now → IsMonotone z second monotone) }
+    ensures { IfSome result
+        (λ monotone. (z : Zone) → IsOffsetRange z offset_range → IsKnownStretch z stretch.now
+        → IsMonotone z second monotone) }
 {
     let offset = one_offset(stretch)?;
     let at = i64::from(second);
@@ -96,7 +98,8 @@ pub(crate) fn monotone_around(
 // What is known after an item.
 fn monotone_at(zone: &TimeZone<'_>, item: &Moment) -> Option<Monotone>
     requires { item.now.second < seconds_in_range }
-    ensures monotone { IfSome result (λ monotone. IsMonotone (plain_zone zone.now) item.now.second monotone) }
+    ensures monotone { IfSome result
+        (λ monotone. IsMonotone (plain_zone zone.now) item.now.second monotone) }
     ensures offset { IfSome result (λ monotone. monotone.offset.seconds ≡ item.now.offset.seconds) }
 {
     let second = civil_second(item);
@@ -112,7 +115,8 @@ fn monotone_at(zone: &TimeZone<'_>, item: &Moment) -> Option<Monotone>
 #[inline(never)]
 pub(crate) fn monotone_past(zone: &TimeZone<'_>, second: u32) -> Option<Monotone>
     requires { second < seconds_in_range }
-    ensures { IfSome result (λ monotone. IsMonotone (plain_zone zone.now) second monotone × (second < monotone.end)) }
+    ensures { IfSome result
+        (λ monotone. IsMonotone (plain_zone zone.now) second monotone × (second < monotone.end)) }
 {
     let stretch = Stretch::at(zone, second);
     let monotone = monotone_around(zone, &stretch, second)?;
@@ -150,7 +154,12 @@ pub(crate) fn next_item(
 ) -> (Option<Moment>, Option<Monotone>)
     requires known { IsKnown fields.now (plain_zone zone.now) mark.instant mark.second known }
     requires days { KnowsDays fields.now days.old }
-    ensures next { IsNext fields.now (plain_zone zone.now) mark.instant mark.second result.0 result.1 }
+    ensures next { IsNext fields.now
+        (plain_zone zone.now)
+        mark.instant
+        mark.second
+        result.0
+        result.1 }
     ensures days { KnowsDays fields.now days.new }
 {
     let Some(monotone) = known else {

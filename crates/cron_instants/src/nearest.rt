@@ -93,7 +93,9 @@ fn item_at(
 ) -> Option<Moment>
     requires some { stretch.now.first < stretch.now.end }
     requires high { stretch.now.end ≤ seconds_in_range }
-    ensures { IsBest way (IsMatchAt way fields.now mark.instant mark.second stretch.now.first stretch.now.end offset) result }
+    ensures { IsBest way
+        (IsMatchAt way fields.now mark.instant mark.second stretch.now.first stretch.now.end offset)
+        result }
 {
     let Some(from) = start_in(stretch, way, entry(way, mark, offset)) else {
         return None;
@@ -135,7 +137,8 @@ fn next_past(
 ) -> Option<u32>
     requires some { stretch.now.first < stretch.now.end }
     requires high { stretch.now.end ≤ seconds_in_range }
-    requires best { IfSome best.now (λ b. IsNotPast way stretch.now.first stretch.now.end b.second) }
+    requires best { IfSome best.now
+        (λ b. IsNotPast way stretch.now.first stretch.now.end b.second) }
     ensures { IsGoneOn way fields.now stretch.now.first stretch.now.end best.now result }
 {
     let edge = match way {
@@ -170,8 +173,18 @@ fn pass(
     second: u32,
     best: &mut Option<Moment>,
 ) -> Option<u32>
-    requires { IsSought way fields.now (plain_zone zone.now) mark.instant mark.second (Some second) best.old }
-    ensures sought { IsSought way fields.now (plain_zone zone.now) mark.instant mark.second result best.new }
+    requires { IsSought way fields.now
+        (plain_zone zone.now)
+        mark.instant
+        mark.second
+        (Some second)
+        best.old }
+    ensures sought { IsSought way fields.now
+        (plain_zone zone.now)
+        mark.instant
+        mark.second
+        result
+        best.new }
     ensures less { left_to_pass way result < left_to_pass way (Some second) }
 {
     let stretch = Stretch::at(zone, second);
@@ -187,7 +200,9 @@ pub(crate) fn nearest_item(
     way: Way,
     mark: Mark,
 ) -> Option<Moment>
-    ensures { IsBest way (IsBeyond way fields.now (plain_zone zone.now) mark.instant mark.second) result }
+    ensures { IsBest way
+        (IsBeyond way fields.now (plain_zone zone.now) mark.instant mark.second)
+        result }
 {
     let mut best = None;
     let mut next = entrance(way, mark);

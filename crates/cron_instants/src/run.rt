@@ -62,7 +62,8 @@ impl<'a> Run<'a> {
         until: Option<i64>,
         zone: &'a TimeZone<'a>,
     ) -> Run<'a>
-        ensures { result ≡ left.left_beyond fields (plain_zone zone.now) mark.instant mark.second until }
+        ensures { result
+            ≡ left.left_beyond fields (plain_zone zone.now) mark.instant mark.second until }
     {
         Run {
             fields,
@@ -95,7 +96,8 @@ impl<'a> Run<'a> {
         now: Timestamp,
         zone: &'a TimeZone<'a>,
     ) -> Run<'a>
-        ensures { result ≡ fires_between fields (plain_zone zone.now) last.nanosecond now.nanosecond }
+        ensures { result
+            ≡ fires_between fields (plain_zone zone.now) last.nanosecond now.nanosecond }
     {
         let until = Some(now.to_plain().floor_second());
         Run::beyond(fields, Mark::behind(last), until, zone)

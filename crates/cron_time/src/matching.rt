@@ -68,7 +68,8 @@ fn is_full(word: u64, count: u32) -> bool
 // Whether each year of the range lies in its set.
 #[inline(always)]
 fn includes_each_year(fields: &ScheduleFields) -> bool
-    ensures { result ≡ true → (k : ℕ) → k < years_in_range → contains fields.now.years (1970 + k) ≡ true }
+    ensures { result ≡ true → (k : ℕ) → k < years_in_range
+        → contains fields.now.years (1970 + k) ≡ true }
 {
     let (first, second, third) = three(&fields.years);
     if !is_full(first, 64) {

@@ -76,7 +76,10 @@ impl ScheduleFields {
 
     /// The nearest numbered day of a month.
     pub fn nearest_day(&self, way: Way, from: Ordinal) -> Option<Ordinal>
-        ensures nearest { IsNearest way (contains self.now.days_of_month.ordinals) (pos from) result }
+        ensures nearest { IsNearest way
+            (contains self.now.days_of_month.ordinals)
+            (pos from)
+            result }
         ensures bound { IfSome result (λ n. (1 ≤ n) × (n ≤ 31)) }
     {
         self.days_of_month.nearest(way, from)

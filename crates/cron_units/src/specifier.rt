@@ -59,7 +59,9 @@ pub struct Progression {
 #[inline(always)]
 fn ordinal<'a, T: TimeUnitField>(name: &'a str) -> Result<Ordinal, Refusal<'a>>
     ensures within { IfOk result (λ n. (T.unit.least ≤ n) × (n ≤ T.unit.greatest)) }
-    ensures value { MatchResult result (λ n. ordinal T.unit name.now ≡ Ok n) (λ r. ordinal T.unit name.now ≡ Err (refusal_view r)) }
+    ensures value { MatchResult result
+        (λ n. ordinal T.unit name.now ≡ Ok n)
+        (λ r. ordinal T.unit name.now ≡ Err (refusal_view r)) }
 {
     match T::ordinal_from_name(name) {
         Some(ordinal) => Ok(ordinal),
@@ -71,7 +73,9 @@ fn ordinal<'a, T: TimeUnitField>(name: &'a str) -> Result<Ordinal, Refusal<'a>>
 #[inline(always)]
 fn ends<'a, T: TimeUnitField>(base: Base<'a>) -> Result<(Ordinal, Ordinal), Refusal<'a>>
     ensures within { IfOk result (λ p. (T.unit.least ≤ p.0) × (p.1 ≤ T.unit.greatest)) }
-    ensures value { MatchResult result (λ p. ends T.unit (base_view base.entry) ≡ Ok p) (λ r. ends T.unit (base_view base.entry) ≡ Err (refusal_view r)) }
+    ensures value { MatchResult result
+        (λ p. ends T.unit (base_view base.entry) ≡ Ok p)
+        (λ r. ends T.unit (base_view base.entry) ≡ Err (refusal_view r)) }
 {
     let (least, greatest) = (T::inclusive_min(), T::inclusive_max());
     match base {
@@ -97,8 +101,11 @@ fn ends<'a, T: TimeUnitField>(base: Base<'a>) -> Result<(Ordinal, Ordinal), Refu
 // Finds what a base with a step denotes. The step is tested before the base.
 #[inline(always)]
 fn stepped<'a, T: TimeUnitField>(base: Base<'a>, every: u32) -> Result<Progression, Refusal<'a>>
-    ensures within { IfOk result (λ s. (T.unit.least ≤ s.first) × (s.last ≤ T.unit.greatest) × (0 < s.every)) }
-    ensures value { MatchResult result (λ s. steps_of T.unit (items.stepped (base_view base.entry) every) ≡ Ok (steps_view s)) (λ r. steps_of T.unit (items.stepped (base_view base.entry) every) ≡ Err (refusal_view r)) }
+    ensures within { IfOk result
+        (λ s. (T.unit.least ≤ s.first) × (s.last ≤ T.unit.greatest) × (0 < s.every)) }
+    ensures value { MatchResult result
+        (λ s. steps_of T.unit (items.stepped (base_view base.entry) every) ≡ Ok (steps_view s))
+        (λ r. steps_of T.unit (items.stepped (base_view base.entry) every) ≡ Err (refusal_view r)) }
 {
     if every == 0 {
         return Err(Refusal::ZeroStep);
@@ -121,8 +128,11 @@ fn stepped<'a, T: TimeUnitField>(base: Base<'a>, every: u32) -> Result<Progressi
 /// Finds the steps of an item.
 #[inline(always)]
 fn steps_of<'a, T: TimeUnitField>(item: Item<'a>) -> Result<Progression, Refusal<'a>>
-    ensures within { IfOk result (λ s. (T.unit.least ≤ s.first) × (s.last ≤ T.unit.greatest) × (0 < s.every)) }
-    ensures value { MatchResult result (λ s. steps_of T.unit (item_view item.entry) ≡ Ok (steps_view s)) (λ r. steps_of T.unit (item_view item.entry) ≡ Err (refusal_view r)) }
+    ensures within { IfOk result
+        (λ s. (T.unit.least ≤ s.first) × (s.last ≤ T.unit.greatest) × (0 < s.every)) }
+    ensures value { MatchResult result
+        (λ s. steps_of T.unit (item_view item.entry) ≡ Ok (steps_view s))
+        (λ r. steps_of T.unit (item_view item.entry) ≡ Err (refusal_view r)) }
 {
     match item {
         Item::Plain(base) => {
@@ -159,7 +169,11 @@ fn names_last_day<T: TimeUnitField>(item: Item<'_>) -> bool
 /// Adds what an item denotes to a set of the unit. A refused item leaves the set as it was.
 #[inline(always)]
 pub fn add_item<'a, T: TimeUnitField>(set: &mut T, item: Item<'a>) -> Result<(), Refusal<'a>>
-    ensures ok { OnOk result (AddsItem T.unit (item_view item.entry) (with_mark (T.members set.old) (T.marked set.old)) (with_mark (T.members set.new) (T.marked set.new))) }
+    ensures ok { OnOk result
+        (AddsItem T.unit
+        (item_view item.entry)
+        (with_mark (T.members set.old) (T.marked set.old))
+        (with_mark (T.members set.new) (T.marked set.new))) }
     ensures err { IfErr result (λ r. IsRefusedFor T.unit (item_view item.entry) (refusal_view r)) }
     ensures unchanged { OnErr result (set.new ≡ set.old) }
 {
@@ -177,7 +191,11 @@ pub fn add_item<'a, T: TimeUnitField>(set: &mut T, item: Item<'a>) -> Result<(),
 /// where the key is that of no name, and in a unit with a word for the last day of the month.
 #[inline(always)]
 pub fn add_name<T: TimeUnitField>(set: &mut T, key: Key) -> bool
-    ensures { IsTrue result → (word : List ℕ) → list_all is_letter word ≡ true → IsKey word key → AddsItem T.unit (items.name word) (with_mark (T.members set.old) (T.marked set.old)) (with_mark (T.members set.new) (T.marked set.new)) }
+    ensures { IsTrue result → (word : List ℕ) → list_all is_letter word ≡ true → IsKey word key
+        → AddsItem T.unit
+        (items.name word)
+        (with_mark (T.members set.old) (T.marked set.old))
+        (with_mark (T.members set.new) (T.marked set.new)) }
 {
     if T::definition().last_day.is_some() {
         return false;
@@ -194,7 +212,12 @@ pub fn add_name<T: TimeUnitField>(set: &mut T, key: Key) -> bool
 /// the set as it was, where a key is that of no name, or the first ordinal is greater than the last.
 #[inline(always)]
 pub fn add_names<T: TimeUnitField>(set: &mut T, from: Key, to: Key) -> bool
-    ensures { IsTrue result → (v w : List ℕ) → list_all is_letter v ≡ true → list_all is_letter w ≡ true → IsKey v from → IsKey w to → AddsItem T.unit (items.plain (items.name_range v w)) (with_mark (T.members set.old) (T.marked set.old)) (with_mark (T.members set.new) (T.marked set.new)) }
+    ensures { IsTrue result → (v w : List ℕ) → list_all is_letter v ≡ true
+        → list_all is_letter w ≡ true → IsKey v from → IsKey w to
+        → AddsItem T.unit
+        (items.plain (items.name_range v w))
+        (with_mark (T.members set.old) (T.marked set.old))
+        (with_mark (T.members set.new) (T.marked set.new)) }
 {
     let Some(first) = T::ordinal_from_key(from) else {
         return false;

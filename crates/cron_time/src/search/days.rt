@@ -83,7 +83,10 @@ pub(crate) fn month_past(members: &Members<'_>, way: Way, month: u32) -> Option<
 #[inline(always)]
 fn numbered_day(members: &Members<'_>, way: Way, month: u32, from: u32) -> Option<u32>
     requires { month < months_end }
-    ensures nearest { IsNearest way (has_number members.now.days_of_month.ordinals (length_of month)) (pos from) result }
+    ensures nearest { IsNearest way
+        (has_number members.now.days_of_month.ordinals (length_of month))
+        (pos from)
+        result }
     ensures bound { IfSome result (λ n. (1 ≤ n) × (n ≤ length_of month)) }
 {
     let day = members.nearest(Unit::Day, way, from)?;
@@ -105,7 +108,8 @@ fn numbered_day(members: &Members<'_>, way: Way, month: u32, from: u32) -> Optio
 fn with_last_day(way: Way, last: u32, from: u32, numbered: Option<u32>) -> Option<u32>
     requires last { 1 ≤ last }
     requires numbered { IfSome numbered (λ n. (1 ≤ n) × (n ≤ last)) }
-    ensures nearest { (test : ℕ → Bool) → ((day : ℕ) → last < day → test day ≡ false) → IsNearest way test (pos from) numbered
+    ensures nearest { (test : ℕ → Bool) → ((day : ℕ) → last < day → test day ≡ false)
+        → IsNearest way test (pos from) numbered
         → IsNearest way (λ day. test day || day == last) (pos from) result }
     ensures bound { IfSome result (λ n. (1 ≤ n) × (n ≤ last)) }
 {

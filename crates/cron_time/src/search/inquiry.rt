@@ -103,9 +103,11 @@ impl<'a> Inquiry<'a> {
         requires day { (1 ≤ day) × (day ≤ length_of month) }
         requires room { self.old.days < 2 ^ 63 }
         ensures matches { MatchOption result
-            (contains self.old.sets.days_of_week (weekday_number (date_numbered (day_number month day)).0) ≡ false)
+            (contains self.old.sets.days_of_week
+            (weekday_number (date_numbered (day_number month day)).0) ≡ false)
             (λ n. (n ≡ day_number month day)
-            × (contains self.old.sets.days_of_week (weekday_number (date_numbered (day_number month day)).0) ≡ true)) }
+            × (contains self.old.sets.days_of_week
+            (weekday_number (date_numbered (day_number month day)).0) ≡ true)) }
         ensures counted { self.new ≡ one_day self.old }
     {
         self.days += 1;

@@ -35,7 +35,8 @@ pub(crate) fn wants_leap_days(fields: &ScheduleFields) -> bool
 pub(crate) fn leap_february(way: Way, month: u32) -> u32
     requires { (first_month ≤ month) × (month < months_end) }
     ensures lies { LiesFrom way (beyond way month) result }
-    ensures nearest { (k : ℕ) → LiesFrom way (beyond way month) k → Precedes way k result → k % 48 ≡ 1 → ⊥ }
+    ensures nearest { (k : ℕ) → LiesFrom way (beyond way month) k → Precedes way k result
+        → k % 48 ≡ 1 → ⊥ }
     ensures bound { result < 30_000 }
 {
     match way {

@@ -47,7 +47,8 @@ impl<'a> Members<'a> {
     #[inline(always)]
     pub(crate) fn nearest(&self, unit: Unit, way: Way, from: u32) -> Option<u32>
         ensures nearest { IsNearest way (contains (members unit self.now)) (pos from) result }
-        ensures bound { IfSome result (λ n. ((unit_of unit).least ≤ n) × (n ≤ (unit_of unit).greatest)) }
+        ensures bound { IfSome result
+            (λ n. ((unit_of unit).least ≤ n) × (n ≤ (unit_of unit).greatest)) }
     {
         match unit {
             Unit::Second => self.fields.nearest_second(way, from),

@@ -63,7 +63,8 @@ fn days_in_set(fields: &ScheduleFields, month: u32) -> u64
 #[inline(always)]
 fn weekdays_from(fields: &ScheduleFields, day: u32) -> u64
     requires { day < days_in_range }
-    ensures { (k : ℕ) → k < 32 → has_bit result k ≡ contains fields.now.days_of_week ((day + k + 4) % 7 + 1) }
+    ensures { (k : ℕ) → k < 32
+        → has_bit result k ≡ contains fields.now.days_of_week ((day + k + 4) % 7 + 1) }
 {
     let week = bits(&fields.days_of_week).below(7);
     let two = week | week << 7;
@@ -77,7 +78,8 @@ fn weekdays_from(fields: &ScheduleFields, day: u32) -> u64
 fn month_beside(fields: &ScheduleFields, way: Way, month: u32) -> Option<u32>
     requires range { (first_month ≤ month) × (month < months_end) }
     requires matching { matches_month fields.now month ≡ true }
-    ensures beside { IfSome result (λ n. (matches_month fields.now n ≡ true) × (pos n ≡ beyond way month)) }
+    ensures beside { IfSome result
+        (λ n. (matches_month fields.now n ≡ true) × (pos n ≡ beyond way month)) }
     ensures bound { IfSome result (λ n. (first_month ≤ n) × (n < months_end)) }
 {
     let before = month % 12;
@@ -186,7 +188,8 @@ impl MonthDays {
     // The place of a day among the bits, if its bit is 1.
     #[inline(always)]
     fn place_of(&self, day: u32) -> Option<u32>
-        ensures set { IfSome result (λ k. (has_bit self.now.days k ≡ true) × (day ≡ day_number self.now.month 1 + k)) }
+        ensures set { IfSome result
+            (λ k. (has_bit self.now.days k ≡ true) × (day ≡ day_number self.now.month 1 + k)) }
         ensures month { (first_month ≤ self.now.month) × (self.now.month < months_end) }
     {
         let first = self.month.first_day();
@@ -234,7 +237,10 @@ impl MonthDays {
         requires range { (first_month ≤ month) × (month < months_end) }
         requires matching { matches_month fields.now month ≡ true }
         requires known { KnowsDays fields.now self.old }
-        ensures nearest { IsNearest way (matches_ranked fields.now) (beyond_block way 100 month) (option_map day_rank result) }
+        ensures nearest { IsNearest way
+            (matches_ranked fields.now)
+            (beyond_block way 100 month)
+            (option_map day_rank result) }
         ensures range { IfSome result (λ d. IsInRange d × (self.new.month ≡ d.month)) }
         ensures known { KnowsDays fields.now self.new }
     {
@@ -280,7 +286,10 @@ impl MonthDays {
     fn ranked_from(&mut self, fields: &ScheduleFields, way: Way, from: Day) -> Option<Day>
         requires in_range { IsInRange from }
         requires known { KnowsDays fields.now self.old }
-        ensures nearest { IsNearest way (matches_ranked fields.now) (pos (day_rank from)) (option_map day_rank result) }
+        ensures nearest { IsNearest way
+            (matches_ranked fields.now)
+            (pos (day_rank from))
+            (option_map day_rank result) }
         ensures range { IfSome result (λ d. IsInRange d × (self.new.month ≡ d.month)) }
         ensures known { KnowsDays fields.now self.new }
     {

@@ -34,7 +34,8 @@ pub(crate) trait Neighbours {
         requires { from + 1 < 2 ^ 32 }
         ensures nearest { IsNearest way (passes members.now) (pos from) result }
         ensures bound { IfSome result (λ n. (least ≤ n) × (n < LIMIT)) }
-        ensures questions { AreSets members.now → AsksFor C.Counts parts result counter.old counter.new }
+        ensures questions { AreSets members.now
+            → AsksFor C.Counts parts result counter.old counter.new }
         ensures outermost { AreSets members.now
             → from ≡ outermost way LIMIT
             → C.Counts parts counter.old counter.new };

@@ -182,7 +182,10 @@ fn days_from<const BACK: bool>(
     requires in_range { start < seconds_in_range }
     requires days { KnowsDays fields.now days.old }
     requires known { IsKnown (plain_zone zone.now) stretch.old }
-    ensures found { IsFound way fields.now (plain_zone zone.now) (pos start) (option_map found_items result) }
+    ensures found { IsFound way fields.now
+        (plain_zone zone.now)
+        (pos start)
+        (option_map found_items result) }
     ensures days { KnowsDays fields.now days.new }
     ensures known { IsKnown (plain_zone zone.now) stretch.new }
 {
@@ -208,7 +211,10 @@ pub fn search_onward(
 ) -> Option<Found>
     requires days { KnowsDays fields.now days.old }
     requires known { IsKnown (plain_zone zone.now) stretch.old }
-    ensures found { IsFound way fields.now (plain_zone zone.now) from (option_map found_items result) }
+    ensures found { IsFound way fields.now
+        (plain_zone zone.now)
+        from
+        (option_map found_items result) }
     ensures days { KnowsDays fields.now days.new }
     ensures known { IsKnown (plain_zone zone.now) stretch.new }
 {

@@ -29,9 +29,11 @@ fn past_stretch(stretch: &Stretch, way: Way, day: u32, time: u32) -> Option<u32>
     requires in_range { day < days_in_range }
     requires time { time < 86_400 }
     ensures { MatchOption result
-        ((t : ℕ) → LiesFrom way (beyond way time) t → t < 86_400 → AreTogether stretch.now (day * 86_400 + time) (day * 86_400 + t))
+        ((t : ℕ) → LiesFrom way (beyond way time) t → t < 86_400
+        → AreTogether stretch.now (day * 86_400 + time) (day * 86_400 + t))
         (λ next. (next < 86_400) × LiesFrom way (beyond way time) next
-        × ((t : ℕ) → LiesFrom way (beyond way time) t → Precedes way t next → AreTogether stretch.now (day * 86_400 + time) (day * 86_400 + t))) }
+        × ((t : ℕ) → LiesFrom way (beyond way time) t → Precedes way t next
+        → AreTogether stretch.now (day * 86_400 + time) (day * 86_400 + t))) }
 {
     let midnight = day * SECONDS_PER_DAY;
     if !stretch.has(midnight + time) {
@@ -93,7 +95,11 @@ pub(crate) fn search_readable(
     requires bound { IfSome first (λ n. n < 86_400) }
     requires matching { matches_date fields.now (date_numbered day).0 ≡ true }
     requires known { IsKnown (plain_zone zone.now) stretch.old }
-    ensures found { FindsInDay way fields.now (plain_zone zone.now) day from (option_map found_items result) }
+    ensures found { FindsInDay way fields.now
+        (plain_zone zone.now)
+        day
+        from
+        (option_map found_items result) }
     ensures known { IsKnown (plain_zone zone.now) stretch.new }
 {
     let mut next = first;

@@ -34,7 +34,9 @@ pub fn survey(fields: &ScheduleFields, zone: &TimeZone<'_>, from: i64, count: u3
     ensures seconds { result.seconds
         ≡ length (take count (standing_from fields.now (plain_zone zone.now) from)) }
     ensures conversions { result.conversions
-        ≡ gap_matches fields.now (plain_zone zone.now) (surveyed fields.now (plain_zone zone.now) from count)
+        ≡ gap_matches fields.now
+        (plain_zone zone.now)
+        (surveyed fields.now (plain_zone zone.now) from count)
         + result.seconds }
     ensures days { result.days
         ≡ candidates fields.now (surveyed_days fields.now (plain_zone zone.now) from count)

@@ -51,7 +51,10 @@ pub fn resume(fields: &ScheduleFields, zone: &TimeZone<'_>, moment: &Moment) -> 
         (IsAbsent fields.now (plain_zone zone.now) moment.now)
         (λ state. IsPlaced fields.now (plain_zone zone.now) (stand_of state)
         × Knows fields.now (plain_zone zone.now) state
-        × IsAtItem fields.now (plain_zone zone.now) moment.now (cursor_of fields.now (plain_zone zone.now) (stand_of state))) }
+        × IsAtItem fields.now
+        (plain_zone zone.now)
+        moment.now
+        (cursor_of fields.now (plain_zone zone.now) (stand_of state))) }
 {
     let second = civil_second(moment);
     if second as i64 >= SECONDS {

@@ -23,7 +23,10 @@ use jiff::tz::TimeZone;
 // The walk goes to the first item from its bound on.
 fn from_bound(fields: &ScheduleFields, zone: &TimeZone<'_>, way: Way, state: &mut State)
     requires known { Knows fields.now (plain_zone zone.now) state.old }
-    ensures leads { LeadsTo way fields.now (plain_zone zone.now) (kept.Start state.old.start.nanosecond) (stand_of state.new) }
+    ensures leads { LeadsTo way fields.now
+        (plain_zone zone.now)
+        (kept.Start state.old.start.nanosecond)
+        (stand_of state.new) }
     ensures known { Knows fields.now (plain_zone zone.now) state.new }
 {
     match bound(
@@ -45,7 +48,10 @@ fn from_bound(fields: &ScheduleFields, zone: &TimeZone<'_>, way: Way, state: &mu
 #[inline(never)]
 fn from_start(fields: &ScheduleFields, zone: &TimeZone<'_>, way: Way, state: &mut State)
     requires known { Knows fields.now (plain_zone zone.now) state.old }
-    ensures leads { LeadsTo way fields.now (plain_zone zone.now) (kept.Start state.old.start.nanosecond) (stand_of state.new) }
+    ensures leads { LeadsTo way fields.now
+        (plain_zone zone.now)
+        (kept.Start state.old.start.nanosecond)
+        (stand_of state.new) }
     ensures known { Knows fields.now (plain_zone zone.now) state.new }
 {
     let members = Members::of(fields);
@@ -60,7 +66,8 @@ fn from_start(fields: &ScheduleFields, zone: &TimeZone<'_>, way: Way, state: &mu
 #[inline(always)]
 fn past_item(fields: &ScheduleFields, zone: &TimeZone<'_>, way: Way, state: &mut State)
     requires in_range { state.old.earlier.second < seconds_in_range }
-    requires matching { matches_date fields.now (date_numbered (state.old.earlier.second / 86_400)).0
+    requires matching { matches_date fields.now
+        (date_numbered (state.old.earlier.second / 86_400)).0
         ≡ true }
     requires member { matches_second fields.now (state.old.earlier.second % 86_400) ≡ true }
     requires known { Knows fields.now (plain_zone zone.now) state.old }
@@ -94,7 +101,10 @@ fn step_one_way<const BACK: bool>(
     requires tied { way ≡ way_of BACK }
     requires placed { IsPlaced fields.now (plain_zone zone.now) (stand_of state.old) }
     requires known { Knows fields.now (plain_zone zone.now) state.old }
-    ensures leads { LeadsTo way fields.now (plain_zone zone.now) (stand_of state.old) (stand_of state.new) }
+    ensures leads { LeadsTo way fields.now
+        (plain_zone zone.now)
+        (stand_of state.old)
+        (stand_of state.new) }
     ensures known { Knows fields.now (plain_zone zone.now) state.new }
 {
     match state.stage {
@@ -117,7 +127,10 @@ fn step_one_way<const BACK: bool>(
 pub fn step(fields: &ScheduleFields, zone: &TimeZone<'_>, way: Way, state: &mut State)
     requires placed { IsPlaced fields.now (plain_zone zone.now) (stand_of state.old) }
     requires known { Knows fields.now (plain_zone zone.now) state.old }
-    ensures leads { LeadsTo way fields.now (plain_zone zone.now) (stand_of state.old) (stand_of state.new) }
+    ensures leads { LeadsTo way fields.now
+        (plain_zone zone.now)
+        (stand_of state.old)
+        (stand_of state.new) }
     ensures known { Knows fields.now (plain_zone zone.now) state.new }
 {
     match way {

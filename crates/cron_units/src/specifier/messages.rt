@@ -26,7 +26,9 @@ fn write_unknown<W: fmt::Write>(
     unit: Definition,
     name: &str,
 ) -> fmt::Result
-    ensures { DisplaysOnOk W.write_str_gives f.old result (Some (message (definition_view unit) (unknown_name name.now))) f.new }
+    ensures { DisplaysOnOk W.write_str_gives f.old result
+        (Some (message (definition_view unit) (unknown_name name.now)))
+        f.new }
 {
     match unit.names {
         None => {
@@ -84,7 +86,10 @@ impl<'a> fmt::Display for RefusedItem<'a> {
 
 /// Makes the error that tells a refusal.
 pub fn item_error(alloc: Global, item: RefusedItem<'_>) -> Error
-    ensures { Tells (λ text. text ≡ message (definition_view item.entry.definition) (refusal_view item.entry.refusal)) result }
+    ensures { Tells
+        (λ text. text
+        ≡ message (definition_view item.entry.definition) (refusal_view item.entry.refusal))
+        result }
 {
     match format!(in alloc; "{item}") {
         Ok(text) => Error::from(ErrorKind::Expression(text)),

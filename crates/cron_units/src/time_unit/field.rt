@@ -42,14 +42,16 @@ pub trait TimeUnitField: Copy {
     fn insert(&mut self, ordinal: Ordinal)
         requires low { unit.least ≤ ordinal }
         requires high { ordinal ≤ unit.greatest }
-        ensures members { members self.new ≡ set_of unit (λ x. contains (members self.old) x || nat_eq x ordinal) }
+        ensures members { members self.new
+            ≡ set_of unit (λ x. contains (members self.old) x || nat_eq x ordinal) }
         ensures mark { marked self.new ≡ marked self.old };
 
     /// Adds the ordinals from the first to the last.
     fn insert_range(&mut self, first: Ordinal, last: Ordinal)
         requires low { unit.least ≤ first }
         requires high { last ≤ unit.greatest }
-        ensures members { members self.new ≡ set_of unit (λ x. contains (members self.old) x || nat_le first x && nat_le x last) }
+        ensures members { members self.new
+            ≡ set_of unit (λ x. contains (members self.old) x || nat_le first x && nat_le x last) }
         ensures mark { marked self.new ≡ marked self.old };
 
     /// Adds the last day of the month, if the unit has a name for it.
@@ -62,7 +64,10 @@ pub trait TimeUnitField: Copy {
         requires low { unit.least ≤ first }
         requires high { last ≤ unit.greatest }
         requires every { 0 < every }
-        ensures members { members self.new ≡ set_of unit (λ x. contains (members self.old) x || in_steps (record { first = first; last = last; every = every }) x) }
+        ensures members { members self.new
+            ≡ set_of unit
+            (λ x. contains (members self.old) x
+            || in_steps (record { first = first; last = last; every = every }) x) }
         ensures mark { marked self.new ≡ marked self.old };
 
     /// Tells whether an ordinal is a member.
@@ -125,7 +130,8 @@ pub trait TimeUnitField: Copy {
     /// Finds the ordinal of a name of letters by its key.
     #[inline(always)]
     final fn ordinal_from_key(key: Key) -> Option<Ordinal>
-        ensures value { (name : List ℕ) → list_all is_letter name ≡ true → IsKey name key → result ≡ ordinal_of unit name }
+        ensures value { (name : List ℕ) → list_all is_letter name ≡ true → IsKey name key
+            → result ≡ ordinal_of unit name }
         ensures within { IfSome result (λ n. (unit.least ≤ n) × (n ≤ unit.greatest)) }
     {
         let names = Self::definition().names?;

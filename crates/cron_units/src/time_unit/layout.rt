@@ -37,8 +37,10 @@ pub fn from_three<U: UnitTable<Wide>>(first: u64, second: u64, third: u64) -> Or
 
 /// Lends the three words of a set, in which no other bits are 1 than those of its members.
 pub fn three<U: UnitTable<Wide>>(set: &Ordinals<U, Wide>) -> (u64, u64, u64)
-    ensures bits { (k : ℕ) → bit_of_three result.0 result.1 result.2 k ≡ contains set.now (U.unit.least + k) }
-    ensures set { set_of U.unit (λ x. bit_of_three result.0 result.1 result.2 (x - U.unit.least)) ≡ set.now }
+    ensures bits { (k : ℕ)
+        → bit_of_three result.0 result.1 result.2 k ≡ contains set.now (U.unit.least + k) }
+    ensures set { set_of U.unit (λ x. bit_of_three result.0 result.1 result.2 (x - U.unit.least))
+        ≡ set.now }
 {
     let words = set.words;
     (words.word(0), words.word(1), words.word(2))
@@ -47,7 +49,8 @@ pub fn three<U: UnitTable<Wide>>(set: &Ordinals<U, Wide>) -> (u64, u64, u64)
 /// Makes the set of the numbered days whose bits are 1, where bit i stands for day i + 1, and of the
 /// last day of the month where it is marked. A bit past that of day 31 means nothing.
 pub fn days_from_bits(bits: u64, last_day: bool) -> DaysOfMonth
-    ensures { result ≡ with_mark (set_of days_of_month (λ x. has_bit bits (x - days_of_month.least))) last_day }
+    ensures { result
+        ≡ with_mark (set_of days_of_month (λ x. has_bit bits (x - days_of_month.least))) last_day }
 {
     DaysOfMonth {
         numbered: from_bits(bits),
@@ -57,9 +60,11 @@ pub fn days_from_bits(bits: u64, last_day: bool) -> DaysOfMonth
 
 /// Lends the word of the numbered days, in which no other bits are 1 than those of its members.
 pub fn bits_of_days(days: &DaysOfMonth) -> u64
-    ensures bits { (k : ℕ) → has_bit result k ≡ contains days.now.ordinals (days_of_month.least + k) }
+    ensures bits { (k : ℕ)
+        → has_bit result k ≡ contains days.now.ordinals (days_of_month.least + k) }
     ensures within { result < 2 ^ 64 }
-    ensures set { set_of days_of_month (λ x. has_bit result (x - days_of_month.least)) ≡ days.now.ordinals }
+    ensures set { set_of days_of_month (λ x. has_bit result (x - days_of_month.least))
+        ≡ days.now.ordinals }
 {
     bits(&days.numbered)
 }

@@ -42,7 +42,10 @@ pub(crate) fn add_steps<T: TimeUnitField>(set: &mut T, first: Ordinal, last: Ord
     requires low { T.unit.least ≤ first }
     requires high { last ≤ T.unit.greatest }
     requires every { 0 < every }
-    ensures members { T.members set.new ≡ set_of T.unit (λ x. contains (T.members set.old) x || in_steps (record { first = first; last = last; every = every }) x) }
+    ensures members { T.members set.new
+        ≡ set_of T.unit
+        (λ x. contains (T.members set.old) x
+        || in_steps (record { first = first; last = last; every = every }) x) }
     ensures mark { T.marked set.new ≡ T.marked set.old }
 {
     if every == 1 {

@@ -45,7 +45,9 @@ pub fn with_letter(key: Key, letter: u8) -> Key
 /// The key of a name, which is of letters alone.
 #[inline(always)]
 fn key_of(name: &[u8]) -> Option<Key>
-    ensures { MatchOption result (list_all is_letter name.now ≡ false) (λ key. (list_all is_letter name.now ≡ true) × IsKey name.now key) }
+    ensures { MatchOption result
+        (list_all is_letter name.now ≡ false)
+        (λ key. (list_all is_letter name.now ≡ true) × IsKey name.now key) }
 {
     let mut key = 0;
     for letter in name {
@@ -61,7 +63,8 @@ fn key_of(name: &[u8]) -> Option<Key>
 #[inline(always)]
 pub(super) fn ordinal_keyed(names: Names, key: Key) -> Option<Ordinal>
     requires { are_keyed names ≡ true }
-    ensures value { (name : List ℕ) → list_all is_letter name ≡ true → IsKey name key → result ≡ named_in (ordinals_view names.ordinals.now) name }
+    ensures value { (name : List ℕ) → list_all is_letter name ≡ true → IsKey name key
+        → result ≡ named_in (ordinals_view names.ordinals.now) name }
     ensures found { IfSome result (λ n. keyed_in names.ordinals.now key ≡ Some n) }
 {
     let slot = (key.wrapping_mul(names.spread) >> 59) as usize;
