@@ -7,13 +7,14 @@ use Rattle.cron_units.specs.Sets.{Sets}
 use Rattle.cron_units.specs.declared.way.Way.TheVariants.{Ahead}
 use Rattle.cron_clocks.proofs.Windows.{le_yes, le_no}
 use Rattle.cron_time.specs.Matches.{is_match}
+use Rattle.cron_instants.specs.Inner.Left.{is_within}
 use Rattle.cron_instants.proofs.FireLemmas.{int_le-true, int_le-false}
 use Rattle.cron_dues.specs.Due.{Due, due_instant, instant}
 use Rattle.cron_dues.specs.Dues.{dues, dues_after, dues_past, dues_between, dues_past_by, is_due_after, is_due_by, is_past}
 use Rattle.cron_dues.specs.FirstDues.{IsDue}
 use Rattle.cron_dues.specs.Inner.Reached.{IsReachedBy}
 use Rattle.cron_dues.specs.Inner.Nearest.{IsNearestDue}
-use Rattle.cron_dues.specs.Inner.Left.{is_from, is_within, left_from, left_until}
+use Rattle.cron_dues.specs.Inner.Left.{is_from, left_from, left_until}
 use Rattle.cron_dues.proofs.DueLemmas.{due_ascends, fire_due}
 use Rattle.cron_dues.proofs.LawLemmas.{dues-ascend}
 use Rattle.cron_time.proofs.ListLemmas.{among-filter, filter-alike, filter-none}

@@ -9,6 +9,7 @@ ghost use Rattle.cron_dues.specs.Inner.Left as left;
 use crate::dues::nearest_due;
 use crate::fire::{DueFire, due_second, nominal_second};
 use crate::reach::reached_by;
+use cron_instants::run::is_within;
 use cron_units::fields::ScheduleFields;
 use cron_units::way::Way;
 use jiff::Timestamp;
@@ -34,17 +35,6 @@ impl<'a> Model for Run<'a> {
     ghost Value = { List Due };
 
     ghost view = { λ r. left_from r.fields (plain_zone r.zone.now) r.from r.until };
-}
-
-// Whether the instant isn't past the last one, if there is a last one.
-#[inline(always)]
-fn is_within(until: Option<i64>, instant: i64) -> bool
-    ensures { result ≡ left.is_within until instant }
-{
-    match until {
-        Some(last) => instant <= last,
-        None => true,
-    }
 }
 
 impl<'a> Run<'a> {

@@ -42,9 +42,9 @@ impl<'a> Model for Run<'a> {
     ghost invariant = { λ r. IsKnown r.fields (plain_zone r.zone.now) r.mark.instant r.mark.second r.monotone × KnowsDays r.fields r.days };
 }
 
-// Whether the instant isn't past the last one, if there is a last one.
+/// Whether an instant, in seconds, isn't past the last one, if there is a last one.
 #[inline(always)]
-fn is_within(until: Option<i64>, instant: i64) -> bool
+pub fn is_within(until: Option<i64>, instant: i64) -> bool
     ensures { result ≡ left.is_within until instant }
 {
     match until {

@@ -1,14 +1,10 @@
 -- What a run has left: the due fires from a civil second on, and up to an instant if there is a last one.
-use Rattle.std.specs.Prelude.{ℤ, pos, Bool, true, int_le, Option, Some, None, List, filter}
+use Rattle.std.specs.Prelude.{ℤ, pos, Bool, int_le, Option, Some, None, List, filter}
 use Rattle.jiff_tz.specs.declared.timezone.TimeZone.{TimeZone}
 use Rattle.cron_units.specs.Sets.{Sets}
+use Rattle.cron_instants.specs.Inner.Left.{is_within}
 use Rattle.cron_dues.specs.Due.{Due, instant}
 use Rattle.cron_dues.specs.Dues.{dues}
-
--- an instant, in seconds, isn't past the last one
-abbrev pub is_within : Option ℤ → ℤ → Bool
-is_within None n = true
-is_within (Some last) n = int_le n last
 
 -- the nominal second is this one or a later one
 abbrev pub is_from : ℤ → Due → Bool
