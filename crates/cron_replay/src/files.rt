@@ -23,10 +23,14 @@ pub(crate) enum Kind {
     FiresBetween,
     /// The fires between two instants, their number and one number that is made of all of them.
     FiresCounted,
+    /// The due fires after an instant: expression, zone, instant and answers.
+    DuesAfter,
+    /// The last due fire by an instant: expression, zone, instant and answer.
+    DuesBy,
 }
 
 /// The files, each with its kind.
-pub(crate) const FILES: [(Kind, &str); 43] = [
+pub(crate) const FILES: [(Kind, &str); 45] = [
     (Kind::Texts, "texts_accepted.txt"),
     (Kind::Texts, "texts_refused.txt"),
     (Kind::Texts, "texts_beginnings.txt"),
@@ -70,4 +74,6 @@ pub(crate) const FILES: [(Kind, &str); 43] = [
     (Kind::FiresBetween, "fires_between.txt"),
     (Kind::FiresBetween, "fires_counted_by_hand.txt"),
     (Kind::FiresCounted, "fires_of_a_year.txt"),
+    (Kind::DuesAfter, "dues_after.txt"),
+    (Kind::DuesBy, "dues_by.txt"),
 ];

@@ -1,4 +1,4 @@
-//! Replays the rows of `data/`: texts and what they mean, walks and what they answer, fires by instants. It prints each
+//! Replays the rows of `data/`: texts and what they mean, walks and what they answer, fires by instants, due fires. It prints each
 //! answer that isn't the one of its row, for each file how many rows it has, and how many texts one
 //! change away from an accepted one were tried. Where an answer differs, a file is missing or a row can't be taken apart, it ends with a status other than 0.
 #![tactic(auto)]
@@ -6,6 +6,7 @@
 mod answers;
 mod characters;
 mod counted;
+mod dues;
 mod files;
 mod fires;
 mod long_texts;
@@ -19,6 +20,7 @@ mod short_texts;
 mod stretches;
 mod texts;
 mod walks;
+mod zone_files;
 
 use anyhow::{Context, Result, ensure};
 use files::{FILES, Kind};
@@ -38,6 +40,8 @@ fn replay_row(report: &mut Report<'_>, kind: Kind, row: Row<'_>) -> Result<()> {
         Kind::FiresBy => fires::replay_by(report, row),
         Kind::FiresBetween => stretches::replay(report, row),
         Kind::FiresCounted => counted::replay(report, row),
+        Kind::DuesAfter => dues::replay_after(report, row),
+        Kind::DuesBy => dues::replay_by(report, row),
     }
 }
 
