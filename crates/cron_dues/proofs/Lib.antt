@@ -9,3 +9,4 @@ pub mod ListLemmas
 pub mod MemberLemmas
 pub mod LawLemmas
 pub mod RunLemmas
+pub mod TextLemmas

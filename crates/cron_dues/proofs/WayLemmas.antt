@@ -1,5 +1,5 @@
 -- On the way to the due instant of a civil second.
-use Rattle.std.proofs.Common.{◌≡◌, ℕ, ◌<◌, false, true, ℤ, pos, ◌+ℤ◌, ◌-ℤ◌, ◌≤ℤ◌, ◌<ℤ◌, unsigned_abs, refl, ap, ◌⊎◌, inl, inr, arith}
+use Rattle.std.proofs.Common.{◌≡◌, ℕ, ◌<◌, ◌≤◌, false, true, ℤ, pos, ◌+ℤ◌, ◌-ℤ◌, ◌≤ℤ◌, ◌<ℤ◌, unsigned_abs, refl, ap, ◌⊎◌, inl, inr, arith}
 use Rattle.std.proofs.lemmas.Int.{by_lt_z}
 use Rattle.jiff_core.proofs.SignedLemmas.{signed_arith}
 use Rattle.jiff_tz.specs.declared.timezone.TimeZone.{TimeZone}
@@ -50,6 +50,15 @@ way_less z c from end less high =
     let other = as_natural (pos c +ℤ pos 93_600 -ℤ end) (omega (arith, signed_arith)) in
     omega (arith, signed_arith)
 
+-- what a clock shows there is past the civil second at most by what two clocks can be apart
+pub past_near : (z : TimeZone) (c past : ℕ) (from : ℤ) (steady : Steady) → IsOnTheWay z c from steady
+    → (pos past ≡ from +ℤ steady.offset.seconds -ℤ pos c) ⊎ (pos past ≡ pos 0) → past ≤ 187_198
+past_near z c past from steady way (inl e) =
+    let high = way.high in
+    let near = steady.offset.in_range in
+    omega (arith, signed_arith, near.1)
+past_near z c past from steady way (inr e) = omega (arith, signed_arith)
+
 -- ---- the end of the way
 
 -- the instant at which the clock shows the civil second, or the one at which it is past it already
@@ -86,7 +95,7 @@ due_there z c past from steady way end =
           let there = shown_in z from steady.end steady.offset.seconds m way.kept ge (omega (arith, signed_arith)) in omega (arith, signed_arith));
     }
 
-back : (c past : ℕ) (shown : ℤ) → shown ≡ pos c +ℤ pos past → unsigned_abs (shown -ℤ pos c) ≡ past
+pub back : (c past : ℕ) (shown : ℤ) → shown ≡ pos c +ℤ pos past → unsigned_abs (shown -ℤ pos c) ≡ past
 back c past shown e =
     let nat = as_natural (shown -ℤ pos c) (omega (arith, signed_arith)) in
     omega (arith, signed_arith)

@@ -1,5 +1,5 @@
 -- When a civil second is due in a zone: once, also where the clock changes.
-use Rattle.std.specs.Prelude.{◌≡◌, ℕ, zero, suc, ℤ, pos, ◌+ℤ◌, ◌-ℤ◌, ◌≤ℤ◌, ◌<ℤ◌, int_le, if◌then◌else◌, unsigned_abs}
+use Rattle.std.specs.Prelude.{◌≡◌, ℕ, ◌<◌, ◌≤◌, zero, suc, ℤ, pos, ◌+ℤ◌, ◌-ℤ◌, ◌≤ℤ◌, ◌<ℤ◌, int_le, if◌then◌else◌, unsigned_abs}
 use Rattle.jiff_core.specs.Timestamp.{IsOffsetSeconds, nanos_of_seconds}
 use Rattle.jiff_core.specs.declared.Offset.{Offset}
 use Rattle.jiff_tz.specs.PosixRule as PosixRule
@@ -7,6 +7,7 @@ use Rattle.jiff_tz.specs.Tzif as Tables
 use Rattle.jiff_tz.specs.Zone.{offset_at, zero_in_range}
 use Rattle.jiff_tz.specs.declared.timezone.TimeZone.{TimeZone}
 use Rattle.jiff_tz.specs.declared.timezone.TimeZone.TheVariants.{UTC, Unknown, Fixed, Posix, Tzif}
+use Rattle.cron_moments.specs.Civil.{seconds_in_range}
 use Rattle.cron_clocks.specs.Clocks.{shown_offset}
 
 -- what the zone's clock shows n whole seconds after 1970-01-01T00:00:00Z, as the number of a civil second
@@ -52,6 +53,10 @@ pub record Due : Type 0 where
 
 abbrev pub parts : ℕ → ℕ → Offset → Due
 parts c past o = record { second = c; past = past; offset = o }
+
+-- the nominal second lies in the range, and what the clock shows is past it at most by what two clocks can be apart
+abbrev pub CanBeDue : Due → Type 0
+CanBeDue d = (d.second < seconds_in_range) × (d.past ≤ 187_198)
 
 -- its due instant, in seconds
 abbrev pub instant : Due → ℤ

@@ -1,4 +1,5 @@
 pub mod Due
+pub mod DueText
 pub mod Dues
 pub mod FirstDues
 pub mod DueLaws

@@ -4,9 +4,12 @@ ghost use Rattle.std.specs.Prelude.{◌≡◌, neg_ℤ, pos, ◌*ℤ◌, ◌+ℤ
 ghost use Rattle.jiff_core.specs.DateTime.{civil_nanos};
 ghost use Rattle.jiff_core.specs.Timestamp.{nanos_of_seconds};
 ghost use Rattle.cron_moments.specs.Civil.{civil};
-ghost use Rattle.cron_dues.specs.Due.{instant, parts};
+ghost use Rattle.cron_moments.specs.Readings.{reading};
+ghost use Rattle.cron_dues.specs.Due.{CanBeDue, instant, parts};
+ghost use Rattle.cron_dues.specs.DueText.{shown};
 
 use cron_moments::civil::civil_of;
+use cron_moments::moment::{Moment, moment_numbered};
 use jiff::Timestamp;
 use jiff::civil::DateTime;
 use jiff::tz::Offset;
@@ -22,13 +25,15 @@ pub struct DueFire {
 }
 
 impl Model for DueFire {
-    ghost use Rattle.cron_dues.specs.Due.{Due};
+    ghost use Rattle.cron_dues.specs.Due.{CanBeDue, Due, parts};
 
     ghost Value = { Due };
 
     ghost view = { λ d. record { second = d.second; past = d.past; offset = d.offset } };
 
     ghost inverse = { λ r. record { second = r.second; past = r.past; offset = r.offset } };
+
+    ghost invariant = { λ d. CanBeDue (parts d.second d.past d.offset) };
 }
 
 impl DueFire {
@@ -56,7 +61,8 @@ impl DueFire {
     /// By how many seconds what the clock shows at the due instant lies past the nominal time: 0 outside of
     /// gaps.
     pub fn seconds_past(&self) -> u32
-        ensures { result ≡ self.now.past }
+        ensures value { result ≡ self.now.past }
+        ensures range { CanBeDue self.now }
     {
         self.past
     }
@@ -72,6 +78,7 @@ impl DueFire {
 /// A due fire from its parts.
 #[inline(always)]
 pub(crate) fn due_fire(second: u32, past: u32, offset: Offset) -> DueFire
+    requires { CanBeDue (parts second past offset) }
     ensures { result ≡ parts second past offset }
 {
     DueFire {
@@ -96,4 +103,18 @@ pub(crate) fn nominal_second(fire: &DueFire) -> u32
     ensures { result ≡ fire.now.second }
 {
     fire.second
+}
+
+/// What the clock shows at the due instant.
+pub(crate) fn shown_moment(fire: &DueFire) -> Moment
+    ensures { result ≡ shown fire.now }
+{
+    moment_numbered(fire.second + fire.past, fire.offset)
+}
+
+/// The nominal time, at the offset of the due instant.
+pub(crate) fn nominal_moment(fire: &DueFire) -> Moment
+    ensures { result ≡ reading fire.now.second fire.now.offset }
+{
+    moment_numbered(fire.second, fire.offset)
 }

@@ -8,4 +8,5 @@ pub mod laws;
 mod reach;
 pub mod run;
 mod steady;
+pub mod text;
 mod way_to;
