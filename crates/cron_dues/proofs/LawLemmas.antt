@@ -15,11 +15,13 @@ use Rattle.cron_time.proofs.TimelineLemmas.{readings-second}
 use Rattle.cron_clocks.specs.Clocks.{HasInstant, LookupsAgree}
 use Rattle.cron_dues.specs.Due.{Due, clock, due, due_instant, instant}
 use Rattle.cron_dues.specs.Dues.{dues, matching_seconds}
-use Rattle.cron_dues.specs.DueLaws.{FiresAreTheMatches, NominalSecondsAscend, DueInstantsNeverDecrease, FirstReadingsAreDue, GapsArePassedOver, CutListsGoOn}
+use Rattle.cron_dues.specs.FirstDues.{IsDue}
+use Rattle.cron_dues.specs.DueLaws.{IsFirstReading, FiresAreTheMatches, NominalSecondsAscend, DueInstantsNeverDecrease, FirstReadingsAreDue, GapsArePassedOver, CutListsGoOn}
 use Rattle.cron_dues.proofs.DueLemmas.{as_natural, due_ascends, due_by, due_is, fire_due}
 use Rattle.cron_time.proofs.ListLemmas.{map-back}
 use Rattle.cron_dues.proofs.ListLemmas.{Ascends, ascends-at, ascends-filter, ascends-map, cut-behind, numbers-ascend}
 use Rattle.cron_dues.proofs.MemberLemmas.{own-of}
+use Rattle.cron_dues.proofs.WayLemmas.{back}
 
 pub fires_are_matches : FiresAreTheMatches
 fires_are_matches s z = map-back (due z) (λ d. d.second) (matching_seconds s) (λ c. refl)
@@ -34,11 +36,10 @@ dues-ascend s z = ascends-map (λ (d : Due). d.second) (due z) (matching_seconds
 pub nominal_ascend : NominalSecondsAscend
 nominal_ascend s z i j d e less here there = ascends-at (λ (x : Due). x.second) (dues s z) i j d e (dues-ascend s z) less here there
 
-instants_by : (s : Sets) (z : TimeZone) (i j : ℕ) (d e : Due) → d.second ≤ e.second → slice_get (dues s z) i ≡ Some d → slice_get (dues s z) j ≡ Some e
-    → instant d ≤ℤ instant e
-instants_by s z i j d e le here there =
-    let one = own-of s z d (i, here) in
-    let other = own-of s z e (j, there) in
+pub due_no_later : (s : Sets) (z : TimeZone) (d e : Due) → IsDue s z d → IsDue s z e → d.second ≤ e.second → instant d ≤ℤ instant e
+due_no_later s z d e here there le =
+    let one = own-of s z d here in
+    let other = own-of s z e there in
     let first : instant d ≡ due_instant z d.second = ap instant one.own ∙ fire_due z d.second in
     let second : instant e ≡ due_instant z e.second = ap instant other.own ∙ fire_due z e.second in
     let ascends = due_ascends z d.second e.second (omega (arith, signed_arith)) in
@@ -46,10 +47,10 @@ instants_by s z i j d e le here there =
 
 pub never_decrease : DueInstantsNeverDecrease
 never_decrease s z i j d e le here there = elim (cases_lt i j) [
-  | inl less ↦ let up = nominal_ascend s z i j d e less here there in instants_by s z i j d e (omega arith) here there
+  | inl less ↦ let up = nominal_ascend s z i j d e less here there in due_no_later s z d e (i, here) (j, there) (omega arith)
   | inr ge ↦ let same : i ≡ j = omega arith in
       let equal : Some d ≡ Some e = sym here ∙ ap (slice_get (dues s z)) same ∙ there in
-      let one : d ≡ e = cc in instants_by s z i j d e (rw one (omega arith)) here there
+      let one : d ≡ e = cc in due_no_later s z d e (i, here) (j, there) (rw one (omega arith))
 ]
 
 -- ---- readings
@@ -75,11 +76,21 @@ shown_then z c none =
     let past = as_natural (clock z (due_instant z c) -ℤ pos c) (omega (arith, signed_arith)) in
     omega (arith, signed_arith)
 
-pub first_readings : FirstReadingsAreDue
-first_readings z c agree range none = record {
+first_read : (z : TimeZone) (c : ℕ) → LookupsAgree z → c < seconds_in_range → (due z c).past ≡ 0 → IsFirstReading z c (due_instant z c)
+first_read z c agree range none = record {
   has = agree.shown_read c (due_instant z c) range (shown_then z c none);
   first = λ i r e. no_later z c i r agree range e;
 }
+
+read_first : (z : TimeZone) (c : ℕ) → LookupsAgree z → c < seconds_in_range → IsFirstReading z c (due_instant z c) → (due z c).past ≡ 0
+read_first z c agree range first =
+    let has = first.has in
+    let there = shown_at z c has.place has.at_place agree range has.here in
+    let shown : clock z (due_instant z c) ≡ pos c = ap (clock z) (sym has.is) ∙ there in
+    back c 0 (clock z (due_instant z c)) (omega (arith, signed_arith))
+
+pub first_readings : FirstReadingsAreDue
+first_readings z c agree range = (first_read z c agree range, read_first z c agree range)
 
 nothing_read : (z : TimeZone) (c : ℕ) (n : ℤ) → readings z c ≡ [] → HasInstant (readings z c) n → ⊥
 nothing_read z c n none has = nothing_in_nil has.place has.at_place (rw none at has.here)

@@ -58,12 +58,17 @@ past_no a b h = grind arith
 past_yes : (a b : ℕ) → b < a → nat_lt b a ≡ true
 past_yes a b h = grind arith
 
+-- a test that is passed by an element of a list is passed by those of greater keys
+abbrev pub KeepsOn : {A : Type 0} → (A → ℕ) → (A → Bool) → List A → Type 0
+KeepsOn {A} key p l = (a b : A) → Among l a → Among l b → p a ≡ true → key a < key b → p b ≡ true
+
 -- of an ascending list what passes a test that is passed from there on: the first, and those behind it
-pub first-passing : {A : Type 0} (key : A → ℕ) (p : A → Bool) (l : List A) (r : A) → ((a b : A) → p a ≡ true → key a < key b → p b ≡ true)
+pub first-passing : {A : Type 0} (key : A → ℕ) (p : A → Bool) (l : List A) (r : A) → KeepsOn key p l
     → Ascends key l → Among l r → p r ≡ true → ((q : A) → Among l q → p q ≡ true → key r ≤ key q) → filter p l ≡ r ∷ filter (λ q. nat_lt (key r) (key q)) l
 first-passing key p [] r on up here passes least = absurd (among-none r here)
 first-passing key p (x ∷ l) r on up here passes least =
-    by_test (p x) (λ there. first-passing key p l r on up.1 there passes (λ q h t. least q (among-rest x q l h) t)) refl
+    by_test (p x) (λ there. first-passing key p l r (λ a b h k. on a b (among-rest x a l h) (among-rest x b l k)) up.1 there passes
+    (λ q h t. least q (among-rest x q l h) t)) refl
   where
     at_first : p x ≡ true → r ≡ x
     at_first is = elim (among-cases x l r here) [
@@ -74,7 +79,7 @@ first-passing key p (x ∷ l) r on up here passes least =
     by_test : (b : Bool) → (Among l r → filter p l ≡ r ∷ filter (λ q. nat_lt (key r) (key q)) l) → p x ≡ b
         → cond b (x ∷ filter p l) (filter p l) ≡ r ∷ cond (nat_lt (key r) (key x)) (x ∷ filter (λ q. nat_lt (key r) (key q)) l) (filter (λ q. nat_lt (key r) (key q)) l)
     by_test true below is =
-        let all : filter p l ≡ l = filter-all p l (λ q h. on x q is (up.0 q h)) in
+        let all : filter p l ≡ l = filter-all p l (λ q h. on x q (among-first x l) (among-rest x q l h) is (up.0 q h)) in
         let later : filter (λ q. nat_lt (key x) (key q)) l ≡ l = filter-all (λ q. nat_lt (key x) (key q)) l (λ q h. past_yes (key q) (key x) (up.0 q h)) in
         let itself : nat_lt (key x) (key x) ≡ false = past_no (key x) (key x) (omega arith) in
         rw (at_first is, itself) (ap (λ m. x ∷ m) (all ∙ sym later))
@@ -96,3 +101,73 @@ cut-behind key (x ∷ done) r rest up =
     let less = up.0 r (join-among done (r ∷ rest) r (inr (among-first r rest))) in
     let fails : nat_lt (key r) (key x) ≡ false = past_no (key x) (key r) (omega arith) in
     rw fails (cut-behind key done r rest up.1)
+
+-- ---- filters of filters
+
+-- a test that only passes what another one passes needs no other one before it
+pub filter-within : {A : Type 0} (p t : A → Bool) (l : List A) → ((x : A) → Among l x → t x ≡ true → p x ≡ true) → filter t (filter p l) ≡ filter t l
+filter-within p t [] within = refl
+filter-within p t (x ∷ l) within = by_tests (p x) (t x) (filter-within p t l (λ y h. within y (among-rest x y l h))) refl refl
+  where
+    by_tests : (b k : Bool) → filter t (filter p l) ≡ filter t l → p x ≡ b → t x ≡ k
+        → filter t (cond b (x ∷ filter p l) (filter p l)) ≡ cond k (x ∷ filter t l) (filter t l)
+    by_tests true true below is keeps = rw keeps (ap (λ m. x ∷ m) below)
+    by_tests true false below is keeps = rw keeps below
+    by_tests false true below is keeps = let passes = within x (among-first x l) keeps in absurd (cc)
+    by_tests false false below is keeps = below
+
+pub filter-swap : {A : Type 0} (p t : A → Bool) (l : List A) → filter p (filter t l) ≡ filter t (filter p l)
+filter-swap p t [] = refl
+filter-swap p t (x ∷ l) = by_tests (p x) (t x) (filter-swap p t l) refl refl
+  where
+    by_tests : (b k : Bool) → filter p (filter t l) ≡ filter t (filter p l) → p x ≡ b → t x ≡ k
+        → filter p (cond k (x ∷ filter t l) (filter t l)) ≡ filter t (cond b (x ∷ filter p l) (filter p l))
+    by_tests true true below is keeps = rw (is, keeps) (ap (λ m. x ∷ m) below)
+    by_tests true false below is keeps = rw keeps below
+    by_tests false true below is keeps = rw is below
+    by_tests false false below is keeps = below
+
+pub among-cut : {A : Type 0} (done : List A) (r : A) (rest : List A) → Among (done ++ r ∷ rest) r
+among-cut done r rest = join-among done (r ∷ rest) r (inr (among-first r rest))
+
+less_yes : (a b : ℕ) → nat_lt a b ≡ true → a < b
+less_yes a b h = grind arith
+
+-- behind an element of what passes such a test come those of greater keys
+pub cut-passing : {A : Type 0} (key : A → ℕ) (p : A → Bool) (l done : List A) (r : A) (rest : List A) → KeepsOn key p l → Ascends key l
+    → filter p l ≡ done ++ r ∷ rest → filter (λ q. nat_lt (key r) (key q)) l ≡ rest
+cut-passing key p l done r rest on up e =
+    let both = among-filter p l r (rw e (among-cut done r rest)) in
+    let cut_up : Ascends key (done ++ r ∷ rest) = rw (← e) (ascends-filter key p l up) in
+    sym (filter-within p (λ q. nat_lt (key r) (key q)) l (λ q h t. on r q both.0 h both.1 (less_yes (key r) (key q) t)))
+    ∙ ap (filter (λ q. nat_lt (key r) (key q))) e
+    ∙ cut-behind key done r rest cut_up
+
+-- ---- two lists with the same elements
+
+first_same : {A : Type 0} (key : A → ℕ) (x y : A) (l m : List A) → Ascends key (x ∷ l) → Ascends key (y ∷ m) → Among (y ∷ m) x → Among (x ∷ l) y → x ≡ y
+first_same key x y l m up over there here = elim (among-cases y m x there) [
+  | inl e ↦ e
+  | inr behind ↦ elim (among-cases x l y here) [
+    | inl e ↦ sym e
+    | inr ahead ↦ let less = over.0 x behind in let more = up.0 y ahead in absurd (omega arith)
+  ]
+]
+
+rest_same : {A : Type 0} (key : A → ℕ) (x y q : A) (l m : List A) → Ascends key (x ∷ l) → x ≡ y → Among l q → Among (y ∷ m) q → Among m q
+rest_same key x y q l m up same here there = elim (among-cases y m q there) [
+  | inl e ↦ let less = up.0 q here in let self : key q ≡ key x = ap key (e ∙ sym same) in absurd (omega arith)
+  | inr behind ↦ behind
+]
+
+-- two ascending lists that have the same elements are one
+pub same_lists : {A : Type 0} (key : A → ℕ) (l m : List A) → Ascends key l → Ascends key m → ((x : A) → Among l x → Among m x)
+    → ((x : A) → Among m x → Among l x) → l ≡ m
+same_lists key [] [] up over to from = refl
+same_lists key [] (y ∷ m) up over to from = absurd (among-none y (from y (among-first y m)))
+same_lists key (x ∷ l) [] up over to from = absurd (among-none x (to x (among-first x l)))
+same_lists key (x ∷ l) (y ∷ m) up over to from =
+    let same = first_same key x y l m up over (to x (among-first x l)) (from y (among-first y m)) in
+    ap (λ a. a ∷ l) same
+    ∙ ap (λ k. y ∷ k) (same_lists key l m up.1 over.1 (λ q h. rest_same key x y q l m up same h (to q (among-rest x q l h)))
+    (λ q h. rest_same key y x q m l over (sym same) h (from q (among-rest y q m h))))

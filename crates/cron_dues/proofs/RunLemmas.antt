@@ -86,7 +86,7 @@ left-none s z from until none = ap (left_until until) (filter-none (is_from from
 from-first : (s : Sets) (z : TimeZone) (from : ℤ) (d : Due) → IsNearestDue Ahead s z from (Some d) → filter (is_from from) (dues s z) ≡ d ∷ dues_past s z d
 from-first s z from d near =
     first-passing (λ (e : Due). e.second) (is_from from) (dues s z) d
-    (λ a b h less. let le = int_le-true from (pos a.second) h in le_yes from (pos b.second) (omega (arith, signed_arith)))
+    (λ a b one other h less. let le = int_le-true from (pos a.second) h in le_yes from (pos b.second) (omega (arith, signed_arith)))
     (dues-ascend s z) (nearest-own s z d near.nearest.passes near.own) (le_yes from (pos d.second) near.nearest.lies)
     (λ e h t. ahead_least s from d.second e.second near.nearest (own-of s z e h).matching (int_le-true from (pos e.second) t))
 

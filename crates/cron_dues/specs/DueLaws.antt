@@ -1,5 +1,5 @@
 -- What holds of the due fires of all sets in every zone.
-use Rattle.std.specs.Prelude.{◌≡◌, ℕ, ◌<◌, ◌≤◌, ℤ, ◌≤ℤ◌, List, [], ◌∷◌, ◌++◌, Some, map, slice_get}
+use Rattle.std.specs.Prelude.{◌≡◌, ◌↔◌, ℕ, ◌<◌, ◌≤◌, ℤ, ◌≤ℤ◌, List, [], ◌∷◌, ◌++◌, Some, map, slice_get}
 use Rattle.jiff_tz.specs.declared.timezone.TimeZone.{TimeZone}
 use Rattle.cron_units.specs.Sets.{Sets}
 use Rattle.cron_moments.specs.Civil.{seconds_in_range}
@@ -36,14 +36,13 @@ pub record IsFirstReading (z : TimeZone) (c : ℕ) (n : ℤ) : Type 0 where
   pub has : HasInstant (readings z c) n
   pub first : (i : ℕ) (r : Reading) → slice_get (readings z c) i ≡ Some r → n ≤ℤ moments.instant r
 
--- where the look-ups agree, and the clock doesn't pass over the civil second, its due instant is that of its first reading
+-- where the look-ups agree, the due instant of a civil second is that of its first reading exactly if the clock doesn't pass over it
 abbrev pub FirstReadingsAreDue : Type 0
 FirstReadingsAreDue =
     (z : TimeZone) (c : ℕ)
     → LookupsAgree z
     → c < seconds_in_range
-    → (due z c).past ≡ 0
-    → IsFirstReading z c (due_instant z c)
+    → ((due z c).past ≡ 0 ↔ IsFirstReading z c (due_instant z c))
 
 -- there a civil second with no reading is due when the clock passes over it
 abbrev pub GapsArePassedOver : Type 0

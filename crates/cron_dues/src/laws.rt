@@ -29,8 +29,8 @@ pub fn due_instants_never_decrease()
     ensures { DueInstantsNeverDecrease }
 {}
 
-/// Where the look-ups of a zone agree, and the clock doesn't pass over a civil second, it is due at its
-/// first reading.
+/// Where the look-ups of a zone agree, a civil second is due at its first reading exactly if the clock
+/// doesn't pass over it.
 pub fn first_readings_are_due()
     ensures { FirstReadingsAreDue }
 {}
