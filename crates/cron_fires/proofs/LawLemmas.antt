@@ -14,8 +14,10 @@ use Rattle.cron_instants.specs.Order.{is_earlier}
 use Rattle.cron_instants.proofs.AgreementLemmas.{instants_apart}
 use Rattle.cron_time.proofs.ListLemmas.{among-cases, among-filter, filter-alike, filter-all, filter-among, filter-none, filter-swap, filter-within}
 use Rattle.cron_instants.proofs.AscentLemmas.{Ascends, KeepsOn, among-cut, ascends-filter, cut-behind, earlier-not_itself}
-use Rattle.cron_instants.proofs.FireLemmas.{after-keeps_on, fires-ascend, fires-ascend_at, fires-of_item, first-after, int_le-true, int_lt-true, item-of_fires, past-keeps_on}
+use Rattle.cron_instants.proofs.FireLemmas.{after-keeps_on, not_later, fires-ascend, fires-ascend_at, fires-of_item, first-after, int_le-true, int_lt-true, item-of_fires, past-keeps_on}
 use Rattle.cron_instants.proofs.OrderLemmas.{before-less, before-not_less}
+use Rattle.cron_fires.specs.Rules.{NeverDecreases}
+use Rattle.cron_fires.proofs.MeetLemmas.{KeepsUp, keeps-at, meet}
 use Rattle.cron_fires.specs.Laws.{AgreeingZonesTellApart, CutRunsGoOn, CutRunsPastGoOn, CutStretchesGoOn, FiresAreTheItems, FiresAscend, LoopsAreRuns, NextIsPast, StretchesAreJoined, StretchesHaveTheirItems}
 
 pub are_the_items : FiresAreTheItems
@@ -39,51 +41,22 @@ have_their_items s z last now r = (
 
 -- ---- stretches that meet
 
-not_after-by : (t : ℤ) (r : Reading) → is_after t r ≡ false → is_by t r ≡ true
-not_after-by t r h = grind (arith, ints)
-
-after-not_by : (t : ℤ) (r : Reading) → is_after t r ≡ true → is_by t r ≡ false
-after-not_by t r h = grind (arith, ints)
-
-after_earlier : (a b : ℤ) (r : Reading) → a ≤ℤ b → is_after b r ≡ true → is_after a r ≡ true
-after_earlier a b r le h =
-    let late = int_lt-true b (instant r *ℤ pos 1_000_000_000) h in lt_yes a (instant r *ℤ pos 1_000_000_000) (omega (arith, signed_arith))
-
-by_later : (b c : ℤ) (r : Reading) → b ≤ℤ c → is_by b r ≡ true → is_by c r ≡ true
-by_later b c r le h =
-    let early = int_le-true (instant r *ℤ pos 1_000_000_000) b h in le_yes (instant r *ℤ pos 1_000_000_000) c (omega (arith, signed_arith))
-
-module _ (a b c : ℤ) (low : a ≤ℤ b) (high : b ≤ℤ c) where
-  abbrev Meet : List Reading → Type 0
-  Meet l = filter (is_by b) (filter (is_after a) l) ++ filter (is_by c) (filter (is_after b) l) ≡ filter (is_by c) (filter (is_after a) l)
-
-  -- from an item on that lies in the second stretch all do
-  in_second : (x : Reading) (l : List Reading) → is_after b x ≡ true → Ascends (x ∷ l) → Meet (x ∷ l)
-  in_second x l late up =
-      let all_late : (q : Reading) → IsAmong (x ∷ l) q → is_after b q ≡ true = λ q h. elim (among-cases x l q h) [
-        | inl e ↦ ap (is_after b) e ∙ late
-        | inr there ↦ after-keeps_on b x q late (up.0 q there)
-      ] in
-      let from_b : filter (is_after b) (x ∷ l) ≡ x ∷ l = filter-all (is_after b) (x ∷ l) all_late in
-      let from_a : filter (is_after a) (x ∷ l) ≡ x ∷ l = filter-all (is_after a) (x ∷ l) (λ q h. after_earlier a b q low (all_late q h)) in
-      let none : filter (is_by b) (filter (is_after a) (x ∷ l)) ≡ [] =
-      ap (filter (is_by b)) from_a ∙ filter-none (is_by b) (x ∷ l) (λ q h. after-not_by b q (all_late q h)) in
-      ap (λ m. m ++ filter (is_by c) (filter (is_after b) (x ∷ l))) none ∙ ap (filter (is_by c)) (from_b ∙ sym from_a)
-
-  meet_by : (x : Reading) (l : List Reading) (in_b in_a : Bool) → is_after b x ≡ in_b → is_after a x ≡ in_a → Ascends (x ∷ l) → Meet l → Meet (x ∷ l)
-  meet_by x l true in_a late is up below = in_second x l late up
-  meet_by x l false true early is up below =
-      let by_b : is_by b x ≡ true = not_after-by b x early in
-      let by_c : is_by c x ≡ true = by_later b c x high by_b in
-      rw (is, early, by_b, by_c) (ap (λ m. x ∷ m) below)
-  meet_by x l false false early is up below = rw (is, early) below
-
-  meet : (l : List Reading) → Ascends l → Meet l
-  meet [] up = refl
-  meet (x ∷ l) up = meet_by x l (is_after b x) (is_after a x) refl refl up (meet l up.1)
+keeps_up : (l : List Reading) → Ascends l → KeepsUp instant l
+keeps_up [] up = tt
+keeps_up (r ∷ l) up = (λ q h. not_later r q (up.0 q h), keeps_up l up.1)
 
 pub joined : StretchesAreJoined
-joined s z a b c low high = meet a b c low high (fires s z) (fires-ascend s z)
+joined s z a b c low high = meet instant a b c low high (fires s z) (keeps_up (fires s z) (fires-ascend s z))
+
+never_decrease : (s : Sets) (z : TimeZone) (p : Reading → Bool) → NeverDecreases instant (filter p (fires s z))
+never_decrease s z p =
+    let up = ascends-filter p (fires s z) (fires-ascend s z) in keeps-at instant (filter p (fires s z)) (keeps_up (filter p (fires s z)) up)
+
+pub after-never_decrease : (s : Sets) (z : TimeZone) (t : ℤ) → NeverDecreases instant (fires_after s z t)
+after-never_decrease s z t = never_decrease s z (is_after t)
+
+pub past-never_decrease : (s : Sets) (z : TimeZone) (item : Reading) → NeverDecreases instant (fires_past s z item)
+past-never_decrease s z item = never_decrease s z (is_earlier item)
 
 -- ---- runs that are cut
 

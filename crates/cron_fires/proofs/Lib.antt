@@ -1,1 +1,4 @@
 pub mod LawLemmas
+pub mod MeetLemmas
+pub mod DueLemmas
+pub mod AgreeLemmas

@@ -1,5 +1,6 @@
 //! Laws over the definitions: the functions do nothing, and a caller calls one for what its contract says.
 
+ghost use Rattle.cron_fires.specs.DueLaws.{BothRulesAgree, CutDueRunsGoOn, CutDueRunsPastGoOn, CutDueStretchesGoOn, DueStretchesAreJoined};
 ghost use Rattle.cron_fires.specs.Laws.{AgreeingZonesTellApart, CutRunsGoOn, CutRunsPastGoOn, CutStretchesGoOn, FiresAreTheItems, FiresAscend, LoopsAreRuns, NextIsPast, StretchesAreJoined, StretchesHaveTheirItems};
 
 /// The fires are the items of the timeline, no more and no fewer.
@@ -44,4 +45,23 @@ pub fn next_is_past()
 /// There a loop that asks for the first fire after the instant of the one before is a run.
 pub fn loops_are_runs()
     ensures { LoopsAreRuns }
+{}
+
+/// The runs of due fires over two stretches that meet are the run over both.
+pub fn joined_due_stretches()
+    ensures { DueStretchesAreJoined }
+{}
+
+/// A run of due fires after an instant, past a fire or between two instants that is cut after a fire goes on
+/// past that fire as the run uncut.
+pub fn cut_due_runs()
+    ensures after { CutDueRunsGoOn }
+    ensures past { CutDueRunsPastGoOn }
+    ensures between { CutDueStretchesGoOn }
+{}
+
+/// Where the look-ups of a zone agree, a stretch has the same fires by both rules if its clock keeps its
+/// offset there, and has shown nothing later before.
+pub fn both_rules_agree()
+    ensures { BothRulesAgree }
 {}

@@ -8,6 +8,9 @@
 //!     fire = first_fire_past(&schedule, &moment, &zone);
 //! }
 //! ```
+//!
+//! The same by the other rule, each match once also where the clock changes: `first_due_after` and its
+//! like.
 #![tactic(auto)]
 
 ghost use Rattle.std.specs.Prelude.{◌≡◌};
@@ -21,9 +24,14 @@ use cron_units::fields::ScheduleFields;
 use jiff::Timestamp;
 use jiff::tz::TimeZone;
 
+mod dues;
+mod fire;
 pub mod laws;
 mod runs;
 
+pub use cron_dues::fire::DueFire;
+pub use dues::{Dues, first_due_after, first_due_past, last_due_by, missed_dues};
+pub use fire::Fire;
 pub use runs::{Fires, missed};
 
 /// The seven sets of a schedule, for functions that take sets in place of a schedule.
