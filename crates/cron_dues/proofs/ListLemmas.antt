@@ -1,7 +1,7 @@
 -- Lists that ascend by a key.
 use Rattle.std.proofs.Common.{◌≡◌, ℕ, zero, suc, ◌<◌, ◌≤◌, nat_lt, Bool, true, false, cond, List, [], ◌∷◌, ◌++◌, Some, inl, inr, refl, sym, ap, ◌∙◌, arith}
 use Rattle.std.specs.Prelude.{filter, map, slice_get}
-use Rattle.cron_time.proofs.ListLemmas.{Among, among-below, among-cases, among-filter, among-first, among-join, among-map, among-none, among-rest, filter-all, join-among}
+use Rattle.cron_time.proofs.ListLemmas.{Among, among-below, among-cases, among-filter, among-first, among-join, among-map, among-none, among-rest, filter-all, filter-swap, filter-within, join-among}
 use Rattle.cron_time.proofs.PlaceLemmas.{nothing_in_nil}
 use Rattle.cron_time.specs.Timeline.{numbers_below}
 
@@ -101,31 +101,6 @@ cut-behind key (x ∷ done) r rest up =
     let less = up.0 r (join-among done (r ∷ rest) r (inr (among-first r rest))) in
     let fails : nat_lt (key r) (key x) ≡ false = past_no (key x) (key r) (omega arith) in
     rw fails (cut-behind key done r rest up.1)
-
--- ---- filters of filters
-
--- a test that only passes what another one passes needs no other one before it
-pub filter-within : {A : Type 0} (p t : A → Bool) (l : List A) → ((x : A) → Among l x → t x ≡ true → p x ≡ true) → filter t (filter p l) ≡ filter t l
-filter-within p t [] within = refl
-filter-within p t (x ∷ l) within = by_tests (p x) (t x) (filter-within p t l (λ y h. within y (among-rest x y l h))) refl refl
-  where
-    by_tests : (b k : Bool) → filter t (filter p l) ≡ filter t l → p x ≡ b → t x ≡ k
-        → filter t (cond b (x ∷ filter p l) (filter p l)) ≡ cond k (x ∷ filter t l) (filter t l)
-    by_tests true true below is keeps = rw keeps (ap (λ m. x ∷ m) below)
-    by_tests true false below is keeps = rw keeps below
-    by_tests false true below is keeps = let passes = within x (among-first x l) keeps in absurd (cc)
-    by_tests false false below is keeps = below
-
-pub filter-swap : {A : Type 0} (p t : A → Bool) (l : List A) → filter p (filter t l) ≡ filter t (filter p l)
-filter-swap p t [] = refl
-filter-swap p t (x ∷ l) = by_tests (p x) (t x) (filter-swap p t l) refl refl
-  where
-    by_tests : (b k : Bool) → filter p (filter t l) ≡ filter t (filter p l) → p x ≡ b → t x ≡ k
-        → filter p (cond k (x ∷ filter t l) (filter t l)) ≡ filter t (cond b (x ∷ filter p l) (filter p l))
-    by_tests true true below is keeps = rw (is, keeps) (ap (λ m. x ∷ m) below)
-    by_tests true false below is keeps = rw keeps below
-    by_tests false true below is keeps = rw is below
-    by_tests false false below is keeps = below
 
 pub among-cut : {A : Type 0} (done : List A) (r : A) (rest : List A) → Among (done ++ r ∷ rest) r
 among-cut done r rest = join-among done (r ∷ rest) r (inr (among-first r rest))

@@ -27,7 +27,8 @@ use Rattle.cron_dues.specs.Dues.{dues, dues_after, dues_between, is_due_after, i
 use Rattle.cron_dues.proofs.DueLemmas.{due_is, due_once, fire_due}
 use Rattle.cron_dues.proofs.LawLemmas.{dues-ascend}
 use Rattle.cron_time.proofs.TimelineLemmas.{readings-second}
-use Rattle.cron_dues.proofs.ListLemmas.{Among, Ascends, among-filter, among-map, ascends-filter, ascends-map, filter-among, map-among, same_lists}
+use Rattle.cron_time.proofs.ListLemmas.{Among, among-filter, among-first, among-map, among-rest, filter-among, map-among}
+use Rattle.cron_dues.proofs.ListLemmas.{Ascends, ascends-filter, ascends-map, same_lists}
 use Rattle.cron_dues.proofs.MemberLemmas.{due-of, own-of}
 use Rattle.cron_dues.proofs.WayLemmas.{back}
 use Rattle.cron_fires.specs.DueLaws.{BothRulesAgree, IsFreshStretch, as_due}
@@ -145,8 +146,8 @@ due-fired s z last now d agree stretch h =
     let plain : due.due z c ≡ parts c 0 r.offset = due_plain z c k r.offset (due_is z c) shown offset in
     let item = read_item s z c read.place r own.matching second read.here in
     let fire : Among (fires_between s z last now) r =
-    ascent.filter-among (is_by now) (fires_after s z last) r
-    (ascent.filter-among (is_after last) (fires s z) r (fires-of_item s z r item)
+    filter-among (is_by now) (fires_after s z last) r
+    (filter-among (is_after last) (fires s z) r (fires-of_item s z r item)
     (let instant_is = read.is in lt_yes last (instant r *ℤ pos 1_000_000_000) (omega (arith, signed_arith))))
     (let instant_is = read.is in le_yes (instant r *ℤ pos 1_000_000_000) now (omega (arith, signed_arith))) in
     let is : d ≡ as_due r = own.own ∙ plain ∙ ap (λ n. parts n 0 r.offset) (sym second) in
@@ -163,8 +164,8 @@ earlier_second r q same h = elim (before-true (instant r) r.second (instant q) q
 by_second : (o : ℤ) (l : List Reading) → ((r : Reading) → Among l r → o ≡ r.offset.seconds) → ascent.Ascends l → Ascends (λ r. r.second) l
 by_second o [] own up = tt
 by_second o (r ∷ l) own up = (
-  λ q h. earlier_second r q (sym (own r (ascent.among-first r l)) ∙ own q (ascent.among-rest r q l h)) (up.0 q h),
-  by_second o l (λ q h. own q (ascent.among-rest r q l h)) up.1,
+  λ q h. earlier_second r q (sym (own r (among-first r l)) ∙ own q (among-rest r q l h)) (up.0 q h),
+  by_second o l (λ q h. own q (among-rest r q l h)) up.1,
 )
 
 pub both_agree : BothRulesAgree

@@ -10,7 +10,8 @@ use Rattle.cron_dues.specs.Due.{Due, instant}
 use Rattle.cron_dues.specs.Dues.{dues, dues_after, dues_past, dues_between, is_due_after, is_due_by, is_past}
 use Rattle.cron_dues.specs.FirstDues.{IsDue, IsFirst, IsFirstDueAfter, IsFirstDuePast}
 use Rattle.cron_dues.proofs.LawLemmas.{due_no_later, dues-ascend}
-use Rattle.cron_dues.proofs.ListLemmas.{Among, Ascends, KeepsOn, among-cut, among-filter, among-first, among-rest, ascends-filter, cut-behind, cut-passing, filter-none, filter-swap, filter-within, first-passing}
+use Rattle.cron_time.proofs.ListLemmas.{Among, among-filter, among-first, among-rest, filter-none, filter-swap, filter-within}
+use Rattle.cron_dues.proofs.ListLemmas.{Ascends, KeepsOn, among-cut, ascends-filter, cut-behind, cut-passing, first-passing}
 use Rattle.cron_dues.proofs.MemberLemmas.{less-true, true-less}
 use Rattle.cron_fires.specs.Rules.{IsFirstOf, NeverDecreases}
 use Rattle.cron_fires.specs.DueLaws.{CutDueRunsGoOn, CutDueRunsPastGoOn, CutDueStretchesGoOn, DueStretchesAreJoined}

@@ -63,7 +63,7 @@ past-never_decrease s z item = never_decrease s z (is_earlier item)
 -- what is left of a run past one of its items is what is past that item
 past_within : (s : Sets) (z : TimeZone) (p : Reading → Bool) (item : Reading) → KeepsOn p → p item ≡ true
     → filter (is_earlier item) (filter p (fires s z)) ≡ fires_past s z item
-past_within s z p item on passes = filter-within p (is_earlier item) (fires s z) (λ q later. on item q passes later)
+past_within s z p item on passes = filter-within p (is_earlier item) (fires s z) (λ q there later. on item q passes later)
 
 cut_by : (s : Sets) (z : TimeZone) (p : Reading → Bool) (done : List Reading) (item : Reading) (rest : List Reading) → KeepsOn p
     → filter p (fires s z) ≡ done ++ item ∷ rest → fires_past s z item ≡ rest

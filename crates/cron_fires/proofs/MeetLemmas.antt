@@ -6,7 +6,7 @@ use Rattle.jiff_core.proofs.SignedLemmas.{signed_arith}
 use Rattle.cron_time.proofs.PlaceLemmas.{nothing_in_nil}
 use Rattle.cron_clocks.proofs.Windows.{le_yes, lt_yes}
 use Rattle.cron_instants.proofs.FireLemmas.{int_le-true, int_lt-true}
-use Rattle.cron_dues.proofs.ListLemmas.{Among, among-cases, filter-all, filter-none}
+use Rattle.cron_time.proofs.ListLemmas.{Among, among-cases, filter-all, filter-none}
 use Rattle.cron_fires.specs.Rules.{NeverDecreases, is_by}
 
 -- the instant of each fire is none later than those behind it

@@ -134,17 +134,17 @@ pub filter-swap : {A : Type 0} (p t : A → Bool) (l : List A) → filter p (fil
 filter-swap p t [] = refl
 filter-swap p t (x ∷ l) = both_filters p t x l (p x) (t x) refl refl (filter-swap p t l)
 
-within_by : {A : Type 0} (p t : A → Bool) (x : A) (l : List A) (b c : Bool) → p x ≡ b → t x ≡ c → (t x ≡ true → p x ≡ true)
-    → filter t (filter p l) ≡ filter t l → filter t (cond b (x ∷ filter p l) (filter p l)) ≡ cond c (x ∷ filter t l) (filter t l)
-within_by p t x l true true f g less same = filter-passes t x (filter p l) g ∙ ap (λ m. x ∷ m) same
-within_by p t x l true false f g less same = filter-fails t x (filter p l) g ∙ same
-within_by p t x l false true f g less same = let passes = less g in absurd (cc)
-within_by p t x l false false f g less same = same
-
 -- a test that only passes what another one passes needs no other one before it
-pub filter-within : {A : Type 0} (p t : A → Bool) (l : List A) → ((y : A) → t y ≡ true → p y ≡ true) → filter t (filter p l) ≡ filter t l
-filter-within p t [] less = refl
-filter-within p t (x ∷ l) less = within_by p t x l (p x) (t x) refl refl (less x) (filter-within p t l less)
+pub filter-within : {A : Type 0} (p t : A → Bool) (l : List A) → ((x : A) → Among l x → t x ≡ true → p x ≡ true) → filter t (filter p l) ≡ filter t l
+filter-within p t [] within = refl
+filter-within p t (x ∷ l) within = by_tests (p x) (t x) (filter-within p t l (λ y h. within y (among-rest x y l h))) refl refl
+  where
+    by_tests : (b k : Bool) → filter t (filter p l) ≡ filter t l → p x ≡ b → t x ≡ k
+        → filter t (cond b (x ∷ filter p l) (filter p l)) ≡ cond k (x ∷ filter t l) (filter t l)
+    by_tests true true below is keeps = rw keeps (ap (λ m. x ∷ m) below)
+    by_tests true false below is keeps = rw keeps below
+    by_tests false true below is keeps = let passes = within x (among-first x l) keeps in absurd (cc)
+    by_tests false false below is keeps = below
 
 -- ---- the numbers below one
 
