@@ -1,7 +1,5 @@
 -- The greatest second that a clock has shown.
-use Rattle.std.proofs.Common.{◌≡◌, int_lt, ◌⊎◌, inl, inr, ◌<◌, ℤ, pos, ◌+ℤ◌, ◌-ℤ◌, ◌≤ℤ◌, ◌<ℤ◌, arith}
-use Rattle.std.specs.Int.{int_max}
-use Rattle.std.proofs.lemmas.Bool.{cases_cond}
+use Rattle.std.proofs.Common.{◌≡◌, ◌⊎◌, inl, inr, ◌<◌, ℤ, pos, ◌+ℤ◌, ◌-ℤ◌, ◌≤ℤ◌, ◌<ℤ◌, arith}
 use Rattle.std.proofs.lemmas.Int.{by_lt_z}
 use Rattle.jiff_core.proofs.SignedLemmas.{signed_arith}
 use Rattle.jiff_tz.specs.declared.timezone.TimeZone.{TimeZone}
@@ -11,10 +9,6 @@ use Rattle.cron_dues.specs.Inner.Reached.{IsGathered, IsGreatestBy, IsShownBy, l
 use Rattle.cron_dues.specs.declared.steady.Steady.{Steady}
 use Rattle.cron_dues.proofs.DueLemmas.{as_natural, clock_near}
 use Rattle.cron_dues.proofs.WayLemmas.{shown_in}
-
--- the greater of two numbers is one of them
-pub either_max : (x y r : ℤ) → r ≡ int_max x y → (r ≡ x) ⊎ (r ≡ y)
-either_max x y r e = elim (cases_cond (int_lt y x) x y r e) [ inl one ↦ inl one | inr other ↦ inr other ]
 
 pub gather_from : (z : TimeZone) (n from greatest : ℤ) (steady : Steady) → from ≡ n -ℤ pos 187_198 → greatest ≡ n -ℤ pos 93_600
     → IsKept z from steady.end steady.offset.seconds → from <ℤ steady.end → IsGathered z n from greatest steady

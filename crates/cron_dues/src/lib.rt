@@ -5,6 +5,7 @@
 pub mod dues;
 pub mod fire;
 pub mod laws;
+mod numbers;
 mod reach;
 pub mod run;
 mod steady;

@@ -5,6 +5,7 @@ ghost use Rattle.jiff_core.specs.Calendar.{IsBetween};
 ghost use Rattle.std.specs.Int.{int_div_euclid};
 ghost use Rattle.cron_dues.specs.Inner.Reached.{IsGreatestBy, IsReachedBy};
 
+use crate::numbers::greater;
 use crate::steady::steady_from;
 use cron_moments::civil::{FURTHEST_OFFSET, SECONDS};
 use jiff::Timestamp;
@@ -20,11 +21,11 @@ fn greatest_by(zone: &TimeZone<'_>, second: i64) -> i64
     let mut greatest = second - FURTHEST_OFFSET - 1;
     let mut steady = steady_from(zone, from);
     while steady.end <= second {
-        greatest = greatest.max(steady.shown(steady.end - 1));
+        greatest = greater(greatest, steady.shown(steady.end - 1));
         from = steady.end;
         steady = steady_from(zone, from);
     }
-    greatest.max(steady.shown(second))
+    greater(greatest, steady.shown(second))
 }
 
 /// The number up to which civil seconds of the range are due by an instant.

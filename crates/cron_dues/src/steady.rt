@@ -10,6 +10,7 @@ ghost use Rattle.jiff_tz.specs.Zone.{next_at};
 ghost use Rattle.cron_clocks.specs.Clocks.{shown_offset};
 ghost use Rattle.cron_dues.specs.Inner.Steady.{IsKept, IsOneYear, IsShortOf};
 
+use crate::numbers::lesser;
 use cron_moments::civil::{SECONDS, SECONDS_PER_DAY};
 use jiff::Timestamp;
 use jiff::tz::{Offset, TimeZone};
@@ -90,7 +91,7 @@ fn transition_end(zone: jiff_tz::TimeZone<'_>, at: jiff_core::Timestamp, second:
     if whole <= second {
         return second + 1;
     }
-    whole.min(NEVER)
+    lesser(whole, NEVER)
 }
 
 /// The offset that a clock in a zone shows at a second of UTC, and up to where it keeps it.
@@ -105,6 +106,6 @@ pub(crate) fn steady_from(zone: &TimeZone<'_>, second: i64) -> Steady
     let untouched = transition_end(zone.to_plain(), at.to_plain(), second);
     Steady {
         offset,
-        end: untouched.min(year_end(second)),
+        end: lesser(untouched, year_end(second)),
     }
 }

@@ -2,7 +2,7 @@ use Rattle.std.proofs.Common.{rules, FitsSigned, w64, to_z-of_z, pos, ◌-ℤ◌
 use Rattle.jiff_core.proofs.SignedLemmas.{signed_casts}
 use Rattle.jiff.specs.Words.{plain_zone}
 use Rattle.cron_instants.proofs.FireLemmas.{int_le-true, int_le-false}
-use Rattle.cron_dues.proofs.ReachLemmas.{either_max, gather_from, gather_on, gather_end, left_less}
+use Rattle.cron_dues.proofs.ReachLemmas.{gather_from, gather_on, gather_end, left_less}
 use Rattle.cron_dues.proofs.reach.greatest_by.Goals as goal
 
 pub loop-steady-init : goal.loop-steady-init
@@ -20,30 +20,30 @@ loop-steady-smaller c =
 pub loop-steady-preserved : goal.loop-steady-preserved
 loop-steady-preserved c =
     let fits-end : FitsSigned w64 c.loop-steady.steady.end = search rules in
-    let fits-more : FitsSigned w64 c.max-greatest.result = search rules in
+    let fits-more : FitsSigned w64 c.greater-greatest.result = search rules in
     let fits-shown : FitsSigned w64 c.shown.result = search rules in
     let fits-last : FitsSigned w64 (c.loop-steady.steady.end -ℤ pos 1) = search rules in
     let test = rw (to_z-of_z fits-end) at c.loop-steady-test.true in
     let le = int_le-true _ _ test in
     let value = rw (to_z-of_z fits-end, to_z-of_z fits-last) at c.shown.ensures.value in
-    let more = c.max-greatest.ensures in
-    let other = rw (to_z-of_z fits-shown, value) at more.other_bound in
-    let either = either_max _ _ _ (rw (to_z-of_z fits-shown, value) at more.value) in
+    let more = c.greater-greatest.ensures in
+    let other = rw (to_z-of_z fits-shown, value) at more.other in
+    let either = rw (to_z-of_z fits-shown, value) at more.either in
     let there = c.steady_from-steady-in-loop-steady.ensures in
-    rw (to_z-of_z fits-end, to_z-of_z fits-more) (gather_on (plain_zone c.args.zone.now) _ _ _ c.max-greatest.result c.loop-steady.steady
-    c.steady_from-steady-in-loop-steady.result c.loop-steady.invariant le more.self_bound other either
+    rw (to_z-of_z fits-end, to_z-of_z fits-more) (gather_on (plain_zone c.args.zone.now) _ _ _ c.greater-greatest.result c.loop-steady.steady
+    c.steady_from-steady-in-loop-steady.result c.loop-steady.invariant le more.one other either
     (rw (to_z-of_z fits-end) at there.kept) (rw (to_z-of_z fits-end) at there.later))
 
 pub returns-clause-greatest : goal.returns-clause-greatest
 returns-clause-greatest c =
     let fits-second : FitsSigned w64 c.args.second = search rules in
     let fits-end : FitsSigned w64 c.loop-steady.steady.end = search rules in
-    let fits : FitsSigned w64 c.max.result = search rules in
+    let fits : FitsSigned w64 c.greater.result = search rules in
     let fits-shown : FitsSigned w64 c.shown-2.result = search rules in
     let test = rw (to_z-of_z fits-end, to_z-of_z fits-second) at c.loop-steady-test.false in
     let late = int_le-false _ _ test in
     let value = rw (to_z-of_z fits-second) at c.shown-2.ensures.value in
-    let more = c.max.ensures in
-    rw (to_z-of_z fits) (gather_end (plain_zone c.args.zone.now) c.args.second _ _ c.max.result c.loop-steady.steady
-    (rw (to_z-of_z fits-second) at c.loop-steady.invariant) late more.self_bound (rw (to_z-of_z fits-shown, value) at more.other_bound)
-    (either_max _ _ _ (rw (to_z-of_z fits-shown, value) at more.value)))
+    let more = c.greater.ensures in
+    rw (to_z-of_z fits) (gather_end (plain_zone c.args.zone.now) c.args.second _ _ c.greater.result c.loop-steady.steady
+    (rw (to_z-of_z fits-second) at c.loop-steady.invariant) late more.one (rw (to_z-of_z fits-shown, value) at more.other)
+    (rw (to_z-of_z fits-shown, value) at more.either))

@@ -14,7 +14,7 @@ pub returns-clause-untouched : goal.returns-clause-untouched
 returns-clause-untouched c = λ k low high.
     let next = rw (c.in-Some.is, c.requires.at) at c.next_transition.ensures in
     let fits : FitsSigned w64 c.floor_second-whole.result = search rules in
-    let fits-end : FitsSigned w64 c.min.result = search rules in
-    let one = rw (to_z-of_z fits) at c.min.ensures.self_bound in
+    let fits-end : FitsSigned w64 c.lesser.result = search rules in
+    let one = rw (to_z-of_z fits) at c.lesser.ensures.one in
     let below = rw (to_z-of_z fits-end) at high in
     short_of _ c.in-Some.transition c.args.second k c.floor_second-whole.result next c.floor_second-whole.ensures (omega (arith, signed_casts))

@@ -1,5 +1,6 @@
 use Rattle.std.proofs.Common.{◌≡◌, ◌∙◌, ◌-ℤ◌, pos, of_z, to_z, w64, FitsSigned, to_z-of_z, arith, rules}
 use Rattle.jiff_core.proofs.SignedLemmas.{signed_arith, signed_casts}
+use Rattle.cron_moments.specs.Civil.{seconds_in_range}
 use Rattle.cron_instants.specs.Inner.OffsetRange.{width}
 use Rattle.cron_instants.proofs.OrderedLemmas.{at_most_lesser, monotone_before, monotone_past}
 use Rattle.cron_instants.proofs.monotone.monotone_in.Goals as goal
@@ -12,10 +13,10 @@ monotone_up_to-requires-clause-end c =
     let from : to_z w64 (of_z w64 c.from.result) ≡ pos c.args.stretch.now.end = omega (arith, signed_casts, c.from.ensures, c.ranges) in
     let at : to_z w64 (of_z w64 c.from-at.result) ≡ pos c.args.second = omega (arith, signed_casts, c.from-at.ensures, c.requires) in
     let end = rw from at c.min-end.ensures in
-    let low-end = at_most_lesser (pos 0) _ _ _ end.value (omega (arith, signed_arith)) (omega (arith, signed_arith)) in
+    let low-end = at_most_lesser (pos 0) (pos c.args.stretch.now.end) (pos seconds_in_range) c.min-end.result end.value (omega (arith, signed_arith)) (omega (arith, signed_arith)) in
     let least = rw (to_z-of_z fits-end, to_z-of_z fits-edge) at c.min.ensures in
     let short = rw (to_z-of_z fits-edge, at) at c.if-at-offset_range.true in
-    let low = at_most_lesser (pos 0) _ _ _ least.value low-end (omega (arith, signed_casts)) in
+    let low = at_most_lesser (pos 0) c.min-end.result c.args.offset_range.edge c.min.result least.value low-end (omega (arith, signed_casts)) in
     rw (to_z-of_z fits) (low, omega (arith, signed_arith, end.other_bound, least.self_bound))
 
 pub returns-then-at-offset_range : goal.returns-then-at-offset_range
@@ -42,7 +43,7 @@ monotone_up_to-requires-2-clause-end c =
     let fits-end : FitsSigned w64 c.min-end.result = search rules in
     let from : to_z w64 (of_z w64 c.from.result) ≡ pos c.args.stretch.now.end = omega (arith, signed_casts, c.from.ensures, c.ranges) in
     let end = rw from at c.min-end.ensures in
-    rw (to_z-of_z fits-end) (at_most_lesser (pos 0) _ _ _ end.value (omega (arith, signed_arith)) (omega (arith, signed_arith)), end.other_bound)
+    rw (to_z-of_z fits-end) (at_most_lesser (pos 0) (pos c.args.stretch.now.end) (pos seconds_in_range) c.min-end.result end.value (omega (arith, signed_arith)) (omega (arith, signed_arith)), end.other_bound)
 
 pub returns : goal.returns
 returns c z offset_range known =
