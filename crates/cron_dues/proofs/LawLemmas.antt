@@ -8,8 +8,7 @@ use Rattle.cron_units.specs.Sets.{Sets}
 use Rattle.cron_moments.specs.Civil.{civil, seconds_in_range}
 use Rattle.cron_moments.specs.Readings.{Reading, readings}
 use Rattle.cron_moments.specs.Readings as moments
-use Rattle.cron_time.specs.Matches.{matches}
-use Rattle.cron_time.specs.Timeline.{numbers_below}
+use Rattle.cron_time.specs.Matches.{is_match}
 use Rattle.cron_time.proofs.PlaceLemmas.{nothing_in_nil}
 use Rattle.cron_time.proofs.TimelineLemmas.{readings-second}
 use Rattle.cron_clocks.specs.Clocks.{HasInstant, LookupsAgree}
@@ -19,27 +18,23 @@ use Rattle.cron_dues.specs.FirstDues.{IsDue}
 use Rattle.cron_dues.specs.DueLaws.{IsFirstReading, FiresAreTheMatches, NominalSecondsAscend, DueInstantsNeverDecrease, FirstReadingsAreDue, GapsArePassedOver, CutListsGoOn}
 use Rattle.cron_dues.proofs.DueLemmas.{as_natural, due_ascends, due_by, due_is, fire_due}
 use Rattle.cron_time.proofs.ListLemmas.{map-back}
-use Rattle.cron_dues.proofs.ListLemmas.{Ascends, ascends-at, ascends-filter, ascends-map, cut-behind, numbers-ascend}
-use Rattle.cron_dues.proofs.MemberLemmas.{own-of}
+use Rattle.cron_dues.proofs.ListLemmas.{Ascends, ascends-at, cut-behind}
+use Rattle.cron_dues.proofs.MemberLemmas.{all-ascend, own-of, sets-match}
 use Rattle.cron_dues.proofs.WayLemmas.{back}
 
 pub fires_are_matches : FiresAreTheMatches
 fires_are_matches s z = map-back (due z) (λ d. d.second) (matching_seconds s) (λ c. refl)
 
-matches-ascend : (s : Sets) → Ascends (λ k. k) (matching_seconds s)
-unfolding matching_seconds
-matches-ascend s = ascends-filter (λ k. k) (λ c. matches s (civil c)) (numbers_below seconds_in_range) (numbers-ascend seconds_in_range)
-
-pub dues-ascend : (s : Sets) (z : TimeZone) → Ascends (λ d. d.second) (dues s z)
-dues-ascend s z = ascends-map (λ (d : Due). d.second) (due z) (matching_seconds s) (matches-ascend s)
+pub dues-ascend : (s : Sets) (z : TimeZone) → Ascends (λ (d : Due). d.second) (dues s z)
+dues-ascend s z = all-ascend (matching_seconds s) (is_match s) z (sets-match s)
 
 pub nominal_ascend : NominalSecondsAscend
 nominal_ascend s z i j d e less here there = ascends-at (λ (x : Due). x.second) (dues s z) i j d e (dues-ascend s z) less here there
 
 pub due_no_later : (s : Sets) (z : TimeZone) (d e : Due) → IsDue s z d → IsDue s z e → d.second ≤ e.second → instant d ≤ℤ instant e
 due_no_later s z d e here there le =
-    let one = own-of s z d here in
-    let other = own-of s z e there in
+    let one = own-of (matching_seconds s) (is_match s) z (sets-match s) d here in
+    let other = own-of (matching_seconds s) (is_match s) z (sets-match s) e there in
     let first : instant d ≡ due_instant z d.second = ap instant one.own ∙ fire_due z d.second in
     let second : instant e ≡ due_instant z e.second = ap instant other.own ∙ fire_due z e.second in
     let ascends = due_ascends z d.second e.second (omega (arith, signed_arith)) in

@@ -1,5 +1,6 @@
--- The due fires of seven sets are those of the civil seconds that match.
-use Rattle.std.proofs.Common.{◌≡◌, ℕ, ◌<◌, ◌≤◌, ℤ, pos, ◌*ℤ◌, ◌+ℤ◌, ◌≤ℤ◌, nat_lt, Bool, true, false, ◌&&◌, Option, Some, None, refl, sym, ap, ◌∙◌, inl, inr, arith}
+-- The due fires of civil seconds that pass a test, in order: which they are, the first and the last of them.
+use Rattle.std.proofs.Common.{◌≡◌, ℕ, ◌<◌, ◌≤◌, ℤ, pos, ◌*ℤ◌, ◌+ℤ◌, ◌≤ℤ◌, nat_lt, Bool, true, false, ◌&&◌, List, map, Option, Some, None, refl, sym, ap, ◌∙◌, inl, inr, arith}
+use Rattle.std.specs.Prelude.{filter}
 use Rattle.std.specs.Int.{int_div_euclid}
 use Rattle.std.proofs.lemmas.Bool.{cases_lt}
 use Rattle.std.proofs.lemmas.Int.{by_lt_z}
@@ -9,59 +10,57 @@ use Rattle.cron_units.specs.declared.way.Way.TheVariants.{Ahead, Back}
 use Rattle.cron_units.specs.Nearest.{IsNearestAt}
 use Rattle.cron_units.specs.Sets.{Sets}
 use Rattle.cron_moments.specs.Civil.{civil, seconds_in_range}
-use Rattle.cron_time.specs.Matches.{matches}
+use Rattle.cron_time.specs.Matches.{is_match, matches}
 use Rattle.cron_time.specs.Timeline.{numbers_below}
-use Rattle.cron_time.specs.Matches.{is_match}
 use Rattle.cron_instants.proofs.FireLemmas.{int_le-true, int_lt-true}
-use Rattle.cron_instants.proofs.MatchLemmas.{match_in_range}
 use Rattle.cron_clocks.proofs.Windows.{le_yes, lt_yes}
 use Rattle.cron_dues.specs.Due.{Due, due, due_instant, instant}
 use Rattle.cron_dues.specs.Dues.{matching_seconds, is_due_after, is_due_by, is_past}
-use Rattle.cron_dues.specs.FirstDues.{IsDue, IsFirst, IsLast, IsFirstDueAfter, IsFirstDuePast, IsLastDueBy}
+use Rattle.cron_dues.specs.FirstDues.{IsFirst, IsLast}
 use Rattle.cron_dues.specs.Inner.Reached.{IsReachedBy}
 use Rattle.cron_dues.specs.Inner.Nearest.{IsNearestDue}
 use Rattle.cron_dues.proofs.DueLemmas.{fire_due}
 use Rattle.cron_time.proofs.ListLemmas.{Among, among-below, among-filter, among-map, below-among, filter-among, map-among}
+use Rattle.cron_dues.proofs.ListLemmas.{Ascends, ascends-filter, ascends-map, numbers-ascend}
 
--- ---- which they are
+-- ---- the civil seconds that pass a test
 
-match_of : (s : Sets) (c : ℕ) (m : Bool) → c < seconds_in_range → m ≡ true → (nat_lt c seconds_in_range && m) ≡ true
-match_of s c m range is = grind arith
+-- the list ascends, and has the civil seconds of the range that pass the test
+pub record AreMatches (cs : List ℕ) (test : ℕ → Bool) : Type 0 where
+  pub up : Ascends (λ k. k) cs
+  pub among : (c : ℕ) → test c ≡ true → Among cs c
+  pub passing : (c : ℕ) → Among cs c → test c ≡ true
+  pub range : (c : ℕ) → test c ≡ true → c < seconds_in_range
 
-matching_of : (c : ℕ) (m : Bool) → (nat_lt c seconds_in_range && m) ≡ true → m ≡ true
-matching_of c true h = refl
-matching_of c false h = grind arith
+-- a number of the range, and a test of it
+pub passes_in : (c : ℕ) (m : Bool) → c < seconds_in_range → m ≡ true → (nat_lt c seconds_in_range && m) ≡ true
+passes_in c m range is = grind arith
 
-match-among : (s : Sets) (c : ℕ) → is_match s c ≡ true → Among (matching_seconds s) c
+pub passes_of : (c : ℕ) (m : Bool) → (nat_lt c seconds_in_range && m) ≡ true → m ≡ true
+passes_of c true h = refl
+passes_of c false h = grind arith
+
+pub range_of : (c : ℕ) (m : Bool) → (nat_lt c seconds_in_range && m) ≡ true → c < seconds_in_range
+range_of c true h = grind arith
+range_of c false h = grind arith
+
+pub filter-matches : (m : ℕ → Bool) → AreMatches (filter m (numbers_below seconds_in_range)) (λ c. nat_lt c seconds_in_range && m c)
+filter-matches m = record {
+  up = ascends-filter (λ k. k) m (numbers_below seconds_in_range) (numbers-ascend seconds_in_range);
+  among = λ c h.
+      filter-among m (numbers_below seconds_in_range) c (below-among seconds_in_range c (range_of c (m c) h)) (passes_of c (m c) h);
+  passing = λ c h.
+      let both = among-filter m (numbers_below seconds_in_range) c h in
+      passes_in c (m c) (among-below seconds_in_range c both.0) both.1;
+  range = λ c h. range_of c (m c) h;
+}
+
+-- so has that of seven sets
+pub sets-match : (s : Sets) → AreMatches (matching_seconds s) (is_match s)
 unfolding matching_seconds
-match-among s c h =
-    filter-among (λ k. matches s (civil k)) (numbers_below seconds_in_range) c (below-among seconds_in_range c (match_in_range s c h))
-    (matching_of c (matches s (civil c)) h)
+sets-match s = filter-matches (λ c. matches s (civil c))
 
-among-match : (s : Sets) (c : ℕ) → Among (matching_seconds s) c → is_match s c ≡ true
-unfolding matching_seconds
-among-match s c h =
-    let both = among-filter (λ k. matches s (civil k)) (numbers_below seconds_in_range) c h in
-    match_of s c (matches s (civil c)) (among-below seconds_in_range c both.0) both.1
-
-pub due-of : (s : Sets) (z : TimeZone) (c : ℕ) → is_match s c ≡ true → IsDue s z (due z c)
-due-of s z c h = map-among (due z) (matching_seconds s) c (match-among s c h)
-
--- a due fire is that of its nominal second, which matches
-pub record IsOwn (s : Sets) (z : TimeZone) (d : Due) : Type 0 where
-  pub matching : is_match s d.second ≡ true
-  pub own : d ≡ due z d.second
-
-pub own-of : (s : Sets) (z : TimeZone) (d : Due) → IsDue s z d → IsOwn s z d
-own-of s z d h =
-    let source = among-map (due z) (matching_seconds s) d h in
-    let second : d.second ≡ source.of = ap (λ (e : Due). e.second) source.is in
-    record {
-      matching = rw second (among-match s source.of source.there);
-      own = source.is ∙ ap (due z) (sym second);
-    }
-
--- ---- the first and the last of them
+-- ---- numbers
 
 pub less-true : (a b : ℕ) → nat_lt a b ≡ true → a < b
 less-true a b h = grind arith
@@ -72,95 +71,116 @@ true-less a b h = grind arith
 pub not_both : (b : Bool) → b ≡ true → b ≡ false → ⊥
 not_both b t f = cc
 
-pub ahead_least : (s : Sets) (start : ℤ) (c k : ℕ) → IsNearestAt Ahead (is_match s) start c → is_match s k ≡ true → start ≤ℤ pos k → c ≤ k
-ahead_least s start c k near match lies = elim (cases_lt k c) [
-  | inl less ↦ absurd (not_both (is_match s k) match (near.nearest k lies less))
-  | inr ge ↦ ge
-]
-
-back_greatest : (s : Sets) (start : ℤ) (c k : ℕ) → IsNearestAt Back (is_match s) start c → is_match s k ≡ true → pos k ≤ℤ start → k ≤ c
-back_greatest s start c k near match lies = elim (cases_lt c k) [
-  | inl less ↦ absurd (not_both (is_match s k) match (near.nearest k lies less))
-  | inr ge ↦ ge
-]
-
-pub nearest-own : (s : Sets) (z : TimeZone) (d : Due) → is_match s d.second ≡ true → d ≡ due z d.second → IsDue s z d
-nearest-own s z d match own = rw own (due-of s z d.second match)
-
-pub first-of : (s : Sets) (z : TimeZone) (p : Due → Bool) (start : ℤ) (answer : Option Due)
-    → ((c : ℕ) → is_match s c ≡ true → p (due z c) ≡ true → start ≤ℤ pos c) → ((c : ℕ) → is_match s c ≡ true → start ≤ℤ pos c → p (due z c) ≡ true)
-    → IsNearestDue Ahead s z start answer → IsFirst (λ d. IsDue s z d × (p d ≡ true)) answer
-first-of s z p start None lies passes none = λ d both.
-    let own = own-of s z d both.0 in
-    not_both (is_match s d.second) own.matching (none d.second (lies d.second own.matching (ap p (sym own.own) ∙ both.1)))
-first-of s z p start (Some d) lies passes near = (
-  (nearest-own s z d near.nearest.passes near.own, ap p near.own ∙ passes d.second near.nearest.passes near.nearest.lies),
-  λ e both.
-      let own = own-of s z e both.0 in
-      ahead_least s start d.second e.second near.nearest own.matching (lies e.second own.matching (ap p (sym own.own) ∙ both.1)),
-)
-
-pub last-of : (s : Sets) (z : TimeZone) (p : Due → Bool) (start : ℤ) (answer : Option Due)
-    → ((c : ℕ) → is_match s c ≡ true → p (due z c) ≡ true → pos c ≤ℤ start) → ((c : ℕ) → is_match s c ≡ true → pos c ≤ℤ start → p (due z c) ≡ true)
-    → IsNearestDue Back s z start answer → IsLast (λ d. IsDue s z d × (p d ≡ true)) answer
-last-of s z p start None lies passes none = λ d both.
-    let own = own-of s z d both.0 in
-    not_both (is_match s d.second) own.matching (none d.second (lies d.second own.matching (ap p (sym own.own) ∙ both.1)))
-last-of s z p start (Some d) lies passes near = (
-  (nearest-own s z d near.nearest.passes near.own, ap p near.own ∙ passes d.second near.nearest.passes near.nearest.lies),
-  λ e both.
-      let own = own-of s z e both.0 in
-      back_greatest s start d.second e.second near.nearest own.matching (lies e.second own.matching (ap p (sym own.own) ∙ both.1)),
-)
-
--- ---- by an instant
-
 abbrev pub second_of : ℤ → ℤ
 second_of t = int_div_euclid t (pos 1_000_000_000)
 
-pub after-lies : (s : Sets) (z : TimeZone) (t m : ℤ) → IsReachedBy z (second_of t) m → (c : ℕ) → is_match s c ≡ true → is_due_after t (due z c) ≡ true
-    → (m +ℤ pos 1) ≤ℤ pos c
-after-lies s z t m reached c match after =
-    let due_at = fire_due z c in
-    let less = int_lt-true t (instant (due z c) *ℤ pos 1_000_000_000) after in
-    by_lt_z m (pos c)
-    (λ more. omega (arith, signed_arith))
-    (λ le. let by = (reached c (match_in_range s c match)).0 le in absurd (omega (arith, signed_arith)))
+-- ---- their due fires
 
-pub lies-after : (s : Sets) (z : TimeZone) (t m : ℤ) → IsReachedBy z (second_of t) m → (c : ℕ) → is_match s c ≡ true → (m +ℤ pos 1) ≤ℤ pos c
-    → is_due_after t (due z c) ≡ true
-lies-after s z t m reached c match lies =
-    let due_at = fire_due z c in
-    by_lt_z (second_of t) (due_instant z c)
-    (λ late. lt_yes t (instant (due z c) *ℤ pos 1_000_000_000) (omega (arith, signed_arith)))
-    (λ by. let le = (reached c (match_in_range s c match)).1 by in absurd (omega (arith, signed_arith)))
+module _ (cs : List ℕ) (test : ℕ → Bool) (z : TimeZone) (are : AreMatches cs test) where
+  pub all-ascend : Ascends (λ (d : Due). d.second) (map (due z) cs)
+  all-ascend = ascends-map (λ (d : Due). d.second) (due z) cs are.up
 
-by-lies : (s : Sets) (z : TimeZone) (t m : ℤ) → IsReachedBy z (second_of t) m → (c : ℕ) → is_match s c ≡ true → is_due_by t (due z c) ≡ true
-    → pos c ≤ℤ m
-by-lies s z t m reached c match by =
-    let due_at = fire_due z c in
-    let le = int_le-true (instant (due z c) *ℤ pos 1_000_000_000) t by in
-    (reached c (match_in_range s c match)).1 (omega (arith, signed_arith))
+  pub due-of : (c : ℕ) → test c ≡ true → Among (map (due z) cs) (due z c)
+  due-of c h = map-among (due z) cs c (are.among c h)
 
-lies-by : (s : Sets) (z : TimeZone) (t m : ℤ) → IsReachedBy z (second_of t) m → (c : ℕ) → is_match s c ≡ true → pos c ≤ℤ m
-    → is_due_by t (due z c) ≡ true
-lies-by s z t m reached c match lies =
-    let due_at = fire_due z c in
-    let le = (reached c (match_in_range s c match)).0 lies in
-    le_yes (instant (due z c) *ℤ pos 1_000_000_000) t (omega (arith, signed_arith))
+  -- a due fire is that of its nominal second, which passes the test
+  pub record IsOwn (d : Due) : Type 0 where
+    pub matching : test d.second ≡ true
+    pub own : d ≡ due z d.second
 
-pub first_after : (s : Sets) (z : TimeZone) (t m : ℤ) (answer : Option Due) → IsReachedBy z (second_of t) m
-    → IsNearestDue Ahead s z (m +ℤ pos 1) answer → IsFirstDueAfter s z t answer
-first_after s z t m answer reached near =
-    first-of s z (is_due_after t) (m +ℤ pos 1) answer (after-lies s z t m reached) (lies-after s z t m reached) near
+  pub own-of : (d : Due) → Among (map (due z) cs) d → IsOwn d
+  own-of d h =
+      let source = among-map (due z) cs d h in
+      let second : d.second ≡ source.of = ap (λ (e : Due). e.second) source.is in
+      record {
+        matching = rw second (are.passing source.of source.there);
+        own = source.is ∙ ap (due z) (sym second);
+      }
 
-pub last_by : (s : Sets) (z : TimeZone) (t m : ℤ) (answer : Option Due) → IsReachedBy z (second_of t) m
-    → IsNearestDue Back s z m answer → IsLastDueBy s z t answer
-last_by s z t m answer reached near = last-of s z (is_due_by t) m answer (by-lies s z t m reached) (lies-by s z t m reached) near
+  pub nearest-own : (d : Due) → test d.second ≡ true → d ≡ due z d.second → Among (map (due z) cs) d
+  nearest-own d match own = rw own (due-of d.second match)
 
-pub first_past : (s : Sets) (z : TimeZone) (fire : Due) (answer : Option Due) → IsNearestDue Ahead s z (pos fire.second +ℤ pos 1) answer
-    → IsFirstDuePast s z fire answer
-first_past s z fire answer near =
-    first-of s z (is_past fire) (pos fire.second +ℤ pos 1) answer
-    (λ c match past. let less = less-true fire.second c past in omega (arith, signed_arith))
-    (λ c match lies. true-less fire.second c (omega (arith, signed_arith))) near
+  -- ---- the first and the last of them
+
+  pub ahead_least : (start : ℤ) (c k : ℕ) → IsNearestAt Ahead test start c → test k ≡ true → start ≤ℤ pos k → c ≤ k
+  ahead_least start c k near match lies = elim (cases_lt k c) [
+    | inl less ↦ absurd (not_both (test k) match (near.nearest k lies less))
+    | inr ge ↦ ge
+  ]
+
+  back_greatest : (start : ℤ) (c k : ℕ) → IsNearestAt Back test start c → test k ≡ true → pos k ≤ℤ start → k ≤ c
+  back_greatest start c k near match lies = elim (cases_lt c k) [
+    | inl less ↦ absurd (not_both (test k) match (near.nearest k lies less))
+    | inr ge ↦ ge
+  ]
+
+  pub first-of : (p : Due → Bool) (start : ℤ) (answer : Option Due)
+      → ((c : ℕ) → test c ≡ true → p (due z c) ≡ true → start ≤ℤ pos c) → ((c : ℕ) → test c ≡ true → start ≤ℤ pos c → p (due z c) ≡ true)
+      → IsNearestDue Ahead test z start answer → IsFirst (λ d. Among (map (due z) cs) d × (p d ≡ true)) answer
+  first-of p start None lies passes none = λ d both.
+      let own = own-of d both.0 in
+      not_both (test d.second) own.matching (none d.second (lies d.second own.matching (ap p (sym own.own) ∙ both.1)))
+  first-of p start (Some d) lies passes near = (
+    (nearest-own d near.nearest.passes near.own, ap p near.own ∙ passes d.second near.nearest.passes near.nearest.lies),
+    λ e both.
+        let own = own-of e both.0 in
+        ahead_least start d.second e.second near.nearest own.matching (lies e.second own.matching (ap p (sym own.own) ∙ both.1)),
+  )
+
+  pub last-of : (p : Due → Bool) (start : ℤ) (answer : Option Due)
+      → ((c : ℕ) → test c ≡ true → p (due z c) ≡ true → pos c ≤ℤ start) → ((c : ℕ) → test c ≡ true → pos c ≤ℤ start → p (due z c) ≡ true)
+      → IsNearestDue Back test z start answer → IsLast (λ d. Among (map (due z) cs) d × (p d ≡ true)) answer
+  last-of p start None lies passes none = λ d both.
+      let own = own-of d both.0 in
+      not_both (test d.second) own.matching (none d.second (lies d.second own.matching (ap p (sym own.own) ∙ both.1)))
+  last-of p start (Some d) lies passes near = (
+    (nearest-own d near.nearest.passes near.own, ap p near.own ∙ passes d.second near.nearest.passes near.nearest.lies),
+    λ e both.
+        let own = own-of e both.0 in
+        back_greatest start d.second e.second near.nearest own.matching (lies e.second own.matching (ap p (sym own.own) ∙ both.1)),
+  )
+
+  -- ---- by an instant
+
+  pub after-lies : (t m : ℤ) → IsReachedBy z (second_of t) m → (c : ℕ) → test c ≡ true → is_due_after t (due z c) ≡ true → (m +ℤ pos 1) ≤ℤ pos c
+  after-lies t m reached c match after =
+      let due_at = fire_due z c in
+      let less = int_lt-true t (instant (due z c) *ℤ pos 1_000_000_000) after in
+      by_lt_z m (pos c)
+      (λ more. omega (arith, signed_arith))
+      (λ le. let by = (reached c (are.range c match)).0 le in absurd (omega (arith, signed_arith)))
+
+  pub lies-after : (t m : ℤ) → IsReachedBy z (second_of t) m → (c : ℕ) → test c ≡ true → (m +ℤ pos 1) ≤ℤ pos c → is_due_after t (due z c) ≡ true
+  lies-after t m reached c match lies =
+      let due_at = fire_due z c in
+      by_lt_z (second_of t) (due_instant z c)
+      (λ late. lt_yes t (instant (due z c) *ℤ pos 1_000_000_000) (omega (arith, signed_arith)))
+      (λ by. let le = (reached c (are.range c match)).1 by in absurd (omega (arith, signed_arith)))
+
+  by-lies : (t m : ℤ) → IsReachedBy z (second_of t) m → (c : ℕ) → test c ≡ true → is_due_by t (due z c) ≡ true → pos c ≤ℤ m
+  by-lies t m reached c match by =
+      let due_at = fire_due z c in
+      let le = int_le-true (instant (due z c) *ℤ pos 1_000_000_000) t by in
+      (reached c (are.range c match)).1 (omega (arith, signed_arith))
+
+  lies-by : (t m : ℤ) → IsReachedBy z (second_of t) m → (c : ℕ) → test c ≡ true → pos c ≤ℤ m → is_due_by t (due z c) ≡ true
+  lies-by t m reached c match lies =
+      let due_at = fire_due z c in
+      let le = (reached c (are.range c match)).0 lies in
+      le_yes (instant (due z c) *ℤ pos 1_000_000_000) t (omega (arith, signed_arith))
+
+  pub first_after : (t m : ℤ) (answer : Option Due) → IsReachedBy z (second_of t) m → IsNearestDue Ahead test z (m +ℤ pos 1) answer
+      → IsFirst (λ d. Among (map (due z) cs) d × (is_due_after t d ≡ true)) answer
+  first_after t m answer reached near =
+      first-of (is_due_after t) (m +ℤ pos 1) answer (after-lies t m reached) (lies-after t m reached) near
+
+  pub last_by : (t m : ℤ) (answer : Option Due) → IsReachedBy z (second_of t) m → IsNearestDue Back test z m answer
+      → IsLast (λ d. Among (map (due z) cs) d × (is_due_by t d ≡ true)) answer
+  last_by t m answer reached near = last-of (is_due_by t) m answer (by-lies t m reached) (lies-by t m reached) near
+
+  pub first_past : (fire : Due) (answer : Option Due) → IsNearestDue Ahead test z (pos fire.second +ℤ pos 1) answer
+      → IsFirst (λ d. Among (map (due z) cs) d × (is_past fire d ≡ true)) answer
+  first_past fire answer near =
+      first-of (is_past fire) (pos fire.second +ℤ pos 1) answer
+      (λ c match past. let less = less-true fire.second c past in omega (arith, signed_arith))
+      (λ c match lies. true-less fire.second c (omega (arith, signed_arith))) near

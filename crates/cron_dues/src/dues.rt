@@ -1,5 +1,6 @@
 //! Due fires of seven sets in a zone. None of these calls takes memory.
 ghost use Rattle.jiff.specs.Words.{plain_zone};
+ghost use Rattle.cron_time.specs.Matches.{is_match};
 ghost use Rattle.cron_dues.specs.FirstDues.{IsFirstDueAfter, IsFirstDuePast, IsLastDueBy};
 ghost use Rattle.cron_dues.specs.Inner.Nearest.{IsNearestDue};
 
@@ -19,7 +20,7 @@ pub(crate) fn nearest_due(
     way: Way,
     from: i64,
 ) -> Option<DueFire>
-    ensures { IsNearestDue way fields.now (plain_zone zone.now) from result }
+    ensures { IsNearestDue way (is_match fields.now) (plain_zone zone.now) from result }
 {
     let second = nearest_match(fields, way, from)?;
     Some(due_of(zone, second))

@@ -90,7 +90,7 @@ pub(crate) fn due_fire(second: u32, past: u32, offset: Offset) -> DueFire
 
 /// The due instant, in seconds since 1970-01-01T00:00:00Z.
 #[inline(always)]
-pub(crate) fn due_second(fire: &DueFire) -> i64
+pub fn due_second(fire: &DueFire) -> i64
     ensures value { result ≡ instant fire.now }
     ensures bound { IsBetween (neg_ℤ (pos 93_599)) (pos 8_590_028_189) result }
 {
@@ -99,7 +99,7 @@ pub(crate) fn due_second(fire: &DueFire) -> i64
 
 /// The number of the civil second that matches.
 #[inline(always)]
-pub(crate) fn nominal_second(fire: &DueFire) -> u32
+pub fn nominal_second(fire: &DueFire) -> u32
     ensures { result ≡ fire.now.second }
 {
     fire.second

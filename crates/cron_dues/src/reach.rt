@@ -29,7 +29,7 @@ fn greatest_by(zone: &TimeZone<'_>, second: i64) -> i64
 }
 
 /// The number up to which civil seconds of the range are due by an instant.
-pub(crate) fn reached_by(zone: &TimeZone<'_>, now: Timestamp) -> i64
+pub fn reached_by(zone: &TimeZone<'_>, now: Timestamp) -> i64
     ensures reached { IsReachedBy (plain_zone zone.now) (int_div_euclid now.nanosecond (pos 1_000_000_000)) result }
     ensures bound { IsBetween (neg_ℤ (pos 400_000)) (pos 6_000_000_000) result }
 {

@@ -3,7 +3,7 @@ ghost use Rattle.std.specs.Prelude.{◌≡◌, neg_ℤ, pos};
 ghost use Rattle.std.specs.Iterator.{YieldsFirst};
 ghost use Rattle.jiff.specs.Words.{plain_zone};
 ghost use Rattle.jiff_core.specs.Calendar.{IsBetween};
-ghost use Rattle.cron_dues.specs.Dues.{dues_after, dues_between, dues_past, dues_past_by};
+ghost use Rattle.cron_dues.specs.Dues.{dues, dues_after, dues_between, dues_past, dues_past_by};
 ghost use Rattle.cron_dues.specs.Inner.Left as left;
 
 use crate::dues::nearest_due;
@@ -30,11 +30,12 @@ impl<'a> Model for Run<'a> {
     ghost use Rattle.std.specs.Prelude.{List};
     ghost use Rattle.jiff.specs.Words.{plain_zone};
     ghost use Rattle.cron_dues.specs.Due.{Due};
+    ghost use Rattle.cron_dues.specs.Dues.{dues};
     ghost use Rattle.cron_dues.specs.Inner.Left.{left_from};
 
     ghost Value = { List Due };
 
-    ghost view = { λ r. left_from r.fields (plain_zone r.zone.now) r.from r.until };
+    ghost view = { λ r. left_from (dues r.fields (plain_zone r.zone.now)) r.from r.until };
 }
 
 impl<'a> Run<'a> {
@@ -45,7 +46,7 @@ impl<'a> Run<'a> {
         until: Option<i64>,
         zone: &'a TimeZone<'a>,
     ) -> Run<'a>
-        ensures { result ≡ left.left_from fields (plain_zone zone.now) from until }
+        ensures { result ≡ left.left_from (dues fields (plain_zone zone.now)) from until }
     {
         Run {
             fields,

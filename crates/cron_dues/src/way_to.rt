@@ -44,7 +44,7 @@ fn fire_in(zone: &TimeZone<'_>, second: u32, from: i64, steady: &Steady) -> DueF
 }
 
 /// The due fire of a civil second.
-pub(crate) fn due_of(zone: &TimeZone<'_>, second: u32) -> DueFire
+pub fn due_of(zone: &TimeZone<'_>, second: u32) -> DueFire
     requires { second < seconds_in_range }
     ensures { result ≡ due (plain_zone zone.now) second }
 {

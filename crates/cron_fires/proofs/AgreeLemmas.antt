@@ -23,13 +23,13 @@ use Rattle.cron_instants.proofs.MatchLemmas.{match_in_range}
 use Rattle.cron_instants.proofs.OrderLemmas.{before-true}
 use Rattle.cron_dues.specs.Due as due
 use Rattle.cron_dues.specs.Due.{Due, IsDueAt, clock, due_instant, offset_shown, parts}
-use Rattle.cron_dues.specs.Dues.{dues, dues_after, dues_between, is_due_after, is_due_by}
+use Rattle.cron_dues.specs.Dues.{dues, dues_after, dues_between, is_due_after, is_due_by, matching_seconds}
 use Rattle.cron_dues.proofs.DueLemmas.{due_is, due_once, fire_due}
 use Rattle.cron_dues.proofs.LawLemmas.{dues-ascend}
 use Rattle.cron_time.proofs.TimelineLemmas.{readings-second}
 use Rattle.cron_time.proofs.ListLemmas.{Among, among-filter, among-first, among-map, among-rest, filter-among, map-among}
 use Rattle.cron_dues.proofs.ListLemmas.{Ascends, ascends-filter, ascends-map, same_lists}
-use Rattle.cron_dues.proofs.MemberLemmas.{due-of, own-of}
+use Rattle.cron_dues.proofs.MemberLemmas.{due-of, own-of, sets-match}
 use Rattle.cron_dues.proofs.WayLemmas.{back}
 use Rattle.cron_fires.specs.DueLaws.{BothRulesAgree, IsFreshStretch, as_due}
 
@@ -107,7 +107,7 @@ fired-due s z last now d agree stretch h =
     let is = fired s z last now r source.there in
     let st = stands_of s z r is.item in
     let same : due.due z r.second ≡ as_due r = fired_due s z last now r agree stretch is in
-    let own : Among (dues s z) (as_due r) = rw (← same) (due-of s z r.second st.matching) in
+    let own : Among (dues s z) (as_due r) = rw (← same) (due-of (matching_seconds s) (is_match s) z (sets-match s) r.second st.matching) in
     let after = is.after in
     let by = is.by in
     rw source.is (between_of s z last now (as_due r) own (omega (arith, signed_arith)) (omega (arith, signed_arith)))
@@ -129,7 +129,7 @@ due-fired s z last now d agree stretch h =
     let early = among-filter (is_due_after last) (dues s z) d late.0 in
     let by = int_le-true (due.instant d *ℤ pos 1_000_000_000) now late.1 in
     let after = int_lt-true last (due.instant d *ℤ pos 1_000_000_000) early.1 in
-    let own = own-of s z d early.0 in
+    let own = own-of (matching_seconds s) (is_match s) z (sets-match s) d early.0 in
     let when : due.instant d ≡ due_instant z c = ap due.instant own.own ∙ fire_due z c in
     let k : ℤ = due_instant z c in
     let reached = (due_is z c).reached in

@@ -6,9 +6,9 @@ ghost use Rattle.cron_instants.specs.Order as order;
 use cron_moments::moment::{Moment, civil_second, instant_of};
 use cron_units::way::Way;
 
-// Whether an item is earlier than another: by instant, and where that is shared by civil second.
+/// Whether an item is earlier than another: by instant, and where that is shared by civil second.
 #[inline(always)]
-fn is_earlier(item: &Moment, other: &Moment) -> bool
+pub fn is_earlier(item: &Moment, other: &Moment) -> bool
     ensures { result ≡ order.is_earlier item.now other.now }
 {
     let (instant, shared) = (instant_of(item), instant_of(other));
@@ -32,7 +32,7 @@ fn is_nearer(way: Way, item: &Moment, other: &Moment) -> bool
 
 /// The nearer of two items, in this direction.
 #[inline(always)]
-pub(crate) fn nearer(way: Way, best: &Option<Moment>, other: Option<Moment>) -> Option<Moment>
+pub fn nearer(way: Way, best: &Option<Moment>, other: Option<Moment>) -> Option<Moment>
     ensures { result ≡ nearer_of way best.now other }
 {
     let Some(item) = *best else {

@@ -4,7 +4,7 @@
 
 mod first;
 pub mod instants;
-mod item;
+pub mod item;
 mod joined;
 pub mod laws;
 mod mark;

@@ -1,10 +1,7 @@
--- What a run has left: the due fires from a civil second on, and up to an instant if there is a last one.
+-- What a run has left of due fires: those from a civil second on, and up to an instant if there is a last one.
 use Rattle.std.specs.Prelude.{ℤ, pos, Bool, int_le, Option, Some, None, List, filter}
-use Rattle.jiff_tz.specs.declared.timezone.TimeZone.{TimeZone}
-use Rattle.cron_units.specs.Sets.{Sets}
 use Rattle.cron_instants.specs.Inner.Left.{is_within}
 use Rattle.cron_dues.specs.Due.{Due, instant}
-use Rattle.cron_dues.specs.Dues.{dues}
 
 -- the nominal second is this one or a later one
 abbrev pub is_from : ℤ → Due → Bool
@@ -14,5 +11,5 @@ abbrev pub left_until : Option ℤ → List Due → List Due
 left_until None l = l
 left_until (Some last) l = filter (λ d. is_within (Some last) (instant d)) l
 
-abbrev pub left_from : Sets → TimeZone → ℤ → Option ℤ → List Due
-left_from s z from until = left_until until (filter (is_from from) (dues s z))
+abbrev pub left_from : List Due → ℤ → Option ℤ → List Due
+left_from l from until = left_until until (filter (is_from from) l)

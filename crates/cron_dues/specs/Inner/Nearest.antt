@@ -1,17 +1,15 @@
--- The due fire of the nearest civil second that matches.
-use Rattle.std.specs.Prelude.{◌≡◌, ℕ, ℤ, false, Option, MatchOption}
+-- The due fire of the nearest civil second that passes a test, as that it matches.
+use Rattle.std.specs.Prelude.{◌≡◌, ℕ, ℤ, Bool, false, Option, MatchOption}
 use Rattle.jiff_tz.specs.declared.timezone.TimeZone.{TimeZone}
 use Rattle.cron_units.specs.declared.way.Way.{Way}
 use Rattle.cron_units.specs.Nearest.{IsNearestAt, LiesFrom}
-use Rattle.cron_units.specs.Sets.{Sets}
-use Rattle.cron_time.specs.Matches.{is_match}
 use Rattle.cron_dues.specs.Due.{Due, due}
 
--- its nominal second is the nearest from a number on that matches
-pub record IsNearestDueAt (way : Way) (s : Sets) (z : TimeZone) (start : ℤ) (d : Due) : Type 0 where
-  pub nearest : IsNearestAt way (is_match s) start d.second
+-- its nominal second is the nearest from a number on that passes the test
+pub record IsNearestDueAt (way : Way) (test : ℕ → Bool) (z : TimeZone) (start : ℤ) (d : Due) : Type 0 where
+  pub nearest : IsNearestAt way test start d.second
   pub own : d ≡ due z d.second
 
-abbrev pub IsNearestDue : Way → Sets → TimeZone → ℤ → Option Due → Type 0
-IsNearestDue way s z start answer =
-    MatchOption answer ((k : ℕ) → LiesFrom way start k → is_match s k ≡ false) (IsNearestDueAt way s z start)
+abbrev pub IsNearestDue : Way → (ℕ → Bool) → TimeZone → ℤ → Option Due → Type 0
+IsNearestDue way test z start answer =
+    MatchOption answer ((k : ℕ) → LiesFrom way start k → test k ≡ false) (IsNearestDueAt way test z start)
