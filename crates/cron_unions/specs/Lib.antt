@@ -1,0 +1,5 @@
+pub mod Unions
+pub mod FirstOfAny
+pub mod UnionDues
+pub mod UnionLaws
+pub mod Inner

@@ -1,0 +1,12 @@
+//! Several schedules as one: the civil seconds that match any of them, each once, and when they fire, by
+//! both rules at clock changes.
+#![tactic(auto)]
+
+mod branch;
+pub mod due_run;
+pub mod dues;
+mod heads;
+pub mod instants;
+pub mod laws;
+mod nearest;
+pub mod run;
