@@ -5,7 +5,8 @@ use Rattle.cron_moments.specs.Readings.{Reading}
 use Rattle.cron_instants.specs.Instants.{IsAmong}
 use Rattle.cron_instants.specs.Inner.Beyond.{nearer_of}
 use Rattle.cron_instants.specs.Order.{is_earlier}
-use Rattle.cron_instants.proofs.AscentLemmas.{Ascends, among-cases, among-first, among-none, among-rest, earlier-not_back, earlier-through, neither-earlier}
+use Rattle.cron_time.proofs.ListLemmas.{among-cases, among-first, among-none, among-rest}
+use Rattle.cron_instants.proofs.AscentLemmas.{Ascends, earlier-not_back, earlier-through, neither-earlier}
 use Rattle.cron_instants.proofs.OrderLemmas.{nearer-through}
 use Rattle.cron_unions.specs.Inner.Merges.{union_of, passed, AllAscend, head_of, least_from, least_head}
 use Rattle.cron_unions.proofs.MergeLemmas.{AmongOne, among-union, union-among, ascends-union, same_ascending}

@@ -13,7 +13,8 @@ use Rattle.cron_instants.proofs.AscentLemmas as ascent
 use Rattle.cron_dues.specs.Due.{Due}
 use Rattle.cron_dues.specs.Dues.{matching_seconds}
 use Rattle.cron_dues.specs.FirstDues.{IsDue}
-use Rattle.cron_dues.proofs.ListLemmas.{Ascends, ascends-at, cut-behind, filter-alike}
+use Rattle.cron_time.proofs.ListLemmas.{filter-alike}
+use Rattle.cron_dues.proofs.ListLemmas.{Ascends, ascends-at, cut-behind}
 use Rattle.cron_dues.proofs.MemberLemmas.{all-ascend, nearest-own, own-of, sets-match}
 use Rattle.cron_dues.proofs.RunLemmas.{same_tests}
 use Rattle.cron_unions.specs.Unions.{fires_any, matches_any, seconds_of_any, timeline_any}

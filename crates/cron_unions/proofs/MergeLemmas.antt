@@ -7,7 +7,8 @@ use Rattle.cron_moments.specs.Readings.{Reading}
 use Rattle.cron_instants.specs.Fires.{fires}
 use Rattle.cron_instants.specs.Instants.{IsAmong, IsItem}
 use Rattle.cron_instants.specs.Order.{is_earlier}
-use Rattle.cron_instants.proofs.AscentLemmas.{Ascends, among-cases, among-filter, among-first, among-none, among-rest, ascends-filter, earlier-not_back, earlier-not_itself, earlier-through, filter-among, neither-earlier}
+use Rattle.cron_time.proofs.ListLemmas.{among-cases, among-filter, among-first, among-none, among-rest, filter-among}
+use Rattle.cron_instants.proofs.AscentLemmas.{Ascends, ascends-filter, earlier-not_back, earlier-not_itself, earlier-through, neither-earlier}
 use Rattle.cron_instants.proofs.FireLemmas.{fires-ascend, fires-of_item, item-of_fires}
 use Rattle.cron_unions.specs.Unions.{fires_any}
 use Rattle.cron_unions.specs.Inner.Merges.{insert_once, merged, union_of, AllAscend}

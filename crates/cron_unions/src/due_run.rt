@@ -8,7 +8,7 @@ ghost use Rattle.cron_unions.specs.UnionDues.{dues_any, dues_any_after, dues_any
 use crate::dues::nearest_due;
 use cron_dues::fire::{DueFire, due_second, nominal_second};
 use cron_dues::reach::reached_by;
-use cron_dues::run::is_within;
+use cron_instants::run::is_within;
 use cron_units::fields::ScheduleFields;
 use cron_units::way::Way;
 use jiff::Timestamp;

@@ -1,7 +1,7 @@
 use Rattle.std.proofs.Common.{rules, ◌≡◌, true, false, ◌∙◌, sym, ap, pos, ◌+ℤ◌, FitsSigned, w64, to_z-of_z}
 use Rattle.jiff.specs.Words.{plain_zone}
 use Rattle.cron_dues.specs.Due.{instant}
-use Rattle.cron_dues.specs.Inner.Left.{is_within}
+use Rattle.cron_instants.specs.Inner.Left.{is_within}
 use Rattle.cron_dues.proofs.RunLemmas.{left-none, left-first, left-late}
 use Rattle.cron_unions.specs.Unions.{seconds_of_any}
 use Rattle.cron_unions.specs.Inner.Nearest.{is_match_any}
