@@ -1,0 +1,44 @@
+-- Items, by their pieces.
+use Rattle.std.proofs.Common.{◌≡◌, ◌==◌, ℕ, Bool, true, false, List, [], ◌∷◌, refl}
+use Rattle.std.specs.Prelude.{Ok, Err}
+use Rattle.cron_units.specs.Steps.{in_steps}
+use Rattle.cron_crontab.specs.Items.{Base, single, range, base_of, between, by_step, item_of, number_of, pieces, step_of}
+use Rattle.cron_crontab.specs.Refusals.{ignored, lone_step}
+use Rattle.cron_crontab.specs.Inner.Reading.{AreBits, IsItemRead}
+use Rattle.cron_crontab.specs.declared.field.Field.{Field}
+
+-- a text has a first piece
+pub record HasPiece (ws : List (List ℕ)) : Type 0 where
+  pub first : List ℕ
+  pub more : List (List ℕ)
+  pub is : ws ≡ first ∷ more
+
+pub has_piece : (mark : ℕ) (text : List ℕ) → HasPiece (pieces mark text)
+has_piece mark [] = record { first = []; more = []; is = refl }
+has_piece mark (c ∷ cs) = by_test (c == mark) refl (has_piece mark cs)
+  where
+    by_test : (b : Bool) → (c == mark) ≡ b → HasPiece (pieces mark cs) → HasPiece (pieces mark (c ∷ cs))
+    by_test true is rest = record { first = []; more = pieces mark cs; is = rw is refl }
+    by_test false is rest = record { first = c ∷ rest.first; more = rest.more; is = rw (is, rest.is) refl }
+
+-- a third number isn't read
+pub third_number : (f : Field) (text first rest last more : List ℕ) (n m : ℕ) → pieces 45 text ≡ first ∷ pieces 45 rest → pieces 45 rest ≡ last ∷ pieces 45 more
+    → number_of f first ≡ Ok n → number_of f last ≡ Ok m → between f (pieces 45 text) ≡ Err (ignored last)
+third_number f text first rest last more n m cut behind is end = let other = has_piece 45 more in rw (cut, behind, other.is, is, end) refl
+
+-- what is behind a base, and what that means
+pub without_step : (f : Field) (text base : List ℕ) (b : Base) (bits : ℕ) → pieces 47 text ≡ base ∷ [] → base_of f base ≡ Ok b → AreBits f (in_steps (by_step b 1)) bits
+    → IsItemRead f text bits
+without_step f text base b bits cut is numbers = record { item = by_step b 1; is = rw (cut, is) refl; numbers = numbers }
+
+pub with_lone_step : (f : Field) (text base rest : List ℕ) (n : ℕ) → pieces 47 text ≡ base ∷ pieces 47 rest → base_of f base ≡ Ok (single n)
+    → item_of f text ≡ Err lone_step
+with_lone_step f text base rest n cut is = let step = has_piece 47 rest in rw (cut, step.is, is) refl
+
+pub with_two_steps : (f : Field) (text base rest step more : List ℕ) (n m s : ℕ) → pieces 47 text ≡ base ∷ pieces 47 rest → pieces 47 rest ≡ step ∷ pieces 47 more
+    → base_of f base ≡ Ok (range n m) → step_of step ≡ Ok s → item_of f text ≡ Err (ignored step)
+with_two_steps f text base rest step more n m s cut behind is steps = let other = has_piece 47 more in rw (cut, behind, other.is, is, steps) refl
+
+pub with_step : (f : Field) (text base rest step : List ℕ) (n m s bits : ℕ) → pieces 47 text ≡ base ∷ pieces 47 rest → pieces 47 rest ≡ step ∷ []
+    → base_of f base ≡ Ok (range n m) → step_of step ≡ Ok s → AreBits f (in_steps (by_step (range n m) s)) bits → IsItemRead f text bits
+with_step f text base rest step n m s bits cut behind is steps numbers = record { item = by_step (range n m) s; is = rw (cut, behind, is, steps) refl; numbers = numbers }

@@ -1,0 +1,17 @@
+//! Crontabs: what an expression of five fields or a nickname means, as one schedule or two, and why
+//! another text is refused.
+#![tactic(auto)]
+
+mod faults;
+mod field;
+mod fields;
+mod items;
+mod numbers;
+mod schedules;
+mod texts;
+mod words;
+
+pub use faults::{Fault, Reason, RefusedItem};
+pub use field::Field;
+pub use schedules::Schedules;
+pub use texts::{Expression, read};

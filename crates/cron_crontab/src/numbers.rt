@@ -1,0 +1,139 @@
+//! Numbers and steps, as they are written.
+
+ghost use Rattle.std.specs.Prelude.{◌≡◌, ◌<◌, ◌≤◌, ℕ, IfOk, MatchResult, Result, Ok, Err, length, slice_index, true, false};
+ghost use Rattle.std.specs.Char.{is_ascii_alphanumeric, is_ascii_digit};
+ghost use Rattle.std.specs.List.{list_all, prefix_len};
+ghost use Rattle.std.specs.Str.Parse.{digits_value};
+ghost use Rattle.cron_crontab.specs.Refusals as refusals;
+ghost use Rattle.cron_crontab.specs.Items.{behind, front, number_of, spelt, step_of};
+ghost use Rattle.cron_crontab.specs.Views.{reason_view};
+ghost use Rattle.cron_crontab.specs.Inner.Reading.{IsWithin, spelling_view};
+
+use crate::faults::Reason;
+use crate::field::Field;
+
+/// The most digits that a number has, so that 32 bits hold it.
+const MOST_DIGITS: usize = 9;
+
+/// How many letters and digits stand at the front of a text.
+#[inline(always)]
+fn front_len(text: &[u8]) -> usize
+    ensures { result ≡ prefix_len is_ascii_alphanumeric text.now }
+{
+    for (at, byte) in text.iter().enumerate() {
+        if !byte.is_ascii_alphanumeric() {
+            return at;
+        }
+    }
+    text.len()
+}
+
+/// The letters and digits at the front of a text, and what stands behind them.
+#[inline(always)]
+fn cut_front(text: &str) -> (&str, &str)
+    ensures front { result.0.now ≡ front text.now }
+    ensures behind { result.1.now ≡ behind text.now }
+{
+    let end = front_len(text.as_bytes());
+    (&text[..end], &text[end..])
+}
+
+#[inline(always)]
+fn are_digits(text: &[u8]) -> bool
+    ensures { result ≡ list_all is_ascii_digit text.now }
+{
+    for byte in text {
+        if !byte.is_ascii_digit() {
+            return false;
+        }
+    }
+    true
+}
+
+/// The number that so few digits spell.
+#[inline(always)]
+fn value_of(digits: &[u8]) -> u32
+    requires digits { list_all is_ascii_digit digits.now ≡ true }
+    requires few { length digits.now ≤ 9 }
+    ensures { result ≡ digits_value 10 digits.now }
+{
+    let mut value: u32 = 0;
+    for digit in digits {
+        value = value * 10 + u32::from(*digit - b'0');
+    }
+    value
+}
+
+/// What a run of letters and digits spells.
+#[derive(Clone, Copy)]
+enum Spelling {
+    Number(u32),
+    /// Digits, but too many.
+    Long,
+    /// No digits, or letters too.
+    Other,
+}
+
+#[inline(always)]
+fn spelling_of(text: &[u8]) -> Spelling
+    ensures { (other : Result ℕ refusals.Reason) → spelt text.now other ≡ spelling_view other result }
+{
+    if text.is_empty() || !are_digits(text) {
+        return Spelling::Other;
+    }
+    if text.len() > MOST_DIGITS {
+        return Spelling::Long;
+    }
+    Spelling::Number(value_of(text))
+}
+
+/// Reads a number of a field, or a name.
+#[inline(always)]
+pub(crate) fn read_number<'a>(field: Field, text: &'a str) -> Result<u32, Reason<'a>>
+    ensures number { MatchResult result (λ n. number_of field text.now ≡ Ok n) (λ r. number_of field text.now ≡ Err (reason_view r)) }
+    ensures within { IfOk result (IsWithin field) }
+{
+    if text.is_empty() {
+        return Err(Reason::Missing);
+    }
+    let (front, rest) = cut_front(text);
+    let number = match spelling_of(front.as_bytes()) {
+        Spelling::Number(number) => number,
+        Spelling::Long => return Err(Reason::LongNumber),
+        Spelling::Other => match field.number_named(front) {
+            Some(number) => number,
+            None => return Err(Reason::NoNumber(text)),
+        },
+    };
+    if number < field.least() || field.greatest() < number {
+        return Err(Reason::Outside(number));
+    }
+    if !rest.is_empty() {
+        return Err(Reason::Ignored(front));
+    }
+    Ok(number)
+}
+
+/// Reads a step.
+#[inline(always)]
+pub(crate) fn read_step(text: &str) -> Result<u32, Reason<'_>>
+    ensures step { MatchResult result (λ n. step_of text.now ≡ Ok n) (λ r. step_of text.now ≡ Err (reason_view r)) }
+    ensures positive { IfOk result (λ n. 0 < n) }
+{
+    if text.is_empty() {
+        return Err(Reason::Missing);
+    }
+    let (front, behind) = cut_front(text);
+    let step = match spelling_of(front.as_bytes()) {
+        Spelling::Number(step) => step,
+        Spelling::Long => return Err(Reason::LongNumber),
+        Spelling::Other => return Err(Reason::NoStep(text)),
+    };
+    if step == 0 {
+        return Err(Reason::ZeroStep);
+    }
+    if !behind.is_empty() {
+        return Err(Reason::Ignored(front));
+    }
+    Ok(step)
+}

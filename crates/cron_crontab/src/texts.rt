@@ -1,0 +1,120 @@
+//! Whole texts: five fields, or a nickname.
+
+ghost use Rattle.std.specs.Prelude.{◌≡◌, MatchResult, Ok, Err};
+ghost use Rattle.std.specs.Option.{option_map};
+ghost use Rattle.cron_crontab.specs.Crontab.{Means, Refuses, begins_with_at, is_capital, meant_by, nickname_of, has_word, nicknames, text_in, words};
+ghost use Rattle.cron_crontab.specs.Views.{expression_view, fault_view, table_view};
+
+use crate::faults::Fault;
+use crate::field::{Field, is_same_name};
+use crate::fields::read_five;
+use crate::schedules::Schedules;
+use crate::words::next_word;
+
+const REBOOT: &str = "@reboot";
+
+/// The nicknames, with the expressions that they stand for.
+const NICKNAMES: [(&str, &str); 7] = [
+    ("@yearly", "0 0 1 1 *"),
+    ("@annually", "0 0 1 1 *"),
+    ("@monthly", "0 0 1 * *"),
+    ("@weekly", "0 0 * * 0"),
+    ("@daily", "0 0 * * *"),
+    ("@midnight", "0 0 * * *"),
+    ("@hourly", "0 * * * *"),
+];
+
+/// What an expression means.
+#[derive(Drop)]
+pub enum Expression {
+    /// One schedule, or two of which one suffices.
+    Fires(Schedules),
+    /// A run at the start of the machine, and at no other time: `@reboot`.
+    Reboot,
+}
+
+/// The text beside a word in a table.
+fn text_beside<'t>(table: &[(&'t str, &'t str)], word: &str) -> Option<&'t str>
+    ensures { option_map (λ text. text.now) result ≡ text_in (table_view table.now) word.now }
+{
+    for (name, text) in table {
+        if word == *name {
+            return Some(text);
+        }
+    }
+    None
+}
+
+/// Tells whether a table has a word, in any case of its letters.
+fn has_word(table: &[(&str, &str)], word: &str) -> bool
+    ensures { result ≡ has_word (table_view table.now) word.now }
+{
+    for (name, _) in table {
+        if is_same_name(name, word) {
+            return true;
+        }
+    }
+    false
+}
+
+/// The expression that a nickname stands for.
+fn expansion(word: &str) -> Option<&'static str>
+    ensures { option_map (λ text. text.now) result ≡ text_in nicknames word.now }
+{
+    text_beside(&NICKNAMES, word)
+}
+
+/// Tells whether a word is a nickname but for the case of its letters.
+fn is_capital(word: &str) -> bool
+    ensures { result ≡ is_capital word.now }
+{
+    is_same_name(REBOOT, word) || has_word(&NICKNAMES, word)
+}
+
+/// Reads five fields.
+fn read_fields(text: &str) -> Result<Expression, Fault<'_>>
+    ensures { MatchResult result (λ e. meant_by (words text.now) ≡ Ok (expression_view e)) (λ fault. meant_by (words text.now) ≡ Err (fault_view fault)) }
+{
+    let five = read_five(text)?;
+    Ok(Expression::Fires(five.schedules()))
+}
+
+/// Reads a word that begins with `@`.
+fn read_nickname(word: &str) -> Result<Expression, Fault<'_>>
+    ensures { MatchResult result (λ e. nickname_of word.now ≡ Ok (expression_view e)) (λ fault. nickname_of word.now ≡ Err (fault_view fault)) }
+{
+    if word == REBOOT {
+        return Ok(Expression::Reboot);
+    }
+    match expansion(word) {
+        Some(text) => read_fields(text),
+        None if is_capital(word) => Err(Fault::CapitalNickname(word)),
+        None => Err(Fault::NoNickname(word)),
+    }
+}
+
+fn begins_with_at(word: &str) -> bool
+    ensures { result ≡ begins_with_at word.now }
+{
+    match word.as_bytes().first() {
+        Some(byte) => *byte == b'@',
+        None => false,
+    }
+}
+
+/// Reads an expression of a crontab: five fields, or a nickname, with white space around and between them.
+pub fn read(text: &str) -> Result<Expression, Fault<'_>>
+    ensures { MatchResult result (λ e. Means text.now (expression_view e)) (λ fault. Refuses text.now (fault_view fault)) }
+{
+    let Some((word, rest)) = next_word(text) else {
+        return Err(Fault::NoField(Field::Minute));
+    };
+    if !begins_with_at(word) {
+        return read_fields(text);
+    }
+    let read = read_nickname(word)?;
+    if let Some((other, _)) = next_word(rest) {
+        return Err(Fault::BehindNickname(other));
+    }
+    Ok(read)
+}

@@ -1,0 +1,69 @@
+//! Texts cut in pieces: at white space, and at single marks.
+
+ghost use Rattle.std.specs.Prelude.{◌≡◌, ◌<◌, ◌≤◌, ◌∷◌, [], ℕ, IfSome, MatchOption, length, slice_index, true, false};
+ghost use Rattle.std.specs.Str.{IsUtf8};
+ghost use Rattle.cron_text.specs.Tokens.{is_space};
+ghost use Rattle.cron_crontab.specs.Crontab.{words};
+ghost use Rattle.cron_crontab.specs.Items.{pieces};
+
+use cron_text::is_space;
+
+/// What stands before the first mark, and what stands behind it, where there is one.
+#[inline(always)]
+pub(crate) fn cut_at(text: &str, mark: char) -> (&str, Option<&str>)
+    requires { mark < 128 }
+    ensures pieces { MatchOption result.1 (pieces mark text.now ≡ result.0.now ∷ []) (λ rest. pieces mark text.now ≡ result.0.now ∷ pieces mark rest.now) }
+    ensures text { IfSome result.1 (λ rest. IsUtf8 rest.now) }
+    ensures shorter { IfSome result.1 (λ rest. length rest.now < length text.now) }
+{
+    match text.split_once(mark) {
+        Some((piece, rest)) => (piece, Some(rest)),
+        None => (text, None),
+    }
+}
+
+/// The first index from one on at which no white space stands.
+#[inline(always)]
+fn word_start(text: &[u8]) -> usize
+    ensures within { result ≤ length text.now }
+    ensures before { (k : ℕ) → k < result → is_space (slice_index text.now k) ≡ true }
+    ensures here { result < length text.now → is_space (slice_index text.now result) ≡ false }
+{
+    for (at, byte) in text.iter().enumerate() {
+        if !is_space(*byte) {
+            return at;
+        }
+    }
+    text.len()
+}
+
+/// The first index from one on at which white space stands.
+#[inline(always)]
+fn word_end(text: &[u8], from: usize) -> usize
+    requires { from ≤ length text.now }
+    ensures further { from ≤ result }
+    ensures within { result ≤ length text.now }
+    ensures before { (k : ℕ) → from ≤ k → k < result → is_space (slice_index text.now k) ≡ false }
+    ensures here { result < length text.now → is_space (slice_index text.now result) ≡ true }
+{
+    for at in from..text.len() {
+        if is_space(text[at]) {
+            return at;
+        }
+    }
+    text.len()
+}
+
+/// The first word of a text, and what stands behind it.
+pub(crate) fn next_word(text: &str) -> Option<(&str, &str)>
+    ensures words { MatchOption result (words text.now ≡ []) (λ r. words text.now ≡ r.0.now ∷ words r.1.now) }
+    ensures filled { IfSome result (λ r. 0 < length r.0.now) }
+{
+    let bytes = text.as_bytes();
+    let start = word_start(bytes);
+    if start >= bytes.len() {
+        return None;
+    }
+    let end = word_end(bytes, start);
+    Some((&text[start..end], &text[end..]))
+}
