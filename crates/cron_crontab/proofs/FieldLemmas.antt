@@ -1,16 +1,37 @@
 -- Five fields, one after another, and their sets.
-use Rattle.std.proofs.Common.{◌≡◌, ◌≤◌, ◌-◌, ◌==◌, ◌&&◌, ◌||◌, ℕ, List, [], ◌∷◌, refl, ◌∙◌, arith, nat_eq}
+use Rattle.std.proofs.Common.{◌≡◌, ◌≤◌, ◌-◌, ◌==◌, ◌&&◌, ◌||◌, ℕ, Bool, true, false, List, [], ◌∷◌, get_or, length, refl, ap, ◌∙◌, arith, nat_eq}
+use Rattle.std.proofs.lemmas.Bool.{eqb-true}
+use Rattle.cron_units.specs.Steps.{in_steps}
 use Rattle.cron_bits.specs.Words.{has_bit}
 use Rattle.cron_units.specs.Units.{TimeUnit, set_of}
 use Rattle.cron_units.specs.Units as units
 use Rattle.cron_units.proofs.SetLemmas.{set_same}
-use Rattle.cron_crontab.specs.Fields.{least}
+use Rattle.cron_crontab.specs.Fields.{least, greatest}
 use Rattle.cron_crontab.specs.Items.{begins_with_star}
 use Rattle.cron_crontab.specs.Crontab.{FieldRead, field_read, lies_in, on_weekday}
-use Rattle.cron_crontab.specs.Inner.Reading.{AreRead, IsKept, IsFieldRead, AreFiveRead}
+use Rattle.cron_crontab.specs.Inner.Reading.{AreBits, AreRead, IsKept, IsFieldRead, AreFiveRead}
 use Rattle.cron_crontab.specs.declared.field.Field.{Field}
 use Rattle.cron_crontab.specs.declared.field.Field.TheVariants.{Minute, Hour, DayOfMonth, Month, DayOfWeek}
 use Rattle.cron_crontab.specs.declared.fields.FieldNumbers.{FieldNumbers}
+
+-- ---- a star
+
+one_byte : (word : List ℕ) → length word ≡ 1 → get_or word 0 0 ≡ 42 → word ≡ 42 ∷ []
+one_byte [] long star = absurd (omega arith)
+one_byte (c ∷ []) long star = ap (λ v. v ∷ []) star
+one_byte (c ∷ d ∷ ds) long star = absurd (omega arith)
+
+or_false : (b : Bool) → b ≡ (b || false)
+or_false true = refl
+or_false false = refl
+
+pub star_read : (f : Field) (word : List ℕ) (bits : ℕ) → length word ≡ 1 → begins_with_star word ≡ true
+    → AreBits f (in_steps (record { first = least f; last = greatest f; every = 1 })) bits → AreRead f word bits
+star_read f word bits long star numbers = record {
+  done = record { first = least f; last = greatest f; every = 1 } ∷ [];
+  is = rw (one_byte word long (eqb-true (get_or word 0 0) 42 star)) refl;
+  numbers = λ x low. numbers x low ∙ or_false (in_steps (record { first = least f; last = greatest f; every = 1 }) x);
+}
 
 -- ---- fields, one after another
 

@@ -4,7 +4,7 @@ use Rattle.std.specs.Prelude.{filter, not, ◌==◌}
 use Rattle.std.specs.List.{slice_split, position_or_len, before_first, after_first}
 use Rattle.std.proofs.lemmas.List.Splits.{slice_split_first}
 use Rattle.std.specs.Str.{IsUtf8, IsCharBoundary}
-use Rattle.std.proofs.lemmas.Str.{IsCharBoundary-start, IsCharBoundary-after_ascii, IsUtf8-drop}
+use Rattle.std.proofs.lemmas.Str.{IsCharBoundary-start, IsCharBoundary-after_ascii, IsCharBoundary-before_ascii}
 use Rattle.std.proofs.lemmas.List.Sums.{prefix_len_stops}
 use Rattle.std.proofs.lemmas.List.{get_or-drop, drop-drop, length-drop, length-take}
 use Rattle.std.proofs.Math.Nat.{min-eq_left}
@@ -123,11 +123,15 @@ boundary-after text (suc n) utf8 le space =
     let low = space_ascii (get_or text n 0) (space n (omega arith)) in
     subst (λ (k : ℕ). IsCharBoundary text k) same (IsCharBoundary-after_ascii text n utf8 (omega arith) low)
 
--- what stands behind the first mark is text
-pub utf8-behind : (mark : ℕ) (text rest : List ℕ) → mark < 128 → IsUtf8 text → rest ≡ after_first (λ b. b == mark) text
-    → position_or_len (λ b. b == mark) text < length text → IsUtf8 rest
-utf8-behind mark text rest low utf8 is lt =
-    let at = position_or_len (λ b. b == mark) text in
-    let same : get_or text at 0 ≡ mark = mark_at mark text lt in
-    let small : get_or text at 0 < 128 = omega arith in
-    subst IsUtf8 (sym is) (IsUtf8-drop text (at + 1) utf8 (IsCharBoundary-after_ascii text at utf8 lt small))
+mark_ascii : (mark : ℕ) (text : List ℕ) (at : ℕ) → mark < 128 → at ≡ position_or_len (λ b. b == mark) text → at < length text → get_or text at 0 < 128
+mark_ascii mark text at low is lt =
+    let same : get_or text (position_or_len (λ b. b == mark) text) 0 ≡ mark = mark_at mark text (omega arith) in
+    rw is (omega arith)
+
+-- a text may be cut at its first mark, and behind it
+pub boundary-mark : (mark : ℕ) (text : List ℕ) (at : ℕ) → mark < 128 → at ≡ position_or_len (λ b. b == mark) text → at < length text → IsCharBoundary text at
+boundary-mark mark text at low is lt = IsCharBoundary-before_ascii text at lt (mark_ascii mark text at low is lt)
+
+pub boundary-behind : (mark : ℕ) (text : List ℕ) (at : ℕ) → mark < 128 → IsUtf8 text → at ≡ position_or_len (λ b. b == mark) text → at < length text
+    → IsCharBoundary text (at + 1)
+boundary-behind mark text at low utf8 is lt = IsCharBoundary-after_ascii text at utf8 lt (mark_ascii mark text at low is lt)

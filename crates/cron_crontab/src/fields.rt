@@ -1,6 +1,6 @@
 //! Five fields, and the schedules that they mean.
 
-ghost use Rattle.std.specs.Prelude.{◌≡◌, ◌<◌, ◌≤◌, ◌^◌, ◌&&◌, ◌||◌, ◌==◌, ℕ, IfOk, MatchResult, Ok, Err};
+ghost use Rattle.std.specs.Prelude.{◌≡◌, ◌<◌, ◌≤◌, ◌^◌, ◌&&◌, ◌||◌, ◌==◌, ℕ, IfSome, MatchOption, Err};
 ghost use Rattle.cron_bits.specs.Words.{has_bit};
 ghost use Rattle.cron_crontab.specs.Crontab.{Five, field_of, five_of, items_of, on_both, schedules_of, words};
 ghost use Rattle.cron_crontab.specs.Views.{fault_view};
@@ -8,7 +8,7 @@ ghost use Rattle.cron_crontab.specs.Inner.Reading.{AreFiveRead, AreKept, AreRead
 
 use crate::faults::{Fault, RefusedItem};
 use crate::field::Field;
-use crate::items::{begins_with_star, read_item};
+use crate::items::{Base, begins_with_star, numbers_of, read_item};
 use crate::schedules::Schedules;
 use crate::words::{cut_at, next_word};
 use cron_bits::words::Words;
@@ -33,59 +33,91 @@ pub(crate) struct FiveNumbers {
     day_of_week: FieldNumbers,
 }
 
-/// Reads the items of a field, which have commas between them.
-fn read_items<'a>(field: Field, word: &'a str) -> Result<u64, Fault<'a>>
-    ensures items { MatchResult result (AreRead field word.now) (λ fault. items_of field word.now ≡ Err (fault_view fault)) }
-    ensures fit { IfOk result (λ bits. bits < 2 ^ 64) }
+/// The numbers of a field that is one star. Most fields are.
+#[inline(always)]
+fn star_numbers(field: Field, word: &str) -> Option<u64>
+    ensures { IfSome result (λ bits. AreRead field word.now bits × (bits < 2 ^ 64)) }
+{
+    if word.len() != 1 || !begins_with_star(word) {
+        return None;
+    }
+    Some(numbers_of(field, Base::Range(field.least(), field.greatest()), 1))
+}
+
+/// Reads the items of a field, which have commas between them. A fault is written where the caller has room
+/// for it: as a result it would be moved through memory after each field, read ones too.
+#[inline(never)]
+fn read_items<'a>(field: Field, word: &'a str, fault: &mut Fault<'a>) -> Option<u64>
+    ensures items { MatchOption result (items_of field word.now ≡ Err (fault_view fault.new)) (AreRead field word.now) }
+    ensures fit { IfSome result (λ bits. bits < 2 ^ 64) }
 {
     let mut numbers = u64::none();
     let mut rest = word;
     loop {
-        let (item, behind) = cut_at(rest, ',');
+        let (item, behind) = cut_at(rest, b',');
         match read_item(field, item) {
             Ok(more) => numbers = numbers.joined(more),
             Err(reason) => {
-                return Err(Fault::Refused(RefusedItem {
+                *fault = Fault::Refused(RefusedItem {
                     field,
                     item,
                     reason,
-                }));
+                });
+                return None;
             }
         }
         match behind {
             Some(others) => rest = others,
-            None => return Ok(numbers),
+            None => return Some(numbers),
         }
     }
 }
 
+#[inline(always)]
+fn read_numbers<'a>(field: Field, word: &'a str, fault: &mut Fault<'a>) -> Option<u64>
+    ensures items { MatchOption result (items_of field word.now ≡ Err (fault_view fault.new)) (AreRead field word.now) }
+    ensures fit { IfSome result (λ bits. bits < 2 ^ 64) }
+{
+    match star_numbers(field, word) {
+        Some(numbers) => Some(numbers),
+        None => read_items(field, word, fault),
+    }
+}
+
 /// Reads the first word of a text as a field, and finds what stands behind it.
-fn next_field<'a>(field: Field, text: &'a str) -> Result<(FieldNumbers, &'a str), Fault<'a>>
-    ensures field { MatchResult result (λ r. IsFieldRead field (words text.now) r.0 (words r.1.now)) (λ fault. field_of field (words text.now) ≡ Err (fault_view fault)) }
-    ensures fit { IfOk result (λ r. r.0.numbers < 2 ^ 64) }
+#[inline(always)]
+fn next_field<'a>(
+    field: Field,
+    text: &'a str,
+    fault: &mut Fault<'a>,
+) -> Option<(FieldNumbers, &'a str)>
+    ensures field { MatchOption result (field_of field (words text.now) ≡ Err (fault_view fault.new)) (λ r. IsFieldRead field (words text.now) r.0 (words r.1.now)) }
+    ensures fit { IfSome result (λ r. r.0.numbers < 2 ^ 64) }
 {
     let Some((word, rest)) = next_word(text) else {
-        return Err(Fault::NoField(field));
+        *fault = Fault::NoField(field);
+        return None;
     };
-    let numbers = read_items(field, word)?;
+    let numbers = read_numbers(field, word, fault)?;
     let star = begins_with_star(word);
-    Ok((FieldNumbers { numbers, star }, rest))
+    Some((FieldNumbers { numbers, star }, rest))
 }
 
 /// Reads five fields, behind which nothing stands.
-pub(crate) fn read_five(text: &str) -> Result<FiveNumbers, Fault<'_>>
-    ensures five { MatchResult result (AreFiveRead (words text.now)) (λ fault. five_of (words text.now) ≡ Err (fault_view fault)) }
-    ensures fit { IfOk result (λ five. five.day_of_week.numbers < 2 ^ 64) }
+pub(crate) fn read_five<'a>(text: &'a str, fault: &mut Fault<'a>) -> Option<FiveNumbers>
+    ensures five { MatchOption result (five_of (words text.now) ≡ Err (fault_view fault.new)) (AreFiveRead (words text.now)) }
+    ensures fit { IfSome result (λ five. five.day_of_week.numbers < 2 ^ 64) }
 {
-    let (minute, rest) = next_field(Field::Minute, text)?;
-    let (hour, rest) = next_field(Field::Hour, rest)?;
-    let (day_of_month, rest) = next_field(Field::DayOfMonth, rest)?;
-    let (month, rest) = next_field(Field::Month, rest)?;
-    let (day_of_week, rest) = next_field(Field::DayOfWeek, rest)?;
+    let (minute, rest) = next_field(Field::Minute, text, fault)?;
+    let (hour, rest) = next_field(Field::Hour, rest, fault)?;
+    let (day_of_month, rest) = next_field(Field::DayOfMonth, rest, fault)?;
+    let (month, rest) = next_field(Field::Month, rest, fault)?;
+    let (day_of_week, rest) = next_field(Field::DayOfWeek, rest, fault)?;
     if let Some((word, _)) = next_word(rest) {
-        return Err(Fault::SixthField(word));
+        *fault = Fault::SixthField(word);
+        return None;
     }
-    Ok(FiveNumbers {
+    Some(FiveNumbers {
         minute,
         hour,
         day_of_month,

@@ -36,12 +36,12 @@ fn read_range<'a>(field: Field, text: &'a str) -> Result<Base, Reason<'a>>
     ensures base { MatchResult result (λ b. between field (pieces 45 text.now) ≡ Ok (base_view b)) (λ r. between field (pieces 45 text.now) ≡ Err (reason_view r)) }
     ensures within { IfOk result (IsBaseWithin field) }
 {
-    let (first, behind) = cut_at(text, '-');
+    let (first, behind) = cut_at(text, b'-');
     let number = read_number(field, first)?;
     let Some(rest) = behind else {
         return Ok(Base::Single(number));
     };
-    let (last, more) = cut_at(rest, '-');
+    let (last, more) = cut_at(rest, b'-');
     let end = read_number(field, last)?;
     match more {
         None => Ok(Base::Range(number, end)),
@@ -80,7 +80,7 @@ fn bits_of(least: u32, first: u32, last: u32, every: u32) -> u64
 
 /// The numbers of a base by steps.
 #[inline(always)]
-fn numbers_of(field: Field, base: Base, every: u32) -> u64
+pub(crate) fn numbers_of(field: Field, base: Base, every: u32) -> u64
     requires within { IsBaseWithin field base }
     requires every { 0 < every }
     ensures fit { result < 2 ^ 64 }
@@ -94,11 +94,12 @@ fn numbers_of(field: Field, base: Base, every: u32) -> u64
 }
 
 /// Reads an item of a field.
+#[inline(always)]
 pub(crate) fn read_item<'a>(field: Field, text: &'a str) -> Result<u64, Reason<'a>>
     ensures item { MatchResult result (IsItemRead field text.now) (λ r. item_of field text.now ≡ Err (reason_view r)) }
     ensures fit { IfOk result (λ bits. bits < 2 ^ 64) }
 {
-    let (front, behind) = cut_at(text, '/');
+    let (front, behind) = cut_at(text, b'/');
     let base = read_base(field, front)?;
     let Some(rest) = behind else {
         return Ok(numbers_of(field, base, 1));
@@ -106,7 +107,7 @@ pub(crate) fn read_item<'a>(field: Field, text: &'a str) -> Result<u64, Reason<'
     if let Base::Single(_) = base {
         return Err(Reason::LoneStep);
     }
-    let (step, more) = cut_at(rest, '/');
+    let (step, more) = cut_at(rest, b'/');
     let every = read_step(step)?;
     match more {
         None => Ok(numbers_of(field, base, every)),

@@ -75,8 +75,11 @@ fn is_capital(word: &str) -> bool
 fn read_fields(text: &str) -> Result<Expression, Fault<'_>>
     ensures { MatchResult result (λ e. meant_by (words text.now) ≡ Ok (expression_view e)) (λ fault. meant_by (words text.now) ≡ Err (fault_view fault)) }
 {
-    let five = read_five(text)?;
-    Ok(Expression::Fires(five.schedules()))
+    let mut fault = Fault::NoField(Field::Minute);
+    match read_five(text, &mut fault) {
+        Some(five) => Ok(Expression::Fires(five.schedules())),
+        None => Err(fault),
+    }
 }
 
 /// Reads a word that begins with `@`.

@@ -1,6 +1,7 @@
 //! Texts cut in pieces: at white space, and at single marks.
 
-ghost use Rattle.std.specs.Prelude.{◌≡◌, ◌<◌, ◌≤◌, ◌∷◌, [], ℕ, IfSome, MatchOption, length, slice_index, true, false};
+ghost use Rattle.std.specs.Prelude.{◌≡◌, ◌==◌, ◌<◌, ◌≤◌, ◌∷◌, [], ℕ, IfSome, MatchOption, length, slice_index, true, false};
+ghost use Rattle.std.specs.List.{position_or_len};
 ghost use Rattle.std.specs.Str.{IsUtf8};
 ghost use Rattle.cron_text.specs.Tokens.{is_space};
 ghost use Rattle.cron_crontab.specs.Crontab.{words};
@@ -8,18 +9,32 @@ ghost use Rattle.cron_crontab.specs.Items.{pieces};
 
 use cron_text::is_space;
 
+/// The index of the first mark, or the length where there is none.
+#[inline(always)]
+fn mark_at(text: &[u8], mark: u8) -> usize
+    ensures { result ≡ position_or_len (λ b. b == mark) text.now }
+{
+    for (at, byte) in text.iter().enumerate() {
+        if *byte == mark {
+            return at;
+        }
+    }
+    text.len()
+}
+
 /// What stands before the first mark, and what stands behind it, where there is one.
 #[inline(always)]
-pub(crate) fn cut_at(text: &str, mark: char) -> (&str, Option<&str>)
+pub(crate) fn cut_at(text: &str, mark: u8) -> (&str, Option<&str>)
     requires { mark < 128 }
     ensures pieces { MatchOption result.1 (pieces mark text.now ≡ result.0.now ∷ []) (λ rest. pieces mark text.now ≡ result.0.now ∷ pieces mark rest.now) }
     ensures text { IfSome result.1 (λ rest. IsUtf8 rest.now) }
     ensures shorter { IfSome result.1 (λ rest. length rest.now < length text.now) }
 {
-    match text.split_once(mark) {
-        Some((piece, rest)) => (piece, Some(rest)),
-        None => (text, None),
+    let end = mark_at(text.as_bytes(), mark);
+    if end >= text.len() {
+        return (text, None);
     }
+    (&text[..end], Some(&text[end + 1..]))
 }
 
 /// The first index from one on at which no white space stands.
