@@ -1,6 +1,7 @@
 //! The nearest day whose year, month and day of the month lie in the sets.
 ghost use Rattle.std.specs.Prelude.{◌≡◌, ℕ, ◌+◌, ◌/◌, ◌%◌, ◌<◌, ◌≤◌, ◌||◌, ◌==◌, pos, Bool, IfSome, Option, option_map, true, false};
 ghost use Rattle.cron_units.specs.Nearest.{IsNearest};
+ghost use Rattle.cron_units.specs.Units.{contains};
 ghost use Rattle.cron_moments.specs.Civil.{seconds_in_range};
 ghost use Rattle.cron_moments.specs.CivilDates.{date_numbered};
 ghost use Rattle.cron_time.specs.Search.Inner.Days.{day_rank, has_number, IsInRange, longest};
@@ -43,7 +44,24 @@ fn longest_month(month: u32) -> u32
     days_in_month(2000, month as u8) as u32
 }
 
+// Whether some month of the set has a day of this number in some year. Few sets ask so, and it stands out of
+// the way of the others.
+#[inline(never)]
+fn some_month_reaches(members: &Members<'_>, day: u32) -> bool
+    ensures { result ≡ false → (m : ℕ) → contains members.now.months m ≡ true → longest m < day }
+{
+    let mut next = members.nearest(Unit::Month, Way::Ahead, 0);
+    while let Some(month) = next {
+        if day <= longest_month(month) {
+            return true;
+        }
+        next = members.nearest(Unit::Month, Way::Ahead, month + 1);
+    }
+    false
+}
+
 /// Whether some month of the set has the least day of the set in some year. Each month has a last day.
+#[inline(always)]
 pub(crate) fn some_month_has_a_day(members: &Members<'_>) -> bool
     ensures { result ≡ false → (p : ℕ) → matches_rank members.now p ≡ false }
 {
@@ -56,14 +74,7 @@ pub(crate) fn some_month_has_a_day(members: &Members<'_>) -> bool
     if least <= 29 {
         return true;
     }
-    let mut next = members.nearest(Unit::Month, Way::Ahead, 0);
-    while let Some(month) = next {
-        if least <= longest_month(month) {
-            return true;
-        }
-        next = members.nearest(Unit::Month, Way::Ahead, month + 1);
-    }
-    false
+    some_month_reaches(members, least)
 }
 
 /// The nearest one past a month that lies in the sets: first in its own year, which isn't asked for.
