@@ -28,7 +28,8 @@ struct Question<'q> {
     instant: Timestamp,
 }
 
-fn add_fire(text: &mut String, fire: &Option<DueFire>) -> Result<(), AllocError> {
+/// Writes the nominal time, the due instant, the offset then and what the clock shows then.
+pub(crate) fn add_fire(text: &mut String, fire: &Option<DueFire>) -> Result<(), AllocError> {
     if !text.is_empty() {
         text.push_str(", ")?;
     }

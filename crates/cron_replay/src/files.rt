@@ -27,10 +27,12 @@ pub(crate) enum Kind {
     DuesAfter,
     /// The last due fire by an instant: expression, zone, instant and answer.
     DuesBy,
+    /// What is asked of several schedules as one: fires or due fires, expressions, zone, instants, answers.
+    Unions,
 }
 
 /// The files, each with its kind.
-pub(crate) const FILES: [(Kind, &str); 45] = [
+pub(crate) const FILES: [(Kind, &str); 46] = [
     (Kind::Texts, "texts_accepted.txt"),
     (Kind::Texts, "texts_refused.txt"),
     (Kind::Texts, "texts_beginnings.txt"),
@@ -76,4 +78,5 @@ pub(crate) const FILES: [(Kind, &str); 45] = [
     (Kind::FiresCounted, "fires_of_a_year.txt"),
     (Kind::DuesAfter, "dues_after.txt"),
     (Kind::DuesBy, "dues_by.txt"),
+    (Kind::Unions, "unions.txt"),
 ];

@@ -1,6 +1,7 @@
-//! Replays the rows of `data/`: texts and what they mean, walks and what they answer, fires by instants, due fires. It prints each
-//! answer that isn't the one of its row, for each file how many rows it has, and how many texts one
-//! change away from an accepted one were tried. Where an answer differs, a file is missing or a row can't be taken apart, it ends with a status other than 0.
+//! Replays the rows of `data/`: texts and what they mean, walks and what they answer, fires and due fires by
+//! instants, also those of several schedules as one. It prints each answer that isn't the one of its row, for
+//! each file how many rows it has, and how many texts one change away from an accepted one were tried. Where an
+//! answer differs, a file is missing or a row can't be taken apart, it ends with a status other than 0.
 #![tactic(auto)]
 
 mod answers;
@@ -19,6 +20,9 @@ mod settings;
 mod short_texts;
 mod stretches;
 mod texts;
+mod union_dues;
+mod union_fires;
+mod unions;
 mod walks;
 mod zone_files;
 
@@ -42,6 +46,7 @@ fn replay_row(report: &mut Report<'_>, kind: Kind, row: Row<'_>) -> Result<()> {
         Kind::FiresCounted => counted::replay(report, row),
         Kind::DuesAfter => dues::replay_after(report, row),
         Kind::DuesBy => dues::replay_by(report, row),
+        Kind::Unions => unions::replay(report, row),
     }
 }
 

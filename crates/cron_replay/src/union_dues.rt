@@ -1,0 +1,70 @@
+//! Due fires of several schedules as one, as text that stands in a row.
+
+use crate::dues::add_fire;
+use crate::unions::Union;
+use anyhow::Result;
+use cron_dues::fire::DueFire;
+use cron_unions::due_run::DueRun;
+use cron_unions::dues::{first_after, first_past, last_by};
+use jiff::Timestamp;
+use std::alloc::Global;
+
+// The due fire past one, if there is one.
+fn fire_past(union: Union<'_>, fire: &Option<DueFire>) -> Option<DueFire> {
+    match fire {
+        Some(due) => first_past(union.schedules, due, union.zone),
+        None => None,
+    }
+}
+
+// So many due fires after an instant, each past the one before it.
+fn calls_after(alloc: Global, union: Union<'_>, start: Timestamp, count: usize) -> Result<String> {
+    let mut text = String::new(alloc);
+    let mut next = first_after(union.schedules, start, union.zone);
+    for _ in 0..count {
+        add_fire(&mut text, &next)?;
+        next = fire_past(union, &next);
+    }
+    Ok(text)
+}
+
+/// So many due fires after an instant by calls one after another, or else, where these are what is wanted,
+/// those of a run.
+pub(crate) fn after(
+    alloc: Global,
+    union: Union<'_>,
+    start: Timestamp,
+    wanted: &str,
+    count: usize,
+) -> Result<String> {
+    let mut text = calls_after(alloc, union, start, count)?;
+    if text.as_str() != wanted {
+        return Ok(text);
+    }
+    let mut run = DueRun::after(union.schedules, start, union.zone);
+    text.clear();
+    for _ in 0..count {
+        add_fire(&mut text, &run.next())?;
+    }
+    Ok(text)
+}
+
+/// The due fires between two instants.
+pub(crate) fn between(
+    alloc: Global,
+    union: Union<'_>,
+    (last, now): (Timestamp, Timestamp),
+) -> Result<String> {
+    let mut text = String::new(alloc);
+    for fire in DueRun::between(union.schedules, last, now, union.zone) {
+        add_fire(&mut text, &Some(fire))?;
+    }
+    Ok(text)
+}
+
+/// The last due fire by an instant.
+pub(crate) fn by(alloc: Global, union: Union<'_>, now: Timestamp) -> Result<String> {
+    let mut text = String::new(alloc);
+    add_fire(&mut text, &last_by(union.schedules, now, union.zone))?;
+    Ok(text)
+}
