@@ -70,7 +70,7 @@ enum {
     CRON_C_NOT_AN_ITEM = 6, /* The call takes no such item, and says which it takes. */
     CRON_C_UNTOLD = 7,      /* As CRON_C_REFUSED, but no message can be told; what its buffer holds means nothing. */
     CRON_C_MORE = 8,        /* More is left than fits. What fits was written, but by cron_c_history_read nothing. */
-    CRON_C_NO_MEMORY = 9    /* Memory is wanting. */
+    CRON_C_NO_MEMORY = 9    /* Out of memory. */
 };
 
 /* What a status says, in English. */
@@ -86,7 +86,7 @@ static inline const char *cron_c_status_text(uint32_t status)
     case CRON_C_NOT_AN_ITEM: return "the item is none that the call takes";
     case CRON_C_UNTOLD: return "the text means nothing, and no message can be told";
     case CRON_C_MORE: return "more is left than fits";
-    case CRON_C_NO_MEMORY: return "memory is wanting";
+    case CRON_C_NO_MEMORY: return "out of memory";
     default: return "no status";
     }
 }
@@ -272,7 +272,7 @@ uint32_t cron_c_fires_past(const cron_c_schedule *schedule,
  * the next era starts. The last era has no end. What starts before every instant is given INT64_MIN.
  *
  * Eras one after another are a zone with a history, as a zone's file tells it: one before the first
- * clock change of its table, and one from each change on, all of CRON_C_ZONE_FIXED but the last, which
+ * transition of its table, and one from each of them on, all of CRON_C_ZONE_FIXED but the last, which
  * has the zone of the file's rule, if there is one. An item of the history is an item of an era's zone
  * whose instant lies in that era. So no item lies before the first era, and without an era there is
  * none. The last eras of a list, from any of them on, are a history too, and cheaper. From the era that
@@ -288,23 +288,26 @@ typedef struct cron_c_era {
 #define CRON_C_ERAS 400
 
 /*
- * Reads the bytes of a compiled zone file (TZif, RFC 9636), as /usr/share/zoneinfo holds them, writes
- * to `eras` the eras that mean its zone, and to `*count` how many they are. At each instant the era
- * that holds it has the offset that the file tells for it. The first one starts before every instant,
- * and the last one has the rule on the last line of the file. Without a rule there, as in a file of
- * version 1, the last offset of the table holds for ever. A clock change outside the instants counts
- * as at the first or the last of them. Leap seconds are passed over, so a file that counts them, as
- * those below `right/`, gives eras that start up to half a minute late, and it may tell of no clock
- * change past the day on which its leap seconds expire: don't give such a file.
+ * Reads the bytes of a compiled zone file (TZif, RFC 9636), as /usr/share/zoneinfo holds them. It
+ * writes to `eras` the eras that mean its zone, and to `*count` how many they are. At each instant the
+ * era that holds it has the offset that the file tells for it. The first one starts before every
+ * instant, and the last one has the rule on the last line of the file. Without a rule there, as in a
+ * file of version 1, the last offset of the table holds for ever. A transition outside the instants
+ * counts as at the first or the last of them. Leap seconds are passed over. So a file that counts
+ * them, as those below `right/`, gives eras that start up to half a minute late, and it may tell of no
+ * transition past the day on which its leap seconds expire: don't give such a file.
  *
- * CRON_C_OK; CRON_C_MORE where they are more than `eras_length`, and nothing is written but their
- * number in `*count`; or, with 0 in `*count`, CRON_C_BAD_ZONE where the bytes are none of such a file,
- * tell more than 256 kinds of local time or an offset beyond 25:59:59, a kind of local time says
- * neither 0 nor 1 of saving time, a name of its times has more than 15 bytes, two of its clock changes
- * share a second, the times that one skips or repeats on the
- * clock overlap those of the next, or its rule says another offset, another name or no saving time
- * where the table has it, or the other way round, at the last of them; CRON_C_NO_MEMORY where malloc
- * has no room for what the bytes say. Not to be called from a signal handler.
+ * CRON_C_OK; or CRON_C_MORE where they are more than `eras_length`, and nothing is written but their
+ * number in `*count`. With the other statuses `*count` is 0. CRON_C_NO_MEMORY where malloc has no
+ * room for what the bytes say. CRON_C_BAD_ZONE where the bytes are none of such a file, or one of
+ * these holds:
+ *   - They tell more than 256 kinds of local time, or an offset beyond 25:59:59.
+ *   - A kind of local time says neither 0 nor 1 of saving time, or its name has more than 15 bytes.
+ *   - Two transitions share a second.
+ *   - The times that a transition skips or repeats on the clock overlap those of the next one.
+ *   - At the last transition the rule says another offset or another name than the table, or
+ *     saving time where the table has none, or the other way round.
+ * Not to be called from a signal handler.
  */
 uint32_t cron_c_history_read(const uint8_t *bytes, size_t bytes_length,
                              cron_c_era *eras, size_t eras_length, size_t *count);

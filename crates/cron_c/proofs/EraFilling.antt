@@ -6,7 +6,7 @@ use Rattle.std.proofs.lemmas.Grind.{common_steps}
 use Rattle.std.proofs.lemmas.Option.{get_or_from_slice_get, slice_get-get_or, slice_get_within}
 use Rattle.cron_time.proofs.PlaceLemmas.{slice_get-left}
 use Rattle.jiff_tz.specs.declared.tzif.Tzif.{Tzif}
-use Rattle.cron_c.specs.ZoneFiles.{AreErasIn, AreInFront, HasDoubleTurn, IsEraOf, IsHistoryOf, turn_count}
+use Rattle.cron_c.specs.ZoneFiles.{AreErasIn, AreInFront, HasDoubleTransition, IsEraOf, IsHistoryOf, transition_count}
 use Rattle.cron_c.specs.declared.era.CronEra.{CronEra}
 use Rattle.cron_c.proofs.Eras.{last_or_before}
 use Rattle.cron_c.proofs.TableItems.{means_table}
@@ -44,7 +44,7 @@ one_more t n old now x so_far l era =
     }
 
 -- once all of them are written
-pub all_in : (t : Tzif) (n : ℕ) (old new : List CronEra) → ¬ (HasDoubleTurn t) → n ≡ turn_count t + 1 → n ≤ length old → AreErasIn t n old new
+pub all_in : (t : Tzif) (n : ℕ) (old new : List CronEra) → ¬ (HasDoubleTransition t) → n ≡ transition_count t + 1 → n ≤ length old → AreErasIn t n old new
     → (written : List CronEra) × IsHistoryOf t written × AreInFront written old new × (n ≡ length written)
 all_in t n old new apart count room done =
     let size = done.size in

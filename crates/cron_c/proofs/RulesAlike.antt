@@ -20,7 +20,7 @@ use Rattle.jiff_tz.specs.TzifReader.{TzifText, read_tzif}
 use Rattle.jiff_tz.specs.TzifText.{TransitionText, no_row}
 use Rattle.cron_clocks.specs.Tables.{row_at, transitions_of}
 use Rattle.cron_clocks.proofs.TableLemmas.{transition_is, transitions_length}
-use Rattle.cron_c.specs.ZoneFiles.{HasDoubleTurn, IsFileOf, turn_count}
+use Rattle.cron_c.specs.ZoneFiles.{HasDoubleTransition, IsFileOf, transition_count}
 use Rattle.cron_c.proofs.Items.{offset_once}
 
 -- ---- what a rule says at an instant
@@ -101,18 +101,18 @@ none_said bytes (inr bad) t file =
     bad.disagrees (subst (λ (rows : List TransitionText). FooterAgrees rows bad.rule) (sym (ap (λ (x : TzifText). x.transitions) text))
     (no_rule_agrees (transitions_of t) bad.rule t.posix_tz rule file.1))
 
--- ---- tables that read the same have their turns at the same seconds
+-- ---- tables that read the same have their transitions at the same seconds
 
-second_alike : (t u : Tzif) (i : ℕ) → transitions_of t ≡ transitions_of u → i < turn_count t → i < turn_count u → (transition_at t i).second ≡ (transition_at u i).second
+second_alike : (t u : Tzif) (i : ℕ) → transitions_of t ≡ transitions_of u → i < transition_count t → i < transition_count u → (transition_at t i).second ≡ (transition_at u i).second
 second_alike t u i same short other =
     ap (λ (r : TransitionText). r.second) (sym (transition_is t i short) ∙ ap (λ (rows : List TransitionText). row_at rows i) same ∙ transition_is u i other)
 
-pub double_too : (bytes : List ℕ) (t u : Tzif) → IsFileOf bytes t → IsFileOf bytes u → HasDoubleTurn t → HasDoubleTurn u
+pub double_too : (bytes : List ℕ) (t u : Tzif) → IsFileOf bytes t → IsFileOf bytes u → HasDoubleTransition t → HasDoubleTransition u
 double_too bytes t u file other (i, short, same) =
     let both : Ok (tzif_view t) ≡ Ok (tzif_view u) = sym file.0 ∙ other.0 in
     let view : tzif_view t ≡ tzif_view u = cc in
     let rows : transitions_of t ≡ transitions_of u = ap (λ (x : TzifText). x.transitions) view in
-    let size : turn_count t ≡ turn_count u = sym (transitions_length t) ∙ ap length rows ∙ transitions_length u in (
+    let size : transition_count t ≡ transition_count u = sym (transitions_length t) ∙ ap length rows ∙ transitions_length u in (
       i,
       omega arith,
       sym (second_alike t u i rows (omega arith) (omega arith)) ∙ same ∙ second_alike t u (i + 1) rows (omega arith) (omega arith),

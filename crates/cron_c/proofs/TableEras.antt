@@ -31,7 +31,7 @@ use Rattle.cron_clocks.proofs.RuleSeasons.{shown_plain}
 use Rattle.cron_instants.proofs.FireLemmas.{int_le-true, int_le-false}
 use Rattle.cron_c.specs.Zones.{IsBareDay, IsBareSaving, IsBlank, IsDayIn, IsSavingIn, IsTurnIn, IsZoneIn, IsZoneStruct}
 use Rattle.cron_c.specs.Histories.{IsHistory, has_started, started_by}
-use Rattle.cron_c.specs.ZoneFiles.{HasDoubleTurn, HoldsSecond, IsEraOf, IsRulePast, SaysRulePast, ShowsAt, start_of, turn_count}
+use Rattle.cron_c.specs.ZoneFiles.{HasDoubleTransition, HoldsSecond, IsEraOf, IsRulePast, SaysRulePast, ShowsAt, start_of, transition_count}
 use Rattle.cron_c.specs.declared.era.CronEra.{CronEra}
 use Rattle.cron_c.specs.declared.zone.CronTurn.{CronTurn}
 use Rattle.cron_c.specs.declared.zone.CronZone.{CronZone}
@@ -72,7 +72,7 @@ pub says_too : (c : CronZone) (a b : PosixRule) → tz_view a ≡ tz_view b → 
 says_too c a b same in_a =
     (in_a.0 ∙ ap (λ (v : TzText). v.std_seconds) same, saving_too c a.dst b.dst (ap (λ (v : TzText). v.dst) same) in_a.1)
 
--- ---- the rule past so many turns
+-- ---- the rule past so many transitions
 
 -- a clock that stays at the offset
 steady_past : (t : Tzif) (count : ℕ) (rule : PosixRule) → rule_after t count ≡ None → rule.std_offset ≡ (type_after t count).offset → rule.dst ≡ None
@@ -87,7 +87,7 @@ steady_past t count rule none offset plain = record {
   behind = subst (λ (o : Option PosixRule). MatchOption o (rule.dst ≡ None) (λ own. rule ≡ own)) (sym none) plain;
 }
 
-no_rule_yet : (t : Tzif) (count : ℕ) → count < turn_count t → rule_after t count ≡ None
+no_rule_yet : (t : Tzif) (count : ℕ) → count < transition_count t → rule_after t count ≡ None
 no_rule_yet t count l =
     let short : (count == vec_len t.transitions) ≡ false = grind (arith, nat_tests) in
     rw short refl
@@ -97,7 +97,7 @@ no_rule_of true None e = refl
 no_rule_of true (Some rule) e = absurd (cc)
 no_rule_of false o e = refl
 
-pub short_says : (t : Tzif) (count : ℕ) (rule : PosixRule) → count < turn_count t → rule.std_offset ≡ (type_after t count).offset → rule.dst ≡ None
+pub short_says : (t : Tzif) (count : ℕ) (rule : PosixRule) → count < transition_count t → rule.std_offset ≡ (type_after t count).offset → rule.dst ≡ None
     → SaysRulePast t count rule
 short_says t count rule l offset plain =
     record { own = rule; view = refl; past = steady_past t count rule (no_rule_yet t count l) offset plain }
@@ -108,7 +108,7 @@ plain_says t count rule none offset plain =
     record { own = rule; view = refl; past = steady_past t count rule (no_rule_of (count == vec_len t.transitions) t.posix_tz none) offset plain }
 
 -- the rule behind the table
-by_rule : (t : Tzif) (count : ℕ) (own : PosixRule) → t.posix_tz ≡ Some own → count ≡ turn_count t → IsRulePast t count own
+by_rule : (t : Tzif) (count : ℕ) (own : PosixRule) → t.posix_tz ≡ Some own → count ≡ transition_count t → IsRulePast t count own
 unfolding Zone.offset_at
 by_rule t count own is all =
     let whole : (count == vec_len t.transitions) ≡ true = grind (arith, nat_tests) in
@@ -122,13 +122,13 @@ by_rule t count own is all =
     }
 
 pub last_says : (t : Tzif) (count : ℕ) (rule : PosixRule) (o : Option PosixRule) → t.posix_tz ≡ o → option_map tz_view (Some rule) ≡ option_map tz_view o
-    → count ≡ turn_count t → SaysRulePast t count rule
+    → count ≡ transition_count t → SaysRulePast t count rule
 last_says t count rule None is same all = absurd (cc)
 last_says t count rule (Some own) is same all =
     let view : tz_view rule ≡ tz_view own = cc in
     record { own = own; view = view; past = by_rule t count own is all }
 
--- the struct of a rule past so many turns
+-- the struct of a rule past so many transitions
 pub era_zone : (c : CronZone) (rule : PosixRule) (o : Option PosixRule) → IsZoneIn c (Posix rule) → IsBareSaving c rule.dst
     → MatchOption o (rule.dst ≡ None) (λ own. rule ≡ own) → MatchOption o ((c.kind ≡ 1) × IsBlank c) (λ own. IsZoneStruct c (Posix own))
 era_zone c rule None said bare plain = (subst (IsSavingIn c) plain said.1, subst (IsBareSaving c) plain bare)
@@ -142,7 +142,7 @@ start_next t i =
     let back : i + 1 - 1 ≡ i = omega arith in
     rw (some, back) refl
 
-pub start_rises : (t : Tzif) → ¬ (HasDoubleTurn t) → (i : ℕ) → i < turn_count t → start_of t i <ℤ start_of t (i + 1)
+pub start_rises : (t : Tzif) → ¬ (HasDoubleTransition t) → (i : ℕ) → i < transition_count t → start_of t i <ℤ start_of t (i + 1)
 start_rises t apart zero l =
     let next = start_next t zero in
     let low = (transition_at t 0).second_in in
@@ -161,9 +161,9 @@ start_past_is t count l =
     let some : (count == 0) ≡ false = grind (arith, nat_tests) in
     rw some refl
 
--- a list that says the same as the table has as many turns
-pub turns_told : (t : Tzif) (ts : List Transition) → map transition_text ts ≡ transitions_of t → length ts ≡ turn_count t
-turns_told t ts same =
+-- a list that says the same as the table has as many transitions
+pub transitions_told : (t : Tzif) (ts : List Transition) → map transition_text ts ≡ transitions_of t → length ts ≡ transition_count t
+transitions_told t ts same =
     let own : length (map transition_text ts) ≡ length ts = grind (arith, common_steps) in
     sym own ∙ ap length same ∙ transitions_length t
 
@@ -178,12 +178,12 @@ le_no a b h = grind (arith, ints)
 pub floor_of : (k : ℤ) → floor_second (nanos_of_seconds k) ≡ k
 floor_of k = omega (arith, signed_arith)
 
-module _ (t : Tzif) (eras : List CronEra) (size : length eras ≡ turn_count t + 1)
+module _ (t : Tzif) (eras : List CronEra) (size : length eras ≡ transition_count t + 1)
     (are : (i : ℕ) (e : CronEra) → slice_get eras i ≡ Some e → IsEraOf t i e) where
-  within : (i : ℕ) (e : CronEra) → slice_get eras i ≡ Some e → i ≤ turn_count t
+  within : (i : ℕ) (e : CronEra) → slice_get eras i ≡ Some e → i ≤ transition_count t
   within i e get = let short = slice_get_within eras i e get in omega arith
 
-  era_here : (i : ℕ) → i ≤ turn_count t → (e : CronEra) × (slice_get eras i ≡ Some e)
+  era_here : (i : ℕ) → i ≤ transition_count t → (e : CronEra) × (slice_get eras i ≡ Some e)
   era_here i l = elim (slice_get_cases eras i).1 [
     | inl there ↦ let (e, short, get, at) = there in (e, get)
     | inr past ↦ let end = past.0 in absurd (omega arith)
@@ -192,7 +192,7 @@ module _ (t : Tzif) (eras : List CronEra) (size : length eras ≡ turn_count t +
   begins_next : (i : ℕ) (e : CronEra) → slice_get eras (i + 1) ≡ Some e → e.starts ≡ (transition_at t i).second
   begins_next i e get = (are (i + 1) e get).start ∙ start_next t i
 
-  before_next : (i : ℕ) (k : ℤ) → i < turn_count t → has_started eras (i + 1) k ≡ false → k <ℤ (transition_at t i).second
+  before_next : (i : ℕ) (k : ℤ) → i < transition_count t → has_started eras (i + 1) k ≡ false → k <ℤ (transition_at t i).second
   before_next i k l not_yet =
       let (e, get) = era_here (i + 1) (omega arith) in
       let starts = begins_next i e get in
@@ -200,7 +200,7 @@ module _ (t : Tzif) (eras : List CronEra) (size : length eras ≡ turn_count t +
       let before = int_le-false e.starts k late in
       omega (arith, signed_arith)
 
-  -- as many turns lie up to a second as the place of the era says that holds it
+  -- as many transitions lie up to a second as the place of the era says that holds it
   pub place_is : (k : ℤ) (i : ℕ) (e : CronEra) → HoldsSecond eras i e k → count_at t k ≡ i
   place_is k i e h = count_is t k i (within i e h.here)
       (λ some.
@@ -221,7 +221,7 @@ module _ (t : Tzif) (eras : List CronEra) (size : length eras ≡ turn_count t +
       omega (arith, signed_arith)
 
   lasts_here : (k : ℤ) → has_started eras (count_at t k + 1) k ≡ false
-  lasts_here k = elim (leb_tells (turn_count t) (count_at t k)) [
+  lasts_here k = elim (leb_tells (transition_count t) (count_at t k)) [
     | inl all ↦
         let none = slice_get_past eras (count_at t k + 1) (omega (arith, all.1)) in
         ap (λ (o : Option CronEra). started_by o k) none
@@ -236,13 +236,13 @@ module _ (t : Tzif) (eras : List CronEra) (size : length eras ≡ turn_count t +
   -- the era that holds a second
   pub holder : (k : ℤ) → neg_ℤ (pos 9_223_372_036_854_775_808) ≤ℤ k → (e : CronEra) × HoldsSecond eras (count_at t k) e k
   holder k low =
-      let bound : count_at t k ≤ turn_count t = prefix_len-le-length _ t.transitions.items in
+      let bound : count_at t k ≤ transition_count t = prefix_len-le-length _ t.transitions.items in
       let (e, get) = era_here (count_at t k) bound in
       let start = (are (count_at t k) e get).start in
       let begun = begun_here k (count_at t k) low refl in
       (e, record { here = get; begun = omega (arith, signed_arith); lasts = lasts_here k })
 
-  pub in_order : ¬ (HasDoubleTurn t) → IsHistory eras
+  pub in_order : ¬ (HasDoubleTransition t) → IsHistory eras
   in_order apart = record {
     zones = λ i e get. let era = are i e get in (Posix era.rule, era.said);
     order = λ i a b here next.

@@ -18,7 +18,7 @@ use Rattle.cron_instants.proofs.AgreementLemmas.{same_offset, same_reading}
 use Rattle.cron_instants.proofs.ItemLemmas.{item_of, stands_of}
 use Rattle.cron_instants.proofs.MatchLemmas.{match_in_range}
 use Rattle.cron_c.specs.Histories.{IsHistoryItem}
-use Rattle.cron_c.specs.ZoneFiles.{HasDoubleTurn, IsEraOf, IsHistoryOf, IsShownItem, RuleLookupsAgree, turn_count}
+use Rattle.cron_c.specs.ZoneFiles.{HasDoubleTransition, IsEraOf, IsHistoryOf, IsShownItem, RuleLookupsAgree, transition_count}
 use Rattle.cron_c.specs.declared.era.CronEra.{CronEra}
 use Rattle.cron_c.proofs.TableEras.{begins_all, era_zone, floor_of, holder, in_order, place_is, shows_all}
 use Rattle.cron_c.proofs.AnyZone.{item_in_any}
@@ -52,7 +52,7 @@ shown_item s z r agree range matching shown =
 
 -- ---- the eras of a table
 
-module _ (t : Tzif) (eras : List CronEra) (size : length eras ≡ turn_count t + 1) (are : (i : ℕ) (e : CronEra) → slice_get eras i ≡ Some e → IsEraOf t i e)
+module _ (t : Tzif) (eras : List CronEra) (size : length eras ≡ transition_count t + 1) (are : (i : ℕ) (e : CronEra) → slice_get eras i ≡ Some e → IsEraOf t i e)
     (agree : RuleLookupsAgree t) (s : Sets) (r : Reading) where
   from_history : IsHistoryItem s eras r → IsShownItem s t r
   from_history (i, e, get, ((z, of_zone, item), begun), lasts) =
@@ -73,7 +73,7 @@ module _ (t : Tzif) (eras : List CronEra) (size : length eras ≡ turn_count t +
       (count_at t (instant r), e, held.here, ((Posix era.rule, era.said, item), held.begun), held.lasts)
 
 -- such a list means the zone of the table
-pub means_table : (t : Tzif) (eras : List CronEra) → ¬ (HasDoubleTurn t) → length eras ≡ turn_count t + 1
+pub means_table : (t : Tzif) (eras : List CronEra) → ¬ (HasDoubleTransition t) → length eras ≡ transition_count t + 1
     → ((i : ℕ) (e : CronEra) → slice_get eras i ≡ Some e → IsEraOf t i e) → IsHistoryOf t eras
 means_table t eras apart size are = record {
   history = in_order t eras size are apart;

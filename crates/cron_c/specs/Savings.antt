@@ -15,6 +15,6 @@ TypesTellSaving time_size s =
 abbrev pub end_of_block : List ℕ → ℕ
 end_of_block s = 44 + be_u32 s 32 * 5 + (be_u32 s 36 * 6 + be_u32 s 40) + be_u32 s 28 * 8 + be_u32 s 24 + be_u32 s 20
 
--- each type of the block that tells the clock changes does so: in a file of version 1 of the only one, and else of the second one
+-- each type of the block that tells the transitions does so: in a file of version 1 of the only one, and else of the second one
 abbrev pub TellSaving : List ℕ → Type 0
 TellSaving s = (slice_index s 4 ≡ 0 → TypesTellSaving 4 s) × (¬ (slice_index s 4 ≡ 0) → TypesTellSaving 8 (drop (end_of_block s) s))

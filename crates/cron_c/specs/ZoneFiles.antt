@@ -29,13 +29,13 @@ use Rattle.cron_c.specs.declared.status.Status.TheVariants.{Done, BadZone, More,
 abbrev pub IsFileOf : List ℕ → Tzif → Type 0
 IsFileOf bytes t = (read_tzif bytes ≡ Ok (tzif_view t)) × RuleAgrees t × TellSaving bytes
 
--- how many turns the table has
-abbrev pub turn_count : Tzif → ℕ
-turn_count t = length t.transitions.items
+-- how many transitions the table has
+abbrev pub transition_count : Tzif → ℕ
+transition_count t = length t.transitions.items
 
--- two turns of the table lie at the same second
-abbrev pub HasDoubleTurn : Tzif → Type 0
-HasDoubleTurn t = (i : ℕ) × (i + 1 < turn_count t) × ((transition_at t i).second ≡ (transition_at t (i + 1)).second)
+-- two transitions of the table lie at the same second
+abbrev pub HasDoubleTransition : Tzif → Type 0
+HasDoubleTransition t = (i : ℕ) × (i + 1 < transition_count t) × ((transition_at t i).second ≡ (transition_at t (i + 1)).second)
 
 -- ---- what the eras say
 
@@ -56,11 +56,11 @@ IsShownItem s t r =
     × (matches s (civil r.second) ≡ true)
     × ((Table.offset_at t (nanos_of_seconds (instant r))).seconds ≡ r.offset.seconds)
 
--- where the era past so many turns starts: before every instant, or at the last of these turns
+-- where the era past so many transitions starts: before every instant, or at the last of these transitions
 abbrev pub start_of : Tzif → ℕ → ℤ
 start_of t count = if count == 0 then neg_ℤ (pos 9_223_372_036_854_775_808) else (transition_at t (count - 1)).second
 
--- the struct of the era past so many turns: past all of them that of the rule behind the table, if there is one, and else one of one offset
+-- the struct of the era past so many transitions: past all of them that of the rule behind the table, if there is one, and else one of one offset
 abbrev pub IsEraZone : Tzif → ℕ → CronZone → Type 0
 IsEraZone t count c = MatchOption (rule_after t count) ((c.kind ≡ 1) × IsBlank c) (λ rule. IsZoneStruct c (Posix rule))
 
@@ -68,11 +68,11 @@ IsEraZone t count c = MatchOption (rule_after t count) ((c.kind ≡ 1) × IsBlan
 abbrev pub RuleLookupsAgree : Tzif → Type 0
 RuleLookupsAgree t = IfSome t.posix_tz (λ rule. LookupsAgree (Posix rule))
 
--- The eras mean the zone of the table: one starts before every instant, and one at each turn, and at each instant the era that holds it has
+-- The eras mean the zone of the table: one starts before every instant, and one at each transition, and at each instant the era that holds it has
 -- the table's offset. The items of this history are then the readings that match and are shown.
 pub record IsHistoryOf (t : Tzif) (eras : List CronEra) : Type 0 where
   pub history : IsHistory eras
-  pub counted : length eras ≡ turn_count t + 1
+  pub counted : length eras ≡ transition_count t + 1
   pub starts : (i : ℕ) (e : CronEra) → slice_get eras i ≡ Some e → e.starts ≡ start_of t i
   pub zones : (i : ℕ) (e : CronEra) → slice_get eras i ≡ Some e → IsEraZone t i e.zone
   pub begins : (n : ℤ) → IsTimestampNanos n → has_started eras 0 (floor_second n) ≡ true
@@ -85,23 +85,23 @@ pub record IsHistoryOf (t : Tzif) (eras : List CronEra) : Type 0 where
 abbrev pub AreInFront : List CronEra → List CronEra → List CronEra → Type 0
 AreInFront written old new = new ≡ written ++ drop (length written) old
 
--- The eras of the table are in the array; or it is too short; or two turns lie at the same second.
+-- The eras of the table are in the array; or it is too short; or two transitions lie at the same second.
 abbrev pub WritesEras : Tzif → List CronEra → List CronEra → ℕ → Status → Type 0
 WritesEras t old new count Done = (written : List CronEra) × IsHistoryOf t written × AreInFront written old new × (count ≡ length written)
-WritesEras t old new count More = ¬ (HasDoubleTurn t) × (length old < count) × (new ≡ old) × (count ≡ turn_count t + 1)
-WritesEras t old new count BadZone = HasDoubleTurn t × (new ≡ old) × (count ≡ 0)
+WritesEras t old new count More = ¬ (HasDoubleTransition t) × (length old < count) × (new ≡ old) × (count ≡ transition_count t + 1)
+WritesEras t old new count BadZone = HasDoubleTransition t × (new ≡ old) × (count ≡ 0)
 WritesEras t old new count _ = ⊥
 
 -- The bytes are those of a zone file, and its eras are in the array; or the array is too short; or they are none, or none that eras mean;
 -- or memory ran out for what they say.
 abbrev pub ReadsHistory : List ℕ → List CronEra → List CronEra → ℕ → Status → Type 0
 ReadsHistory bytes old new count NoMemory = (text : TzifText) × (read_tzif bytes ≡ Ok text) × TellSaving bytes × (new ≡ old) × (count ≡ 0)
-ReadsHistory bytes old new count BadZone = ((t : Tzif) → IsFileOf bytes t → HasDoubleTurn t) × (new ≡ old) × (count ≡ 0)
+ReadsHistory bytes old new count BadZone = ((t : Tzif) → IsFileOf bytes t → HasDoubleTransition t) × (new ≡ old) × (count ≡ 0)
 ReadsHistory bytes old new count status = (t : Tzif) × IsFileOf bytes t × WritesEras t old new count status
 
 -- ---- inner
 
--- past so many turns the clock of the table is that of the rule, whose look-ups agree if those of the rule behind the table do
+-- past so many transitions the clock of the table is that of the rule, whose look-ups agree if those of the rule behind the table do
 pub record IsRulePast (t : Tzif) (count : ℕ) (rule : PosixRule) : Type 0 where
   pub shown : (n : ℤ) → count_at t (floor_second n) ≡ count → Zone.offset_at (Posix rule) n ≡ (Table.offset_at t n).seconds
   pub agree : RuleLookupsAgree t → LookupsAgree (Posix rule)
@@ -113,7 +113,7 @@ pub record SaysRulePast (t : Tzif) (count : ℕ) (rule : PosixRule) : Type 0 whe
   pub view : tz_view rule ≡ tz_view own
   pub past : IsRulePast t count own
 
--- the era is the one past so many turns
+-- the era is the one past so many transitions
 pub record IsEraOf (t : Tzif) (count : ℕ) (e : CronEra) : Type 0 where
   pub rule : PosixRule
   pub start : e.starts ≡ start_of t count
@@ -121,7 +121,7 @@ pub record IsEraOf (t : Tzif) (count : ℕ) (e : CronEra) : Type 0 where
   pub bare : IsBareSaving e.zone rule.dst
   pub past : IsRulePast t count rule
 
--- the eras past none, one and more turns, n in all, are in the array, before what it held
+-- the eras past none, one and more transitions, n in all, are in the array, before what it held
 pub record AreErasIn (t : Tzif) (n : ℕ) (old new : List CronEra) : Type 0 where
   pub size : length new ≡ length old
   pub eras : (i : ℕ) (e : CronEra) → i < n → slice_get new i ≡ Some e → IsEraOf t i e

@@ -17,7 +17,8 @@ pub struct CronEra {
     pub zone: CronZone,
 }
 
-// Whether a struct with one offset says a zone. Most eras have one.
+// Whether a struct with one offset says a zone. Most eras have one. The rule is made for the proof, which
+// names by it the zone that the struct says.
 fn is_fixed(zone: &CronZone) -> bool
     requires { zone.now.kind ≡ 1 }
     ensures { (result ≡ true) ↔ IsSomeZone zone.now }

@@ -1,8 +1,8 @@
-//! The eras of a zone's table: one before its turns, and one for each of them.
+//! The eras of a zone's table: one before its transitions, and one for each of them.
 
 ghost use Rattle.std.specs.Prelude.{◌≡◌, ◌≤◌, ◌<◌, ◌↔◌, ◌+◌, None, true, length};
 ghost use Rattle.jiff_tz.specs.Tzif.{transition_at, type_after};
-ghost use Rattle.cron_c.specs.ZoneFiles.{AreErasIn, HasDoubleTurn, IsEraOf, SaysRulePast, WritesEras, start_of, turn_count};
+ghost use Rattle.cron_c.specs.ZoneFiles.{AreErasIn, HasDoubleTransition, IsEraOf, SaysRulePast, WritesEras, start_of, transition_count};
 
 use crate::era::CronEra;
 use crate::status::Status;
@@ -10,17 +10,17 @@ use crate::zone::struct_of;
 use jiff_core::Offset;
 use jiff_tz::{Abbreviation, Tzif, posix};
 
-// The second of the turn at this place.
+// The second of the transition at this place.
 fn second_of(table: &Tzif, at: usize) -> i64
-    requires { at < turn_count table.now }
+    requires { at < transition_count table.now }
     ensures { result ≡ (transition_at table.now at).second }
 {
     table.transitions()[at].second
 }
 
-// Where the era past so many turns starts.
+// Where the era past so many transitions starts.
 fn start_past(table: &Tzif, count: usize) -> i64
-    requires { count ≤ turn_count table.now }
+    requires { count ≤ transition_count table.now }
     ensures { result ≡ start_of table.now count }
 {
     if count == 0 {
@@ -30,9 +30,9 @@ fn start_past(table: &Tzif, count: usize) -> i64
     }
 }
 
-// The offset of the clock past so many turns.
+// The offset of the clock past so many transitions.
 fn offset_past(table: &Tzif, count: usize) -> Offset
-    requires { count ≤ turn_count table.now }
+    requires { count ≤ transition_count table.now }
     ensures { result ≡ (type_after table.now count).offset }
 {
     if count == 0 {
@@ -54,9 +54,9 @@ pub fn fixed_rule(offset: Offset) -> posix::TimeZone
     }
 }
 
-// The rule of the clock past so many turns: past all of them that of the table, if it has one.
+// The rule of the clock past so many transitions: past all of them that of the table, if it has one.
 fn rule_past(table: &Tzif, count: usize) -> posix::TimeZone
-    requires { count ≤ turn_count table.now }
+    requires { count ≤ transition_count table.now }
     ensures { SaysRulePast table.now count result }
 {
     if count < table.transitions().len() {
@@ -68,9 +68,9 @@ fn rule_past(table: &Tzif, count: usize) -> posix::TimeZone
     }
 }
 
-// The era past so many turns.
+// The era past so many transitions.
 fn era_past(table: &Tzif, count: usize) -> CronEra
-    requires { count ≤ turn_count table.now }
+    requires { count ≤ transition_count table.now }
     ensures { IsEraOf table.now count result }
 {
     CronEra {
@@ -79,9 +79,9 @@ fn era_past(table: &Tzif, count: usize) -> CronEra
     }
 }
 
-// Whether two turns lie at the same second.
-fn has_double_turn(table: &Tzif) -> bool
-    ensures { (result ≡ true) ↔ HasDoubleTurn table.now }
+// Whether two transitions lie at the same second.
+fn has_double_transition(table: &Tzif) -> bool
+    ensures { (result ≡ true) ↔ HasDoubleTransition table.now }
 {
     for at in 1..table.transitions().len() {
         if second_of(table, at - 1) == second_of(table, at) {
@@ -93,7 +93,7 @@ fn has_double_turn(table: &Tzif) -> bool
 
 // Writes the eras of a table to the front of an array.
 fn fill(table: &Tzif, needed: usize, eras: &mut [CronEra])
-    requires needed { needed ≡ turn_count table.now + 1 }
+    requires needed { needed ≡ transition_count table.now + 1 }
     requires room { needed ≤ length eras.old }
     ensures { AreErasIn table.now needed eras.old eras.new }
 {
@@ -107,7 +107,7 @@ fn fill(table: &Tzif, needed: usize, eras: &mut [CronEra])
 pub fn write_eras(table: &Tzif, eras: &mut [CronEra], count: &mut usize) -> Status
     ensures { WritesEras table.now eras.old eras.new count.new result }
 {
-    if has_double_turn(table) {
+    if has_double_transition(table) {
         *count = 0;
         return Status::BadZone;
     }

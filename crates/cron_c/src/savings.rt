@@ -61,8 +61,8 @@ fn block_end(bytes: &[u8]) -> usize
     HEADER + times + types + leaps + count_at(bytes, 24) + count_at(bytes, 20)
 }
 
-/// Whether each type of the block that tells a file's clock changes says by 0 or 1 whether it is saving
-/// time.
+/// Whether each type says by 0 or 1 whether it is saving time, in the block that tells a file's
+/// transitions. A type that its block is too short for says nothing.
 pub fn tell_saving(bytes: &[u8]) -> bool
     ensures { (result ≡ true) ↔ TellSaving bytes.now }
 {

@@ -2,12 +2,12 @@ use Rattle.std.proofs.Common.{◌≡◌, ◌∙◌, ◌+◌, ◌-◌, FitsSigned
 use mir.Val.{to_z, of_z}
 use Rattle.jiff_tz.specs.Tzif.{transition_at}
 use Rattle.cron_c.proofs.Eras.{last_or_before}
-use Rattle.cron_c.proofs.TableEras.{turns_told}
-use Rattle.cron_c.proofs.era_table.has_double_turn.Goals as goal
+use Rattle.cron_c.proofs.TableEras.{transitions_told}
+use Rattle.cron_c.proofs.era_table.has_double_transition.Goals as goal
 
 pub returns-then-second_of : goal.returns-then-second_of
 returns-then-second_of c =
-    let rows = turns_told c.args.table.now c.transitions-at-end.result.now c.transitions-at-end.ensures in
+    let rows = transitions_told c.args.table.now c.transitions-at-end.result.now c.transitions-at-end.ensures in
     let fits-last : FitsSigned w64 c.second_of.result = search rules in
     let fits-here : FitsSigned w64 c.second_of-in-loop-at.result = search rules in
     let same = sym (to_z-of_z fits-last) ∙ ap (to_z w64) c.if-second_of.true ∙ to_z-of_z fits-here in
@@ -22,7 +22,7 @@ returns-then-second_of c =
 
 pub returns : goal.returns
 returns c =
-    let rows = turns_told c.args.table.now c.transitions-at-end.result.now c.transitions-at-end.ensures in
+    let rows = transitions_told c.args.table.now c.transitions-at-end.result.now c.transitions-at-end.ensures in
     (λ e. absurd (cc), λ double. absurd (c.loop-at.invariant double.0 (omega (arith, c.loop-at-test.false, double.1)) double.2))
 
 pub loop-at-preserved : goal.loop-at-preserved
