@@ -99,6 +99,27 @@ static double cost_of_history(const cron_c_schedule *schedule, const cron_c_era 
     return least;
 }
 
+enum { LISTED = 1000 };
+
+/* An item of a list, in a zone where there are no eras, and else over the last eras of a history. */
+static double cost_of_list(const cron_c_schedule *schedule, const cron_c_zone *zone, const cron_c_era *eras, size_t length, int64_t start)
+{
+    static cron_c_item items[LISTED];
+    size_t count = 0;
+    double least = 1e300;
+    for (int turn = 0; turn < 150; turn++) {
+        double begun = nanoseconds();
+        if (length == 0) {
+            cron_c_fires_between(schedule, zone, start, CRON_C_GREATEST_INSTANT, items, LISTED, &count);
+        } else {
+            cron_c_history_fires_between(schedule, eras + ERAS - length, length, start, CRON_C_GREATEST_INSTANT, items, LISTED, &count);
+        }
+        double each = (nanoseconds() - begun) / (double)(count == 0 ? 1 : count);
+        least = each < least ? each : least;
+    }
+    return least;
+}
+
 /* The eras of a zone's file. */
 static double cost_of_reading(void)
 {
@@ -138,6 +159,13 @@ int main(void)
         make_eras(eras, &rule);
         printf("cron_c_history_fire_after | the last era | %s | %.1f\n", texts[text], cost_of_history(&schedule, eras, 1));
         printf("cron_c_history_fire_after | %d eras | %s | %.1f\n", ERAS, texts[text], cost_of_history(&schedule, eras, ERAS));
+        const int64_t starts[] = {1514764800, 0}; /* 2018-01-01T00:00:00Z, and 1970-01-01T00:00:00Z */
+        for (size_t start = 0; start < sizeof starts / sizeof *starts; start++) {
+            const double rule_list = cost_of_list(&schedule, &rule, eras, 0, starts[start]);
+            const double eras_list = cost_of_list(&schedule, &rule, eras, ERAS, starts[start]);
+            printf("cron_c_fires_between | from %lld, over the rule | %s | %.1f\n", (long long)starts[start], texts[text], rule_list);
+            printf("cron_c_history_fires_between | from %lld, %d eras | %s | %.1f\n", (long long)starts[start], ERAS, texts[text], eras_list);
+        }
     }
     printf("cron_c_history_read | %zu bytes | %.1f\n", sizeof PYONGYANG, cost_of_reading());
     return 0;

@@ -189,21 +189,41 @@ static void runs_of_histories(void)
     CHECK(status == CRON_C_OK && seen + count == 548 && memcmp(page, all + seen, count * sizeof *page) == 0);
 }
 
-/* Eras that aren't any, and what a refused call leaves as it was. */
-static void arguments_of_histories(void)
+/* Eras that are no history are told by the check. The other calls tell where they come to such eras. */
+static void eras_that_are_no_history(void)
 {
     cron_c_schedule daily = parsed("@daily");
     cron_c_era eras[2] = {{0, CRON_C_ZONE_UTC}, {0, CRON_C_ZONE_UTC}};
-    cron_c_item item = {7, 7, 0}, items[2] = {{7, 7, 7}, {7, 7, 7}};
+    cron_c_item item, items[2];
     size_t count = 9;
-    CHECK(cron_c_history_fire_after(&daily, eras, 2, 0, &item) == CRON_C_BAD_ZONE);
+    CHECK(cron_c_history_check(eras, 0) == CRON_C_OK && cron_c_history_check(eras, 1) == CRON_C_OK);
+    CHECK(cron_c_history_check(eras, 2) == CRON_C_BAD_ZONE);
+    CHECK(cron_c_history_fire_after(&daily, eras, 2, -5, &item) == CRON_C_BAD_ZONE);
+    CHECK(cron_c_history_fire_after(&daily, eras, 2, 0, &item) == CRON_C_OK && item.instant == 86400);
     eras[1].starts = 86401;
+    CHECK(cron_c_history_check(eras, 2) == CRON_C_OK);
     CHECK(cron_c_history_fire_after(&daily, eras, 2, -5, &item) == CRON_C_OK && item.instant == 0);
     eras[1].zone.kind = 9;
-    CHECK(cron_c_history_fire_after(&daily, eras, 2, -5, &item) == CRON_C_BAD_ZONE);
+    CHECK(cron_c_history_check(eras, 2) == CRON_C_BAD_ZONE);
+    CHECK(cron_c_history_fire_after(&daily, eras, 2, -5, &item) == CRON_C_OK && item.instant == 0);
+    CHECK(cron_c_history_fire_after(&daily, eras, 2, 86399, &item) == CRON_C_OK && item.instant == 86400);
+    CHECK(cron_c_history_fire_after(&daily, eras, 2, 86400, &item) == CRON_C_BAD_ZONE && item.instant == 86400);
+    CHECK(cron_c_history_fire_by(&daily, eras, 2, 86401, &item) == CRON_C_BAD_ZONE && item.instant == 86400);
+    CHECK(cron_c_history_fire_at(&daily, eras, 2, 86401, &item) == CRON_C_BAD_ZONE && item.instant == 86400);
+    CHECK(cron_c_history_fires_between(&daily, eras, 2, 0, 86400, items, 2, &count) == CRON_C_OK && count == 1);
     CHECK(cron_c_history_fires_between(&daily, eras, 2, 0, 99999, items, 2, &count) == CRON_C_BAD_ZONE && count == 0);
-    eras[1] = (cron_c_era){INT64_MAX, CRON_C_ZONE_FIXED(3600)};
-    item.reserved = 1;
+    count = 9;
+    CHECK(cron_c_history_fires_past(&daily, eras, 2, &item, 99999, items, 2, &count) == CRON_C_BAD_ZONE && count == 0);
+    CHECK(cron_c_history_check(SEVENTIES, ERAS) == CRON_C_OK);
+}
+
+/* What a refused call leaves as it was, and an era in which nothing lies. */
+static void arguments_of_histories(void)
+{
+    cron_c_schedule daily = parsed("@daily");
+    cron_c_era eras[2] = {{0, CRON_C_ZONE_UTC}, {INT64_MAX, CRON_C_ZONE_FIXED(3600)}};
+    cron_c_item item = {7, 7, 1}, items[2] = {{7, 7, 7}, {7, 7, 7}};
+    size_t count = 9;
     CHECK(cron_c_history_fires_past(&daily, eras, 2, &item, 99999, items, 2, &count) == CRON_C_NOT_AN_ITEM && count == 0);
     CHECK(cron_c_history_fires_between(&daily, eras, 2, 0, INT64_MAX, items, 2, &count) == CRON_C_BAD_INSTANT && count == 0);
     CHECK(items[0].instant == 7 && items[1].reserved == 7);
@@ -215,6 +235,44 @@ static void arguments_of_histories(void)
     CHECK(cron_c_history_fires_past(&daily, eras, 2, &item, CRON_C_GREATEST_INSTANT, items, 2, &count) == CRON_C_OK && count == 0);
 }
 
+/* A thousand eras of an hour from 1970-01-01T00:00:00Z on. In the odd hours the clock is an hour ahead of UTC, and in the even ones it
+ * isn't. So it shows each midnight twice: as hour 23 of UTC's day begins, and an hour later. */
+enum { HOURS = 1000 };
+
+static void eras_of_an_hour(void)
+{
+    static cron_c_era eras[HOURS];
+    static cron_c_item items[HOURS];
+    cron_c_schedule daily = parsed("@daily"), yearly = parsed("0 0 0 1 1 * 1972");
+    cron_c_item item;
+    size_t count;
+    for (int hour = 0; hour < HOURS; hour++) {
+        const cron_c_zone zone = CRON_C_ZONE_FIXED(hour % 2 ? 3600 : 0);
+        eras[hour].starts = (int64_t)hour * 3600;
+        eras[hour].zone = zone;
+    }
+    CHECK(cron_c_history_check(eras, HOURS) == CRON_C_OK);
+    CHECK(cron_c_history_fires_between(&daily, eras, HOURS, 0, 10 * 86400 - 1, items, HOURS, &count) == CRON_C_OK && count == 19);
+    for (size_t place = 0; place < count; place++) {
+        const int64_t day = (int64_t)(place / 2 + 1) * 86400;
+        CHECK(items[place].instant == (place % 2 ? day : day - 3600) && items[place].offset == (place % 2 ? 0 : 3600));
+    }
+    for (size_t place = 0; place < count; place++) {
+        size_t one;
+        CHECK(cron_c_history_fire_after(&daily, eras, HOURS, items[place].instant - 1, &item) == CRON_C_OK);
+        CHECK(memcmp(&item, items + place, sizeof item) == 0);
+        CHECK(cron_c_history_fire_by(&daily, eras, HOURS, items[place].instant + 3599, &item) == CRON_C_OK);
+        CHECK(memcmp(&item, items + place, sizeof item) == 0);
+        CHECK(place == 0 || cron_c_history_fires_past(&daily, eras, HOURS, items + place - 1, 10 * 86400, &item, 1, &one) == CRON_C_MORE);
+        CHECK(place == 0 || memcmp(&item, items + place, sizeof item) == 0);
+    }
+    /* The last era, whose hour is odd, has no end: 1972-01-01T00:00:00+01:00. */
+    CHECK(cron_c_history_fire_after(&yearly, eras, HOURS, 0, &item) == CRON_C_OK && item.instant == 63072000 - 3600);
+    CHECK(cron_c_history_fire_by(&yearly, eras, HOURS, 63068399, &item) == CRON_C_NO_ITEM);
+    CHECK(cron_c_history_fires_between(&yearly, eras, HOURS, 0, CRON_C_GREATEST_INSTANT, items, HOURS, &count) == CRON_C_OK && count == 1);
+    CHECK(items[0].instant == 63068400);
+}
+
 int main(void)
 {
     fires();
@@ -224,7 +282,9 @@ int main(void)
     arguments_of_runs();
     histories();
     runs_of_histories();
+    eras_that_are_no_history();
     arguments_of_histories();
+    eras_of_an_hour();
     tell_held("fires");
     return 0;
 }

@@ -185,8 +185,9 @@ static void histories(const cron_c_schedule *schedule, const cron_c_zone *zone, 
     LAW(status == cron_c_fires_between(schedule, zone, last, now, items, 3, &others));
     LAW(count == others && memcmp(mine, items, count * sizeof *items) == 0);
     status = cron_c_history_fires_between(schedule, eras, 2, last, now, mine, 3, &count);
-    if (status == CRON_C_BAD_ZONE) {
-        LAW(cron_c_fire_after(schedule, &eras[1].zone, last, &item) == CRON_C_BAD_ZONE);
+    const int is_zone = cron_c_fire_after(schedule, &eras[1].zone, 0, &item) != CRON_C_BAD_ZONE;
+    LAW((cron_c_history_check(eras, 2) == CRON_C_OK) == is_zone);
+    if (!is_zone) {
         return;
     }
     for (size_t place = 0; place < count; place++) {
@@ -199,6 +200,28 @@ static void histories(const cron_c_schedule *schedule, const cron_c_zone *zone, 
         LAW(place + 1 == count ? others == (status == CRON_C_MORE) : is_same(&item, &mine[place + 1]));
     }
     LAW(status == CRON_C_OK || count == 3);
+}
+
+/* Over eras in any order, of any numbers, calls return. What they write are items beyond the instant. */
+static void eras_in_any_order(const cron_c_schedule *schedule, int64_t last)
+{
+    enum { MANY = 5 };
+    static unsigned char *eras_end, *items_end;
+    cron_c_era *eras = before_edge(&eras_end, MANY * sizeof *eras);
+    cron_c_item *items = before_edge(&items_end, 3 * sizeof *items), item;
+    size_t count = 9;
+    for (size_t place = 0; place < MANY; place++) {
+        eras[place] = (cron_c_era){last - 50000 + (int64_t)chance(100000), some_zone()};
+    }
+    uint32_t status = cron_c_history_fire_after(schedule, eras, MANY, last, &item);
+    LAW(status == CRON_C_OK ? item.instant > last : status == CRON_C_NO_ITEM || status == CRON_C_BAD_ZONE || status == CRON_C_BAD_INSTANT);
+    status = cron_c_history_fire_by(schedule, eras, MANY, last, &item);
+    LAW(status == CRON_C_OK ? item.instant <= last : status == CRON_C_NO_ITEM || status == CRON_C_BAD_ZONE || status == CRON_C_BAD_INSTANT);
+    status = cron_c_history_fires_between(schedule, eras, MANY, last, CRON_C_GREATEST_INSTANT, items, 3, &count);
+    LAW(count <= 3 && (status == CRON_C_OK || status == CRON_C_MORE || count == 0));
+    for (size_t place = 0; place < count; place++) {
+        LAW(items[place].instant > last && items[place].reserved == 0);
+    }
 }
 
 /* A walk goes back where it came from, and lists are walks. */
@@ -311,6 +334,7 @@ int main(int count, char **words)
         runs(&schedule, &zone, instant);
         walks(&schedule, &zone, instant);
         histories(&schedule, &zone, instant);
+        eras_in_any_order(&schedule, instant);
     }
     printf("examples: %lu random cases keep the laws\n", cases);
     return 0;

@@ -20,11 +20,11 @@ class Versions(unittest.TestCase):
         self.assertEqual(cron_c.__version__, library.version())
 
     def test_versions_with_all_calls_and_the_same_structs_are_loaded(self):
-        for version in (10_200, 10_201, 10_300, 19_999):
+        for version in (10_300, 10_301, 10_400, 19_999):
             load(version)
 
     def test_a_version_that_lacks_calls_is_refused(self):
-        for version in (0, 1, 10_000, 10_100, 10_199):
+        for version in (0, 1, 10_000, 10_200, 10_299):
             with self.assertRaises(ImportError, msg=version):
                 load(version)
 
@@ -34,8 +34,29 @@ class Versions(unittest.TestCase):
                 load(version)
 
     def test_a_refusal_names_both_versions(self):
-        with self.assertRaisesRegex(ImportError, r"is of version 1\.1\.0, and this package needs 1\.2\.0 or later, before 2\.0\.0$"):
-            load(10_100)
+        with self.assertRaisesRegex(ImportError, r"is of version 1\.2\.0, and this package needs 1\.3\.0 or later, before 2\.0\.0$"):
+            load(10_200)
+
+
+class Eras(unittest.TestCase):
+    """Eras are checked where a zone is made of them."""
+
+    def test_eras_in_order_are_a_history(self):
+        utc = library.parse_zone(b"UTC")
+        self.assertEqual(len(library.history([library.Era(0, utc), library.Era(1, utc)])), 2)
+        self.assertEqual(len(library.history([])), 0)
+
+    def test_eras_in_another_order_are_refused(self):
+        utc = library.parse_zone(b"UTC")
+        for starts in ((0, 0), (1, 0), (0, 5, 5), (-3, -4, 9)):
+            with self.assertRaises(ZoneError, msg=starts):
+                library.history(library.Era(it, utc) for it in starts)
+
+    def test_an_era_of_no_zone_is_refused(self):
+        other = library.Zone()
+        other.words[0] = 9
+        with self.assertRaises(ZoneError):
+            library.history([library.Era(0, library.parse_zone(b"UTC")), library.Era(1, other)])
 
 
 class Statuses(unittest.TestCase):
@@ -52,14 +73,14 @@ class Statuses(unittest.TestCase):
     def test_another_status_of_a_fire(self):
         for name in ("fire_after", "fire_by"):
             with self.returning(f"cron_c_history_{name}", 6), self.assertRaisesRegex(CronError, "^status 6$"):
-                getattr(library, name)(library.Sets(), library.history([]), 0)
+                getattr(library, name)(library.Sets(), library.History([]), 0)
 
     def test_another_status_of_a_page(self):
         for name in ("fires_between", "fires_past"):
             between = library.MORE if name == "fires_past" else 6
             fake = mock.Mock(**{"cron_c_history_fires_between.return_value": between, "cron_c_history_fires_past.return_value": 6})
             with mock.patch.object(library, "_LIBRARY", fake), self.assertRaisesRegex(CronError, "^status 6$"):
-                list(library.pages(library.Sets(), library.history([]), 0, 9))
+                list(library.pages(library.Sets(), library.History([]), 0, 9))
 
     def test_a_zone_that_is_refused(self):
         with self.returning("cron_c_zone_parse", library.BAD_ZONE), self.assertRaises(ZoneError):

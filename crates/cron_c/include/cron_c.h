@@ -27,7 +27,7 @@ extern "C" {
 #endif
 
 /* The version of this header: 10,000 times its first number, 100 times its second, and its third. */
-#define CRON_C_VERSION 10200
+#define CRON_C_VERSION 10300
 
 /* The version of the archive. Its first number is that of the header, or the structs may differ. */
 uint32_t cron_c_version(void);
@@ -58,7 +58,7 @@ static inline char *cron_c_no_text(void)
 
 /*
  * What a call answers. Where it is neither CRON_C_OK nor CRON_C_MORE, the structs that the call
- * writes to are as they were.
+ * writes to are as they were, but for the items of a list over eras that are no history.
  */
 enum {
     CRON_C_OK = 0,          /* What was asked for was written. */
@@ -275,9 +275,9 @@ uint32_t cron_c_fires_past(const cron_c_schedule *schedule,
  * transition of its table, and one from each of them on, all of CRON_C_ZONE_FIXED but the last, which
  * has the zone of the file's rule, if there is one. An item of the history is an item of an era's zone
  * whose instant lies in that era. So no item lies before the first era, and without an era there is
- * none. The last eras of a list, from any of them on, are a history too, and cheaper. From the era that
- * holds the instant on they serve every call but `cron_c_history_fire_by`, whose answer may lie in any
- * earlier era.
+ * none. The last eras of a list, from any of them on, are a history too. From the era that holds the
+ * instant on they serve every call but `cron_c_history_fire_by`, whose answer may lie in any earlier
+ * era.
  */
 typedef struct cron_c_era {
     int64_t starts;
@@ -313,13 +313,27 @@ uint32_t cron_c_history_read(const uint8_t *bytes, size_t bytes_length,
                              cron_c_era *eras, size_t eras_length, size_t *count);
 
 /*
+ * Tells whether eras are a history: the numbers of each say a zone, and each starts later than the one
+ * before it. What `cron_c_history_read` writes is one. Check other eras once, before the calls below.
+ *
+ * CRON_C_OK or CRON_C_BAD_ZONE.
+ */
+uint32_t cron_c_history_check(const cron_c_era *eras, size_t eras_length);
+
+/*
  * The calls by instants over a history. They answer as those over a zone do, `cron_c_fire_after` and
  * its like, also at the seams of eras: no item is left out there or comes twice, and where the clock
- * goes back from one era to the next, both items come, each at its instant.
+ * goes back from one era to the next, both items come, each at its instant. A call finds the era of an
+ * instant by halving, and passes over eras in which no clock can show a match.
  *
- * Statuses are the same, with CRON_C_BAD_ZONE where the numbers of any era's zone say no zone, or an
- * era doesn't start later than the one before it. `cron_c_history_fires_past` takes an item of this
- * history or any other.
+ * Statuses are the same. `cron_c_history_fires_past` takes an item of this history or any other.
+ *
+ * Give eras that are a history: `cron_c_history_check` tells so. A call looks at the eras that it comes
+ * to. It answers CRON_C_BAD_ZONE where the numbers of one of them say no zone, or the next one starts no
+ * later. What `items` then holds of a list means nothing, and `*count` is 0. Other eras that are no
+ * history are not refused. Each item that is written then is one of an era's zone, between the start
+ * of that era and that of the next one, and where the call looks for items. Others may be left out, and
+ * those of a list may come in another order. Nothing else is written, and the call returns.
  */
 uint32_t cron_c_history_fire_after(const cron_c_schedule *schedule,
                                    const cron_c_era *eras, size_t eras_length,

@@ -1,128 +1,416 @@
--- Items of a history written one after the other.
-use Rattle.std.proofs.Common.{◌≡◌, ℕ, ◌+◌, ◌<◌, ℤ, pos, ◌*ℤ◌, ◌<ℤ◌, ◌≤ℤ◌, Bool, true, false, List, [], ◌∷◌, ◌++◌, Option, Some, None, refl, sym, subst, arith, slice_set, length-append}
-use Rattle.std.specs.Prelude.{if◌then◌else◌, length}
-use Rattle.jiff_core.proofs.SignedLemmas.{signed_arith}
+-- Items of a history written era by era.
+use Rattle.std.proofs.Common.{◌≡◌, ℕ, ◌+◌, ◌<◌, ◌≤◌, ℤ, pos, ◌*ℤ◌, ◌≤ℤ◌, true, List, [], ◌∷◌, ◌++◌, Option, Some, None, ◌⊎◌, inl, inr, refl, sym, ap, subst, ◌∙◌, arith, length-append}
+use Rattle.std.specs.Prelude.{length, slice_get}
+use Rattle.jiff_tz.specs.declared.timezone.TimeZone.{TimeZone}
+use Rattle.cron_clocks.proofs.Windows.{le_yes, lt_yes}
 use Rattle.cron_units.specs.Sets.{Sets}
 use Rattle.cron_moments.specs.Readings.{Reading, instant}
-use Rattle.cron_instants.specs.Fires.{is_by}
-use Rattle.cron_instants.specs.Instants.{IsAfter, IsBy, IsEarliest}
+use Rattle.cron_instants.specs.Fires.{fires, fires_after, fires_past, is_after, is_by}
+use Rattle.cron_instants.specs.Instants.{IsAfter, IsAmong, IsBy, IsEarliest, IsItem as IsOnTimeline}
 use Rattle.cron_instants.specs.Order.{is_earlier}
-use Rattle.cron_instants.proofs.AscentLemmas.{earlier-through}
-use Rattle.cron_instants.proofs.FireLemmas.{int_le-true, int_le-false, not_later}
+use Rattle.cron_instants.proofs.AscentLemmas.{Ascends, among-cases, among-filter, among-first, among-none, among-rest, ascends-filter, earlier-not_back, earlier-not_itself, filter-among}
+use Rattle.cron_instants.proofs.FireLemmas.{fires-ascend, fires-of_item, int_le-true, int_lt-true, item-of_fires}
+use Rattle.cron_instants.proofs.OrderLemmas.{before-less}
 use Rattle.cron_c.specs.Calls.{IsInstant}
-use Rattle.cron_c.specs.Histories.{FillsOf, IsBeyond, IsFilled, IsHistory, IsHistoryItem, IsSought, Leads, RunsInBetween, RunsInPast, due_by}
+use Rattle.cron_c.specs.Histories.{AllBelow, BeginsIn, EndsIn, FillsEra, FillsIn, FillsOf, IsBeyond, IsHistory, IsHistoryItem, IsItemAt, IsZoneAt, Leads, RunsInBetween, RunsInPast, fires_from, has_started}
 use Rattle.cron_c.specs.Listings.{IsFront}
-use Rattle.cron_c.specs.Structs.{IsItem, IsItemInRange}
+use Rattle.cron_c.specs.Runs.{Fills}
+use Rattle.cron_c.specs.Structs.{IsItemInRange}
 use Rattle.cron_c.specs.declared.era.CronEra.{CronEra}
 use Rattle.cron_c.specs.declared.history.Begin.{Begin}
 use Rattle.cron_c.specs.declared.history.Begin.TheVariants.{After, Past}
 use Rattle.cron_c.specs.declared.item.CronItem.{CronItem}
 use Rattle.cron_c.specs.declared.status.Status.{Status}
 use Rattle.cron_c.specs.declared.status.Status.TheVariants.{Done, NoItem, Refused, NotUtf8, BadZone, BadInstant, NotAnItem, Untold, More, NoMemory}
-use Rattle.cron_c.proofs.Eras.{alike, not_before}
-use Rattle.cron_c.proofs.Filling.{front_more, front_none}
+use Rattle.cron_c.proofs.Eras.{alike, era_by_era, from_or_before, from_zone, in_zone, le_split, none_before}
+use Rattle.cron_c.proofs.Filling.{front_none}
 
--- ---- up to and with an instant
+-- ---- readings one after the other
 
-due_test : (P : Reading → Type 0) (t : ℤ) (m : Reading) (due : Bool) → is_by t m ≡ due → IsEarliest P (Some m)
-    → IsEarliest (λ r. P r × IsBy t r) (if due then Some m else None)
-due_test P t m true e first = ((first.0, int_le-true (instant m *ℤ pos 1_000_000_000) t e), λ q h. first.1 q h.0)
-due_test P t m false e first = λ r h.
-    let late = int_le-false (instant m *ℤ pos 1_000_000_000) t e in
-    let le = not_before r m (first.1 r h.0) in
-    let by : (instant r *ℤ pos 1_000_000_000) ≤ℤ t = h.1 in
-    absurd (omega (arith, signed_arith))
-
-due_first : (P : Reading → Type 0) (t : ℤ) (found due : Option Reading) → IsEarliest P found → due ≡ due_by t found → IsEarliest (λ r. P r × IsBy t r) due
-due_first P t None due none e = rw e (λ r h. none r h.0)
-due_first P t (Some m) due first e = rw e (due_test P t m (is_by t m) refl first)
-
--- ---- one after the other
-
-leads_holds : (P : Reading → Type 0) (w : List Reading) (r : Reading) → Leads P w (Some r) → P r
+leads_alike : (P Q : Reading → Type 0) (w : List Reading) (next : Option Reading) → ((r : Reading) → P r → Q r) → ((r : Reading) → Q r → P r)
+    → Leads P w next → Leads Q w next
 unfolding Leads
-leads_holds P [] r l = l.0
-leads_holds P (x ∷ w) r l = (leads_holds (λ q. P q × (is_earlier x q ≡ true)) w r l.1).0
+leads_alike P Q [] next to from l = alike P Q next to from l
+leads_alike P Q (x ∷ w) next to from l = (
+  alike P Q (Some x) to from l.0,
+  leads_alike (λ q. P q × (is_earlier x q ≡ true)) (λ q. Q q × (is_earlier x q ≡ true)) w next (λ q h. (to q h.0, h.1)) (λ q h. (from q h.0, h.1)) l.1,
+)
 
-leads_more : (P : Reading → Type 0) (w : List Reading) (r : Reading) (next : Option Reading) → Leads P w (Some r)
-    → IsEarliest (λ q. P q × (is_earlier r q ≡ true)) next → Leads P (w ++ r ∷ []) next
+-- each of them has the property
+leads_hold : (P : Reading → Type 0) (w : List Reading) (next : Option Reading) → Leads P w next → (r : Reading) → IsAmong w r → P r
 unfolding Leads
-leads_more P [] r next l first = (l, first)
-leads_more P (x ∷ w) r next l first =
-    let holds = leads_holds (λ q. P q × (is_earlier x q ≡ true)) w r l.1 in (
-      l.0,
-      leads_more (λ q. P q × (is_earlier x q ≡ true)) w r next l.1
-          (alike (λ q. P q × (is_earlier r q ≡ true)) (λ q. (P q × (is_earlier x q ≡ true)) × (is_earlier r q ≡ true)) next
-          (λ q h. ((h.0, earlier-through x r q holds.1 h.1), h.1)) (λ q h. (h.0.0, h.1)) first),
-    )
+leads_hold P [] next l r h = absurd (among-none r h)
+leads_hold P (x ∷ w) next l r h = elim (among-cases x w r h) [
+  | inl e ↦ subst P (sym e) l.0.0
+  | inr there ↦ (leads_hold (λ q. P q × (is_earlier x q ≡ true)) w next l.1 r there).0
+]
 
-leads_none : (P : Reading → Type 0) (next : Option Reading) → IsEarliest P next → Leads P [] next
+-- and so has the next one
+leads_next : (P : Reading → Type 0) (w : List Reading) (next : Reading) → Leads P w (Some next) → P next
 unfolding Leads
-leads_none P next first = first
+leads_next P [] next l = l.0
+leads_next P (x ∷ w) next l = (leads_next (λ q. P q × (is_earlier x q ≡ true)) w next l.1).0
 
--- ---- the loop
+-- all with one property, and then those with another that come later
+leads_append : (P Q R : Reading → Type 0) (w v : List Reading) (next : Option Reading) → Leads P w None → Leads Q v next
+    → ((r : Reading) → P r → R r) → ((r : Reading) → Q r → R r) → ((r : Reading) → R r → P r ⊎ Q r)
+    → ((a b : Reading) → P a → Q b → is_earlier a b ≡ true) → Leads R (w ++ v) next
+unfolding Leads
+leads_append P Q R [] v next none l left right split later =
+    leads_alike Q R v next right (λ r h. elim (split r h) [ inl p ↦ absurd (none r p) | inr q ↦ q ]) l
+leads_append P Q R (x ∷ w) v next p l left right split later = (
+  (
+    left x p.0.0,
+    λ q h. elim (split q h) [
+      | inl of_p ↦ p.0.1 q of_p
+      | inr of_q ↦ earlier-not_back x q (later x q p.0.0 of_q)
+    ],
+  ),
+  leads_append (λ q. P q × (is_earlier x q ≡ true)) Q (λ q. R q × (is_earlier x q ≡ true)) w v next p.1 l (λ r h. (left r h.0, h.1))
+      (λ r h. (right r h, later x r p.0.0 h))
+      (λ r h. elim (split r h.0) [ inl of_p ↦ inl (of_p, h.1) | inr of_q ↦ inr of_q ])
+      (λ a b h k. later a b h.0 k),
+)
+
+-- others that come later than all of them change nothing
+leads_wider : (P Q : Reading → Type 0) (w : List Reading) (next : Reading) → Leads P w (Some next) → ((r : Reading) → P r → Q r)
+    → ((r : Reading) → Q r → P r ⊎ ((a : Reading) → P a → is_earlier a r ≡ true)) → Leads Q w (Some next)
+unfolding Leads
+leads_wider P Q [] next l to split = (
+  to next l.0,
+  λ q h. elim (split q h) [
+    | inl of_p ↦ l.1 q of_p
+    | inr later ↦ earlier-not_back next q (later next l.0)
+  ],
+)
+leads_wider P Q (x ∷ w) next l to split = (
+  (
+    to x l.0.0,
+    λ q h. elim (split q h) [
+      | inl of_p ↦ l.0.1 q of_p
+      | inr later ↦ earlier-not_back x q (later x l.0.0)
+    ],
+  ),
+  leads_wider (λ q. P q × (is_earlier x q ≡ true)) (λ q. Q q × (is_earlier x q ≡ true)) w next l.1 (λ r h. (to r h.0, h.1))
+      (λ r h. elim (split r h.0) [ inl of_p ↦ inl (of_p, h.1) | inr later ↦ inr (λ a k. later a k.0) ]),
+)
+
+-- ---- the items of one era
+
+first_of_rest : (x : Reading) (l : List Reading) → Ascends (x ∷ l) → IsEarliest (IsAmong (x ∷ l)) (Some x)
+first_of_rest x l up = (
+  among-first x l,
+  λ q h. elim (among-cases x l q h) [
+    | inl e ↦ ap (λ v. is_earlier v x) e ∙ earlier-not_itself x
+    | inr there ↦ earlier-not_back x q (up.0 q there)
+  ],
+)
+
+in_rest : (x : Reading) (l : List Reading) → Ascends (x ∷ l) → (r : Reading) → IsAmong l r → IsAmong (x ∷ l) r × (is_earlier x r ≡ true)
+in_rest x l up r h = (among-rest x r l h, up.0 r h)
+
+of_rest : (x : Reading) (l : List Reading) (r : Reading) → IsAmong (x ∷ l) r × (is_earlier x r ≡ true) → IsAmong l r
+of_rest x l r h = elim (among-cases x l r h.0) [
+  | inl e ↦ let itself = earlier-not_itself x in let other : is_earlier x x ≡ true = ap (is_earlier x) (sym e) ∙ h.1 in absurd (cc)
+  | inr there ↦ there
+]
+
+whole_leads : (l : List Reading) → Ascends l → Leads (IsAmong l) l None
+unfolding Leads
+whole_leads [] up = λ r h. among-none r h
+whole_leads (x ∷ l) up = (
+  first_of_rest x l up,
+  leads_alike (IsAmong l) (λ q. IsAmong (x ∷ l) q × (is_earlier x q ≡ true)) l None (in_rest x l up) (of_rest x l) (whole_leads l up.1),
+)
+
+page_leads : (w : List Reading) (next : Reading) (left : List Reading) → Ascends (w ++ next ∷ left) → Leads (IsAmong (w ++ next ∷ left)) w (Some next)
+unfolding Leads
+page_leads [] next left up = first_of_rest next left up
+page_leads (x ∷ w) next left up = (
+  first_of_rest x (w ++ next ∷ left) up,
+  leads_alike (IsAmong (w ++ next ∷ left)) (λ q. IsAmong (x ∷ w ++ next ∷ left) q × (is_earlier x q ≡ true)) w (Some next)
+      (in_rest x (w ++ next ∷ left) up) (of_rest x (w ++ next ∷ left)) (page_leads w next left up.1),
+)
+
+from_ascends : (s : Sets) (z : TimeZone) (b : Begin) (t : ℤ) → Ascends (fires_from s z b t)
+from_ascends s z (After a) t =
+    ascends-filter (is_by t) (fires_after s z a.nanosecond) (ascends-filter (is_after a.nanosecond) (fires s z) (fires-ascend s z))
+from_ascends s z (Past m) t = ascends-filter (is_by t) (fires_past s z m) (ascends-filter (is_earlier m) (fires s z) (fires-ascend s z))
+
+from_is : (s : Sets) (z : TimeZone) (b : Begin) (t : ℤ) (r : Reading) → IsAmong (fires_from s z b t) r → IsOnTimeline s z r × IsBeyond b r × IsBy t r
+from_is s z (After a) t r h =
+    let (there, by) = among-filter (is_by t) (fires_after s z a.nanosecond) r h in
+    let (fire, after) = among-filter (is_after a.nanosecond) (fires s z) r there in
+    (item-of_fires s z r fire, int_lt-true a.nanosecond (instant r *ℤ pos 1_000_000_000) after, int_le-true (instant r *ℤ pos 1_000_000_000) t by)
+from_is s z (Past m) t r h =
+    let (there, by) = among-filter (is_by t) (fires_past s z m) r h in
+    let (fire, past) = among-filter (is_earlier m) (fires s z) r there in
+    (item-of_fires s z r fire, past, int_le-true (instant r *ℤ pos 1_000_000_000) t by)
+
+is_from : (s : Sets) (z : TimeZone) (b : Begin) (t : ℤ) (r : Reading) → IsOnTimeline s z r → IsBeyond b r → IsBy t r → IsAmong (fires_from s z b t) r
+is_from s z (After a) t r item after by =
+    filter-among (is_by t) (fires_after s z a.nanosecond) r
+    (filter-among (is_after a.nanosecond) (fires s z) r (fires-of_item s z r item) (lt_yes a.nanosecond (instant r *ℤ pos 1_000_000_000) after))
+    (le_yes (instant r *ℤ pos 1_000_000_000) t by)
+is_from s z (Past m) t r item past by =
+    filter-among (is_by t) (fires_past s z m) r (filter-among (is_earlier m) (fires s z) r (fires-of_item s z r item) past)
+    (le_yes (instant r *ℤ pos 1_000_000_000) t by)
+
+abbrev pub IsDueAt : Sets → List CronEra → ℕ → Begin → ℤ → Reading → Type 0
+IsDueAt s eras at b now r = IsItemAt s eras at r × IsBeyond b r × IsBy now r
+
+-- what a run in the zone of the era at a place writes
+module _ (s : Sets) (eras : List CronEra) (at : ℕ) (e : CronEra) (z : TimeZone) (begin b : Begin) (now t : ℤ) (here : slice_get eras at ≡ Some e)
+    (zone : IsZoneAt eras at z) (begins : BeginsIn e begin b) (ends : EndsIn eras at now t) where
+  due_of : (r : Reading) → IsAmong (fires_from s z b t) r → IsDueAt s eras at begin now r
+  due_of r h =
+      let (item, there, until) = from_is s z b t r h in
+      let (from, beyond) = (begins r).0 there in
+      let (by, still) = (ends r).0 until in
+      (from_zone s eras at e z r here zone item from still, beyond, by)
+
+  of_due : (r : Reading) → IsDueAt s eras at begin now r → IsAmong (fires_from s z b t) r
+  of_due r h =
+      let (item, from, still) = in_zone s eras at e z r here zone h.0 in
+      is_from s z b t r item ((begins r).1 (from, h.1)) ((ends r).1 (h.2, still))
+
+  pub era_says : (old new : List CronItem) (count : ℕ) (status : Status) → Fills (fires_from s z b t) old new count status
+      → FillsEra s eras at begin now old new count status
+  era_says old new count Done f =
+      let all = fires_from s z b t in
+      (all, leads_alike (IsAmong all) (IsDueAt s eras at begin now) all None due_of of_due (whole_leads all (from_ascends s z b t)), f.0, f.1)
+  era_says old new count More f =
+      let all = fires_from s z b t in
+      let up : Ascends (f.written ++ f.next ∷ f.left) = subst Ascends f.cut (from_ascends s z b t) in
+      let led : Leads (IsAmong all) f.written (Some f.next) =
+      subst (λ (l : List Reading). Leads (IsAmong l) f.written (Some f.next)) (sym f.cut) (page_leads f.written f.next f.left up) in (
+        f.next,
+        (f.written, leads_alike (IsAmong all) (IsDueAt s eras at begin now) f.written (Some f.next) due_of of_due led, f.items, f.counted),
+        f.full,
+      )
+  era_says old new count NoItem f = absurd f
+  era_says old new count Refused f = absurd f
+  era_says old new count NotUtf8 f = absurd f
+  era_says old new count BadZone f = absurd f
+  era_says old new count BadInstant f = absurd f
+  era_says old new count NotAnItem f = absurd f
+  era_says old new count Untold f = absurd f
+  era_says old new count NoMemory f = absurd f
+
+-- an era without such an item
+pub era_empty : (s : Sets) (eras : List CronEra) (at : ℕ) (b : Begin) (now : ℤ) (old : List CronItem)
+    → ((r : Reading) → IsItemAt s eras at r → IsBeyond b r → IsBy now r → ⊥) → FillsEra s eras at b now old old 0 Done
+unfolding Leads
+era_empty s eras at b now old none = ([], (λ r h. none r h.0 h.1 h.2), front_none old, refl)
+
+-- it is neither listed nor empty, so it shows that the eras are no history
+pub era_refused : (s : Sets) (eras : List CronEra) (at : ℕ) (b : Begin) (now : ℤ) (old new : List CronItem) (count : ℕ) (status : Status)
+    → FillsEra s eras at b now old new count status → (status ≡ Done → ⊥) → (status ≡ More → ⊥) → IsHistory eras → ⊥
+era_refused s eras at b now old new count Done f done more = λ h. done refl
+era_refused s eras at b now old new count More f done more = λ h. more refl
+era_refused s eras at b now old new count BadZone f done more = f
+era_refused s eras at b now old new count NoItem f done more = absurd f
+era_refused s eras at b now old new count Refused f done more = absurd f
+era_refused s eras at b now old new count NotUtf8 f done more = absurd f
+era_refused s eras at b now old new count BadInstant f done more = absurd f
+era_refused s eras at b now old new count NotAnItem f done more = absurd f
+era_refused s eras at b now old new count Untold f done more = absurd f
+era_refused s eras at b now old new count NoMemory f done more = absurd f
+
+-- ---- what is written behind what is written
+
+pub front_size : (l : List Reading) (old new : List CronItem) → IsFront l old new → (length l ≤ length old) × (length new ≡ length old)
+unfolding IsFront
+front_size [] old new e = (omega arith, ap length e)
+front_size (r ∷ l) [] new p = absurd p
+front_size (r ∷ l) (x ∷ old) [] p = absurd p
+front_size (r ∷ l) (x ∷ old) (y ∷ new) p = let (within, size) = front_size l old new p.1 in (omega arith, omega arith)
+
+front_on : (l m : List Reading) (old front back new : List CronItem) → IsFront l old (front ++ back) → length front ≡ length l → IsFront m back new
+    → IsFront (l ++ m) old (front ++ new)
+unfolding IsFront
+front_on [] m old [] back new is size on = subst (λ (o : List CronItem). IsFront m o new) is on
+front_on [] m old (y ∷ front) back new is size on = absurd (omega arith)
+front_on (r ∷ l) m old [] back new is size on = absurd (omega arith)
+front_on (r ∷ l) m [] (y ∷ front) back new is size on = absurd is
+front_on (r ∷ l) m (x ∷ old) (y ∷ front) back new is size on = (is.0, front_on l m old front back new is.1 (omega arith) on)
+
+among-append : (l m : List Reading) (r : Reading) → IsAmong (l ++ m) r → IsAmong l r ⊎ IsAmong m r
+among-append [] m r h = inr h
+among-append (x ∷ l) m r h = elim (among-cases x (l ++ m) r h) [
+  | inl e ↦ inl (0, ap Some (sym e))
+  | inr there ↦ elim (among-append l m r there) [
+    | inl first ↦ inl (among-rest x r l first)
+    | inr second ↦ inr second
+  ]
+]
+
+-- ---- the loop over eras
 
 abbrev pub IsDue : Sets → List CronEra → Begin → ℤ → Reading → Type 0
-IsDue s eras b t r = IsHistoryItem s eras r × IsBeyond b r × IsBy t r
+IsDue s eras b now r = IsHistoryItem s eras r × IsBeyond b r × IsBy now r
 
-beyond-on : (b : Begin) (r q : Reading) → IsBeyond b r → is_earlier r q ≡ true → IsBeyond b q
-beyond-on (After t) r q h earlier =
-    let le = not_later r q earlier in
-    let after : t.nanosecond <ℤ (instant r *ℤ pos 1_000_000_000) = h in
-    omega (arith, signed_arith)
-beyond-on (Past m) r q h earlier = earlier-through m r q h earlier
+-- of the eras before a place
+abbrev pub IsDueBelow : Sets → List CronEra → Begin → ℤ → ℕ → Reading → Type 0
+IsDueBelow s eras b now at r = (i : ℕ) × (i < at) × IsDueAt s eras i b now r
 
-pub filled_begins : (s : Sets) (eras : List CronEra) (b : Begin) (t : ℤ) (old : List CronItem) (found due : Option Reading)
-    → IsEarliest (IsSought s eras b) found → due ≡ due_by t found → IsFilled (IsDue s eras b t) old old 0 due
-filled_begins s eras b t old found due first e =
-    let by = alike (λ r. IsSought s eras b r × IsBy t r) (IsDue s eras b t) due (λ r h. (h.0.0, h.0.1, h.1)) (λ r h. ((h.0, h.1), h.2))
-    (due_first (IsSought s eras b) t found due first e) in
-    ([], leads_none (IsDue s eras b t) due by, front_none old, refl)
+-- the items of the eras before a place are written
+pub record IsFilling (s : Sets) (eras : List CronEra) (b : Begin) (now : ℤ) (old items : List CronItem) (at written : ℕ) : Type 0 where
+  pub list : List Reading
+  pub due : (r : Reading) → IsAmong list r → IsDue s eras b now r
+  pub leads : IsHistory eras → Leads (IsDueBelow s eras b now at) list None
+  pub front : IsFront list old items
+  pub counted : written ≡ length list
 
-pub filled_goes_on : (s : Sets) (eras : List CronEra) (b : Begin) (t : ℤ) (old now : List CronItem) (r : Reading) (x : CronItem) (found next : Option Reading)
-    (count : ℕ) → IsFilled (IsDue s eras b t) old now count (Some r) → count < length old → IsItem r x
-    → IsEarliest (IsSought s eras (Past r)) found → next ≡ due_by t found → IsFilled (IsDue s eras b t) old (slice_set now count x) (count + 1) next
-filled_goes_on s eras b t old now r x found next count (written, leads, front, counted) room item past e =
-    let due_r : IsDue s eras b t r = leads_holds (IsDue s eras b t) written r leads in
-    let by = due_first (IsSought s eras (Past r)) t found next past e in
-    let step = alike (λ q. IsSought s eras (Past r) q × IsBy t q) (λ q. IsDue s eras b t q × (is_earlier r q ≡ true)) next
-    (λ q h. ((h.0.0, beyond-on b r q due_r.1 h.0.1, h.1), h.0.1)) (λ q h. ((h.0.0, h.1), h.0.2)) by in
-    let more : count + 1 ≡ length (written ++ r ∷ []) = omega (arith, counted, length-append written (r ∷ [])) in
-    let within : length written < length old = omega (arith, counted) in (
-      written ++ r ∷ [],
-      leads_more (IsDue s eras b t) written r next leads step,
-      subst (λ (n : ℕ). IsFront (written ++ r ∷ []) old (slice_set now n x)) (sym counted) (front_more written old now r x front within item),
-      more,
-    )
+nothing_leads : (P : Reading → Type 0) → ((r : Reading) → P r → ⊥) → Leads P [] None
+unfolding Leads
+nothing_leads P none = none
 
--- ---- what a status says that a full or whole list has
+pub filling_begins : (s : Sets) (eras : List CronEra) (b : Begin) (now : ℤ) (old : List CronItem) (at : ℕ) (least : ℤ)
+    → ((r : Reading) → IsBeyond b r → least ≤ℤ instant r) → (at ≡ 0) ⊎ (has_started eras at least ≡ true) → IsFilling s eras b now old old at 0
+filling_begins s eras b now old at least low begun =
+    record {
+      list = [];
+      due = λ r h. absurd (among-none r h);
+      leads = λ h. nothing_leads (IsDueBelow s eras b now at) (λ r below.
+          let (i, less, due) = below in
+          let past : at ≤ i = none_before s eras b at least low begun h i r due.0 due.1 in
+          absurd (omega arith));
+      front = front_none old;
+      counted = refl;
+    }
+
+-- the items of one era more
+module _ (s : Sets) (eras : List CronEra) (b : Begin) (now : ℤ) (old front back room : List CronItem) (at written more : ℕ)
+    (f : IsFilling s eras b now old (front ++ back) at written) (size : length front ≡ written) where
+  due_on : (l : List Reading) (next : Option Reading) → Leads (IsDueAt s eras at b now) l next → (r : Reading) → IsAmong (f.list ++ l) r → IsDue s eras b now r
+  due_on l next leads r h = elim (among-append f.list l r h) [
+    | inl before ↦ f.due r before
+    | inr here ↦ let (item, beyond, by) = leads_hold (IsDueAt s eras at b now) l next leads r here in ((at, item), beyond, by)
+  ]
+
+  leads_on : (l : List Reading) (next : Option Reading) (end : ℕ) → IsHistory eras → at < end
+      → ((i : ℕ) (r : Reading) → at < i → IsItemAt s eras i r → end ≤ i) → Leads (IsDueAt s eras at b now) l next
+      → Leads (IsDueBelow s eras b now end) (f.list ++ l) next
+  leads_on l next end h further passed leads =
+      leads_append (IsDueBelow s eras b now at) (IsDueAt s eras at b now) (IsDueBelow s eras b now end) f.list l next (f.leads h) leads
+      (λ r below. let (i, less, due) = below in (i, omega arith, due))
+      (λ r due. (at, further, due))
+      (λ r below.
+      let (i, less, due) = below in
+      elim (from_or_before at i) [
+        | inr before ↦ inl (i, before, due)
+        | inl from ↦ elim (le_split at i from) [
+          | inl same ↦ inr (subst (λ (n : ℕ). IsDueAt s eras n b now r) (sym same) due)
+          | inr past ↦ let beyond = passed i r (omega arith) due.0 in absurd (omega arith)
+        ]
+      ])
+      (λ p q below due.
+      let (i, less, due_p) = below in
+      before-less (instant p) p.second (instant q) q.second (era_by_era s eras i at p q h less due_p.0 due.0))
+
+  counted_on : (l : List Reading) → more ≡ length l → written + more ≡ length (f.list ++ l)
+  counted_on l counted = omega (arith, f.counted, length-append f.list l)
+
+  front_of : (l : List Reading) → IsFront l back room → IsFront (f.list ++ l) old (front ++ room)
+  front_of l on = front_on f.list l old front back room f.front (size ∙ f.counted) on
+
+  pub filling_goes_on : (next : ℕ) → FillsOf (IsDueAt s eras at b now) back room more Done → at < next
+      → (IsHistory eras → (i : ℕ) (r : Reading) → at < i → IsItemAt s eras i r → next ≤ i) → IsFilling s eras b now old (front ++ room) next (written + more)
+  filling_goes_on next (l, leads, on, counted) further passed =
+      record {
+        list = f.list ++ l;
+        due = due_on l None leads;
+        leads = λ h. leads_on l None next h further (passed h) leads;
+        front = front_of l on;
+        counted = counted_on l counted;
+      }
+
+  pub filling_is_full : FillsOf (IsDueAt s eras at b now) back room more More → FillsIn eras (IsDue s eras b now) old (front ++ room) (length old) More
+  filling_is_full (next, (l, leads, on, counted), full) =
+      let (item, beyond, by) = leads_next (IsDueAt s eras at b now) l next leads in
+      let whole = front_size (f.list ++ l) old (front ++ room) (front_of l on) in
+      let sizes = front_size l back room on in
+      let all : written + more ≡ length old = omega (arith, whole, sizes, size, full, length-append front room) in (
+        next,
+        ((at, item), beyond, by),
+        (
+          f.list ++ l,
+          due_on l (Some next) leads,
+          λ h. leads_wider (IsDueBelow s eras b now (at + 1)) (IsDue s eras b now) (f.list ++ l) next
+              (leads_on l (Some next) (at + 1) h (omega arith) (λ i r past due. omega arith) leads)
+              (λ r below. let (i, less, due) = below in ((i, due.0), due.1, due.2))
+              (λ r due.
+              let (place, beyond_r, by_r) = due in
+              elim (from_or_before (at + 1) place.0) [
+                | inr before ↦ inl (place.0, before, (place.1, beyond_r, by_r))
+                | inl past ↦ inr (λ p below.
+                    let (i, less, due_p) = below in
+                    before-less (instant p) p.second (instant r) r.second (era_by_era s eras i place.0 p r h (omega arith) due_p.0 place.1))
+              ]),
+          front_of l on,
+          sym all ∙ counted_on l counted,
+        ),
+        refl,
+      )
+
+-- no era is left that may have an item by the instant
+pub filling_ends : (s : Sets) (eras : List CronEra) (b : Begin) (now : ℤ) (old items : List CronItem) (end at written : ℕ)
+    → IsFilling s eras b now old items at written → (IsHistory eras → AllBelow s eras now end) → end ≤ at
+    → FillsIn eras (IsDue s eras b now) old items written Done
+filling_ends s eras b now old items end at written f below le = (
+  f.list,
+  f.due,
+  λ h. leads_alike (IsDueBelow s eras b now at) (IsDue s eras b now) f.list None
+      (λ r low. let (i, less, due) = low in ((i, due.0), due.1, due.2))
+      (λ r due.
+      let (place, beyond, by) = due in
+      let less = below h place.0 r place.1 by in
+      (place.0, omega arith, (place.1, beyond, by)))
+      (f.leads h),
+  f.front,
+  f.counted,
+)
+
+-- what is written fits
+pub filling_fits : (s : Sets) (eras : List CronEra) (b : Begin) (now : ℤ) (old items : List CronItem) (at written : ℕ)
+    → IsFilling s eras b now old items at written → (written ≤ length items) × (length items ≡ length old)
+filling_fits s eras b now old items at written f =
+    let (within, size) = front_size f.list old items f.front in
+    let counted = f.counted in
+    (omega arith, size)
+
+pub era_fits : (P : Reading → Type 0) (back room : List CronItem) (more : ℕ) → FillsOf P back room more Done → more ≤ length back
+era_fits P back room more (l, leads, on, counted) = let (within, size) = front_size l back room on in omega arith
+
+-- ---- what a status says
 
 pub in_between_says : (s : Sets) (eras : List CronEra) (last now : ℤ) (old new : List CronItem) (count : ℕ) (status : Status)
-    → IsHistory eras → IsInstant last → IsInstant now
-    → FillsOf (λ r. IsHistoryItem s eras r × IsAfter (last *ℤ pos 1_000_000_000) r × IsBy (now *ℤ pos 1_000_000_000) r) old new count status
+    → IsInstant last → IsInstant now
+    → FillsIn eras (λ r. IsHistoryItem s eras r × IsAfter (last *ℤ pos 1_000_000_000) r × IsBy (now *ℤ pos 1_000_000_000) r) old new count status
     → RunsInBetween s eras last now old new count status
-in_between_says s eras last now old new count Done h from to f = (h, from, to, f)
-in_between_says s eras last now old new count More h from to f = (h, from, to, f)
-in_between_says s eras last now old new count NoItem h from to f = absurd f
-in_between_says s eras last now old new count Refused h from to f = absurd f
-in_between_says s eras last now old new count NotUtf8 h from to f = absurd f
-in_between_says s eras last now old new count BadZone h from to f = absurd f
-in_between_says s eras last now old new count BadInstant h from to f = absurd f
-in_between_says s eras last now old new count NotAnItem h from to f = absurd f
-in_between_says s eras last now old new count Untold h from to f = absurd f
-in_between_says s eras last now old new count NoMemory h from to f = absurd f
+in_between_says s eras last now old new count Done from to f = (from, to, f)
+in_between_says s eras last now old new count More from to f = (from, to, f)
+in_between_says s eras last now old new count BadZone from to f = (from, to, f)
+in_between_says s eras last now old new count NoItem from to f = absurd f
+in_between_says s eras last now old new count Refused from to f = absurd f
+in_between_says s eras last now old new count NotUtf8 from to f = absurd f
+in_between_says s eras last now old new count BadInstant from to f = absurd f
+in_between_says s eras last now old new count NotAnItem from to f = absurd f
+in_between_says s eras last now old new count Untold from to f = absurd f
+in_between_says s eras last now old new count NoMemory from to f = absurd f
 
 pub in_past_says : (s : Sets) (eras : List CronEra) (r : Reading) (item : CronItem) (now : ℤ) (old new : List CronItem) (count : ℕ) (status : Status)
-    → IsHistory eras → IsItemInRange r item → IsInstant now
-    → FillsOf (λ q. IsHistoryItem s eras q × (is_earlier r q ≡ true) × IsBy (now *ℤ pos 1_000_000_000) q) old new count status
+    → IsItemInRange r item → IsInstant now
+    → FillsIn eras (λ q. IsHistoryItem s eras q × (is_earlier r q ≡ true) × IsBy (now *ℤ pos 1_000_000_000) q) old new count status
     → RunsInPast s eras item now old new count status
-in_past_says s eras r item now old new count Done h is to f = (r, h, is, to, f)
-in_past_says s eras r item now old new count More h is to f = (r, h, is, to, f)
-in_past_says s eras r item now old new count NoItem h is to f = absurd f
-in_past_says s eras r item now old new count Refused h is to f = absurd f
-in_past_says s eras r item now old new count NotUtf8 h is to f = absurd f
-in_past_says s eras r item now old new count BadZone h is to f = absurd f
-in_past_says s eras r item now old new count BadInstant h is to f = absurd f
-in_past_says s eras r item now old new count NotAnItem h is to f = absurd f
-in_past_says s eras r item now old new count Untold h is to f = absurd f
-in_past_says s eras r item now old new count NoMemory h is to f = absurd f
+in_past_says s eras r item now old new count Done is to f = (r, is, to, f)
+in_past_says s eras r item now old new count More is to f = (r, is, to, f)
+in_past_says s eras r item now old new count BadZone is to f = (r, is, to, f)
+in_past_says s eras r item now old new count NoItem is to f = absurd f
+in_past_says s eras r item now old new count Refused is to f = absurd f
+in_past_says s eras r item now old new count NotUtf8 is to f = absurd f
+in_past_says s eras r item now old new count BadInstant is to f = absurd f
+in_past_says s eras r item now old new count NotAnItem is to f = absurd f
+in_past_says s eras r item now old new count Untold is to f = absurd f
+in_past_says s eras r item now old new count NoMemory is to f = absurd f

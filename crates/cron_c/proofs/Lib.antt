@@ -7,6 +7,7 @@ mod AnyZone
 mod Eras
 mod HistoryFilling
 mod ErasBack
+mod EraPlaces
 pub mod TableEras
 pub mod TableItems
 pub mod EraFilling

@@ -55,7 +55,7 @@ shown_item s z r agree range matching shown =
 module _ (t : Tzif) (eras : List CronEra) (size : length eras ≡ transition_count t + 1) (are : (i : ℕ) (e : CronEra) → slice_get eras i ≡ Some e → IsEraOf t i e)
     (agree : RuleLookupsAgree t) (s : Sets) (r : Reading) where
   from_history : IsHistoryItem s eras r → IsShownItem s t r
-  from_history (i, e, get, ((z, of_zone, item), begun), lasts) =
+  from_history (i, (e, get, ((z, of_zone, item), begun), lasts)) =
       let era = are i e get in
       let own = item_in_any s e.zone z (Posix era.rule) r of_zone era.said item in
       let (range, matching, shown) = item_shown s (Posix era.rule) r (era.past.agree agree) own in
@@ -70,7 +70,7 @@ module _ (t : Tzif) (eras : List CronEra) (size : length eras ≡ transition_cou
       let era = are (count_at t (instant r)) e held.here in
       let told = era.past.shown (nanos_of_seconds (instant r)) (ap (count_at t) (floor_of (instant r))) in
       let item = shown_item s (Posix era.rule) r (era.past.agree agree) range matching (told ∙ shown) in
-      (count_at t (instant r), e, held.here, ((Posix era.rule, era.said, item), held.begun), held.lasts)
+      (count_at t (instant r), (e, held.here, ((Posix era.rule, era.said, item), held.begun), held.lasts))
 
 -- such a list means the zone of the table
 pub means_table : (t : Tzif) (eras : List CronEra) → ¬ (HasDoubleTransition t) → length eras ≡ transition_count t + 1

@@ -1,10 +1,10 @@
 -- Zones with a history: eras one after another.
-use Rattle.std.specs.Prelude.{◌≡◌, ◌+◌, ℕ, ℤ, pos, ◌*ℤ◌, ◌<ℤ◌, ◌≤ℤ◌, int_le, Bool, true, false, if◌then◌else◌, List, [], ◌∷◌, Option, Some, None, slice_get, length}
+use Rattle.std.specs.Prelude.{◌≡◌, ◌↔◌, ◌+◌, ◌<◌, ℕ, ℤ, pos, ◌*ℤ◌, ◌<ℤ◌, ◌≤ℤ◌, int_le, Bool, true, false, List, [], ◌∷◌, Option, Some, None, IfSome, slice_get, length}
 use Rattle.jiff_tz.specs.declared.timezone.TimeZone.{TimeZone}
 use Rattle.cron_units.specs.Sets.{Sets}
 use Rattle.cron_moments.specs.Readings.{Reading, instant}
-use Rattle.cron_instants.specs.Fires.{is_by}
-use Rattle.cron_instants.specs.Instants.{IsAfter, IsBy, IsEarliest, IsLatest, IsItem as IsOnTimeline}
+use Rattle.cron_instants.specs.Fires.{fires_between, fires_past_by}
+use Rattle.cron_instants.specs.Instants.{IsAfter, IsAmong, IsBy, IsEarliest, IsLatest, IsItem as IsOnTimeline}
 use Rattle.cron_instants.specs.Order.{is_earlier}
 use Rattle.cron_c.specs.Zones.{IsSomeZone, IsZoneIn}
 use Rattle.cron_c.specs.Calls.{IsInstant}
@@ -40,42 +40,120 @@ meets None b = false
 abbrev pub IsEraItem : Sets → CronEra → Reading → Type 0
 IsEraItem s e r = ((z : TimeZone) × IsZoneIn e.zone z × IsOnTimeline s z r) × (e.starts ≤ℤ instant r)
 
--- an item of the history: one of an era, before the next one starts
+-- an item of the era at this place, before the next one starts
+abbrev pub IsItemAt : Sets → List CronEra → ℕ → Reading → Type 0
+IsItemAt s eras at r = (e : CronEra) × (slice_get eras at ≡ Some e) × IsEraItem s e r × (has_started eras (at + 1) (instant r) ≡ false)
+
+-- an item of the history: one of an era
 abbrev pub IsHistoryItem : Sets → List CronEra → Reading → Type 0
-IsHistoryItem s eras r =
-    (i : ℕ) × (e : CronEra) × (slice_get eras i ≡ Some e) × IsEraItem s e r × (has_started eras (i + 1) (instant r) ≡ false)
+IsHistoryItem s eras r = (at : ℕ) × IsItemAt s eras at r
+
+-- What was found has the property. Where the eras are a history it is the nearest that has it, and none was found only where none has it.
+abbrev pub IsFound : List CronEra → ((Reading → Type 0) → Option Reading → Type 0) → (Reading → Type 0) → Option Reading → Type 0
+IsFound eras IsNearest P found = IfSome found P × (IsHistory eras → IsNearest P found)
 
 -- of the items whose instant comes after t the earliest, and of those whose instant is t or comes before it the latest
 abbrev pub IsFirstInAfter : Sets → List CronEra → ℤ → Option Reading → Type 0
-IsFirstInAfter s eras t = IsEarliest (λ q. IsHistoryItem s eras q × IsAfter t q)
+IsFirstInAfter s eras t = IsFound eras IsEarliest (λ q. IsHistoryItem s eras q × IsAfter t q)
 
 abbrev pub IsLastInBy : Sets → List CronEra → ℤ → Option Reading → Type 0
-IsLastInBy s eras t = IsLatest (λ q. IsHistoryItem s eras q × IsBy t q)
+IsLastInBy s eras t = IsFound eras IsLatest (λ q. IsHistoryItem s eras q × IsBy t q)
 
--- Of the items of the history the one that is looked for by an instant is written; or there is none; or nothing is looked for.
+-- The eras are a history; or they are none.
+abbrev pub ChecksHistory : List CronEra → Status → Type 0
+ChecksHistory eras Done = IsHistory eras
+ChecksHistory eras BadZone = IsHistory eras → ⊥
+ChecksHistory eras _ = ⊥
+
+-- Of the items of the history the one that is looked for by an instant is written; or there is none; or nothing is looked for. Eras that are
+-- no history are refused, or an item of one of them is written, or none.
 abbrev pub FiresIn : (Sets → List CronEra → ℤ → Option Reading → Type 0) → Sets → List CronEra → ℤ → CronItem → CronItem → Status → Type 0
 FiresIn IsWanted s eras second old new Done =
-    (r : Reading) × IsHistory eras × IsInstant second × IsWanted s eras (second *ℤ pos 1_000_000_000) (Some r) × IsItem r new
-FiresIn IsWanted s eras second old new NoItem =
-    IsHistory eras × IsInstant second × IsWanted s eras (second *ℤ pos 1_000_000_000) None × (new ≡ old)
+    (r : Reading) × IsInstant second × IsWanted s eras (second *ℤ pos 1_000_000_000) (Some r) × IsItem r new
+FiresIn IsWanted s eras second old new NoItem = IsInstant second × IsWanted s eras (second *ℤ pos 1_000_000_000) None × (new ≡ old)
 FiresIn IsWanted s eras second old new BadZone = (IsHistory eras → ⊥) × (new ≡ old)
-FiresIn IsWanted s eras second old new BadInstant = IsHistory eras × (IsInstant second → ⊥) × (new ≡ old)
+FiresIn IsWanted s eras second old new BadInstant = (IsInstant second → ⊥) × (new ≡ old)
 FiresIn IsWanted s eras second old new _ = ⊥
 
 -- An item of the history whose instant is this one is written, of two that share it the later; or there is none; or nothing is looked for.
 abbrev pub FiresInAt : Sets → List CronEra → ℤ → CronItem → CronItem → Status → Type 0
 FiresInAt s eras second old new Done =
-    (r : Reading) × IsHistory eras × IsLastInBy s eras (second *ℤ pos 1_000_000_000) (Some r) × (instant r ≡ second) × IsItem r new
+    (r : Reading) × IsLastInBy s eras (second *ℤ pos 1_000_000_000) (Some r) × (instant r ≡ second) × IsItem r new
 FiresInAt s eras second old new NoItem =
-    IsHistory eras × IsInstant second × ((r : Reading) → IsHistoryItem s eras r → instant r ≡ second → ⊥) × (new ≡ old)
+    IsInstant second × (IsHistory eras → (r : Reading) → IsHistoryItem s eras r → instant r ≡ second → ⊥) × (new ≡ old)
 FiresInAt s eras second old new BadZone = (IsHistory eras → ⊥) × (new ≡ old)
-FiresInAt s eras second old new BadInstant = IsHistory eras × (IsInstant second → ⊥) × (new ≡ old)
+FiresInAt s eras second old new BadInstant = (IsInstant second → ⊥) × (new ≡ old)
 FiresInAt s eras second old new _ = ⊥
 
 -- the readings are the earliest with a property, one after another, and `next` comes after them, if there is another
 unfoldable pub Leads : (Reading → Type 0) → List Reading → Option Reading → Type 0
 Leads P [] next = IsEarliest P next
 Leads P (r ∷ rs) next = IsEarliest P (Some r) × Leads (λ q. P q × (is_earlier r q ≡ true)) rs next
+
+-- Readings with a property are in the array, before what it held. Where the eras are a history they are the first of them, and `next` comes next.
+abbrev pub IsFilledIn : List CronEra → (Reading → Type 0) → List CronItem → List CronItem → ℕ → Option Reading → Type 0
+IsFilledIn eras P old new count next =
+    (written : List Reading) × ((r : Reading) → IsAmong written r → P r) × (IsHistory eras → Leads P written next) × IsFront written old new
+    × (count ≡ length written)
+
+-- They are written as far as they fit, and the status tells whether these are all. Of eras that are refused so nothing more is said: they are
+-- no history.
+abbrev pub FillsIn : List CronEra → (Reading → Type 0) → List CronItem → List CronItem → ℕ → Status → Type 0
+FillsIn eras P old new count Done = IsFilledIn eras P old new count None
+FillsIn eras P old new count More = (next : Reading) × P next × IsFilledIn eras P old new count (Some next) × (count ≡ length old)
+FillsIn eras P old new count BadZone = (IsHistory eras → ⊥) × (count ≡ 0)
+FillsIn eras P old new count _ = ⊥
+
+-- The items of the history after one instant and up to and with another are written as far as they fit; or nothing is looked for.
+abbrev pub RunsInBetween : Sets → List CronEra → ℤ → ℤ → List CronItem → List CronItem → ℕ → Status → Type 0
+RunsInBetween s eras last now old new count BadInstant = (IsInstant last → IsInstant now → ⊥) × (new ≡ old) × (count ≡ 0)
+RunsInBetween s eras last now old new count status =
+    IsInstant last × IsInstant now
+    × FillsIn eras (λ r. IsHistoryItem s eras r × IsAfter (last *ℤ pos 1_000_000_000) r × IsBy (now *ℤ pos 1_000_000_000) r) old new count status
+
+-- The items of the history that are later than the one of a struct and up to and with an instant, alike. That one may be none of the history.
+abbrev pub RunsInPast : Sets → List CronEra → CronItem → ℤ → List CronItem → List CronItem → ℕ → Status → Type 0
+RunsInPast s eras item now old new count NotAnItem = IsNoItem item × (new ≡ old) × (count ≡ 0)
+RunsInPast s eras item now old new count BadInstant = IsSomeItem item × (IsInstant now → ⊥) × (new ≡ old) × (count ≡ 0)
+RunsInPast s eras item now old new count status =
+    (r : Reading) × IsItemInRange r item × IsInstant now
+    × FillsIn eras (λ q. IsHistoryItem s eras q × (is_earlier r q ≡ true) × IsBy (now *ℤ pos 1_000_000_000) q) old new count status
+
+-- ---- the search
+
+-- the zone is that of the era at this place
+abbrev pub IsZoneAt : List CronEra → ℕ → TimeZone → Type 0
+IsZoneAt eras at z = (e : CronEra) × (slice_get eras at ≡ Some e) × IsZoneIn e.zone z
+
+-- the era at this place starts at t
+abbrev pub StartsAt : List CronEra → ℕ → ℤ → Type 0
+StartsAt eras at t = (e : CronEra) × (slice_get eras at ≡ Some e) × (e.starts ≡ t)
+
+-- the reading lies where a search looks
+abbrev pub IsBeyond : Begin → Reading → Type 0
+IsBeyond (After t) r = IsAfter t.nanosecond r
+IsBeyond (Past item) r = is_earlier item r ≡ true
+
+-- the item of the history lies there
+abbrev pub IsSought : Sets → List CronEra → Begin → Reading → Type 0
+IsSought s eras begin r = IsHistoryItem s eras r × IsBeyond begin r
+
+-- a search that begins there looks at what lies in the era of what another one looks at
+abbrev pub BeginsIn : CronEra → Begin → Begin → Type 0
+BeginsIn e begin there = (r : Reading) → IsBeyond there r ↔ ((e.starts ≤ℤ instant r) × IsBeyond begin r)
+
+-- what comes by t comes by another instant, before the era past this place starts
+abbrev pub EndsIn : List CronEra → ℕ → ℤ → ℤ → Type 0
+EndsIn eras at now t = (r : Reading) → IsBy t r ↔ (IsBy now r × (has_started eras (at + 1) (instant r) ≡ false))
+
+-- each item that comes by an instant is one of so many eras
+abbrev pub AllBelow : Sets → List CronEra → ℤ → ℕ → Type 0
+AllBelow s eras now left = (i : ℕ) (r : Reading) → IsItemAt s eras i r → IsBy now r → i < left
+
+-- the fires of a zone from where a search begins on, up to and with an instant
+abbrev pub fires_from : Sets → TimeZone → Begin → ℤ → List Reading
+fires_from s z (After t) now = fires_between s z t.nanosecond now
+fires_from s z (Past item) now = fires_past_by s z item now
 
 -- the first of the readings with a property are in the array, before what it held, and this one comes next
 abbrev pub IsFilled : (Reading → Type 0) → List CronItem → List CronItem → ℕ → Option Reading → Type 0
@@ -87,37 +165,7 @@ FillsOf P old new count Done = IsFilled P old new count None
 FillsOf P old new count More = (next : Reading) × IsFilled P old new count (Some next) × (count ≡ length old)
 FillsOf P old new count _ = ⊥
 
--- The items of the history after one instant and up to and with another are written as far as they fit; or nothing is looked for.
-abbrev pub RunsInBetween : Sets → List CronEra → ℤ → ℤ → List CronItem → List CronItem → ℕ → Status → Type 0
-RunsInBetween s eras last now old new count BadZone = (IsHistory eras → ⊥) × (new ≡ old) × (count ≡ 0)
-RunsInBetween s eras last now old new count BadInstant = IsHistory eras × (IsInstant last → IsInstant now → ⊥) × (new ≡ old) × (count ≡ 0)
-RunsInBetween s eras last now old new count status =
-    IsHistory eras × IsInstant last × IsInstant now
-    × FillsOf (λ r. IsHistoryItem s eras r × IsAfter (last *ℤ pos 1_000_000_000) r × IsBy (now *ℤ pos 1_000_000_000) r) old new count status
-
--- The items of the history that are later than the one of a struct and up to and with an instant, alike. That one may be none of the history.
-abbrev pub RunsInPast : Sets → List CronEra → CronItem → ℤ → List CronItem → List CronItem → ℕ → Status → Type 0
-RunsInPast s eras item now old new count BadZone = (IsHistory eras → ⊥) × (new ≡ old) × (count ≡ 0)
-RunsInPast s eras item now old new count NotAnItem =
-    IsHistory eras × IsNoItem item × (new ≡ old) × (count ≡ 0)
-RunsInPast s eras item now old new count BadInstant =
-    IsHistory eras × IsSomeItem item × (IsInstant now → ⊥) × (new ≡ old) × (count ≡ 0)
-RunsInPast s eras item now old new count status =
-    (r : Reading) × IsHistory eras × IsItemInRange r item × IsInstant now
-    × FillsOf (λ q. IsHistoryItem s eras q × (is_earlier r q ≡ true) × IsBy (now *ℤ pos 1_000_000_000) q) old new count status
-
--- ---- the search
-
--- the reading lies where a search looks
-abbrev pub IsBeyond : Begin → Reading → Type 0
-IsBeyond (After t) r = IsAfter t.nanosecond r
-IsBeyond (Past item) r = is_earlier item r ≡ true
-
--- the item of the history lies there
-abbrev pub IsSought : Sets → List CronEra → Begin → Reading → Type 0
-IsSought s eras begin r = IsHistoryItem s eras r × IsBeyond begin r
-
--- what was found, where its instant is t or comes before it
-abbrev pub due_by : ℤ → Option Reading → Option Reading
-due_by t None = None
-due_by t (Some r) = if is_by t r then Some r else None
+-- the items of one era are written so; or the era shows that the eras are no history
+abbrev pub FillsEra : Sets → List CronEra → ℕ → Begin → ℤ → List CronItem → List CronItem → ℕ → Status → Type 0
+FillsEra s eras at begin now old new count BadZone = IsHistory eras → ⊥
+FillsEra s eras at begin now old new count status = FillsOf (λ r. IsItemAt s eras at r × IsBeyond begin r × IsBy now r) old new count status

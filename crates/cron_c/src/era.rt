@@ -1,12 +1,13 @@
 //! Eras: a zone with a history, as a list of the zones that held one after another.
 
-ghost use Rattle.std.specs.Prelude.{◌≡◌, ◌↔◌, ◌<◌, ◌+◌, true, length, slice_get};
+ghost use Rattle.std.specs.Prelude.{◌≡◌, ◌↔◌, ◌<◌, ◌+◌, MatchOption, true, length, slice_get};
+ghost use Rattle.jiff.specs.Words.{plain_zone};
 ghost use Rattle.cron_c.specs.Zones.{IsSomeZone};
-ghost use Rattle.cron_c.specs.Histories.{IsHistory, has_started, meets};
+ghost use Rattle.cron_c.specs.Histories.{IsHistory, IsZoneAt, has_started, meets};
 
 use crate::era_table::fixed_rule;
 use crate::zone::{CronZone, FIXED, zone_in};
-use jiff::tz::Offset;
+use jiff::tz::{Offset, TimeZone};
 
 /// From `starts` on, in seconds since 1970-01-01T00:00:00Z, the clock is that of the zone, until the next
 /// era starts.
@@ -69,6 +70,19 @@ pub fn is_history(eras: &[CronEra]) -> bool
         }
     }
     true
+}
+
+/// The zone of the era at this place. `None` where it says none, or the next one starts no later.
+pub fn zone_at(eras: &[CronEra], at: usize) -> Option<TimeZone<'static>>
+    requires { at < length eras.now }
+    ensures { MatchOption result
+        (IsHistory eras.now → ⊥)
+        (λ zone. IsZoneAt eras.now at (plain_zone zone)) }
+{
+    if meets_next(eras, at) {
+        return None;
+    }
+    zone_in(&eras[at].zone)
 }
 
 /// Whether the era at this place has started by a second. Past the end there is none.

@@ -1,14 +1,14 @@
 //! The first item of a history where a search begins, and the last one by an instant.
 
-ghost use Rattle.std.specs.Prelude.{◌≡◌, ◌+◌, ◌⊎◌, pos, neg_ℤ, ◌≤ℤ◌, ◌<ℤ◌, MatchOption, true, false};
+ghost use Rattle.std.specs.Prelude.{◌≡◌, ◌+◌, ◌<◌, ◌≤◌, ◌≤ℤ◌, ◌<ℤ◌, pos, neg_ℤ, false, MatchOption, MatchResult, length};
 ghost use Rattle.jiff.specs.Words.{plain_zone};
+ghost use Rattle.cron_units.specs.Sets.{Sets};
 ghost use Rattle.cron_moments.specs.Readings.{Reading, instant};
 ghost use Rattle.cron_instants.specs.Instants.{IsBy, IsEarliest, IsItem, IsLatest};
-ghost use Rattle.cron_c.specs.Zones.{IsSomeZone};
-ghost use Rattle.cron_c.specs.Histories.{IsBeyond, IsEraItem, IsHistory, IsHistoryItem, IsSought, has_started};
+ghost use Rattle.cron_c.specs.Histories.{AllBelow, BeginsIn, EndsIn, IsBeyond, IsFound, IsHistory, IsItemAt, IsLastInBy, IsSought, IsZoneAt, has_started};
 
-use crate::era::{CronEra, has_come};
-use crate::zone::zone_in;
+use crate::era::{CronEra, has_come, zone_at};
+use crate::places::{left_before, place_of, place_past};
 use cron_instants::instants::{first_after, first_past, last_by};
 use cron_moments::civil::FURTHEST_OFFSET;
 use cron_moments::moment::{Moment, instant_of};
@@ -25,8 +25,12 @@ pub enum Begin {
     Past(Moment),
 }
 
-// The least second in which an item may lie where the search begins. Past it each does.
-fn least_second(begin: &Begin) -> i64
+/// That eras are no history: one that a search came to says no zone, or the next one starts no later.
+#[derive(Clone, Copy)]
+pub struct NoHistory;
+
+/// The least second in which an item may lie where the search begins. Past it each does.
+pub fn least_second(begin: &Begin) -> i64
     ensures least { (r : Reading) → IsBeyond begin.now r → result ≤ℤ instant r }
     ensures all { (r : Reading) → result <ℤ instant r → IsBeyond begin.now r }
     ensures low { neg_ℤ (pos 377_705_023_201) ≤ℤ result }
@@ -37,83 +41,19 @@ fn least_second(begin: &Begin) -> i64
     }
 }
 
-// The first item of a zone.
-fn first_of_zone(fields: &ScheduleFields, zone: &TimeZone<'_>, begin: &Begin) -> Option<Moment>
-    ensures { IsEarliest (λ r. IsItem fields.now (plain_zone zone.now) r × IsBeyond begin.now r) result }
+/// Where a search begins in an era. `None` where the era starts too late for any item.
+pub fn begin_in(era: &CronEra, begin: &Begin) -> Option<Begin>
+    ensures { MatchOption result
+        ((r : Reading) → era.now.starts ≤ℤ instant r → instant r ≤ℤ pos 4_200_000_000 → ⊥)
+        (λ there. BeginsIn era.now begin.now there) }
 {
-    match begin {
-        Begin::After(now) => first_after(fields, *now, zone),
-        Begin::Past(item) => first_past(fields, item, zone),
-    }
-}
-
-// The first item of an era, which has no end here.
-fn first_of_era(fields: &ScheduleFields, era: &CronEra, begin: &Begin) -> Option<Moment>
-    requires { IsSomeZone era.now.zone }
-    ensures { IsEarliest (λ r. IsEraItem fields.now era.now r × IsBeyond begin.now r) result }
-{
-    let Some(zone) = zone_in(&era.zone) else {
-        return None;
-    };
     if era.starts <= least_second(begin) {
-        return first_of_zone(fields, &zone, begin);
+        return Some(*begin);
     }
     match Timestamp::from_second(era.starts - 1) {
-        Ok(before) => first_after(fields, before, &zone),
+        Ok(before) => Some(Begin::After(before)),
         Err(_) => None,
     }
-}
-
-// The place of the era that holds a second, or of the first one where none has started by it.
-fn place_of(eras: &[CronEra], second: i64) -> usize
-    ensures begun { (result ≡ 0) ⊎ (has_started eras.now result second ≡ true) }
-    ensures lasts { has_started eras.now (result + 1) second ≡ false }
-{
-    let mut place = 0;
-    let mut end = eras.len().max(1);
-    while end > place + 1 {
-        let middle = place + (end - place) / 2;
-        if has_come(eras, middle, second) {
-            place = middle;
-        } else {
-            end = middle;
-        }
-    }
-    place
-}
-
-/// The first item of a history.
-pub fn first_of_history(fields: &ScheduleFields, eras: &[CronEra], begin: &Begin) -> Option<Moment>
-    requires { IsHistory eras.now }
-    ensures { IsEarliest (IsSought fields.now eras.now begin.now) result }
-{
-    let least = least_second(begin);
-    for at in place_of(eras, least)..eras.len() {
-        let Some(moment) = first_of_era(fields, &eras[at], begin) else {
-            continue;
-        };
-        if !has_come(eras, at + 1, instant_of(&moment)) {
-            return Some(moment);
-        }
-    }
-    None
-}
-
-// The last item of an era by an instant.
-fn last_of_era(fields: &ScheduleFields, era: &CronEra, until: Timestamp) -> Option<Moment>
-    requires { IsSomeZone era.now.zone }
-    ensures { IsLatest (λ r. IsEraItem fields.now era.now r × IsBy until.nanosecond r) result }
-{
-    let Some(zone) = zone_in(&era.zone) else {
-        return None;
-    };
-    let Some(found) = last_by(fields, until, &zone) else {
-        return None;
-    };
-    if instant_of(&found) < era.starts {
-        return None;
-    }
-    Some(found)
 }
 
 // The last instant before an era, or `until` where that comes earlier; `None` where no item is so early.
@@ -135,21 +75,130 @@ fn until_before(era: &CronEra, until: Timestamp) -> Option<Timestamp>
     }
 }
 
-/// The last item of a history by an instant.
-pub fn last_of_history(fields: &ScheduleFields, eras: &[CronEra], now: Timestamp) -> Option<Moment>
-    requires { IsHistory eras.now }
-    ensures { IsLatest (λ r. IsHistoryItem fields.now eras.now r × IsBy now.nanosecond r) result }
+/// The last instant of the era at this place, or `now` where that comes earlier; `None` where no item is so
+/// early.
+pub fn until_in(eras: &[CronEra], at: usize, now: Timestamp) -> Option<Timestamp>
+    requires { at < length eras.now }
+    ensures { MatchOption result
+        ((r : Reading) → IsBy now.nanosecond r → has_started eras.now (at + 1) (instant r) ≡ false → ⊥)
+        (λ t. EndsIn eras.now at now.nanosecond t.nanosecond) }
 {
-    let mut until = now;
-    for back in 0..eras.len() {
-        let era = &eras[eras.len() - 1 - back];
-        if let Some(found) = last_of_era(fields, era, until) {
-            return Some(found);
-        }
-        let Some(before) = until_before(era, until) else {
-            return None;
-        };
-        until = before;
+    match eras.get(at + 1) {
+        Some(next) => until_before(next, now),
+        None => Some(now),
     }
-    None
+}
+
+/// How many of the eras may have an item by an instant: of a history those up to the one that holds it.
+pub fn eras_by(eras: &[CronEra], now: Timestamp) -> usize
+    ensures bound { result ≤ length eras.now }
+    ensures below { (s : Sets) → IsHistory eras.now → AllBelow s eras.now now.nanosecond result }
+{
+    let held = place_of(eras, now.to_plain().floor_second());
+    eras.len().min(held + 1)
+}
+
+// The first item of a zone.
+fn first_of_zone(fields: &ScheduleFields, zone: &TimeZone<'_>, begin: &Begin) -> Option<Moment>
+    ensures { IsEarliest (λ r. IsItem fields.now (plain_zone zone.now) r × IsBeyond begin.now r) result }
+{
+    match begin {
+        Begin::After(now) => first_after(fields, *now, zone),
+        Begin::Past(item) => first_past(fields, item, zone),
+    }
+}
+
+// The first item of the era at this place.
+fn first_in_era(
+    fields: &ScheduleFields,
+    eras: &[CronEra],
+    at: usize,
+    zone: &TimeZone<'_>,
+    begin: &Begin,
+) -> Option<Moment>
+    requires within { at < length eras.now }
+    requires zone { IsZoneAt eras.now at (plain_zone zone.now) }
+    ensures { IsEarliest (λ r. IsItemAt fields.now eras.now at r × IsBeyond begin.now r) result }
+{
+    let Some(there) = begin_in(&eras[at], begin) else {
+        return None;
+    };
+    let Some(found) = first_of_zone(fields, zone, &there) else {
+        return None;
+    };
+    if has_come(eras, at + 1, instant_of(&found)) {
+        return None;
+    }
+    Some(found)
+}
+
+/// The first item of a history.
+pub fn first_of_history(
+    fields: &ScheduleFields,
+    eras: &[CronEra],
+    begin: &Begin,
+) -> Result<Option<Moment>, NoHistory>
+    ensures { MatchResult result
+        (λ found. IsFound eras.now IsEarliest (IsSought fields.now eras.now begin.now) found)
+        (λ e. IsHistory eras.now → ⊥) }
+{
+    let mut at = place_of(eras, least_second(begin));
+    while at < eras.len() {
+        let Some(zone) = zone_at(eras, at) else {
+            return Err(NoHistory);
+        };
+        if let Some(found) = first_in_era(fields, eras, at, &zone, begin) {
+            return Ok(Some(found));
+        }
+        at = place_past(fields, eras, at);
+    }
+    Ok(None)
+}
+
+// The last item of the era at this place by an instant.
+fn last_in_era(
+    fields: &ScheduleFields,
+    eras: &[CronEra],
+    at: usize,
+    zone: &TimeZone<'_>,
+    now: Timestamp,
+) -> Option<Moment>
+    requires within { at < length eras.now }
+    requires zone { IsZoneAt eras.now at (plain_zone zone.now) }
+    ensures { IsLatest (λ r. IsItemAt fields.now eras.now at r × IsBy now.nanosecond r) result }
+{
+    let Some(until) = until_in(eras, at, now) else {
+        return None;
+    };
+    let Some(found) = last_by(fields, until, zone) else {
+        return None;
+    };
+    if !has_come(eras, at, instant_of(&found)) {
+        return None;
+    }
+    Some(found)
+}
+
+/// The last item of a history by an instant.
+pub fn last_of_history(
+    fields: &ScheduleFields,
+    eras: &[CronEra],
+    now: Timestamp,
+) -> Result<Option<Moment>, NoHistory>
+    ensures { MatchResult result
+        (λ found. IsLastInBy fields.now eras.now now.nanosecond found)
+        (λ e. IsHistory eras.now → ⊥) }
+{
+    let mut left = eras_by(eras, now);
+    while left > 0 {
+        let at = left - 1;
+        let Some(zone) = zone_at(eras, at) else {
+            return Err(NoHistory);
+        };
+        if let Some(found) = last_in_era(fields, eras, at, &zone, now) {
+            return Ok(Some(found));
+        }
+        left = left_before(fields, eras, at);
+    }
+    Ok(None)
 }

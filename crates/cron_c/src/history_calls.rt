@@ -1,63 +1,59 @@
 //! Items of a zone with a history, by instants.
 
-ghost use Rattle.std.specs.Prelude.{◌≡◌};
-ghost use Rattle.cron_instants.specs.Instants.{IsBy};
 ghost use Rattle.cron_c.specs.Calls.{Answers};
-ghost use Rattle.cron_c.specs.Histories.{FillsOf, FiresIn, FiresInAt, IsBeyond, IsFirstInAfter, IsHistory, IsHistoryItem, IsLastInBy, RunsInBetween, RunsInPast, due_by};
+ghost use Rattle.cron_c.specs.Histories.{ChecksHistory, FiresIn, FiresInAt, IsFirstInAfter, IsLastInBy, RunsInBetween, RunsInPast};
 ghost use Rattle.cron_c.specs.Structs.{sets_of};
 
 use crate::era::{CronEra, is_history};
 use crate::history::{Begin, first_of_history, last_of_history};
+use crate::history_runs::fill_history;
 use crate::item::{CronItem, item_of, moment_of};
 use crate::schedule::{CronSchedule, fields_of};
 use crate::status::Status;
-use cron_moments::moment::Moment;
-use cron_units::fields::ScheduleFields;
 use jiff::Timestamp;
 
 fn fire_after(schedule: &CronSchedule, eras: &[CronEra], second: i64, item: &mut CronItem) -> Status
     ensures { FiresIn IsFirstInAfter (sets_of schedule.now) eras.now second item.old item.new result }
 {
-    if !is_history(eras) {
-        return Status::BadZone;
-    }
     let Ok(now) = Timestamp::from_second(second) else {
         return Status::BadInstant;
     };
-    let Some(found) = first_of_history(&fields_of(schedule), eras, &Begin::After(now)) else {
-        return Status::NoItem;
-    };
-    *item = item_of(&found);
-    Status::Done
+    match first_of_history(&fields_of(schedule), eras, &Begin::After(now)) {
+        Ok(Some(found)) => {
+            *item = item_of(&found);
+            Status::Done
+        }
+        Ok(None) => Status::NoItem,
+        Err(_) => Status::BadZone,
+    }
 }
 
 fn fire_by(schedule: &CronSchedule, eras: &[CronEra], second: i64, item: &mut CronItem) -> Status
     ensures { FiresIn IsLastInBy (sets_of schedule.now) eras.now second item.old item.new result }
 {
-    if !is_history(eras) {
-        return Status::BadZone;
-    }
     let Ok(now) = Timestamp::from_second(second) else {
         return Status::BadInstant;
     };
-    let Some(found) = last_of_history(&fields_of(schedule), eras, now) else {
-        return Status::NoItem;
-    };
-    *item = item_of(&found);
-    Status::Done
+    match last_of_history(&fields_of(schedule), eras, now) {
+        Ok(Some(found)) => {
+            *item = item_of(&found);
+            Status::Done
+        }
+        Ok(None) => Status::NoItem,
+        Err(_) => Status::BadZone,
+    }
 }
 
 fn fire_at(schedule: &CronSchedule, eras: &[CronEra], second: i64, item: &mut CronItem) -> Status
     ensures { FiresInAt (sets_of schedule.now) eras.now second item.old item.new result }
 {
-    if !is_history(eras) {
-        return Status::BadZone;
-    }
     let Ok(now) = Timestamp::from_second(second) else {
         return Status::BadInstant;
     };
-    let Some(found) = last_of_history(&fields_of(schedule), eras, now) else {
-        return Status::NoItem;
+    let found = match last_of_history(&fields_of(schedule), eras, now) {
+        Ok(Some(found)) => found,
+        Ok(None) => return Status::NoItem,
+        Err(_) => return Status::BadZone,
     };
     let last = item_of(&found);
     if last.instant != second {
@@ -65,48 +61,6 @@ fn fire_at(schedule: &CronSchedule, eras: &[CronEra], second: i64, item: &mut Cr
     }
     *item = last;
     Status::Done
-}
-
-// What was found, where its instant isn't past `now`.
-fn take_due(found: Option<Moment>, now: Timestamp) -> Option<Moment>
-    ensures { result ≡ due_by now.nanosecond found }
-{
-    let Some(moment) = found else {
-        return None;
-    };
-    if moment.timestamp().as_nanosecond() <= now.as_nanosecond() {
-        Some(moment)
-    } else {
-        None
-    }
-}
-
-// Writes the items from where a search begins on, up to and with `now`, as far as they fit.
-fn fill(
-    fields: &ScheduleFields,
-    eras: &[CronEra],
-    begin: &Begin,
-    now: Timestamp,
-    items: &mut [CronItem],
-    count: &mut usize,
-) -> Status
-    requires { IsHistory eras.now }
-    ensures { FillsOf (λ r. IsHistoryItem fields.now eras.now r × IsBeyond begin.now r × IsBy now.nanosecond r) items.old items.new count.new result }
-{
-    let mut next = take_due(first_of_history(fields, eras, begin), now);
-    for at in 0..items.len() {
-        let Some(moment) = next else {
-            *count = at;
-            return Status::Done;
-        };
-        items[at] = item_of(&moment);
-        next = take_due(first_of_history(fields, eras, &Begin::Past(moment)), now);
-    }
-    *count = items.len();
-    match next {
-        Some(_) => Status::More,
-        None => Status::Done,
-    }
 }
 
 fn run_between(
@@ -120,9 +74,6 @@ fn run_between(
     ensures { RunsInBetween (sets_of schedule.now) eras.now last now items.old items.new count.new result }
 {
     *count = 0;
-    if !is_history(eras) {
-        return Status::BadZone;
-    }
     let Ok(last) = Timestamp::from_second(last) else {
         return Status::BadInstant;
     };
@@ -130,7 +81,7 @@ fn run_between(
         return Status::BadInstant;
     };
     let begin = Begin::After(last);
-    fill(&fields_of(schedule), eras, &begin, now, items, count)
+    fill_history(&fields_of(schedule), eras, &begin, now, items, count)
 }
 
 fn run_past(
@@ -144,9 +95,6 @@ fn run_past(
     ensures { RunsInPast (sets_of schedule.now) eras.now item.now now items.old items.new count.new result }
 {
     *count = 0;
-    if !is_history(eras) {
-        return Status::BadZone;
-    }
     let Some(given) = moment_of(*item) else {
         return Status::NotAnItem;
     };
@@ -154,7 +102,25 @@ fn run_past(
         return Status::BadInstant;
     };
     let begin = Begin::Past(given);
-    fill(&fields_of(schedule), eras, &begin, now, items, count)
+    fill_history(&fields_of(schedule), eras, &begin, now, items, count)
+}
+
+fn check(eras: &[CronEra]) -> Status
+    ensures { ChecksHistory eras.now result }
+{
+    if is_history(eras) {
+        Status::Done
+    } else {
+        Status::BadZone
+    }
+}
+
+/// Checks that eras are a history. The other calls look only at the eras that they come to.
+#[unsafe(no_mangle)]
+pub extern "C" fn cron_c_history_check(eras: &[CronEra]) -> u32
+    ensures { Answers (ChecksHistory eras.now) result }
+{
+    check(eras).code()
 }
 
 /// Writes the earliest of the items of a history whose instant comes after this one.

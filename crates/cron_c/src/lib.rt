@@ -8,10 +8,12 @@ mod era_table;
 mod firing;
 mod history;
 mod history_calls;
+mod history_runs;
 mod item;
 mod listing;
 mod named;
 mod parse_call;
+mod places;
 mod runs;
 mod savings;
 mod schedule;
@@ -25,8 +27,8 @@ mod zone_file;
 pub use era::CronEra;
 pub use firing::{cron_c_fire_after, cron_c_fire_at, cron_c_fire_by};
 pub use history_calls::{
-    cron_c_history_fire_after, cron_c_history_fire_at, cron_c_history_fire_by,
-    cron_c_history_fires_between, cron_c_history_fires_past,
+    cron_c_history_check, cron_c_history_fire_after, cron_c_history_fire_at,
+    cron_c_history_fire_by, cron_c_history_fires_between, cron_c_history_fires_past,
 };
 pub use item::CronItem;
 pub use listing::{cron_c_list_after, cron_c_list_before, cron_c_list_next, cron_c_list_prev};

@@ -11,9 +11,9 @@ use crate::zone::{CronZone, zone_in};
 use cron_instants::run::Run;
 use jiff::Timestamp;
 
-// Writes the items that a run has left, as far as they fit. One more is asked for when the array is full:
-// only that one tells whether these were all.
-fn fill(mut run: Run<'_>, items: &mut [CronItem], count: &mut usize) -> Status
+/// Writes the items that a run has left, as far as they fit. One more is asked for when the array is full:
+/// only that one tells whether these were all.
+pub fn fill(mut run: Run<'_>, items: &mut [CronItem], count: &mut usize) -> Status
     ensures { Fills run.entry items.old items.new count.new result }
 {
     for at in 0..items.len() {

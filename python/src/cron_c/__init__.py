@@ -15,4 +15,4 @@ from .errors import CronError, InstantError, TextError, ZoneError
 from .schedule import Schedule
 
 __all__ = ["CronError", "InstantError", "Schedule", "TextError", "ZoneError"]
-__version__ = "1.2.0"
+__version__ = "1.3.0"

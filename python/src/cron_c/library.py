@@ -5,8 +5,7 @@ from __future__ import annotations
 import ctypes
 import pathlib
 import struct
-from bisect import bisect_right
-from typing import Any, FrozenSet, Iterable, Iterator, List, Optional, Tuple, Union
+from typing import Any, FrozenSet, Iterable, Iterator, List, Optional, Tuple
 
 from .errors import CronError, TextError, ZoneError
 
@@ -52,8 +51,8 @@ WORD_BITS = 64
 
 Fire = Tuple[int, int]  # an instant in seconds since 1970, and how far the clock is ahead of UTC then
 
-# The arguments for eras: the first of them, or all, and how many they are.
-Eras = Tuple[Union[Era, "ctypes.Array[Era]"], int]
+# The arguments for eras, and how many they are.
+Eras = Tuple["ctypes.Array[Era]", int]
 
 # An item as its bytes stand in an array, and how many a first and a later page of fires have room for.
 ITEM = struct.Struct("=qi4x")
@@ -63,38 +62,27 @@ FIRST_PAGE, PAGE = 16, 1024
 class History:
     """Eras in the order of their starts, as the calls take them."""
 
-    __slots__ = ("_eras", "_starts")
+    __slots__ = ("_eras",)
 
     def __init__(self, eras: Iterable[Era]) -> None:
         given = list(eras)
         self._eras = (Era * len(given))(*given)
-        self._starts: List[int] = [it.starts for it in given]
 
     def __len__(self) -> int:
-        return len(self._starts)
+        return len(self._eras)
 
     def __getitem__(self, place: int) -> Era:
         return self._eras[place]
 
-    def _place(self, instant: int) -> int:
-        """The place of the era that holds the instant, or of the first one."""
-        return max(0, bisect_right(self._starts, instant) - 1)
+    def all(self) -> Eras:
+        """All of them, as arguments. A call finds the era of an instant by halving."""
+        return self._eras, len(self)
 
-    def since(self, instant: int) -> Eras:
-        """The eras from the one on that holds the instant: no later item lies before it."""
-        place = self._place(instant)
-        if place == 0:
-            return self._eras, len(self)
-        return Era.from_buffer(self._eras, place * ctypes.sizeof(Era)), len(self) - place
-
-    def until(self, instant: int) -> Eras:
-        """The eras up to the one that holds the instant: no earlier item lies past it."""
-        return self._eras, min(len(self), self._place(instant) + 1)
 
 FIVE_FIELDS = "five fields: a crontab line. Here seconds stand before the minutes, and Sunday is 1."
 
 # The first version that has every call below, and the first whose structs may be others.
-LEAST_VERSION, OTHER_VERSION = 10_200, 20_000
+LEAST_VERSION, OTHER_VERSION = 10_300, 20_000
 
 
 def _numbers(version: int) -> str:
@@ -126,7 +114,8 @@ def _load() -> ctypes.CDLL:
     library.cron_c_history_fires_between.argtypes = given + [instant] + page
     library.cron_c_history_fires_past.argtypes = given + [pointer(Item)] + page
     library.cron_c_history_read.argtypes = [ctypes.c_char_p, size, pointer(Era), size, pointer(size)]
-    for call in ("parse", "zone_parse", "history_read", "history_fires_between", "history_fires_past", *searches):
+    library.cron_c_history_check.argtypes = [pointer(Era), size]
+    for call in ("parse", "zone_parse", "history_read", "history_check", "history_fires_between", "history_fires_past", *searches):
         getattr(library, f"cron_c_{call}").restype = ctypes.c_uint32
     return library
 
@@ -199,8 +188,11 @@ def _within(instant: int) -> int:
 
 
 def history(eras: Iterable[Era]) -> History:
-    """Eras in the order of their starts."""
-    return History(eras)
+    """Eras in the order of their starts, checked once: later calls look only at those that they come to."""
+    made = History(eras)
+    if _LIBRARY.cron_c_history_check(*made.all()) != OK:
+        raise ZoneError("the eras are of no zone, or in no order")
+    return made
 
 
 def read_history(data: bytes, key: str) -> History:
@@ -222,13 +214,13 @@ def read_history(data: bytes, key: str) -> History:
 def fire_after(sets: Sets, eras: History, instant: int) -> Optional[Fire]:
     """Of the fires after this instant the earliest."""
     item = Item()
-    return _found(_LIBRARY.cron_c_history_fire_after(sets, *eras.since(instant), _within(instant), item), item)
+    return _found(_LIBRARY.cron_c_history_fire_after(sets, *eras.all(), _within(instant), item), item)
 
 
 def fire_by(sets: Sets, eras: History, instant: int) -> Optional[Fire]:
     """Of the fires up to this instant the latest."""
     item = Item()
-    return _found(_LIBRARY.cron_c_history_fire_by(sets, *eras.until(instant), _within(instant), item), item)
+    return _found(_LIBRARY.cron_c_history_fire_by(sets, *eras.all(), _within(instant), item), item)
 
 
 def fires_at(sets: Sets, eras: History, instant: int) -> bool:
@@ -236,21 +228,21 @@ def fires_at(sets: Sets, eras: History, instant: int) -> bool:
     if instant != _within(instant):
         return False
     item = Item()
-    return _found(_LIBRARY.cron_c_history_fire_at(sets, *eras.since(instant), instant, item), item) is not None
+    return _found(_LIBRARY.cron_c_history_fire_at(sets, *eras.all(), instant, item), item) is not None
 
 
 def pages(sets: Sets, eras: History, start: int, end: int) -> Iterator[List[Fire]]:
     """The fires after one instant and up to and with another, in lists."""
     room, count, last = FIRST_PAGE, ctypes.c_size_t(), _within(end)
     items = (Item * room)()
-    status = _LIBRARY.cron_c_history_fires_between(sets, *eras.since(start), _within(start), last, items, room, count)
+    status = _LIBRARY.cron_c_history_fires_between(sets, *eras.all(), _within(start), last, items, room, count)
     while status == MORE:
         page = _page(items, room)
         yield page
         noted = Item.from_buffer_copy(items, (room - 1) * ctypes.sizeof(Item))
         if room != PAGE:
             room, items = PAGE, (Item * PAGE)()
-        status = _LIBRARY.cron_c_history_fires_past(sets, *eras.since(page[-1][0]), noted, last, items, room, count)
+        status = _LIBRARY.cron_c_history_fires_past(sets, *eras.all(), noted, last, items, room, count)
     if status != OK:
         raise CronError(f"status {status}")
     yield _page(items, count.value)

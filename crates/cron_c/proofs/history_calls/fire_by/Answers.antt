@@ -1,22 +1,19 @@
-use Rattle.std.proofs.Common.{rules, ◌≡◌, ◌*ℤ◌, ℤ, pos, Option, subst}
+use Rattle.std.proofs.Common.{rules, ◌≡◌, ◌*ℤ◌, ℤ, pos, Some, subst}
 use Rattle.cron_units.specs.Sets.{Sets}
-use Rattle.cron_moments.specs.Readings.{Reading}
 use Rattle.cron_instants.specs.Instants.{IsBy, IsLatest}
 use Rattle.cron_c.specs.Calls.{IsInstant}
-use Rattle.cron_c.specs.Histories.{IsHistoryItem}
+use Rattle.cron_c.specs.Histories.{IsFound, IsHistoryItem}
 use Rattle.cron_c.specs.Structs.{sets_of}
 use Rattle.cron_c.proofs.history_calls.fire_by.Goals as goal
 
-pub returns : goal.returns
-returns c =
+pub returns-in-Ok-Some : goal.returns-in-Ok-Some
+returns-in-Ok-Some c =
     let eras = c.args.eras.now in
     let sets = sets_of c.args.schedule.now in
-    let history = c.is_history.ensures.0 c.if-not-is_history.false in
     let within : IsInstant c.args.second = search rules in
     let nanos : c.in-Ok.now.nanosecond ≡ c.args.second *ℤ pos 1_000_000_000 = search rules in
-    let of_sets = subst (λ (s : Sets). IsLatest (λ q. IsHistoryItem s eras q × IsBy c.in-Ok.now.nanosecond q) c.last_of_history.result)
-    c.fields_of.ensures c.last_of_history.ensures in
-    let after = subst (λ (t : ℤ). IsLatest (λ q. IsHistoryItem sets eras q × IsBy t q) c.last_of_history.result) nanos of_sets in
-    let found = subst (λ (o : Option Reading). IsLatest (λ q. IsHistoryItem sets eras q × IsBy (c.args.second *ℤ pos 1_000_000_000) q) o)
-    c.in-Some.is after in
-    (c.in-Some.found, history, within, found, c.item_of.ensures)
+    let told = rw c.in-Ok-Some.field-0-is at c.in-Ok-Some.ensures in
+    let of_sets = subst (λ (s : Sets). IsFound eras IsLatest (λ q. IsHistoryItem s eras q × IsBy c.in-Ok.now.nanosecond q) (Some c.in-Ok-Some.found))
+    c.fields_of.ensures told in
+    let found = subst (λ (t : ℤ). IsFound eras IsLatest (λ q. IsHistoryItem sets eras q × IsBy t q) (Some c.in-Ok-Some.found)) nanos of_sets in
+    (c.in-Ok-Some.found, within, found, c.item_of.ensures)
