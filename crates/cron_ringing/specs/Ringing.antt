@@ -3,7 +3,13 @@ use Rattle.std.specs.Prelude.{◌≡◌, ◌⊎◌, ℕ, List, Option, Some, Res
 use Rattle.std.specs.declared.io.Error.{Error}
 use Rattle.jiff.specs.Words.{plain_zone}
 use Rattle.jiff_core.specs.declared.Timestamp.{Timestamp}
+use Rattle.jiff_tz.specs.declared.timezone.TimeZone.{TimeZone}
 use Rattle.cron_units.specs.Sets.{Sets}
+use Rattle.cron_moments.specs.MomentText.{item_line}
+use Rattle.cron_moments.specs.Readings as moments
+use Rattle.cron_instants.specs.Fires.{fires_after, fires_past}
+use Rattle.cron_dues.specs.Due as dues
+use Rattle.cron_dues.specs.Dues.{dues_after, dues_past}
 use Rattle.cron.specs.Words.{Means, Tells, IsRefusal}
 use Rattle.cron_scheduler.specs.declared.plan.Start.TheVariants.{After}
 use Rattle.cron_scheduler.specs.declared.stop.Stop.{Stop}
@@ -11,12 +17,24 @@ use Rattle.cron_scheduler.specs.declared.stop.Stop.TheVariants.{Clock}
 use Rattle.cron_scheduler.specs.Plans.{planned}
 use Rattle.cron_scheduler.specs.Runs.{stop_text}
 use Rattle.cron_units.specs.Texts.{error_text}
+use Rattle.cron_ringing.specs.declared.arguments.ClockChanges.{ClockChanges}
+use Rattle.cron_ringing.specs.declared.arguments.ClockChanges.TheVariants.{AsShown, Once}
 use Rattle.cron_ringing.specs.declared.arguments.Request.{Request}
 use Rattle.cron_ringing.specs.declared.printer.Printer.{Printer}
 use Rattle.cron_ringing.specs.declared.printer.WriteFailed.{WriteFailed}
 use Rattle.cron_ringing.specs.declared.ring.Failure.{Failure}
 use Rattle.cron_ringing.specs.declared.ring.Failure.TheVariants.{Refused, Stopped}
-use Rattle.cron_ringing.specs.Printing.{Prints, write_failed_text}
+use Rattle.cron_ringing.specs.Printing.{Prints, due_line, write_failed_text}
+
+-- Of the fires of sets in a zone after an instant the first so many were printed: each time that the clock shows a match, or each
+-- match once.
+abbrev pub PrintsAfter : {C W E : Type 0} → (C → Result Timestamp E → C → Type 0) → (C → Timestamp → Result ⊤ E → C → Type 0)
+    → (W → List ℕ → Result ℕ Error → W → Type 0) → (W → Result ⊤ Error → W → Type 0) → (W → Option (List ℕ))
+    → ClockChanges → Sets → TimeZone → Timestamp → ℕ → C → Printer W → Result ⊤ (Stop E WriteFailed) → C → Printer W → Type 0
+PrintsAfter shows waits writes flushes contents AsShown sets zone start count =
+    Prints shows waits writes flushes contents item_line moments.instant (planned fires_after fires_past sets zone (After start) (Some count))
+PrintsAfter shows waits writes flushes contents Once sets zone start count =
+    Prints shows waits writes flushes contents due_line dues.instant (planned dues_after dues_past sets zone (After start) (Some count))
 
 -- The expression means sets, the clock was looked at, and then the fires of these sets after what it showed were printed,
 -- up to the count.
@@ -28,8 +46,7 @@ pub record PrintsAsked {C W E : Type 0} (shows : C → Result Timestamp E → C 
   pub start : Timestamp
   pub looked : C
   pub looks : shows c (Ok start) looked
-  pub prints : Prints shows waits writes flushes contents
-      (planned sets (plain_zone r.zone) (After start) (Some r.count)) looked p answer c' p'
+  pub prints : PrintsAfter shows waits writes flushes contents r.changes sets (plain_zone r.zone) start r.count looked p answer c' p'
 
 -- The expression means sets, but the clock could not be read, and nothing was written.
 pub record IsUnread {C W E : Type 0} (shows : C → Result Timestamp E → C → Type 0) (r : Request) (c : C) (p : Printer W)

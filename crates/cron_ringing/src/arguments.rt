@@ -1,11 +1,22 @@
 //! The arguments of a command line.
 
 ghost use Rattle.std.specs.Prelude.{◌↔◌, IfSome, IsSome, map, string_bytes};
-ghost use Rattle.cron_ringing.specs.Arguments.{IsReadable, Asks};
+ghost use Rattle.cron_listing.specs.Arguments.{IsCount};
+ghost use Rattle.cron_moments.specs.Zones.{NamesZone};
+ghost use Rattle.cron_ringing.specs.Arguments.{IsReadable, IsRead, Asks};
 
 use cron_listing::arguments::count_of;
 use cron_moments::zone::zone_of;
 use jiff::tz::TimeZone;
+
+/// What is rung at where a clock changes.
+#[derive(Clone, Copy, Debug, PartialEq, Eq)]
+pub enum ClockChanges {
+    /// Each time that the clock shows a match.
+    AsShown,
+    /// Each match once.
+    Once,
+}
 
 /// What is asked for: the first so many fires of an expression in a zone.
 #[derive(Drop)]
@@ -16,20 +27,47 @@ pub struct Request<'a> {
     pub zone: TimeZone<'a>,
     /// How many fires at most.
     pub count: u32,
+    /// By which rule.
+    pub changes: ClockChanges,
 }
 
-/// Reads three arguments, `None` where there are more or fewer or the zone or the count can't be read. The expression
+// Reads the arguments other than the expression.
+fn read<'a>(
+    expression: &'a str,
+    zone: &'a str,
+    count: &str,
+    changes: ClockChanges,
+) -> Option<Request<'a>>
+    ensures succeeds { IsSome result ↔ (NamesZone zone.now × IsCount count.now) }
+    ensures value { IfSome result (IsRead expression.now zone.now count.now changes) }
+{
+    Some(Request {
+        expression,
+        zone: zone_of(zone)?,
+        count: count_of(count)?,
+        changes,
+    })
+}
+
+/// Reads three arguments, or four that end in `--once`; `None` where one of them can't be read. The expression
 /// is left as it is.
 pub fn request_of(arguments: &[String]) -> Option<Request<'_>>
     ensures succeeds { IsSome result ↔ IsReadable (map string_bytes arguments.now) }
     ensures value { IfSome result (Asks (map string_bytes arguments.now)) }
 {
-    let [expression, zone, count] = arguments else {
-        return None;
-    };
-    Some(Request {
-        expression: expression.as_str(),
-        zone: zone_of(zone.as_str())?,
-        count: count_of(count.as_str())?,
-    })
+    match arguments {
+        [expression, zone, count] => read(
+            expression.as_str(),
+            zone.as_str(),
+            count.as_str(),
+            ClockChanges::AsShown,
+        ),
+        [expression, zone, count, last] if last.as_str() == "--once" => read(
+            expression.as_str(),
+            zone.as_str(),
+            count.as_str(),
+            ClockChanges::Once,
+        ),
+        _ => None,
+    }
 }

@@ -4,5 +4,6 @@
 
 pub mod answer;
 pub mod arguments;
+pub mod lined;
 pub mod printer;
 pub mod ring;

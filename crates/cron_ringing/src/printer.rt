@@ -4,8 +4,7 @@ ghost use Rattle.jiff.specs.Words.{plain_zone};
 ghost use Rattle.cron_scheduler.specs.Plans.{planned};
 ghost use Rattle.cron_ringing.specs.Printing.{Prints, PrintsText};
 
-use cron::schedule::Moment;
-use cron_moments::line::line_of;
+use crate::lined::Lined;
 use cron_scheduler::{AlarmClock, Job, Plan, Stop};
 use cron_writer::watchable::Watchable;
 use cron_writer::watched::{Watched, send};
@@ -55,26 +54,26 @@ impl<W: Watchable> Printer<W> {
     }
 }
 
-impl<W: Watchable> Job for Printer<W> {
+impl<F: Lined, W: Watchable> Job<F> for Printer<W> {
     ghost use Rattle.cron_ringing.specs.Printing.{PrintsLine};
 
     type Error = WriteFailed;
 
-    ghost runs = { PrintsLine W.writes W.flushes W.contents };
+    ghost runs = { PrintsLine W.writes W.flushes W.contents F.line };
 
-    fn run(&mut self, fire: Moment) -> Result<(), WriteFailed> {
-        self.print(line_of(&fire).as_slice())
+    fn run(&mut self, fire: F) -> Result<(), WriteFailed> {
+        self.print(fire.line().as_slice())
     }
 }
 
 /// Prints the fires of a plan, each when the clock has come to it.
-pub(crate) fn print_fires<C: AlarmClock, W: Watchable>(
-    plan: &Plan<'_>,
+pub(crate) fn print_fires<F: Lined, C: AlarmClock, W: Watchable>(
+    plan: &Plan<'_, F>,
     clock: &mut C,
     printer: &mut Printer<W>,
 ) -> Result<(), Stop<C::Error, WriteFailed>>
-    ensures { Prints C.shows C.waits W.writes W.flushes W.contents
-        (planned plan.now.schedule.now.sets (plain_zone plan.now.zone.now) plan.now.start plan.now.most)
+    ensures { Prints C.shows C.waits W.writes W.flushes W.contents F.line F.at
+        (planned F.after F.past plan.now.schedule.now.sets (plain_zone plan.now.zone.now) plan.now.start plan.now.most)
         clock.old printer.old result clock.new printer.new }
 {
     plan.run(clock, printer)

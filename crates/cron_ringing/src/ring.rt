@@ -1,13 +1,22 @@
 //! Rings at the fires that a request asks for.
 
-ghost use Rattle.cron_ringing.specs.Ringing.{Rings};
+ghost use Rattle.std.specs.Prelude.{Some};
+ghost use Rattle.jiff.specs.Words.{plain_zone};
+ghost use Rattle.cron_scheduler.specs.Plans.{planned};
+ghost use Rattle.cron_scheduler.specs.declared.plan.Start.TheVariants.{After};
+ghost use Rattle.cron_ringing.specs.Printing.{Prints};
+ghost use Rattle.cron_ringing.specs.Ringing.{PrintsAfter, Rings};
 
-use crate::arguments::Request;
+use crate::arguments::{ClockChanges, Request};
+use crate::lined::Lined;
 use crate::printer::{Printer, WriteFailed, print_fires};
 use cron::Schedule;
 use cron::error::Error as ReadError;
+use cron::schedule::Moment;
+use cron_fires::DueFire;
 use cron_scheduler::{AlarmClock, Plan, Start, Stop};
 use cron_writer::watchable::Watchable;
+use jiff::Timestamp;
 use std::alloc::Global;
 use std::error::Error;
 use std::fmt;
@@ -38,6 +47,49 @@ impl<E: fmt::Display> fmt::Display for Failure<E> {
 
 impl<E: Error> Error for Failure<E> {}
 
+// Prints the fires that are asked for, by the rule of their type.
+fn print_after<F: Lined, C: AlarmClock, W: Watchable>(
+    schedule: &Schedule,
+    request: &Request<'_>,
+    now: Timestamp,
+    clock: &mut C,
+    printer: &mut Printer<W>,
+) -> Result<(), Stop<C::Error, WriteFailed>>
+    ensures { Prints C.shows C.waits W.writes W.flushes W.contents F.line F.at
+        (planned F.after F.past schedule.now.sets (plain_zone request.now.zone) (After now) (Some request.now.count))
+        clock.old printer.old result clock.new printer.new }
+{
+    let start: Start<F> = Start::After(now);
+    let plan = Plan {
+        schedule,
+        zone: &request.zone,
+        start,
+        most: Some(u64::from(request.count)),
+    };
+    print_fires(&plan, clock, printer)
+}
+
+// Prints the fires that are asked for, by the rule that is asked for.
+fn print_asked<C: AlarmClock, W: Watchable>(
+    schedule: &Schedule,
+    request: &Request<'_>,
+    now: Timestamp,
+    clock: &mut C,
+    printer: &mut Printer<W>,
+) -> Result<(), Stop<C::Error, WriteFailed>>
+    ensures { PrintsAfter C.shows C.waits W.writes W.flushes W.contents request.now.changes schedule.now.sets (plain_zone request.now.zone) now
+        request.now.count clock.old printer.old result clock.new printer.new }
+{
+    match request.changes {
+        ClockChanges::AsShown => {
+            print_after::<Moment, C, W>(schedule, request, now, clock, printer)
+        }
+        ClockChanges::Once => {
+            print_after::<DueFire, C, W>(schedule, request, now, clock, printer)
+        }
+    }
+}
+
 /// Prints a line at each fire that is asked for, when the clock has come to it. The fires begin after the time that the
 /// clock shows first. Where the expression is refused the clock isn't asked, and nothing is written.
 pub fn ring<C: AlarmClock, W: Watchable>(
@@ -56,13 +108,7 @@ pub fn ring<C: AlarmClock, W: Watchable>(
         Ok(now) => now,
         Err(error) => return Err(Failure::Stopped(Stop::Clock(error))),
     };
-    let plan = Plan {
-        schedule: &schedule,
-        zone: &request.zone,
-        start: Start::After(now),
-        most: Some(u64::from(request.count)),
-    };
-    match print_fires(&plan, clock, printer) {
+    match print_asked(&schedule, request, now, clock, printer) {
         Ok(()) => Ok(()),
         Err(stop) => Err(Failure::Stopped(stop)),
     }

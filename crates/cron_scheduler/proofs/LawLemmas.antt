@@ -3,10 +3,10 @@ use Rattle.std.proofs.Common.{◌≡◌, ℕ, zero, suc, ℤ, Bool, true, false,
 use Rattle.std.specs.Prelude.{◌≤ℤ◌, slice_get}
 use Rattle.std.proofs.lemmas.Int.{ints}
 use Rattle.jiff_core.specs.declared.Timestamp.{Timestamp}
-use Rattle.cron_moments.specs.Readings.{Reading}
-use Rattle.cron_instants.specs.Fires.{is_by}
+use Rattle.cron_fires.specs.Rules.{IsCut, is_by}
 use Rattle.cron_time.proofs.ListLemmas.{filter-alike}
-use Rattle.cron_fires.proofs.LawLemmas.{cut_after, cut_past}
+use Rattle.jiff_tz.specs.declared.timezone.TimeZone.{TimeZone}
+use Rattle.cron_units.specs.Sets.{Sets}
 use Rattle.cron_scheduler.specs.declared.plan.Start.TheVariants.{After, Past}
 use Rattle.cron_scheduler.specs.Runs.{is_due}
 use Rattle.cron_scheduler.specs.Laws.{DueUpToTheGreatest, IsGreatest, RestartsGoOn}
@@ -28,34 +28,36 @@ neither : (a b : Bool) → a ≡ false → b ≡ false → (a || b) ≡ false
 neither true b h k = absurd (cc)
 neither false b h k = k
 
-shown_due : (times : List Timestamp) (i : ℕ) (t : Timestamp) (r : Reading) → slice_get times i ≡ Some t → is_by t.nanosecond r ≡ true → is_due times r ≡ true
-shown_due [] i t r e h = absurd (nothing_in_nil i t e)
-shown_due (q ∷ times) zero t r e h =
-    let same : q ≡ t = cc in by_left (is_by q.nanosecond r) (is_due times r) (ap (λ (x : Timestamp). is_by x.nanosecond r) same ∙ h)
-shown_due (q ∷ times) (suc i) t r e h = by_right (is_by q.nanosecond r) (is_due times r) (shown_due times i t r e h)
+shown_due : {A : Type 0} (instant : A → ℤ) (times : List Timestamp) (i : ℕ) (t : Timestamp) (r : A) → slice_get times i ≡ Some t → is_by instant t.nanosecond r ≡ true → is_due instant times r ≡ true
+shown_due instant [] i t r e h = absurd (nothing_in_nil i t e)
+shown_due instant (q ∷ times) zero t r e h =
+    let same : q ≡ t = cc in by_left (is_by instant q.nanosecond r) (is_due instant times r) (ap (λ (x : Timestamp). is_by instant x.nanosecond r) same ∙ h)
+shown_due instant (q ∷ times) (suc i) t r e h = by_right (is_by instant q.nanosecond r) (is_due instant times r) (shown_due instant times i t r e h)
 
-late_before : (t g : ℤ) (r : Reading) → t ≤ℤ g → is_by g r ≡ false → is_by t r ≡ false
-late_before t g r le late = grind (arith, ints)
+late_before : {A : Type 0} (instant : A → ℤ) (t g : ℤ) (r : A) → t ≤ℤ g → is_by instant g r ≡ false → is_by instant t r ≡ false
+late_before instant t g r le late = grind (arith, ints)
 
-none_shown : (times : List Timestamp) (g : ℤ) (r : Reading) → ((i : ℕ) (t : Timestamp) → slice_get times i ≡ Some t → t.nanosecond ≤ℤ g) → is_by g r ≡ false
-    → is_due times r ≡ false
-none_shown [] g r others late = refl
-none_shown (q ∷ times) g r others late =
-    neither (is_by q.nanosecond r) (is_due times r) (late_before q.nanosecond g r (others 0 q refl) late)
-    (none_shown times g r (λ i t e. others (suc i) t e) late)
+none_shown : {A : Type 0} (instant : A → ℤ) (times : List Timestamp) (g : ℤ) (r : A) → ((i : ℕ) (t : Timestamp) → slice_get times i ≡ Some t → t.nanosecond ≤ℤ g) → is_by instant g r ≡ false
+    → is_due instant times r ≡ false
+none_shown instant [] g r others late = refl
+none_shown instant (q ∷ times) g r others late =
+    neither (is_by instant q.nanosecond r) (is_due instant times r) (late_before instant q.nanosecond g r (others 0 q refl) late)
+    (none_shown instant times g r (λ i t e. others (suc i) t e) late)
 
-due_greatest : (times : List Timestamp) (g : Timestamp) (r : Reading) → IsGreatest times g → is_due times r ≡ is_by g.nanosecond r
-due_greatest times g r is = by_test (is_by g.nanosecond r) refl
+due_greatest : {A : Type 0} (instant : A → ℤ) (times : List Timestamp) (g : Timestamp) (r : A) → IsGreatest times g → is_due instant times r ≡ is_by instant g.nanosecond r
+due_greatest instant times g r is = by_test (is_by instant g.nanosecond r) refl
   where
-    by_test : (b : Bool) → is_by g.nanosecond r ≡ b → is_due times r ≡ b
-    by_test true due = shown_due times is.place g r is.there due
-    by_test false late = none_shown times g.nanosecond r is.others late
+    by_test : (b : Bool) → is_by instant g.nanosecond r ≡ b → is_due instant times r ≡ b
+    by_test true due = shown_due instant times is.place g r is.there due
+    by_test false late = none_shown instant times g.nanosecond r is.others late
 
-pub due_up_to_the_greatest : DueUpToTheGreatest
-due_up_to_the_greatest fires times g is = filter-alike (is_due times) (is_by g.nanosecond) fires (λ r h. due_greatest times g r is)
+pub due_up_to_the_greatest : {A : Type 0} (instant : A → ℤ) → DueUpToTheGreatest instant
+due_up_to_the_greatest instant fires times g is = filter-alike (is_due instant times) (is_by instant g.nanosecond) fires (λ r h. due_greatest instant times g r is)
 
 -- ---- restarts
 
-pub restarts_go_on : RestartsGoOn
-restarts_go_on s z (After now) before after r e = cut_after s z now.nanosecond before r after e
-restarts_go_on s z (Past item) before after r e = cut_past s z item before r after e
+pub restarts_go_on : {A : Type 0} (after : Sets → TimeZone → ℤ → List A) (past : Sets → TimeZone → A → List A)
+    → ((s : Sets) (z : TimeZone) (t : ℤ) → IsCut (after s z t) (past s z)) → ((s : Sets) (z : TimeZone) (r : A) → IsCut (past s z r) (past s z))
+    → RestartsGoOn after past
+restarts_go_on after past cut_after cut_past s z (After now) = cut_after s z now.nanosecond
+restarts_go_on after past cut_after cut_past s z (Past item) = cut_past s z item

@@ -1,10 +1,9 @@
 -- What the words of a run say of a schedule's fires.
-use Rattle.std.specs.Prelude.{◌≡◌, ◌++◌, ◌≤ℤ◌, ℕ, Some, List, ◌∷◌, filter, slice_get}
+use Rattle.std.specs.Prelude.{◌≡◌, ◌≤ℤ◌, ℕ, ℤ, Some, List, filter, slice_get}
 use Rattle.jiff_core.specs.declared.Timestamp.{Timestamp}
 use Rattle.jiff_tz.specs.declared.timezone.TimeZone.{TimeZone}
 use Rattle.cron_units.specs.Sets.{Sets}
-use Rattle.cron_moments.specs.Readings.{Reading}
-use Rattle.cron_instants.specs.Fires.{fires_past, is_by}
+use Rattle.cron_fires.specs.Rules.{IsCut, is_by}
 use Rattle.cron_scheduler.specs.declared.plan.Start.{Start}
 use Rattle.cron_scheduler.specs.Plans.{fires_from}
 use Rattle.cron_scheduler.specs.Runs.{is_due}
@@ -16,13 +15,12 @@ pub record IsGreatest (times : List Timestamp) (greatest : Timestamp) : Type 0 w
   pub others : (i : ℕ) (t : Timestamp) → slice_get times i ≡ Some t → t.nanosecond ≤ℤ greatest.nanosecond
 
 -- Of some fires, as those of a plan, those are due that come up to and with the greatest time shown.
-abbrev pub DueUpToTheGreatest : Type 0
-DueUpToTheGreatest =
-    (fires : List Reading) (times : List Timestamp) (greatest : Timestamp) → IsGreatest times greatest
-    → filter (is_due times) fires ≡ filter (is_by greatest.nanosecond) fires
+abbrev pub DueUpToTheGreatest : {A : Type 0} → (A → ℤ) → Type 0
+DueUpToTheGreatest {A} instant =
+    (fires : List A) (times : List Timestamp) (greatest : Timestamp) → IsGreatest times greatest
+    → filter (is_due instant times) fires ≡ filter (is_by instant greatest.nanosecond) fires
 
 -- Past one of the fires from a start come those behind it: a run that is begun past the last fire of another goes on from there.
-abbrev pub RestartsGoOn : Type 0
-RestartsGoOn =
-    (s : Sets) (z : TimeZone) (start : Start) (before after : List Reading) (r : Reading) → fires_from s z start ≡ before ++ r ∷ after
-    → fires_past s z r ≡ after
+abbrev pub RestartsGoOn : {A : Type 0} → (Sets → TimeZone → ℤ → List A) → (Sets → TimeZone → A → List A) → Type 0
+RestartsGoOn {A} after past =
+    (s : Sets) (z : TimeZone) (start : Start A) → IsCut (fires_from (after s z) (past s z) start) (past s z)

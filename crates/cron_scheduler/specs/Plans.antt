@@ -1,21 +1,19 @@
 -- The fires of a plan.
-use Rattle.std.specs.Prelude.{ℕ, Option, Some, None, List, take}
+use Rattle.std.specs.Prelude.{ℕ, ℤ, Option, Some, None, List, take}
 use Rattle.jiff_tz.specs.declared.timezone.TimeZone.{TimeZone}
 use Rattle.cron_units.specs.Sets.{Sets}
-use Rattle.cron_moments.specs.Readings.{Reading}
-use Rattle.cron_instants.specs.Fires.{fires_after, fires_past}
 use Rattle.cron_scheduler.specs.declared.plan.Start.{Start}
 use Rattle.cron_scheduler.specs.declared.plan.Start.TheVariants.{After, Past}
 
--- the fires from a start on, in order: those after an instant, or past an item
-abbrev pub fires_from : Sets → TimeZone → Start → List Reading
-fires_from s z (After now) = fires_after s z now.nanosecond
-fires_from s z (Past item) = fires_past s z item
+-- the fires from a start on, in order, by a rule that has those after an instant and those past a fire
+abbrev pub fires_from : {A : Type 0} → (ℤ → List A) → (A → List A) → Start A → List A
+fires_from after past (After now) = after now.nanosecond
+fires_from after past (Past fire) = past fire
 
 -- the first so many of them, or all
-abbrev pub first_of : Option ℕ → List Reading → List Reading
+abbrev pub first_of : {A : Type 0} → Option ℕ → List A → List A
 first_of None fires = fires
 first_of (Some most) fires = take most fires
 
-abbrev pub planned : Sets → TimeZone → Start → Option ℕ → List Reading
-planned s z start most = first_of most (fires_from s z start)
+abbrev pub planned : {A : Type 0} → (Sets → TimeZone → ℤ → List A) → (Sets → TimeZone → A → List A) → Sets → TimeZone → Start A → Option ℕ → List A
+planned after past s z start most = first_of most (fires_from (after s z) (past s z) start)

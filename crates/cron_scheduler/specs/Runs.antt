@@ -1,35 +1,34 @@
 -- What a run does, call by call, and which fires it runs.
-use Rattle.std.specs.Prelude.{◌≡◌, ◌⊎◌, ◌++◌, ◌*ℤ◌, pos, ◌-◌, ◌^◌, ℕ, Bool, true, false, ◌||◌, Option, Some, None, MatchOption, List, [], ◌∷◌, Result, Ok, Err, ⊤, length, filter, slice_get}
+use Rattle.std.specs.Prelude.{◌≡◌, ◌⊎◌, ◌++◌, ◌*ℤ◌, ℤ, pos, ◌-◌, ◌^◌, ℕ, Bool, true, false, ◌||◌, Option, Some, None, MatchOption, List, [], ◌∷◌, Result, Ok, Err, ⊤, length, filter, slice_get}
 use Rattle.std.specs.Option.{option_map}
 use Rattle.jiff_core.specs.declared.Timestamp.{Timestamp}
-use Rattle.cron_moments.specs.Readings.{Reading, instant}
-use Rattle.cron_instants.specs.Fires.{is_by}
+use Rattle.cron_fires.specs.Rules.{is_by}
 use Rattle.cron_scheduler.specs.declared.stop.Stop.{Stop}
 use Rattle.cron_scheduler.specs.declared.stop.Stop.TheVariants.{Clock, Job}
 
--- one call with its answer: a wait until an instant, a reading of the clock, or the job for a fire
-pub data Event (E F : Type 0) : Type 0 where
-  Wait : Timestamp → Result ⊤ E → Event E F
-  Look : Result Timestamp E → Event E F
-  Run : Reading → Result ⊤ F → Event E F
+-- one call with its answer: a wait until an instant, a reading of the clock, or the job for a fire. Fires are of any type that has their instants.
+pub data Event (A E F : Type 0) : Type 0 where
+  Wait : Timestamp → Result ⊤ E → Event A E F
+  Look : Result Timestamp E → Event A E F
+  Run : A → Result ⊤ F → Event A E F
 
 -- The calls were made one after another: from a clock and a job to what they were afterwards.
-abbrev pub Happened : {C J E F : Type 0} → (C → Result Timestamp E → C → Type 0) → (C → Timestamp → Result ⊤ E → C → Type 0)
-    → (J → Reading → Result ⊤ F → J → Type 0) → List (Event E F) → C → J → C → J → Type 0
+abbrev pub Happened : {A C J E F : Type 0} → (C → Result Timestamp E → C → Type 0) → (C → Timestamp → Result ⊤ E → C → Type 0)
+    → (J → A → Result ⊤ F → J → Type 0) → List (Event A E F) → C → J → C → J → Type 0
 Happened shows waits runs [] c j c' j' = (c' ≡ c) × (j' ≡ j)
-Happened {C} shows waits runs (Wait t answer ∷ es) c j c' j' = (next : C) × waits c t answer next × Happened shows waits runs es next j c' j'
-Happened {C} shows waits runs (Look answer ∷ es) c j c' j' = (next : C) × shows c answer next × Happened shows waits runs es next j c' j'
-Happened {C} {J} shows waits runs (Run r answer ∷ es) c j c' j' = (next : J) × runs j r answer next × Happened shows waits runs es c next c' j'
+Happened {A} {C} shows waits runs (Wait t answer ∷ es) c j c' j' = (next : C) × waits c t answer next × Happened shows waits runs es next j c' j'
+Happened {A} {C} shows waits runs (Look answer ∷ es) c j c' j' = (next : C) × shows c answer next × Happened shows waits runs es next j c' j'
+Happened {A} {C} {J} shows waits runs (Run r answer ∷ es) c j c' j' = (next : J) × runs j r answer next × Happened shows waits runs es c next c' j'
 
 -- the fires for which the job was run, in order
-abbrev pub ran : {E F : Type 0} → List (Event E F) → List Reading
+abbrev pub ran : {A E F : Type 0} → List (Event A E F) → List A
 ran [] = []
 ran (Wait t answer ∷ es) = ran es
 ran (Look answer ∷ es) = ran es
 ran (Run r answer ∷ es) = r ∷ ran es
 
 -- the times that the clock showed, in order
-abbrev pub shown : {E F : Type 0} → List (Event E F) → List Timestamp
+abbrev pub shown : {A E F : Type 0} → List (Event A E F) → List Timestamp
 shown [] = []
 shown (Wait t answer ∷ es) = shown es
 shown (Look (Ok t) ∷ es) = t ∷ shown es
@@ -37,34 +36,34 @@ shown (Look (Err e) ∷ es) = shown es
 shown (Run r answer ∷ es) = shown es
 
 -- one of these times is the fire's instant, or past it
-abbrev pub is_due : List Timestamp → Reading → Bool
-is_due [] r = false
-is_due (t ∷ ts) r = is_by t.nanosecond r || is_due ts r
+abbrev pub is_due : {A : Type 0} → (A → ℤ) → List Timestamp → A → Bool
+is_due instant [] r = false
+is_due instant (t ∷ ts) r = is_by instant t.nanosecond r || is_due instant ts r
 
 -- of some fires those up to the greatest time that the clock showed
-abbrev pub due : {E F : Type 0} → List Reading → List (Event E F) → List Reading
-due fires es = filter (is_due (shown es)) fires
+abbrev pub due : {A E F : Type 0} → (A → ℤ) → List A → List (Event A E F) → List A
+due instant fires es = filter (is_due instant (shown es)) fires
 
 -- the first one that wasn't run
-abbrev pub next : {E F : Type 0} → List Reading → List (Event E F) → Option Reading
+abbrev pub next : {A E F : Type 0} → List A → List (Event A E F) → Option A
 next fires es = slice_get fires (length (ran es))
 
 -- the last call was a wait
-abbrev pub HasWaited : {E F : Type 0} → List (Event E F) → Type 0
-HasWaited {E} {F} es = (earlier : List (Event E F)) × (t : Timestamp) × (es ≡ earlier ++ Wait t (Ok tt) ∷ [])
+abbrev pub HasWaited : {A E F : Type 0} → List (Event A E F) → Type 0
+HasWaited {A} {E} {F} es = (earlier : List (Event A E F)) × (t : Timestamp) × (es ≡ earlier ++ Wait t (Ok tt) ∷ [])
 
 -- What may be done after what was done before.
-abbrev pub MayFollow : {E F : Type 0} → List Reading → List (Event E F) → Event E F → Type 0
+abbrev pub MayFollow : {A E F : Type 0} → (A → ℤ) → List A → List (Event A E F) → Event A E F → Type 0
 -- once all that is due was run, a wait until the instant of the fire that comes next
-MayFollow fires before (Wait t answer) =
-    (HasWaited before → ⊥) × (ran before ≡ due fires before)
+MayFollow instant fires before (Wait t answer) =
+    (HasWaited before → ⊥) × (ran before ≡ due instant fires before)
     × (option_map (λ r. instant r *ℤ pos 1_000_000_000) (next fires before) ≡ Some t.nanosecond)
 -- after a wait, a look at the clock
-MayFollow fires before (Look answer) = HasWaited before
+MayFollow instant fires before (Look answer) = HasWaited before
 -- the job for the fire that comes next, if it is due
-MayFollow fires before (Run r answer) = (next fires before ≡ Some r) × (is_due (shown before) r ≡ true)
+MayFollow instant fires before (Run r answer) = (next fires before ≡ Some r) × (is_due instant (shown before) r ≡ true)
 
-abbrev pub failure : {E F : Type 0} → Event E F → Option (Stop E F)
+abbrev pub failure : {A E F : Type 0} → Event A E F → Option (Stop E F)
 failure (Wait t (Ok done)) = None
 failure (Wait t (Err e)) = Some (Clock e)
 failure (Look (Ok t)) = None
@@ -78,22 +77,22 @@ stop_text clock job (Clock e) = clock e
 stop_text clock job (Job f) = job f
 
 -- The calls end at the first one that fails, and its failure is the answer.
-abbrev pub EndsBy : {E F : Type 0} → List (Event E F) → Result ⊤ (Stop E F) → Type 0
+abbrev pub EndsBy : {A E F : Type 0} → List (Event A E F) → Result ⊤ (Stop E F) → Type 0
 EndsBy [] answer = answer ≡ Ok tt
 EndsBy (e ∷ es) answer = MatchOption (failure e) (EndsBy es answer) (λ stop. (es ≡ []) × (answer ≡ Err stop))
 
 -- What was run in the end: all that was due; where nothing failed all of the fires, unless the clock was read 2^64 - 1 times,
 -- and no wait came last; and where the job failed a beginning of what was due, since it failed for the last one that was run.
-abbrev pub RunsWhole : {E F : Type 0} → Result ⊤ (Stop E F) → List Reading → List (Event E F) → Type 0
-RunsWhole (Ok done) fires es = (ran es ≡ due fires es) × ((ran es ≡ fires) ⊎ (length (shown es) ≡ 2 ^ 64 - 1)) × (HasWaited es → ⊥)
-RunsWhole (Err (Clock e)) fires es = ran es ≡ due fires es
-RunsWhole (Err (Job f)) fires es = (left : List Reading) × (due fires es ≡ ran es ++ left)
+abbrev pub RunsWhole : {A E F : Type 0} → (A → ℤ) → Result ⊤ (Stop E F) → List A → List (Event A E F) → Type 0
+RunsWhole instant (Ok done) fires es = (ran es ≡ due instant fires es) × ((ran es ≡ fires) ⊎ (length (shown es) ≡ 2 ^ 64 - 1)) × (HasWaited es → ⊥)
+RunsWhole instant (Err (Clock e)) fires es = ran es ≡ due instant fires es
+RunsWhole {A} instant (Err (Job f)) fires es = (left : List A) × (due instant fires es ≡ ran es ++ left)
 
 -- A run over some fires: its calls, from a clock and a job to what they were afterwards.
-pub record IsRun {C J E F : Type 0} (shows : C → Result Timestamp E → C → Type 0) (waits : C → Timestamp → Result ⊤ E → C → Type 0)
-    (runs : J → Reading → Result ⊤ F → J → Type 0) (fires : List Reading) (c : C) (j : J) (answer : Result ⊤ (Stop E F)) (c' : C) (j' : J) : Type 0 where
-  pub calls : List (Event E F)
+pub record IsRun {A C J E F : Type 0} (shows : C → Result Timestamp E → C → Type 0) (waits : C → Timestamp → Result ⊤ E → C → Type 0)
+    (runs : J → A → Result ⊤ F → J → Type 0) (instant : A → ℤ) (fires : List A) (c : C) (j : J) (answer : Result ⊤ (Stop E F)) (c' : C) (j' : J) : Type 0 where
+  pub calls : List (Event A E F)
   pub happened : Happened shows waits runs calls c j c' j'
-  pub in_turn : (before after : List (Event E F)) (e : Event E F) → calls ≡ before ++ e ∷ after → MayFollow fires before e
+  pub in_turn : (before after : List (Event A E F)) (e : Event A E F) → calls ≡ before ++ e ∷ after → MayFollow instant fires before e
   pub ends : EndsBy calls answer
-  pub whole : RunsWhole answer fires calls
+  pub whole : RunsWhole instant answer fires calls

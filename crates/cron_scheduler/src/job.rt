@@ -1,12 +1,9 @@
 //! What is run at each fire.
 
 ghost use Rattle.std.specs.Prelude.{⊤, Result};
-ghost use Rattle.cron_moments.specs.Readings.{Reading};
-
-use cron::schedule::Moment;
 
 /// What is run at each fire.
-pub trait Job {
+pub trait Job<F> {
     /// Why it failed, which ends a run.
     type Error;
 
@@ -14,24 +11,24 @@ pub trait Job {
     ghost can_run: { Self → Type 0 } = { λ _. Unit {0} };
 
     // one run: the job before it, the fire, the answer, and the job after it
-    ghost runs: { Self → Reading → Result ⊤ Self.Error → Self → Type 0 } = { λ _ _ _ _. Unit {0} };
+    ghost runs: { Self → F → Result ⊤ Self.Error → Self → Type 0 } = { λ _ _ _ _. Unit {0} };
 
     /// Runs the job for a fire.
-    fn run(&mut self, fire: Moment) -> Result<(), Self::Error>
+    fn run(&mut self, fire: F) -> Result<(), Self::Error>
         requires { can_run self.old }
         ensures stays { can_run self.new }
         ensures call { runs self.old fire result self.new };
 }
 
 /// A closure is a job.
-impl<E, F: FnMut(Moment) -> Result<(), E>> Job for F {
+impl<E, F, C: FnMut(F) -> Result<(), E>> Job<F> for C {
     type Error = E;
 
-    ghost can_run = { λ f. F.IsAlwaysCallable f };
+    ghost can_run = { λ c. C.IsAlwaysCallable c };
 
-    ghost runs = { λ old fire result new. F.step old fire result new };
+    ghost runs = { λ old fire result new. C.step old fire result new };
 
-    fn run(&mut self, fire: Moment) -> Result<(), E> {
+    fn run(&mut self, fire: F) -> Result<(), E> {
         self(fire)
     }
 }

@@ -11,6 +11,9 @@
 //! };
 //! plan.run(&mut clock, &mut |fire: Moment| println!(rt; "{fire}"))?;
 //! ```
+//!
+//! A job that takes a `DueFire` in place of a `Moment` is run once for each match, also where the clock
+//! changes.
 #![tactic(auto)]
 
 mod clock;

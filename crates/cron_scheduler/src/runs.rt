@@ -10,6 +10,7 @@ use crate::clock::AlarmClock;
 use crate::job::Job;
 use crate::plan::{Plan, Rest};
 use crate::stop::Stop;
+use cron_fires::Fire;
 use jiff::Timestamp;
 
 // Waits until an instant, and tells what the clock shows then.
@@ -21,15 +22,15 @@ fn wake_at<C: AlarmClock>(clock: &mut C, instant: Timestamp) -> Result<Timestamp
 }
 
 // Runs the job for each fire that is due by now, and leaves these fires out.
-fn run_due<J: Job>(
-    plan: &Plan<'_>,
-    rest: &mut Rest,
+fn run_due<F: Fire, J: Job<F>>(
+    plan: &Plan<'_, F>,
+    rest: &mut Rest<F>,
     now: Timestamp,
     job: &mut J,
 ) -> Result<(), J::Error>
     requires { J.can_run job.old }
-    ensures due { RunsDue J.runs now.nanosecond (planned plan.now.schedule.now.sets (plain_zone plan.now.zone.now) rest.old.start rest.old.most) job.old
-        result (planned plan.now.schedule.now.sets (plain_zone plan.now.zone.now) rest.new.start rest.new.most) job.new }
+    ensures due { RunsDue F.at J.runs now.nanosecond (planned F.after F.past plan.now.schedule.now.sets (plain_zone plan.now.zone.now) rest.old.start rest.old.most) job.old
+        result (planned F.after F.past plan.now.schedule.now.sets (plain_zone plan.now.zone.now) rest.new.start rest.new.most) job.new }
     ensures stays { J.can_run job.new }
 {
     while let Some(fire) = plan.first_due(rest, now) {
@@ -39,7 +40,7 @@ fn run_due<J: Job>(
     Ok(())
 }
 
-impl Plan<'_> {
+impl<F: Fire> Plan<'_, F> {
     /// Runs the job for the fires of the plan, each once, in order, and none before its instant. It waits for
     /// the fire that comes next, reads the clock, runs all that is due by then, and again. The job must be
     /// one that may be called (`can_run`), as a closure without a condition of its own is.
@@ -47,14 +48,14 @@ impl Plan<'_> {
     /// It ends when all of the fires were run; where the clock fails, with all run that was due by the
     /// greatest time it had shown; and where the job fails. Else it goes on for as long as the schedule
     /// fires, up to 2^64 - 1 readings of the clock.
-    pub fn run<C: AlarmClock, J: Job>(
+    pub fn run<C: AlarmClock, J: Job<F>>(
         &self,
         clock: &mut C,
         job: &mut J,
     ) -> Result<(), Stop<C::Error, J::Error>>
         requires { J.can_run job.old }
-        ensures run { IsRun C.shows C.waits J.runs
-            (planned self.now.schedule.now.sets (plain_zone self.now.zone.now) self.now.start self.now.most)
+        ensures run { IsRun C.shows C.waits J.runs F.at
+            (planned F.after F.past self.now.schedule.now.sets (plain_zone self.now.zone.now) self.now.start self.now.most)
             clock.old job.old result clock.new job.new }
         ensures stays { J.can_run job.new }
     {
@@ -66,7 +67,7 @@ impl Plan<'_> {
             let Some(fire) = self.first(&rest) else {
                 return Ok(());
             };
-            let now = match wake_at(clock, fire.timestamp()) {
+            let now = match wake_at(clock, fire.instant()) {
                 Ok(now) => now,
                 Err(error) => return Err(Stop::Clock(error)),
             };

@@ -2,6 +2,7 @@
 
 mod clocks;
 mod machine;
+mod once;
 mod stops;
 mod told;
 
@@ -30,7 +31,7 @@ struct Ran {
 fn run_told(
     rt: &(impl Abort + AllocGlobal),
     expression: &str,
-    start: Start,
+    start: Start<Moment>,
     most: Option<u64>,
     times: &[i64],
 ) -> Ran {
@@ -55,6 +56,6 @@ fn run_told(
     }
 }
 
-fn after(rt: &impl Abort, second: i64) -> Start {
+fn after(rt: &impl Abort, second: i64) -> Start<Moment> {
     Start::After(Timestamp::from_second(second).expect(rt, "an instant"))
 }

@@ -93,7 +93,7 @@ fn a_gap_is_passed(rt: HostRuntime) {
 }
 
 // Half past one on the day of the fold, as a service noted it.
-fn noted(rt: &impl Abort, offset: i32) -> Start {
+fn noted(rt: &impl Abort, offset: i32) -> Start<Moment> {
     let shown = DateTime::new(2022, 11, 6, 1, 30, 0, 0).expect(rt, "a civil datetime");
     let offset = Offset::from_seconds(offset).expect(rt, "an offset");
     Start::Past(Moment::from_parts(shown, offset).expect(rt, "a moment"))
@@ -146,7 +146,7 @@ struct FailsAtSecond {
     runs: u8,
 }
 
-impl Job for FailsAtSecond {
+impl Job<Moment> for FailsAtSecond {
     type Error = Moment;
 
     fn run(&mut self, fire: Moment) -> Result<(), Moment> {

@@ -1,7 +1,7 @@
 use Rattle.std.proofs.Common.{◌≡◌, ◌++◌, ◌∷◌, [], sym, ◌∙◌, ap}
 use Rattle.std.proofs.lemmas.Result.{err_from_is_err_and}
 use Rattle.jiff.specs.Words.{plain_zone}
-use Rattle.cron_instants.specs.Fires.{is_by}
+use Rattle.cron_fires.specs.Rules.{is_by}
 use Rattle.cron_scheduler.specs.declared.plan.Start.TheVariants.{Past}
 use Rattle.cron_scheduler.specs.Plans.{planned}
 use Rattle.cron_scheduler.specs.Inner.Passing.{planned_past}
@@ -25,12 +25,12 @@ loop-fire-preserved g c =
     let first = c.in-Some.ensures in
     let s = c.args.plan.now.schedule.now.sets in
     let z = plain_zone c.args.plan.now.zone.now in
-    let passed : planned_past s z fire c.loop-fire.rest.most ≡ planned s z c.pass.new.self.start c.pass.new.self.most =
-    sym (ap (λ start. planned s z start c.pass.new.self.most) c.pass.ensures.start
-    ∙ ap (λ most. planned s z (Past fire) most) c.pass.ensures.most) in (
+    let passed : planned_past g.F.Fire.after g.F.Fire.past s z fire c.loop-fire.rest.most ≡ planned g.F.Fire.after g.F.Fire.past s z c.pass.new.self.start c.pass.new.self.most =
+    sym (ap (λ start. planned g.F.Fire.after g.F.Fire.past s z start c.pass.new.self.most) c.pass.ensures.start
+    ∙ ap (λ most. planned g.F.Fire.after g.F.Fire.past s z (Past fire) most) c.pass.ensures.most) in (
       rs ++ fire ∷ [],
       ran_on g.J.Job.runs rs fire _ c.loop-fire.job c.run.new.self went c.in_ok-run.ensures.call,
       left_on _ rs _ _ fire split (first.0 ∙ ap (λ l. fire ∷ l) passed),
-      pass_on (is_by c.args.now.nanosecond) rs fire by first.1,
+      pass_on (is_by g.F.Fire.at c.args.now.nanosecond) rs fire by first.1,
       c.in_ok-run.ensures.stays,
     )

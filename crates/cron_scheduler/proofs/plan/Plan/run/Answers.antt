@@ -9,7 +9,7 @@ pub loop-init : goal.loop-init
 loop-init g c =
     let s = c.args.self.now.schedule.now.sets in
     let z = plain_zone c.args.self.now.zone.now in (
-      at_first g.C.AlarmClock.shows g.C.AlarmClock.waits g.J.Job.runs (planned s z c.args.self.now.start c.args.self.now.most) c.args.clock.now
+      at_first g.C.AlarmClock.shows g.C.AlarmClock.waits g.J.Job.runs g.F.Fire.at (planned g.F.Fire.after g.F.Fire.past s z c.args.self.now.start c.args.self.now.most) c.args.clock.now
           c.args.job.now,
       c.requires,
     )
@@ -18,47 +18,47 @@ pub returns-in_default-clause-run : goal.returns-in_default-clause-run
 returns-in_default-clause-run g c =
     let s = c.args.self.now.schedule.now.sets in
     let z = plain_zone c.args.self.now.zone.now in
-    let fires = planned s z c.args.self.now.start c.args.self.now.most in
-    let left = planned s z c.loop.rest.start c.loop.rest.most in
-    ended g.C.AlarmClock.shows g.C.AlarmClock.waits g.J.Job.runs fires left c.loop.counter c.args.clock.now c.args.job.now c.loop.clock
+    let fires = planned g.F.Fire.after g.F.Fire.past s z c.args.self.now.start c.args.self.now.most in
+    let left = planned g.F.Fire.after g.F.Fire.past s z c.loop.rest.start c.loop.rest.most in
+    ended g.C.AlarmClock.shows g.C.AlarmClock.waits g.J.Job.runs g.F.Fire.at fires left c.loop.counter c.args.clock.now c.args.job.now c.loop.clock
     c.loop.job c.loop.invariant.0 c.in_default.ensures
 
 pub returns-in-Err-clause-run : goal.returns-in-Err-clause-run
 returns-in-Err-clause-run g c =
     let s = c.args.self.now.schedule.now.sets in
     let z = plain_zone c.args.self.now.zone.now in
-    let fires = planned s z c.args.self.now.start c.args.self.now.most in
-    let left = planned s z c.loop.rest.start c.loop.rest.most in
-    let rest = planned_past s z c.in-Some.fire c.loop.rest.most in
-    clock_fails g.C.AlarmClock.shows g.C.AlarmClock.waits g.J.Job.runs fires left rest c.loop.counter c.args.clock.now c.args.job.now
+    let fires = planned g.F.Fire.after g.F.Fire.past s z c.args.self.now.start c.args.self.now.most in
+    let left = planned g.F.Fire.after g.F.Fire.past s z c.loop.rest.start c.loop.rest.most in
+    let rest = planned_past g.F.Fire.after g.F.Fire.past s z c.in-Some.fire c.loop.rest.most in
+    clock_fails g.C.AlarmClock.shows g.C.AlarmClock.waits g.J.Job.runs g.F.Fire.at fires left rest c.loop.counter c.args.clock.now c.args.job.now
     c.loop.clock c.loop.job
-    c.wake_at.new.clock c.in-Some.fire c.timestamp.result c.in-Err.error c.loop.invariant.0 c.in-Some.ensures c.timestamp.ensures c.in-Err.ensures
+    c.wake_at.new.clock c.in-Some.fire c.instant.result c.in-Err.error c.loop.invariant.0 c.in-Some.ensures c.instant.ensures c.in-Err.ensures
 
 pub returns-in-Err-run_due-clause-run : goal.returns-in-Err-run_due-clause-run
 returns-in-Err-run_due-clause-run g c =
     let s = c.args.self.now.schedule.now.sets in
     let z = plain_zone c.args.self.now.zone.now in
-    let fires = planned s z c.args.self.now.start c.args.self.now.most in
-    let left = planned s z c.loop.rest.start c.loop.rest.most in
-    let rest = planned_past s z c.in-Some.fire c.loop.rest.most in
-    let after = planned s z c.run_due.new.rest.start c.run_due.new.rest.most in
-    job_fails g.C.AlarmClock.shows g.C.AlarmClock.waits g.J.Job.runs fires left after rest c.loop.counter c.args.clock.now c.args.job.now
+    let fires = planned g.F.Fire.after g.F.Fire.past s z c.args.self.now.start c.args.self.now.most in
+    let left = planned g.F.Fire.after g.F.Fire.past s z c.loop.rest.start c.loop.rest.most in
+    let rest = planned_past g.F.Fire.after g.F.Fire.past s z c.in-Some.fire c.loop.rest.most in
+    let after = planned g.F.Fire.after g.F.Fire.past s z c.run_due.new.rest.start c.run_due.new.rest.most in
+    job_fails g.C.AlarmClock.shows g.C.AlarmClock.waits g.J.Job.runs g.F.Fire.at fires left after rest c.loop.counter c.args.clock.now c.args.job.now
     c.loop.clock c.loop.job
-    c.wake_at.new.clock c.run_due.new.job c.in-Some.fire c.timestamp.result c.in-Ok.now c.in-Err-run_due.error
-    c.loop.invariant.0 c.in-Some.ensures c.timestamp.ensures c.in-Ok.ensures c.in-Err-run_due.ensures.due
+    c.wake_at.new.clock c.run_due.new.job c.in-Some.fire c.instant.result c.in-Ok.now c.in-Err-run_due.error
+    c.loop.invariant.0 c.in-Some.ensures c.instant.ensures c.in-Ok.ensures c.in-Err-run_due.ensures.due
 
 pub loop-preserved : goal.loop-preserved
 loop-preserved g c =
     let s = c.args.self.now.schedule.now.sets in
     let z = plain_zone c.args.self.now.zone.now in
-    let fires = planned s z c.args.self.now.start c.args.self.now.most in
-    let left = planned s z c.loop.rest.start c.loop.rest.most in
-    let rest = planned_past s z c.in-Some.fire c.loop.rest.most in
-    let after = planned s z c.run_due.new.rest.start c.run_due.new.rest.most in (
-      round g.C.AlarmClock.shows g.C.AlarmClock.waits g.J.Job.runs fires left after rest c.loop.counter c.args.clock.now c.args.job.now
+    let fires = planned g.F.Fire.after g.F.Fire.past s z c.args.self.now.start c.args.self.now.most in
+    let left = planned g.F.Fire.after g.F.Fire.past s z c.loop.rest.start c.loop.rest.most in
+    let rest = planned_past g.F.Fire.after g.F.Fire.past s z c.in-Some.fire c.loop.rest.most in
+    let after = planned g.F.Fire.after g.F.Fire.past s z c.run_due.new.rest.start c.run_due.new.rest.most in (
+      round g.C.AlarmClock.shows g.C.AlarmClock.waits g.J.Job.runs g.F.Fire.at fires left after rest c.loop.counter c.args.clock.now c.args.job.now
           c.loop.clock c.loop.job
-          c.wake_at.new.clock c.run_due.new.job c.in-Some.fire c.timestamp.result c.in-Ok.now
-          c.loop.invariant.0 c.in-Some.ensures c.timestamp.ensures c.in-Ok.ensures c.in_default-run_due.ensures.due,
+          c.wake_at.new.clock c.run_due.new.job c.in-Some.fire c.instant.result c.in-Ok.now
+          c.loop.invariant.0 c.in-Some.ensures c.instant.ensures c.in-Ok.ensures c.in_default-run_due.ensures.due,
       c.run_due.ensures.stays,
     )
 
@@ -66,8 +66,8 @@ pub returns-clause-run : goal.returns-clause-run
 returns-clause-run g c =
     let s = c.args.self.now.schedule.now.sets in
     let z = plain_zone c.args.self.now.zone.now in
-    let fires = planned s z c.args.self.now.start c.args.self.now.most in
-    let left = planned s z c.loop.rest.start c.loop.rest.most in
+    let fires = planned g.F.Fire.after g.F.Fire.past s z c.args.self.now.start c.args.self.now.most in
+    let left = planned g.F.Fire.after g.F.Fire.past s z c.loop.rest.start c.loop.rest.most in
     let all : c.loop.counter ≡ 2 ^ 64 - 1 = omega arith in
-    spent g.C.AlarmClock.shows g.C.AlarmClock.waits g.J.Job.runs fires left c.loop.counter c.args.clock.now c.args.job.now c.loop.clock
+    spent g.C.AlarmClock.shows g.C.AlarmClock.waits g.J.Job.runs g.F.Fire.at fires left c.loop.counter c.args.clock.now c.args.job.now c.loop.clock
     c.loop.job c.loop.invariant.0 all

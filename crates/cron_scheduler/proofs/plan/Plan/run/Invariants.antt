@@ -5,8 +5,8 @@ use Rattle.cron_scheduler.proofs.plan.Plan.run.Given as goal
 
 abbrev pub invariant-loop : goal.invariant-loop
 invariant-loop g l =
-    (Stands g.C.AlarmClock.shows g.C.AlarmClock.waits g.J.Job.runs
-    (planned l.self.schedule.now.sets (plain_zone l.self.zone.now) l.self.start l.self.most)
-    (planned l.self.schedule.now.sets (plain_zone l.self.zone.now) l.rest.start l.rest.most)
+    (Stands g.C.AlarmClock.shows g.C.AlarmClock.waits g.J.Job.runs g.F.Fire.at
+    (planned g.F.Fire.after g.F.Fire.past l.self.schedule.now.sets (plain_zone l.self.zone.now) l.self.start l.self.most)
+    (planned g.F.Fire.after g.F.Fire.past l.self.schedule.now.sets (plain_zone l.self.zone.now) l.rest.start l.rest.most)
     l.counter l.initial.clock l.initial.job l.clock l.job)
     × g.J.Job.can_run l.job
