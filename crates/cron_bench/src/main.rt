@@ -1,8 +1,9 @@
 //! `cron_bench run` prints what a parse and a call of a walk cost, in nanoseconds; `cron_bench growth`
 //! what parses of longer and longer lists cost; `cron_bench lines` what each of 100,000 varied lines
 //! costs, and of the lines that `cron_check` checks; `cron_bench print` those lines; and `cron_bench turn
-//! FILE` what runs cost around a turn of the zone in a file. With no word it prints nothing. At other words,
-//! and where a text, a zone or a file is refused, it ends with an error and the status 1.
+//! FILE` what runs cost around a turn of the zone in a file; `cron_bench unions` what a fire of two schedules
+//! as one costs. With no word it prints nothing. At other words, and where a text, a zone or a file is
+//! refused, it ends with an error and the status 1.
 #![tactic(auto)]
 
 mod calls;
@@ -11,6 +12,7 @@ mod lines;
 mod parses;
 mod rounds;
 mod turns;
+mod unions;
 mod walks;
 
 use anyhow::{Result, bail};
@@ -33,7 +35,8 @@ fn run(rt: &HostRuntime, words: &[String]) -> Result<()> {
         }
         ("print", []) => lines::print(rt),
         ("turn", [path]) => turns::run(rt, path.as_str()),
-        _ => bail!("usage: cron_bench [run | growth | lines | print | turn FILE]"),
+        ("unions", []) => unions::run(rt),
+        _ => bail!("usage: cron_bench [run | growth | lines | print | turn FILE | unions]"),
     }
 }
 
