@@ -73,11 +73,11 @@ matches_one : (s : Sets) (n : ℕ) → filter (λ c. matches_any (s ∷ []) (civ
 matches_one s n =
     filter-alike (λ c. matches_any (s ∷ []) (civil c)) (λ c. matches s (civil c)) (numbers_below n) (λ c h. or_nothing (matches s (civil c)))
 
-one_seconds : (s : Sets) → seconds_of_any (s ∷ []) ≡ matching_seconds s
+pub one_seconds : (s : Sets) → seconds_of_any (s ∷ []) ≡ matching_seconds s
 unfolding seconds_of_any matching_seconds
 one_seconds s = matches_one s seconds_in_range
 
-one_timeline : (s : Sets) (z : TimeZone) → timeline_any (s ∷ []) z ≡ timeline s z
+pub one_timeline : (s : Sets) (z : TimeZone) → timeline_any (s ∷ []) z ≡ timeline s z
 unfolding timeline_any seconds_of_any timeline items_below
 one_timeline s z = ap (flat_map (readings z)) (matches_one s seconds_in_range)
 

@@ -1,6 +1,7 @@
 pub mod AnyLemmas
 pub mod UnionLemmas
 pub mod LawLemmas
+pub mod OneLemmas
 pub mod BestLemmas
 pub mod NearestLemmas
 pub mod MergeLemmas
