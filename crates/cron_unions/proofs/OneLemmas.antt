@@ -9,7 +9,7 @@ use Rattle.cron_instants.specs.Order.{is_earlier}
 use Rattle.cron_dues.specs.Due.{Due, due}
 use Rattle.cron_dues.specs.Dues.{is_due_after, is_due_by, is_past}
 use Rattle.cron_dues.specs.FirstDues.{IsFirst, IsLast, IsFirstDueAfter, IsFirstDuePast, IsLastDueBy}
-use Rattle.cron_dues.proofs.ListLemmas.{Among}
+use Rattle.cron_time.proofs.ListLemmas.{Among}
 use Rattle.cron_unions.specs.FirstOfAny.{IsFirstAfterAny, IsFirstPastAny, IsLastByAny}
 use Rattle.cron_unions.specs.UnionDues.{IsFirstDueAfterAny, IsFirstDuePastAny, IsLastDueByAny}
 use Rattle.cron_unions.proofs.LawLemmas.{one_seconds, one_timeline}
