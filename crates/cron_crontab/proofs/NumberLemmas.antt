@@ -1,14 +1,22 @@
 -- Numbers, as they are written.
-use Rattle.std.proofs.Common.{◌≡◌, ℕ, zero, suc, ◌+◌, ◌-◌, ◌^◌, ◌<◌, ◌≤◌, true, List, [], ◌∷◌, length, take, get_or, lit<, ◌∙◌, subst, arith}
+use Rattle.std.proofs.Common.{◌≡◌, ℕ, zero, suc, ◌+◌, ◌-◌, ◌^◌, ◌<◌, ◌≤◌, ◌==◌, true, false, List, [], ◌∷◌, length, take, get_or, lit<, refl, sym, ap, ◌∙◌, subst, arith}
 use Rattle.std.specs.Char.{is_ascii_alphanumeric, is_ascii_digit, digit_value}
 use Rattle.std.specs.List.{prefix_len, list_all}
 use Rattle.std.specs.Str.{IsUtf8, IsCharBoundary}
 use Rattle.std.specs.Str.Parse.{digits_value, AllDigits}
 use native.Mathlib.Nat.{pow-le-pow_right}
 use Rattle.std.proofs.Math.Nat.{min-eq_left}
-use Rattle.std.proofs.lemmas.List.{length-take}
+use Rattle.std.proofs.lemmas.List.{length-take, length-drop, take_all}
 use Rattle.std.proofs.lemmas.Int.Digits.{digits_value-lt}
 use Rattle.std.proofs.lemmas.List.Sums.{prefix_len-le-length, prefix_len_passes}
+use Rattle.std.specs.Prelude.{Result, Ok}
+use Rattle.cron_crontab.specs.Items.{alone, behind, bounded, front, named, number_of, spelt}
+use Rattle.cron_units.specs.Units.{named_in}
+use Rattle.cron_crontab.specs.Fields.{least, greatest, names}
+use Rattle.cron_crontab.specs.Refusals.{Reason, no_number}
+use Rattle.std.proofs.lemmas.Bool.{eq-eqb, ne_eqb, le-leb, le-ltb, lt-ltb}
+use Rattle.cron_crontab.specs.Inner.Reading.{AreDigits, IsWithin}
+use Rattle.cron_crontab.specs.declared.field.Field.{Field}
 use Rattle.std.proofs.lemmas.Str.{IsCharBoundary-start, IsCharBoundary-after_ascii}
 
 alphanumeric_ascii : (c : ℕ) → is_ascii_alphanumeric c ≡ true → c < 128
@@ -37,17 +45,68 @@ digit_at (c ∷ cs) (suc i) all lt = digit_at cs i (grind arith) (omega arith)
 pub digit_is : (c : ℕ) → is_ascii_digit c ≡ true → (48 ≤ c) × (c ≤ 57) × (digit_value c ≡ c - 48)
 digit_is c digit = (grind arith, grind arith, grind arith)
 
-all_digits : (text : List ℕ) (i : ℕ) → list_all is_ascii_digit text ≡ true → AllDigits 10 (take i text)
-all_digits [] zero all = tt
-all_digits [] (suc i) all = tt
-all_digits (c ∷ cs) zero all = tt
-all_digits (c ∷ cs) (suc i) all = (let d = digit_is c (grind arith) in omega arith, all_digits cs i (grind arith))
+all_digits : (text : List ℕ) → list_all is_ascii_digit text ≡ true → AllDigits 10 text
+all_digits [] all = tt
+all_digits (c ∷ cs) all = (let d = digit_is c (grind arith) in omega arith, all_digits cs (grind arith))
 
 -- eight digits spell less than 10^8
-pub few_digits : (text : List ℕ) (i : ℕ) → list_all is_ascii_digit text ≡ true → i < 9 → i ≤ length text → digits_value 10 (take i text) < 100000000
-few_digits text i all few le =
-    let small = digits_value-lt 10 (take i text) (all_digits text i all) in
+pub few_before : (text : List ℕ) (i : ℕ) → list_all is_ascii_digit (take i text) ≡ true → i < 9 → i ≤ length text → digits_value 10 (take i text) < 100000000
+few_before text i all few le =
+    let small = digits_value-lt 10 (take i text) (all_digits (take i text) all) in
     let long : length (take i text) ≡ i = length-take i text ∙ min-eq_left le in
     let most : i ≤ 8 = omega arith in
     let power : 10 ^ i ≤ 10 ^ 8 = pow-le-pow_right (lit< tt) most in
     omega (arith, rw long at small, power)
+
+all_before : (text : List ℕ) (i : ℕ) → list_all is_ascii_digit text ≡ true → list_all is_ascii_digit (take i text) ≡ true
+all_before [] zero all = refl
+all_before [] (suc i) all = refl
+all_before (c ∷ cs) zero all = refl
+all_before (c ∷ cs) (suc i) all = let rest = all_before cs i (grind arith) in grind arith
+
+pub few_digits : (text : List ℕ) (i : ℕ) → list_all is_ascii_digit text ≡ true → i < 9 → i ≤ length text → digits_value 10 (take i text) < 100000000
+few_digits text i all few le = few_before text i (all_before text i all) few le
+
+all_suc : (text : List ℕ) (i : ℕ) → i < length text → list_all is_ascii_digit (take i text) ≡ true → is_ascii_digit (get_or text i 0) ≡ true
+    → list_all is_ascii_digit (take (suc i) text) ≡ true
+all_suc [] i lt all digit = absurd (omega arith)
+all_suc (c ∷ cs) zero lt all digit = grind arith
+all_suc (c ∷ cs) (suc i) lt all digit = let rest = all_suc cs i (omega arith) (grind arith) digit in grind arith
+
+-- one digit more
+pub all_more : (text : List ℕ) (i : ℕ) → i < length text → list_all is_ascii_digit (take i text) ≡ true → is_ascii_digit (get_or text i 0) ≡ true
+    → list_all is_ascii_digit (take (i + 1) text) ≡ true
+all_more text i lt all digit = let same : i + 1 ≡ suc i = omega arith in rw same (all_suc text i lt all digit)
+
+-- ---- digits alone
+
+alphanumeric : (c : ℕ) → is_ascii_digit c ≡ true → is_ascii_alphanumeric c ≡ true
+alphanumeric c digit = grind arith
+
+whole_front : (text : List ℕ) → list_all is_ascii_digit text ≡ true → prefix_len is_ascii_alphanumeric text ≡ length text
+whole_front [] all = refl
+whole_front (c ∷ cs) all = let here = alphanumeric c (grind arith) in let rest = whole_front cs (grind arith) in rw here (omega arith)
+
+number_from : (f : Field) (text : List ℕ) (n : ℕ) → (length text == 0) ≡ false → spelt (front text) (named (named_in (names f) (front text)) (no_number text)) ≡ Ok n
+    → bounded f n ≡ Ok n → alone text n ≡ Ok n → number_of f text ≡ Ok n
+number_from f text n some is within last = rw (some, is, within, last) refl
+
+spelt_digits : (text : List ℕ) (n : ℕ) (other : Result ℕ Reason) → AreDigits text n → spelt text other ≡ Ok n
+spelt_digits text n other are = rw (lt-ltb 0 (length text) are.some, are.digits, le-ltb 9 (length text) are.few) (ap Ok (sym are.is))
+
+in_bounds : (f : Field) (n : ℕ) → IsWithin f n → bounded f n ≡ Ok n
+in_bounds f n within = rw (le-leb (least f) n within.0, le-leb n (greatest f) within.1) refl
+
+-- digits alone are their own front, so that only the bounds are left
+pub digits_number : (f : Field) (text : List ℕ) (n : ℕ) → AreDigits text n → IsWithin f n → number_of f text ≡ Ok n
+digits_number f text n are within =
+    let whole = whole_front text are.digits in
+    let same : front text ≡ text = take_all (prefix_len is_ascii_alphanumeric text) text (omega arith) in
+    let nothing_left : length text - prefix_len is_ascii_alphanumeric text ≡ 0 = omega arith in
+    let none : length (behind text) ≡ 0 = length-drop (prefix_len is_ascii_alphanumeric text) text ∙ nothing_left in
+    let some = are.some in
+    let other = named (named_in (names f) (front text)) (no_number text) in
+    number_from f text n (ne_eqb (length text) 0 (λ e. omega arith))
+    (ap (λ t. spelt t other) same ∙ spelt_digits text n other are)
+    (in_bounds f n within)
+    (rw (eq-eqb (length (behind text)) 0 none) refl)

@@ -41,11 +41,15 @@ const DAY_NAMES: [(&str, u32); 7] = [
     ("sat", 6),
 ];
 
-/// Tells whether two names are the same but for the case of their letters.
+/// Tells whether two names are the same but for the case of their letters. Most differ in the first.
+#[inline(always)]
 pub(crate) fn is_same_name(name: &str, other: &str) -> bool
     ensures { result ≡ str_eq_ignore_ascii_case name.now other.now }
 {
-    name.eq_ignore_ascii_case(other)
+    match (name.as_bytes().first(), other.as_bytes().first()) {
+        (Some(a), Some(b)) if !a.eq_ignore_ascii_case(b) => false,
+        _ => name.eq_ignore_ascii_case(other),
+    }
 }
 
 /// The number of a name, in any case of its letters.

@@ -1,6 +1,6 @@
 //! Items of a field: numbers, ranges and stars, and the steps behind them.
 
-ghost use Rattle.std.specs.Prelude.{◌≡◌, ◌<◌, ◌≤◌, ◌+◌, ◌-◌, ◌^◌, ℕ, IfOk, MatchResult, Ok, Err};
+ghost use Rattle.std.specs.Prelude.{◌≡◌, ◌<◌, ◌≤◌, ◌+◌, ◌-◌, ◌^◌, ℕ, IfOk, IfSome, MatchResult, Ok, Err};
 ghost use Rattle.cron_bits.specs.Words.{has_bit};
 ghost use Rattle.cron_units.specs.Steps.{in_steps};
 ghost use Rattle.cron_crontab.specs.Items.{base_of, begins_with_star, between, by_step, item_of, pieces};
@@ -9,7 +9,7 @@ ghost use Rattle.cron_crontab.specs.Inner.Reading.{AreBits, IsBaseWithin, IsItem
 
 use crate::faults::Reason;
 use crate::field::Field;
-use crate::numbers::{read_number, read_step};
+use crate::numbers::{is_within, lone_digits, read_number, read_step};
 use crate::words::cut_at;
 use cron_bits::words::Words;
 
@@ -93,9 +93,20 @@ pub(crate) fn numbers_of(field: Field, base: Base, every: u32) -> u64
     bits_of(field.least(), first, last, every)
 }
 
-/// Reads an item of a field.
+/// The numbers of an item that is one number.
 #[inline(always)]
-pub(crate) fn read_item<'a>(field: Field, text: &'a str) -> Result<u64, Reason<'a>>
+fn lone_number(field: Field, text: &str) -> Option<u64>
+    ensures { IfSome result (λ bits. IsItemRead field text.now bits × (bits < 2 ^ 64)) }
+{
+    let number = lone_digits(text.as_bytes())?;
+    if !is_within(field, number) {
+        return None;
+    }
+    Some(numbers_of(field, Base::Single(number), 1))
+}
+
+/// Reads an item of a field, where it isn't one number.
+fn read_longer<'a>(field: Field, text: &'a str) -> Result<u64, Reason<'a>>
     ensures item { MatchResult result (IsItemRead field text.now) (λ r. item_of field text.now ≡ Err (reason_view r)) }
     ensures fit { IfOk result (λ bits. bits < 2 ^ 64) }
 {
@@ -112,5 +123,17 @@ pub(crate) fn read_item<'a>(field: Field, text: &'a str) -> Result<u64, Reason<'
     match more {
         None => Ok(numbers_of(field, base, every)),
         Some(_) => Err(Reason::Ignored(step)),
+    }
+}
+
+/// Reads an item of a field.
+#[inline(always)]
+pub(crate) fn read_item<'a>(field: Field, text: &'a str) -> Result<u64, Reason<'a>>
+    ensures item { MatchResult result (IsItemRead field text.now) (λ r. item_of field text.now ≡ Err (reason_view r)) }
+    ensures fit { IfOk result (λ bits. bits < 2 ^ 64) }
+{
+    match lone_number(field, text) {
+        Some(bits) => Ok(bits),
+        None => read_longer(field, text),
     }
 }

@@ -1,13 +1,13 @@
 //! Numbers and steps, as they are written.
 
-ghost use Rattle.std.specs.Prelude.{◌≡◌, ◌<◌, ◌≤◌, ℕ, IfOk, MatchResult, Result, Ok, Err, length, slice_index, true, false};
+ghost use Rattle.std.specs.Prelude.{◌≡◌, ◌<◌, ◌≤◌, ◌↔◌, ℕ, IfOk, IfSome, IsTrue, MatchResult, Result, Ok, Err, length, slice_index, true, false};
 ghost use Rattle.std.specs.Char.{is_ascii_alphanumeric, is_ascii_digit};
 ghost use Rattle.std.specs.List.{list_all, prefix_len};
 ghost use Rattle.std.specs.Str.Parse.{digits_value};
 ghost use Rattle.cron_crontab.specs.Refusals as refusals;
 ghost use Rattle.cron_crontab.specs.Items.{behind, front, number_of, spelt, step_of};
 ghost use Rattle.cron_crontab.specs.Views.{reason_view};
-ghost use Rattle.cron_crontab.specs.Inner.Reading.{IsWithin, spelling_view};
+ghost use Rattle.cron_crontab.specs.Inner.Reading.{AreDigits, IsWithin, spelling_view};
 
 use crate::faults::Reason;
 use crate::field::Field;
@@ -64,6 +64,24 @@ fn value_of(digits: &[u8]) -> u32
     value
 }
 
+/// The number that a text spells which is digits alone, nine at most. They are looked at once.
+#[inline(always)]
+pub(crate) fn lone_digits(text: &[u8]) -> Option<u32>
+    ensures { IfSome result (AreDigits text.now) }
+{
+    if text.is_empty() || text.len() > MOST_DIGITS {
+        return None;
+    }
+    let mut value: u32 = 0;
+    for digit in text {
+        if !digit.is_ascii_digit() {
+            return None;
+        }
+        value = value * 10 + u32::from(*digit - b'0');
+    }
+    Some(value)
+}
+
 /// What a run of letters and digits spells.
 #[derive(Clone, Copy)]
 enum Spelling {
@@ -87,9 +105,16 @@ fn spelling_of(text: &[u8]) -> Spelling
     Spelling::Number(value_of(text))
 }
 
-/// Reads a number of a field, or a name.
+/// Tells whether a number is one of the field's.
 #[inline(always)]
-pub(crate) fn read_number<'a>(field: Field, text: &'a str) -> Result<u32, Reason<'a>>
+pub(crate) fn is_within(field: Field, number: u32) -> bool
+    ensures { IsTrue result ↔ IsWithin field number }
+{
+    field.least() <= number && number <= field.greatest()
+}
+
+/// Reads a number of a field, or a name, where it isn't digits alone.
+fn read_front<'a>(field: Field, text: &'a str) -> Result<u32, Reason<'a>>
     ensures number { MatchResult result (λ n. number_of field text.now ≡ Ok n) (λ r. number_of field text.now ≡ Err (reason_view r)) }
     ensures within { IfOk result (IsWithin field) }
 {
@@ -112,6 +137,18 @@ pub(crate) fn read_number<'a>(field: Field, text: &'a str) -> Result<u32, Reason
         return Err(Reason::Ignored(front));
     }
     Ok(number)
+}
+
+/// Reads a number of a field, or a name.
+#[inline(always)]
+pub(crate) fn read_number<'a>(field: Field, text: &'a str) -> Result<u32, Reason<'a>>
+    ensures number { MatchResult result (λ n. number_of field text.now ≡ Ok n) (λ r. number_of field text.now ≡ Err (reason_view r)) }
+    ensures within { IfOk result (IsWithin field) }
+{
+    match lone_digits(text.as_bytes()) {
+        Some(number) if is_within(field, number) => Ok(number),
+        _ => read_front(field, text),
+    }
 }
 
 /// Reads a step.

@@ -1,5 +1,8 @@
 -- What the reader's inner functions make of texts. No public contract cites these words.
-use Rattle.std.specs.Prelude.{◌≡◌, ◌≤◌, ◌-◌, ℕ, Bool, List, Result, Ok, Err}
+use Rattle.std.specs.Prelude.{◌≡◌, ◌<◌, ◌≤◌, ◌-◌, ℕ, Bool, true, List, Result, Ok, Err, length}
+use Rattle.std.specs.Char.{is_ascii_digit}
+use Rattle.std.specs.List.{list_all}
+use Rattle.std.specs.Str.Parse.{digits_value}
 use Rattle.cron_bits.specs.Words.{has_bit}
 use Rattle.cron_units.specs.Steps.{Progression, in_steps}
 use Rattle.cron_crontab.specs.Crontab.{FieldRead, Five, field_of, five_of, items_of, items_from}
@@ -80,3 +83,10 @@ IsWithin f n = (least f ≤ n) × (n ≤ greatest f)
 abbrev pub IsBaseWithin : Field → Base → Type 0
 IsBaseWithin f (Single n) = IsWithin f n
 IsBaseWithin f (Range n m) = IsWithin f n × IsWithin f m
+
+-- the text is digits alone, nine at most, and this is their value
+pub record AreDigits (text : List ℕ) (value : ℕ) : Type 0 where
+  pub some : 0 < length text
+  pub few : length text ≤ 9
+  pub digits : list_all is_ascii_digit text ≡ true
+  pub is : value ≡ digits_value 10 text

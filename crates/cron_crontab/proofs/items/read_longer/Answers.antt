@@ -1,6 +1,6 @@
 use Rattle.cron_crontab.specs.Inner.Reading.{base_view}
 use Rattle.cron_crontab.proofs.ItemLemmas.{without_step, with_lone_step, with_two_steps, with_step}
-use Rattle.cron_crontab.proofs.items.read_item.Goals as goal
+use Rattle.cron_crontab.proofs.items.read_longer.Goals as goal
 
 pub returns-in_default-clause-item : goal.returns-in_default-clause-item
 returns-in_default-clause-item c =
