@@ -1,14 +1,13 @@
 -- Items, by their pieces.
-use Rattle.std.proofs.Common.{◌≡◌, ◌<◌, ◌==◌, ℕ, Bool, true, false, List, [], ◌∷◌, get_or, length, lit<, refl, arith}
+use Rattle.std.proofs.Common.{◌≡◌, ◌≤◌, ◌<◌, ◌==◌, ℕ, Bool, true, false, List, [], ◌∷◌, length, lit<, refl, arith}
 use Rattle.std.specs.Prelude.{Ok, Err}
 use Rattle.cron_units.specs.Steps.{in_steps}
 use Rattle.cron_crontab.specs.Items.{Base, single, range, base_of, begins_with_star, between, by_step, item_of, number_of, pieces, step_of}
 use Rattle.cron_crontab.specs.Refusals.{ignored, lone_step}
-use Rattle.cron_crontab.specs.Inner.Reading.{AreBits, AreDigits, IsItemRead, IsWithin}
+use Rattle.cron_crontab.specs.Inner.Reading.{AreBits, IsItemRead, IsNumber}
 use Rattle.cron_crontab.specs.declared.field.Field.{Field}
-use Rattle.cron_crontab.proofs.NumberLemmas.{digit_at, digit_is, digits_number}
 use Rattle.cron_crontab.proofs.WordLemmas.{one_piece}
-use Rattle.std.specs.Char.{is_ascii_digit}
+use Rattle.std.specs.Char.{is_ascii_alphanumeric}
 use Rattle.std.specs.List.{list_all, position_or_len}
 use Rattle.std.proofs.lemmas.Bool.{ne_eqb}
 
@@ -50,24 +49,24 @@ with_step f text base rest step n m s bits cut behind is steps numbers = record 
 
 -- ---- one number
 
-no_mark : (mark : ℕ) (text : List ℕ) → mark < 48 → list_all is_ascii_digit text ≡ true → position_or_len (λ b. b == mark) text ≡ length text
+graphic : (c : ℕ) → is_ascii_alphanumeric c ≡ true → 48 ≤ c
+graphic c is = grind arith
+
+no_mark : (mark : ℕ) (text : List ℕ) → mark < 48 → list_all is_ascii_alphanumeric text ≡ true → position_or_len (λ b. b == mark) text ≡ length text
 no_mark mark [] low all = refl
 no_mark mark (c ∷ cs) low all =
-    let digit = digit_is c (grind arith) in
+    let here = graphic c (grind arith) in
     let other : (c == mark) ≡ false = ne_eqb c mark (λ e. omega arith) in
     let rest = no_mark mark cs low (grind arith) in
     rw other (omega arith)
 
-no_star : (text : List ℕ) → 0 < length text → list_all is_ascii_digit text ≡ true → begins_with_star text ≡ false
-no_star text some all =
-    let digit = digit_is (get_or text 0 0) (digit_at text 0 all some) in
-    ne_eqb (get_or text 0 0) 42 (λ e. omega arith)
+no_star : (text : List ℕ) → 0 < length text → list_all is_ascii_alphanumeric text ≡ true → begins_with_star text ≡ false
+no_star [] some all = absurd (omega arith)
+no_star (c ∷ cs) some all = let here = graphic c (grind arith) in ne_eqb c 42 (λ e. omega arith)
 
-pub one_number : (f : Field) (text : List ℕ) (n bits : ℕ) → AreDigits text n → IsWithin f n → AreBits f (in_steps (by_step (single n) 1)) bits → IsItemRead f text bits
-one_number f text n bits are within numbers = record {
+pub one_number : (f : Field) (text : List ℕ) (n bits : ℕ) → IsNumber f text n → AreBits f (in_steps (by_step (single n) 1)) bits → IsItemRead f text bits
+one_number f text n bits is numbers = record {
   item = by_step (single n) 1;
-  is =
-      rw (one_piece 47 text (no_mark 47 text (lit< tt) are.digits), no_star text are.some are.digits, one_piece 45 text (no_mark 45 text (lit< tt) are.digits), digits_number f text n are within)
-      refl;
+  is = rw (one_piece 47 text (no_mark 47 text (lit< tt) is.word), no_star text is.some is.word, one_piece 45 text (no_mark 45 text (lit< tt) is.word), is.is) refl;
   numbers = numbers;
 }

@@ -1,6 +1,6 @@
 -- Numbers, as they are written.
 use Rattle.std.proofs.Common.{◌≡◌, ℕ, zero, suc, ◌+◌, ◌-◌, ◌^◌, ◌<◌, ◌≤◌, ◌==◌, true, false, List, [], ◌∷◌, length, take, get_or, lit<, refl, sym, ap, ◌∙◌, subst, arith}
-use Rattle.std.specs.Char.{is_ascii_alphanumeric, is_ascii_digit, digit_value}
+use Rattle.std.specs.Char.{is_ascii_alphabetic, is_ascii_alphanumeric, is_ascii_digit, digit_value}
 use Rattle.std.specs.List.{prefix_len, list_all}
 use Rattle.std.specs.Str.{IsUtf8, IsCharBoundary}
 use Rattle.std.specs.Str.Parse.{digits_value, AllDigits}
@@ -15,7 +15,7 @@ use Rattle.cron_units.specs.Units.{named_in}
 use Rattle.cron_crontab.specs.Fields.{least, greatest, names}
 use Rattle.cron_crontab.specs.Refusals.{Reason, no_number}
 use Rattle.std.proofs.lemmas.Bool.{eq-eqb, ne_eqb, le-leb, le-ltb, lt-ltb}
-use Rattle.cron_crontab.specs.Inner.Reading.{AreDigits, IsWithin}
+use Rattle.cron_crontab.specs.Inner.Reading.{AreDigits, IsNamed, IsNumber, IsWithin}
 use Rattle.cron_crontab.specs.declared.field.Field.{Field}
 use Rattle.std.proofs.lemmas.Str.{IsCharBoundary-start, IsCharBoundary-after_ascii}
 
@@ -78,14 +78,32 @@ pub all_more : (text : List ℕ) (i : ℕ) → i < length text → list_all is_a
     → list_all is_ascii_digit (take (i + 1) text) ≡ true
 all_more text i lt all digit = let same : i + 1 ≡ suc i = omega arith in rw same (all_suc text i lt all digit)
 
--- ---- digits alone
+-- ---- letters and digits alone
 
 alphanumeric : (c : ℕ) → is_ascii_digit c ≡ true → is_ascii_alphanumeric c ≡ true
 alphanumeric c digit = grind arith
 
-whole_front : (text : List ℕ) → list_all is_ascii_digit text ≡ true → prefix_len is_ascii_alphanumeric text ≡ length text
+letter : (c : ℕ) → is_ascii_alphabetic c ≡ true → (is_ascii_alphanumeric c ≡ true) × (is_ascii_digit c ≡ false)
+letter c is = (grind arith, grind arith)
+
+digits_word : (text : List ℕ) → list_all is_ascii_digit text ≡ true → list_all is_ascii_alphanumeric text ≡ true
+digits_word [] all = refl
+digits_word (c ∷ cs) all = let here = alphanumeric c (grind arith) in let rest = digits_word cs (grind arith) in grind arith
+
+letters_word : (text : List ℕ) → list_all is_ascii_alphabetic text ≡ true → list_all is_ascii_alphanumeric text ≡ true
+letters_word [] all = refl
+letters_word (c ∷ cs) all = let here = letter c (grind arith) in let rest = letters_word cs (grind arith) in grind arith
+
+no_digits : (text : List ℕ) → 0 < length text → list_all is_ascii_alphabetic text ≡ true → list_all is_ascii_digit text ≡ false
+no_digits [] some all = absurd (omega arith)
+no_digits (c ∷ cs) some all = let here = letter c (grind arith) in rw here.1 refl
+
+whole_front : (text : List ℕ) → list_all is_ascii_alphanumeric text ≡ true → prefix_len is_ascii_alphanumeric text ≡ length text
 whole_front [] all = refl
-whole_front (c ∷ cs) all = let here = alphanumeric c (grind arith) in let rest = whole_front cs (grind arith) in rw here (omega arith)
+whole_front (c ∷ cs) all =
+    let here : is_ascii_alphanumeric c ≡ true = grind arith in
+    let rest = whole_front cs (grind arith) in
+    rw here (omega arith)
 
 number_from : (f : Field) (text : List ℕ) (n : ℕ) → (length text == 0) ≡ false → spelt (front text) (named (named_in (names f) (front text)) (no_number text)) ≡ Ok n
     → bounded f n ≡ Ok n → alone text n ≡ Ok n → number_of f text ≡ Ok n
@@ -97,16 +115,39 @@ spelt_digits text n other are = rw (lt-ltb 0 (length text) are.some, are.digits,
 in_bounds : (f : Field) (n : ℕ) → IsWithin f n → bounded f n ≡ Ok n
 in_bounds f n within = rw (le-leb (least f) n within.0, le-leb n (greatest f) within.1) refl
 
--- digits alone are their own front, so that only the bounds are left
-pub digits_number : (f : Field) (text : List ℕ) (n : ℕ) → AreDigits text n → IsWithin f n → number_of f text ≡ Ok n
-digits_number f text n are within =
-    let whole = whole_front text are.digits in
+-- letters and digits alone are their own front, so that what they spell and the bounds are left
+word_number : (f : Field) (text : List ℕ) (n : ℕ) → 0 < length text → list_all is_ascii_alphanumeric text ≡ true
+    → ((other : Result ℕ Reason) → other ≡ named (named_in (names f) text) (no_number text) → spelt text other ≡ Ok n) → IsWithin f n → number_of f text ≡ Ok n
+word_number f text n some word is within =
+    let whole = whole_front text word in
     let same : front text ≡ text = take_all (prefix_len is_ascii_alphanumeric text) text (omega arith) in
     let nothing_left : length text - prefix_len is_ascii_alphanumeric text ≡ 0 = omega arith in
     let none : length (behind text) ≡ 0 = length-drop (prefix_len is_ascii_alphanumeric text) text ∙ nothing_left in
-    let some = are.some in
     let other = named (named_in (names f) (front text)) (no_number text) in
     number_from f text n (ne_eqb (length text) 0 (λ e. omega arith))
-    (ap (λ t. spelt t other) same ∙ spelt_digits text n other are)
+    (ap (λ t. spelt t other) same ∙ is other (ap (λ t. named (named_in (names f) t) (no_number text)) same))
     (in_bounds f n within)
     (rw (eq-eqb (length (behind text)) 0 none) refl)
+
+pub digits_number : (f : Field) (text : List ℕ) (n : ℕ) → AreDigits text n → IsWithin f n → IsNumber f text n
+digits_number f text n are within = record {
+  some = are.some;
+  word = digits_word text are.digits;
+  is = word_number f text n are.some (digits_word text are.digits) (λ other e. spelt_digits text n other are) within;
+  within = within;
+}
+
+spelt_letters : (f : Field) (text : List ℕ) (n : ℕ) (other : Result ℕ Reason) → 0 < length text → IsNamed f text n → other ≡ named (named_in (names f) text) (no_number text)
+    → spelt text other ≡ Ok n
+spelt_letters f text n other some are e = rw (no_digits text some are.letters, lt-ltb 0 (length text) some, e, are.is) refl
+
+pub named_number : (f : Field) (text : List ℕ) (n : ℕ) → IsNamed f text n → IsWithin f n → IsNumber f text n
+named_number f text n are within =
+    let three = are.three in
+    let some : 0 < length text = omega arith in
+    record {
+      some = some;
+      word = letters_word text are.letters;
+      is = word_number f text n some (letters_word text are.letters) (λ other e. spelt_letters f text n other some are e) within;
+      within = within;
+    }

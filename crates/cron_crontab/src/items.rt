@@ -9,7 +9,7 @@ ghost use Rattle.cron_crontab.specs.Inner.Reading.{AreBits, IsBaseWithin, IsItem
 
 use crate::faults::Reason;
 use crate::field::Field;
-use crate::numbers::{is_within, lone_digits, read_number, read_step};
+use crate::numbers::{lone_number, read_number, read_step};
 use crate::words::cut_at;
 use cron_bits::words::Words;
 
@@ -95,13 +95,10 @@ pub(crate) fn numbers_of(field: Field, base: Base, every: u32) -> u64
 
 /// The numbers of an item that is one number.
 #[inline(always)]
-fn lone_number(field: Field, text: &str) -> Option<u64>
+fn single_bits(field: Field, text: &str) -> Option<u64>
     ensures { IfSome result (λ bits. IsItemRead field text.now bits × (bits < 2 ^ 64)) }
 {
-    let number = lone_digits(text.as_bytes())?;
-    if !is_within(field, number) {
-        return None;
-    }
+    let number = lone_number(field, text)?;
     Some(numbers_of(field, Base::Single(number), 1))
 }
 
@@ -132,7 +129,7 @@ pub(crate) fn read_item<'a>(field: Field, text: &'a str) -> Result<u64, Reason<'
     ensures item { MatchResult result (IsItemRead field text.now) (λ r. item_of field text.now ≡ Err (reason_view r)) }
     ensures fit { IfOk result (λ bits. bits < 2 ^ 64) }
 {
-    match lone_number(field, text) {
+    match single_bits(field, text) {
         Some(bits) => Ok(bits),
         None => read_longer(field, text),
     }

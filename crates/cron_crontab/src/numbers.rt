@@ -1,13 +1,13 @@
 //! Numbers and steps, as they are written.
 
-ghost use Rattle.std.specs.Prelude.{◌≡◌, ◌<◌, ◌≤◌, ◌↔◌, ℕ, IfOk, IfSome, IsTrue, MatchResult, Result, Ok, Err, length, slice_index, true, false};
-ghost use Rattle.std.specs.Char.{is_ascii_alphanumeric, is_ascii_digit};
+ghost use Rattle.std.specs.Prelude.{◌≡◌, ◌<◌, ◌≤◌, ℕ, IfOk, IfSome, MatchResult, Result, Ok, Err, length, slice_index, true, false};
+ghost use Rattle.std.specs.Char.{is_ascii_alphabetic, is_ascii_alphanumeric, is_ascii_digit};
 ghost use Rattle.std.specs.List.{list_all, prefix_len};
 ghost use Rattle.std.specs.Str.Parse.{digits_value};
 ghost use Rattle.cron_crontab.specs.Refusals as refusals;
 ghost use Rattle.cron_crontab.specs.Items.{behind, front, number_of, spelt, step_of};
 ghost use Rattle.cron_crontab.specs.Views.{reason_view};
-ghost use Rattle.cron_crontab.specs.Inner.Reading.{AreDigits, IsWithin, spelling_view};
+ghost use Rattle.cron_crontab.specs.Inner.Reading.{AreDigits, IsNamed, IsNumber, IsWithin, spelling_view};
 
 use crate::faults::Reason;
 use crate::field::Field;
@@ -66,7 +66,7 @@ fn value_of(digits: &[u8]) -> u32
 
 /// The number that a text spells which is digits alone, nine at most. They are looked at once.
 #[inline(always)]
-pub(crate) fn lone_digits(text: &[u8]) -> Option<u32>
+fn lone_digits(text: &[u8]) -> Option<u32>
     ensures { IfSome result (AreDigits text.now) }
 {
     if text.is_empty() || text.len() > MOST_DIGITS {
@@ -105,15 +105,46 @@ fn spelling_of(text: &[u8]) -> Spelling
     Spelling::Number(value_of(text))
 }
 
-/// Tells whether a number is one of the field's.
 #[inline(always)]
-pub(crate) fn is_within(field: Field, number: u32) -> bool
-    ensures { IsTrue result ↔ IsWithin field number }
+fn are_letters(text: &[u8]) -> bool
+    ensures { result ≡ list_all is_ascii_alphabetic text.now }
 {
-    field.least() <= number && number <= field.greatest()
+    for byte in text {
+        if !byte.is_ascii_alphabetic() {
+            return false;
+        }
+    }
+    true
 }
 
-/// Reads a number of a field, or a name, where it isn't digits alone.
+/// The number that a text of three letters names.
+#[inline(always)]
+fn lone_name(field: Field, text: &str) -> Option<u32>
+    ensures { IfSome result (IsNamed field text.now) }
+{
+    if text.len() != 3 || !are_letters(text.as_bytes()) {
+        return None;
+    }
+    field.number_named(text)
+}
+
+/// The number that a whole text is, where it is one of the field's.
+#[inline(always)]
+pub(crate) fn lone_number(field: Field, text: &str) -> Option<u32>
+    ensures { IfSome result (IsNumber field text.now) }
+{
+    let number = match lone_digits(text.as_bytes()) {
+        Some(number) => number,
+        None => lone_name(field, text)?,
+    };
+    if field.least() <= number && number <= field.greatest() {
+        Some(number)
+    } else {
+        None
+    }
+}
+
+/// Reads a number of a field, or a name, as it is written.
 fn read_front<'a>(field: Field, text: &'a str) -> Result<u32, Reason<'a>>
     ensures number { MatchResult result (λ n. number_of field text.now ≡ Ok n) (λ r. number_of field text.now ≡ Err (reason_view r)) }
     ensures within { IfOk result (IsWithin field) }
@@ -145,9 +176,9 @@ pub(crate) fn read_number<'a>(field: Field, text: &'a str) -> Result<u32, Reason
     ensures number { MatchResult result (λ n. number_of field text.now ≡ Ok n) (λ r. number_of field text.now ≡ Err (reason_view r)) }
     ensures within { IfOk result (IsWithin field) }
 {
-    match lone_digits(text.as_bytes()) {
-        Some(number) if is_within(field, number) => Ok(number),
-        _ => read_front(field, text),
+    match lone_number(field, text) {
+        Some(number) => Ok(number),
+        None => read_front(field, text),
     }
 }
 

@@ -1,14 +1,15 @@
 -- What the reader's inner functions make of texts. No public contract cites these words.
-use Rattle.std.specs.Prelude.{◌≡◌, ◌<◌, ◌≤◌, ◌-◌, ℕ, Bool, true, List, Result, Ok, Err, length}
-use Rattle.std.specs.Char.{is_ascii_digit}
+use Rattle.std.specs.Prelude.{◌≡◌, ◌<◌, ◌≤◌, ◌-◌, ℕ, Bool, true, List, Result, Ok, Err, Some, length}
+use Rattle.std.specs.Char.{is_ascii_alphabetic, is_ascii_alphanumeric, is_ascii_digit}
 use Rattle.std.specs.List.{list_all}
 use Rattle.std.specs.Str.Parse.{digits_value}
 use Rattle.cron_bits.specs.Words.{has_bit}
 use Rattle.cron_units.specs.Steps.{Progression, in_steps}
 use Rattle.cron_crontab.specs.Crontab.{FieldRead, Five, field_of, five_of, items_of, items_from}
 use Rattle.cron_crontab.specs.Items as items
-use Rattle.cron_crontab.specs.Items.{in_items, item_of, pieces, single, range}
-use Rattle.cron_crontab.specs.Fields.{least, greatest}
+use Rattle.cron_crontab.specs.Items.{in_items, item_of, number_of, pieces, single, range}
+use Rattle.cron_crontab.specs.Fields.{least, greatest, names}
+use Rattle.cron_units.specs.Units.{named_in}
 use Rattle.cron_crontab.specs.Refusals.{Reason, long_number}
 use Rattle.cron_crontab.specs.declared.field.Field.{Field}
 use Rattle.cron_crontab.specs.declared.field.Field.TheVariants.{Minute, Hour, DayOfMonth, Month, DayOfWeek}
@@ -90,3 +91,16 @@ pub record AreDigits (text : List ℕ) (value : ℕ) : Type 0 where
   pub few : length text ≤ 9
   pub digits : list_all is_ascii_digit text ≡ true
   pub is : value ≡ digits_value 10 text
+
+-- the text is three letters that name a number of the field
+pub record IsNamed (f : Field) (text : List ℕ) (n : ℕ) : Type 0 where
+  pub three : length text ≡ 3
+  pub letters : list_all is_ascii_alphabetic text ≡ true
+  pub is : named_in (names f) text ≡ Some n
+
+-- the text is letters and digits that are a number of the field
+pub record IsNumber (f : Field) (text : List ℕ) (n : ℕ) : Type 0 where
+  pub some : 0 < length text
+  pub word : list_all is_ascii_alphanumeric text ≡ true
+  pub is : number_of f text ≡ Ok n
+  pub within : IsWithin f n
