@@ -58,15 +58,6 @@ few_before text i all few le =
     let power : 10 ^ i ≤ 10 ^ 8 = pow-le-pow_right (lit< tt) most in
     omega (arith, rw long at small, power)
 
-all_before : (text : List ℕ) (i : ℕ) → list_all is_ascii_digit text ≡ true → list_all is_ascii_digit (take i text) ≡ true
-all_before [] zero all = refl
-all_before [] (suc i) all = refl
-all_before (c ∷ cs) zero all = refl
-all_before (c ∷ cs) (suc i) all = let rest = all_before cs i (grind arith) in grind arith
-
-pub few_digits : (text : List ℕ) (i : ℕ) → list_all is_ascii_digit text ≡ true → i < 9 → i ≤ length text → digits_value 10 (take i text) < 100000000
-few_digits text i all few le = few_before text i (all_before text i all) few le
-
 all_suc : (text : List ℕ) (i : ℕ) → i < length text → list_all is_ascii_digit (take i text) ≡ true → is_ascii_digit (get_or text i 0) ≡ true
     → list_all is_ascii_digit (take (suc i) text) ≡ true
 all_suc [] i lt all digit = absurd (omega arith)

@@ -1,6 +1,6 @@
 //! Numbers and steps, as they are written.
 
-ghost use Rattle.std.specs.Prelude.{◌≡◌, ◌<◌, ◌≤◌, ℕ, IfOk, IfSome, MatchResult, Result, Ok, Err, length, slice_index, true, false};
+ghost use Rattle.std.specs.Prelude.{◌≡◌, ◌<◌, ◌≤◌, ℕ, IfOk, IfSome, MatchOption, MatchResult, Result, Ok, Err, length, slice_index, true, false};
 ghost use Rattle.std.specs.Char.{is_ascii_alphabetic, is_ascii_alphanumeric, is_ascii_digit};
 ghost use Rattle.std.specs.List.{list_all, prefix_len};
 ghost use Rattle.std.specs.Str.Parse.{digits_value};
@@ -50,24 +50,10 @@ fn are_digits(text: &[u8]) -> bool
     true
 }
 
-/// The number that so few digits spell.
-#[inline(always)]
-fn value_of(digits: &[u8]) -> u32
-    requires digits { list_all is_ascii_digit digits.now ≡ true }
-    requires few { length digits.now ≤ 9 }
-    ensures { result ≡ digits_value 10 digits.now }
-{
-    let mut value: u32 = 0;
-    for digit in digits {
-        value = value * 10 + u32::from(*digit - b'0');
-    }
-    value
-}
-
 /// The number that a text spells which is digits alone, nine at most. They are looked at once.
 #[inline(always)]
 fn lone_digits(text: &[u8]) -> Option<u32>
-    ensures { IfSome result (AreDigits text.now) }
+    ensures { MatchOption result (0 < length text.now → list_all is_ascii_digit text.now ≡ true → 9 < length text.now) (AreDigits text.now) }
 {
     if text.is_empty() || text.len() > MOST_DIGITS {
         return None;
@@ -96,13 +82,11 @@ enum Spelling {
 fn spelling_of(text: &[u8]) -> Spelling
     ensures { (other : Result ℕ refusals.Reason) → spelt text.now other ≡ spelling_view other result }
 {
-    if text.is_empty() || !are_digits(text) {
-        return Spelling::Other;
+    match lone_digits(text) {
+        Some(number) => Spelling::Number(number),
+        None if text.is_empty() || !are_digits(text) => Spelling::Other,
+        None => Spelling::Long,
     }
-    if text.len() > MOST_DIGITS {
-        return Spelling::Long;
-    }
-    Spelling::Number(value_of(text))
 }
 
 #[inline(always)]

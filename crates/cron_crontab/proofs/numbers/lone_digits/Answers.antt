@@ -1,6 +1,7 @@
 use Rattle.std.proofs.Common.{get_or, ◌∙◌, sym, arith}
+use Rattle.std.proofs.lemmas.Bool.{true≢false}
 use Rattle.std.proofs.lemmas.Int.Digits.{digits_value_more}
-use Rattle.cron_crontab.proofs.NumberLemmas.{all_more, digit_is, few_before}
+use Rattle.cron_crontab.proofs.NumberLemmas.{all_more, digit_at, digit_is, few_before}
 use Rattle.cron_crontab.proofs.numbers.lone_digits.Goals as goal
 
 pub overflow_mul-value : goal.overflow_mul-value
@@ -24,3 +25,8 @@ loop-digit-preserved c =
     let here = sym c.is_ascii_digit.ensures.value ∙ c.if-not-is_ascii_digit.false in
     let digit = digit_is (get_or c.args.text.now c.loop-digit.digit-index 0) here in
     record { digits = all_more c.args.text.now c.loop-digit.digit-index c.loop-digit-test.true c.loop-digit.invariant.digits here; is = cc }
+
+pub returns-then-not-is_ascii_digit : goal.returns-then-not-is_ascii_digit
+returns-then-not-is_ascii_digit c = λ some all.
+    let here = sym c.is_ascii_digit.ensures.value ∙ c.if-not-is_ascii_digit.true in
+    absurd (true≢false (sym (digit_at c.args.text.now c.loop-digit.digit-index all c.loop-digit-test.true) ∙ here))
