@@ -92,7 +92,7 @@ module _ (cs : List ℕ) (test : ℕ → Bool) (z : TimeZone) (are : AreMatches 
   from-first : (from : ℤ) (d : Due) → IsNearestDue Ahead test z from (Some d) → filter (is_from from) all_dues ≡ d ∷ filter (is_past d) all_dues
   from-first from d near =
       first-passing (λ (e : Due). e.second) (is_from from) all_dues d
-      (λ a b h less. let le = int_le-true from (pos a.second) h in le_yes from (pos b.second) (omega (arith, signed_arith)))
+      (λ a b one other h less. let le = int_le-true from (pos a.second) h in le_yes from (pos b.second) (omega (arith, signed_arith)))
       (all-ascend cs test z are) (nearest-own cs test z are d near.nearest.passes near.own) (le_yes from (pos d.second) near.nearest.lies)
       (λ e h t. ahead_least cs test z are from d.second e.second near.nearest (own-of cs test z are e h).matching (int_le-true from (pos e.second) t))
 
