@@ -1,139 +1,190 @@
-//! Due fires: those after an instant, each past the one before it, and the last one by an instant. A zone
-//! `file NAME` is that of a zone's file.
+//! Due fires: those after an instant, each past the one before it, the last one by an instant, and those
+//! between two instants. A zone `file NAME` is that of a zone's file.
 //!
 //! The answers were counted apart: of each second of a span it was asked what the clock shows, and a
-//! civil second is due at the first that shows it or a later one. An answer has the civil second, the
-//! instant, the offset then in seconds and what the clock shows then.
+//! civil second is due at the first that shows it or a later one. Those of `dues_between.txt` are of the
+//! zone database of an ordinary system (2025b). Its last six rows are of New York in 2024, where those of fixed
+//! times are also what Debian's cron, cronie and bcron do.
 
-use crate::report::{Report, Row};
+use crate::report::{Report, Row, cut};
 use crate::settings::{Case, case_of, start_at, zone_named};
 use crate::zone_files::bytes_named;
 use anyhow::Result;
 use cron::Schedule;
-use cron_dues::dues::{first_after, first_past, last_by};
-use cron_dues::fire::DueFire;
-use cron_dues::run::Run;
-use cron_fires::fields_of;
-use cron_units::fields::ScheduleFields;
+use cron_fires::{DueFire, Dues, first_due_after, first_due_past, last_due_by, missed_dues};
 use jiff::Timestamp;
 use jiff::tz::{TimeZone, Tzif};
 use std::alloc::{AllocError, Global};
 use std::fmt::Write;
 
-/// What is asked of some sets in a zone.
-#[derive(Clone, Copy)]
+/// What is asked of a schedule in a zone, and how many answers are wanted.
+#[derive(Drop)]
 struct Question<'q> {
-    fields: ScheduleFields,
+    schedule: &'q Schedule,
     zone: &'q TimeZone<'q>,
     instant: Timestamp,
+    count: usize,
 }
 
-/// Writes the nominal time, the due instant, the offset then and what the clock shows then.
-pub(crate) fn add_fire(text: &mut String, fire: &Option<DueFire>) -> Result<(), AllocError> {
-    if !text.is_empty() {
-        text.push_str(", ")?;
+/// Writes the text of a fire behind those before it.
+fn add_fire(told: &mut String, fire: &Option<DueFire>) -> Result<(), AllocError> {
+    if !told.is_empty() {
+        told.push_str(", ")?;
     }
-    let Some(due) = fire else {
-        return text.push_str("None");
-    };
-    let (nominal, instant, shown) = (due.nominal(), due.timestamp(), due.shown());
-    let offset = due.offset().seconds();
-    write!(text, "{nominal} at {instant} {offset} {shown}")
+    match fire {
+        Some(due) => write!(told, "{due}"),
+        None => told.push_str("None"),
+    }
 }
 
-/// Which call is asked.
+/// Which calls are asked.
 #[derive(Clone, Copy)]
 enum Call {
     FirstPast,
-    Run,
+    After,
     LastBy,
+    Between,
+    Missed,
 }
 
 impl Call {
     fn name(self) -> &'static str {
         match self {
-            Call::FirstPast => "first_past",
-            Call::Run => "Run::after",
-            Call::LastBy => "last_by",
+            Call::FirstPast => "first_due_past",
+            Call::After => "Dues::after",
+            Call::LastBy => "last_due_by",
+            Call::Between => "Dues::between",
+            Call::Missed => "missed_dues",
         }
     }
 
-    /// The texts of so many answers, with a comma between two.
-    fn told(self, alloc: Global, question: Question<'_>, count: usize) -> Result<String> {
+    /// The texts of the answers, with a comma between two.
+    fn told(self, alloc: Global, question: &Question<'_>, end: Timestamp) -> Result<String> {
         match self {
-            Call::FirstPast => asked_in_turn(alloc, question, count),
-            Call::Run => taken(alloc, question, count),
+            Call::FirstPast => asked_in_turn(alloc, question),
+            Call::After => taken(alloc, question),
             Call::LastBy => last(alloc, question),
+            Call::Between => between(alloc, question, end),
+            Call::Missed => listed(alloc, question, end),
         }
     }
 }
 
-fn fire_past(question: Question<'_>, fire: &Option<DueFire>) -> Option<DueFire> {
+fn fire_past(question: &Question<'_>, fire: &Option<DueFire>) -> Option<DueFire> {
     match fire {
-        Some(due) => first_past(&question.fields, due, question.zone),
+        Some(due) => first_due_past(question.schedule, due, question.zone),
         None => None,
     }
 }
 
-fn asked_in_turn(alloc: Global, question: Question<'_>, count: usize) -> Result<String> {
-    let mut text = String::new(alloc);
-    let mut next = first_after(&question.fields, question.instant, question.zone);
-    for _ in 0..count {
-        add_fire(&mut text, &next)?;
+fn asked_in_turn(alloc: Global, question: &Question<'_>) -> Result<String> {
+    let mut told = String::new(alloc);
+    let mut next = first_due_after(question.schedule, question.instant, question.zone);
+    for _ in 0..question.count {
+        add_fire(&mut told, &next)?;
         next = fire_past(question, &next);
     }
-    Ok(text)
+    Ok(told)
 }
 
-fn taken(alloc: Global, question: Question<'_>, count: usize) -> Result<String> {
-    let mut text = String::new(alloc);
-    let mut run = Run::after(question.fields, question.instant, question.zone);
-    for _ in 0..count {
-        add_fire(&mut text, &run.next())?;
+fn taken(alloc: Global, question: &Question<'_>) -> Result<String> {
+    let mut told = String::new(alloc);
+    let mut dues = Dues::after(question.schedule, question.instant, question.zone);
+    for _ in 0..question.count {
+        add_fire(&mut told, &dues.next())?;
     }
-    Ok(text)
+    Ok(told)
 }
 
-fn last(alloc: Global, question: Question<'_>) -> Result<String> {
-    let mut text = String::new(alloc);
-    let fire = last_by(&question.fields, question.instant, question.zone);
-    add_fire(&mut text, &fire)?;
-    Ok(text)
+fn last(alloc: Global, question: &Question<'_>) -> Result<String> {
+    let mut told = String::new(alloc);
+    let fire = last_due_by(question.schedule, question.instant, question.zone);
+    add_fire(&mut told, &fire)?;
+    Ok(told)
 }
 
+fn between(alloc: Global, question: &Question<'_>, end: Timestamp) -> Result<String> {
+    let mut told = String::new(alloc);
+    for fire in Dues::between(question.schedule, question.instant, end, question.zone) {
+        add_fire(&mut told, &Some(fire))?;
+    }
+    Ok(told)
+}
+
+fn listed(alloc: Global, question: &Question<'_>, end: Timestamp) -> Result<String> {
+    let mut told = String::new(alloc);
+    let fires = missed_dues(
+        alloc,
+        question.schedule,
+        question.instant,
+        end,
+        question.zone,
+    )?;
+    for fire in &fires {
+        add_fire(&mut told, &Some(*fire))?;
+    }
+    Ok(told)
+}
+
+/// Compares what these calls answer in a zone with the answers of a row.
 fn compare(
     report: &mut Report<'_>,
     row: Row<'_>,
     case: Case<'_>,
+    end: &str,
     zone: &TimeZone<'_>,
-    call: Call,
+    calls: &[Call],
 ) -> Result<()> {
     let schedule = Schedule::from_str(report.alloc(), case.expression)?;
+    let end = start_at(end, zone)?;
     let question = Question {
-        fields: fields_of(&schedule),
+        schedule: &schedule,
         zone,
         instant: start_at(case.start, zone)?,
+        count: case.rest.split(", ").count(),
     };
-    let count = case.rest.split(", ").count();
-    let told = call.told(report.alloc(), question, count)?;
-    report.compare(row, call.name(), case.rest, told.as_str())
+    for call in calls {
+        let told = call.told(report.alloc(), &question, end)?;
+        report.compare(row, call.name(), case.rest, told.as_str())?;
+    }
+    Ok(())
 }
 
-fn replay(report: &mut Report<'_>, row: Row<'_>, call: Call) -> Result<()> {
-    let case = case_of(row.text)?;
+/// The same in the zone of the row, which has its answers behind all else.
+fn replay(
+    report: &mut Report<'_>,
+    row: Row<'_>,
+    case: Case<'_>,
+    end: &str,
+    calls: &[Call],
+) -> Result<()> {
     let Some(name) = case.zone.strip_prefix("file ") else {
-        return compare(report, row, case, &zone_named(case.zone)?, call);
+        let zone = zone_named(case.zone)?;
+        return compare(report, row, case, end, &zone, calls);
     };
     let bytes = bytes_named(report.runtime(), name)?;
     let file = Tzif::parse(report.alloc(), None, bytes.as_slice())?;
-    compare(report, row, case, &TimeZone::tzif(&file), call)
+    compare(report, row, case, end, &TimeZone::tzif(&file), calls)
 }
 
 pub(crate) fn replay_after(report: &mut Report<'_>, row: Row<'_>) -> Result<()> {
-    replay(report, row, Call::FirstPast)?;
-    replay(report, row, Call::Run)
+    let case = case_of(row.text)?;
+    let calls = [Call::FirstPast, Call::After];
+    replay(report, row, case, case.start, &calls)
 }
 
 pub(crate) fn replay_by(report: &mut Report<'_>, row: Row<'_>) -> Result<()> {
-    replay(report, row, Call::LastBy)
+    let case = case_of(row.text)?;
+    replay(report, row, case, case.start, &[Call::LastBy])
+}
+
+pub(crate) fn replay_between(report: &mut Report<'_>, row: Row<'_>) -> Result<()> {
+    let case = case_of(row.text)?;
+    let (end, answers) = cut(case.rest)?;
+    let answered = Case {
+        rest: answers,
+        ..case
+    };
+    let calls = [Call::Between, Call::Missed, Call::FirstPast, Call::After];
+    replay(report, row, answered, end, &calls)
 }

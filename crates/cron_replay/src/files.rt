@@ -27,12 +27,16 @@ pub(crate) enum Kind {
     DuesAfter,
     /// The last due fire by an instant: expression, zone, instant and answer.
     DuesBy,
+    /// The due fires between two instants: expression, zone, two instants and answers.
+    DuesBetween,
+    /// The due fires between two instants, their number and one number that is made of all of them.
+    DuesCounted,
     /// What is asked of several schedules as one: fires or due fires, expressions, zone, instants, answers.
     Unions,
 }
 
 /// The files, each with its kind.
-pub(crate) const FILES: [(Kind, &str); 46] = [
+pub(crate) const FILES: [(Kind, &str); 48] = [
     (Kind::Texts, "texts_accepted.txt"),
     (Kind::Texts, "texts_refused.txt"),
     (Kind::Texts, "texts_beginnings.txt"),
@@ -78,5 +82,7 @@ pub(crate) const FILES: [(Kind, &str); 46] = [
     (Kind::FiresCounted, "fires_of_a_year.txt"),
     (Kind::DuesAfter, "dues_after.txt"),
     (Kind::DuesBy, "dues_by.txt"),
+    (Kind::DuesBetween, "dues_between.txt"),
+    (Kind::DuesCounted, "dues_of_days.txt"),
     (Kind::Unions, "unions.txt"),
 ];

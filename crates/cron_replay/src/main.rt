@@ -8,6 +8,7 @@ mod answers;
 mod characters;
 mod counted;
 mod dues;
+mod dues_counted;
 mod files;
 mod fires;
 mod long_texts;
@@ -46,6 +47,8 @@ fn replay_row(report: &mut Report<'_>, kind: Kind, row: Row<'_>) -> Result<()> {
         Kind::FiresCounted => counted::replay(report, row),
         Kind::DuesAfter => dues::replay_after(report, row),
         Kind::DuesBy => dues::replay_by(report, row),
+        Kind::DuesBetween => dues::replay_between(report, row),
+        Kind::DuesCounted => dues_counted::replay(report, row),
         Kind::Unions => unions::replay(report, row),
     }
 }

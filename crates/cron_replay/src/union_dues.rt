@@ -1,13 +1,26 @@
 //! Due fires of several schedules as one, as text that stands in a row.
 
-use crate::dues::add_fire;
 use crate::unions::Union;
 use anyhow::Result;
 use cron_dues::fire::DueFire;
 use cron_unions::due_run::DueRun;
 use cron_unions::dues::{first_after, first_past, last_by};
 use jiff::Timestamp;
-use std::alloc::Global;
+use std::alloc::{AllocError, Global};
+use std::fmt::Write;
+
+// Writes the nominal time, the due instant, the offset then and what the clock shows then.
+fn add_fire(text: &mut String, fire: &Option<DueFire>) -> Result<(), AllocError> {
+    if !text.is_empty() {
+        text.push_str(", ")?;
+    }
+    let Some(due) = fire else {
+        return text.push_str("None");
+    };
+    let (nominal, instant, shown) = (due.nominal(), due.timestamp(), due.shown());
+    let offset = due.offset().seconds();
+    write!(text, "{nominal} at {instant} {offset} {shown}")
+}
 
 // The due fire past one, if there is one.
 fn fire_past(union: Union<'_>, fire: &Option<DueFire>) -> Option<DueFire> {
