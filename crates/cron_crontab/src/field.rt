@@ -41,18 +41,25 @@ const DAY_NAMES: [(&str, u32); 7] = [
     ("sat", 6),
 ];
 
-/// Tells whether two names are the same but for the case of their letters. Most differ in the first.
+/// Tells whether two names are the same but for the case of their letters.
 #[inline(always)]
 pub(crate) fn is_same_name(name: &str, other: &str) -> bool
     ensures { result ≡ str_eq_ignore_ascii_case name.now other.now }
 {
-    match (name.as_bytes().first(), other.as_bytes().first()) {
-        (Some(a), Some(b)) if !a.eq_ignore_ascii_case(b) => false,
-        _ => name.eq_ignore_ascii_case(other),
+    let (name, other) = (name.as_bytes(), other.as_bytes());
+    if name.len() != other.len() {
+        return false;
     }
+    for at in 0..name.len() {
+        if !name[at].eq_ignore_ascii_case(&other[at]) {
+            return false;
+        }
+    }
+    true
 }
 
 /// The number of a name, in any case of its letters.
+#[inline(always)]
 fn number_named(names: &[(&str, u32)], sought: &str) -> Option<u32>
     ensures { result ≡ named_in (ordinals_view names.now) sought.now }
 {
