@@ -8,7 +8,8 @@ use Rattle.cron_moments.specs.Readings.{Reading, instant}
 use Rattle.cron_instants.specs.Fires.{fires, fires_after, fires_past, is_after, is_by}
 use Rattle.cron_instants.specs.Instants.{IsAfter, IsAmong, IsBy, IsEarliest, IsItem as IsOnTimeline}
 use Rattle.cron_instants.specs.Order.{is_earlier}
-use Rattle.cron_instants.proofs.AscentLemmas.{Ascends, among-cases, among-filter, among-first, among-none, among-rest, ascends-filter, earlier-not_back, earlier-not_itself, filter-among}
+use Rattle.cron_time.proofs.ListLemmas.{among-cases, among-filter, among-first, among-none, among-rest, filter-among}
+use Rattle.cron_instants.proofs.AscentLemmas.{Ascends, ascends-filter, earlier-not_back, earlier-not_itself}
 use Rattle.cron_instants.proofs.FireLemmas.{fires-ascend, fires-of_item, int_le-true, int_lt-true, item-of_fires}
 use Rattle.cron_instants.proofs.OrderLemmas.{before-less}
 use Rattle.cron_c.specs.Calls.{IsInstant}
