@@ -1,0 +1,7 @@
+pub mod Bytes
+pub mod Refusals
+pub mod Settings
+pub mod Entries
+pub mod Lines
+pub mod Views
+pub mod Inner

@@ -1,0 +1,47 @@
+-- What a line is, without its line feed.
+use Rattle.std.specs.Prelude.{◌≡◌, ℕ, ◌==◌, List, Option, Some, None, Result, Ok, Err, codes, length, if◌then◌else◌}
+use Rattle.std.specs.List.{list_any}
+use Rattle.std.specs.Str.{bytes_eq}
+use Rattle.cron_crontab.specs.Items.{and_then}
+use Rattle.cron_tab_lines.specs.Bytes.{behind, first, is_blank}
+use Rattle.cron_tab_lines.specs.Settings.{name_of, value_of}
+use Rattle.cron_tab_lines.specs.Entries.{Entry, entry_of}
+use Rattle.cron_tab_lines.specs.Refusals.{Refusal, nul, lone_return}
+use Rattle.cron_tab_lines.specs.declared.kinds.Crontab.{Crontab}
+
+pub data Meaning : Type 0 where
+  blank : Meaning
+  comment : Meaning
+  -- a name, and its value
+  setting : List ℕ → List ℕ → Meaning
+  -- the value of `CRON_TZ`
+  zone : List ℕ → Meaning
+  entry : Entry → Meaning
+
+abbrev pub named : List ℕ → List ℕ → Meaning
+named name value = if bytes_eq name (codes "CRON_TZ") then zone value else setting name value
+
+-- A line that has a name and `=` is a setting, or none; every other one is an entry, or none.
+abbrev pub setting_or_entry : Crontab → List ℕ → Option (List ℕ × List ℕ) → Result Meaning Refusal
+setting_or_entry kind text (Some cut) = and_then (value_of cut.1) (λ value. Ok (named cut.0 value))
+setting_or_entry kind text None = and_then (entry_of kind text) (λ e. Ok (entry e))
+
+-- what a line is whose first byte isn't blank
+abbrev pub text_outcome : Crontab → List ℕ → Result Meaning Refusal
+text_outcome kind text =
+    if length text == 0 then Ok blank
+    else if first text == 35 then Ok comment
+    else if bytes_eq text (codes "\r") then Err lone_return
+    else setting_or_entry kind text (name_of text)
+
+-- what a line is, or why it is refused
+abbrev pub outcome_of : Crontab → List ℕ → Result Meaning Refusal
+outcome_of kind line = if list_any (λ c. c == 0) line then Err nul else text_outcome kind (behind is_blank line)
+
+-- the line is this
+abbrev pub IsLine : Crontab → List ℕ → Meaning → Type 0
+IsLine kind line meaning = outcome_of kind line ≡ Ok meaning
+
+-- the line is refused for this
+abbrev pub IsRefused : Crontab → List ℕ → Refusal → Type 0
+IsRefused kind line refusal = outcome_of kind line ≡ Err refusal

@@ -1,0 +1,75 @@
+//! What a line is.
+
+ghost use Rattle.std.specs.Prelude.{◌≡◌, ◌==◌, Ok, Err, Some, MatchResult};
+ghost use Rattle.std.specs.List.{list_any};
+ghost use Rattle.cron_tab_lines.specs.Lines.{IsLine, IsRefused, setting_or_entry, text_outcome};
+ghost use Rattle.cron_tab_lines.specs.Views.{line_view, refusal_view};
+
+use crate::bytes::{Class, behind};
+use crate::entries::read_entry;
+use crate::kinds::{Crontab, Line, Setting};
+use crate::refusals::Refusal;
+use crate::settings::{read_name, read_value};
+
+fn has_nul(line: &[u8]) -> bool
+    ensures { result ≡ list_any (λ c. c == 0) line.now }
+{
+    for byte in line {
+        if *byte == 0 {
+            return true;
+        }
+    }
+    false
+}
+
+/// Reads the value of a setting.
+fn read_setting<'a>(
+    kind: Crontab,
+    text: &[u8],
+    name: &'a [u8],
+    value: &'a [u8],
+) -> Result<Line<'a>, Refusal<'a>>
+    ensures { MatchResult result (λ l. setting_or_entry kind text.now (Some (name.now, value.now)) ≡ Ok (line_view l)) (λ r. setting_or_entry kind text.now (Some (name.now, value.now)) ≡ Err (refusal_view r)) }
+{
+    match read_value(value) {
+        Err(refusal) => Err(refusal),
+        Ok(value) => {
+            if name == b"CRON_TZ".as_slice() {
+                return Ok(Line::Zone(value));
+            }
+            Ok(Line::Setting(Setting { name, value }))
+        }
+    }
+}
+
+/// Reads a line from its first byte on that isn't blank.
+fn read_text(kind: Crontab, text: &[u8]) -> Result<Line<'_>, Refusal<'_>>
+    ensures { MatchResult result (λ l. text_outcome kind text.now ≡ Ok (line_view l)) (λ r. text_outcome kind text.now ≡ Err (refusal_view r)) }
+{
+    if text.is_empty() {
+        return Ok(Line::Blank);
+    }
+    if text[0] == b'#' {
+        return Ok(Line::Comment);
+    }
+    if text == b"\r".as_slice() {
+        return Err(Refusal::LoneReturn);
+    }
+    if let Some((name, value)) = read_name(text) {
+        return read_setting(kind, text, name, value);
+    }
+    match read_entry(kind, text) {
+        Ok(entry) => Ok(Line::Entry(entry)),
+        Err(refusal) => Err(refusal),
+    }
+}
+
+/// Reads a line without its line feed.
+pub fn read_line(kind: Crontab, line: &[u8]) -> Result<Line<'_>, Refusal<'_>>
+    ensures { MatchResult result (λ l. IsLine kind line.now (line_view l)) (λ r. IsRefused kind line.now (refusal_view r)) }
+{
+    if has_nul(line) {
+        return Err(Refusal::Nul);
+    }
+    read_text(kind, behind(line, Class::Blank))
+}
