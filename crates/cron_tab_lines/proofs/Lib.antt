@@ -1,3 +1,4 @@
 pub mod EntryLemmas
 pub mod PercentLemmas
 pub mod SettingLemmas
+pub mod FileLemmas

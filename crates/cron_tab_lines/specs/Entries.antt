@@ -1,5 +1,5 @@
 -- Entries: fields, in system crontabs a user, a command, and perhaps its input.
-use Rattle.std.specs.Prelude.{ℕ, zero, suc, Bool, false, not, ◌==◌, ◌&&◌, ◌-◌, ◌+◌, nat_lt, List, [], ◌∷◌, Option, Some, None, Result, Ok, Err, length, take, drop, slice_index, if◌then◌else◌}
+use Rattle.std.specs.Prelude.{ℕ, zero, suc, Bool, true, false, not, ◌==◌, ◌&&◌, ◌-◌, ◌+◌, nat_lt, List, [], ◌∷◌, Option, Some, None, Result, Ok, Err, length, take, drop, slice_index, if◌then◌else◌}
 use Rattle.std.specs.List.{list_all, take_while}
 use Rattle.cron_crontab.specs.Crontab.{Meaning, outcome_of, words}
 use Rattle.cron_crontab.specs.Refusals as crontab
@@ -28,6 +28,18 @@ command_of task = take (before_percent false task) task
 -- what stands behind the first bare `%`, where there is one
 abbrev pub input_of : List ℕ → Option (List ℕ)
 input_of task = if nat_lt (before_percent false task) (length task) then Some (drop (before_percent false task + 1) task) else None
+
+-- A backslash directly in front of a `%` goes, and that `%` stays. Every other `%` is a line feed.
+abbrev pub shown : Bool → List ℕ → List ℕ
+shown behind_backslash [] = []
+shown behind_backslash (c ∷ cs) =
+    if c == 37 then (if behind_backslash then 37 else 10) ∷ shown false cs
+    else if c == 92 && first cs == 37 then shown true cs
+    else c ∷ shown false cs
+
+-- what a command is for the shell that runs it, and what it reads as its input
+abbrev pub unescaped : List ℕ → List ℕ
+unescaped text = shown false text
 
 -- ---- words
 

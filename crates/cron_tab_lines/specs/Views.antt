@@ -1,9 +1,10 @@
 -- What contracts see of the values of the code.
-use Rattle.std.specs.Prelude.{ℕ, List, Option}
+use Rattle.std.specs.Prelude.{ℕ, List, Option, Result, Ok, Err}
 use Rattle.std.specs.Option.{option_map}
 use Rattle.std.specs.Borrow.{Bor}
 use Rattle.cron_crontab.specs.Views.{expression_view, fault_view}
 use Rattle.cron_tab_lines.specs.Entries as entries
+use Rattle.cron_tab_lines.specs.Files as files
 use Rattle.cron_tab_lines.specs.Lines as lines
 use Rattle.cron_tab_lines.specs.Lines.{blank, comment, setting, zone, entry}
 use Rattle.cron_tab_lines.specs.Refusals as refusals
@@ -11,6 +12,7 @@ use Rattle.cron_tab_lines.specs.Refusals.{nul, byte_order_mark, lone_return, no_
 use Rattle.cron_tab_lines.specs.declared.kinds.Entry.{Entry}
 use Rattle.cron_tab_lines.specs.declared.kinds.Line.{Line}
 use Rattle.cron_tab_lines.specs.declared.kinds.Line.TheVariants.{Blank, Comment, Setting, Zone, Entry as Read}
+use Rattle.cron_tab_lines.specs.declared.files.FileLine.{FileLine}
 use Rattle.cron_tab_lines.specs.declared.refusals.Refusal.{Refusal}
 use Rattle.cron_tab_lines.specs.declared.refusals.Refusal.TheVariants.{Nul, ByteOrderMark, LoneReturn, NoValue, OpenQuote, BehindQuote, StrangeByte, Expression, SixthField, NoUser, NoCommand}
 
@@ -39,3 +41,10 @@ line_view Comment = comment
 line_view (Setting s) = setting s.name.now s.value.now
 line_view (Zone value) = zone value.now
 line_view (Read e) = entry (entry_view e)
+
+abbrev pub outcome_view : Result Line Refusal → Result lines.Meaning refusals.Refusal
+outcome_view (Ok line) = Ok (line_view line)
+outcome_view (Err refusal) = Err (refusal_view refusal)
+
+abbrev pub file_line_view : FileLine → files.FileLine
+file_line_view l = record { number = l.number; bytes = l.bytes.now; outcome = outcome_view l.read }

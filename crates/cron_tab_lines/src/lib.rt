@@ -4,12 +4,15 @@
 
 mod bytes;
 mod entries;
+mod files;
 mod kinds;
 mod lines;
 mod percent;
 mod refusals;
 mod settings;
 
+pub use files::{FileLine, Lines};
 pub use kinds::{Crontab, Entry, Line, Setting};
 pub use lines::read_line;
+pub use percent::Unescaped;
 pub use refusals::Refusal;

@@ -1,8 +1,11 @@
-//! Percent signs: where a command ends, and where its input begins.
+//! Percent signs: where a command ends, where its input begins, and what both are without backslashes.
 
-ghost use Rattle.std.specs.Prelude.{◌≡◌, false};
-ghost use Rattle.cron_tab_lines.specs.Entries.{before_percent, command_of, input_of};
+ghost use Rattle.std.specs.Prelude.{◌≡◌, ◌==◌, ◌∷◌, [], false, MatchOption};
+ghost use Rattle.cron_tab_lines.specs.Bytes.{first};
+ghost use Rattle.cron_tab_lines.specs.Entries.{before_percent, command_of, input_of, unescaped};
 ghost use Rattle.cron_tab_lines.specs.Views.{bytes_view};
+
+use std::marker::Model;
 
 /// How many bytes stand in front of the first bare percent sign.
 pub(crate) fn before_percent(task: &[u8]) -> usize
@@ -28,4 +31,69 @@ pub(crate) fn cut_task(task: &[u8], end: usize) -> (&[u8], Option<&[u8]>)
         return (task, None);
     }
     (&task[..end], Some(&task[end + 1..]))
+}
+
+/// The bytes of a command or of its input, one after another, without the backslashes of percent
+/// signs. It takes no memory. Contracts see the list of the bytes that are left.
+#[derive(Drop)]
+pub struct Unescaped<'a> {
+    rest: &'a [u8],
+}
+
+impl<'a> Model for Unescaped<'a> {
+    ghost use Rattle.std.specs.Prelude.{List, ℕ};
+    ghost use Rattle.cron_tab_lines.specs.Entries.{unescaped};
+
+    ghost Value = { List ℕ };
+
+    ghost view = { λ u. unescaped u.rest.now };
+}
+
+impl<'a> Unescaped<'a> {
+    /// What the shell gets of an entry's command, or a command of its input. Crons end an input by a
+    /// line feed; it isn't among these bytes.
+    pub fn of(text: &'a [u8]) -> Unescaped<'a>
+        ensures { result ≡ unescaped text.now }
+    {
+        Unescaped { rest: text }
+    }
+}
+
+impl<'a> Iterator for Unescaped<'a> {
+    type Item = u8;
+
+    ghost use Rattle.std.specs.Iterator.{YieldsFirst, item_count};
+
+    ghost next_gives = { YieldsFirst (λ rest. rest) };
+
+    ghost remaining = { item_count (λ rest. rest) };
+
+    fn next(&mut self) -> Option<u8> {
+        let (byte, rest) = first_unescaped(self.rest)?;
+        self.rest = rest;
+        Some(byte)
+    }
+}
+
+fn begins_with_percent(text: &[u8]) -> bool
+    ensures { result ≡ (first text.now == 37) }
+{
+    match text.first() {
+        Some(byte) => *byte == b'%',
+        None => false,
+    }
+}
+
+/// The first byte without backslashes, and the bytes that are left.
+fn first_unescaped(text: &[u8]) -> Option<(u8, &[u8])>
+    ensures { MatchOption result (unescaped text.now ≡ []) (λ r. unescaped text.now ≡ r.0 ∷ unescaped r.1.now) }
+{
+    let (first, others) = text.split_first()?;
+    if *first == b'%' {
+        return Some((b'\n', others));
+    }
+    if *first == b'\\' && begins_with_percent(others) {
+        return Some((b'%', &others[1..]));
+    }
+    Some((*first, others))
 }
