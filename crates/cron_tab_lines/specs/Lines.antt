@@ -21,9 +21,12 @@ pub data Meaning : Type 0 where
 abbrev pub named : List ℕ → List ℕ → Meaning
 named name value = if bytes_eq name (codes "CRON_TZ") then zone value else setting name value
 
+abbrev pub setting_of : List ℕ → List ℕ → Result Meaning Refusal
+setting_of name text = and_then (value_of text) (λ value. Ok (named name value))
+
 -- A line that has a name and `=` is a setting, or none; every other one is an entry, or none.
 abbrev pub setting_or_entry : Crontab → List ℕ → Option (List ℕ × List ℕ) → Result Meaning Refusal
-setting_or_entry kind text (Some cut) = and_then (value_of cut.1) (λ value. Ok (named cut.0 value))
+setting_or_entry kind text (Some cut) = setting_of cut.0 cut.1
 setting_or_entry kind text None = and_then (entry_of kind text) (λ e. Ok (entry e))
 
 -- what a line is whose first byte isn't blank

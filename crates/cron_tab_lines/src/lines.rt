@@ -1,8 +1,8 @@
 //! What a line is.
 
-ghost use Rattle.std.specs.Prelude.{◌≡◌, ◌==◌, Ok, Err, Some, MatchResult};
+ghost use Rattle.std.specs.Prelude.{◌≡◌, ◌==◌, Ok, Err, MatchResult};
 ghost use Rattle.std.specs.List.{list_any};
-ghost use Rattle.cron_tab_lines.specs.Lines.{IsLine, IsRefused, setting_or_entry, text_outcome};
+ghost use Rattle.cron_tab_lines.specs.Lines.{IsLine, IsRefused, setting_of, text_outcome};
 ghost use Rattle.cron_tab_lines.specs.Views.{line_view, refusal_view};
 
 use crate::bytes::{Class, behind};
@@ -23,15 +23,10 @@ fn has_nul(line: &[u8]) -> bool
 }
 
 /// Reads the value of a setting.
-fn read_setting<'a>(
-    kind: Crontab,
-    text: &[u8],
-    name: &'a [u8],
-    value: &'a [u8],
-) -> Result<Line<'a>, Refusal<'a>>
-    ensures { MatchResult result (λ l. setting_or_entry kind text.now (Some (name.now, value.now)) ≡ Ok (line_view l)) (λ r. setting_or_entry kind text.now (Some (name.now, value.now)) ≡ Err (refusal_view r)) }
+fn read_setting<'a>(name: &'a [u8], text: &'a [u8]) -> Result<Line<'a>, Refusal<'a>>
+    ensures { MatchResult result (λ l. setting_of name.now text.now ≡ Ok (line_view l)) (λ r. setting_of name.now text.now ≡ Err (refusal_view r)) }
 {
-    match read_value(value) {
+    match read_value(text) {
         Err(refusal) => Err(refusal),
         Ok(value) => {
             if name == b"CRON_TZ".as_slice() {
@@ -56,7 +51,7 @@ fn read_text(kind: Crontab, text: &[u8]) -> Result<Line<'_>, Refusal<'_>>
         return Err(Refusal::LoneReturn);
     }
     if let Some((name, value)) = read_name(text) {
-        return read_setting(kind, text, name, value);
+        return read_setting(name, value);
     }
     match read_entry(kind, text) {
         Ok(entry) => Ok(Line::Entry(entry)),
