@@ -1,10 +1,11 @@
 //! Replays the rows of `data/`: expressions of crontabs, and what two crons make of them; others and
-//! the schedules that they are; and texts with the message of their refusal. It prints each answer
-//! that isn't the one of its row, and for each file how many rows it has. Where an answer differs, or a
+//! the schedules that they are; texts with the message of their refusal; and files with what their
+//! lines are. It prints each answer that isn't the one of its row, and for each file how many rows it has. Where an answer differs, or a
 //! row can't be taken apart, it ends with a status other than 0.
 #![tactic(auto)]
 
 mod crons;
+mod files;
 mod masks;
 mod messages;
 mod report;
@@ -23,12 +24,15 @@ enum Kind {
     Schedules,
     /// A text, and the message of its refusal.
     Messages,
+    /// A file, and what its lines are.
+    Files,
 }
 
-const FILES: [(Kind, &str); 3] = [
+const FILES: [(Kind, &str); 4] = [
     (Kind::Crons, "lines.tsv"),
     (Kind::Schedules, "schedules.txt"),
     (Kind::Messages, "messages.txt"),
+    (Kind::Files, "files.tsv"),
 ];
 
 fn replay_row(report: &mut Report<'_>, kind: Kind, row: Row<'_>) -> Result<()> {
@@ -36,6 +40,7 @@ fn replay_row(report: &mut Report<'_>, kind: Kind, row: Row<'_>) -> Result<()> {
         Kind::Crons => crons::replay(report, row),
         Kind::Schedules => schedules::replay(report, row),
         Kind::Messages => messages::replay(report, row),
+        Kind::Files => files::replay(report, row),
     }
 }
 
