@@ -6,7 +6,7 @@ use Rattle.cron_crontab.specs.Items.{and_then}
 use Rattle.cron_tab_lines.specs.Bytes.{behind, first, is_blank}
 use Rattle.cron_tab_lines.specs.Settings.{name_of, value_of}
 use Rattle.cron_tab_lines.specs.Entries.{Entry, entry_of}
-use Rattle.cron_tab_lines.specs.Refusals.{Refusal, nul, lone_return}
+use Rattle.cron_tab_lines.specs.Refusals.{Refusal, nul, lone_return, no_value}
 use Rattle.cron_tab_lines.specs.declared.kinds.Crontab.{Crontab}
 
 pub data Meaning : Type 0 where
@@ -24,9 +24,19 @@ named name value = if bytes_eq name (codes "CRON_TZ") then zone value else setti
 abbrev pub setting_of : List ℕ → List ℕ → Result Meaning Refusal
 setting_of name text = and_then (value_of text) (λ value. Ok (named name value))
 
--- A line that has a name and `=` is a setting, or none; every other one is an entry, or none.
+-- what a line is that has a name and `=`, and is no setting for this reason; where the value is missing the two crons differ
+abbrev pub no_setting : Refusal → Result Entry Refusal → Result Meaning Refusal
+no_setting no_value other = Err no_value
+no_setting refusal (Ok e) = Ok (entry e)
+no_setting refusal (Err other) = Err refusal
+
+abbrev pub if_no_setting : Crontab → List ℕ → Result Meaning Refusal → Result Meaning Refusal
+if_no_setting kind text (Ok meaning) = Ok meaning
+if_no_setting kind text (Err refusal) = no_setting refusal (entry_of kind text)
+
+-- a line is tried as a setting first, then as an entry
 abbrev pub setting_or_entry : Crontab → List ℕ → Option (List ℕ × List ℕ) → Result Meaning Refusal
-setting_or_entry kind text (Some cut) = setting_of cut.0 cut.1
+setting_or_entry kind text (Some cut) = if_no_setting kind text (setting_of cut.0 cut.1)
 setting_or_entry kind text None = and_then (entry_of kind text) (λ e. Ok (entry e))
 
 -- what a line is whose first byte isn't blank

@@ -2,7 +2,8 @@
 
 ghost use Rattle.std.specs.Prelude.{◌≡◌, ◌==◌, Ok, Err, MatchResult};
 ghost use Rattle.std.specs.List.{list_any};
-ghost use Rattle.cron_tab_lines.specs.Lines.{IsLine, IsRefused, setting_of, text_outcome};
+ghost use Rattle.cron_tab_lines.specs.Entries.{entry_of};
+ghost use Rattle.cron_tab_lines.specs.Lines.{IsLine, IsRefused, if_no_setting, no_setting, setting_of, text_outcome};
 ghost use Rattle.cron_tab_lines.specs.Views.{line_view, refusal_view};
 
 use crate::bytes::{Class, behind};
@@ -37,6 +38,38 @@ fn read_setting<'a>(name: &'a [u8], text: &'a [u8]) -> Result<Line<'a>, Refusal<
     }
 }
 
+/// Reads a line as an entry that is no setting for a reason.
+fn read_no_setting<'a>(
+    kind: Crontab,
+    text: &'a [u8],
+    refusal: Refusal<'a>,
+) -> Result<Line<'a>, Refusal<'a>>
+    ensures { MatchResult result (λ l. no_setting (refusal_view refusal.entry) (entry_of kind text.now) ≡ Ok (line_view l)) (λ r. no_setting (refusal_view refusal.entry) (entry_of kind text.now) ≡ Err (refusal_view r)) }
+{
+    if let Refusal::NoValue = refusal {
+        return Err(Refusal::NoValue);
+    }
+    match read_entry(kind, text) {
+        Ok(entry) => Ok(Line::Entry(entry)),
+        Err(_) => Err(refusal),
+    }
+}
+
+/// Reads a line that has a name and `=`.
+fn read_named<'a>(
+    kind: Crontab,
+    text: &'a [u8],
+    name: &'a [u8],
+    value: &'a [u8],
+) -> Result<Line<'a>, Refusal<'a>>
+    ensures { MatchResult result (λ l. if_no_setting kind text.now (setting_of name.now value.now) ≡ Ok (line_view l)) (λ r. if_no_setting kind text.now (setting_of name.now value.now) ≡ Err (refusal_view r)) }
+{
+    match read_setting(name, value) {
+        Ok(line) => Ok(line),
+        Err(refusal) => read_no_setting(kind, text, refusal),
+    }
+}
+
 /// Reads a line from its first byte on that isn't blank.
 fn read_text(kind: Crontab, text: &[u8]) -> Result<Line<'_>, Refusal<'_>>
     ensures { MatchResult result (λ l. text_outcome kind text.now ≡ Ok (line_view l)) (λ r. text_outcome kind text.now ≡ Err (refusal_view r)) }
@@ -51,7 +84,7 @@ fn read_text(kind: Crontab, text: &[u8]) -> Result<Line<'_>, Refusal<'_>>
         return Err(Refusal::LoneReturn);
     }
     if let Some((name, value)) = read_name(text) {
-        return read_setting(name, value);
+        return read_named(kind, text, name, value);
     }
     match read_entry(kind, text) {
         Ok(entry) => Ok(Line::Entry(entry)),
