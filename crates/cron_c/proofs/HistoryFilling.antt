@@ -6,10 +6,10 @@ use Rattle.cron_clocks.proofs.Windows.{le_yes, lt_yes}
 use Rattle.cron_units.specs.Sets.{Sets}
 use Rattle.cron_moments.specs.Readings.{Reading, instant}
 use Rattle.cron_instants.specs.Fires.{fires, fires_after, fires_past, is_after, is_by}
-use Rattle.cron_instants.specs.Instants.{IsAfter, IsAmong, IsBy, IsEarliest, IsItem as IsOnTimeline}
+use Rattle.cron_instants.specs.Instants.{IsAfter, IsAmong, IsBy, IsItem as IsOnTimeline}
 use Rattle.cron_instants.specs.Order.{is_earlier}
-use Rattle.cron_time.proofs.ListLemmas.{among-cases, among-filter, among-first, among-none, among-rest, filter-among}
-use Rattle.cron_instants.proofs.AscentLemmas.{Ascends, ascends-filter, earlier-not_back, earlier-not_itself}
+use Rattle.cron_time.proofs.ListLemmas.{among-filter, among-join, among-none, filter-among}
+use Rattle.cron_instants.proofs.AscentLemmas.{Ascends, ascends-filter}
 use Rattle.cron_instants.proofs.FireLemmas.{fires-ascend, fires-of_item, int_le-true, int_lt-true, item-of_fires}
 use Rattle.cron_instants.proofs.OrderLemmas.{before-less}
 use Rattle.cron_c.specs.Calls.{IsInstant}
@@ -23,115 +23,11 @@ use Rattle.cron_c.specs.declared.history.Begin.TheVariants.{After, Past}
 use Rattle.cron_c.specs.declared.item.CronItem.{CronItem}
 use Rattle.cron_c.specs.declared.status.Status.{Status}
 use Rattle.cron_c.specs.declared.status.Status.TheVariants.{Done, NoItem, Refused, NotUtf8, BadZone, BadInstant, NotAnItem, Untold, More, NoMemory}
-use Rattle.cron_c.proofs.Eras.{alike, era_by_era, from_or_before, from_zone, in_zone, le_split, none_before}
+use Rattle.cron_c.proofs.Eras.{era_by_era, from_or_before, from_zone, in_zone, le_split, none_before}
 use Rattle.cron_c.proofs.Filling.{front_none}
-
--- ---- readings one after the other
-
-leads_alike : (P Q : Reading → Type 0) (w : List Reading) (next : Option Reading) → ((r : Reading) → P r → Q r) → ((r : Reading) → Q r → P r)
-    → Leads P w next → Leads Q w next
-unfolding Leads
-leads_alike P Q [] next to from l = alike P Q next to from l
-leads_alike P Q (x ∷ w) next to from l = (
-  alike P Q (Some x) to from l.0,
-  leads_alike (λ q. P q × (is_earlier x q ≡ true)) (λ q. Q q × (is_earlier x q ≡ true)) w next (λ q h. (to q h.0, h.1)) (λ q h. (from q h.0, h.1)) l.1,
-)
-
--- each of them has the property
-leads_hold : (P : Reading → Type 0) (w : List Reading) (next : Option Reading) → Leads P w next → (r : Reading) → IsAmong w r → P r
-unfolding Leads
-leads_hold P [] next l r h = absurd (among-none r h)
-leads_hold P (x ∷ w) next l r h = elim (among-cases x w r h) [
-  | inl e ↦ subst P (sym e) l.0.0
-  | inr there ↦ (leads_hold (λ q. P q × (is_earlier x q ≡ true)) w next l.1 r there).0
-]
-
--- and so has the next one
-leads_next : (P : Reading → Type 0) (w : List Reading) (next : Reading) → Leads P w (Some next) → P next
-unfolding Leads
-leads_next P [] next l = l.0
-leads_next P (x ∷ w) next l = (leads_next (λ q. P q × (is_earlier x q ≡ true)) w next l.1).0
-
--- all with one property, and then those with another that come later
-leads_append : (P Q R : Reading → Type 0) (w v : List Reading) (next : Option Reading) → Leads P w None → Leads Q v next
-    → ((r : Reading) → P r → R r) → ((r : Reading) → Q r → R r) → ((r : Reading) → R r → P r ⊎ Q r)
-    → ((a b : Reading) → P a → Q b → is_earlier a b ≡ true) → Leads R (w ++ v) next
-unfolding Leads
-leads_append P Q R [] v next none l left right split later =
-    leads_alike Q R v next right (λ r h. elim (split r h) [ inl p ↦ absurd (none r p) | inr q ↦ q ]) l
-leads_append P Q R (x ∷ w) v next p l left right split later = (
-  (
-    left x p.0.0,
-    λ q h. elim (split q h) [
-      | inl of_p ↦ p.0.1 q of_p
-      | inr of_q ↦ earlier-not_back x q (later x q p.0.0 of_q)
-    ],
-  ),
-  leads_append (λ q. P q × (is_earlier x q ≡ true)) Q (λ q. R q × (is_earlier x q ≡ true)) w v next p.1 l (λ r h. (left r h.0, h.1))
-      (λ r h. (right r h, later x r p.0.0 h))
-      (λ r h. elim (split r h.0) [ inl of_p ↦ inl (of_p, h.1) | inr of_q ↦ inr of_q ])
-      (λ a b h k. later a b h.0 k),
-)
-
--- others that come later than all of them change nothing
-leads_wider : (P Q : Reading → Type 0) (w : List Reading) (next : Reading) → Leads P w (Some next) → ((r : Reading) → P r → Q r)
-    → ((r : Reading) → Q r → P r ⊎ ((a : Reading) → P a → is_earlier a r ≡ true)) → Leads Q w (Some next)
-unfolding Leads
-leads_wider P Q [] next l to split = (
-  to next l.0,
-  λ q h. elim (split q h) [
-    | inl of_p ↦ l.1 q of_p
-    | inr later ↦ earlier-not_back next q (later next l.0)
-  ],
-)
-leads_wider P Q (x ∷ w) next l to split = (
-  (
-    to x l.0.0,
-    λ q h. elim (split q h) [
-      | inl of_p ↦ l.0.1 q of_p
-      | inr later ↦ earlier-not_back x q (later x l.0.0)
-    ],
-  ),
-  leads_wider (λ q. P q × (is_earlier x q ≡ true)) (λ q. Q q × (is_earlier x q ≡ true)) w next l.1 (λ r h. (to r h.0, h.1))
-      (λ r h. elim (split r h.0) [ inl of_p ↦ inl (of_p, h.1) | inr later ↦ inr (λ a k. later a k.0) ]),
-)
+use Rattle.cron_c.proofs.HistoryLeads.{leads_alike, leads_hold, leads_next, leads_append, leads_wider, whole_leads, page_leads}
 
 -- ---- the items of one era
-
-first_of_rest : (x : Reading) (l : List Reading) → Ascends (x ∷ l) → IsEarliest (IsAmong (x ∷ l)) (Some x)
-first_of_rest x l up = (
-  among-first x l,
-  λ q h. elim (among-cases x l q h) [
-    | inl e ↦ ap (λ v. is_earlier v x) e ∙ earlier-not_itself x
-    | inr there ↦ earlier-not_back x q (up.0 q there)
-  ],
-)
-
-in_rest : (x : Reading) (l : List Reading) → Ascends (x ∷ l) → (r : Reading) → IsAmong l r → IsAmong (x ∷ l) r × (is_earlier x r ≡ true)
-in_rest x l up r h = (among-rest x r l h, up.0 r h)
-
-of_rest : (x : Reading) (l : List Reading) (r : Reading) → IsAmong (x ∷ l) r × (is_earlier x r ≡ true) → IsAmong l r
-of_rest x l r h = elim (among-cases x l r h.0) [
-  | inl e ↦ let itself = earlier-not_itself x in let other : is_earlier x x ≡ true = ap (is_earlier x) (sym e) ∙ h.1 in absurd (cc)
-  | inr there ↦ there
-]
-
-whole_leads : (l : List Reading) → Ascends l → Leads (IsAmong l) l None
-unfolding Leads
-whole_leads [] up = λ r h. among-none r h
-whole_leads (x ∷ l) up = (
-  first_of_rest x l up,
-  leads_alike (IsAmong l) (λ q. IsAmong (x ∷ l) q × (is_earlier x q ≡ true)) l None (in_rest x l up) (of_rest x l) (whole_leads l up.1),
-)
-
-page_leads : (w : List Reading) (next : Reading) (left : List Reading) → Ascends (w ++ next ∷ left) → Leads (IsAmong (w ++ next ∷ left)) w (Some next)
-unfolding Leads
-page_leads [] next left up = first_of_rest next left up
-page_leads (x ∷ w) next left up = (
-  first_of_rest x (w ++ next ∷ left) up,
-  leads_alike (IsAmong (w ++ next ∷ left)) (λ q. IsAmong (x ∷ w ++ next ∷ left) q × (is_earlier x q ≡ true)) w (Some next)
-      (in_rest x (w ++ next ∷ left) up) (of_rest x (w ++ next ∷ left)) (page_leads w next left up.1),
-)
 
 from_ascends : (s : Sets) (z : TimeZone) (b : Begin) (t : ℤ) → Ascends (fires_from s z b t)
 from_ascends s z (After a) t =
@@ -236,16 +132,6 @@ front_on (r ∷ l) m old [] back new is size on = absurd (omega arith)
 front_on (r ∷ l) m [] (y ∷ front) back new is size on = absurd is
 front_on (r ∷ l) m (x ∷ old) (y ∷ front) back new is size on = (is.0, front_on l m old front back new is.1 (omega arith) on)
 
-among-append : (l m : List Reading) (r : Reading) → IsAmong (l ++ m) r → IsAmong l r ⊎ IsAmong m r
-among-append [] m r h = inr h
-among-append (x ∷ l) m r h = elim (among-cases x (l ++ m) r h) [
-  | inl e ↦ inl (0, ap Some (sym e))
-  | inr there ↦ elim (among-append l m r there) [
-    | inl first ↦ inl (among-rest x r l first)
-    | inr second ↦ inr second
-  ]
-]
-
 -- ---- the loop over eras
 
 abbrev pub IsDue : Sets → List CronEra → Begin → ℤ → Reading → Type 0
@@ -285,7 +171,7 @@ filling_begins s eras b now old at least low begun =
 module _ (s : Sets) (eras : List CronEra) (b : Begin) (now : ℤ) (old front back room : List CronItem) (at written more : ℕ)
     (f : IsFilling s eras b now old (front ++ back) at written) (size : length front ≡ written) where
   due_on : (l : List Reading) (next : Option Reading) → Leads (IsDueAt s eras at b now) l next → (r : Reading) → IsAmong (f.list ++ l) r → IsDue s eras b now r
-  due_on l next leads r h = elim (among-append f.list l r h) [
+  due_on l next leads r h = elim (among-join f.list l r h) [
     | inl before ↦ f.due r before
     | inr here ↦ let (item, beyond, by) = leads_hold (IsDueAt s eras at b now) l next leads r here in ((at, item), beyond, by)
   ]

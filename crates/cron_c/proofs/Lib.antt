@@ -5,6 +5,7 @@ pub mod Running
 pub mod ZoneLemmas
 mod AnyZone
 mod Eras
+mod HistoryLeads
 mod HistoryFilling
 mod ErasBack
 mod EraPlaces

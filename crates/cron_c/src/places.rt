@@ -32,7 +32,7 @@ pub fn place_of(eras: &[CronEra], second: i64) -> usize
     place
 }
 
-// No clock shows an earlier civil second of the range from a second of UTC on.
+// From a second of UTC on no clock shows a civil second of the range before this one.
 fn shown_from(second: i64) -> i64
     ensures { (r : Reading) → second ≤ℤ instant r → result ≤ℤ pos r.second }
 {
@@ -42,7 +42,7 @@ fn shown_from(second: i64) -> i64
     second - FURTHEST_OFFSET
 }
 
-// And no later one up to it.
+// Up to a second of UTC no clock shows a civil second of the range past this one.
 fn shown_by(second: i64) -> i64
     ensures { (r : Reading) → r.second < seconds_in_range → instant r ≤ℤ second → pos r.second ≤ℤ result }
 {
@@ -60,7 +60,7 @@ fn first_instant(second: u32) -> i64
     second as i64 - FURTHEST_OFFSET
 }
 
-// And the last one.
+// The last second of UTC at which a clock may show a civil second.
 fn last_instant(second: u32) -> i64
     requires { second < seconds_in_range }
     ensures { result ≡ pos second +ℤ pos 93_599 }
@@ -68,7 +68,7 @@ fn last_instant(second: u32) -> i64
     second as i64 + FURTHEST_OFFSET
 }
 
-// Of the items from a second on none lies earlier than this, in whatever zone; `None` where there are none.
+// No item from a second on lies before this one, in any zone. `None` where no zone has an item there.
 fn earliest_from(fields: &ScheduleFields, second: i64) -> Option<i64>
     ensures { MatchOption result
         ((z : TimeZone) (r : Reading) → IsItem fields.now z r → second ≤ℤ instant r → ⊥)
@@ -80,7 +80,7 @@ fn earliest_from(fields: &ScheduleFields, second: i64) -> Option<i64>
     Some(first_instant(next))
 }
 
-// Of the items up to a second none lies later than this, in whatever zone; `None` where there are none.
+// No item up to a second lies past this one, in any zone. `None` where no zone has an item there.
 fn latest_by(fields: &ScheduleFields, second: i64) -> Option<i64>
     ensures { MatchOption result
         ((z : TimeZone) (r : Reading) → IsItem fields.now z r → instant r ≤ℤ second → ⊥)
@@ -119,8 +119,8 @@ fn starts_at(eras: &[CronEra], at: usize) -> i64
     }
 }
 
-/// How many eras are left to search back from one: of those before it the last ones are passed over in
-/// which no clock can show a match.
+/// How many eras are left to search back from one. The last of those before it are passed over, as long as
+/// no clock can show a match there.
 pub fn left_before(fields: &ScheduleFields, eras: &[CronEra], at: usize) -> usize
     requires { at < length eras.now }
     ensures fewer { result ≤ at }
