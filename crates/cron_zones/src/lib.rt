@@ -8,4 +8,6 @@ pub mod machine;
 pub mod names;
 pub mod open;
 pub mod source;
+#[cfg(test)]
+mod tests;
 pub mod zone;
