@@ -89,6 +89,7 @@ impl<'a> Lines<'a> {
         ensures lines { result ≡ file_lines kind file.now }
         ensures whole { written_out result ≡ file.now }
     {
+        // A file in memory has at most `usize::MAX` bytes, so each line has a number.
         let _len = file.len();
         Lines {
             kind,
