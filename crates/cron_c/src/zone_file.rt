@@ -1,4 +1,5 @@
-//! Zones from the bytes of a compiled zone file.
+//! Zones from the bytes of a compiled zone file. The reader of `jiff` refuses what is no such file, `savings`
+//! what says neither 0 nor 1 of saving time, and `era_table` two transitions that share a second.
 
 ghost use Rattle.cron_c.specs.Calls.{Answers};
 ghost use Rattle.cron_c.specs.ZoneFiles.{ReadsHistory};

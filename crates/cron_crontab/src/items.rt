@@ -78,7 +78,7 @@ fn bits_of(least: u32, first: u32, last: u32, every: u32) -> u64
     u64::every_nth(first - least, every).below(last - least + 1)
 }
 
-/// The numbers of a base by steps.
+/// The numbers of a base by steps. A step past the last number leaves the first alone.
 #[inline(always)]
 pub(crate) fn numbers_of(field: Field, base: Base, every: u32) -> u64
     requires within { IsBaseWithin field base }

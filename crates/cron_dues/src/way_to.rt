@@ -43,7 +43,8 @@ fn fire_in(zone: &TimeZone<'_>, second: u32, from: i64, steady: &Steady) -> DueF
     due_fire(second, past, steady.offset)
 }
 
-/// The due fire of a civil second.
+/// The due fire of a civil second: in a fold that of the first pass. In a gap it is due at the transition,
+/// since there the clock first shows a later second.
 pub fn due_of(zone: &TimeZone<'_>, second: u32) -> DueFire
     requires { second < seconds_in_range }
     ensures { result ≡ due (plain_zone zone.now) second }
