@@ -11,6 +11,7 @@ use Rattle.jiff_tz.specs.declared.info.Transition.{Transition}
 use Rattle.jiff_tz.specs.PosixRule.{transition_view}
 use Rattle.jiff_tz.specs.declared.timezone.TimeZone.{TimeZone}
 use Rattle.jiff_tz.specs.Zone.{next_at, offset_at}
+use Rattle.cron_dues.specs.Clock.Due.{clock_of}
 use Rattle.cron_dues.specs.Inner.Steady.{IsKept, IsOneYear, IsShortOf}
 use Rattle.cron_dues.proofs.ZoneLemmas.{zone_kept}
 
@@ -25,7 +26,7 @@ short_of_none next k e = rw (← e) tt
 pub kept : (z : TimeZone) (n first_end second_end end o : ℤ) → IsBetween (neg_ℤ (pos 1_000_000)) (pos 8_000_000_000) n
     → o ≡ offset_at z (nanos_of_seconds n)
     → ((k : ℤ) → n <ℤ k → k <ℤ first_end → IsShortOf (next_at z (nanos_of_seconds n)) (nanos_of_seconds k))
-    → IsOneYear n second_end → first_end ≤ℤ pos 8_267_961_600 → end ≤ℤ first_end → end ≤ℤ second_end → IsKept z n end o
+    → IsOneYear n second_end → first_end ≤ℤ pos 8_267_961_600 → end ≤ℤ first_end → end ≤ℤ second_end → IsKept (clock_of z) n end o
 kept z n first_end second_end end o bound is untouched year last one other k low high =
     by_lt_z n k
     (λ more. zone_kept z (nanos_of_seconds n) (nanos_of_seconds k) (omega (arith, signed_arith)) (omega (arith, signed_arith, bound)) (omega (arith, signed_arith))

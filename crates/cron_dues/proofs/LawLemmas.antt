@@ -5,16 +5,16 @@ use Rattle.std.proofs.lemmas.Bool.{cases_lt}
 use Rattle.jiff_core.proofs.SignedLemmas.{signed_arith}
 use Rattle.jiff_tz.specs.declared.timezone.TimeZone.{TimeZone}
 use Rattle.cron_units.specs.Sets.{Sets}
-use Rattle.cron_moments.specs.Civil.{civil, seconds_in_range}
+use Rattle.cron_moments.specs.Civil.{seconds_in_range}
 use Rattle.cron_moments.specs.Readings.{Reading, readings}
 use Rattle.cron_moments.specs.Readings as moments
 use Rattle.cron_time.specs.Matches.{is_match}
 use Rattle.cron_time.proofs.PlaceLemmas.{nothing_in_nil}
 use Rattle.cron_time.proofs.TimelineLemmas.{readings-second}
 use Rattle.cron_clocks.specs.Clocks.{HasInstant, LookupsAgree}
-use Rattle.cron_dues.specs.Due.{Due, clock, due, due_instant, instant}
-use Rattle.cron_dues.specs.Dues.{dues, matching_seconds}
-use Rattle.cron_dues.specs.FirstDues.{IsDue}
+use Rattle.cron_dues.specs.Clock.Due.{Clock, Due, clock_of, due, due_instant, instant, shows}
+use Rattle.cron_dues.specs.Clock.Dues.{dues, matching_seconds}
+use Rattle.cron_dues.specs.Clock.FirstDues.{IsDue}
 use Rattle.cron_dues.specs.DueLaws.{IsFirstReading, FiresAreTheMatches, NominalSecondsAscend, DueInstantsNeverDecrease, FirstReadingsAreDue, GapsArePassedOver, CutListsGoOn}
 use Rattle.cron_dues.proofs.DueLemmas.{as_natural, due_ascends, due_by, due_is, fire_due}
 use Rattle.cron_time.proofs.ListLemmas.{map-back}
@@ -23,66 +23,66 @@ use Rattle.cron_dues.proofs.MemberLemmas.{all-ascend, own-of, sets-match}
 use Rattle.cron_dues.proofs.WayLemmas.{back}
 
 pub fires_are_matches : FiresAreTheMatches
-fires_are_matches s z = map-back (due z) (λ d. d.second) (matching_seconds s) (λ c. refl)
+fires_are_matches s clock = map-back (due clock) (λ d. d.second) (matching_seconds s) (λ c. refl)
 
-pub dues-ascend : (s : Sets) (z : TimeZone) → Ascends (λ (d : Due). d.second) (dues s z)
-dues-ascend s z = all-ascend (matching_seconds s) (is_match s) z (sets-match s)
+pub dues-ascend : (s : Sets) (clock : Clock) → Ascends (λ (d : Due). d.second) (dues s clock)
+dues-ascend s clock = all-ascend (matching_seconds s) (is_match s) clock (sets-match s)
 
 pub nominal_ascend : NominalSecondsAscend
-nominal_ascend s z i j d e less here there = ascends-at (λ (x : Due). x.second) (dues s z) i j d e (dues-ascend s z) less here there
+nominal_ascend s clock i j d e less here there = ascends-at (λ (x : Due). x.second) (dues s clock) i j d e (dues-ascend s clock) less here there
 
-pub due_no_later : (s : Sets) (z : TimeZone) (d e : Due) → IsDue s z d → IsDue s z e → d.second ≤ e.second → instant d ≤ℤ instant e
-due_no_later s z d e here there le =
-    let one = own-of (matching_seconds s) (is_match s) z (sets-match s) d here in
-    let other = own-of (matching_seconds s) (is_match s) z (sets-match s) e there in
-    let first : instant d ≡ due_instant z d.second = ap instant one.own ∙ fire_due z d.second in
-    let second : instant e ≡ due_instant z e.second = ap instant other.own ∙ fire_due z e.second in
-    let ascends = due_ascends z d.second e.second (omega (arith, signed_arith)) in
+pub due_no_later : (s : Sets) (clock : Clock) (d e : Due) → IsDue s clock d → IsDue s clock e → d.second ≤ e.second → instant d ≤ℤ instant e
+due_no_later s clock d e here there le =
+    let one = own-of (matching_seconds s) (is_match s) clock (sets-match s) d here in
+    let other = own-of (matching_seconds s) (is_match s) clock (sets-match s) e there in
+    let first : instant d ≡ due_instant clock d.second = ap instant one.own ∙ fire_due clock d.second in
+    let second : instant e ≡ due_instant clock e.second = ap instant other.own ∙ fire_due clock e.second in
+    let ascends = due_ascends clock d.second e.second (omega (arith, signed_arith)) in
     rw (first, second) ascends
 
 pub never_decrease : DueInstantsNeverDecrease
-never_decrease s z i j d e le here there = elim (cases_lt i j) [
-  | inl less ↦ let up = nominal_ascend s z i j d e less here there in due_no_later s z d e (i, here) (j, there) (omega arith)
+never_decrease s clock i j d e le here there = elim (cases_lt i j) [
+  | inl less ↦ let up = nominal_ascend s clock i j d e less here there in due_no_later s clock d e (i, here) (j, there) (omega arith)
   | inr ge ↦ let same : i ≡ j = omega arith in
-      let equal : Some d ≡ Some e = sym here ∙ ap (slice_get (dues s z)) same ∙ there in
-      let one : d ≡ e = cc in due_no_later s z d e (i, here) (j, there) (rw one (omega arith))
+      let equal : Some d ≡ Some e = sym here ∙ ap (slice_get (dues s clock)) same ∙ there in
+      let one : d ≡ e = cc in due_no_later s clock d e (i, here) (j, there) (rw one (omega arith))
 ]
 
 -- ---- readings
 
 -- at the instant of a reading the clock shows its second
 shown_at : (z : TimeZone) (c i : ℕ) (r : Reading) → LookupsAgree z → c < seconds_in_range → slice_get (readings z c) i ≡ Some r
-    → clock z (moments.instant r) ≡ pos c
+    → shows (clock_of z) (moments.instant r) ≡ pos c
 shown_at z c i r agree range e =
     let shown = agree.readings_shown c i r range e in
     let second = readings-second z c i r e in
     omega (arith, signed_arith)
 
 no_later : (z : TimeZone) (c i : ℕ) (r : Reading) → LookupsAgree z → c < seconds_in_range → slice_get (readings z c) i ≡ Some r
-    → due_instant z c ≤ℤ moments.instant r
+    → due_instant (clock_of z) c ≤ℤ moments.instant r
 no_later z c i r agree range e =
     let shown = shown_at z c i r agree range e in
-    due_by z c (moments.instant r) (omega (arith, signed_arith))
+    due_by (clock_of z) c (moments.instant r) (omega (arith, signed_arith))
 
 -- where the clock isn't past the second at its due instant it shows it then
-shown_then : (z : TimeZone) (c : ℕ) → (due z c).past ≡ 0 → clock z (due_instant z c) ≡ pos c
+shown_then : (z : TimeZone) (c : ℕ) → (due (clock_of z) c).past ≡ 0 → shows (clock_of z) (due_instant (clock_of z) c) ≡ pos c
 shown_then z c none =
-    let there = (due_is z c).reached in
-    let past = as_natural (clock z (due_instant z c) -ℤ pos c) (omega (arith, signed_arith)) in
+    let there = (due_is (clock_of z) c).reached in
+    let past = as_natural (shows (clock_of z) (due_instant (clock_of z) c) -ℤ pos c) (omega (arith, signed_arith)) in
     omega (arith, signed_arith)
 
-first_read : (z : TimeZone) (c : ℕ) → LookupsAgree z → c < seconds_in_range → (due z c).past ≡ 0 → IsFirstReading z c (due_instant z c)
+first_read : (z : TimeZone) (c : ℕ) → LookupsAgree z → c < seconds_in_range → (due (clock_of z) c).past ≡ 0 → IsFirstReading z c (due_instant (clock_of z) c)
 first_read z c agree range none = record {
-  has = agree.shown_read c (due_instant z c) range (shown_then z c none);
+  has = agree.shown_read c (due_instant (clock_of z) c) range (shown_then z c none);
   first = λ i r e. no_later z c i r agree range e;
 }
 
-read_first : (z : TimeZone) (c : ℕ) → LookupsAgree z → c < seconds_in_range → IsFirstReading z c (due_instant z c) → (due z c).past ≡ 0
+read_first : (z : TimeZone) (c : ℕ) → LookupsAgree z → c < seconds_in_range → IsFirstReading z c (due_instant (clock_of z) c) → (due (clock_of z) c).past ≡ 0
 read_first z c agree range first =
     let has = first.has in
     let there = shown_at z c has.place has.at_place agree range has.here in
-    let shown : clock z (due_instant z c) ≡ pos c = ap (clock z) (sym has.is) ∙ there in
-    back c 0 (clock z (due_instant z c)) (omega (arith, signed_arith))
+    let shown : shows (clock_of z) (due_instant (clock_of z) c) ≡ pos c = ap (shows (clock_of z)) (sym has.is) ∙ there in
+    back c 0 (shows (clock_of z) (due_instant (clock_of z) c)) (omega (arith, signed_arith))
 
 pub first_readings : FirstReadingsAreDue
 first_readings z c agree range = (first_read z c agree range, read_first z c agree range)
@@ -91,14 +91,14 @@ nothing_read : (z : TimeZone) (c : ℕ) (n : ℤ) → readings z c ≡ [] → Ha
 nothing_read z c n none has = nothing_in_nil has.place has.at_place (rw none at has.here)
 
 pub gaps_passed : GapsArePassedOver
-gaps_passed z c agree range none = elim (cases_lt 0 (due z c).past) [
+gaps_passed z c agree range none = elim (cases_lt 0 (due (clock_of z) c).past) [
   | inl more ↦ more
-  | inr le ↦ absurd (nothing_read z c (due_instant z c) none (agree.shown_read c (due_instant z c) range (shown_then z c (omega arith))))
+  | inr le ↦ absurd (nothing_read z c (due_instant (clock_of z) c) none (agree.shown_read c (due_instant (clock_of z) c) range (shown_then z c (omega arith))))
 ]
 
 -- ---- cut lists
 
 pub cut_lists : CutListsGoOn
-cut_lists s z done fire rest e =
-    let up : Ascends (λ (d : Due). d.second) (done ++ fire ∷ rest) = rw (← e) (dues-ascend s z) in
+cut_lists s clock done fire rest e =
+    let up : Ascends (λ (d : Due). d.second) (done ++ fire ∷ rest) = rw (← e) (dues-ascend s clock) in
     ap (filter (λ (d : Due). nat_lt fire.second d.second)) e ∙ cut-behind (λ (d : Due). d.second) done fire rest up

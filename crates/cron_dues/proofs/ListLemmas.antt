@@ -1,7 +1,7 @@
 -- Lists that ascend by a key.
 use Rattle.std.proofs.Common.{◌≡◌, ℕ, zero, suc, ◌<◌, ◌≤◌, nat_lt, Bool, true, false, cond, List, [], ◌∷◌, ◌++◌, Some, inl, inr, refl, sym, ap, ◌∙◌, arith}
 use Rattle.std.specs.Prelude.{filter, map, slice_get}
-use Rattle.cron_time.proofs.ListLemmas.{Among, among-below, among-cases, among-filter, among-first, among-join, among-map, among-none, among-rest, filter-all, filter-swap, filter-within, join-among}
+use Rattle.cron_time.proofs.ListLemmas.{Among, among-below, among-cases, among-filter, among-first, among-join, among-map, among-none, among-rest, filter-all, filter-within, join-among}
 use Rattle.cron_time.proofs.PlaceLemmas.{nothing_in_nil}
 use Rattle.cron_time.specs.Timeline.{numbers_below}
 

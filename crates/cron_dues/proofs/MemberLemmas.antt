@@ -5,7 +5,6 @@ use Rattle.std.specs.Int.{int_div_euclid}
 use Rattle.std.proofs.lemmas.Bool.{cases_lt}
 use Rattle.std.proofs.lemmas.Int.{by_lt_z}
 use Rattle.jiff_core.proofs.SignedLemmas.{signed_arith}
-use Rattle.jiff_tz.specs.declared.timezone.TimeZone.{TimeZone}
 use Rattle.cron_units.specs.declared.way.Way.TheVariants.{Ahead, Back}
 use Rattle.cron_units.specs.Nearest.{IsNearestAt}
 use Rattle.cron_units.specs.Sets.{Sets}
@@ -14,9 +13,9 @@ use Rattle.cron_time.specs.Matches.{is_match, matches}
 use Rattle.cron_time.specs.Timeline.{numbers_below}
 use Rattle.cron_instants.proofs.FireLemmas.{int_le-true, int_lt-true}
 use Rattle.cron_clocks.proofs.Windows.{le_yes, lt_yes}
-use Rattle.cron_dues.specs.Due.{Due, due, due_instant, instant}
-use Rattle.cron_dues.specs.Dues.{matching_seconds, is_due_after, is_due_by, is_past}
-use Rattle.cron_dues.specs.FirstDues.{IsFirst, IsLast}
+use Rattle.cron_dues.specs.Clock.Due.{Clock, Due, due, due_instant, instant}
+use Rattle.cron_dues.specs.Clock.Dues.{matching_seconds, is_due_after, is_due_by, is_past}
+use Rattle.cron_dues.specs.Clock.FirstDues.{IsFirst, IsLast}
 use Rattle.cron_dues.specs.Inner.Reached.{IsReachedBy}
 use Rattle.cron_dues.specs.Inner.Nearest.{IsNearestDue}
 use Rattle.cron_dues.proofs.DueLemmas.{fire_due}
@@ -76,28 +75,28 @@ second_of t = int_div_euclid t (pos 1_000_000_000)
 
 -- ---- their due fires
 
-module _ (cs : List ℕ) (test : ℕ → Bool) (z : TimeZone) (are : AreMatches cs test) where
-  pub all-ascend : Ascends (λ (d : Due). d.second) (map (due z) cs)
-  all-ascend = ascends-map (λ (d : Due). d.second) (due z) cs are.up
+module _ (cs : List ℕ) (test : ℕ → Bool) (clock : Clock) (are : AreMatches cs test) where
+  pub all-ascend : Ascends (λ (d : Due). d.second) (map (due clock) cs)
+  all-ascend = ascends-map (λ (d : Due). d.second) (due clock) cs are.up
 
-  pub due-of : (c : ℕ) → test c ≡ true → Among (map (due z) cs) (due z c)
-  due-of c h = map-among (due z) cs c (are.among c h)
+  pub due-of : (c : ℕ) → test c ≡ true → Among (map (due clock) cs) (due clock c)
+  due-of c h = map-among (due clock) cs c (are.among c h)
 
   -- a due fire is that of its nominal second, which passes the test
   pub record IsOwn (d : Due) : Type 0 where
     pub matching : test d.second ≡ true
-    pub own : d ≡ due z d.second
+    pub own : d ≡ due clock d.second
 
-  pub own-of : (d : Due) → Among (map (due z) cs) d → IsOwn d
+  pub own-of : (d : Due) → Among (map (due clock) cs) d → IsOwn d
   own-of d h =
-      let source = among-map (due z) cs d h in
+      let source = among-map (due clock) cs d h in
       let second : d.second ≡ source.of = ap (λ (e : Due). e.second) source.is in
       record {
         matching = rw second (are.passing source.of source.there);
-        own = source.is ∙ ap (due z) (sym second);
+        own = source.is ∙ ap (due clock) (sym second);
       }
 
-  pub nearest-own : (d : Due) → test d.second ≡ true → d ≡ due z d.second → Among (map (due z) cs) d
+  pub nearest-own : (d : Due) → test d.second ≡ true → d ≡ due clock d.second → Among (map (due clock) cs) d
   nearest-own d match own = rw own (due-of d.second match)
 
   -- ---- the first and the last of them
@@ -115,8 +114,8 @@ module _ (cs : List ℕ) (test : ℕ → Bool) (z : TimeZone) (are : AreMatches 
   ]
 
   pub first-of : (p : Due → Bool) (start : ℤ) (answer : Option Due)
-      → ((c : ℕ) → test c ≡ true → p (due z c) ≡ true → start ≤ℤ pos c) → ((c : ℕ) → test c ≡ true → start ≤ℤ pos c → p (due z c) ≡ true)
-      → IsNearestDue Ahead test z start answer → IsFirst (λ d. Among (map (due z) cs) d × (p d ≡ true)) answer
+      → ((c : ℕ) → test c ≡ true → p (due clock c) ≡ true → start ≤ℤ pos c) → ((c : ℕ) → test c ≡ true → start ≤ℤ pos c → p (due clock c) ≡ true)
+      → IsNearestDue Ahead test clock start answer → IsFirst (λ d. Among (map (due clock) cs) d × (p d ≡ true)) answer
   first-of p start None lies passes none = λ d both.
       let own = own-of d both.0 in
       not_both (test d.second) own.matching (none d.second (lies d.second own.matching (ap p (sym own.own) ∙ both.1)))
@@ -128,8 +127,8 @@ module _ (cs : List ℕ) (test : ℕ → Bool) (z : TimeZone) (are : AreMatches 
   )
 
   pub last-of : (p : Due → Bool) (start : ℤ) (answer : Option Due)
-      → ((c : ℕ) → test c ≡ true → p (due z c) ≡ true → pos c ≤ℤ start) → ((c : ℕ) → test c ≡ true → pos c ≤ℤ start → p (due z c) ≡ true)
-      → IsNearestDue Back test z start answer → IsLast (λ d. Among (map (due z) cs) d × (p d ≡ true)) answer
+      → ((c : ℕ) → test c ≡ true → p (due clock c) ≡ true → pos c ≤ℤ start) → ((c : ℕ) → test c ≡ true → pos c ≤ℤ start → p (due clock c) ≡ true)
+      → IsNearestDue Back test clock start answer → IsLast (λ d. Among (map (due clock) cs) d × (p d ≡ true)) answer
   last-of p start None lies passes none = λ d both.
       let own = own-of d both.0 in
       not_both (test d.second) own.matching (none d.second (lies d.second own.matching (ap p (sym own.own) ∙ both.1)))
@@ -142,44 +141,44 @@ module _ (cs : List ℕ) (test : ℕ → Bool) (z : TimeZone) (are : AreMatches 
 
   -- ---- by an instant
 
-  pub after-lies : (t m : ℤ) → IsReachedBy z (second_of t) m → (c : ℕ) → test c ≡ true → is_due_after t (due z c) ≡ true → (m +ℤ pos 1) ≤ℤ pos c
+  pub after-lies : (t m : ℤ) → IsReachedBy clock (second_of t) m → (c : ℕ) → test c ≡ true → is_due_after t (due clock c) ≡ true → (m +ℤ pos 1) ≤ℤ pos c
   after-lies t m reached c match after =
-      let due_at = fire_due z c in
-      let less = int_lt-true t (instant (due z c) *ℤ pos 1_000_000_000) after in
+      let due_at = fire_due clock c in
+      let less = int_lt-true t (instant (due clock c) *ℤ pos 1_000_000_000) after in
       by_lt_z m (pos c)
       (λ more. omega (arith, signed_arith))
       (λ le. let by = (reached c (are.range c match)).0 le in absurd (omega (arith, signed_arith)))
 
-  pub lies-after : (t m : ℤ) → IsReachedBy z (second_of t) m → (c : ℕ) → test c ≡ true → (m +ℤ pos 1) ≤ℤ pos c → is_due_after t (due z c) ≡ true
+  pub lies-after : (t m : ℤ) → IsReachedBy clock (second_of t) m → (c : ℕ) → test c ≡ true → (m +ℤ pos 1) ≤ℤ pos c → is_due_after t (due clock c) ≡ true
   lies-after t m reached c match lies =
-      let due_at = fire_due z c in
-      by_lt_z (second_of t) (due_instant z c)
-      (λ late. lt_yes t (instant (due z c) *ℤ pos 1_000_000_000) (omega (arith, signed_arith)))
+      let due_at = fire_due clock c in
+      by_lt_z (second_of t) (due_instant clock c)
+      (λ late. lt_yes t (instant (due clock c) *ℤ pos 1_000_000_000) (omega (arith, signed_arith)))
       (λ by. let le = (reached c (are.range c match)).1 by in absurd (omega (arith, signed_arith)))
 
-  by-lies : (t m : ℤ) → IsReachedBy z (second_of t) m → (c : ℕ) → test c ≡ true → is_due_by t (due z c) ≡ true → pos c ≤ℤ m
+  by-lies : (t m : ℤ) → IsReachedBy clock (second_of t) m → (c : ℕ) → test c ≡ true → is_due_by t (due clock c) ≡ true → pos c ≤ℤ m
   by-lies t m reached c match by =
-      let due_at = fire_due z c in
-      let le = int_le-true (instant (due z c) *ℤ pos 1_000_000_000) t by in
+      let due_at = fire_due clock c in
+      let le = int_le-true (instant (due clock c) *ℤ pos 1_000_000_000) t by in
       (reached c (are.range c match)).1 (omega (arith, signed_arith))
 
-  lies-by : (t m : ℤ) → IsReachedBy z (second_of t) m → (c : ℕ) → test c ≡ true → pos c ≤ℤ m → is_due_by t (due z c) ≡ true
+  lies-by : (t m : ℤ) → IsReachedBy clock (second_of t) m → (c : ℕ) → test c ≡ true → pos c ≤ℤ m → is_due_by t (due clock c) ≡ true
   lies-by t m reached c match lies =
-      let due_at = fire_due z c in
+      let due_at = fire_due clock c in
       let le = (reached c (are.range c match)).0 lies in
-      le_yes (instant (due z c) *ℤ pos 1_000_000_000) t (omega (arith, signed_arith))
+      le_yes (instant (due clock c) *ℤ pos 1_000_000_000) t (omega (arith, signed_arith))
 
-  pub first_after : (t m : ℤ) (answer : Option Due) → IsReachedBy z (second_of t) m → IsNearestDue Ahead test z (m +ℤ pos 1) answer
-      → IsFirst (λ d. Among (map (due z) cs) d × (is_due_after t d ≡ true)) answer
+  pub first_after : (t m : ℤ) (answer : Option Due) → IsReachedBy clock (second_of t) m → IsNearestDue Ahead test clock (m +ℤ pos 1) answer
+      → IsFirst (λ d. Among (map (due clock) cs) d × (is_due_after t d ≡ true)) answer
   first_after t m answer reached near =
       first-of (is_due_after t) (m +ℤ pos 1) answer (after-lies t m reached) (lies-after t m reached) near
 
-  pub last_by : (t m : ℤ) (answer : Option Due) → IsReachedBy z (second_of t) m → IsNearestDue Back test z m answer
-      → IsLast (λ d. Among (map (due z) cs) d × (is_due_by t d ≡ true)) answer
+  pub last_by : (t m : ℤ) (answer : Option Due) → IsReachedBy clock (second_of t) m → IsNearestDue Back test clock m answer
+      → IsLast (λ d. Among (map (due clock) cs) d × (is_due_by t d ≡ true)) answer
   last_by t m answer reached near = last-of (is_due_by t) m answer (by-lies t m reached) (lies-by t m reached) near
 
-  pub first_past : (fire : Due) (answer : Option Due) → IsNearestDue Ahead test z (pos fire.second +ℤ pos 1) answer
-      → IsFirst (λ d. Among (map (due z) cs) d × (is_past fire d ≡ true)) answer
+  pub first_past : (fire : Due) (answer : Option Due) → IsNearestDue Ahead test clock (pos fire.second +ℤ pos 1) answer
+      → IsFirst (λ d. Among (map (due clock) cs) d × (is_past fire d ≡ true)) answer
   first_past fire answer near =
       first-of (is_past fire) (pos fire.second +ℤ pos 1) answer
       (λ c match past. let less = less-true fire.second c past in omega (arith, signed_arith))

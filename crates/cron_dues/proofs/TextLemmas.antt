@@ -5,7 +5,7 @@ use Rattle.std.proofs.lemmas.List.{append-nil}
 use Rattle.cron_moments.specs.Civil.{civil}
 use Rattle.cron_moments.specs.MomentText.{date_text, moment_text, time_text}
 use Rattle.cron_moments.specs.Readings.{Reading, reading}
-use Rattle.cron_dues.specs.Due.{Due}
+use Rattle.cron_dues.specs.Clock.Due.{Due}
 use Rattle.cron_dues.specs.DueText.{due_text, nominal_text, shown}
 
 pub time-at : (r : Reading) → slice_range (moment_text r) 11 19 ≡ time_text (civil r.second).time

@@ -2,34 +2,32 @@
 use Rattle.std.proofs.Common.{◌≡◌, ℕ, ◌<◌, ◌≤◌, false, true, ℤ, pos, ◌+ℤ◌, ◌-ℤ◌, ◌≤ℤ◌, ◌<ℤ◌, unsigned_abs, refl, ap, ◌⊎◌, inl, inr, arith}
 use Rattle.std.proofs.lemmas.Int.{by_lt_z}
 use Rattle.jiff_core.proofs.SignedLemmas.{signed_arith}
-use Rattle.jiff_tz.specs.declared.timezone.TimeZone.{TimeZone}
-use Rattle.cron_clocks.specs.Clocks.{shown_offset}
 use Rattle.cron_clocks.proofs.TableLemmas.{same_offset}
 use Rattle.cron_instants.proofs.FireLemmas.{int_le-true, int_le-false}
-use Rattle.cron_dues.specs.Due.{IsDueAt, clock, due, due_instant, offset_shown, parts}
+use Rattle.cron_dues.specs.Clock.Due.{Clock, IsDueAt, shows, due, due_instant, parts}
 use Rattle.cron_dues.specs.Inner.Steady.{IsKept}
 use Rattle.cron_dues.specs.Inner.Reached.{IsOnTheWay, ends_before, left_until}
 use Rattle.cron_dues.specs.declared.steady.Steady.{Steady}
 use Rattle.cron_dues.proofs.DueLemmas.{as_natural, clock_near, due_is, due_once}
 
 -- it begins before the civil second can be due
-pub way_from : (z : TimeZone) (c : ℕ) (from : ℤ) (steady : Steady) → from ≡ pos c -ℤ pos 93_599 → IsKept z from steady.end steady.offset.seconds
-    → from <ℤ steady.end → IsOnTheWay z c from steady
-way_from z c from steady e kept later = record {
-  unreached = λ m less. let near = clock_near z m in omega (arith, signed_arith, near.1);
+pub way_from : (clock : Clock) (c : ℕ) (from : ℤ) (steady : Steady) → from ≡ pos c -ℤ pos 93_599 → IsKept clock from steady.end steady.offset.seconds
+    → from <ℤ steady.end → IsOnTheWay clock c from steady
+way_from clock c from steady e kept later = record {
+  unreached = λ m less. let near = clock_near clock m in omega (arith, signed_arith, near.1);
   low = omega (arith, signed_arith);
   high = omega (arith, signed_arith);
   kept = kept;
   later = later;
 }
 
-pub shown_in : (z : TimeZone) (n end o k : ℤ) → IsKept z n end o → n ≤ℤ k → k <ℤ end → clock z k ≡ k +ℤ o
-shown_in z n end o k kept low high = ap (λ (x : ℤ). k +ℤ x) (kept k low high)
+pub shown_in : (clock : Clock) (n end o k : ℤ) → IsKept clock n end o → n ≤ℤ k → k <ℤ end → shows clock k ≡ k +ℤ o
+shown_in clock n end o k kept low high = ap (λ (x : ℤ). k +ℤ x) (kept k low high)
 
 -- and goes on at the end
-pub way_on : (z : TimeZone) (c : ℕ) (from : ℤ) (steady next : Steady) → IsOnTheWay z c from steady → ends_before steady c ≡ true
-    → IsKept z steady.end next.end next.offset.seconds → steady.end <ℤ next.end → IsOnTheWay z c steady.end next
-way_on z c from steady next way ends kept later =
+pub way_on : (clock : Clock) (c : ℕ) (from : ℤ) (steady next : Steady) → IsOnTheWay clock c from steady → ends_before steady c ≡ true
+    → IsKept clock steady.end next.end next.offset.seconds → steady.end <ℤ next.end → IsOnTheWay clock c steady.end next
+way_on clock c from steady next way ends kept later =
     let early = int_le-true (steady.end +ℤ steady.offset.seconds) (pos c) ends in
     let low = way.low in
     let before = way.later in
@@ -37,27 +35,27 @@ way_on z c from steady next way ends kept later =
     record {
       unreached = λ m less.
           by_lt_z m from (way.unreached m)
-          (λ ge. let shown = shown_in z from steady.end steady.offset.seconds m way.kept ge less in omega (arith, signed_arith));
+          (λ ge. let shown = shown_in clock from steady.end steady.offset.seconds m way.kept ge less in omega (arith, signed_arith));
       low = omega (arith, signed_arith);
       high = omega (arith, signed_arith, near.0);
       kept = kept;
       later = later;
     }
 
-pub way_less : (z : TimeZone) (c : ℕ) (from end : ℤ) → from <ℤ end → end ≤ℤ (pos c +ℤ pos 93_599) → left_until c end < left_until c from
-way_less z c from end less high =
+pub way_less : (clock : Clock) (c : ℕ) (from end : ℤ) → from <ℤ end → end ≤ℤ (pos c +ℤ pos 93_599) → left_until c end < left_until c from
+way_less clock c from end less high =
     let one = as_natural (pos c +ℤ pos 93_600 -ℤ from) (omega (arith, signed_arith)) in
     let other = as_natural (pos c +ℤ pos 93_600 -ℤ end) (omega (arith, signed_arith)) in
     omega (arith, signed_arith)
 
 -- what a clock shows there is past the civil second at most by what two clocks can be apart
-pub past_near : (z : TimeZone) (c past : ℕ) (from : ℤ) (steady : Steady) → IsOnTheWay z c from steady
+pub past_near : (clock : Clock) (c past : ℕ) (from : ℤ) (steady : Steady) → IsOnTheWay clock c from steady
     → (pos past ≡ from +ℤ steady.offset.seconds -ℤ pos c) ⊎ (pos past ≡ pos 0) → past ≤ 187_198
-past_near z c past from steady way (inl e) =
+past_near clock c past from steady way (inl e) =
     let high = way.high in
     let near = steady.offset.in_range in
     omega (arith, signed_arith, near.1)
-past_near z c past from steady way (inr e) = omega (arith, signed_arith)
+past_near clock c past from steady way (inr e) = omega (arith, signed_arith)
 
 -- ---- the end of the way
 
@@ -82,17 +80,17 @@ is_end c past from steady ends later most (inr e) =
       first = λ m ge less. omega (arith, signed_arith);
     }
 
-due_there : (z : TimeZone) (c past : ℕ) (from : ℤ) (steady : Steady) → IsOnTheWay z c from steady → IsEnd c past from steady
-    → IsDueAt z c (pos c +ℤ pos past -ℤ steady.offset.seconds)
-due_there z c past from steady way end =
-    let shown = shown_in z from steady.end steady.offset.seconds (pos c +ℤ pos past -ℤ steady.offset.seconds) way.kept end.from_on end.before in
+due_there : (clock : Clock) (c past : ℕ) (from : ℤ) (steady : Steady) → IsOnTheWay clock c from steady → IsEnd c past from steady
+    → IsDueAt clock c (pos c +ℤ pos past -ℤ steady.offset.seconds)
+due_there clock c past from steady way end =
+    let shown = shown_in clock from steady.end steady.offset.seconds (pos c +ℤ pos past -ℤ steady.offset.seconds) way.kept end.from_on end.before in
     record {
       reached = omega (arith, signed_arith);
       first = λ m less.
           by_lt_z m from (way.unreached m)
           (λ ge. let early = end.first m ge less in
           let before = end.before in
-          let there = shown_in z from steady.end steady.offset.seconds m way.kept ge (omega (arith, signed_arith)) in omega (arith, signed_arith));
+          let there = shown_in clock from steady.end steady.offset.seconds m way.kept ge (omega (arith, signed_arith)) in omega (arith, signed_arith));
     }
 
 pub back : (c past : ℕ) (shown : ℤ) → shown ≡ pos c +ℤ pos past → unsigned_abs (shown -ℤ pos c) ≡ past
@@ -100,14 +98,14 @@ back c past shown e =
     let nat = as_natural (shown -ℤ pos c) (omega (arith, signed_arith)) in
     omega (arith, signed_arith)
 
-pub fire_is : (z : TimeZone) (c past : ℕ) (from : ℤ) (steady : Steady) → IsOnTheWay z c from steady → ends_before steady c ≡ false
+pub fire_is : (clock : Clock) (c past : ℕ) (from : ℤ) (steady : Steady) → IsOnTheWay clock c from steady → ends_before steady c ≡ false
     → (from +ℤ steady.offset.seconds -ℤ pos c) ≤ℤ pos past → (pos past ≡ from +ℤ steady.offset.seconds -ℤ pos c) ⊎ (pos past ≡ pos 0)
-    → parts c past steady.offset ≡ due z c
-fire_is z c past from steady way ends most either =
+    → parts c past steady.offset ≡ due clock c
+fire_is clock c past from steady way ends most either =
     let n : ℤ = pos c +ℤ pos past -ℤ steady.offset.seconds in
     let end = is_end c past from steady ends way.later most either in
-    let there = due_there z c past from steady way end in
-    let same : due_instant z c ≡ n = due_once z c (due_instant z c) n (due_is z c) there in
-    let offset : shown_offset z n ≡ steady.offset.seconds = way.kept n end.from_on end.before in
-    let past_is : unsigned_abs (clock z n -ℤ pos c) ≡ past = back c past (clock z n) (omega (arith, signed_arith)) in
-    rw (same, past_is, same_offset (offset_shown z n) steady.offset offset) refl
+    let there = due_there clock c past from steady way end in
+    let same : due_instant clock c ≡ n = due_once clock c (due_instant clock c) n (due_is clock c) there in
+    let offset : (clock n).seconds ≡ steady.offset.seconds = way.kept n end.from_on end.before in
+    let past_is : unsigned_abs (shows clock n -ℤ pos c) ≡ past = back c past (shows clock n) (omega (arith, signed_arith)) in
+    rw (same, past_is, same_offset (clock n) steady.offset offset) refl

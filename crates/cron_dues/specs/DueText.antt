@@ -3,7 +3,7 @@ use Rattle.std.specs.Prelude.{ℕ, ◌+◌, ◌/◌, ◌==◌, List, [], ◌++�
 use Rattle.cron_moments.specs.Civil.{civil}
 use Rattle.cron_moments.specs.MomentText.{date_text, moment_text, time_text}
 use Rattle.cron_moments.specs.Readings.{Reading, reading}
-use Rattle.cron_dues.specs.Due.{Due}
+use Rattle.cron_dues.specs.Clock.Due.{Due}
 
 -- what the clock shows at the due instant
 abbrev pub shown : Due → Reading

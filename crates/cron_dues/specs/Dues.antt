@@ -1,43 +1,23 @@
--- The due fires of seven sets in a zone.
-use Rattle.std.specs.Prelude.{ℕ, ℤ, pos, ◌*ℤ◌, Bool, int_le, int_lt, nat_lt, List, filter, map}
+-- The due fires of seven sets in a zone: those by its clock.
+use Rattle.std.specs.Prelude.{ℤ, List}
 use Rattle.jiff_tz.specs.declared.timezone.TimeZone.{TimeZone}
 use Rattle.cron_units.specs.Sets.{Sets}
-use Rattle.cron_moments.specs.Civil.{civil, seconds_in_range}
-use Rattle.cron_time.specs.Matches.{matches}
-use Rattle.cron_time.specs.Timeline.{numbers_below}
-use Rattle.cron_dues.specs.Due.{Due, due, instant}
+use Rattle.cron_dues.specs.Clock.Due.{Due, clock_of}
+pub use Rattle.cron_dues.specs.Clock.Dues.{is_due_after, is_due_by, is_past}
+unfoldable pub use Rattle.cron_dues.specs.Clock.Dues.{matching_seconds}
+use Rattle.cron_dues.specs.Clock.Dues as clocks
 
--- the civil seconds of the range that match, in ascending order
-unfoldable pub matching_seconds : Sets → List ℕ
-matching_seconds s = filter (λ c. matches s (civil c)) (numbers_below seconds_in_range)
-
--- each of them with its due instant
 abbrev pub dues : Sets → TimeZone → List Due
-dues s z = map (due z) (matching_seconds s)
-
--- the due instant comes after the instant t, which is in nanoseconds since 1970
-abbrev pub is_due_after : ℤ → Due → Bool
-is_due_after t d = int_lt t (instant d *ℤ pos 1_000_000_000)
-
--- it is t, or comes before it
-abbrev pub is_due_by : ℤ → Due → Bool
-is_due_by t d = int_le (instant d *ℤ pos 1_000_000_000) t
-
--- the nominal civil second comes after that of another due fire
-abbrev pub is_past : Due → Due → Bool
-is_past fire d = nat_lt fire.second d.second
+dues s z = clocks.dues s (clock_of z)
 
 abbrev pub dues_after : Sets → TimeZone → ℤ → List Due
-dues_after s z t = filter (is_due_after t) (dues s z)
+dues_after s z = clocks.dues_after s (clock_of z)
 
--- those past a due fire, of which some may share its instant
 abbrev pub dues_past : Sets → TimeZone → Due → List Due
-dues_past s z fire = filter (is_past fire) (dues s z)
+dues_past s z = clocks.dues_past s (clock_of z)
 
--- those after one instant and up to and with another
 abbrev pub dues_between : Sets → TimeZone → ℤ → ℤ → List Due
-dues_between s z last now = filter (is_due_by now) (dues_after s z last)
+dues_between s z = clocks.dues_between s (clock_of z)
 
--- those past a due fire and up to and with an instant
 abbrev pub dues_past_by : Sets → TimeZone → Due → ℤ → List Due
-dues_past_by s z fire now = filter (is_due_by now) (dues_past s z fire)
+dues_past_by s z = clocks.dues_past_by s (clock_of z)

@@ -1,3 +1,4 @@
+pub mod Clock
 pub mod Due
 pub mod DueText
 pub mod Dues

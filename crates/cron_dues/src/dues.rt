@@ -1,9 +1,9 @@
-//! Due fires of seven sets in a zone. None of these calls takes memory.
-ghost use Rattle.jiff.specs.Words.{plain_zone};
+//! Due fires of seven sets by a clock, as that of a zone. None of these calls takes memory.
 ghost use Rattle.cron_time.specs.Matches.{is_match};
-ghost use Rattle.cron_dues.specs.FirstDues.{IsFirstDueAfter, IsFirstDuePast, IsLastDueBy};
+ghost use Rattle.cron_dues.specs.Clock.FirstDues.{IsFirstDueAfter, IsFirstDuePast, IsLastDueBy};
 ghost use Rattle.cron_dues.specs.Inner.Nearest.{IsNearestDue};
 
+use crate::clock::Clock;
 use crate::fire::{DueFire, nominal_second};
 use crate::reach::reached_by;
 use crate::way_to::due_of;
@@ -11,47 +11,46 @@ use cron_time::search::civil_seconds::nearest_match;
 use cron_units::fields::ScheduleFields;
 use cron_units::way::Way;
 use jiff::Timestamp;
-use jiff::tz::TimeZone;
 
 /// The due fire of the nearest civil second that matches, from a number on.
-pub(crate) fn nearest_due(
+pub fn nearest_due<C: Clock>(
     fields: &ScheduleFields,
-    zone: &TimeZone<'_>,
+    clock: &C,
     way: Way,
     from: i64,
 ) -> Option<DueFire>
-    ensures { IsNearestDue way (is_match fields.now) (plain_zone zone.now) from result }
+    ensures { IsNearestDue way (is_match fields.now) (C.offsets clock.now) from result }
 {
     let second = nearest_match(fields, way, from)?;
-    Some(due_of(zone, second))
+    Some(due_of(clock, second))
 }
 
 /// Of the due fires whose instant comes after `now` the first. `None` where there is none.
 ///
 /// A loop goes on from the fire that it ran, by `first_past`: several may share an instant, and this call
 /// answers only the first of them.
-pub fn first_after(fields: &ScheduleFields, now: Timestamp, zone: &TimeZone<'_>) -> Option<DueFire>
-    ensures { IsFirstDueAfter fields.now (plain_zone zone.now) now.nanosecond result }
+pub fn first_after<C: Clock>(fields: &ScheduleFields, now: Timestamp, clock: &C) -> Option<DueFire>
+    ensures { IsFirstDueAfter fields.now (C.offsets clock.now) now.nanosecond result }
 {
-    nearest_due(fields, zone, Way::Ahead, reached_by(zone, now) + 1)
+    nearest_due(fields, clock, Way::Ahead, reached_by(clock, now) + 1)
 }
 
 /// Of the due fires past this one the first. `None` where there is none. The one that is handed in may be
 /// none of these sets: its nominal time alone counts.
-pub fn first_past(fields: &ScheduleFields, fire: &DueFire, zone: &TimeZone<'_>) -> Option<DueFire>
-    ensures { IsFirstDuePast fields.now (plain_zone zone.now) fire.now result }
+pub fn first_past<C: Clock>(fields: &ScheduleFields, fire: &DueFire, clock: &C) -> Option<DueFire>
+    ensures { IsFirstDuePast fields.now (C.offsets clock.now) fire.now result }
 {
     nearest_due(
         fields,
-        zone,
+        clock,
         Way::Ahead,
         i64::from(nominal_second(fire)) + 1,
     )
 }
 
 /// Of the due fires whose instant is `now` or comes before it the last. `None` where there is none.
-pub fn last_by(fields: &ScheduleFields, now: Timestamp, zone: &TimeZone<'_>) -> Option<DueFire>
-    ensures { IsLastDueBy fields.now (plain_zone zone.now) now.nanosecond result }
+pub fn last_by<C: Clock>(fields: &ScheduleFields, now: Timestamp, clock: &C) -> Option<DueFire>
+    ensures { IsLastDueBy fields.now (C.offsets clock.now) now.nanosecond result }
 {
-    nearest_due(fields, zone, Way::Back, reached_by(zone, now))
+    nearest_due(fields, clock, Way::Back, reached_by(clock, now))
 }

@@ -5,7 +5,7 @@ ghost use Rattle.jiff_core.specs.DateTime.{civil_nanos};
 ghost use Rattle.jiff_core.specs.Timestamp.{nanos_of_seconds};
 ghost use Rattle.cron_moments.specs.Civil.{civil};
 ghost use Rattle.cron_moments.specs.Readings.{reading};
-ghost use Rattle.cron_dues.specs.Due.{CanBeDue, instant, parts};
+ghost use Rattle.cron_dues.specs.Clock.Due.{CanBeDue, instant, parts};
 ghost use Rattle.cron_dues.specs.DueText.{shown};
 
 use cron_moments::civil::civil_of;
@@ -25,7 +25,7 @@ pub struct DueFire {
 }
 
 impl Model for DueFire {
-    ghost use Rattle.cron_dues.specs.Due.{CanBeDue, Due, parts};
+    ghost use Rattle.cron_dues.specs.Clock.Due.{CanBeDue, Due, parts};
 
     ghost Value = { Due };
 

@@ -1,10 +1,9 @@
 //! Laws over the definitions: the functions do nothing, and a caller calls one for what its contract says.
 
-ghost use Rattle.cron_dues.specs.Due.{DueInstantsAreFirst, FiresAreDue};
+ghost use Rattle.cron_dues.specs.Clock.Due.{DueInstantsAreFirst, FiresAreDue};
 ghost use Rattle.cron_dues.specs.DueLaws.{CutListsGoOn, DueInstantsNeverDecrease, FiresAreTheMatches, FirstReadingsAreDue, GapsArePassedOver, NominalSecondsAscend};
 
-/// The due instant of a civil second is the first at which the clock of the zone shows it or a later one,
-/// in any zone.
+/// The due instant of a civil second is the first at which the clock shows it or a later one, by any clock.
 pub fn due_instants_are_first()
     ensures { DueInstantsAreFirst }
 {}
@@ -24,7 +23,7 @@ pub fn nominal_seconds_ascend()
     ensures { NominalSecondsAscend }
 {}
 
-/// Due instants never decrease from fire to fire, in any zone.
+/// Due instants never decrease from fire to fire, by any clock.
 pub fn due_instants_never_decrease()
     ensures { DueInstantsNeverDecrease }
 {}

@@ -1,13 +1,12 @@
-//! How long a clock in a zone keeps its offset.
+//! How long a clock keeps its offset.
 ghost use Rattle.std.specs.Prelude.{◌≡◌, neg_ℤ, pos, ◌*ℤ◌, ◌+ℤ◌, ◌≤ℤ◌, ◌<ℤ◌, ℤ};
 ghost use Rattle.std.specs.Int.{int_div_euclid};
-ghost use Rattle.jiff.specs.Words.{plain_zone};
 ghost use Rattle.jiff_core.specs.Calendar.{IsBetween, IsYear};
 ghost use Rattle.jiff_core.specs.Date.{epoch_day};
 ghost use Rattle.jiff_tz.specs.PosixRule.{first_day};
 ghost use Rattle.jiff_core.specs.Timestamp.{nanos_of_seconds};
 ghost use Rattle.jiff_tz.specs.Zone.{next_at};
-ghost use Rattle.cron_clocks.specs.Clocks.{shown_offset};
+ghost use Rattle.cron_dues.specs.Clock.Due.{zone_clock};
 ghost use Rattle.cron_dues.specs.Inner.Steady.{IsKept, IsOneYear, IsShortOf};
 
 use crate::numbers::lesser;
@@ -24,9 +23,10 @@ const DAY: i64 = SECONDS_PER_DAY as i64;
 // Past each instant at which a civil second of the range can be due.
 const NEVER: i64 = 2 * SECONDS;
 
-/// An offset that a clock keeps up to an end, in whole seconds since 1970-01-01T00:00:00Z.
+/// An offset that a clock keeps up to an end, which is in whole seconds since 1970-01-01T00:00:00Z, and that
+/// one left out.
 #[derive(Clone, Copy)]
-pub(crate) struct Steady {
+pub struct Steady {
     pub offset: Offset,
     pub end: i64,
     pub ghost near: { IsBetween (neg_ℤ (pos 1_000_000)) (pos 8_267_961_600) end },
@@ -95,10 +95,9 @@ fn transition_end(zone: jiff_tz::TimeZone<'_>, at: jiff_core::Timestamp, second:
 }
 
 /// The offset that a clock in a zone shows at a second of UTC, and up to where it keeps it.
-pub(crate) fn steady_from(zone: &TimeZone<'_>, second: i64) -> Steady
+pub(crate) fn steady_in(zone: &TimeZone<'_>, second: i64) -> Steady
     requires { IsBetween (neg_ℤ (pos 1_000_000)) (pos 8_000_000_000) second }
-    ensures offset { result.offset.seconds ≡ shown_offset (plain_zone zone.now) second }
-    ensures kept { IsKept (plain_zone zone.now) second result.end result.offset.seconds }
+    ensures kept { IsKept (zone_clock zone.now) second result.end result.offset.seconds }
     ensures later { second <ℤ result.end }
 {
     let at = Timestamp::from_second(second).unwrap();

@@ -1,15 +1,14 @@
 //! When a civil second is due.
 ghost use Rattle.std.specs.Prelude.{◌≡◌, ◌⊎◌, ◌<◌, ◌-ℤ◌, ◌≤ℤ◌, neg_ℤ, pos, false};
-ghost use Rattle.jiff.specs.Words.{plain_zone};
 ghost use Rattle.jiff_core.specs.Calendar.{IsBetween};
 ghost use Rattle.cron_moments.specs.Civil.{seconds_in_range};
-ghost use Rattle.cron_dues.specs.Due.{due};
+ghost use Rattle.cron_dues.specs.Clock.Due.{due};
 ghost use Rattle.cron_dues.specs.Inner.Reached.{IsOnTheWay, ends_before};
 
+use crate::clock::Clock;
 use crate::fire::{DueFire, due_fire};
-use crate::steady::{Steady, steady_from};
+use crate::steady::Steady;
 use cron_moments::civil::FURTHEST_OFFSET;
-use jiff::tz::TimeZone;
 
 // Whether the clock comes to the end before it shows the civil second or a later one.
 #[inline(always)]
@@ -33,11 +32,11 @@ fn seconds_past(shown: i64, second: u32) -> u32
 }
 
 // The due fire of a civil second that the clock shows, or a later one, before the end.
-fn fire_in(zone: &TimeZone<'_>, second: u32, from: i64, steady: &Steady) -> DueFire
+fn fire_in<C: Clock>(_clock: &C, second: u32, from: i64, steady: &Steady) -> DueFire
     requires range { second < seconds_in_range }
-    requires way { IsOnTheWay (plain_zone zone.now) second from steady.now }
+    requires way { IsOnTheWay (C.offsets _clock.now) second from steady.now }
     requires shown { ends_before steady.now second ≡ false }
-    ensures { result ≡ due (plain_zone zone.now) second }
+    ensures { result ≡ due (C.offsets _clock.now) second }
 {
     let past = seconds_past(steady.shown(from), second);
     due_fire(second, past, steady.offset)
@@ -45,15 +44,15 @@ fn fire_in(zone: &TimeZone<'_>, second: u32, from: i64, steady: &Steady) -> DueF
 
 /// The due fire of a civil second: in a fold that of the first pass. In a gap it is due at the transition,
 /// since there the clock first shows a later second.
-pub fn due_of(zone: &TimeZone<'_>, second: u32) -> DueFire
+pub fn due_of<C: Clock>(clock: &C, second: u32) -> DueFire
     requires { second < seconds_in_range }
-    ensures { result ≡ due (plain_zone zone.now) second }
+    ensures { result ≡ due (C.offsets clock.now) second }
 {
     let mut from = i64::from(second) - FURTHEST_OFFSET;
-    let mut steady = steady_from(zone, from);
+    let mut steady = clock.steady_from(from);
     while ends_before(&steady, second) {
         from = steady.end;
-        steady = steady_from(zone, from);
+        steady = clock.steady_from(from);
     }
-    fire_in(zone, second, from, &steady)
+    fire_in(clock, second, from, &steady)
 }

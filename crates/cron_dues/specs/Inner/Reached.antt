@@ -1,36 +1,35 @@
--- How far a clock in a zone has come.
+-- How far a clock has come.
 use Rattle.std.specs.Prelude.{◌≡◌, ◌↔◌, ◌⊎◌, ℕ, ◌<◌, ℤ, pos, ◌+ℤ◌, ◌-ℤ◌, ◌≤ℤ◌, ◌<ℤ◌, Bool, int_le, unsigned_abs}
-use Rattle.jiff_tz.specs.declared.timezone.TimeZone.{TimeZone}
 use Rattle.cron_moments.specs.Civil.{seconds_in_range}
-use Rattle.cron_dues.specs.Due.{clock, due_instant}
+use Rattle.cron_dues.specs.Clock.Due.{Clock, due_instant, shows}
 use Rattle.cron_dues.specs.Inner.Steady.{IsKept}
 use Rattle.cron_dues.specs.declared.steady.Steady.{Steady}
 
 -- no instant before n shows the civil second c or a later one
-abbrev pub IsUnreachedBefore : TimeZone → ℕ → ℤ → Type 0
-IsUnreachedBefore z c n = (m : ℤ) → m <ℤ n → clock z m <ℤ pos c
+abbrev pub IsUnreachedBefore : Clock → ℕ → ℤ → Type 0
+IsUnreachedBefore clock c n = (m : ℤ) → m <ℤ n → shows clock m <ℤ pos c
 
 -- up to n the clock has shown the second m
-pub record IsShownBy (z : TimeZone) (n m : ℤ) : Type 0 where
+pub record IsShownBy (clock : Clock) (n m : ℤ) : Type 0 where
   pub at : ℤ
   pub by : at ≤ℤ n
-  pub shown : clock z at ≡ m
+  pub shown : shows clock at ≡ m
 
 -- and none later
-pub record IsGreatestBy (z : TimeZone) (n m : ℤ) : Type 0 where
-  pub shown : IsShownBy z n m
-  pub greatest : (k : ℤ) → k ≤ℤ n → clock z k ≤ℤ m
+pub record IsGreatestBy (clock : Clock) (n m : ℤ) : Type 0 where
+  pub shown : IsShownBy clock n m
+  pub greatest : (k : ℤ) → k ≤ℤ n → shows clock k ≤ℤ m
 
 -- the civil seconds that are due up to n are those up to m
-abbrev pub IsReachedBy : TimeZone → ℤ → ℤ → Type 0
-IsReachedBy z n m = (c : ℕ) → c < seconds_in_range → (pos c ≤ℤ m) ↔ (due_instant z c ≤ℤ n)
+abbrev pub IsReachedBy : Clock → ℤ → ℤ → Type 0
+IsReachedBy clock n m = (c : ℕ) → c < seconds_in_range → (pos c ≤ℤ m) ↔ (due_instant clock c ≤ℤ n)
 
 -- from an instant on, up to an end, the clock keeps this offset; before it the civil second c isn't reached
-pub record IsOnTheWay (z : TimeZone) (c : ℕ) (from : ℤ) (steady : Steady) : Type 0 where
-  pub unreached : IsUnreachedBefore z c from
+pub record IsOnTheWay (clock : Clock) (c : ℕ) (from : ℤ) (steady : Steady) : Type 0 where
+  pub unreached : IsUnreachedBefore clock c from
   pub low : (pos c -ℤ pos 93_599) ≤ℤ from
   pub high : from ≤ℤ (pos c +ℤ pos 93_599)
-  pub kept : IsKept z from steady.end steady.offset.seconds
+  pub kept : IsKept clock from steady.end steady.offset.seconds
   pub later : from <ℤ steady.end
 
 -- how many instants are left at which c may be due
@@ -43,12 +42,12 @@ ends_before steady c = int_le (steady.end +ℤ steady.offset.seconds) (pos c)
 
 -- up to an instant, that one left out, the clock has shown nothing later than this second; it has shown it, or it is earlier than
 -- what the clock shows at n
-pub record IsGathered (z : TimeZone) (n from greatest : ℤ) (steady : Steady) : Type 0 where
-  pub most : (k : ℤ) → k <ℤ from → clock z k ≤ℤ greatest
-  pub reached : (greatest ≡ n -ℤ pos 93_600) ⊎ IsShownBy z n greatest
+pub record IsGathered (clock : Clock) (n from greatest : ℤ) (steady : Steady) : Type 0 where
+  pub most : (k : ℤ) → k <ℤ from → shows clock k ≤ℤ greatest
+  pub reached : (greatest ≡ n -ℤ pos 93_600) ⊎ IsShownBy clock n greatest
   pub low : (n -ℤ pos 187_198) ≤ℤ from
   pub high : from ≤ℤ n
-  pub kept : IsKept z from steady.end steady.offset.seconds
+  pub kept : IsKept clock from steady.end steady.offset.seconds
   pub later : from <ℤ steady.end
   pub low_greatest : (n -ℤ pos 93_600) ≤ℤ greatest
   pub high_greatest : greatest ≤ℤ (n +ℤ pos 93_600)

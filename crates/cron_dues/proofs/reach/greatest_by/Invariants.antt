@@ -1,9 +1,8 @@
-use Rattle.jiff.specs.Words.{plain_zone}
 use Rattle.cron_dues.specs.Inner.Reached.{IsGathered, left_to}
 use Rattle.cron_dues.proofs.reach.greatest_by.Given as goal
 
 abbrev pub invariant-loop-steady : goal.invariant-loop-steady
-invariant-loop-steady l = IsGathered (plain_zone l.zone) l.second l.from l.greatest l.steady
+invariant-loop-steady g l = IsGathered (g.C.Clock.offsets l.clock) l.second l.from l.greatest l.steady
 
 abbrev pub decreases-loop-steady : goal.decreases-loop-steady
-decreases-loop-steady l = left_to l.second l.from
+decreases-loop-steady g l = left_to l.second l.from

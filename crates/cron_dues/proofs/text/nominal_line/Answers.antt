@@ -1,6 +1,4 @@
 use Rattle.std.proofs.Common.{◌≤◌, length, List, ℕ, sym, subst}
-use Rattle.cron_moments.specs.MomentText.{moment_text}
-use Rattle.cron_moments.specs.Readings.{reading}
 use Rattle.cron_dues.proofs.TextLemmas.{nineteen}
 use Rattle.cron_dues.proofs.text.nominal_line.Goals as goal
 

@@ -1,18 +1,17 @@
 use Rattle.std.proofs.Common.{rules, FitsSigned, w64, to_z-of_z, arith, sym, ◌∙◌}
 use Rattle.jiff_core.proofs.SignedLemmas.{signed_casts}
-use Rattle.jiff.specs.Words.{plain_zone}
 use Rattle.cron_dues.proofs.WayLemmas.{way_from, way_on}
 use Rattle.cron_dues.proofs.way_to.due_of.Goals as goal
 
 pub loop-from-init : goal.loop-from-init
-loop-from-init c =
-    way_from (plain_zone c.args.zone.now) c.args.second _ c.steady_from-steady.result
+loop-from-init g c =
+    way_from (g.C.Clock.offsets c.args.clock.now) c.args.second _ c.steady_from-steady.result
     (omega (arith, signed_casts, c.requires, c.from-from.ensures))
     c.steady_from-steady.ensures.kept c.steady_from-steady.ensures.later
 
 pub loop-from-preserved : goal.loop-from-preserved
-loop-from-preserved c =
+loop-from-preserved g c =
     let fits : FitsSigned w64 c.loop-from.steady.end = search rules in
     let there = c.steady_from-steady-in-loop-from.ensures in
-    rw (to_z-of_z fits) (way_on (plain_zone c.args.zone.now) c.args.second _ c.loop-from.steady c.steady_from-steady-in-loop-from.result
+    rw (to_z-of_z fits) (way_on (g.C.Clock.offsets c.args.clock.now) c.args.second _ c.loop-from.steady c.steady_from-steady-in-loop-from.result
     c.loop-from.invariant (sym c.ends_before.ensures ∙ c.loop-from-test.true) (rw (to_z-of_z fits) at there.kept) (rw (to_z-of_z fits) at there.later))
