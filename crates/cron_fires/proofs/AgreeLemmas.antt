@@ -22,7 +22,7 @@ use Rattle.cron_instants.proofs.ItemLemmas.{item_of, stands_of}
 use Rattle.cron_instants.proofs.MatchLemmas.{match_in_range}
 use Rattle.cron_instants.proofs.OrderLemmas.{before-true}
 use Rattle.cron_dues.specs.Due as due
-use Rattle.cron_dues.specs.Due.{Due, IsDueAt, clock, due_instant, offset_shown, parts}
+use Rattle.cron_dues.specs.Due.{Due, IsDueAt, clock, clock_of, due_instant, parts}
 use Rattle.cron_dues.specs.Dues.{dues, dues_after, dues_between, is_due_after, is_due_by, matching_seconds}
 use Rattle.cron_dues.proofs.DueLemmas.{due_is, due_once, fire_due}
 use Rattle.cron_dues.proofs.LawLemmas.{dues-ascend}
@@ -51,9 +51,9 @@ due_when z n m c k stretch later by shown = record {
 -- is due then, with nothing passed over
 due_plain : (z : TimeZone) (c : ℕ) (k : ℤ) (o : Offset) → IsDueAt z c k → clock z k ≡ pos c → shown_offset z k ≡ o.seconds → due.due z c ≡ parts c 0 o
 due_plain z c k o at shown offset =
-    let same : due_instant z c ≡ k = due_once z c (due_instant z c) k (due_is z c) at in
+    let same : due_instant z c ≡ k = due_once (clock_of z) c (due_instant z c) k (due_is (clock_of z) c) at in
     let past_is : unsigned_abs (clock z k -ℤ pos c) ≡ 0 = back c 0 (clock z k) (omega (arith, signed_arith)) in
-    rw (same, past_is, same_offset (offset_shown z k) o offset) refl
+    rw (same, past_is, same_offset (clock_of z k) o offset) refl
 
 -- ---- a fire, as a due fire
 
@@ -107,7 +107,7 @@ fired-due s z last now d agree stretch h =
     let is = fired s z last now r source.there in
     let st = stands_of s z r is.item in
     let same : due.due z r.second ≡ as_due r = fired_due s z last now r agree stretch is in
-    let own : Among (dues s z) (as_due r) = rw (← same) (due-of (matching_seconds s) (is_match s) z (sets-match s) r.second st.matching) in
+    let own : Among (dues s z) (as_due r) = rw (← same) (due-of (matching_seconds s) (is_match s) (clock_of z) (sets-match s) r.second st.matching) in
     let after = is.after in
     let by = is.by in
     rw source.is (between_of s z last now (as_due r) own (omega (arith, signed_arith)) (omega (arith, signed_arith)))
@@ -129,11 +129,11 @@ due-fired s z last now d agree stretch h =
     let early = among-filter (is_due_after last) (dues s z) d late.0 in
     let by = int_le-true (due.instant d *ℤ pos 1_000_000_000) now late.1 in
     let after = int_lt-true last (due.instant d *ℤ pos 1_000_000_000) early.1 in
-    let own = own-of (matching_seconds s) (is_match s) z (sets-match s) d early.0 in
-    let when : due.instant d ≡ due_instant z c = ap due.instant own.own ∙ fire_due z c in
+    let own = own-of (matching_seconds s) (is_match s) (clock_of z) (sets-match s) d early.0 in
+    let when : due.instant d ≡ due_instant z c = ap due.instant own.own ∙ fire_due (clock_of z) c in
     let k : ℤ = due_instant z c in
-    let reached = (due_is z c).reached in
-    let before = (due_is z c).first (k -ℤ pos 1) (omega (arith, signed_arith)) in
+    let reached = (due_is (clock_of z) c).reached in
+    let before = (due_is (clock_of z) c).first (k -ℤ pos 1) (omega (arith, signed_arith)) in
     let here = stretch.kept k (omega (arith, signed_arith)) (omega (arith, signed_arith)) in
     let there = stretch.kept (k -ℤ pos 1) (omega (arith, signed_arith)) (omega (arith, signed_arith)) in
     let shown : clock z k ≡ pos c = omega (arith, signed_arith) in
@@ -143,7 +143,7 @@ due-fired s z last now d agree stretch h =
     let second : r.second ≡ c = readings-second z c read.place r read.here in
     let read_shown = agree.readings_shown c read.place r range read.here in
     let offset : shown_offset z k ≡ r.offset.seconds = ap (shown_offset z) (sym read.is) ∙ read_shown in
-    let plain : due.due z c ≡ parts c 0 r.offset = due_plain z c k r.offset (due_is z c) shown offset in
+    let plain : due.due z c ≡ parts c 0 r.offset = due_plain z c k r.offset (due_is (clock_of z) c) shown offset in
     let item = read_item s z c read.place r own.matching second read.here in
     let fire : Among (fires_between s z last now) r =
     filter-among (is_by now) (fires_after s z last) r
@@ -175,7 +175,7 @@ both_agree s z last now agree stretch =
     λ r h. offset_is s z last now r agree stretch (fired s z last now r h) in
     same_lists (λ (d : Due). d.second) (dues_between s z last now) (map as_due (fires_between s z last now))
     (ascends-filter (λ (d : Due). d.second) (is_due_by now) (dues_after s z last)
-    (ascends-filter (λ (d : Due). d.second) (is_due_after last) (dues s z) (dues-ascend s z)))
+    (ascends-filter (λ (d : Due). d.second) (is_due_after last) (dues s z) (dues-ascend s (clock_of z))))
     (ascends-map (λ (d : Due). d.second) as_due (fires_between s z last now)
     (by_second (shown_offset z (second_of last)) (fires_between s z last now) offsets up))
     (λ d h. due-fired s z last now d agree stretch h)

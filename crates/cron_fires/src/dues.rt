@@ -45,7 +45,7 @@ pub fn last_due_by(schedule: &Schedule, now: Timestamp, zone: &TimeZone<'_>) -> 
 /// a `None` answers `None` for ever.
 #[derive(Drop)]
 pub struct Dues<'a> {
-    run: Run<'a>,
+    run: Run<'a, TimeZone<'a>>,
 }
 
 impl<'a> Model for Dues<'a> {

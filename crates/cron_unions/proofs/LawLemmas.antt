@@ -10,7 +10,7 @@ use Rattle.cron_moments.specs.Readings.{readings}
 use Rattle.cron_time.specs.Matches.{is_match, matches}
 use Rattle.cron_time.specs.Timeline.{items_below, numbers_below, timeline}
 use Rattle.cron_instants.proofs.AscentLemmas as ascent
-use Rattle.cron_dues.specs.Due.{Due}
+use Rattle.cron_dues.specs.Due.{Due, clock_of}
 use Rattle.cron_dues.specs.Dues.{matching_seconds}
 use Rattle.cron_dues.specs.FirstDues.{IsDue}
 use Rattle.cron_time.proofs.ListLemmas.{filter-alike}
@@ -39,14 +39,14 @@ fires_are_of ss z r = (item-of_fires_any ss z r, fires_any-of_item ss z r)
 
 due-of_one : (ss : List Sets) (z : TimeZone) (d : Due) → IsDueOfAny ss z d → Any (λ s. IsDue s z d) ss
 due-of_one ss z d h =
-    let own = own-of (seconds_of_any ss) (is_match_any ss) z (any-matches ss) d h in
+    let own = own-of (seconds_of_any ss) (is_match_any ss) (clock_of z) (any-matches ss) d h in
     let one = any_of-match ss d.second own.matching in
-    (one.0, one.1, one.2, one.3, nearest-own (matching_seconds one.1) (is_match one.1) z (sets-match one.1) d one.4 own.own)
+    (one.0, one.1, one.2, one.3, nearest-own (matching_seconds one.1) (is_match one.1) (clock_of z) (sets-match one.1) d one.4 own.own)
 
 one-of_due : (ss : List Sets) (z : TimeZone) (d : Due) → Any (λ s. IsDue s z d) ss → IsDueOfAny ss z d
 one-of_due ss z d one =
-    let own = own-of (matching_seconds one.1) (is_match one.1) z (sets-match one.1) d one.4 in
-    nearest-own (seconds_of_any ss) (is_match_any ss) z (any-matches ss) d
+    let own = own-of (matching_seconds one.1) (is_match one.1) (clock_of z) (sets-match one.1) d one.4 in
+    nearest-own (seconds_of_any ss) (is_match_any ss) (clock_of z) (any-matches ss) d
     (match-of_any ss d.second (one.0, one.1, one.2, one.3, own.matching)) own.own
 
 pub dues_are_of : DuesAreOfTheSchedules
@@ -58,7 +58,7 @@ pub fires_ascend : FiresAscend
 fires_ascend ss z i j r q less e f = ascent.ascends-at (fires_any ss z) i j r q (fires_any-ascend ss z) less e f
 
 dues_any-ascend : (ss : List Sets) (z : TimeZone) → Ascends (λ (d : Due). d.second) (dues_any ss z)
-dues_any-ascend ss z = all-ascend (seconds_of_any ss) (is_match_any ss) z (any-matches ss)
+dues_any-ascend ss z = all-ascend (seconds_of_any ss) (is_match_any ss) (clock_of z) (any-matches ss)
 
 pub dues_once : DuesComeOnce
 dues_once ss z i j d e less here there = ascends-at (λ (x : Due). x.second) (dues_any ss z) i j d e (dues_any-ascend ss z) less here there

@@ -1,5 +1,6 @@
 //! Due fires of several schedules as one in a zone. None of these calls takes memory.
 ghost use Rattle.jiff.specs.Words.{plain_zone};
+ghost use Rattle.cron_dues.specs.Due.{zone_clock};
 ghost use Rattle.cron_dues.specs.Inner.Nearest.{IsNearestDue};
 ghost use Rattle.cron_unions.specs.UnionDues.{IsFirstDueAfterAny, IsFirstDuePastAny, IsLastDueByAny};
 ghost use Rattle.cron_unions.specs.Inner.Nearest.{is_match_any};
@@ -20,7 +21,7 @@ pub(crate) fn nearest_due(
     way: Way,
     from: i64,
 ) -> Option<DueFire>
-    ensures { IsNearestDue way (is_match_any schedules.now) (plain_zone zone.now) from result }
+    ensures { IsNearestDue way (is_match_any schedules.now) (zone_clock zone.now) from result }
 {
     let second = nearest_match(schedules, way, from)?;
     Some(due_of(zone, second))

@@ -1,5 +1,5 @@
 use Rattle.std.proofs.Common.{rules, ◌+ℤ◌, pos, FitsSigned, w64, to_z-of_z}
-use Rattle.jiff.specs.Words.{plain_zone}
+use Rattle.cron_dues.specs.Due.{zone_clock}
 use Rattle.cron_dues.proofs.MemberLemmas as member
 use Rattle.cron_unions.specs.Unions.{seconds_of_any}
 use Rattle.cron_unions.specs.Inner.Nearest.{is_match_any}
@@ -10,5 +10,5 @@ pub returns : goal.returns
 returns c =
     let fits : FitsSigned w64 c.reached_by.result = search rules in
     let fits-next : FitsSigned w64 (c.reached_by.result +ℤ pos 1) = search rules in
-    member.first_after (seconds_of_any c.args.schedules.now) (is_match_any c.args.schedules.now) (plain_zone c.args.zone.now) (any-matches c.args.schedules.now) c.args.now.nanosecond c.reached_by.result c.nearest_due.result
+    member.first_after (seconds_of_any c.args.schedules.now) (is_match_any c.args.schedules.now) (zone_clock c.args.zone.now) (any-matches c.args.schedules.now) c.args.now.nanosecond c.reached_by.result c.nearest_due.result
     c.reached_by.ensures.reached (rw (to_z-of_z fits, to_z-of_z fits-next) at c.nearest_due.ensures)

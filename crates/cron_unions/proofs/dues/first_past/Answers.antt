@@ -1,5 +1,5 @@
 use Rattle.std.proofs.Common.{rules, ◌≡◌, ◌+ℤ◌, pos, w64, FitsSigned, to_z-of_z}
-use Rattle.jiff.specs.Words.{plain_zone}
+use Rattle.cron_dues.specs.Due.{zone_clock}
 use Rattle.cron_dues.proofs.MemberLemmas as member
 use Rattle.cron_unions.specs.Unions.{seconds_of_any}
 use Rattle.cron_unions.specs.Inner.Nearest.{is_match_any}
@@ -11,5 +11,5 @@ returns c =
     let from : c.from.result ≡ pos c.args.fire.now.second = rw c.nominal_second.ensures at c.from.ensures in
     let fits : FitsSigned w64 c.from.result = search rules in
     let fits-next : FitsSigned w64 (c.from.result +ℤ pos 1) = search rules in
-    member.first_past (seconds_of_any c.args.schedules.now) (is_match_any c.args.schedules.now) (plain_zone c.args.zone.now) (any-matches c.args.schedules.now) c.args.fire.now c.nearest_due.result
+    member.first_past (seconds_of_any c.args.schedules.now) (is_match_any c.args.schedules.now) (zone_clock c.args.zone.now) (any-matches c.args.schedules.now) c.args.fire.now c.nearest_due.result
     (rw (to_z-of_z fits, to_z-of_z fits-next, from) at c.nearest_due.ensures)
