@@ -1,6 +1,6 @@
 //! A due fire.
 ghost use Rattle.jiff_core.specs.Calendar.{IsBetween};
-ghost use Rattle.std.specs.Prelude.{◌≡◌, neg_ℤ, pos, ◌*ℤ◌, ◌+ℤ◌};
+ghost use Rattle.std.specs.Prelude.{◌≡◌, neg_ℤ, pos, ◌*ℤ◌, ◌+ℤ◌, MatchOption};
 ghost use Rattle.jiff_core.specs.DateTime.{civil_nanos};
 ghost use Rattle.jiff_core.specs.Timestamp.{nanos_of_seconds};
 ghost use Rattle.cron_moments.specs.Civil.{civil};
@@ -8,7 +8,7 @@ ghost use Rattle.cron_moments.specs.Readings.{reading};
 ghost use Rattle.cron_dues.specs.Clock.Due.{CanBeDue, instant, parts};
 ghost use Rattle.cron_dues.specs.DueText.{shown};
 
-use cron_moments::civil::civil_of;
+use cron_moments::civil::{SECONDS, civil_of};
 use cron_moments::moment::{Moment, moment_numbered};
 use jiff::Timestamp;
 use jiff::civil::DateTime;
@@ -73,6 +73,27 @@ impl DueFire {
     {
         self.offset.to_datetime(self.timestamp())
     }
+}
+
+/// The furthest that what a clock shows at a due instant can lie past the nominal time: twice the longest
+/// offset.
+const FURTHEST_PAST: u32 = 187_198;
+
+/// A due fire from the number of the civil second that matches, by how many seconds what the clock shows at
+/// the due instant lies past it, and the clock's offset then. `None` where no clock can be so: the civil
+/// second lies outside 1970 to 2100, or what the clock shows lies more than 187,198 seconds past it.
+pub fn fire_of_parts(second: u32, past: u32, offset: Offset) -> Option<DueFire>
+    ensures { MatchOption result
+        (CanBeDue (parts second past offset) → ⊥)
+        (λ fire. fire ≡ parts second past offset) }
+{
+    if i64::from(second) >= SECONDS {
+        return None;
+    }
+    if past > FURTHEST_PAST {
+        return None;
+    }
+    Some(due_fire(second, past, offset))
 }
 
 /// A due fire from its parts.
