@@ -14,3 +14,4 @@ pub mod TableItems
 pub mod EraFilling
 pub mod ZoneFileLemmas
 mod RulesAlike
+pub mod Dues

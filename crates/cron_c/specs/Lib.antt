@@ -8,3 +8,4 @@ pub mod Zones
 pub mod Histories
 pub mod Savings
 pub mod ZoneFiles
+pub mod Dues

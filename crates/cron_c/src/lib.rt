@@ -3,6 +3,9 @@
 #![tactic(auto)]
 
 mod buffer;
+mod due_by_clock;
+mod due_item;
+mod due_text;
 mod era;
 mod era_table;
 mod firing;
@@ -14,6 +17,7 @@ mod listing;
 mod named;
 mod parse_call;
 mod places;
+mod rule_dues;
 mod runs;
 mod savings;
 mod schedule;
@@ -24,6 +28,7 @@ mod version;
 mod zone;
 mod zone_file;
 
+pub use due_text::cron_c_due_format;
 pub use era::CronEra;
 pub use firing::{cron_c_fire_after, cron_c_fire_at, cron_c_fire_by};
 pub use history_calls::{
@@ -34,6 +39,9 @@ pub use item::CronItem;
 pub use listing::{cron_c_list_after, cron_c_list_before, cron_c_list_next, cron_c_list_prev};
 pub use named::cron_c_zone_parse;
 pub use parse_call::cron_c_parse;
+pub use rule_dues::{
+    cron_c_due_after, cron_c_due_by, cron_c_due_past, cron_c_dues_between, cron_c_dues_past,
+};
 pub use runs::{cron_c_fires_between, cron_c_fires_past};
 pub use schedule::CronSchedule;
 pub use searching::{cron_c_after, cron_c_before, cron_c_next, cron_c_prev};

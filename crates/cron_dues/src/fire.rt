@@ -85,7 +85,7 @@ const FURTHEST_PAST: u32 = 187_198;
 pub fn fire_of_parts(second: u32, past: u32, offset: Offset) -> Option<DueFire>
     ensures { MatchOption result
         (CanBeDue (parts second past offset) → ⊥)
-        (λ fire. fire ≡ parts second past offset) }
+        (λ fire. (fire ≡ parts second past offset) × CanBeDue fire) }
 {
     if i64::from(second) >= SECONDS {
         return None;

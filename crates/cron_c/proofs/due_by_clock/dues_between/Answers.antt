@@ -1,0 +1,15 @@
+use Rattle.std.proofs.Common.{◌≡◌, ◌*ℤ◌, pos, rules}
+use Rattle.cron_c.specs.Calls.{IsInstant}
+use Rattle.cron_c.specs.Structs.{sets_of}
+use Rattle.cron_c.proofs.Dues.{between_says}
+use Rattle.cron_c.proofs.due_by_clock.dues_between.Goals as goal
+
+pub returns : goal.returns
+returns g c =
+    let last_is : c.in-Ok.last.nanosecond ≡ c.args.last *ℤ pos 1_000_000_000 = search rules in
+    let now_is : c.in-Ok-from_second.now.nanosecond ≡ c.args.now *ℤ pos 1_000_000_000 = search rules in
+    let from : IsInstant c.args.last = search rules in
+    let to : IsInstant c.args.now = search rules in
+    let filled = rw (c.between-run.ensures, c.fields_of.ensures, last_is, now_is) at c.fill.ensures in
+    between_says (sets_of c.args.schedule.now) (g.C.Clock.offsets c.args.clock.now) c.args.last c.args.now c.args.items.now c.fill.new.items
+    c.fill.new.count c.fill.result from to filled
