@@ -1,14 +1,11 @@
 -- The zones that a struct says differ in the names of their times alone, and have the same items.
-use Rattle.std.proofs.Common.{◌≡◌, ℕ, ℤ, pos, List, [], ◌∷◌, Option, Some, None, refl, sym, ap, subst, ◌∙◌, arith}
+use Rattle.std.proofs.Common.{◌≡◌, ℕ, pos, List, [], ◌∷◌, Option, Some, None, refl, sym, ap, subst, ◌∙◌, arith}
 use Rattle.std.specs.Prelude.{slice_get, filter}
 use Rattle.std.specs.List.{flat_map}
 use Rattle.jiff_core.specs.declared.Offset.{Offset}
 use Rattle.jiff_core.specs.declared.civil.datetime.DateTime.{DateTime}
-use Rattle.jiff_tz.specs.PosixRule.{ambiguous_at_by, rule_nanos}
+use Rattle.jiff_tz.specs.PosixRule.{ambiguous_at_by}
 use Rattle.jiff_tz.specs.Zone.{ambiguous_at}
-use Rattle.jiff_tz.specs.declared.posix.Day.{Day}
-use Rattle.jiff_tz.specs.declared.posix.Day.TheVariants.{JulianOne, JulianZero, WeekdayOfMonth}
-use Rattle.jiff_tz.specs.declared.posix.DayTime.{DayTime}
 use Rattle.jiff_tz.specs.declared.posix.Dst.{Dst}
 use Rattle.jiff_tz.specs.declared.timezone.TimeZone.{TimeZone}
 use Rattle.jiff_tz.specs.declared.timezone.TimeZone.TheVariants.{UTC, Unknown, Fixed, Posix, Tzif}
@@ -18,28 +15,10 @@ use Rattle.cron_moments.specs.Readings.{Reading, readings, readings_by}
 use Rattle.cron_time.specs.Matches.{matches}
 use Rattle.cron_time.specs.Timeline.{items_below, numbers_below, timeline}
 use Rattle.cron_instants.specs.Instants.{IsItem}
-use Rattle.cron_c.specs.Zones.{IsDayIn, IsSavingIn, IsTurnIn, IsZoneIn}
-use Rattle.cron_c.specs.declared.zone.CronTurn.{CronTurn}
+use Rattle.cron_c.specs.AnyOffset.{not_utc, turn_once}
+use Rattle.cron_c.specs.Zones.{IsSavingIn, IsZoneIn}
 use Rattle.cron_c.specs.declared.zone.CronZone.{CronZone}
 use Rattle.cron_c.proofs.Items.{offset_once}
-
-day_once : (t : CronTurn) (a b : Day) → IsDayIn t a → IsDayIn t b → a ≡ b
-day_once t (JulianOne n) (JulianOne m) p q = ap JulianOne (sym p.1 ∙ q.1)
-day_once t (JulianOne n) (JulianZero m) p q = absurd (omega (arith, p.0, q.0))
-day_once t (JulianOne n) (WeekdayOfMonth month week weekday) p q = absurd (omega (arith, p.0, q.0))
-day_once t (JulianZero n) (JulianOne m) p q = absurd (omega (arith, p.0, q.0))
-day_once t (JulianZero n) (JulianZero m) p q = ap JulianZero (sym p.1 ∙ q.1)
-day_once t (JulianZero n) (WeekdayOfMonth month week weekday) p q = absurd (omega (arith, p.0, q.0))
-day_once t (WeekdayOfMonth month week weekday) (JulianOne m) p q = absurd (omega (arith, p.0, q.0))
-day_once t (WeekdayOfMonth month week weekday) (JulianZero m) p q = absurd (omega (arith, p.0, q.0))
-day_once t (WeekdayOfMonth m w d) (WeekdayOfMonth n x e) p q =
-    let (kind, month, week, day) = p in
-    let (kind', month', week', day') = q in
-    rw (sym month ∙ month', sym week ∙ week', sym day ∙ day') refl
-
-turn_once : (t : CronTurn) (a b : DayTime) (y s : ℤ) → IsTurnIn t a → IsTurnIn t b → rule_nanos y a s ≡ rule_nanos y b s
-unfolding rule_nanos
-turn_once t a b y s p q = rw (day_once t a.date b.date p.0 q.0, sym p.1 ∙ q.1) refl
 
 saving_once : (c : CronZone) (std : Offset) (a b : Option Dst) (dt : DateTime) → IsSavingIn c a → IsSavingIn c b
     → ambiguous_at_by std a dt ≡ ambiguous_at_by std b dt
@@ -54,10 +33,6 @@ saving_once c std (Some a) (Some b) dt p q =
       turn_once c.starts a.rule.start b.rule.start dt.date.year (pos 0) starts starts',
       turn_once c.ends a.rule.end b.rule.end dt.date.year (pos 0) ends ends',
     ) refl
-
-not_utc : (c : CronZone) (dst : Option Dst) → c.kind ≡ 0 → IsSavingIn c dst → ⊥
-not_utc c None zero one = absurd (omega (arith, zero, one))
-not_utc c (Some dst) zero two = absurd (omega (arith, zero, two.0))
 
 zone_once : (c : CronZone) (a b : TimeZone) (dt : DateTime) → IsZoneIn c a → IsZoneIn c b → ambiguous_at a dt ≡ ambiguous_at b dt
 unfolding ambiguous_at

@@ -102,7 +102,7 @@ first_never s eras at e b here never = λ r h.
     let (z, of, on) = there in
     never r from (low_enough s z r on)
 
-started_later : (o : Option CronEra) (t u : ℤ) → t ≤ℤ u → started_by o t ≡ true → started_by o u ≡ true
+pub started_later : (o : Option CronEra) (t u : ℤ) → t ≤ℤ u → started_by o t ≡ true → started_by o u ≡ true
 started_later None t u le h = h
 started_later (Some e) t u le h =
     let has = int_le-true e.starts t h in
@@ -228,7 +228,7 @@ at_or_past at i false e = inl (grind arith)
 pub from_or_before : (at i : ℕ) → (at ≤ i) ⊎ (i < at)
 from_or_before at i = at_or_past at i (nat_lt i at) refl
 
-started_is : (o : Option CronEra) (t : ℤ) → started_by o t ≡ true → (a : CronEra) × (o ≡ Some a) × (a.starts ≤ℤ t)
+pub started_is : (o : Option CronEra) (t : ℤ) → started_by o t ≡ true → (a : CronEra) × (o ≡ Some a) × (a.starts ≤ℤ t)
 started_is None t h = absurd (cc)
 started_is (Some a) t h = (a, refl, int_le-true a.starts t h)
 

@@ -15,3 +15,4 @@ pub mod EraFilling
 pub mod ZoneFileLemmas
 mod RulesAlike
 pub mod Dues
+mod HistoryClockLemmas

@@ -9,3 +9,5 @@ pub mod Histories
 pub mod Savings
 pub mod ZoneFiles
 pub mod Dues
+pub mod AnyOffset
+pub mod HistoryClocks

@@ -11,6 +11,8 @@ mod era_table;
 mod firing;
 mod history;
 mod history_calls;
+mod history_clock;
+mod history_dues;
 mod history_runs;
 mod item;
 mod listing;
@@ -34,6 +36,10 @@ pub use firing::{cron_c_fire_after, cron_c_fire_at, cron_c_fire_by};
 pub use history_calls::{
     cron_c_history_check, cron_c_history_fire_after, cron_c_history_fire_at,
     cron_c_history_fire_by, cron_c_history_fires_between, cron_c_history_fires_past,
+};
+pub use history_dues::{
+    cron_c_history_due_after, cron_c_history_due_by, cron_c_history_due_past,
+    cron_c_history_dues_between, cron_c_history_dues_past,
 };
 pub use item::CronItem;
 pub use listing::{cron_c_list_after, cron_c_list_before, cron_c_list_next, cron_c_list_prev};
