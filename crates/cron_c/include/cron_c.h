@@ -27,7 +27,7 @@ extern "C" {
 #endif
 
 /* The version of this header: 10,000 times its first number, 100 times its second, and its third. */
-#define CRON_C_VERSION 10300
+#define CRON_C_VERSION 10400
 
 /* The version of the archive. Its first number is that of the header, or the structs may differ. */
 uint32_t cron_c_version(void);
@@ -52,8 +52,9 @@ static inline char *cron_c_no_text(void)
 #define CRON_C_LEAST_INSTANT INT64_C(-377705023201)
 #define CRON_C_GREATEST_INSTANT INT64_C(253402207200)
 
-/* The bytes that hold the text of any item, and the message that refuses a text of so many bytes. */
+/* The bytes that hold the text of any item, of any due fire, and the message that refuses a text of so many bytes. */
 #define CRON_C_ITEM_TEXT 29
+#define CRON_C_DUE_TEXT 53
 #define CRON_C_MESSAGE(text_length) (2 * (text_length) + 100)
 
 /*
@@ -127,8 +128,9 @@ typedef struct cron_c_schedule {
  * An item of a timeline: an instant, in seconds since 1970-01-01T00:00:00Z, and the offset at which
  * the clock of the zone reads it, in seconds ahead of UTC (of a rule that contradicts itself see
  * `cron_c_zone`). What the clock shows is the sum of both. In a fold the clock shows the same twice,
- * and the two items differ in both numbers. `reserved` is 0. The struct has no padding, so items are
- * the same where their bytes are.
+ * and the two items differ in both numbers. `reserved` is 0 but in due fires (`cron_c_due_after`) of
+ * matches that a clock passes over: calls that take no due fire refuse an item that has another number
+ * there. The struct has no padding, so items are the same where their bytes are.
  */
 typedef struct cron_c_item {
     int64_t instant;
@@ -207,11 +209,13 @@ uint32_t cron_c_zone_parse(const char *text, size_t text_length, cron_c_zone *zo
  * Which call to use:
  *
  *   a scheduler, and whoever asks what was missed    by instants: `cron_c_fire_after` and its like
+ *   a job that must run once for each match          due fires: `cron_c_due_after` and its like
  *   a calendar, and whoever lists what clocks show   the walk: `cron_c_after` and its like
  *
  * They differ only where a clock goes back, or a rule contradicts itself. The walk goes along the
  * times that the clock shows, and answers both readings of a repeated one before the next. By
- * instants the items come as time passes.
+ * instants the items come as time passes. Both answer nothing where the clock skips a match, and a
+ * repeated one twice. By due fires each match comes once.
  */
 
 /*
@@ -266,6 +270,52 @@ uint32_t cron_c_fires_past(const cron_c_schedule *schedule,
                            const cron_c_zone *zone,
                            const cron_c_item *item, int64_t now,
                            cron_c_item *items, size_t items_length, size_t *count);
+
+/*
+ * Due fires: each match once, also where the clock changes. A match is due at the first instant at
+ * which the clock of the zone shows it or a later time: in a fold at its first pass, and where the
+ * clock skips it at the instant at which the clock passes over it. In Chicago `0 30 2 * * *` is due on
+ * 2022-03-13 at 08:00:00Z, where the clock goes from 02:00 to 03:00, and `0 30 1 * * *` on 2022-11-06
+ * at 06:30:00Z alone.
+ *
+ * `instant` is then the due instant, `offset` the clock's offset at it, and `reserved` by how many
+ * seconds what the clock shows there lies past the match: 0 where the clock shows it, and at most
+ * 187,198. So the match itself, the nominal time, is `instant + offset - reserved`. It lies in 1970 to
+ * 2100, and what the clock shows may lie in 2101.
+ *
+ * All matches that the clock passes over at one instant share it, and so may the match that it shows
+ * there. They come by their nominal times. So go on from the item that was run, by `cron_c_due_past` or
+ * `cron_c_dues_past`, and never from its instant, since `cron_c_due_after` answers the first of them
+ * alone.
+ *
+ * `cron_c_due_after` writes to `item` the first due fire whose instant comes after the given one, and
+ * `cron_c_due_by` the last one whose instant is the given one or comes before it. `cron_c_due_past` puts
+ * the first due fire past `*item` in its place, and `cron_c_dues_past` lists those past `item` up to and
+ * with `now`; the given item may be none of this schedule, since its nominal time alone counts. They
+ * take each item of the other calls too. `cron_c_dues_between` and `cron_c_dues_past` fill an array as
+ * `cron_c_fires_between` and `cron_c_fires_past` do.
+ *
+ * CRON_C_OK, CRON_C_BAD_ZONE; of the first two calls CRON_C_NO_ITEM or CRON_C_BAD_INSTANT; of
+ * `cron_c_due_past` CRON_C_NO_ITEM or CRON_C_NOT_AN_ITEM; of the lists CRON_C_MORE or
+ * CRON_C_BAD_INSTANT, and of `cron_c_dues_past` CRON_C_NOT_AN_ITEM too: the nominal time lies outside
+ * 1970 to 2100, the offset is longer than 25:59:59, or `reserved` is greater than 187,198.
+ */
+uint32_t cron_c_due_after(const cron_c_schedule *schedule,
+                          const cron_c_zone *zone,
+                          int64_t instant, cron_c_item *item);
+uint32_t cron_c_due_by(const cron_c_schedule *schedule,
+                       const cron_c_zone *zone,
+                       int64_t instant, cron_c_item *item);
+uint32_t cron_c_due_past(const cron_c_schedule *schedule,
+                         const cron_c_zone *zone, cron_c_item *item);
+uint32_t cron_c_dues_between(const cron_c_schedule *schedule,
+                             const cron_c_zone *zone,
+                             int64_t last, int64_t now,
+                             cron_c_item *items, size_t items_length, size_t *count);
+uint32_t cron_c_dues_past(const cron_c_schedule *schedule,
+                          const cron_c_zone *zone,
+                          const cron_c_item *item, int64_t now,
+                          cron_c_item *items, size_t items_length, size_t *count);
 
 /*
  * An era: from `starts` on, in seconds since 1970-01-01T00:00:00Z, the clock is that of `zone`, until
@@ -354,6 +404,29 @@ uint32_t cron_c_history_fires_past(const cron_c_schedule *schedule,
                                    cron_c_item *items, size_t items_length, size_t *count);
 
 /*
+ * The due fires of a history, by the clock that has at each instant the offset of the era which holds
+ * it, and before the first era starts that of the first. Statuses are those of the calls over a zone.
+ * Each call looks at all eras, and answers CRON_C_BAD_ZONE exactly where they are no history, or none.
+ */
+uint32_t cron_c_history_due_after(const cron_c_schedule *schedule,
+                                  const cron_c_era *eras, size_t eras_length,
+                                  int64_t instant, cron_c_item *item);
+uint32_t cron_c_history_due_by(const cron_c_schedule *schedule,
+                               const cron_c_era *eras, size_t eras_length,
+                               int64_t instant, cron_c_item *item);
+uint32_t cron_c_history_due_past(const cron_c_schedule *schedule,
+                                 const cron_c_era *eras, size_t eras_length,
+                                 cron_c_item *item);
+uint32_t cron_c_history_dues_between(const cron_c_schedule *schedule,
+                                     const cron_c_era *eras, size_t eras_length,
+                                     int64_t last, int64_t now,
+                                     cron_c_item *items, size_t items_length, size_t *count);
+uint32_t cron_c_history_dues_past(const cron_c_schedule *schedule,
+                                  const cron_c_era *eras, size_t eras_length,
+                                  const cron_c_item *item, int64_t now,
+                                  cron_c_item *items, size_t items_length, size_t *count);
+
+/*
  * Writes to `item` the first item from the civil second on that a clock in the zone shows one second
  * after the instant; or, `cron_c_before`, the last one up to the civil second that it shows one
  * second before. Where the clock shows each second once, an item at the very instant is answered by
@@ -432,6 +505,16 @@ uint32_t cron_c_list_prev(const cron_c_schedule *schedule,
  */
 uint32_t cron_c_format(const cron_c_item *item,
                        char *text, size_t text_length, size_t *text_needed);
+
+/*
+ * Writes the text of a due fire: that of what the clock shows at the due instant, and where that isn't
+ * the nominal time also that time, as `2022-03-13 03:00:00 -05:00 for 02:30:00`, with its date where
+ * that is another one. The whole length in `*text_needed` is at most CRON_C_DUE_TEXT.
+ *
+ * CRON_C_OK; or CRON_C_NOT_AN_ITEM as by `cron_c_dues_past`, and `*text_needed` is then 0.
+ */
+uint32_t cron_c_due_format(const cron_c_item *item,
+                           char *text, size_t text_length, size_t *text_needed);
 
 #ifdef __cplusplus
 }

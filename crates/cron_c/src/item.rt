@@ -8,8 +8,9 @@ use cron_moments::parts::moment_at;
 use jiff::tz::Offset;
 
 /// The instant of an item in seconds since 1970-01-01T00:00:00Z, and how far its clock is ahead of
-/// UTC in seconds. What the clock shows is their sum. `reserved` is 0, and a struct that has another
-/// number there is none of an item.
+/// UTC in seconds. What the clock shows is their sum. In a due fire `reserved` holds by how many seconds that
+/// lies past the nominal time. In any other item it is 0, and a struct that has another number there is none
+/// of an item.
 #[repr(C)]
 #[derive(Clone, Copy)]
 pub struct CronItem {

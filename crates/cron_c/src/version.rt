@@ -7,7 +7,7 @@ ghost use Rattle.cron_c.specs.Statuses.{version_number};
 /// first changes with what callers of an earlier one rely on.
 #[unsafe(no_mangle)]
 pub extern "C" fn cron_c_version() -> u32
-    ensures { result ≡ version_number 1 3 0 }
+    ensures { result ≡ version_number 1 4 0 }
 {
-    10_300
+    10_400
 }
