@@ -10,3 +10,4 @@ pub mod MemberLemmas
 pub mod LawLemmas
 pub mod RunLemmas
 pub mod TextLemmas
+pub mod ReaderLemmas

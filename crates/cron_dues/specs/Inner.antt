@@ -2,3 +2,4 @@ pub mod Steady
 pub mod Reached
 pub mod Nearest
 pub mod Left
+pub mod Digits

@@ -1,6 +1,7 @@
 pub mod Clock
 pub mod Due
 pub mod DueText
+pub mod DueReading
 pub mod Dues
 pub mod FirstDues
 pub mod DueLaws

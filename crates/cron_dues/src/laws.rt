@@ -1,6 +1,7 @@
 //! Laws over the definitions: the functions do nothing, and a caller calls one for what its contract says.
 
 ghost use Rattle.cron_dues.specs.Clock.Due.{DueInstantsAreFirst, FiresAreDue};
+ghost use Rattle.cron_dues.specs.DueReading.{TextsDiffer};
 ghost use Rattle.cron_dues.specs.DueLaws.{CutListsGoOn, DueInstantsNeverDecrease, FiresAreTheMatches, FirstReadingsAreDue, GapsArePassedOver, NominalSecondsAscend};
 
 /// The due instant of a civil second is the first at which the clock shows it or a later one, by any clock.
@@ -42,4 +43,9 @@ pub fn gaps_are_passed_over()
 /// A list of all due fires that is cut after one of them goes on past that one.
 pub fn cut_lists_go_on()
     ensures { CutListsGoOn }
+{}
+
+/// No two due fires that can be have one text.
+pub fn texts_differ()
+    ensures { TextsDiffer }
 {}

@@ -8,6 +8,7 @@ pub mod fire;
 pub mod laws;
 mod numbers;
 pub mod reach;
+pub mod reader;
 pub mod run;
 pub mod steady;
 pub mod text;
