@@ -1,10 +1,12 @@
 -- What contracts see of the values of the code.
 use Rattle.std.specs.Prelude.{ℕ, List, map}
 use Rattle.std.specs.Borrow.{Bor}
+use Rattle.cron_units.specs.Steps.{Progression}
 use Rattle.cron_crontab.specs.Refusals as refusals
 use Rattle.cron_crontab.specs.Refusals.{missing, no_number, long_number, outside, ignored, lone_step, no_step, zero_step, refused, no_field, sixth_field, no_nickname, capital_nickname, behind_nickname}
 use Rattle.cron_crontab.specs.Crontab as crontab
 use Rattle.cron_crontab.specs.Crontab.{schedules, reboot}
+use Rattle.cron_crontab.specs.declared.steps.Item.{Item}
 use Rattle.cron_crontab.specs.declared.faults.Reason.{Reason}
 use Rattle.cron_crontab.specs.declared.faults.Reason.TheVariants.{Missing, NoNumber, LongNumber, Outside, Ignored, LoneStep, NoStep, ZeroStep}
 use Rattle.cron_crontab.specs.declared.faults.Fault.{Fault}
@@ -36,3 +38,7 @@ expression_view Reboot = reboot
 
 abbrev pub table_view : List (Bor (List ℕ) × Bor (List ℕ)) → List (List ℕ × List ℕ)
 table_view = map (λ e. (e.0.now, e.1.now))
+
+-- an item by its numbers
+abbrev pub item_view : Item → Progression
+item_view i = record { first = i.first; last = i.last; every = i.every }

@@ -51,7 +51,7 @@ fn read_range<'a>(field: Field, text: &'a str) -> Result<Base, Reason<'a>>
 
 /// Reads what stands before a step.
 #[inline(always)]
-fn read_base<'a>(field: Field, text: &'a str) -> Result<Base, Reason<'a>>
+pub(crate) fn read_base<'a>(field: Field, text: &'a str) -> Result<Base, Reason<'a>>
     ensures base { MatchResult result (λ b. base_of field text.now ≡ Ok (base_view b)) (λ r. base_of field text.now ≡ Err (reason_view r)) }
     ensures within { IfOk result (IsBaseWithin field) }
 {

@@ -8,10 +8,13 @@ mod fields;
 mod items;
 mod numbers;
 mod schedules;
+mod steps;
 mod texts;
 mod words;
 
 pub use faults::{Fault, Reason, RefusedItem};
 pub use field::Field;
 pub use schedules::Schedules;
+pub use steps::{Item, read_steps};
 pub use texts::{Expression, read};
+pub use words::{cut_at, next_word};

@@ -22,9 +22,9 @@ fn mark_at(text: &[u8], mark: u8) -> usize
     text.len()
 }
 
-/// What stands before the first mark, and what stands behind it, where there is one.
+/// What stands before the first mark, a byte of ASCII, and what stands behind it, where there is one.
 #[inline(always)]
-pub(crate) fn cut_at(text: &str, mark: u8) -> (&str, Option<&str>)
+pub fn cut_at(text: &str, mark: u8) -> (&str, Option<&str>)
     requires { mark < 128 }
     ensures pieces { MatchOption result.1 (pieces mark text.now ≡ result.0.now ∷ []) (λ rest. pieces mark text.now ≡ result.0.now ∷ pieces mark rest.now) }
     ensures text { IfSome result.1 (λ rest. IsUtf8 rest.now) }
@@ -69,8 +69,8 @@ fn word_end(text: &[u8], from: usize) -> usize
     text.len()
 }
 
-/// The first word of a text, and what stands behind it.
-pub(crate) fn next_word(text: &str) -> Option<(&str, &str)>
+/// The first word of a text, and what stands behind it. White space stands between words.
+pub fn next_word(text: &str) -> Option<(&str, &str)>
     ensures words { MatchOption result (words text.now ≡ []) (λ r. words text.now ≡ r.0.now ∷ words r.1.now) }
     ensures filled { IfSome result (λ r. 0 < length r.0.now) }
 {
