@@ -1,0 +1,33 @@
+-- What warnings say.
+use Rattle.std.specs.Prelude.{ℕ, List, ◌++◌, codes}
+use Rattle.cron_crontab.specs.Fields.{title}
+use Rattle.cron_crontab.specs.declared.field.Field.{Field}
+use Rattle.cron_crontab.specs.declared.field.Field.TheVariants.{Minute, Hour, DayOfMonth, Month, DayOfWeek}
+use Rattle.cron_tab_warnings.specs.declared.files.LineWarning.{LineWarning}
+use Rattle.cron_tab_warnings.specs.declared.files.LineWarning.TheVariants.{IgnoredZone, LongCommand, ManyLines, NoLineFeed}
+use Rattle.cron_tab_warnings.specs.declared.warnings.Warning.{Warning}
+use Rattle.cron_tab_warnings.specs.declared.warnings.Warning.TheVariants.{NeverFires, Backward, StepPastEnd, UnevenStep, StarStep, LeftOutDays, SixFields, SevenFields}
+
+-- what goes round
+abbrev pub round_text : Field → List ℕ
+round_text Minute = codes "each hour"
+round_text Hour = codes "each day"
+round_text DayOfMonth = codes "each month"
+round_text Month = codes "each year"
+round_text DayOfWeek = codes "each week"
+
+abbrev pub warning_text : Warning → List ℕ
+warning_text NeverFires = codes "it never fires"
+warning_text (Backward f) = title f ++ codes ": a range that goes from a greater number to a lesser one has none"
+warning_text (StepPastEnd f) = title f ++ codes ": a step past the end of its range leaves the first number alone"
+warning_text (UnevenStep f) = title f ++ (codes ": the step doesn't divide the field, so it begins anew " ++ round_text f)
+warning_text (StarStep f) = title f ++ codes ": it begins with a star, so both kinds of day must match"
+warning_text LeftOutDays = codes "day of month: months that lack a day are passed over"
+warning_text SixFields = codes "the command begins with a sixth field: an expression has five, none of seconds"
+warning_text SevenFields = codes "the command begins with a sixth and a seventh field: an expression has five, none of seconds and none of years"
+
+abbrev pub line_warning_text : LineWarning → List ℕ
+line_warning_text IgnoredZone = codes "Debian's cron ignores CRON_TZ"
+line_warning_text LongCommand = codes "Debian's cron refuses a command of 999 bytes or more"
+line_warning_text ManyLines = codes "Debian's cron refuses a file of more than 10000 lines"
+line_warning_text NoLineFeed = codes "Debian's cron refuses a file whose last line has no line feed"

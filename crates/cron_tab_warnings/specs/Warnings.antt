@@ -1,0 +1,89 @@
+-- What of a crontab's line or expression may surprise. The text begins with the fields, and what follows the fifth is the rest of its line.
+use Rattle.std.specs.Prelude.{◌≡◌, ℕ, zero, suc, ◌+◌, ◌<◌, ◌==◌, ◌&&◌, ◌||◌, Bool, false, not, nat_lt, nat_le, List, [], length, if◌then◌else◌, IsTrue, ◌↔◌}
+use Rattle.std.specs.List.{list_all}
+use Rattle.cron_moments.specs.Civil.{civil, seconds_in_range}
+use Rattle.cron_crontab.specs.Crontab.{Five, Meaning, schedules, reboot, schedules_of}
+use Rattle.cron_crontab.specs.Items.{begins_with_star}
+use Rattle.cron_crontab.specs.declared.field.Field.{Field}
+use Rattle.cron_crontab.specs.declared.field.Field.TheVariants.{DayOfMonth, DayOfWeek, Month}
+use Rattle.cron_tabs.specs.DayRule.{matches_one, runs_at}
+use Rattle.cron_tab_warnings.specs.Written.{field_word, has_fields, has_item, is_backward, is_field, is_past_end, is_uneven, names, names_all, word_at}
+use Rattle.cron_tab_warnings.specs.declared.warnings.Warning.{Warning}
+use Rattle.cron_tab_warnings.specs.declared.warnings.Warning.TheVariants.{NeverFires, Backward, StepPastEnd, UnevenStep, StarStep, LeftOutDays, SixFields, SevenFields}
+
+-- no civil second of 1970 to 2100 matches
+abbrev pub NeverRuns : Meaning → Type 0
+NeverRuns (schedules some) = (c : ℕ) → c < seconds_in_range → matches_one some (civil c) ≡ false
+NeverRuns reboot = ⊥
+
+-- of five fields that is: none is one at which they say to run
+abbrev pub NeverRunsByFields : Type 0
+NeverRunsByFields = (f : Five) → NeverRuns (schedules (schedules_of f)) ↔ ((c : ℕ) → c < seconds_in_range → runs_at f (civil c) ≡ false)
+
+-- the days of a month in its shortest year
+abbrev pub shortest : ℕ → ℕ
+shortest m = if m == 2 then 28 else (if (m == 4) || ((m == 6) || ((m == 9) || (m == 11))) then 30 else 31)
+
+-- the field names a month, which lacks the day
+abbrev pub lacks : List ℕ → ℕ → ℕ → Bool
+lacks months m day = nat_lt (shortest m) day && names Month months m
+
+-- of the first so many months the field names one that lacks the day
+abbrev pub some_lacks : List ℕ → ℕ → ℕ → Bool
+some_lacks months day zero = false
+some_lacks months day (suc n) = some_lacks months day n || lacks months (n + 1) day
+
+abbrev pub is_left_out : List ℕ → ℕ → Bool
+is_left_out text day = names DayOfMonth (field_word text DayOfMonth) day && some_lacks (field_word text Month) day 12
+
+-- a day that is named is one which some month that is named lacks; where all days are named, none is meant
+abbrev pub leaves_out : List ℕ → Bool
+leaves_out text =
+    not (begins_with_star (field_word text DayOfMonth)) && (not (names_all DayOfMonth (field_word text DayOfMonth))
+    && (is_left_out text 29 || (is_left_out text 30 || is_left_out text 31)))
+
+-- the other kind of day
+abbrev pub other_days : Field → Field
+other_days DayOfMonth = DayOfWeek
+other_days f = DayOfMonth
+
+-- of the two kinds of day one alone begins with a star, and that one leaves days out, as `*/2`: both must match, though no field is all
+abbrev pub stars_step : Field → List ℕ → Bool
+stars_step f text =
+    begins_with_star (field_word text f)
+    && (not (begins_with_star (field_word text (other_days f))) && not (names_all f (field_word text f)))
+
+abbrev pub is_star_step : Field → List ℕ → Bool
+is_star_step DayOfMonth text = stars_step DayOfMonth text
+is_star_step DayOfWeek text = stars_step DayOfWeek text
+is_star_step f text = false
+
+-- digits, commas, dashes, stars and slashes
+abbrev pub in_years : ℕ → Bool
+in_years c = (nat_le 48 c && nat_le c 57) || ((c == 44) || ((c == 45) || ((c == 42) || (c == 47))))
+
+abbrev pub is_years : List ℕ → Bool
+is_years word = nat_lt 0 (length word) && list_all in_years word
+
+-- what stands behind the fifth field is itself a field of days of the week, as behind one of seconds
+abbrev pub has_sixth : List ℕ → Bool
+has_sixth text = is_field DayOfWeek (word_at text 5)
+
+abbrev pub has_seventh : List ℕ → Bool
+has_seventh text = has_sixth text && is_years (word_at text 6)
+
+-- what is so of fields
+abbrev pub is_so : Warning → List ℕ → Bool
+is_so NeverFires text = false
+is_so (Backward f) text = has_item is_backward f (field_word text f)
+is_so (StepPastEnd f) text = has_item is_past_end f (field_word text f)
+is_so (UnevenStep f) text = has_item (is_uneven f) f (field_word text f)
+is_so (StarStep f) text = is_star_step f text
+is_so LeftOutDays text = leaves_out text
+is_so SixFields text = has_sixth text && not (has_seventh text)
+is_so SevenFields text = has_seventh text
+
+-- the warning is due of a text, and of what its fields mean
+abbrev pub Warns : Warning → List ℕ → Meaning → Type 0
+Warns NeverFires text meaning = NeverRuns meaning
+Warns w text meaning = IsTrue (has_fields text && is_so w text)

@@ -1,0 +1,97 @@
+//! Days that are left out.
+
+ghost use Rattle.std.specs.Prelude.{◌≡◌, ◌≤◌};
+ghost use Rattle.cron_tab_warnings.specs.Written.{names_all};
+ghost use Rattle.cron_tab_warnings.specs.Warnings.{is_left_out, is_star_step, lacks, leaves_out, other_days, shortest, some_lacks, stars_step};
+
+use crate::items::names;
+use crate::words::{begins_with_star, field_word, size};
+use cron_crontab::Field;
+
+/// Tells whether a field names all its numbers.
+fn names_all(field: Field, word: &str) -> bool
+    ensures { result ≡ names_all field word.now }
+{
+    for place in 0..size(field) {
+        if !names(field, word, field.least() + place) {
+            return false;
+        }
+    }
+    true
+}
+
+/// The days of a month in its shortest year.
+fn shortest(month: u32) -> u32
+    ensures { result ≡ shortest month }
+{
+    match month {
+        2 => 28,
+        4 | 6 | 9 | 11 => 30,
+        _ => 31,
+    }
+}
+
+/// Tells whether a month that a field names lacks a day.
+fn lacks(months: &str, month: u32, day: u32) -> bool
+    ensures { result ≡ lacks months.now month day }
+{
+    shortest(month) < day && names(Field::Month, months, month)
+}
+
+/// Tells whether a field names a month that lacks a day.
+fn some_lacks(months: &str, day: u32) -> bool
+    ensures { result ≡ some_lacks months.now day 12 }
+{
+    for before in 0..12_u32 {
+        if lacks(months, before + 1, day) {
+            return true;
+        }
+    }
+    false
+}
+
+fn is_left_out(text: &str, day: u32) -> bool
+    ensures { result ≡ is_left_out text.now day }
+{
+    names(Field::DayOfMonth, field_word(text, Field::DayOfMonth), day)
+        && some_lacks(field_word(text, Field::Month), day)
+}
+
+/// Tells whether a day is named that a month lacks, though not all days are.
+pub(crate) fn leaves_out(text: &str) -> bool
+    ensures { result ≡ leaves_out text.now }
+{
+    let days = field_word(text, Field::DayOfMonth);
+    if begins_with_star(days) || names_all(Field::DayOfMonth, days) {
+        return false;
+    }
+    is_left_out(text, 29) || is_left_out(text, 30) || is_left_out(text, 31)
+}
+
+fn other_days(field: Field) -> Field
+    ensures { result ≡ other_days field }
+{
+    match field {
+        Field::DayOfMonth => Field::DayOfWeek,
+        _ => Field::DayOfMonth,
+    }
+}
+
+fn stars_step(field: Field, text: &str) -> bool
+    ensures { result ≡ stars_step field text.now }
+{
+    let word = field_word(text, field);
+    begins_with_star(word)
+        && !begins_with_star(field_word(text, other_days(field)))
+        && !names_all(field, word)
+}
+
+/// Tells whether of the two kinds of day this one alone begins with a star, and leaves days out.
+pub(crate) fn is_star_step(field: Field, text: &str) -> bool
+    ensures { result ≡ is_star_step field text.now }
+{
+    match field {
+        Field::DayOfMonth | Field::DayOfWeek => stars_step(field, text),
+        _ => false,
+    }
+}

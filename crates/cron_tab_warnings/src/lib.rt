@@ -1,0 +1,16 @@
+//! Warnings of crontabs' lines: what is read as it stands, and may yet not be what was meant.
+#![tactic(auto)]
+
+mod clocks;
+mod days;
+mod files;
+mod fires;
+mod items;
+mod messages;
+mod warnings;
+mod words;
+
+pub use clocks::follows_clock;
+pub use files::{LINE_WARNINGS, LineWarning, warns_line};
+pub use fires::{never_runs, never_runs_by_fields};
+pub use warnings::{WARNINGS, Warning, warns};

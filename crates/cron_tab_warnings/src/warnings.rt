@@ -1,0 +1,115 @@
+//! Warnings of fields.
+
+ghost use Rattle.std.specs.Prelude.{◌≡◌, ◌↔◌, IsTrue};
+ghost use Rattle.cron_crontab.specs.Views.{expression_view};
+ghost use Rattle.cron_tab_warnings.specs.Warnings.{Warns, has_seventh, has_sixth, in_years, is_so, is_years};
+
+use crate::days::{is_star_step, leaves_out};
+use crate::fires::never_runs;
+use crate::items::{Test, has_item, is_field};
+use crate::words::{field_word, has_fields, word_at};
+use cron_crontab::{Expression, Field};
+
+/// What may not be meant.
+#[derive(Clone, Copy, Debug, PartialEq, Eq)]
+pub enum Warning {
+    /// No civil second of 1970 to 2100 matches: `0 0 30 2 *`.
+    NeverFires,
+    /// A range goes from a greater number to a lesser one, and has none: `22-2`.
+    Backward(Field),
+    /// A step is longer than its range, of which the first number is left alone: `*/60`.
+    StepPastEnd(Field),
+    /// A step over a whole field doesn't divide it, and begins anew before it is done: `*/7`.
+    UnevenStep(Field),
+    /// One kind of day alone begins with a star and leaves days out, so that both kinds must match:
+    /// `0 0 */2 * sun`.
+    StarStep(Field),
+    /// Some month that is named lacks a day that is named: `0 0 31 * *`.
+    LeftOutDays,
+    /// The first word behind five fields is itself a field, as behind one of seconds.
+    SixFields,
+    /// The first two words behind five fields are themselves fields, the second one of years.
+    SevenFields,
+}
+
+/// All warnings of fields.
+pub const WARNINGS: [Warning; 21] = [
+    Warning::NeverFires,
+    Warning::Backward(Field::Minute),
+    Warning::Backward(Field::Hour),
+    Warning::Backward(Field::DayOfMonth),
+    Warning::Backward(Field::Month),
+    Warning::Backward(Field::DayOfWeek),
+    Warning::StepPastEnd(Field::Minute),
+    Warning::StepPastEnd(Field::Hour),
+    Warning::StepPastEnd(Field::DayOfMonth),
+    Warning::StepPastEnd(Field::Month),
+    Warning::StepPastEnd(Field::DayOfWeek),
+    Warning::UnevenStep(Field::Minute),
+    Warning::UnevenStep(Field::Hour),
+    Warning::UnevenStep(Field::DayOfMonth),
+    Warning::UnevenStep(Field::Month),
+    Warning::UnevenStep(Field::DayOfWeek),
+    Warning::StarStep(Field::DayOfMonth),
+    Warning::StarStep(Field::DayOfWeek),
+    Warning::LeftOutDays,
+    Warning::SixFields,
+    Warning::SevenFields,
+];
+
+fn in_years(byte: u8) -> bool
+    ensures { result ≡ in_years byte }
+{
+    byte.is_ascii_digit() || byte == b',' || byte == b'-' || byte == b'*' || byte == b'/'
+}
+
+/// Tells whether a word is digits, commas, dashes, stars and slashes.
+fn is_years(word: &str) -> bool
+    ensures { result ≡ is_years word.now }
+{
+    for byte in word.as_bytes() {
+        if !in_years(*byte) {
+            return false;
+        }
+    }
+    !word.is_empty()
+}
+
+fn has_sixth(text: &str) -> bool
+    ensures { result ≡ has_sixth text.now }
+{
+    is_field(Field::DayOfWeek, word_at(text, 5))
+}
+
+fn has_seventh(text: &str) -> bool
+    ensures { result ≡ has_seventh text.now }
+{
+    has_sixth(text) && is_years(word_at(text, 6))
+}
+
+fn is_so(warning: Warning, text: &str) -> bool
+    ensures { result ≡ is_so warning text.now }
+{
+    match warning {
+        Warning::NeverFires => false,
+        Warning::Backward(field) => has_item(Test::Backward, field, field_word(text, field)),
+        Warning::StepPastEnd(field) => has_item(Test::PastEnd, field, field_word(text, field)),
+        Warning::UnevenStep(field) => has_item(Test::Uneven, field, field_word(text, field)),
+        Warning::StarStep(field) => is_star_step(field, text),
+        Warning::LeftOutDays => leaves_out(text),
+        Warning::SixFields => has_sixth(text) && !has_seventh(text),
+        Warning::SevenFields => has_seventh(text),
+    }
+}
+
+/// Tells whether a warning is due of an expression, by its text and what it means. The text may also be a
+/// line that begins with the fields; what stands behind the fifth is looked at by `SixFields` and
+/// `SevenFields` alone.
+pub fn warns(warning: Warning, text: &str, expression: &Expression) -> bool
+    ensures { IsTrue result ↔ Warns warning text.now (expression_view expression.now) }
+{
+    match warning {
+        Warning::NeverFires => never_runs(expression),
+        _ => has_fields(text) && is_so(warning, text),
+    }
+}
