@@ -31,12 +31,14 @@ pub(crate) enum Kind {
     DuesBetween,
     /// The due fires between two instants, their number and one number that is made of all of them.
     DuesCounted,
+    /// A text, and the due fire that it is.
+    DueTexts,
     /// What is asked of several schedules as one: fires or due fires, expressions, zone, instants, answers.
     Unions,
 }
 
 /// The files, each with its kind.
-pub(crate) const FILES: [(Kind, &str); 48] = [
+pub(crate) const FILES: [(Kind, &str); 49] = [
     (Kind::Texts, "texts_accepted.txt"),
     (Kind::Texts, "texts_refused.txt"),
     (Kind::Texts, "texts_beginnings.txt"),
@@ -84,5 +86,6 @@ pub(crate) const FILES: [(Kind, &str); 48] = [
     (Kind::DuesBy, "dues_by.txt"),
     (Kind::DuesBetween, "dues_between.txt"),
     (Kind::DuesCounted, "dues_of_days.txt"),
+    (Kind::DueTexts, "due_texts.txt"),
     (Kind::Unions, "unions.txt"),
 ];

@@ -7,6 +7,7 @@
 mod answers;
 mod characters;
 mod counted;
+mod due_texts;
 mod dues;
 mod dues_counted;
 mod files;
@@ -49,6 +50,7 @@ fn replay_row(report: &mut Report<'_>, kind: Kind, row: Row<'_>) -> Result<()> {
         Kind::DuesBy => dues::replay_by(report, row),
         Kind::DuesBetween => dues::replay_between(report, row),
         Kind::DuesCounted => dues_counted::replay(report, row),
+        Kind::DueTexts => due_texts::replay(report, row),
         Kind::Unions => unions::replay(report, row),
     }
 }

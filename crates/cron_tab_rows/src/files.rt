@@ -7,7 +7,11 @@ use cron_tab_lines::{Crontab, Entry, Line, Lines, Refusal, Unescaped};
 use std::alloc::{AllocError, Global};
 
 // Marks, and what each stands for.
-const MARKS: [(&str, &str); 5] = [
+const MARKS: [(&str, &str); 6] = [
+    (
+        "<L100>",
+        "<L><L><L><L><L><L><L><L><L><L><L><L><L><L><L><L><L><L><L><L><L><L><L><L><L><L><L><L><L><L><L><L><L><L><L><L><L><L><L><L><L><L><L><L><L><L><L><L><L><L><L><L><L><L><L><L><L><L><L><L><L><L><L><L><L><L><L><L><L><L><L><L><L><L><L><L><L><L><L><L><L><L><L><L><L><L><L><L><L><L><L><L><L><L><L><L><L><L><L><L>",
+    ),
     ("<T>", "\t"),
     ("<R>", "\r"),
     ("<L>", "\n"),
@@ -15,12 +19,21 @@ const MARKS: [(&str, &str); 5] = [
     ("<BOM>", "\u{FEFF}"),
 ];
 
-fn without_marks(alloc: Global, text: &str) -> Result<String, AllocError> {
+pub(crate) fn without_marks(alloc: Global, text: &str) -> Result<String, AllocError> {
     let mut plain = String::from_str(alloc, text)?;
     for (mark, bytes) in MARKS {
         plain = plain.as_str().replace(alloc, mark, bytes)?;
     }
     Ok(plain)
+}
+
+/// Whose crontab a row names.
+pub(crate) fn kind_of(kind: &str) -> Crontab {
+    if kind == "system" {
+        Crontab::System
+    } else {
+        Crontab::User
+    }
 }
 
 // The text of a command, or of its input.
@@ -97,11 +110,7 @@ fn told(alloc: Global, kind: Crontab, file: &[u8]) -> Result<(String, Vec<u8>), 
 pub(crate) fn replay(report: &mut Report<'_>, row: Row<'_>) -> Result<()> {
     let (kind, rest) = row.text.split_once('\t').context("the row lacks a kind")?;
     let (file, expected) = rest.split_once('\t').context("the row lacks an answer")?;
-    let kind = if kind == "system" {
-        Crontab::System
-    } else {
-        Crontab::User
-    };
+    let kind = kind_of(kind);
     let alloc = report.alloc();
     let file = without_marks(alloc, file)?;
     let expected = without_marks(alloc, expected)?;

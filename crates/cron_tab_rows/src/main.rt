@@ -1,15 +1,17 @@
 //! Replays the rows of `data/`: expressions of crontabs, and what two crons make of them; others and
-//! the schedules that they are; texts with the message of their refusal; and files with what their
-//! lines are. It prints each answer that isn't the one of its row, and for each file how many rows it has. Where an answer differs, or a
+//! the schedules that they are; texts with the message of their refusal; files with what their
+//! lines are; and the warnings of both. It prints each answer that isn't the one of its row, and for each file how many rows it has. Where an answer differs, or a
 //! row can't be taken apart, it ends with a status other than 0.
 #![tactic(auto)]
 
 mod crons;
 mod files;
+mod line_warnings;
 mod masks;
 mod messages;
 mod report;
 mod schedules;
+mod warnings;
 
 use anyhow::{Context, Result, ensure};
 use report::{Report, Row};
@@ -26,13 +28,19 @@ enum Kind {
     Messages,
     /// A file, and what its lines are.
     Files,
+    /// A line, and its warnings.
+    Warnings,
+    /// A file, and the warnings of its lines.
+    LineWarnings,
 }
 
-const FILES: [(Kind, &str); 4] = [
+const FILES: [(Kind, &str); 6] = [
     (Kind::Crons, "lines.tsv"),
     (Kind::Schedules, "schedules.txt"),
     (Kind::Messages, "messages.txt"),
     (Kind::Files, "files.tsv"),
+    (Kind::Warnings, "warnings.tsv"),
+    (Kind::LineWarnings, "line_warnings.tsv"),
 ];
 
 fn replay_row(report: &mut Report<'_>, kind: Kind, row: Row<'_>) -> Result<()> {
@@ -41,6 +49,8 @@ fn replay_row(report: &mut Report<'_>, kind: Kind, row: Row<'_>) -> Result<()> {
         Kind::Schedules => schedules::replay(report, row),
         Kind::Messages => messages::replay(report, row),
         Kind::Files => files::replay(report, row),
+        Kind::Warnings => warnings::replay(report, row),
+        Kind::LineWarnings => line_warnings::replay(report, row),
     }
 }
 

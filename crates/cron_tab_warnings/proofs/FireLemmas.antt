@@ -1,7 +1,5 @@
 -- Schedules that match no civil second.
-use Rattle.std.proofs.Common.{◌≡◌, ◌<◌, ◌&&◌, ◌||◌, ◌+◌, ℕ, Bool, true, false, nat_lt, List, [], ◌∷◌, length, get_or, drop, drop-cons, add-one, ap, refl, sym, ◌∙◌, arith}
-use Rattle.std.specs.List.{list_any}
-use Rattle.jiff_core.specs.declared.civil.datetime.DateTime.{DateTime}
+use Rattle.std.proofs.Common.{◌≡◌, ◌<◌, ◌&&◌, ◌||◌, ◌+◌, ℕ, Bool, true, false, nat_lt, List, ◌∷◌, length, get_or, drop, drop-cons, add-one, ap, refl, sym, ◌∙◌, arith}
 use Rattle.cron_units.specs.Sets.{Sets}
 use Rattle.cron_moments.specs.Civil.{civil, seconds_in_range}
 use Rattle.cron_time.specs.Matches.{is_match, matches}

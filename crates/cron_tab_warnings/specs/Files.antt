@@ -1,8 +1,8 @@
 -- What of a file's line another cron reads otherwise.
-use Rattle.std.specs.Prelude.{ℕ, ◌+◌, ◌-◌, ◌==◌, Bool, not, true, false, nat_le, List, Option, Some, None, Result, Ok, Err, length, slice_index}
+use Rattle.std.specs.Prelude.{ℕ, ◌+◌, ◌-◌, ◌==◌, Bool, not, true, false, nat_le, List, Option, Some, None, Result, Ok, length, slice_index}
 use Rattle.cron_tab_lines.specs.Entries.{Entry}
 use Rattle.cron_tab_lines.specs.Files.{FileLine}
-use Rattle.cron_tab_lines.specs.Lines.{Meaning, blank, comment, setting, zone, entry}
+use Rattle.cron_tab_lines.specs.Lines.{Meaning, zone, entry}
 use Rattle.cron_tab_lines.specs.Refusals.{Refusal}
 use Rattle.cron_tab_warnings.specs.declared.files.LineWarning.{LineWarning}
 use Rattle.cron_tab_warnings.specs.declared.files.LineWarning.TheVariants.{IgnoredZone, LongCommand, ManyLines, NoLineFeed}

@@ -1,6 +1,7 @@
 -- What of a crontab's line or expression may surprise. The text begins with the fields, and what follows the fifth is the rest of its line.
-use Rattle.std.specs.Prelude.{◌≡◌, ℕ, zero, suc, ◌+◌, ◌<◌, ◌==◌, ◌&&◌, ◌||◌, Bool, false, not, nat_lt, nat_le, List, [], length, if◌then◌else◌, IsTrue, ◌↔◌}
+use Rattle.std.specs.Prelude.{codes, ◌≡◌, ℕ, zero, suc, ◌+◌, ◌<◌, ◌==◌, ◌&&◌, ◌||◌, Bool, false, not, nat_lt, nat_le, List, Contains, length, if◌then◌else◌, IsTrue, ◌↔◌}
 use Rattle.std.specs.List.{list_all}
+use Rattle.std.specs.Str.{bytes_eq}
 use Rattle.cron_moments.specs.Civil.{civil, seconds_in_range}
 use Rattle.cron_crontab.specs.Crontab.{Five, Meaning, schedules, reboot, schedules_of}
 use Rattle.cron_crontab.specs.Items.{begins_with_star}
@@ -65,9 +66,9 @@ in_years c = (nat_le 48 c && nat_le c 57) || ((c == 44) || ((c == 45) || ((c == 
 abbrev pub is_years : List ℕ → Bool
 is_years word = nat_lt 0 (length word) && list_all in_years word
 
--- what stands behind the fifth field is itself a field of days of the week, as behind one of seconds
+-- what stands behind the fifth field is itself a field of days of the week, as behind one of seconds; `?` is one elsewhere
 abbrev pub has_sixth : List ℕ → Bool
-has_sixth text = is_field DayOfWeek (word_at text 5)
+has_sixth text = bytes_eq (word_at text 5) (codes "?") || is_field DayOfWeek (word_at text 5)
 
 abbrev pub has_seventh : List ℕ → Bool
 has_seventh text = has_sixth text && is_years (word_at text 6)
@@ -87,3 +88,7 @@ is_so SevenFields text = has_seventh text
 abbrev pub Warns : Warning → List ℕ → Meaning → Type 0
 Warns NeverFires text meaning = NeverRuns meaning
 Warns w text meaning = IsTrue (has_fields text && is_so w text)
+
+-- the warnings that are due of a text stand in a list of all
+abbrev pub AllAreListed : List Warning → Type 0
+AllAreListed all = (w : Warning) (text : List ℕ) (meaning : Meaning) → Warns w text meaning → Contains all w

@@ -1,10 +1,10 @@
 -- The fields of a crontab's line as they are written.
-use Rattle.std.specs.Prelude.{ℕ, zero, suc, ◌+◌, ◌-◌, ◌%◌, ◌==◌, ◌&&◌, ◌||◌, Bool, true, false, not, nat_lt, nat_le, List, [], ◌∷◌, Result, Ok, Err, length, if◌then◌else◌}
+use Rattle.std.specs.Prelude.{ℕ, zero, suc, ◌+◌, ◌-◌, ◌%◌, ◌==◌, ◌&&◌, Bool, true, false, not, nat_lt, nat_le, List, [], ◌∷◌, Result, Ok, Err}
 use Rattle.std.specs.List.{list_all, list_any}
 use Rattle.cron_units.specs.Steps.{Progression, in_steps}
 use Rattle.cron_crontab.specs.Crontab.{begins_with_at, words}
 use Rattle.cron_crontab.specs.Fields.{least, greatest}
-use Rattle.cron_crontab.specs.Items.{begins_with_star, item_of, pieces}
+use Rattle.cron_crontab.specs.Items.{item_of, pieces}
 use Rattle.cron_crontab.specs.Refusals.{Reason}
 use Rattle.cron_crontab.specs.declared.field.Field.{Field}
 use Rattle.cron_crontab.specs.declared.field.Field.TheVariants.{Minute, Hour, DayOfMonth, Month, DayOfWeek}

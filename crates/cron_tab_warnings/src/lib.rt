@@ -13,4 +13,4 @@ mod words;
 pub use clocks::follows_clock;
 pub use files::{LINE_WARNINGS, LineWarning, warns_line};
 pub use fires::{never_runs, never_runs_by_fields};
-pub use warnings::{WARNINGS, Warning, warns};
+pub use warnings::{WARNINGS, Warning, all_are_listed, warns};

@@ -2,7 +2,7 @@
 
 ghost use Rattle.std.specs.Prelude.{◌≡◌, ◌↔◌, IsTrue};
 ghost use Rattle.cron_crontab.specs.Views.{expression_view};
-ghost use Rattle.cron_tab_warnings.specs.Warnings.{Warns, has_seventh, has_sixth, in_years, is_so, is_years};
+ghost use Rattle.cron_tab_warnings.specs.Warnings.{AllAreListed, Warns, has_seventh, has_sixth, in_years, is_so, is_years};
 
 use crate::days::{is_star_step, leaves_out};
 use crate::fires::never_runs;
@@ -26,13 +26,13 @@ pub enum Warning {
     StarStep(Field),
     /// Some month that is named lacks a day that is named: `0 0 31 * *`.
     LeftOutDays,
-    /// The first word behind five fields is itself a field, as behind one of seconds.
+    /// The first word behind five fields is itself a field, as behind one of seconds, or a question mark.
     SixFields,
     /// The first two words behind five fields are themselves fields, the second one of years.
     SevenFields,
 }
 
-/// All warnings of fields.
+/// All warnings of fields, each once.
 pub const WARNINGS: [Warning; 21] = [
     Warning::NeverFires,
     Warning::Backward(Field::Minute),
@@ -78,7 +78,8 @@ fn is_years(word: &str) -> bool
 fn has_sixth(text: &str) -> bool
     ensures { result ≡ has_sixth text.now }
 {
-    is_field(Field::DayOfWeek, word_at(text, 5))
+    let word = word_at(text, 5);
+    word == "?" || is_field(Field::DayOfWeek, word)
 }
 
 fn has_seventh(text: &str) -> bool
@@ -113,3 +114,8 @@ pub fn warns(warning: Warning, text: &str, expression: &Expression) -> bool
         _ => has_fields(text) && is_so(warning, text),
     }
 }
+
+/// Each warning that is due of some text stands in `WARNINGS`.
+pub fn all_are_listed()
+    ensures { AllAreListed WARNINGS }
+{}

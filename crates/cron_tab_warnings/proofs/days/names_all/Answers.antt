@@ -1,4 +1,4 @@
-use Rattle.std.proofs.Common.{◌≡◌, ◌<◌, ◌+◌, ℕ, ap, sym, ◌∙◌, arith}
+use Rattle.std.proofs.Common.{◌<◌, ◌+◌, ℕ, ap, sym, ◌∙◌, arith}
 use Rattle.cron_tab_warnings.specs.Written.{names, size}
 use Rattle.cron_tab_warnings.proofs.WordLemmas.{lacks-one}
 use Rattle.cron_tab_warnings.proofs.days.names_all.Goals as goal
