@@ -1,24 +1,47 @@
-//! Files, and the warnings of their lines that another cron reads otherwise, by number.
+//! Files, and the warnings of their lines, by number.
 
 use crate::files::{kind_of, without_marks};
 use crate::report::{Report, Row};
 use anyhow::{Context, Result};
-use cron_tab_lines::{Crontab, Lines};
-use cron_tab_warnings::{LINE_WARNINGS, warns_line};
+use cron_tab_lines::{Crontab, FileLine, Line, Lines};
+use cron_tab_warnings::{LINE_WARNINGS, WARNINGS, text_of, warns, warns_line};
 use std::alloc::{AllocError, Global};
+use std::fmt::Display;
+
+// Adds a warning of a line.
+fn add<W: Display>(
+    alloc: Global,
+    told: &mut String,
+    number: usize,
+    warning: W,
+) -> Result<(), AllocError> {
+    if !told.is_empty() {
+        told.push_str("; ")?;
+    }
+    told.push_str(format!(in alloc; "{number} {warning}")?.as_str())
+}
+
+// Adds the warnings of an entry's fields.
+fn add_fields(alloc: Global, told: &mut String, line: &FileLine<'_>) -> Result<(), AllocError> {
+    if let Ok(Line::Entry(entry)) = &line.read {
+        for warning in WARNINGS {
+            if warns(warning, text_of(line.bytes), &entry.expression) {
+                add(alloc, told, line.number, warning)?;
+            }
+        }
+    }
+    Ok(())
+}
 
 fn told(alloc: Global, kind: Crontab, file: &[u8]) -> Result<String, AllocError> {
     let mut text = String::new(alloc);
     for line in Lines::of(kind, file) {
-        let number = line.number;
         for warning in LINE_WARNINGS {
             if warns_line(warning, &line) {
-                if !text.is_empty() {
-                    text.push_str("; ")?;
-                }
-                text.push_str(format!(in alloc; "{number} {warning}")?.as_str())?;
+                add(alloc, &mut text, line.number, warning)?;
             }
         }
+        add_fields(alloc, &mut text, &line)?;
     }
     if text.is_empty() {
         text.push_str("-")?;

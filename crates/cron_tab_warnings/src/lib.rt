@@ -7,10 +7,12 @@ mod files;
 mod fires;
 mod items;
 mod messages;
+mod texts;
 mod warnings;
 mod words;
 
 pub use clocks::follows_clock;
 pub use files::{LINE_WARNINGS, LineWarning, warns_line};
 pub use fires::{never_runs, never_runs_by_fields};
+pub use texts::text_of;
 pub use warnings::{WARNINGS, Warning, all_are_listed, warns};
