@@ -9,7 +9,7 @@ use std::alloc::{AllocError, Global};
 use std::fmt::Display;
 
 // Adds a warning of a line.
-fn add<W: Display>(
+fn add<W: Display + Drop>(
     alloc: Global,
     told: &mut String,
     number: usize,
