@@ -1,0 +1,3 @@
+pub mod TreeLemmas
+pub mod SlotLemmas
+pub mod FireLemmas

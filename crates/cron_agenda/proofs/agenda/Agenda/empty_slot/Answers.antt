@@ -1,0 +1,53 @@
+use Rattle.std.proofs.Common.{◌≡◌, ℕ, None, length, refl, sym, ap, subst, ◌∙◌, arith}
+use Rattle.std.proofs.lemmas.Option.{get_or_from_slice_get, slice_get_within}
+use Rattle.std.proofs.lemmas.List.{length-map}
+use Rattle.cron_agenda.specs.declared.slots.Slot.{Slot}
+use Rattle.cron_agenda.specs.Entries.{listed}
+use Rattle.cron_agenda.specs.Inner.Slots.{HasEntry, IdsAscend, instant_of}
+use Rattle.cron_agenda.proofs.SlotLemmas.{is_without, kept-less, live_there, was_there, with_head, without-none}
+use Rattle.cron_agenda.proofs.agenda.Agenda.empty_slot.Goals as goal
+
+pub returns-in_default-clause-found : goal.returns-in_default-clause-found
+returns-in_default-clause-found g c =
+    let none = subst (λ l. (p : ℕ) → HasEntry l c.args.id p → ⊥) c.deref.ensures.value (c.in_default.ensures c.self.inside.added (subst (λ l. IdsAscend 0 l c.self.inside.added) (sym c.deref.ensures.value) c.self.invariant.ids)) in
+    rw (← c.self.view_is) (sym (without-none c.self.inside.slots.items c.args.id none).1)
+
+pub returns-in_default-clause-rest : goal.returns-in_default-clause-rest
+returns-in_default-clause-rest g c =
+    let none = subst (λ l. (p : ℕ) → HasEntry l c.args.id p → ⊥) c.deref.ensures.value (c.in_default.ensures c.self.inside.added (subst (λ l. IdsAscend 0 l c.self.inside.added) (sym c.deref.ensures.value) c.self.invariant.ids)) in
+    rw (← c.self.view_is) (ap (λ es. listed es c.self.inside.added) (sym (without-none c.self.inside.slots.items c.args.id none).0))
+
+pub index_mut-slot-requires : goal.index_mut-slot-requires
+index_mut-slot-requires g c =
+    let less = slice_get_within c.deref.result.now c.in-Some.place c.in-Some.ensures.slot c.in-Some.ensures.here in
+    let len = c.deref.ensures.len in
+    omega arith
+
+pub set-requires : goal.set-requires
+set-requires g c =
+    let found = subst (λ l. HasEntry l c.args.id c.in-Some.place) c.deref.ensures.value c.in-Some.ensures in
+    let less = slice_get_within c.self.inside.slots.items c.in-Some.place found.slot found.here in
+    let size = ap length c.self.invariant.keys ∙ length-map c.self.inside.slots.items instant_of in
+    omega arith
+
+pub overflow_sub-self : goal.overflow_sub-self
+overflow_sub-self g c =
+    let found = subst (λ l. HasEntry l c.args.id c.in-Some.place) c.deref.ensures.value c.in-Some.ensures in
+    live_there c.self.inside.slots.items c.self.inside.firsts c.self.inside.live c.self.inside.added c.self.invariant c.args.id c.in-Some.place found
+
+pub invariant_of-self : goal.invariant_of-self
+invariant_of-self g c =
+    let found = subst (λ l. HasEntry l c.args.id c.in-Some.place) c.deref.ensures.value c.in-Some.ensures in
+    let same : c.index_mut-slot.result.now.id ≡ found.slot.id = ap (λ (v : Slot _). v.id) (c.index_mut-slot.ensures.value ∙ get_or_from_slice_get c.self.inside.slots.items c.in-Some.place found.slot c.index_mut-slot.result.now found.here) in
+    rw c.set.ensures (kept-less c.self.inside.slots.items c.self.inside.firsts c.self.inside.live c.self.inside.added c.self.invariant c.args.id c.in-Some.place found (with_head None c.index_mut-slot.result.now) same refl)
+
+pub returns-clause-found : goal.returns-clause-found
+returns-clause-found g c =
+    let found = subst (λ l. HasEntry l c.args.id c.in-Some.place) c.deref.ensures.value c.in-Some.ensures in
+    rw (← c.self.view_is) (sym (was_there c.self.inside.slots.items c.self.inside.firsts c.self.inside.live c.self.inside.added c.self.invariant c.args.id c.in-Some.place found))
+
+pub returns-clause-rest : goal.returns-clause-rest
+returns-clause-rest g c =
+    let found = subst (λ l. HasEntry l c.args.id c.in-Some.place) c.deref.ensures.value c.in-Some.ensures in
+    let same : c.index_mut-slot.result.now.id ≡ found.slot.id = ap (λ (v : Slot _). v.id) (c.index_mut-slot.ensures.value ∙ get_or_from_slice_get c.self.inside.slots.items c.in-Some.place found.slot c.index_mut-slot.result.now found.here) in
+    rw (← c.self.view_is) (ap (λ es. listed es c.self.inside.added) (is_without c.self.inside.slots.items c.self.inside.firsts c.self.inside.live c.self.inside.added c.self.invariant c.args.id c.in-Some.place found (with_head None c.index_mut-slot.result.now) same refl))

@@ -1,0 +1,36 @@
+use Rattle.std.proofs.Common.{◌≡◌, ◌+◌, true, false, cond, Some, [], ◌∷◌, ◌++◌, refl, sym, ap, ◌∙◌, rules}
+use Rattle.std.specs.Prelude.{not}
+use Rattle.std.specs.Result.{is_ok}
+use Rattle.cron_agenda.specs.declared.slots.Slot.{Slot}
+use Rattle.cron_agenda.specs.Entries.{listed}
+use Rattle.cron_agenda.specs.Fires.{instant}
+use Rattle.cron_agenda.specs.Inner.Slots.{entries_of, instant_of}
+use Rattle.cron_agenda.proofs.SlotLemmas.{entries-fewer, entries-more, kept-more, on_ok}
+use Rattle.cron_agenda.proofs.agenda.Agenda.insert.Goals as goal
+
+pub overflow_add-self-2 : goal.overflow_add-self-2
+overflow_add-self-2 g c =
+    let fewer = entries-fewer c.self.inside.slots.items in
+    let count = c.self.invariant.count in
+    let reserved = c.try_reserve.ensures.len in
+    search rules
+
+pub invariant_of-self-2 : goal.invariant_of-self-2
+invariant_of-self-2 g c =
+    let slot : Slot _ = record { id = c.self.inside.added; table = c.args.table; zone = c.args.zone; head = Some c.args.fire } in
+    let went : is_ok c.push-2.result ≡ true = c.is_err-3.ensures.negation ∙ ap not c.if-is_err-3.false in
+    let items : c.push-2.new.self.items ≡ c.self.inside.slots.items ++ slot ∷ [] =
+    c.push-2.ensures.items ∙ ap (λ b. cond b (c.try_reserve.new.self.items ++ slot ∷ []) c.try_reserve.new.self.items) went
+    ∙ ap (λ l. l ++ slot ∷ []) c.try_reserve.ensures.items in
+    let firsts : c.push.new.self ≡ c.self.inside.firsts ++ Some (instant c.args.fire) ∷ [] =
+    on_ok c.push.result (sym c.is_err-2.ensures.value ∙ c.if-is_err-2.false) c.push.ensures.ok ∙ ap (λ o. c.self.inside.firsts ++ o ∷ []) c.instant.ensures in
+    rw (items, firsts) (kept-more c.self.inside.slots.items c.self.inside.firsts c.self.inside.live c.self.inside.added c.args.table c.args.zone c.args.fire c.self.invariant)
+
+pub returns : goal.returns
+returns g c =
+    let slot : Slot _ = record { id = c.self.inside.added; table = c.args.table; zone = c.args.zone; head = Some c.args.fire } in
+    let went : is_ok c.push-2.result ≡ true = c.is_err-3.ensures.negation ∙ ap not c.if-is_err-3.false in
+    let items : c.push-2.new.self.items ≡ c.self.inside.slots.items ++ slot ∷ [] =
+    c.push-2.ensures.items ∙ ap (λ b. cond b (c.try_reserve.new.self.items ++ slot ∷ []) c.try_reserve.new.self.items) went
+    ∙ ap (λ l. l ++ slot ∷ []) c.try_reserve.ensures.items in
+    rw (← c.self.view_is) (refl, ap (λ es. listed es (c.self.inside.added + 1)) (ap entries_of items ∙ entries-more c.self.inside.slots.items c.self.inside.added c.args.table c.args.zone c.args.fire))

@@ -1,0 +1,26 @@
+use Rattle.std.proofs.Common.{◌≡◌, Some, None, subst, sym, ap, ◌∙◌}
+use Rattle.jiff.specs.Words.{plain_zone}
+use Rattle.cron_agenda.specs.Fires.{fires_past}
+use Rattle.cron_agenda.proofs.FireLemmas.{shown-past, once-past}
+use Rattle.cron_agenda.proofs.fire.first_past.Goals as goal
+
+pub returns-in-Some : goal.returns-in-Some
+returns-in-Some g c =
+    ap (fires_past (g.T.Timetable.schedules c.args.table.now) (plain_zone c.args.zone.now)) c.in-AsShown.is
+    ∙ shown-past (g.T.Timetable.schedules c.args.table.now) (plain_zone c.args.zone.now) c.in-AsShown.moment (Some c.in-Some.next) c.in-Some.ensures
+
+pub returns-in-None : goal.returns-in-None
+returns-in-None g c =
+    ap (fires_past (g.T.Timetable.schedules c.args.table.now) (plain_zone c.args.zone.now)) c.in-AsShown.is
+    ∙ shown-past (g.T.Timetable.schedules c.args.table.now) (plain_zone c.args.zone.now) c.in-AsShown.moment None c.in-None.ensures
+
+pub returns-in-Some-first_due_past : goal.returns-in-Some-first_due_past
+returns-in-Some-first_due_past g c =
+    ap (fires_past (g.T.Timetable.schedules c.args.table.now) (plain_zone c.args.zone.now)) c.in-Once.is
+    ∙ once-past (g.T.Timetable.schedules c.args.table.now) (plain_zone c.args.zone.now) c.in-Once.due (Some c.in-Some-first_due_past.next)
+    c.in-Some-first_due_past.ensures
+
+pub returns-in-None-first_due_past : goal.returns-in-None-first_due_past
+returns-in-None-first_due_past g c =
+    ap (fires_past (g.T.Timetable.schedules c.args.table.now) (plain_zone c.args.zone.now)) c.in-Once.is
+    ∙ once-past (g.T.Timetable.schedules c.args.table.now) (plain_zone c.args.zone.now) c.in-Once.due None c.in-None-first_due_past.ensures

@@ -1,0 +1,58 @@
+-- Slots of entries, in the order of their ids. One whose entry is gone stays, and has no fire.
+use Rattle.std.specs.Prelude.{◌≡◌, ℕ, ◌+◌, ◌-◌, ◌^◌, ◌⊎◌, ◌≤◌, ℤ, Result, Ok, Err, Option, Some, None, MatchOption, List, [], ◌∷◌, ◌++◌, length, map, slice_get}
+use Rattle.std.specs.Option.{option_map}
+use Rattle.cron_agenda.specs.declared.entry.Entry.{Entry}
+use Rattle.cron_agenda.specs.declared.fire.EntryFire.{EntryFire}
+use Rattle.cron_agenda.specs.declared.slots.Slot.{Slot}
+use Rattle.cron_agenda.specs.declared.error.AddError.{AddError}
+use Rattle.cron_agenda.specs.declared.error.AddError.TheVariants.{NoIds, OutOfMemory}
+use Rattle.cron_agenda.specs.Entries.{Listed, listed, entry}
+use Rattle.cron_agenda.specs.Fires.{instant}
+
+abbrev pub entry_when : {T : Type 0} → ℕ → T → ℕ → Option EntryFire → List (Entry T)
+entry_when id table zone None = []
+entry_when id table zone (Some fire) = entry id table zone fire ∷ []
+
+abbrev pub entry_of : {T : Type 0} → Slot T → List (Entry T)
+entry_of s = entry_when s.id s.table s.zone s.head
+
+-- the entries of the slots that have a fire
+abbrev pub entries_of : {T : Type 0} → List (Slot T) → List (Entry T)
+entries_of [] = []
+entries_of (s ∷ ss) = entry_of s ++ entries_of ss
+
+-- the instant of the next fire
+abbrev pub instant_of : {T : Type 0} → Slot T → Option ℤ
+instant_of s = option_map instant s.head
+
+-- the ids ascend, and none is less than low or as great as high
+abbrev pub IdsAscend : {T : Type 0} → ℕ → List (Slot T) → ℕ → Type 0
+IdsAscend low [] high = low ≤ high
+IdsAscend low (s ∷ ss) high = (low ≤ s.id) × IdsAscend (s.id + 1) ss high
+
+pub record IsKept {T : Type 0} (slots : List (Slot T)) (firsts : List (Option ℤ)) (live added : ℕ) : Type 0 where
+  pub keys : firsts ≡ map instant_of slots
+  pub ids : IdsAscend 0 slots added
+  pub count : live ≡ length (entries_of slots)
+
+-- the slot at a place has this id, and a fire
+pub record HasEntry {T : Type 0} (slots : List (Slot T)) (id place : ℕ) : Type 0 where
+  pub slot : Slot T
+  pub fire : EntryFire
+  pub here : slice_get slots place ≡ Some slot
+  pub same : slot.id ≡ id
+  pub live : slot.head ≡ Some fire
+
+-- the place of the slot with this id and a fire; where the ids ascend none exactly where there is none
+abbrev pub IsPlaceOf : {T : Type 0} → List (Slot T) → ℕ → Option ℕ → Type 0
+IsPlaceOf slots id answer =
+    MatchOption answer ((high : ℕ) → IdsAscend 0 slots high → (p : ℕ) → HasEntry slots id p → ⊥) (HasEntry slots id)
+
+-- the slot's entry, none exactly where it has no fire
+abbrev pub IsOwn : {T : Type 0} → Slot T → Option (Entry T) → Type 0
+IsOwn s answer = MatchOption answer (s.head ≡ None) (λ e. (s.head ≡ Some e.fire) × (e ≡ entry s.id s.table s.zone e.fire))
+
+-- an entry is added with this next fire; or nothing changes, for want of ids or memory
+abbrev pub Inserts : {T : Type 0} → T → ℕ → EntryFire → Listed T → Result ℕ AddError → Listed T → Type 0
+Inserts table zone fire old (Ok id) new = (id ≡ old.added) × (new ≡ listed (old.entries ++ entry id table zone fire ∷ []) (old.added + 1))
+Inserts table zone fire old (Err why) new = (((why ≡ NoIds) × (old.added ≡ 2 ^ 64 - 1)) ⊎ (why ≡ OutOfMemory)) × (new ≡ old)

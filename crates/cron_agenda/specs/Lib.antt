@@ -1,0 +1,4 @@
+pub mod Earliest
+pub mod Fires
+pub mod Entries
+pub mod Inner

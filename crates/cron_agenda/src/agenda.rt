@@ -1,0 +1,279 @@
+//! Entries, each with its next fire.
+ghost use Rattle.std.specs.Prelude.{◌≡◌, [], ◌∷◌, ◌++◌, filter, length, map};
+ghost use Rattle.std.specs.Option.{is_some};
+ghost use Rattle.jiff.specs.Words.{plain_zone};
+ghost use Rattle.cron_agenda.specs.Fires.{fires_after, fires_past};
+ghost use Rattle.cron_agenda.specs.Entries.{Adds, HaveIds, IsEntryOf, IsFirstEntry, TakesDue, TakesNext, has, listed, without};
+ghost use Rattle.cron_agenda.specs.Inner.Slots as inner;
+
+use crate::earliest::Earliest;
+use crate::entry::Entry;
+use crate::error::{AddError, ZoneMissing};
+use crate::fire::{AgendaFire, ClockChanges, EntryFire, first_after, first_past};
+use crate::slots::Slot;
+use cron_fires::Timetable;
+use jiff::Timestamp;
+use jiff::tz::TimeZone;
+use std::alloc::{AllocError, Global};
+use std::marker::Model;
+
+/// Entries, each with its next fire. Contracts see them in the order in which they were added, and how
+/// many were ever added.
+#[derive(Drop)]
+pub struct Agenda<T> {
+    slots: Vec<Slot<T>>,
+    firsts: Earliest,
+    live: usize,
+    added: u64,
+}
+
+impl<T> Model for Agenda<T> {
+    ghost use Rattle.cron_agenda.specs.Entries.{Listed, listed};
+    ghost use Rattle.cron_agenda.specs.Inner.Slots.{IsKept, entries_of};
+
+    ghost Value = { Listed T };
+
+    ghost view = { λ a. listed (entries_of a.slots.items) a.added };
+
+    ghost invariant = { λ a. IsKept a.slots.items a.firsts a.live a.added };
+}
+
+// Where the entry with this id stands, if it is there.
+fn place_of<T>(slots: &[Slot<T>], id: u64) -> Option<usize>
+    ensures { inner.IsPlaceOf slots.now id result }
+{
+    let mut low = 0;
+    let mut high = slots.len();
+    while low < high {
+        let middle = low + (high - low) / 2;
+        let slot = &slots[middle];
+        if slot.id == id {
+            return if slot.head.is_some() {
+                Some(middle)
+            } else {
+                None
+            };
+        }
+        if slot.id < id {
+            low = middle + 1;
+        } else {
+            high = middle;
+        }
+    }
+    None
+}
+
+// Drops the slots whose entry is gone.
+fn keep_live<T: Drop>(slots: &mut Vec<Slot<T>>)
+    ensures { slots.new.items ≡ filter (λ s. is_some s.head) slots.old.items }
+{
+    slots.retain(|slot| slot.head.is_some());
+}
+
+impl<T: Timetable + Copy> Agenda<T> {
+    /// No entries.
+    pub fn new(alloc: Global) -> Agenda<T>
+        ensures { result ≡ listed [] 0 }
+    {
+        Agenda {
+            slots: Vec::new(alloc),
+            firsts: Earliest::new(alloc),
+            live: 0,
+            added: 0,
+        }
+    }
+
+    /// How many entries there are. Their ids ascend, and are less than how many were ever added.
+    pub fn len(&self) -> usize
+        ensures len { result ≡ length self.now.entries }
+        ensures ids { HaveIds 0 self.now.entries self.now.added }
+    {
+        self.live
+    }
+
+    /// Takes memory for so many more entries, so that adding them takes none.
+    pub fn reserve(&mut self, additional: usize) -> Result<(), AllocError>
+        ensures { self.new ≡ self.old }
+    {
+        self.slots.try_reserve(additional)?;
+        self.firsts.reserve(additional)
+    }
+
+    // Adds an entry with this next fire.
+    fn insert(&mut self, table: T, zone: usize, fire: EntryFire) -> Result<u64, AddError>
+        ensures { inner.Inserts table zone fire self.old result self.new }
+    {
+        if self.added == u64::MAX {
+            return Err(AddError::NoIds);
+        }
+        let slot = Slot {
+            id: self.added,
+            table,
+            zone,
+            head: Some(fire),
+        };
+        if self.slots.try_reserve(1).is_err() {
+            return Err(AddError::OutOfMemory);
+        }
+        if self.firsts.push(slot.instant()).is_err() {
+            return Err(AddError::OutOfMemory);
+        }
+        if self.slots.push(slot).is_err() {
+            return Err(AddError::OutOfMemory);
+        }
+        let id = self.added;
+        self.added += 1;
+        self.live += 1;
+        Ok(id)
+    }
+
+    /// Adds an entry: the fires of a table after an instant, by a rule, in the zone with this number. It
+    /// answers the entry's id, which no other has or had: ids count from 0. An error changes nothing.
+    pub fn add(
+        &mut self,
+        table: T,
+        changes: ClockChanges,
+        start: Timestamp,
+        zones: &[TimeZone<'_>],
+        zone: usize,
+    ) -> Result<u64, AddError>
+        ensures { Adds T.schedules (map plain_zone zones.now) table zone
+            (λ z. fires_after (T.schedules table) z changes start.nanosecond)
+            self.old result self.new }
+    {
+        let Some(lent) = zones.get(zone) else {
+            return Err(AddError::NoZone);
+        };
+        let Some(fire) = first_after(&table, changes, start, lent) else {
+            return Err(AddError::NoFires);
+        };
+        self.insert(table, zone, fire)
+    }
+
+    /// Adds an entry: the fires of a table past one, by its rule, as one that was noted before a restart.
+    pub fn add_past(
+        &mut self,
+        table: T,
+        last: EntryFire,
+        zones: &[TimeZone<'_>],
+        zone: usize,
+    ) -> Result<u64, AddError>
+        ensures { Adds T.schedules (map plain_zone zones.now) table zone
+            (λ z. fires_past (T.schedules table) z last)
+            self.old result self.new }
+    {
+        let Some(lent) = zones.get(zone) else {
+            return Err(AddError::NoZone);
+        };
+        let Some(fire) = first_past(&table, &last, lent) else {
+            return Err(AddError::NoFires);
+        };
+        self.insert(table, zone, fire)
+    }
+
+    // Drops the slots whose entry is gone, once fewer than half of them have one. It takes no memory.
+    fn compact(&mut self)
+        ensures { self.new ≡ self.old }
+    {
+        if self.live < self.slots.len() / 2 {
+            keep_live(&mut self.slots);
+            self.firsts.reset(&self.slots);
+        }
+    }
+
+    // Removes the entry with this id, and leaves its slot.
+    fn empty_slot(&mut self, id: u64) -> bool
+        ensures found { result ≡ has id self.old.entries }
+        ensures rest { self.new ≡ listed (without id self.old.entries) self.old.added }
+    {
+        let Some(place) = place_of(&self.slots, id) else {
+            return false;
+        };
+        let slot = &mut self.slots[place];
+        slot.head = None;
+        self.firsts.set(place, None);
+        self.live -= 1;
+        true
+    }
+
+    /// Removes the entry with this id, and tells whether there was one. It takes no memory.
+    pub fn remove(&mut self, id: u64) -> bool
+        ensures found { result ≡ has id self.old.entries }
+        ensures rest { self.new ≡ listed (without id self.old.entries) self.old.added }
+    {
+        let found = self.empty_slot(id);
+        self.compact();
+        found
+    }
+
+    /// The entry with this id.
+    pub fn get(&self, id: u64) -> Option<Entry<T>>
+        ensures { IsEntryOf id self.now.entries result }
+    {
+        let place = place_of(&self.slots, id)?;
+        self.slots[place].entry()
+    }
+
+    /// The entry whose fire comes next: by instant, of those at one instant the one that was added first.
+    pub fn first(&self) -> Option<Entry<T>>
+        ensures { IsFirstEntry self.now.entries result }
+    {
+        let place = self.firsts.first()?;
+        self.slots[place].entry()
+    }
+
+    // Takes what fires next, and leaves the slot of an entry that has no more.
+    fn take(&mut self, zones: &[TimeZone<'_>]) -> Result<Option<AgendaFire>, ZoneMissing>
+        ensures { TakesNext T.schedules (map plain_zone zones.now) self.old result self.new }
+    {
+        let Some(place) = self.firsts.first() else {
+            return Ok(None);
+        };
+        let slot = &self.slots[place];
+        let id = slot.id;
+        let Some(fire) = slot.head else {
+            return Ok(None);
+        };
+        let Some(zone) = zones.get(slot.zone) else {
+            return Err(ZoneMissing { id });
+        };
+        let next = first_past(&slot.table, &fire, zone);
+        let is_last = next.is_none();
+        let changed = &mut self.slots[place];
+        changed.head = next;
+        let instant = changed.instant();
+        self.firsts.set(place, instant);
+        if is_last {
+            self.live -= 1;
+        }
+        Ok(Some(AgendaFire { id, fire, is_last }))
+    }
+
+    /// Takes what fires next, of all entries: by instant, of those at one instant that of the entry that
+    /// was added first. Its entry goes on to its next fire in its zone; one that has none is removed, and
+    /// the fire says so. Nothing is taken where its zone isn't lent. It takes no memory.
+    pub fn next(&mut self, zones: &[TimeZone<'_>]) -> Result<Option<AgendaFire>, ZoneMissing>
+        ensures { TakesNext T.schedules (map plain_zone zones.now) self.old result self.new }
+    {
+        let taken = self.take(zones)?;
+        self.compact();
+        Ok(taken)
+    }
+
+    /// The same, if it is due: if its instant is `now` or comes before it. Else no entry's fire is due.
+    pub fn next_due(
+        &mut self,
+        now: Timestamp,
+        zones: &[TimeZone<'_>],
+    ) -> Result<Option<AgendaFire>, ZoneMissing>
+        ensures { TakesDue T.schedules (map plain_zone zones.now) now.nanosecond self.old result self.new }
+    {
+        let Some(first) = self.first() else {
+            return Ok(None);
+        };
+        if first.fire.timestamp() > now {
+            return Ok(None);
+        }
+        self.next(zones)
+    }
+}

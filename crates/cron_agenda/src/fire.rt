@@ -1,0 +1,110 @@
+//! Fires of entries, by either rule at clock changes.
+ghost use Rattle.std.specs.Prelude.{◌≡◌, ◌*ℤ◌, pos};
+ghost use Rattle.jiff.specs.Words.{plain_zone};
+ghost use Rattle.cron_fires.specs.Rules.{IsFirstOf};
+ghost use Rattle.cron_agenda.specs.Fires.{fires_after, fires_past, instant};
+
+use cron::schedule::Moment;
+use cron_dues::fire::due_second;
+use cron_fires::{DueFire, Timetable};
+use cron_moments::moment::instant_of;
+use jiff::Timestamp;
+use jiff::tz::TimeZone;
+
+/// When an entry fires where a clock changes.
+#[derive(Clone, Copy, Debug, PartialEq, Eq)]
+pub enum ClockChanges {
+    /// Each time that the clock shows a match.
+    AsShown,
+    /// Each match once.
+    Once,
+}
+
+/// A fire of an entry, by the rule that the entry has.
+#[derive(Clone, Copy, Debug, PartialEq, Eq)]
+pub enum EntryFire {
+    /// One of the times at which the clock shows a match.
+    AsShown(Moment),
+    /// A match, at the first instant at which the clock shows it or a later time.
+    Once(DueFire),
+}
+
+/// A fire that was taken from an agenda.
+#[derive(Clone, Copy, Debug, PartialEq, Eq)]
+pub struct AgendaFire {
+    /// The entry's id.
+    pub id: u64,
+    /// When it fires.
+    pub fire: EntryFire,
+    /// Whether it is the entry's last. The entry is removed then.
+    pub is_last: bool,
+}
+
+impl EntryFire {
+    /// Its instant.
+    pub fn timestamp(&self) -> Timestamp
+        ensures { result.nanosecond ≡ instant self.now *ℤ pos 1_000_000_000 }
+    {
+        match self {
+            EntryFire::AsShown(moment) => moment.timestamp(),
+            EntryFire::Once(due) => due.timestamp(),
+        }
+    }
+}
+
+/// The instant of a fire, in seconds since 1970-01-01T00:00:00Z.
+pub(crate) fn second_of(fire: &EntryFire) -> i64
+    ensures { result ≡ instant fire.now }
+{
+    match fire {
+        EntryFire::AsShown(moment) => instant_of(moment),
+        EntryFire::Once(due) => due_second(due),
+    }
+}
+
+/// The first fire after an instant, by a rule.
+pub(crate) fn first_after<T: Timetable>(
+    table: &T,
+    changes: ClockChanges,
+    now: Timestamp,
+    zone: &TimeZone<'_>,
+) -> Option<EntryFire>
+    ensures { IsFirstOf
+        (fires_after (T.schedules table.now) (plain_zone zone.now) changes now.nanosecond)
+        (fires_past (T.schedules table.now) (plain_zone zone.now))
+        result }
+{
+    match changes {
+        ClockChanges::AsShown => match table.first_after(now, zone) {
+            Some(moment) => Some(EntryFire::AsShown(moment)),
+            None => None,
+        },
+        ClockChanges::Once => match table.first_due_after(now, zone) {
+            Some(due) => Some(EntryFire::Once(due)),
+            None => None,
+        },
+    }
+}
+
+/// The next fire after one, by the same rule.
+pub(crate) fn first_past<T: Timetable>(
+    table: &T,
+    fire: &EntryFire,
+    zone: &TimeZone<'_>,
+) -> Option<EntryFire>
+    ensures { IsFirstOf
+        (fires_past (T.schedules table.now) (plain_zone zone.now) fire.now)
+        (fires_past (T.schedules table.now) (plain_zone zone.now))
+        result }
+{
+    match fire {
+        EntryFire::AsShown(moment) => match table.first_past(moment, zone) {
+            Some(next) => Some(EntryFire::AsShown(next)),
+            None => None,
+        },
+        EntryFire::Once(due) => match table.first_due_past(due, zone) {
+            Some(next) => Some(EntryFire::Once(next)),
+            None => None,
+        },
+    }
+}

@@ -1,0 +1,15 @@
+//! Many jobs: entries, each with what it fires by, a zone and a rule at clock changes, added and removed
+//! while a program runs, and the fires of all of them in one order.
+#![tactic(auto)]
+
+mod agenda;
+mod earliest;
+mod entry;
+mod error;
+mod fire;
+mod slots;
+
+pub use agenda::Agenda;
+pub use entry::Entry;
+pub use error::{AddError, ZoneMissing};
+pub use fire::{AgendaFire, ClockChanges, EntryFire};

@@ -1,0 +1,44 @@
+//! Slots of entries.
+ghost use Rattle.std.specs.Prelude.{◌≡◌};
+ghost use Rattle.cron_agenda.specs.Inner.Slots as inner;
+
+use crate::entry::Entry;
+use crate::fire::{EntryFire, second_of};
+
+/// An entry with its next fire; or what an entry leaves behind that is gone, with none.
+#[derive(Drop)]
+pub(crate) struct Slot<T> {
+    pub id: u64,
+    pub table: T,
+    pub zone: usize,
+    pub head: Option<EntryFire>,
+}
+
+impl<T> Slot<T> {
+    /// The instant of the next fire.
+    pub(crate) fn instant(&self) -> Option<i64>
+        ensures { result ≡ inner.instant_of self.now }
+    {
+        match &self.head {
+            Some(fire) => Some(second_of(fire)),
+            None => None,
+        }
+    }
+}
+
+impl<T: Copy> Slot<T> {
+    /// The entry, if it isn't gone.
+    pub(crate) fn entry(&self) -> Option<Entry<T>>
+        ensures { inner.IsOwn self.now result }
+    {
+        match self.head {
+            Some(fire) => Some(Entry {
+                id: self.id,
+                table: self.table,
+                zone: self.zone,
+                fire,
+            }),
+            None => None,
+        }
+    }
+}
