@@ -1,5 +1,5 @@
 -- The first of an entry's fires, and those past it, by either rule.
-use Rattle.std.proofs.Common.{◌≡◌, ℕ, ◌≤◌, ℤ, pos, ◌*ℤ◌, ◌≤ℤ◌, Bool, true, false, List, [], ◌∷◌, map, Option, Some, None, refl, sym, ap, ◌∙◌, arith}
+use Rattle.std.proofs.Common.{◌≡◌, ℕ, ◌<◌, ◌≤◌, ℤ, pos, ◌*ℤ◌, ◌≤ℤ◌, Bool, true, false, List, [], ◌∷◌, map, Option, Some, None, refl, sym, ap, ◌∙◌, arith}
 use Rattle.std.specs.Prelude.{filter}
 use Rattle.std.specs.Option.{option_map}
 use Rattle.jiff_core.proofs.SignedLemmas.{signed_arith}
@@ -11,15 +11,16 @@ use Rattle.cron_moments.specs.Readings as moments
 use Rattle.cron_instants.specs.Fires.{is_after}
 use Rattle.cron_instants.specs.Instants.{IsEarliest}
 use Rattle.cron_instants.specs.Order.{is_earlier}
+use Rattle.cron_instants.proofs.OrderLemmas.{before-up_to}
 use Rattle.cron_instants.proofs.AscentLemmas as ascent
 use Rattle.cron_instants.proofs.FireLemmas.{after-keeps_on, int_lt-true, past-keeps_on}
-use Rattle.cron_time.proofs.ListLemmas.{Among, filter-none}
+use Rattle.cron_time.proofs.ListLemmas.{Among, among-filter, among-first, among-rest, filter-none}
 use Rattle.cron_dues.specs.Due.{Due, due, due_instant}
 use Rattle.cron_dues.specs.Due as dues
 use Rattle.cron_dues.specs.Dues.{is_due_after, is_past}
 use Rattle.cron_dues.specs.FirstDues.{IsFirst}
 use Rattle.cron_dues.proofs.DueLemmas.{due_ascends, fire_due}
-use Rattle.cron_dues.proofs.ListLemmas.{Ascends, KeepsOn, first-passing}
+use Rattle.cron_dues.proofs.ListLemmas.{Ascends, KeepsOn, ascends-filter, first-passing}
 use Rattle.cron_dues.proofs.MemberLemmas.{all-ascend, less-true, own-of, true-less}
 use Rattle.cron_fires.specs.Rules.{IsFirstOf}
 use Rattle.cron_unions.specs.Unions.{fires_any, fires_any_after, fires_any_past, seconds_of_any, timeline_any}
@@ -29,7 +30,11 @@ use Rattle.cron_unions.specs.Inner.Nearest.{is_match_any}
 use Rattle.cron_unions.proofs.UnionLemmas.{any-matches, fires_any-ascend}
 use Rattle.cron_agenda.specs.declared.fire.EntryFire.{EntryFire}
 use Rattle.cron_agenda.specs.declared.fire.EntryFire.TheVariants.{AsShown, Once}
-use Rattle.cron_agenda.specs.Fires.{fires_past}
+use Rattle.cron_agenda.specs.declared.fire.ClockChanges.{ClockChanges}
+use Rattle.cron_agenda.specs.declared.fire.ClockChanges.TheVariants as rule
+use Rattle.cron_agenda.specs.Fires.{fires_after, fires_past}
+use Rattle.cron_agenda.specs.Laws.{FiresAscend}
+use Rattle.cron_agenda.specs.Merged.{Ascend, IsEarlierThan}
 
 -- ---- by the clock
 
@@ -117,3 +122,47 @@ once-after ss z t answer first = once_by ss z (dues_any_after ss z t) answer (fi
 pub once-past : (ss : List Sets) (z : TimeZone) (fire : Due) (answer : Option Due) → IsFirstDuePastAny ss z fire answer
     → IsFirstOf (map Once (dues_any_past ss z fire)) (fires_past ss z) (option_map Once answer)
 once-past ss z fire answer first = once_by ss z (dues_any_past ss z fire) answer (first-due ss z (is_past fire) answer (past-keeps ss z fire) first)
+
+-- ---- they ascend
+
+shown_earlier : (r : Reading) (l : List Reading) → ((q : Reading) → Among l q → is_earlier r q ≡ true) → IsEarlierThan (AsShown r) (map AsShown l)
+shown_earlier r [] h = tt
+shown_earlier r (q ∷ l) h = (h q (among-first q l), shown_earlier r l (λ p there. h p (among-rest q p l there)))
+
+shown_ascend : (l : List Reading) → ascent.Ascends l → Ascend (map AsShown l)
+shown_ascend [] up = tt
+shown_ascend (r ∷ l) up = (shown_earlier r l up.0, shown_ascend l up.1)
+
+once_earlier : (d : Due) (l : List Due) → ((e : Due) → Among l e → (dues.instant d ≤ℤ dues.instant e) × (d.second < e.second))
+    → IsEarlierThan (Once d) (map Once l)
+once_earlier d [] h = tt
+once_earlier d (e ∷ l) h =
+    let one = h e (among-first e l) in
+    (before-up_to (dues.instant d) d.second (dues.instant e) e.second one.0 one.1, once_earlier d l (λ x there. h x (among-rest e x l there)))
+
+once_ascend : (ss : List Sets) (z : TimeZone) (l : List Due) → ((d : Due) → Among l d → IsDueOfAny ss z d) → Ascends key l → Ascend (map Once l)
+once_ascend ss z [] are up = tt
+once_ascend ss z (d ∷ l) are up = (
+  once_earlier d l (λ e h. let less = up.0 e h in
+      (due_no_later ss z d e (are d (among-first d l)) (are e (among-rest d e l h)) (omega arith), less)),
+  once_ascend ss z l (λ e h. are e (among-rest d e l h)) up.1,
+)
+
+shown_pass : (ss : List Sets) (z : TimeZone) (p : Reading → Bool) → Ascend (map AsShown (filter p (fires_any ss z)))
+shown_pass ss z p = shown_ascend (filter p (fires_any ss z)) (ascent.ascends-filter p (fires_any ss z) (fires_any-ascend ss z))
+
+once_pass : (ss : List Sets) (z : TimeZone) (p : Due → Bool) → Ascend (map Once (filter p (dues_any ss z)))
+once_pass ss z p =
+    once_ascend ss z (filter p (dues_any ss z)) (λ d h. (among-filter p (dues_any ss z) d h).0)
+    (ascends-filter key p (dues_any ss z) (dues_any-ascend ss z))
+
+after_ascend : (ss : List Sets) (z : TimeZone) (changes : ClockChanges) (t : ℤ) → Ascend (fires_after ss z changes t)
+after_ascend ss z rule.AsShown t = shown_pass ss z (is_after t)
+after_ascend ss z rule.Once t = once_pass ss z (is_due_after t)
+
+past_ascend : (ss : List Sets) (z : TimeZone) (last : EntryFire) → Ascend (fires_past ss z last)
+past_ascend ss z (AsShown moment) = shown_pass ss z (is_earlier moment)
+past_ascend ss z (Once due) = once_pass ss z (is_past due)
+
+pub fires_ascend : FiresAscend
+fires_ascend = record { after = after_ascend; past = past_ascend }

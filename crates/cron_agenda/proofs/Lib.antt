@@ -1,3 +1,4 @@
 pub mod TreeLemmas
 pub mod SlotLemmas
 pub mod FireLemmas
+pub mod MergeLemmas

@@ -1,4 +1,6 @@
 pub mod Earliest
 pub mod Fires
 pub mod Entries
+pub mod Merged
+pub mod Laws
 pub mod Inner

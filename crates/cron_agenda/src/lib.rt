@@ -7,6 +7,7 @@ mod earliest;
 mod entry;
 mod error;
 mod fire;
+pub mod laws;
 mod slots;
 
 pub use agenda::Agenda;
