@@ -4,6 +4,7 @@ pub mod ZoneLemmas
 pub mod KeptLemmas
 pub mod DueLemmas
 pub mod WayLemmas
+pub mod AheadLemmas
 pub mod ReachLemmas
 pub mod ListLemmas
 pub mod MemberLemmas

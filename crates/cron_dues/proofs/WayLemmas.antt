@@ -6,7 +6,7 @@ use Rattle.cron_clocks.proofs.TableLemmas.{same_offset}
 use Rattle.cron_instants.proofs.FireLemmas.{int_le-true, int_le-false}
 use Rattle.cron_dues.specs.Clock.Due.{Clock, IsDueAt, shows, due, due_instant, parts}
 use Rattle.cron_dues.specs.Inner.Steady.{IsKept}
-use Rattle.cron_dues.specs.Inner.Reached.{IsOnTheWay, ends_before, left_until}
+use Rattle.cron_dues.specs.Inner.Reached.{IsAhead, IsOnTheWay, ends_before, left_until}
 use Rattle.cron_dues.specs.declared.steady.Steady.{Steady}
 use Rattle.cron_dues.proofs.DueLemmas.{as_natural, clock_near, due_is, due_once}
 
@@ -42,6 +42,25 @@ way_on clock c from steady next way ends kept later =
       later = later;
     }
 
+-- it is on the way to a later civil second too
+pub way_ahead : (clock : Clock) (c : ℕ) (from : ℤ) (steady : Steady) → IsOnTheWay clock c from steady → IsAhead clock c from steady
+way_ahead clock c from steady way = record {
+  unreached = way.unreached;
+  high = way.high;
+  kept = way.kept;
+  later = way.later;
+}
+
+pub ahead_on : (clock : Clock) (c d : ℕ) (from : ℤ) (steady : Steady) → c ≤ d → IsAhead clock c from steady → IsAhead clock d from steady
+ahead_on clock c d from steady le ahead =
+    let high = ahead.high in
+    record {
+      unreached = λ m less. let before = ahead.unreached m less in omega (arith, signed_arith);
+      high = omega (arith, signed_arith);
+      kept = ahead.kept;
+      later = ahead.later;
+    }
+
 pub way_less : (clock : Clock) (c : ℕ) (from end : ℤ) → from <ℤ end → end ≤ℤ (pos c +ℤ pos 93_599) → left_until c end < left_until c from
 way_less clock c from end less high =
     let one = as_natural (pos c +ℤ pos 93_600 -ℤ from) (omega (arith, signed_arith)) in
@@ -49,7 +68,7 @@ way_less clock c from end less high =
     omega (arith, signed_arith)
 
 -- what a clock shows there is past the civil second at most by what two clocks can be apart
-pub past_near : (clock : Clock) (c past : ℕ) (from : ℤ) (steady : Steady) → IsOnTheWay clock c from steady
+pub past_near : (clock : Clock) (c past : ℕ) (from : ℤ) (steady : Steady) → IsAhead clock c from steady
     → (pos past ≡ from +ℤ steady.offset.seconds -ℤ pos c) ⊎ (pos past ≡ pos 0) → past ≤ 187_198
 past_near clock c past from steady way (inl e) =
     let high = way.high in
@@ -80,7 +99,7 @@ is_end c past from steady ends later most (inr e) =
       first = λ m ge less. omega (arith, signed_arith);
     }
 
-due_there : (clock : Clock) (c past : ℕ) (from : ℤ) (steady : Steady) → IsOnTheWay clock c from steady → IsEnd c past from steady
+due_there : (clock : Clock) (c past : ℕ) (from : ℤ) (steady : Steady) → IsAhead clock c from steady → IsEnd c past from steady
     → IsDueAt clock c (pos c +ℤ pos past -ℤ steady.offset.seconds)
 due_there clock c past from steady way end =
     let shown = shown_in clock from steady.end steady.offset.seconds (pos c +ℤ pos past -ℤ steady.offset.seconds) way.kept end.from_on end.before in
@@ -98,7 +117,7 @@ back c past shown e =
     let nat = as_natural (shown -ℤ pos c) (omega (arith, signed_arith)) in
     omega (arith, signed_arith)
 
-pub fire_is : (clock : Clock) (c past : ℕ) (from : ℤ) (steady : Steady) → IsOnTheWay clock c from steady → ends_before steady c ≡ false
+pub fire_is : (clock : Clock) (c past : ℕ) (from : ℤ) (steady : Steady) → IsAhead clock c from steady → ends_before steady c ≡ false
     → (from +ℤ steady.offset.seconds -ℤ pos c) ≤ℤ pos past → (pos past ≡ from +ℤ steady.offset.seconds -ℤ pos c) ⊎ (pos past ≡ pos 0)
     → parts c past steady.offset ≡ due clock c
 fire_is clock c past from steady way ends most either =

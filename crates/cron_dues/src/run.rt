@@ -5,13 +5,14 @@ ghost use Rattle.jiff_core.specs.Calendar.{IsBetween};
 ghost use Rattle.cron_dues.specs.Clock.Dues.{dues, dues_after, dues_between, dues_past, dues_past_by};
 ghost use Rattle.cron_dues.specs.Inner.Left as left;
 
+use crate::ahead::{Known, next_due};
 use crate::clock::Clock;
-use crate::dues::nearest_due;
 use crate::fire::{DueFire, due_second, nominal_second};
 use crate::reach::reached_by;
 use cron_instants::run::is_within;
+use cron_moments::calendar::KnownMonth;
+use cron_time::search::month_days::MonthDays;
 use cron_units::fields::ScheduleFields;
-use cron_units::way::Way;
 use jiff::Timestamp;
 use std::marker::Model;
 
@@ -22,6 +23,8 @@ pub struct Run<'a, C: Clock> {
     fields: ScheduleFields,
     clock: &'a C,
     from: i64,
+    known: Option<Known>,
+    days: MonthDays,
     until: Option<i64>,
 }
 
@@ -29,11 +32,15 @@ impl<'a, C: Clock> Model for Run<'a, C> {
     ghost use Rattle.std.specs.Prelude.{List};
     ghost use Rattle.cron_dues.specs.Clock.Due.{Due};
     ghost use Rattle.cron_dues.specs.Clock.Dues.{dues};
+    ghost use Rattle.cron_dues.specs.Inner.Known.{IsKnown};
     ghost use Rattle.cron_dues.specs.Inner.Left.{left_from};
+    ghost use Rattle.cron_time.specs.Search.Inner.MonthDays.{KnowsDays};
 
     ghost Value = { List Due };
 
     ghost view = { λ r. left_from (dues r.fields (C.offsets r.clock.now)) r.from r.until };
+
+    ghost invariant = { λ r. IsKnown r.fields (C.offsets r.clock.now) r.from r.known × KnowsDays r.fields r.days };
 }
 
 impl<'a, C: Clock> Run<'a, C> {
@@ -45,6 +52,8 @@ impl<'a, C: Clock> Run<'a, C> {
             fields,
             clock,
             from,
+            known: None,
+            days: MonthDays::unknown(KnownMonth::january_1970()),
             until,
         }
     }
@@ -90,10 +99,19 @@ impl<'a, C: Clock> Run<'a, C> {
     }
 
     // Takes the first that is left.
+    #[inline(always)]
     fn take_first(&mut self) -> Option<DueFire>
         ensures { YieldsFirst (λ rest. rest) self.old result self.new }
     {
-        let Some(fire) = nearest_due(&self.fields, self.clock, Way::Ahead, self.from) else {
+        let (next, known) = next_due(
+            &self.fields,
+            self.clock,
+            self.from,
+            self.known,
+            &mut self.days,
+        );
+        self.known = known;
+        let Some(fire) = next else {
             return None;
         };
         self.from = i64::from(nominal_second(&fire)) + 1;
@@ -113,6 +131,7 @@ impl<'a, C: Clock> Iterator for Run<'a, C> {
 
     ghost remaining = { item_count (λ rest. rest) };
 
+    #[inline(always)]
     fn next(&mut self) -> Option<DueFire> {
         self.take_first()
     }

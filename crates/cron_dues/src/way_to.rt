@@ -3,7 +3,7 @@ ghost use Rattle.std.specs.Prelude.{◌≡◌, ◌⊎◌, ◌<◌, ◌-ℤ◌, �
 ghost use Rattle.jiff_core.specs.Calendar.{IsBetween};
 ghost use Rattle.cron_moments.specs.Civil.{seconds_in_range};
 ghost use Rattle.cron_dues.specs.Clock.Due.{due};
-ghost use Rattle.cron_dues.specs.Inner.Reached.{IsOnTheWay, ends_before};
+ghost use Rattle.cron_dues.specs.Inner.Reached.{IsAhead, ends_before};
 
 use crate::clock::Clock;
 use crate::fire::{DueFire, due_fire};
@@ -31,22 +31,32 @@ fn seconds_past(shown: i64, second: u32) -> u32
     (shown - nominal) as u32
 }
 
-// The due fire of a civil second that the clock shows, or a later one, before the end.
-fn fire_in<C: Clock>(_clock: &C, second: u32, from: i64, steady: &Steady) -> DueFire
-    requires range { second < seconds_in_range }
-    requires way { IsOnTheWay (C.offsets _clock.now) second from steady.now }
-    requires shown { ends_before steady.now second ≡ false }
-    ensures { result ≡ due (C.offsets _clock.now) second }
-{
-    let past = seconds_past(steady.shown(from), second);
-    due_fire(second, past, steady.offset)
+/// Instants from one on, among which a civil second is due: none before them shows it or a later one.
+#[derive(Clone, Copy)]
+pub(crate) struct DueSpan {
+    from: i64,
+    steady: Steady,
+    pub ghost near: { IsBetween (neg_ℤ (pos 1_000_000)) (pos 8_267_961_600) from },
 }
 
-/// The due fire of a civil second: in a fold that of the first pass. In a gap it is due at the transition,
-/// since there the clock first shows a later second.
-pub fn due_of<C: Clock>(clock: &C, second: u32) -> DueFire
+/// The due fire of a civil second.
+#[inline(always)]
+pub(crate) fn fire_in<C: Clock>(_clock: &C, second: u32, span: &DueSpan) -> DueFire
+    requires range { second < seconds_in_range }
+    requires ahead { IsAhead (C.offsets _clock.now) second span.now.from span.now.steady }
+    requires shown { ends_before span.now.steady second ≡ false }
+    ensures { result ≡ due (C.offsets _clock.now) second }
+{
+    let past = seconds_past(span.steady.shown(span.from), second);
+    due_fire(second, past, span.steady.offset)
+}
+
+/// The instants among which a civil second is due.
+#[inline(never)]
+pub(crate) fn span_of<C: Clock>(clock: &C, second: u32) -> DueSpan
     requires { second < seconds_in_range }
-    ensures { result ≡ due (C.offsets clock.now) second }
+    ensures ahead { IsAhead (C.offsets clock.now) second result.from result.steady }
+    ensures shown { ends_before result.steady second ≡ false }
 {
     let mut from = i64::from(second) - FURTHEST_OFFSET;
     let mut steady = clock.steady_from(from);
@@ -54,5 +64,27 @@ pub fn due_of<C: Clock>(clock: &C, second: u32) -> DueFire
         from = steady.end;
         steady = clock.steady_from(from);
     }
-    fire_in(clock, second, from, &steady)
+    DueSpan { from, steady }
+}
+
+/// The same of a civil second that isn't shown before those of an earlier one.
+#[inline(always)]
+pub(crate) fn span_past<C: Clock>(clock: &C, second: u32, earlier: DueSpan) -> DueSpan
+    requires range { second < seconds_in_range }
+    requires ahead { IsAhead (C.offsets clock.now) second earlier.from earlier.steady }
+    ensures ahead { IsAhead (C.offsets clock.now) second result.from result.steady }
+    ensures shown { ends_before result.steady second ≡ false }
+{
+    if ends_before(&earlier.steady, second) {
+        return span_of(clock, second);
+    }
+    earlier
+}
+
+/// The due fire of a civil second.
+pub fn due_of<C: Clock>(clock: &C, second: u32) -> DueFire
+    requires { second < seconds_in_range }
+    ensures { result ≡ due (C.offsets clock.now) second }
+{
+    fire_in(clock, second, &span_of(clock, second))
 }

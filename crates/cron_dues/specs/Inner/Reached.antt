@@ -32,6 +32,13 @@ pub record IsOnTheWay (clock : Clock) (c : ℕ) (from : ℤ) (steady : Steady) :
   pub kept : IsKept clock from steady.end steady.offset.seconds
   pub later : from <ℤ steady.end
 
+-- the same, also long before c is due
+pub record IsAhead (clock : Clock) (c : ℕ) (from : ℤ) (steady : Steady) : Type 0 where
+  pub unreached : IsUnreachedBefore clock c from
+  pub high : from ≤ℤ (pos c +ℤ pos 93_599)
+  pub kept : IsKept clock from steady.end steady.offset.seconds
+  pub later : from <ℤ steady.end
+
 -- how many instants are left at which c may be due
 abbrev pub left_until : ℕ → ℤ → ℕ
 left_until c from = unsigned_abs (pos c +ℤ pos 93_600 -ℤ from)

@@ -1,5 +1,5 @@
 use Rattle.cron_dues.specs.Inner.Reached.{IsOnTheWay, left_until}
-use Rattle.cron_dues.proofs.way_to.due_of.Given as goal
+use Rattle.cron_dues.proofs.way_to.span_of.Given as goal
 
 abbrev pub invariant-loop-from : goal.invariant-loop-from
 invariant-loop-from g l = IsOnTheWay (g.C.Clock.offsets l.clock) l.second l.from l.steady
