@@ -11,6 +11,9 @@ use Rattle.jiff_core.proofs.SignedLemmas.{signed_arith}
 use Rattle.jiff_tz.specs.declared.posix.TimeZone.{TimeZone}
 use Rattle.jiff_tz.specs.PosixRule.{first_day}
 use Rattle.cron_moments.specs.Civil.{days_in_range, seconds_in_range, years_in_range}
+use Rattle.jiff_core.specs.Timestamp.{nanos_of_seconds}
+use Rattle.jiff_tz.specs.declared.timezone.TimeZone.TheVariants.{Posix}
+use Rattle.cron_clocks.specs.Clocks.{IsKeptUpTo}
 use Rattle.cron_clocks.specs.Seasons.{AreOrdered, IsSeasonBounds, IsSeason, IsYearAt, IsYearOf, TellsOne}
 use Rattle.cron_clocks.specs.Spans.{year_end}
 use Rattle.cron_clocks.specs.Transitions.{common_year, week, year_start}
@@ -201,3 +204,18 @@ module _ (rule : TimeZone) (a b e f : ℕ) (outer inner : Offset) (season_bounds
         range = omega arith;
         tells = λ k from to. tells_late k (omega arith) from (omega arith);
       }
+
+-- ---- the clock of a season
+
+pub kept_of : (rule : TimeZone) (n : ℤ) (m first end : ℕ) (o : Offset) → pos m ≡ n → IsSeason rule m first end o
+    → IsKeptUpTo (Posix rule) n end o.seconds
+kept_of rule n m first end o at season =
+    let low = season.low in
+    let high = season.high in
+    record {
+      later = omega (arith, signed_arith);
+      shown = λ k from before.
+          let number : k ≡ pos (unsigned_abs k) = as_number k (omega (arith, signed_arith)) in
+          let told = season.tells (unsigned_abs k) (omega (arith, signed_arith)) (omega (arith, signed_arith)) in
+          told.shown (nanos_of_seconds k) (omega (arith, signed_arith));
+    }

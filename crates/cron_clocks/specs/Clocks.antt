@@ -1,5 +1,5 @@
 -- When the two look-ups of a zone agree: what a clock shows at an instant, and at which instants it shows a civil second.
-use Rattle.std.specs.Prelude.{◌≡◌, ℕ, ◌<◌, ℤ, pos, ◌+ℤ◌, List, Some, None, slice_get}
+use Rattle.std.specs.Prelude.{◌≡◌, ℕ, ◌<◌, ℤ, pos, ◌+ℤ◌, ◌≤ℤ◌, ◌<ℤ◌, List, Some, None, slice_get}
 use Rattle.std.specs.Int.{int_div_euclid}
 use Rattle.jiff_core.specs.Timestamp.{nanos_of_seconds}
 use Rattle.jiff_tz.specs.declared.timezone.TimeZone.{TimeZone}
@@ -15,6 +15,11 @@ shown_offset z n = offset_at z (nanos_of_seconds n)
 -- in the whole second n of UTC a clock in the zone shows this offset, in seconds
 abbrev pub IsShown : TimeZone → ℤ → ℤ → Type 0
 IsShown z n o = (t : ℤ) → int_div_euclid t (pos 1_000_000_000) ≡ n → offset_at z t ≡ o
+
+-- from the second n of UTC on, up to one behind it, that one left out, a clock in the zone shows this offset, in seconds
+pub record IsKeptUpTo (z : TimeZone) (n : ℤ) (end : ℕ) (o : ℤ) : Type 0 where
+  pub later : n <ℤ pos end
+  pub shown : (k : ℤ) → n ≤ℤ k → k <ℤ pos end → shown_offset z k ≡ o
 
 -- one of these readings has the instant n
 pub record HasInstant (rs : List Reading) (n : ℤ) : Type 0 where

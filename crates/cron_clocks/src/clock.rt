@@ -6,7 +6,7 @@ ghost use Rattle.jiff_core.specs.Calendar.{IsWithin};
 ghost use Rattle.jiff_tz.specs.Zone.{offset_at};
 ghost use Rattle.jiff_tz.specs.declared.timezone.TimeZone.TheVariants.{Posix};
 ghost use Rattle.cron_moments.specs.Civil.{seconds_in_range};
-ghost use Rattle.cron_clocks.specs.Clocks.{IsShown};
+ghost use Rattle.cron_clocks.specs.Clocks.{IsKeptUpTo, IsShown};
 ghost use Rattle.cron_clocks.specs.Spans.{AreTransitions, IsFarInside};
 ghost use Rattle.cron_clocks.specs.Steady.{IsKnown};
 
@@ -187,6 +187,35 @@ fn offset_at(zone: &TimeZone<'_>, instant: Timestamp, second: i64, stretch: &mut
         jiff_tz::TimeZone::Posix(rule) => offset_by_rule(zone, rule, instant, second, stretch),
         _ => zone.to_offset(instant),
     }
+}
+
+/// An offset that a clock keeps up to an end, which is a second of UTC and left out.
+#[derive(Clone, Copy)]
+pub struct Kept {
+    /// How far the clock is ahead of UTC.
+    pub offset: Offset,
+    /// In seconds since 1970-01-01T00:00:00Z.
+    pub end: u32,
+}
+
+/// The offset that a clock in a zone with a rule shows at a second of UTC, and up to where it keeps it, if the
+/// place of the second in its year tells it. That is some days before a transition at the latest.
+pub fn kept_in_season(zone: &TimeZone<'_>, second: i64) -> Option<Kept>
+    ensures { IfSome result
+        (λ kept. IsKeptUpTo (plain_zone zone.now) second kept.end kept.offset.seconds) }
+{
+    let jiff_tz::TimeZone::Posix(rule) = zone.to_plain() else {
+        return None;
+    };
+    let dst = rule.dst?;
+    if second < 0 || second >= SECONDS {
+        return None;
+    }
+    let season = season_at(rule, dst, second as u32)?;
+    Some(Kept {
+        offset: season.offset,
+        end: season.end,
+    })
 }
 
 /// The number of the civil second that a clock in the zone shows at an instant. Where the transitions of

@@ -1,10 +1,12 @@
 -- The greatest second that a clock has shown.
-use Rattle.std.proofs.Common.{◌≡◌, ◌⊎◌, inl, inr, ◌<◌, ℤ, pos, ◌+ℤ◌, ◌-ℤ◌, ◌≤ℤ◌, ◌<ℤ◌, arith}
+use Rattle.std.proofs.Common.{◌≡◌, ℕ, Option, Some, None, ◌⊎◌, inl, inr, ◌<◌, ℤ, pos, ◌+ℤ◌, ◌-ℤ◌, ◌≤ℤ◌, ◌<ℤ◌, arith}
 use Rattle.std.proofs.lemmas.Int.{by_lt_z}
 use Rattle.jiff_core.proofs.SignedLemmas.{signed_arith}
 use Rattle.cron_dues.specs.Clock.Due.{Clock, shows}
 use Rattle.cron_dues.specs.Inner.Steady.{IsKept}
-use Rattle.cron_dues.specs.Inner.Reached.{IsGathered, IsGreatestBy, IsShownBy, left_to}
+use Rattle.cron_dues.specs.Inner.Reached.{IsAhead, IsGathered, IsGreatestBy, IsShownBy, LeadsOn, left_to}
+use Rattle.std.specs.Prelude.{IfSome}
+use Rattle.cron_dues.specs.declared.steady.DueSpan.{DueSpan}
 use Rattle.cron_dues.specs.declared.steady.Steady.{Steady}
 use Rattle.cron_dues.proofs.DueLemmas.{as_natural, clock_near}
 use Rattle.cron_dues.proofs.WayLemmas.{shown_in}
@@ -85,3 +87,21 @@ left_less n from end less high =
     let one = as_natural (n +ℤ pos 1 -ℤ from) (omega (arith, signed_arith)) in
     let other = as_natural (n +ℤ pos 1 -ℤ end) (omega (arith, signed_arith)) in
     omega (arith, signed_arith)
+
+-- what is later than all that is shown up to n is due from there on
+pub leads_on : (clock : Clock) (n from greatest most : ℤ) (steady : Steady) → IsGathered clock n from greatest steady
+    → greatest ≤ℤ most → (n +ℤ steady.offset.seconds) ≤ℤ most → (c : ℕ) → most <ℤ pos c → IsAhead clock c from steady
+leads_on clock n from greatest most steady so_far one other c past =
+    let high = so_far.high in
+    let near = steady.offset.in_range in
+    record {
+      unreached = λ m less. let before = so_far.most m less in omega (arith, signed_arith);
+      high = omega (arith, signed_arith, near.0);
+      kept = so_far.kept;
+      later = so_far.later;
+    }
+
+pub leads_to : (clock : Clock) (m : ℤ) (c : ℕ) (span : Option DueSpan) → LeadsOn clock m span → m <ℤ pos c
+    → IfSome span (λ s. IsAhead clock c s.from s.steady)
+leads_to clock m c None leads less = leads
+leads_to clock m c (Some s) leads less = leads c less

@@ -9,7 +9,8 @@ ghost use Rattle.cron_dues.specs.Inner.Known.{IsKnown, IsNextDue, IsPast};
 
 use crate::clock::Clock;
 use crate::fire::DueFire;
-use crate::way_to::{DueSpan, fire_in, span_of, span_past};
+use crate::steady::DueSpan;
+use crate::way_to::{fire_in, span_of, span_past};
 use cron_time::search::civil_seconds::{match_past, nearest_match};
 use cron_time::search::month_days::MonthDays;
 use cron_units::fields::ScheduleFields;

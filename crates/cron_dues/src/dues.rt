@@ -5,8 +5,8 @@ ghost use Rattle.cron_dues.specs.Inner.Nearest.{IsNearestDue};
 
 use crate::clock::Clock;
 use crate::fire::{DueFire, nominal_second};
-use crate::reach::reached_by;
-use crate::way_to::due_of;
+use crate::reach::{reach_by, reached_by};
+use crate::way_to::{due_of, due_past};
 use cron_time::search::civil_seconds::nearest_match;
 use cron_units::fields::ScheduleFields;
 use cron_units::way::Way;
@@ -32,7 +32,11 @@ pub fn nearest_due<C: Clock>(
 pub fn first_after<C: Clock>(fields: &ScheduleFields, now: Timestamp, clock: &C) -> Option<DueFire>
     ensures { IsFirstDueAfter fields.now (C.offsets clock.now) now.nanosecond result }
 {
-    nearest_due(fields, clock, Way::Ahead, reached_by(clock, now) + 1)
+    let reach = reach_by(clock, now);
+    let Some(second) = nearest_match(fields, Way::Ahead, reach.second + 1) else {
+        return None;
+    };
+    Some(due_past(clock, second, reach.span))
 }
 
 /// Of the due fires past this one the first. `None` where there is none. The one that is handed in may be

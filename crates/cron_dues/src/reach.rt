@@ -2,18 +2,29 @@
 ghost use Rattle.std.specs.Prelude.{◌≡◌, neg_ℤ, pos};
 ghost use Rattle.jiff_core.specs.Calendar.{IsBetween};
 ghost use Rattle.std.specs.Int.{int_div_euclid};
-ghost use Rattle.cron_dues.specs.Inner.Reached.{IsGreatestBy, IsReachedBy};
+ghost use Rattle.cron_dues.specs.Inner.Reached.{IsGreatestBy, IsReachedBy, LeadsOn};
 
 use crate::clock::Clock;
 use crate::numbers::greater;
+use crate::steady::DueSpan;
 use cron_moments::civil::{FURTHEST_OFFSET, SECONDS};
 use jiff::Timestamp;
 
+/// How far a clock has come by an instant.
+#[derive(Clone, Copy)]
+pub(crate) struct Reach {
+    /// The number up to which civil seconds of the range are due.
+    pub second: i64,
+    /// Instants among which later ones may be due, if some are known.
+    pub span: Option<DueSpan>,
+}
+
 // The greatest second that a clock has shown up to a second of UTC.
-fn greatest_by<C: Clock>(clock: &C, second: i64) -> i64
+fn greatest_by<C: Clock>(clock: &C, second: i64) -> Reach
     requires { IsBetween (neg_ℤ (pos 200_000)) (pos 5_000_000_000) second }
-    ensures greatest { IsGreatestBy (C.offsets clock.now) second result }
-    ensures bound { IsBetween (neg_ℤ (pos 400_000)) (pos 6_000_000_000) result }
+    ensures greatest { IsGreatestBy (C.offsets clock.now) second result.second }
+    ensures bound { IsBetween (neg_ℤ (pos 400_000)) (pos 6_000_000_000) result.second }
+    ensures span { LeadsOn (C.offsets clock.now) result.second result.span }
 {
     let mut from = second - 2 * FURTHEST_OFFSET;
     let mut greatest = second - FURTHEST_OFFSET - 1;
@@ -23,7 +34,32 @@ fn greatest_by<C: Clock>(clock: &C, second: i64) -> i64
         from = steady.end;
         steady = clock.steady_from(from);
     }
-    greater(greatest, steady.shown(second))
+    Reach {
+        second: greater(greatest, steady.shown(second)),
+        span: Some(DueSpan { from, steady }),
+    }
+}
+
+/// How far a clock has come by an instant.
+pub(crate) fn reach_by<C: Clock>(clock: &C, now: Timestamp) -> Reach
+    ensures reached { IsReachedBy (C.offsets clock.now) (int_div_euclid now.nanosecond (pos 1_000_000_000)) result.second }
+    ensures bound { IsBetween (neg_ℤ (pos 400_000)) (pos 6_000_000_000) result.second }
+    ensures span { LeadsOn (C.offsets clock.now) result.second result.span }
+{
+    let second = now.to_plain().floor_second();
+    if second < -100_000 {
+        return Reach {
+            second: -1,
+            span: None,
+        };
+    }
+    if second > SECONDS + 100_000 {
+        return Reach {
+            second: SECONDS,
+            span: None,
+        };
+    }
+    greatest_by(clock, second)
 }
 
 /// The number up to which civil seconds of the range are due by an instant.
@@ -31,12 +67,5 @@ pub fn reached_by<C: Clock>(clock: &C, now: Timestamp) -> i64
     ensures reached { IsReachedBy (C.offsets clock.now) (int_div_euclid now.nanosecond (pos 1_000_000_000)) result }
     ensures bound { IsBetween (neg_ℤ (pos 400_000)) (pos 6_000_000_000) result }
 {
-    let second = now.to_plain().floor_second();
-    if second < -100_000 {
-        return -1;
-    }
-    if second > SECONDS + 100_000 {
-        return SECONDS;
-    }
-    greatest_by(clock, second)
+    reach_by(clock, now).second
 }

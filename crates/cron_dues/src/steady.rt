@@ -10,6 +10,7 @@ ghost use Rattle.cron_dues.specs.Clock.Due.{zone_clock};
 ghost use Rattle.cron_dues.specs.Inner.Steady.{IsKept, IsOneYear, IsShortOf};
 
 use crate::numbers::lesser;
+use cron_clocks::clock::kept_in_season;
 use cron_moments::civil::{SECONDS, SECONDS_PER_DAY};
 use jiff::Timestamp;
 use jiff::tz::{Offset, TimeZone};
@@ -42,6 +43,14 @@ impl Steady {
     {
         at + i64::from(self.offset.seconds())
     }
+}
+
+/// Instants from one on, among which a civil second is due: none before them shows it or a later one.
+#[derive(Clone, Copy)]
+pub(crate) struct DueSpan {
+    pub from: i64,
+    pub steady: Steady,
+    pub ghost near: { IsBetween (neg_ℤ (pos 1_000_000)) (pos 8_267_961_600) from },
 }
 
 // The date of a second of UTC.
@@ -94,8 +103,9 @@ fn transition_end(zone: jiff_tz::TimeZone<'_>, at: jiff_core::Timestamp, second:
     lesser(whole, NEVER)
 }
 
-/// The offset that a clock in a zone shows at a second of UTC, and up to where it keeps it.
-pub(crate) fn steady_in(zone: &TimeZone<'_>, second: i64) -> Steady
+// An offset that a clock in a zone keeps up to the next transition or the end of the year.
+#[inline(never)]
+fn steady_up_to_transition(zone: &TimeZone<'_>, second: i64) -> Steady
     requires { IsBetween (neg_ℤ (pos 1_000_000)) (pos 8_000_000_000) second }
     ensures kept { IsKept (zone_clock zone.now) second result.end result.offset.seconds }
     ensures later { second <ℤ result.end }
@@ -106,5 +116,20 @@ pub(crate) fn steady_in(zone: &TimeZone<'_>, second: i64) -> Steady
     Steady {
         offset,
         end: lesser(untouched, year_end(second)),
+    }
+}
+
+/// The offset that a clock in a zone shows at a second of UTC, and up to where it keeps it.
+pub(crate) fn steady_in(zone: &TimeZone<'_>, second: i64) -> Steady
+    requires { IsBetween (neg_ℤ (pos 1_000_000)) (pos 8_000_000_000) second }
+    ensures kept { IsKept (zone_clock zone.now) second result.end result.offset.seconds }
+    ensures later { second <ℤ result.end }
+{
+    match kept_in_season(zone, second) {
+        Some(kept) => Steady {
+            offset: kept.offset,
+            end: i64::from(kept.end),
+        },
+        None => steady_up_to_transition(zone, second),
     }
 }

@@ -1,5 +1,5 @@
 //! When a civil second is due.
-ghost use Rattle.std.specs.Prelude.{◌≡◌, ◌⊎◌, ◌<◌, ◌-ℤ◌, ◌≤ℤ◌, neg_ℤ, pos, false};
+ghost use Rattle.std.specs.Prelude.{◌≡◌, ◌⊎◌, ◌<◌, ◌-ℤ◌, ◌≤ℤ◌, neg_ℤ, pos, false, IfSome};
 ghost use Rattle.jiff_core.specs.Calendar.{IsBetween};
 ghost use Rattle.cron_moments.specs.Civil.{seconds_in_range};
 ghost use Rattle.cron_dues.specs.Clock.Due.{due};
@@ -7,7 +7,7 @@ ghost use Rattle.cron_dues.specs.Inner.Reached.{IsAhead, ends_before};
 
 use crate::clock::Clock;
 use crate::fire::{DueFire, due_fire};
-use crate::steady::Steady;
+use crate::steady::{DueSpan, Steady};
 use cron_moments::civil::FURTHEST_OFFSET;
 
 // Whether the clock comes to the end before it shows the civil second or a later one.
@@ -29,14 +29,6 @@ fn seconds_past(shown: i64, second: u32) -> u32
         return 0;
     }
     (shown - nominal) as u32
-}
-
-/// Instants from one on, among which a civil second is due: none before them shows it or a later one.
-#[derive(Clone, Copy)]
-pub(crate) struct DueSpan {
-    from: i64,
-    steady: Steady,
-    pub ghost near: { IsBetween (neg_ℤ (pos 1_000_000)) (pos 8_267_961_600) from },
 }
 
 /// The due fire of a civil second.
@@ -79,6 +71,20 @@ pub(crate) fn span_past<C: Clock>(clock: &C, second: u32, earlier: DueSpan) -> D
         return span_of(clock, second);
     }
     earlier
+}
+
+/// The due fire of a civil second, before which those instants begin, if some are known.
+#[inline(always)]
+pub(crate) fn due_past<C: Clock>(clock: &C, second: u32, earlier: Option<DueSpan>) -> DueFire
+    requires range { second < seconds_in_range }
+    requires ahead { IfSome earlier (λ span. IsAhead (C.offsets clock.now) second span.from span.steady) }
+    ensures { result ≡ due (C.offsets clock.now) second }
+{
+    let span = match earlier {
+        Some(span) => span_past(clock, second, span),
+        None => span_of(clock, second),
+    };
+    fire_in(clock, second, &span)
 }
 
 /// The due fire of a civil second.

@@ -1,9 +1,10 @@
 -- How far a clock has come.
-use Rattle.std.specs.Prelude.{◌≡◌, ◌↔◌, ◌⊎◌, ℕ, ◌<◌, ℤ, pos, ◌+ℤ◌, ◌-ℤ◌, ◌≤ℤ◌, ◌<ℤ◌, Bool, int_le, unsigned_abs}
+use Rattle.std.specs.Prelude.{◌≡◌, ◌↔◌, ◌⊎◌, ℕ, ◌<◌, ℤ, pos, ◌+ℤ◌, ◌-ℤ◌, ◌≤ℤ◌, ◌<ℤ◌, Bool, int_le, unsigned_abs, Option, IfSome}
 use Rattle.cron_moments.specs.Civil.{seconds_in_range}
 use Rattle.cron_dues.specs.Clock.Due.{Clock, due_instant, shows}
 use Rattle.cron_dues.specs.Inner.Steady.{IsKept}
 use Rattle.cron_dues.specs.declared.steady.Steady.{Steady}
+use Rattle.cron_dues.specs.declared.steady.DueSpan.{DueSpan}
 
 -- no instant before n shows the civil second c or a later one
 abbrev pub IsUnreachedBefore : Clock → ℕ → ℤ → Type 0
@@ -62,3 +63,7 @@ pub record IsGathered (clock : Clock) (n from greatest : ℤ) (steady : Steady) 
 -- how many instants are left up to n
 abbrev pub left_to : ℤ → ℤ → ℕ
 left_to n from = unsigned_abs (n +ℤ pos 1 -ℤ from)
+
+-- later civil seconds are due from these instants on, if they are known
+abbrev pub LeadsOn : Clock → ℤ → Option DueSpan → Type 0
+LeadsOn clock m span = IfSome span (λ s. (c : ℕ) → m <ℤ pos c → IsAhead clock c s.from s.steady)

@@ -1,7 +1,7 @@
 use Rattle.std.proofs.Common.{rules, FitsSigned, w64, to_z-of_z, pos, ◌-ℤ◌, arith}
 use Rattle.jiff_core.proofs.SignedLemmas.{signed_casts}
 use Rattle.cron_instants.proofs.FireLemmas.{int_le-true, int_le-false}
-use Rattle.cron_dues.proofs.ReachLemmas.{gather_from, gather_on, gather_end, left_less}
+use Rattle.cron_dues.proofs.ReachLemmas.{gather_from, gather_on, gather_end, leads_on, left_less}
 use Rattle.cron_dues.proofs.reach.greatest_by.Goals as goal
 
 pub loop-steady-init : goal.loop-steady-init
@@ -46,3 +46,13 @@ returns-clause-greatest g c =
     rw (to_z-of_z fits) (gather_end (g.C.Clock.offsets c.args.clock.now) c.args.second _ _ c.greater.result c.loop-steady.steady
     (rw (to_z-of_z fits-second) at c.loop-steady.invariant) late more.one (rw (to_z-of_z fits-shown, value) at more.other)
     (rw (to_z-of_z fits-shown, value) at more.either))
+
+pub returns-clause-span : goal.returns-clause-span
+returns-clause-span g c =
+    let fits-second : FitsSigned w64 c.args.second = search rules in
+    let fits : FitsSigned w64 c.greater.result = search rules in
+    let fits-shown : FitsSigned w64 c.shown-2.result = search rules in
+    let value = rw (to_z-of_z fits-second) at c.shown-2.ensures.value in
+    let more = c.greater.ensures in
+    rw (to_z-of_z fits) (leads_on (g.C.Clock.offsets c.args.clock.now) c.args.second _ _ c.greater.result c.loop-steady.steady
+    (rw (to_z-of_z fits-second) at c.loop-steady.invariant) more.one (rw (to_z-of_z fits-shown, value) at more.other))

@@ -1,7 +1,7 @@
 use Rattle.std.proofs.Common.{rules, ◌≡◌, pos, ◌*ℤ◌, FitsSigned, w64, to_z-of_z}
 use Rattle.jiff.specs.Words.{plain_zone}
 use Rattle.cron_dues.proofs.KeptLemmas.{kept}
-use Rattle.cron_dues.proofs.steady.steady_in.Goals as goal
+use Rattle.cron_dues.proofs.steady.steady_up_to_transition.Goals as goal
 
 pub returns-clause-kept : goal.returns-clause-kept
 returns-clause-kept c =
