@@ -1,7 +1,7 @@
 //! The calls of walks and those by instants, each made many times.
 
 use cron::Schedule;
-use cron_fires::{Fires, first_fire_after};
+use cron_fires::{Dues, Fires, first_due_after, first_fire_after};
 use jiff::Timestamp;
 use jiff::tz::TimeZone;
 
@@ -16,6 +16,10 @@ pub enum Call {
     Fires,
     /// By instants, each from the same start.
     FirstFire,
+    /// Each match once, one after another.
+    DueFires,
+    /// Each match once, each from the same start.
+    FirstDueFire,
 }
 
 impl Call {
@@ -33,6 +37,8 @@ impl Call {
             Call::FreshNext => fresh(schedule, start, zone, calls),
             Call::Fires => fires(schedule, start, zone, calls),
             Call::FirstFire => first_fires(schedule, start, zone, calls),
+            Call::DueFires => due_fires(schedule, start, zone, calls),
+            Call::FirstDueFire => first_due_fires(schedule, start, zone, calls),
         }
     }
 }
@@ -94,6 +100,30 @@ fn first_fires(schedule: &Schedule, start: Timestamp, zone: &TimeZone<'_>, calls
     let mut ended = 0;
     for call in 0..calls {
         if first_fire_after(schedule, start, zone).is_none() {
+            ended = call;
+        }
+    }
+    ended
+}
+
+/// Calls `next` of a run of due fires so often, begins anew where the run ends, and tells when it last ended.
+fn due_fires(schedule: &Schedule, start: Timestamp, zone: &TimeZone<'_>, calls: u32) -> u32 {
+    let mut run = Dues::after(schedule, start, zone);
+    let mut ended = 0;
+    for call in 0..calls {
+        if run.next().is_none() {
+            run = Dues::after(schedule, start, zone);
+            ended = call;
+        }
+    }
+    ended
+}
+
+/// Asks for the first due fire after the start so often, and tells which call last had none.
+fn first_due_fires(schedule: &Schedule, start: Timestamp, zone: &TimeZone<'_>, calls: u32) -> u32 {
+    let mut ended = 0;
+    for call in 0..calls {
+        if first_due_after(schedule, start, zone).is_none() {
             ended = call;
         }
     }

@@ -5,7 +5,6 @@ use crate::rounds::least_cost;
 use crate::walks::CHICAGO;
 use anyhow::Result;
 use cron::Schedule;
-use cron_dues::run::Run as SingleDues;
 use cron_fires::fields_of;
 use cron_unions::due_run::DueRun;
 use cron_unions::run::Run;
@@ -21,11 +20,19 @@ const PAIRS: [(&str, &str); 4] = [
 
 const FIRES: u32 = 10_000;
 
-/// Takes so many fires, and tells which call last gave nothing.
-fn take_fires<R: Iterator>(run: &mut R) -> u32
-where
-    R::Item: Drop,
-{
+/// Takes so many fires of several schedules, and tells which call last gave nothing.
+fn take_fires(run: &mut Run<'_, 2>) -> u32 {
+    let mut ended = 0;
+    for call in 0..FIRES {
+        if run.next().is_none() {
+            ended = call;
+        }
+    }
+    ended
+}
+
+/// The same of due fires.
+fn take_dues(run: &mut DueRun<'_>) -> u32 {
     let mut ended = 0;
     for call in 0..FIRES {
         if run.next().is_none() {
@@ -57,11 +64,11 @@ fn time_pair(
     })?;
     println!(rt; "fires | {name} | {one} and {other} | {cost}")?;
     let cost = least_cost(rt, 20, FIRES, || {
-        take_fires(&mut SingleDues::after(both[0], start, zone))
+        Call::DueFires.make(&first, start, zone, FIRES)
     })?;
     println!(rt; "due fires | {name} | {one} | {cost}")?;
     let cost = least_cost(rt, 20, FIRES, || {
-        take_fires(&mut DueRun::after(&both, start, zone))
+        take_dues(&mut DueRun::after(&both, start, zone))
     })?;
     println!(rt; "due fires | {name} | {one} and {other} | {cost}")?;
     Ok(())

@@ -25,12 +25,14 @@ const TEXTS: [&str; 8] = [
 const NEVER: &str = "0 0 0 30 2 *";
 
 /// What is called, each beside its name in a row.
-const CALLS: [(Call, &str); 5] = [
+const CALLS: [(Call, &str); 7] = [
     (Call::Next, "next"),
     (Call::NextBack, "next_back"),
     (Call::FreshNext, "fresh next"),
     (Call::Fires, "fires"),
     (Call::FirstFire, "first fire"),
+    (Call::DueFires, "due fires"),
+    (Call::FirstDueFire, "first due fire"),
 ];
 
 /// Where a call starts, so that it has items to give: ahead of it, or behind it.

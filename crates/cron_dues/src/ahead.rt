@@ -1,5 +1,5 @@
 //! The due fire that comes next, by what is known of the one before it.
-ghost use Rattle.std.specs.Prelude.{◌≡◌, ◌<◌, IfSome};
+ghost use Rattle.std.specs.Prelude.{◌≡◌, ◌<◌, IfSome, option_map};
 ghost use Rattle.cron_moments.specs.Civil.{seconds_in_range};
 ghost use Rattle.cron_time.specs.Matches.{is_match};
 ghost use Rattle.cron_time.specs.Search.Inner.MonthDays.{KnowsDays};
@@ -10,7 +10,7 @@ ghost use Rattle.cron_dues.specs.Inner.Known.{IsKnown, IsNextDue, IsPast};
 use crate::clock::Clock;
 use crate::fire::DueFire;
 use crate::steady::DueSpan;
-use crate::way_to::{fire_in, span_of, span_past};
+use crate::way_to::due_past;
 use cron_time::search::civil_seconds::{match_past, nearest_match};
 use cron_time::search::month_days::MonthDays;
 use cron_units::fields::ScheduleFields;
@@ -44,6 +44,17 @@ fn next_match(
     }
 }
 
+// The instants among which the last one was due.
+#[inline(always)]
+fn span_behind(known: &Option<Known>) -> Option<DueSpan>
+    ensures { result ≡ option_map (λ k. k.span) known.now }
+{
+    match known {
+        Some(known) => Some(known.span),
+        None => None,
+    }
+}
+
 /// The due fire of the nearest civil second that matches, from a number on, and what is known of it. Where
 /// the one before it is known, that number is the next one.
 #[inline(always)]
@@ -62,12 +73,6 @@ pub(crate) fn next_due<C: Clock>(
     let Some(second) = next_match(fields, from, &known, days) else {
         return (None, None);
     };
-    let span = match known {
-        Some(known) => span_past(clock, second, known.span),
-        None => span_of(clock, second),
-    };
-    (
-        Some(fire_in(clock, second, &span)),
-        Some(Known { second, span }),
-    )
+    let (fire, span) = due_past(clock, second, span_behind(&known));
+    (Some(fire), Some(Known { second, span }))
 }

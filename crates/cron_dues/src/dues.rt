@@ -36,7 +36,7 @@ pub fn first_after<C: Clock>(fields: &ScheduleFields, now: Timestamp, clock: &C)
     let Some(second) = nearest_match(fields, Way::Ahead, reach.second + 1) else {
         return None;
     };
-    Some(due_past(clock, second, reach.span))
+    Some(due_past(clock, second, reach.span).0)
 }
 
 /// Of the due fires past this one the first. `None` where there is none. The one that is handed in may be

@@ -47,7 +47,7 @@ impl Steady {
 
 /// Instants from one on, among which a civil second is due: none before them shows it or a later one.
 #[derive(Clone, Copy)]
-pub(crate) struct DueSpan {
+pub struct DueSpan {
     pub from: i64,
     pub steady: Steady,
     pub ghost near: { IsBetween (neg_ℤ (pos 1_000_000)) (pos 8_267_961_600) from },

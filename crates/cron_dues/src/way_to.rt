@@ -33,7 +33,7 @@ fn seconds_past(shown: i64, second: u32) -> u32
 
 /// The due fire of a civil second.
 #[inline(always)]
-pub(crate) fn fire_in<C: Clock>(_clock: &C, second: u32, span: &DueSpan) -> DueFire
+fn fire_in<C: Clock>(_clock: &C, second: u32, span: &DueSpan) -> DueFire
     requires range { second < seconds_in_range }
     requires ahead { IsAhead (C.offsets _clock.now) second span.now.from span.now.steady }
     requires shown { ends_before span.now.steady second ≡ false }
@@ -45,7 +45,7 @@ pub(crate) fn fire_in<C: Clock>(_clock: &C, second: u32, span: &DueSpan) -> DueF
 
 /// The instants among which a civil second is due.
 #[inline(never)]
-pub(crate) fn span_of<C: Clock>(clock: &C, second: u32) -> DueSpan
+fn span_of<C: Clock>(clock: &C, second: u32) -> DueSpan
     requires { second < seconds_in_range }
     ensures ahead { IsAhead (C.offsets clock.now) second result.from result.steady }
     ensures shown { ends_before result.steady second ≡ false }
@@ -61,7 +61,7 @@ pub(crate) fn span_of<C: Clock>(clock: &C, second: u32) -> DueSpan
 
 /// The same of a civil second that isn't shown before those of an earlier one.
 #[inline(always)]
-pub(crate) fn span_past<C: Clock>(clock: &C, second: u32, earlier: DueSpan) -> DueSpan
+fn span_past<C: Clock>(clock: &C, second: u32, earlier: DueSpan) -> DueSpan
     requires range { second < seconds_in_range }
     requires ahead { IsAhead (C.offsets clock.now) second earlier.from earlier.steady }
     ensures ahead { IsAhead (C.offsets clock.now) second result.from result.steady }
@@ -73,18 +73,20 @@ pub(crate) fn span_past<C: Clock>(clock: &C, second: u32, earlier: DueSpan) -> D
     earlier
 }
 
-/// The due fire of a civil second, before which those instants begin, if some are known.
+/// The due fire of a civil second, and the instants among which it is due. Those of an earlier one, if they
+/// are known, may be its own.
 #[inline(always)]
-pub(crate) fn due_past<C: Clock>(clock: &C, second: u32, earlier: Option<DueSpan>) -> DueFire
+pub fn due_past<C: Clock>(clock: &C, second: u32, earlier: Option<DueSpan>) -> (DueFire, DueSpan)
     requires range { second < seconds_in_range }
     requires ahead { IfSome earlier (λ span. IsAhead (C.offsets clock.now) second span.from span.steady) }
-    ensures { result ≡ due (C.offsets clock.now) second }
+    ensures due { result.0 ≡ due (C.offsets clock.now) second }
+    ensures ahead { IsAhead (C.offsets clock.now) second result.1.from result.1.steady }
 {
     let span = match earlier {
         Some(span) => span_past(clock, second, span),
         None => span_of(clock, second),
     };
-    fire_in(clock, second, &span)
+    (fire_in(clock, second, &span), span)
 }
 
 /// The due fire of a civil second.

@@ -28,7 +28,7 @@ pub returns : goal.returns
 returns g c =
     let fits : FitsSigned w64 c.reach_by-reach.result.second = search rules in
     let fits-next : FitsSigned w64 (c.reach_by-reach.result.second +ℤ pos 1) = search rules in
-    member.first_after (matching_seconds c.args.fields.now) (is_match c.args.fields.now) (g.C.Clock.offsets c.args.clock.now) (member.sets-match c.args.fields.now) c.args.now.nanosecond c.reach_by-reach.result.second (Some c.due_past.result)
+    member.first_after (matching_seconds c.args.fields.now) (is_match c.args.fields.now) (g.C.Clock.offsets c.args.clock.now) (member.sets-match c.args.fields.now) c.args.now.nanosecond c.reach_by-reach.result.second (Some c.due_past.result.0)
     c.reach_by-reach.ensures.reached
-    (nearest_is Ahead (is_match c.args.fields.now) (g.C.Clock.offsets c.args.clock.now) (c.reach_by-reach.result.second +ℤ pos 1) c.in-Some.second c.due_past.result
-    (rw (to_z-of_z fits, to_z-of_z fits-next) at c.in-Some.ensures.nearest) c.due_past.ensures)
+    (nearest_is Ahead (is_match c.args.fields.now) (g.C.Clock.offsets c.args.clock.now) (c.reach_by-reach.result.second +ℤ pos 1) c.in-Some.second c.due_past.result.0
+    (rw (to_z-of_z fits, to_z-of_z fits-next) at c.in-Some.ensures.nearest) c.due_past.ensures.due)
