@@ -89,7 +89,8 @@ pub fn due_past<C: Clock>(clock: &C, second: u32, earlier: Option<DueSpan>) -> (
     (fire_in(clock, second, &span), span)
 }
 
-/// The due fire of a civil second.
+/// The due fire of a civil second: in a fold that of the first pass. In a gap it is due at the transition,
+/// since there the clock first shows a later second.
 pub fn due_of<C: Clock>(clock: &C, second: u32) -> DueFire
     requires { second < seconds_in_range }
     ensures { result ≡ due (C.offsets clock.now) second }
