@@ -21,9 +21,9 @@ use jiff::Timestamp;
 use jiff::tz::TimeZone;
 use std::alloc::Global;
 
-/// The headline, for every text, zone, start and list of calls: a text outside the grammar is refused,
-/// and one inside it gives exactly the seven sets that it denotes. The calls walk over the timeline of
-/// these sets, each to the neighbouring item.
+/// The headline, for every text, zone, start and list of calls: a text outside the grammar is
+/// refused, and one inside it gives exactly the seven sets that it denotes. The calls walk over the
+/// timeline of these sets, each to the neighbouring item.
 pub fn headline(
     alloc: Global,
     text: &str,
@@ -56,9 +56,9 @@ pub fn equal_sets(one: &Schedule, other: &Schedule)
     let _other = other.source();
 }
 
-/// In a zone with one offset a walk from a start answers the least instant after the start that shows
-/// a match, and then the least instant after that one. It answers `None` exactly where there is none. Each
-/// answer is an item as the walk gives it, with the offset of the zone.
+/// In a zone with one offset a walk from a start answers the least instant after the start that
+/// shows a match, and then the least instant after that one. It answers `None` exactly where there
+/// is none. Each answer is an item as the walk gives it, with the offset of the zone.
 pub fn first_instants(
     schedule: &Schedule,
     start: Timestamp,
@@ -90,8 +90,8 @@ pub fn items_are_refused()
     ensures { ItemsAreRefused }
 {}
 
-/// An item of a unit is refused for nothing, or for one thing alone. Items either denote one set, which has
-/// an ordinal or the mark of the last day, or one of them is the first that is refused.
+/// An item of a unit is refused for nothing, or for one thing alone. Items either denote one set,
+/// which has an ordinal or the mark of the last day, or one of them is the first that is refused.
 pub fn items_are_decided()
     ensures each { ItemsAreRefusedOnce }
     ensures all { ItemsAreDecided }
@@ -112,14 +112,15 @@ pub fn means_once()
     ensures { MeansOnce }
 {}
 
-/// A text means sets of the units. None of them is empty, but for days of the month that have the mark of
-/// the last day in place of numbers.
+/// A text means sets of the units. None of them is empty, but for days of the month that have the
+/// mark of the last day in place of numbers.
 pub fn means_sets()
     ensures { MeansSets }
 {}
 
-/// The earlier grammar has no word for the last day of a month, and the first five shorthands alone. A text
-/// that means seven sets by it means the same ones by the whole grammar, and has no mark.
+/// The earlier grammar has no word for the last day of a month, and the first five shorthands
+/// alone. A text that means seven sets by it means the same ones by the whole grammar, and has no
+/// mark.
 pub fn earlier_texts()
     ensures { KeepsItsMeaning }
 {}
@@ -156,8 +157,8 @@ pub fn end_for_ever()
     ensures { law.EndIsForEver }
 {}
 
-/// After `next` answered an item that isn't the first, `next_back` answers the one before it, and a further
-/// `next` answers the item again.
+/// After `next` answered an item that isn't the first, `next_back` answers the one before it, and a
+/// further `next` answers the item again.
 pub fn neighbours()
     ensures { law.NeighboursAreAnswered }
 {}
@@ -192,7 +193,8 @@ pub fn single_items()
     ensures { law.ItemsStandOnce }
 {}
 
-/// UTC and the zones that are made of an offset have one offset, and so has a rule text without a saving.
+/// UTC and the zones that are made of an offset have one offset, and so has a rule text without a
+/// saving.
 pub fn one_offset()
     ensures zones { one.FixedZonesHaveOneOffset }
     ensures rules { one.PlainRulesHaveOneOffset }

@@ -14,12 +14,12 @@ use std::alloc::Global;
 use std::borrow::CowStr;
 
 /// Each reader answers a schedule exactly where the text is in the grammar, out of memory aside. A
-/// refusal tells the first refused field's message or `Invalid cron expression.`; or, where a growth
-/// was refused, `out of memory`. Memory is taken for the copy of a borrowed text and for a message
-/// alone, so an owned text of the grammar is always read.
+/// refusal tells the first refused field's message or `Invalid cron expression.`; or, where a
+/// growth was refused, `out of memory`. Memory is taken for the copy of a borrowed text and for a
+/// message alone, so an owned text of the grammar is always read.
 impl Schedule {
-    // The error that tells the fault of a text. Few texts have one, and none of the others pays for its
-    // room.
+    // The error that tells the fault of a text. Few texts have one, and none of the others pays for
+    // its room.
     #[cold]
     #[inline(never)]
     fn refusal(alloc: Global, text: &str) -> Error
@@ -52,8 +52,8 @@ impl Schedule {
         Schedule::from_str(alloc, text)
     }
 
-    // Reads a text and keeps it, or gives it back where it means nothing. There is no allocator to take
-    // memory from.
+    // Reads a text and keeps it, or gives it back where it means nothing. There is no allocator to
+    // take memory from.
     #[inline(always)]
     fn keep(text: String) -> Result<Schedule, String>
         ensures means { IfOk result (λ s. Means (string_bytes text) s.sets) }

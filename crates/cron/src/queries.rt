@@ -24,8 +24,9 @@ use jiff::tz::TimeZone;
 
 impl Schedule {
     /// Finds the least civil second at or after `from` that matches and has a reading in the zone,
-    /// with its one or two readings, the earlier first. A part of a second of `from` is cut. It goes
-    /// field by field, so a year, a month or a day that does not match costs no look at its seconds.
+    /// with its one or two readings, the earlier first. A part of a second of `from` is cut. It
+    /// goes field by field, so a year, a month or a day that does not match costs no look at its
+    /// seconds.
     pub fn first_at_or_after(&self, from: DateTime, zone: &TimeZone<'_>) -> Search
         ensures found { IsFound Ahead self.now.sets (plain_zone zone.now) (civil_seconds from)
             (option_map found_items result.found) }
@@ -47,10 +48,10 @@ impl Schedule {
         search(self.fields(), zone, Way::Back, civil_number(from))
     }
 
-    /// Finds the first `count` civil seconds at or after `from` that match and have a reading, or all
-    /// where there are fewer, by searches ahead one after the other. It tells how many it found and the
-    /// sums of both counts. A day in which one search ends and the next begins is counted twice, so there is
-    /// at most one day more than the candidates for each of the seconds found.
+    /// Finds the first `count` civil seconds at or after `from` that match and have a reading, or
+    /// all where there are fewer, by searches ahead one after the other. It tells how many it found
+    /// and the sums of both counts. A day in which one search ends and the next begins is counted
+    /// twice, so there is at most one day more than the candidates for each of the seconds found.
     pub fn survey(&self, from: DateTime, zone: &TimeZone<'_>, count: u32) -> Survey
         ensures seconds { result.seconds
             ≡ length (take count (standing_from self.now.sets (plain_zone zone.now) (civil_seconds from))) }
@@ -66,9 +67,9 @@ impl Schedule {
         survey(self.fields(), zone, civil_number(from), count)
     }
 
-    /// Finds the least time of day at or after the given one whose hour, minute and second lie in their
-    /// sets. The hour is 23 at most, minute and second 59. The questions for a neighbouring member are
-    /// counted, one for a least member too.
+    /// Finds the least time of day at or after the given one whose hour, minute and second lie in
+    /// their sets. The hour is 23 at most, minute and second 59. The questions for a neighbouring
+    /// member are counted, one for a least member too.
     pub fn first_time(&self, hour: Ordinal, minute: Ordinal, second: Ordinal) -> TimeFound
         requires hour { hour < 24 }
         requires minute { minute < 60 }
@@ -82,8 +83,8 @@ impl Schedule {
         nearest_time(self.filled_fields(), Way::Ahead, hour, minute, second)
     }
 
-    /// Finds the greatest such time of day at or before the given one, whose hour is 23 at most, minute and
-    /// second 59.
+    /// Finds the greatest such time of day at or before the given one, whose hour is 23 at most,
+    /// minute and second 59.
     pub fn last_time(&self, hour: Ordinal, minute: Ordinal, second: Ordinal) -> TimeFound
         requires hour { hour < 24 }
         requires minute { minute < 60 }

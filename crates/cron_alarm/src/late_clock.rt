@@ -3,7 +3,8 @@
 use cron_scheduler::AlarmClock;
 use jiff::{Error, Timestamp};
 
-/// How late it wakes, in seconds: by more than an hour, so that two fires of a fold come due at once.
+/// How late it wakes, in seconds: by more than an hour, so that two fires of a fold come due at
+/// once.
 const LATE: i64 = 4200;
 
 /// A clock that shows a second, and goes on when it is waited for.

@@ -1,6 +1,6 @@
-//! `cron_alarm EXPRESSION ZONE COUNT` prints a line at each of the next fires of a cron expression, when it
-//! comes; with `--once` behind them each match once, also where the clock changes. With no arguments it shows
-//! the fold and the gap of Chicago's 2022 on a clock of its own.
+//! `cron_alarm EXPRESSION ZONE COUNT` prints a line at each of the next fires of a cron expression,
+//! when it comes; with `--once` behind them each match once, also where the clock changes. With no
+//! arguments it shows the fold and the gap of Chicago's 2022 on a clock of its own.
 #![tactic(auto)]
 
 mod late_clock;
@@ -22,8 +22,8 @@ use std::env;
 use std::io::{self, ErrorKind};
 use std::process::ExitCode;
 
-/// The rule of Chicago, where the clock goes from 02:00 to 03:00 on 2022-03-13, and from 02:00 back to 01:00 on
-/// 2022-11-06.
+/// The rule of Chicago, where the clock goes from 02:00 to 03:00 on 2022-03-13, and from 02:00 back
+/// to 01:00 on 2022-11-06.
 const CHICAGO: &str = "CST6CDT,M3.2.0,M11.1.0";
 
 /// Midnight in Chicago on these days: 2022-03-13T06:00:00Z and 2022-11-06T05:00:00Z.
@@ -41,8 +41,8 @@ const SHOWN: [(i64, &str, ClockChanges, u32); 3] = [
 /// The exit status where it is given up.
 const FAILED: u8 = 1;
 
-// Both half past ones of a fold and the one of the next day; then each match once, in the fold and in a gap. The
-// clock wakes late.
+// Both half past ones of a fold and the one of the next day; then each match once, in the fold and
+// in a gap. The clock wakes late.
 fn ring_at_transitions<W: Watchable>(
     alloc: Global,
     chicago: TimeZone<'_>,

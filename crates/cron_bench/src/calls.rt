@@ -82,7 +82,8 @@ fn fresh(schedule: &Schedule, start: Timestamp, zone: &TimeZone<'_>, calls: u32)
     ended
 }
 
-/// Calls `next` of a run of fires so often, begins anew where the run ends, and tells when it last ended.
+/// Calls `next` of a run of fires so often, begins anew where the run ends, and tells when it last
+/// ended.
 fn fires(schedule: &Schedule, start: Timestamp, zone: &TimeZone<'_>, calls: u32) -> u32 {
     let mut run = Fires::after(schedule, start, zone);
     let mut ended = 0;

@@ -1,5 +1,5 @@
-//! What varied lines cost. One text that is read again and again lets a processor foresee each branch;
-//! of these, each is another.
+//! What varied lines cost. One text that is read again and again lets a processor foresee each
+//! branch; of these, each is another.
 
 ghost use Rattle.std.specs.Prelude.{◌<◌, ◌≤◌};
 
@@ -172,7 +172,8 @@ pub fn varied_lines(alloc: Global) -> Result<Vec<String>, AllocError> {
     Ok(lines)
 }
 
-/// Reads each line from its bytes into sets, as a caller from C has it read, and counts those that mean any.
+/// Reads each line from its bytes into sets, as a caller from C has it read, and counts those that
+/// mean any.
 fn read_all(lines: &[String]) -> u32 {
     let mut read: u32 = 0;
     let mut fields = no_ordinals();
@@ -200,7 +201,8 @@ fn has_item(schedule: &Schedule, second: i64, zone: &TimeZone<'_>) -> bool {
     Timestamp::from_second(second).is_ok_and(|start| schedule.after(start, zone).next().is_some())
 }
 
-/// Finds the first item of each schedule after an instant of its own, and counts those that have one.
+/// Finds the first item of each schedule after an instant of its own, and counts those that have
+/// one.
 fn find_all(schedules: &[Schedule], zone: &TimeZone<'_>) -> u32 {
     let mut found: u32 = 0;
     let mut second = FIRST_START;

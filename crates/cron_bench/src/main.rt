@@ -1,9 +1,10 @@
-//! `cron_bench run` prints what a parse and a call of a walk cost, in nanoseconds; `cron_bench growth`
-//! what parses of longer and longer lists cost; `cron_bench lines` what each of 100,000 varied lines
-//! costs, and of the lines that `cron_check` checks; `cron_bench print` those lines; and `cron_bench turn
-//! FILE` what runs cost around a turn of the zone in a file; `cron_bench unions` what a fire of two schedules
-//! as one costs. With no word it prints nothing. At other words, and where a text, a zone or a file is
-//! refused, it ends with an error and the status 1.
+//! `cron_bench run` prints what a parse and a call of a walk cost, in nanoseconds;
+//! `cron_bench growth` what parses of longer and longer lists cost; `cron_bench lines` what each of
+//! 100,000 varied lines costs, and of the lines that `cron_check` checks; `cron_bench print` those
+//! lines; and `cron_bench turn FILE` what runs cost around a turn of the zone in a file;
+//! `cron_bench unions` what a fire of two schedules as one costs. With no word it prints nothing.
+//! At other words, and where a text, a zone or a file is refused, it ends with an error and the
+//! status 1.
 #![tactic(auto)]
 
 mod calls;

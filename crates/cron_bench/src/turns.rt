@@ -44,8 +44,8 @@ const FIRST_CALLS: [(Call, &str); 2] = [
 /// How long before the turn a run starts: half of a million seconds.
 const RUN_UP: i64 = 500_000;
 
-/// Where the first fires are asked for, by seconds from the turn: far before it, in the hour before it, at
-/// it, in the hour after it, and far after it.
+/// Where the first fires are asked for, by seconds from the turn: far before it, in the hour before
+/// it, at it, in the hour after it, and far after it.
 const PLACES: [(&str, i64); 5] = [
     ("far before", -10_000_000),
     ("before", -1_800),
@@ -141,8 +141,8 @@ fn turn_of(zone: &TimeZone<'_>) -> Result<i64> {
     Ok(turn.timestamp().as_second())
 }
 
-/// Prints what runs and first fires cost around a turn of the zone in a file, and around that turn by
-/// Chicago's rule.
+/// Prints what runs and first fires cost around a turn of the zone in a file, and around that turn
+/// by Chicago's rule.
 pub fn run(rt: &HostRuntime, path: &str) -> Result<()> {
     let bytes = fs::read(rt, path).context(path)?;
     let table = Tzif::parse(rt.alloc(), None, bytes.as_slice()).context(path)?;

@@ -12,17 +12,17 @@ use jiff::Timestamp;
 use jiff::tz::TimeZone;
 use std::alloc::{AllocError, Global};
 
-/// The first fire after now, also in a fold; `None` where there is none. A loop that asks again from its
-/// instant loses none but where two items share an instant. One that asks from the time at which it woke
-/// loses what came due meanwhile.
+/// The first fire after now, also in a fold; `None` where there is none. A loop that asks again
+/// from its instant loses none but where two items share an instant. One that asks from the time at
+/// which it woke loses what came due meanwhile.
 pub fn next_fire(schedule: &Schedule, now: Timestamp, zone: &TimeZone<'_>) -> Option<Moment>
     ensures { IsFirstAfter schedule.now.sets (plain_zone zone.now) now.nanosecond result }
 {
     first_fire_after(schedule, now, zone)
 }
 
-/// What was missed between the last run and now: the fires whose instant comes after `last` and not after
-/// `now`, in the order of their instants, in a fold too.
+/// What was missed between the last run and now: the fires whose instant comes after `last` and not
+/// after `now`, in the order of their instants, in a fold too.
 pub fn missed_runs(
     alloc: Global,
     schedule: &Schedule,

@@ -27,8 +27,8 @@ fn instant_of(moment: Option<Moment>) -> Option<Timestamp>
     Some(moment.timestamp())
 }
 
-/// The first two alarms: the least instant after now at which the clock shows a match, and the least one
-/// after that. Each is `None` exactly where there is no such instant.
+/// The first two alarms: the least instant after now at which the clock shows a match, and the
+/// least one after that. Each is `None` exactly where there is no such instant.
 pub fn first_alarms(schedule: &Schedule, now: Timestamp, offset: Offset) -> Alarms
     ensures first { IsAlarmAfter schedule.now.sets offset.seconds now.nanosecond result.first }
     ensures second { MatchOption result.first (result.second ≡ None)

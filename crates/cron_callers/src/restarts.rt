@@ -1,5 +1,5 @@
-//! A service that notes what it did last, is stopped, and goes on: a scheduler by instants, a calendar along
-//! the clock.
+//! A service that notes what it did last, is stopped, and goes on: a scheduler by instants, a
+//! calendar along the clock.
 
 ghost use Rattle.std.specs.Prelude.{◌≡◌, ◌+◌, ℕ, None, Some, slice_get};
 ghost use Rattle.jiff.specs.Words.{plain_zone};
@@ -21,9 +21,10 @@ pub struct Noted {
     pub offset: Offset,
 }
 
-/// The fire after the noted one, by instants: a scheduler that goes on so loses none and runs none twice,
-/// also in a fold. It is `None` where it fires no more, and where what was noted is no second of the years
-/// 1970 to 2100. What was noted may be a moment at which the schedule doesn't fire.
+/// The fire after the noted one, by instants: a scheduler that goes on so loses none and runs none
+/// twice, also in a fold. It is `None` where it fires no more, and where what was noted is no
+/// second of the years 1970 to 2100. What was noted may be a moment at which the schedule doesn't
+/// fire.
 pub fn fire_after(schedule: &Schedule, noted: Noted, zone: &TimeZone<'_>) -> Option<Moment>
     ensures goes_on { (r : Reading)
         → HasParts noted.shown noted.offset r
@@ -36,10 +37,10 @@ pub fn fire_after(schedule: &Schedule, noted: Noted, zone: &TimeZone<'_>) -> Opt
     first_fire_past(schedule, &fire, zone)
 }
 
-/// The item after the noted one along the clock, for a calendar. In a fold its instant may be earlier than
-/// that of the noted one, so a scheduler that went on so would lose fires and run others twice. It is
-/// `None` after the last item, and where what was noted is no item of this schedule in this zone, and
-/// nowhere else.
+/// The item after the noted one along the clock, for a calendar. In a fold its instant may be
+/// earlier than that of the noted one, so a scheduler that went on so would lose fires and run
+/// others twice. It is `None` after the last item, and where what was noted is no item of this
+/// schedule in this zone, and nowhere else.
 pub fn item_after(schedule: &Schedule, noted: Noted, zone: &TimeZone<'_>) -> Option<Moment>
     ensures goes_on { (i : ℕ) (r : Reading)
         → slice_get (timeline schedule.now.sets (plain_zone zone.now)) i ≡ Some r

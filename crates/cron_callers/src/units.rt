@@ -19,7 +19,8 @@ pub fn year_count(schedule: &Schedule) -> usize
     counted
 }
 
-/// How many hours there are from a first one to a last one, both included. The first is the last at most.
+/// How many hours there are from a first one to a last one, both included. The first is the last at
+/// most.
 pub fn count_hours(schedule: &Schedule, first: Ordinal, last: Ordinal) -> usize
     requires { first ≤ last }
     ensures { result ≡ length (filter (is_within (Included first) (Included last)) schedule.now.sets.hours) }
@@ -74,8 +75,8 @@ pub fn some_warm_month(schedule: &Schedule) -> Option<Ordinal>
         .next()
 }
 
-/// The greatest month from a first one to a last one, both included: there is one exactly where a month
-/// is between. The first is the last at most.
+/// The greatest month from a first one to a last one, both included: there is one exactly where a
+/// month is between. The first is the last at most.
 pub fn greatest_month(schedule: &Schedule, first: Ordinal, last: Ordinal) -> Option<Ordinal>
     requires { first ≤ last }
     ensures { result ≡ reduce max (filter (is_within (Included first) (Included last)) schedule.now.sets.months) }

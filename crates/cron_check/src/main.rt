@@ -1,4 +1,5 @@
-//! `cron_check [--sets | --next START ZONE] [FILE]` tells which lines of a file are no cron expressions.
+//! `cron_check [--sets | --next START ZONE] [FILE]` tells which lines of a file are no cron
+//! expressions.
 #![tactic(auto)]
 
 #[cfg(test)]

@@ -54,8 +54,8 @@ fn next_of(words: &[String]) -> Option<Request<'_>>
     })
 }
 
-/// Reads the words after the program's name: a mode or none, and then a path or none. `None` where the words
-/// can't be read so.
+/// Reads the words after the program's name: a mode or none, and then a path or none. `None` where
+/// the words can't be read so.
 pub fn request_of(words: &[String]) -> Option<Request<'_>>
     ensures value { IfSome result (Asks (map string_bytes words.now)) }
     ensures refused { IsNone result → AsksNothing (map string_bytes words.now) }

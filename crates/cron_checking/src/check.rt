@@ -25,8 +25,8 @@ pub enum Outcome {
     AllRead,
     /// Every line was read, and one or more of them were refused.
     SomeRefused,
-    /// Memory ran out for a line or for what is told of it, as the allocator or the reader said, and a
-    /// line that tells so was written.
+    /// Memory ran out for a line or for what is told of it, as the allocator or the reader said,
+    /// and a line that tells so was written.
     OutOfMemory,
     /// A write or the flush failed, and nothing more was written.
     WriteFailed,
@@ -37,8 +37,8 @@ pub enum Outcome {
 }
 
 impl Outcome {
-    /// The exit status: 0 where every line was read and none is refused, 1 where some are refused or memory
-    /// ran out, 3 where a write failed, 4 where the lines can't be read.
+    /// The exit status: 0 where every line was read and none is refused, 1 where some are refused
+    /// or memory ran out, 3 where a write failed, 4 where the lines can't be read.
     pub fn code(self) -> u8
         ensures { result ≡ code_of self }
     {
@@ -150,10 +150,11 @@ pub(crate) fn finish<W: Watchable>(out: &mut Watched<W>, end: Outcome) -> Outcom
     end
 }
 
-/// Checks the lines that a reader gives, and writes what the mode tells of them. The lines of the report are
-/// handed to the writer many at a time, and the rest of them at the end, before the flush. The reader is
-/// called once a line, and not again where it gave none or failed. The memory of the longest line and of
-/// the longest line of the report is kept from line to line. No call of the writer may have failed before.
+/// Checks the lines that a reader gives, and writes what the mode tells of them. The lines of the
+/// report are handed to the writer many at a time, and the rest of them at the end, before the
+/// flush. The reader is called once a line, and not again where it gave none or failed. The memory
+/// of the longest line and of the longest line of the report is kept from line to line. No call of
+/// the writer may have failed before.
 pub fn check<R: Readable, W: Watchable>(
     alloc: Global,
     mode: &Mode<'_>,

@@ -91,9 +91,9 @@ fn tell_text(
     Ok(true)
 }
 
-/// Makes the text that tells of a line: its fault, or what the mode tells, or that it isn't UTF-8. Whether
-/// the line is refused is answered, `None` where it isn't UTF-8. The text is laid in memory whole, since a
-/// formatter may fail of itself, and no part of it is to be written then.
+/// Makes the text that tells of a line: its fault, or what the mode tells, or that it isn't UTF-8.
+/// Whether the line is refused is answered, `None` where it isn't UTF-8. The text is laid in memory
+/// whole, since a formatter may fail of itself, and no part of it is to be written then.
 pub(crate) fn tell_line(
     mode: &Mode<'_>,
     number: u64,

@@ -9,11 +9,11 @@ ghost use Rattle.std.specs.declared.io.Error.{Error};
 use std::io::{self, BufRead};
 
 /// A reader whose calls contracts can tell one by one. What one call may do to a reader is known to
-/// its own type alone: so a function over any reader whose contract promises one call can't have made
-/// two. Every reader is such.
+/// its own type alone: so a function over any reader whose contract promises one call can't have
+/// made two. Every reader is such.
 pub trait Readable: BufRead {
-    // one call of `read_until`, at a line feed: the reader before it, the answer, the bytes that were read, and the reader
-    // after it
+    // one call of `read_until`, at a line feed: the reader before it, the answer, the bytes that
+    // were read, and the reader after it
     ghost reads: { Self → Result ℕ Error → List ℕ → Self → Type 0 };
 
     /// Calls `read_until` once, at a line feed.

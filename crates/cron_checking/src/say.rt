@@ -9,8 +9,9 @@ use crate::check::{Outcome, finish};
 use cron_writer::watchable::Watchable;
 use cron_writer::watched::{Watched, send};
 
-/// Writes a line and flushes, and answers the given end, which is no failed write, unless one of both
-/// failed: then that is the end. No call of the writer may have failed before. It takes no memory.
+/// Writes a line and flushes, and answers the given end, which is no failed write, unless one of
+/// both failed: then that is the end. No call of the writer may have failed before. It takes no
+/// memory.
 pub fn say<W: Watchable>(out: &mut Watched<W>, line: &str, end: Outcome) -> Outcome
     requires fresh { has_failed out.old ≡ false }
     requires end { is_write_failure end ≡ false }

@@ -10,10 +10,10 @@ use jiff::tz::TimeZone;
 use jiff_tz::posix;
 
 /// Whether what a clock in the zone shows at an instant, and the readings of a civil second in it,
-/// are known to agree. They are in UTC, in a zone with one offset, in a rule with no saving, and in one
-/// whose two transitions lie a week or more from each other and from the edges of a year of 365 days, as far
-/// as its months and weeks tell. `false` says nothing: it is answered for every other rule, and for a
-/// zone from a file.
+/// are known to agree. They are in UTC, in a zone with one offset, in a rule with no saving, and in
+/// one whose two transitions lie a week or more from each other and from the edges of a year of 365
+/// days, as far as its months and weeks tell. `false` says nothing: it is answered for every other
+/// rule, and for a zone from a file.
 pub fn lookups_agree(zone: &TimeZone<'_>) -> bool
     ensures agree { IsTrue result → LookupsAgree (plain_zone zone.now) }
     ensures fixed { IsFixed (plain_zone zone.now) → IsTrue result }

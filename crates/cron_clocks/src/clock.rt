@@ -22,7 +22,8 @@ use jiff_tz::posix;
 // Each clock is nearer to UTC, in seconds.
 const FAR: i64 = FURTHEST_OFFSET + 1;
 
-// Whether a transition lies so far from the edges of its year that it lies in that year in UTC as well.
+// Whether a transition lies so far from the edges of its year that it lies in that year in UTC as
+// well.
 fn is_far_inside(year: Span, transition: i64) -> bool
     requires first { IsWithin 400_000_000_000 year.first }
     requires end { IsWithin 400_000_000_000 year.end }
@@ -42,8 +43,8 @@ fn are_far_inside(transitions: Transitions) -> bool
         && is_far_inside(transitions.year, transitions.end)
 }
 
-// The offset that a clock shows in a second of UTC, from the transitions of its year. It isn't known
-// where one of them lies at an edge of the year.
+// The offset that a clock shows in a second of UTC, from the transitions of its year. It isn't
+// known where one of them lies at an edge of the year.
 fn offset_among(
     rule: posix::TimeZone,
     dst: posix::Dst,
@@ -107,9 +108,9 @@ fn learn(
     }
 }
 
-// The offset that a clock shows in a second of UTC by a rule, if it's known from the transitions of that
-// year. Where the clock shows the same year, they tell the stretch of the civil second that it shows,
-// too.
+// The offset that a clock shows in a second of UTC by a rule, if it's known from the transitions of
+// that year. Where the clock shows the same year, they tell the stretch of the civil second that it
+// shows, too.
 fn offset_by_transitions(
     rule: posix::TimeZone,
     dst: posix::Dst,
@@ -129,8 +130,8 @@ fn offset_by_transitions(
     Some(offset)
 }
 
-// The offset that a clock shows in a second of UTC by a rule, if it's known from the season of the second,
-// or else from the transitions of its year. The stretch becomes that of the season.
+// The offset that a clock shows in a second of UTC by a rule, if it's known from the season of the
+// second, or else from the transitions of its year. The stretch becomes that of the season.
 fn offset_by(rule: posix::TimeZone, second: u32, stretch: &mut Stretch) -> Option<Offset>
     requires range { second < seconds_in_range }
     requires known { IsKnown (Posix rule) stretch.old }
@@ -150,8 +151,8 @@ fn offset_by(rule: posix::TimeZone, second: u32, stretch: &mut Stretch) -> Optio
     }
 }
 
-// The offset that a clock shows at an instant in a zone with a rule. What its transitions don't tell the
-// zone is asked.
+// The offset that a clock shows at an instant in a zone with a rule. What its transitions don't
+// tell the zone is asked.
 #[inline(never)]
 fn offset_by_rule(
     zone: &TimeZone<'_>,

@@ -1,4 +1,5 @@
-//! Laws over the definitions: the functions do nothing, and a caller calls one for what its contract says.
+//! Laws over the definitions: the functions do nothing, and a caller calls one for what its
+//! contract says.
 
 ghost use Rattle.cron_clocks.specs.Clocks.{FixedZonesAgree, PlainRulesAgree};
 ghost use Rattle.cron_clocks.specs.Transitions.{ApartRulesAgree};
@@ -13,8 +14,8 @@ pub fn plain_rules_agree()
     ensures { PlainRulesAgree }
 {}
 
-/// In a rule whose two transitions lie a week or more from each other and from the edges of a year of 365
-/// days the two look-ups agree.
+/// In a rule whose two transitions lie a week or more from each other and from the edges of a year
+/// of 365 days the two look-ups agree.
 pub fn apart_rules_agree()
     ensures { ApartRulesAgree }
 {}

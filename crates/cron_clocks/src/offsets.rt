@@ -8,8 +8,8 @@ ghost use Rattle.cron_clocks.specs.Steady.{IsToldBy};
 
 use jiff::tz::Offset;
 
-/// A second among the two transitions of its year, all on the clock before it, and how far that clock is
-/// ahead in the saving.
+/// A second among the two transitions of its year, all on the clock before it, and how far that
+/// clock is ahead in the saving.
 #[derive(Clone, Copy)]
 pub(crate) struct Placed {
     pub at: i64,
@@ -66,8 +66,8 @@ impl Placed {
     }
 }
 
-// The offsets where the clock is ahead in the saving: what follows the start is a gap, what precedes
-// the end comes twice.
+// The offsets where the clock is ahead in the saving: what follows the start is a gap, what
+// precedes the end comes twice.
 fn offsets_ahead(
     standard: Offset,
     saving: Offset,
@@ -118,8 +118,8 @@ fn offsets_behind(
     }
 }
 
-/// The offsets at which a second is read: none in a gap; one; or two in a fold, that before the transition
-/// and that after it.
+/// The offsets at which a second is read: none in a gap; one; or two in a fold, that before the
+/// transition and that after it.
 pub(crate) fn offsets_among(
     standard: Offset,
     saving: Offset,

@@ -254,8 +254,8 @@ pub(crate) fn saving_of(rule: TimeZone, dst: Dst) -> i64
     i64::from(dst.offset.seconds) - i64::from(rule.std_offset.seconds)
 }
 
-/// What a rule tells of a civil second: the offsets at which it is read, and the civil seconds around
-/// it of which the same is told.
+/// What a rule tells of a civil second: the offsets at which it is read, and the civil seconds
+/// around it of which the same is told.
 #[derive(Clone, Copy)]
 pub(crate) struct Told {
     pub span: Span,
@@ -263,9 +263,9 @@ pub(crate) struct Told {
     pub later: Option<Offset>,
 }
 
-/// What a rule tells of a civil second of the year of the transitions, and the civil seconds of the year
-/// around it with no transition between them. At a transition a gap or a fold begins or ends, and so
-/// does one as long as the saving after the start of it, and before its end.
+/// What a rule tells of a civil second of the year of the transitions, and the civil seconds of the
+/// year around it with no transition between them. At a transition a gap or a fold begins or ends,
+/// and so does one as long as the saving after the start of it, and before its end.
 pub(crate) fn between_transitions(
     rule: TimeZone,
     dst: Dst,

@@ -1,8 +1,8 @@
 //! Seasons: the times of the year in which a rule tells one offset in every year.
 //!
-//! A year's transitions are some work to find. But where they lie apart, most seconds are far from each
-//! second at which a transition can lie in any year, and of those the place in the year tells what the
-//! clock shows.
+//! A year's transitions are some work to find. But where they lie apart, most seconds are far from
+//! each second at which a transition can lie in any year, and of those the place in the year tells
+//! what the clock shows.
 ghost use Rattle.std.specs.Prelude.{◌≡◌, ◌<◌, ◌≤◌, pos, ◌+ℤ◌, ◌-ℤ◌, ◌≤ℤ◌, ◌<ℤ◌, IfSome, Some, None};
 ghost use Rattle.jiff_tz.specs.PosixRule as Rule;
 ghost use Rattle.jiff_tz.specs.declared.posix.TimeZone.{TimeZone};
@@ -52,8 +52,8 @@ impl Season {
 }
 
 // The bounds of a year's seasons by a rule: the seconds of every year up to which the one offset is
-// shown, from which the other is, up to which it is, and from which the one is again. What isn't among
-// them is known from the transitions of the year alone.
+// shown, from which the other is, up to which it is, and from which the one is again. What isn't
+// among them is known from the transitions of the year alone.
 #[derive(Clone, Copy)]
 struct SeasonBounds {
     outer_end: u32,
@@ -118,8 +118,8 @@ fn season_bounds_of(rule: TimeZone, dst: Dst) -> Option<SeasonBounds>
     }
 }
 
-// The second that begins the year of a second. Each fourth year from 1972 on is longer: 2100, which isn't,
-// is the last one.
+// The second that begins the year of a second. Each fourth year from 1972 on is longer: 2100, which
+// isn't, is the last one.
 fn year_start_of(second: u32) -> u32
     requires { second < seconds_in_range }
     ensures { IsYearOf result second }
@@ -128,8 +128,8 @@ fn year_start_of(second: u32) -> u32
     (1461 * years + 1) / 4 * SECONDS_PER_DAY
 }
 
-// The season of a second, if it lies in one, from the second that begins its year. Those at the edges of
-// the year go on in the years beside it, which are no shorter than the shorter years.
+// The season of a second, if it lies in one, from the second that begins its year. Those at the
+// edges of the year go on in the years beside it, which are no shorter than the shorter years.
 fn season_among(season_bounds: SeasonBounds, year_start: u32, second: u32) -> Option<Season>
     requires { IsYearOf year_start second }
     ensures { (rule : TimeZone)

@@ -130,8 +130,8 @@ impl Stretch {
         Some(Found { first, second })
     }
 
-    /// A stretch with this civil second in it: all of the range in a zone with one offset, and else what
-    /// lies between two transitions of a rule or of a file's table.
+    /// A stretch with this civil second in it: all of the range in a zone with one offset, and else
+    /// what lies between two transitions of a rule or of a file's table.
     #[inline(never)]
     pub fn at(zone: &TimeZone<'_>, second: u32) -> Stretch
         requires { second < seconds_in_range }

@@ -40,8 +40,8 @@ fn up_to_next(table: &Tzif, count: usize, at: i64, span: Span) -> Span
     part(span, at, transitions[count].civil_start())
 }
 
-// The part of it that lies between where the last of so many transitions begins or ends and where the next
-// begins.
+// The part of it that lies between where the last of so many transitions begins or ends and where
+// the next begins.
 fn between_transitions(table: &Tzif, count: usize, at: i64, span: Span) -> Span
     requires low { span.first ≤ℤ at }
     requires high { at <ℤ span.end }
@@ -108,8 +108,8 @@ fn offset_past(table: &Tzif, count: usize) -> Offset
     }
 }
 
-// What is told of a civil second behind the last of so many transitions: past all of them by the rule, if
-// there is one.
+// What is told of a civil second behind the last of so many transitions: past all of them by the
+// rule, if there is one.
 fn behind_transitions(table: &Tzif, count: usize, second: u32) -> Told
     requires range { second < seconds_in_range }
     requires count { count ≤ length (transitions_of table.now) }

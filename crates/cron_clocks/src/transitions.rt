@@ -100,7 +100,8 @@ fn days_of(day: Day) -> DaysOfYear
     }
 }
 
-// The days of the shorter years before a month. From March on a month begins a day later in the longer ones.
+// The days of the shorter years before a month. From March on a month begins a day later in the
+// longer ones.
 fn days_before(month: u8) -> u16
     requires { (1 ≤ month) × (month ≤ 12) }
     ensures low { (y : ℤ) → result ≤ days_of_months y (month - 1) }

@@ -16,7 +16,8 @@ use cron_units::fields::ScheduleFields;
 use cron_units::time_unit::layout::{days_from_bits, from_bits};
 use cron_units::time_unit::{only, whole};
 
-/// The numbers of a field, a bit for each from the least on, and whether the field begins with a star.
+/// The numbers of a field, a bit for each from the least on, and whether the field begins with a
+/// star.
 #[derive(Clone, Copy)]
 pub(crate) struct FieldNumbers {
     numbers: u64,
@@ -44,8 +45,8 @@ fn star_numbers(field: Field, word: &str) -> Option<u64>
     Some(numbers_of(field, Base::Range(field.least(), field.greatest()), 1))
 }
 
-/// Reads the items of a field, which have commas between them. A fault is written where the caller has room
-/// for it: as a result it would be moved through memory after each field, read ones too.
+/// Reads the items of a field, which have commas between them. A fault is written where the caller
+/// has room for it: as a result it would be moved through memory after each field, read ones too.
 #[inline(never)]
 fn read_items<'a>(field: Field, word: &'a str, fault: &mut Fault<'a>) -> Option<u64>
     ensures items { MatchOption result (items_of field word.now ≡ Err (fault_view fault.new)) (AreRead field word.now) }
@@ -126,7 +127,8 @@ pub(crate) fn read_five<'a>(text: &'a str, fault: &mut Fault<'a>) -> Option<Five
     })
 }
 
-/// Days of the week, of which the first and the eighth are Sunday, with the first wherever the eighth is.
+/// Days of the week, of which the first and the eighth are Sunday, with the first wherever the
+/// eighth is.
 #[inline(always)]
 fn with_sunday(days: u64) -> u64
     requires { days < 2 ^ 64 }

@@ -105,7 +105,8 @@ fn begins_with_at(word: &str) -> bool
     }
 }
 
-/// Reads an expression of a crontab: five fields, or a nickname, with white space around and between them.
+/// Reads an expression of a crontab: five fields, or a nickname, with white space around and
+/// between them.
 pub fn read(text: &str) -> Result<Expression, Fault<'_>>
     ensures { MatchResult result (λ e. Means text.now (expression_view e)) (λ fault. Refuses text.now (fault_view fault)) }
 {

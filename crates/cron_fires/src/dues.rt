@@ -15,8 +15,8 @@ use std::alloc::{AllocError, Global};
 use std::marker::Model;
 
 /// The first due fire after an instant. `None` where nothing is due any more. A loop goes on by
-/// [`first_due_past`] from the fire that it ran, and never from its instant: the matches of one gap share
-/// it, and of those this call answers the first alone.
+/// [`first_due_past`] from the fire that it ran, and never from its instant: the matches of one gap
+/// share it, and of those this call answers the first alone.
 pub fn first_due_after(schedule: &Schedule, now: Timestamp, zone: &TimeZone<'_>) -> Option<DueFire>
     ensures { IsFirstDueAfter schedule.now.sets (plain_zone zone.now) now.nanosecond result }
 {
@@ -24,7 +24,8 @@ pub fn first_due_after(schedule: &Schedule, now: Timestamp, zone: &TimeZone<'_>)
     dues::first_after(&fields, now, zone)
 }
 
-/// The next due fire after this one, whose nominal time alone counts. `None` where nothing is due any more.
+/// The next due fire after this one, whose nominal time alone counts. `None` where nothing is due
+/// any more.
 pub fn first_due_past(schedule: &Schedule, fire: &DueFire, zone: &TimeZone<'_>) -> Option<DueFire>
     ensures { IsFirstDuePast schedule.now.sets (plain_zone zone.now) fire.now result }
 {
@@ -32,7 +33,8 @@ pub fn first_due_past(schedule: &Schedule, fire: &DueFire, zone: &TimeZone<'_>) 
     dues::first_past(&fields, fire, zone)
 }
 
-/// The last due fire whose instant is `now` or comes before it. `None` where nothing has been due yet.
+/// The last due fire whose instant is `now` or comes before it. `None` where nothing has been due
+/// yet.
 pub fn last_due_by(schedule: &Schedule, now: Timestamp, zone: &TimeZone<'_>) -> Option<DueFire>
     ensures { IsLastDueBy schedule.now.sets (plain_zone zone.now) now.nanosecond result }
 {
@@ -40,9 +42,9 @@ pub fn last_due_by(schedule: &Schedule, now: Timestamp, zone: &TimeZone<'_>) -> 
     dues::last_by(&fields, now, zone)
 }
 
-/// Due fires of a schedule in a zone, in order: each match once, at the first instant at which the clock
-/// shows it or a later time. Contracts see the list of those that are left. It takes no memory, and after
-/// a `None` answers `None` for ever.
+/// Due fires of a schedule in a zone, in order: each match once, at the first instant at which the
+/// clock shows it or a later time. Contracts see the list of those that are left. It takes no
+/// memory, and after a `None` answers `None` for ever.
 #[derive(Drop)]
 pub struct Dues<'a> {
     run: Run<'a, TimeZone<'a>>,
@@ -67,7 +69,8 @@ impl<'a> Dues<'a> {
         }
     }
 
-    /// Those past a due fire, as a run goes on that was cut after it, also where some share its instant.
+    /// Those past a due fire, as a run goes on that was cut after it, also where some share its
+    /// instant.
     pub fn past(schedule: &Schedule, fire: &DueFire, zone: &'a TimeZone<'a>) -> Dues<'a>
         ensures { result ≡ dues_past schedule.now.sets (plain_zone zone.now) fire.now }
     {

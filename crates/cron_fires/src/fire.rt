@@ -13,8 +13,8 @@ use cron_dues::fire::DueFire;
 use jiff::Timestamp;
 use jiff::tz::TimeZone;
 
-/// A fire, whose type is the rule: a schedule has a `Moment` for each time that the clock shows a match, and
-/// a `DueFire` for each match.
+/// A fire, whose type is the rule: a schedule has a `Moment` for each time that the clock shows a
+/// match, and a `DueFire` for each match.
 pub trait Fire: Copy {
     // its instant, in seconds since 1970-01-01T00:00:00Z
     ghost at: { Self → ℤ };

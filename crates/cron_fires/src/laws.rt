@@ -1,4 +1,5 @@
-//! Laws over the definitions: the functions do nothing, and a caller calls one for what its contract says.
+//! Laws over the definitions: the functions do nothing, and a caller calls one for what its
+//! contract says.
 
 ghost use Rattle.cron_fires.specs.DueLaws.{BothRulesAgree, CutDueRunsGoOn, CutDueRunsPastGoOn, CutDueStretchesGoOn, DueStretchesAreJoined};
 ghost use Rattle.cron_fires.specs.Laws.{AgreeingZonesTellApart, CutRunsGoOn, CutRunsPastGoOn, CutStretchesGoOn, FiresAreTheItems, FiresAscend, LoopsAreRuns, NextIsPast, StretchesAreJoined, StretchesHaveTheirItems};
@@ -52,16 +53,16 @@ pub fn joined_due_stretches()
     ensures { DueStretchesAreJoined }
 {}
 
-/// A run of due fires after an instant, past a fire or between two instants that is cut after a fire goes on
-/// past that fire as the run uncut.
+/// A run of due fires after an instant, past a fire or between two instants that is cut after a
+/// fire goes on past that fire as the run uncut.
 pub fn cut_due_runs()
     ensures after { CutDueRunsGoOn }
     ensures past { CutDueRunsPastGoOn }
     ensures between { CutDueStretchesGoOn }
 {}
 
-/// Where the look-ups of a zone agree, a stretch has the same fires by both rules if its clock keeps its
-/// offset there, and has shown nothing later before.
+/// Where the look-ups of a zone agree, a stretch has the same fires by both rules if its clock
+/// keeps its offset there, and has shown nothing later before.
 pub fn both_rules_agree()
     ensures { BothRulesAgree }
 {}

@@ -1,5 +1,5 @@
-//! When a schedule fires, by instants: the first fire after now, the last one by now, all of them in
-//! order, and those that were missed.
+//! When a schedule fires, by instants: the first fire after now, the last one by now, all of them
+//! in order, and those that were missed.
 //!
 //! ```text
 //! let mut fire = first_fire_after(&schedule, now, &zone);
@@ -9,8 +9,8 @@
 //! }
 //! ```
 //!
-//! The same by the other rule, each match once also where the clock changes: `first_due_after` and its
-//! like.
+//! The same by the other rule, each match once also where the clock changes: `first_due_after` and
+//! its like.
 #![tactic(auto)]
 
 ghost use Rattle.std.specs.Prelude.{◌≡◌};
@@ -52,8 +52,9 @@ pub fn fields_of(schedule: &Schedule) -> ScheduleFields
     }
 }
 
-/// The first fire after an instant, also in a fold. `None` where the schedule fires no more. A loop goes
-/// on by [`first_fire_past`] from the fire that it ran, so that nothing that came due meanwhile is lost.
+/// The first fire after an instant, also in a fold. `None` where the schedule fires no more. A loop
+/// goes on by [`first_fire_past`] from the fire that it ran, so that nothing that came due
+/// meanwhile is lost.
 pub fn first_fire_after(schedule: &Schedule, now: Timestamp, zone: &TimeZone<'_>) -> Option<Moment>
     ensures { IsFirstAfter schedule.now.sets (plain_zone zone.now) now.nanosecond result }
 {
@@ -61,8 +62,9 @@ pub fn first_fire_after(schedule: &Schedule, now: Timestamp, zone: &TimeZone<'_>
     instants::first_after(&fields, now, zone)
 }
 
-/// The next fire after this one. Where two share an instant, the one with the lesser civil second comes
-/// first. `None` where the schedule fires no more. The moment may be one at which it doesn't fire.
+/// The next fire after this one. Where two share an instant, the one with the lesser civil second
+/// comes first. `None` where the schedule fires no more. The moment may be one at which it doesn't
+/// fire.
 pub fn first_fire_past(schedule: &Schedule, fire: &Moment, zone: &TimeZone<'_>) -> Option<Moment>
     ensures { IsFirstPast schedule.now.sets (plain_zone zone.now) fire.now result }
 {
@@ -70,8 +72,8 @@ pub fn first_fire_past(schedule: &Schedule, fire: &Moment, zone: &TimeZone<'_>) 
     instants::first_past(&fields, fire, zone)
 }
 
-/// The last fire whose instant is `now` or comes before it. Where two share an instant, the one with the
-/// greater civil second is the later. `None` where the schedule hasn't fired yet.
+/// The last fire whose instant is `now` or comes before it. Where two share an instant, the one
+/// with the greater civil second is the later. `None` where the schedule hasn't fired yet.
 pub fn last_fire_by(schedule: &Schedule, now: Timestamp, zone: &TimeZone<'_>) -> Option<Moment>
     ensures { IsLastBy schedule.now.sets (plain_zone zone.now) now.nanosecond result }
 {

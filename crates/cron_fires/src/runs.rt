@@ -12,9 +12,9 @@ use jiff::tz::TimeZone;
 use std::alloc::{AllocError, Global};
 use std::marker::Model;
 
-/// Fires of a schedule in a zone, the earliest first: each once, none left out, also in a fold. Where two
-/// share an instant, the one with the lesser civil second comes first. Contracts see the list of
-/// those that are left. It takes no memory, and after a `None` answers `None` for ever.
+/// Fires of a schedule in a zone, the earliest first: each once, none left out, also in a fold.
+/// Where two share an instant, the one with the lesser civil second comes first. Contracts see the
+/// list of those that are left. It takes no memory, and after a `None` answers `None` for ever.
 #[derive(Drop)]
 pub struct Fires<'a> {
     run: Run<'a>,
@@ -43,8 +43,8 @@ impl<'a> Fires<'a> {
         }
     }
 
-    /// The fires that are later than a moment, as a run goes on that was cut after it. The moment may be
-    /// one at which the schedule doesn't fire.
+    /// The fires that are later than a moment, as a run goes on that was cut after it. The moment
+    /// may be one at which the schedule doesn't fire.
     pub fn past(schedule: &Schedule, fire: &Moment, zone: &'a TimeZone<'a>) -> Fires<'a>
         ensures { result ≡ fires_past schedule.now.sets (plain_zone zone.now) fire.now }
     {

@@ -33,7 +33,8 @@ pub trait Timetable {
     fn last_by(&self, now: Timestamp, zone: &TimeZone<'_>) -> Option<Moment>
         ensures { IsLastByAny (schedules self.now) (plain_zone zone.now) now.nanosecond result };
 
-    /// By the rule that each match is due once: of the due fires whose instant comes after `now` the first.
+    /// By the rule that each match is due once: of the due fires whose instant comes after `now`
+    /// the first.
     fn first_due_after(&self, now: Timestamp, zone: &TimeZone<'_>) -> Option<DueFire>
         ensures { IsFirstDueAfterAny (schedules self.now) (plain_zone zone.now) now.nanosecond result };
 

@@ -1,5 +1,6 @@
-//! The first item after an instant. Where no transition is near, a later time of the clock is a later
-//! instant, so the next match on the clock is that item. Elsewhere the search goes by instants.
+//! The first item after an instant. Where no transition is near, a later time of the clock is a
+//! later instant, so the next match on the clock is that item. Elsewhere the search goes by
+//! instants.
 ghost use Rattle.std.specs.Prelude.{◌≡◌, ◌≤◌, ◌<◌, pos, ◌-ℤ◌, IfSome};
 ghost use Rattle.jiff.specs.Words.{plain_zone};
 ghost use Rattle.cron_clocks.specs.Steady.{IsKnown};
@@ -32,7 +33,8 @@ fn monotone_about(zone: &TimeZone<'_>, stretch: &Stretch, second: u32) -> Option
     monotone_around(zone, &around, second)
 }
 
-// The civil second that a clock shows at a mark, and what is known of it, if it is read at that instant.
+// The civil second that a clock shows at a mark, and what is known of it, if it is read at that
+// instant.
 fn settled_at(
     zone: &TimeZone<'_>,
     mark: Mark,
@@ -85,8 +87,8 @@ fn item_past(
     }
 }
 
-/// The nearest item ahead of a mark, at which a clock may show this civil second. The stretch is one that
-/// is known.
+/// The nearest item ahead of a mark, at which a clock may show this civil second. The stretch is
+/// one that is known.
 pub(crate) fn first_item(
     fields: &ScheduleFields,
     zone: &TimeZone<'_>,

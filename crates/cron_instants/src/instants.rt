@@ -22,8 +22,8 @@ pub fn first_after(fields: &ScheduleFields, now: Timestamp, zone: &TimeZone<'_>)
     first_item(fields, zone, Mark::behind(now), shown, &stretch)
 }
 
-/// The earliest fire that is later than this one. `None` where there is none. The one that is handed in
-/// may be no fire of the timeline.
+/// The earliest fire that is later than this one. `None` where there is none. The one that is
+/// handed in may be no fire of the timeline.
 pub fn first_past(fields: &ScheduleFields, fire: &Moment, zone: &TimeZone<'_>) -> Option<Moment>
     ensures { IsFirstPast fields.now (plain_zone zone.now) fire.now result }
 {

@@ -1,4 +1,5 @@
-//! Laws over the definitions: the functions do nothing, and a caller calls one for what its contract says.
+//! Laws over the definitions: the functions do nothing, and a caller calls one for what its
+//! contract says.
 
 ghost use Rattle.cron_instants.specs.ClockLaws.{InstantsAreApart, ItemsAreTheMatches};
 

@@ -1,5 +1,5 @@
-//! The items of a timeline by their instants: the earliest after an instant, or later than an item, the
-//! latest by an instant, and runs over them.
+//! The items of a timeline by their instants: the earliest after an instant, or later than an item,
+//! the latest by an instant, and runs over them.
 #![tactic(auto)]
 
 mod first;

@@ -1,5 +1,5 @@
-//! What is known after an item about which the clock and the instants have one order: the next match is
-//! the next item.
+//! What is known after an item about which the clock and the instants have one order: the next
+//! match is the next item.
 ghost use Rattle.std.specs.Prelude.{◌≡◌, ℕ, ◌≤◌, ◌<◌, ℤ, pos, ◌+ℤ◌, ◌≤ℤ◌, ◌<ℤ◌, IfSome};
 ghost use Rattle.jiff.specs.Words.{plain_zone};
 ghost use Rattle.jiff_core.specs.Calendar.{IsBetween};
@@ -23,9 +23,9 @@ use cron_units::fields::ScheduleFields;
 use cron_units::way::Way;
 use jiff::tz::{Offset, TimeZone};
 
-/// What is known of a civil second that is read once, at this offset, with those before it read earlier: each
-/// one from it on up to the end is read once at this offset too, with those before it read earlier and those
-/// behind it later. The end may lie before the civil second itself.
+/// What is known of a civil second that is read once, at this offset, with those before it read
+/// earlier: each one from it on up to the end is read once at this offset too, with those before it
+/// read earlier and those behind it later. The end may lie before the civil second itself.
 #[derive(Clone, Copy)]
 pub(crate) struct Monotone {
     pub offset: Offset,
@@ -48,8 +48,8 @@ fn monotone_up_to(offset: Offset, end: i64, width: i64) -> Monotone
     }
 }
 
-// Up to where the civil seconds of a stretch from this one on are in order, if those before it are read
-// earlier.
+// Up to where the civil seconds of a stretch from this one on are in order, if those before it are
+// read earlier.
 fn monotone_in(stretch: &Stretch, second: u32, offset_range: OffsetRange) -> Option<Monotone>
     requires low { stretch.now.first ≤ second }
     requires high { second < stretch.now.end }
@@ -73,8 +73,8 @@ fn monotone_in(stretch: &Stretch, second: u32, offset_range: OffsetRange) -> Opt
     Some(monotone_up_to(offset, end, width))
 }
 
-/// What is known of a civil second about which the clock and the instants have one order: if possible
-/// that it is in order itself, and not only those before it.
+/// What is known of a civil second about which the clock and the instants have one order: if
+/// possible that it is in order itself, and not only those before it.
 pub(crate) fn monotone_around(
     zone: &TimeZone<'_>,
     stretch: &Stretch,
@@ -142,8 +142,8 @@ fn search_next(
     (Some(item), monotone)
 }
 
-/// The nearest item ahead of the place of one, by what is known after that and by the days of the month
-/// that were looked up last, and what is known after the answer.
+/// The nearest item ahead of the place of one, by what is known after that and by the days of the
+/// month that were looked up last, and what is known after the answer.
 #[inline(always)]
 pub(crate) fn next_item(
     fields: &ScheduleFields,

@@ -128,7 +128,8 @@ fn item_in(fields: &ScheduleFields, stretch: &Stretch, way: Way, mark: Mark) -> 
     nearer(way, &best, item_at(fields, stretch, way, mark, later))
 }
 
-// From which civil second behind a stretch to go on, if a better item than the best so far can lie there.
+// From which civil second behind a stretch to go on, if a better item than the best so far can lie
+// there.
 fn next_past(
     fields: &ScheduleFields,
     stretch: &Stretch,
@@ -163,8 +164,8 @@ fn next_past(
     nearest_match(fields, way, edge as i64)
 }
 
-// A stretch with this civil second is passed: the best so far becomes better by its nearest item, and
-// the answer is from where to go on.
+// A stretch with this civil second is passed: the best so far becomes better by its nearest item,
+// and the answer is from where to go on.
 fn pass(
     fields: &ScheduleFields,
     zone: &TimeZone<'_>,

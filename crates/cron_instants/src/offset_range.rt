@@ -10,8 +10,8 @@ use jiff::tz::TimeZone;
 use jiff_tz::posix;
 use jiff_tz::tzif::Transition;
 
-/// From the edge on the readings of a zone are at offsets from the least to the greatest, in seconds.
-/// Before it they come in the order of a table's transitions.
+/// From the edge on the readings of a zone are at offsets from the least to the greatest, in
+/// seconds. Before it they come in the order of a table's transitions.
 #[derive(Clone, Copy)]
 pub(crate) struct OffsetRange {
     pub edge: i64,
@@ -81,9 +81,9 @@ fn offsets_with(rule: posix::TimeZone, last: i32, edge: i64) -> OffsetRange
     }
 }
 
-// Past the last transition of a table the offsets are that transition's and those of the table's rule.
-// Without a rule the edge is the end of the range, so nothing lies past it; without a transition it is
-// the beginning.
+// Past the last transition of a table the offsets are that transition's and those of the table's
+// rule. Without a rule the edge is the end of the range, so nothing lies past it; without a
+// transition it is the beginning.
 fn offset_range_in(table: &jiff_tz::Tzif) -> OffsetRange
     ensures { IsOffsetRange (Tzif table.entry) result }
 {

@@ -1,5 +1,5 @@
-//! First and last fires, runs and missed fires: in folds, over transitions of zones from files, at new years and
-//! at the ends of the range.
+//! First and last fires, runs and missed fires: in folds, over transitions of zones from files, at
+//! new years and at the ends of the range.
 
 mod transitions;
 mod zone_files;
@@ -96,7 +96,8 @@ fn a_stretch_has_its_last_instant(rt: HostRuntime) {
     assert_eq!(rt; Fires::between(&schedule, now, last, &zone).next(), None);
 }
 
-// From 2001-04-10T00:30Z to 01:00Z two seconds share each instant: 23:30 at -01:00 and 00:30 at +00:00.
+// From 2001-04-10T00:30Z to 01:00Z two seconds share each instant: 23:30 at -01:00 and 00:30 at
+// +00:00.
 #[test]
 fn both_of_two_at_one_instant_fire(rt: HostRuntime) {
     let zone = TimeZone::posix("AAA0BBB1,J100/1:30,J100/0").expect(&rt, "a zone");

@@ -1,5 +1,5 @@
-//! Each second around the transitions of rules, and those around the ends of stretches, as `cron_clocks`
-//! tells them and as `jiff` does.
+//! Each second around the transitions of rules, and those around the ends of stretches, as
+//! `cron_clocks` tells them and as `jiff` does.
 
 use cron_clocks::clock::shown_at;
 use cron_clocks::stretch::Stretch;
@@ -46,8 +46,8 @@ const HOSTILE: [&str; 14] = [
     "AAA0BBB-1,J60/0,J365/167",
 ];
 
-// Starts of stretches with a transition of each rule: 1970, the December before 2000, that before 2024,
-// and 2098.
+// Starts of stretches with a transition of each rule: 1970, the December before 2000, that before
+// 2024, and 2098.
 const STARTS: [i64; 4] = [0, 945_000_000, 1_701_388_800, 4_039_372_800];
 
 // The new years of 1971, 2000, 2024 and 2100.
@@ -80,7 +80,8 @@ fn check_civil_seconds(rt: &impl Abort, zone: &TimeZone<'_>, civil: i64, around:
     }
 }
 
-// The seconds around an instant, and around the civil seconds that the clock shows before it and at it.
+// The seconds around an instant, and around the civil seconds that the clock shows before it and at
+// it.
 fn check_around(rt: &impl Abort, zone: &TimeZone<'_>, instant: i64) {
     let before = Timestamp::from_second(instant.saturating_sub(1)).expect(rt, "an instant");
     let at = Timestamp::from_second(instant).expect(rt, "an instant");
@@ -102,8 +103,8 @@ fn check_transitions(rt: &impl Abort, zone: &TimeZone<'_>, start: i64) {
     assert_eq!(rt; transitions, 3);
 }
 
-// The seconds around the ends of stretches, one after another from a civil second on. Where a stretch ends
-// with no transition, the next second is looked up in another way.
+// The seconds around the ends of stretches, one after another from a civil second on. Where a
+// stretch ends with no transition, the next second is looked up in another way.
 fn check_stretches(rt: &impl Abort, zone: &TimeZone<'_>, start: i64) {
     let mut second = u32::try_from(start).unwrap_or(0);
     for _ in 0..24 {

@@ -1,5 +1,5 @@
-//! What the program answers to the arguments of a command line: what they ask for, or the usage line.
-//! Which line that is, and when it is written, is decided here.
+//! What the program answers to the arguments of a command line: what they ask for, or the usage
+//! line. Which line that is, and when it is written, is decided here.
 
 ghost use Rattle.std.specs.Prelude.{◌≡◌, false, map, string_bytes};
 ghost use Rattle.cron_listing.specs.Answers.{IsAnswered, IsUsage, Lists, code_of, is_failed, status_of, usage_line};
@@ -19,8 +19,8 @@ const USAGE: &str = "usage: cron_next EXPRESSION START ZONE COUNT [back]\n";
 pub enum Status {
     /// The items were listed, also where there are none.
     Listed,
-    /// The expression was refused, or memory ran out for it or for the arguments, and the line that says so was
-    /// written.
+    /// The expression was refused, or memory ran out for it or for the arguments, and the line that
+    /// says so was written.
     Refused,
     /// The arguments can't be read, and the usage line was written.
     BadArguments,
@@ -86,8 +86,8 @@ pub fn usage<W: Watchable>(out: &mut Watched<W>) -> Status
     }
 }
 
-/// Answers the arguments after the program's name: the list that they ask for, or the line that says why
-/// there is none. No call of the writer may have failed before.
+/// Answers the arguments after the program's name: the list that they ask for, or the line that
+/// says why there is none. No call of the writer may have failed before.
 pub fn answer<W: Watchable>(alloc: Global, arguments: &[String], out: &mut Watched<W>) -> Status
     requires { has_failed out.old ≡ false }
     ensures answered { IsAnswered (map string_bytes arguments.now) (W.contents (writer_of out.old)) (W.contents (writer_of out.new)) result }

@@ -23,8 +23,8 @@ pub struct Request<'a> {
     pub back: bool,
 }
 
-/// The number that the text writes in digits alone (`parse` would take a plus before them). `None` where there is
-/// another character or no digit, or where 32 bits do not hold the number.
+/// The number that the text writes in digits alone (`parse` would take a plus before them). `None`
+/// where there is another character or no digit, or where 32 bits do not hold the number.
 pub fn count_of(argument: &str) -> Option<u32>
     ensures { SomeIff result (IsCount argument.now) (digits_value 10 argument.now) }
 {

@@ -1,6 +1,6 @@
-//! The line of an item, from which that of another is made: within a minute two digits change, within a
-//! day six. The type's invariant says that the bytes are the item's line, so no clause of what is written
-//! speaks of it.
+//! The line of an item, from which that of another is made: within a minute two digits change,
+//! within a day six. The type's invariant says that the bytes are the item's line, so no clause of
+//! what is written speaks of it.
 
 ghost use Rattle.std.specs.Prelude.{◌≡◌, ◌≤◌, ◌<◌, ◌++◌, ◌+◌, ℕ, List, Option, take};
 ghost use Rattle.cron_moments.specs.MomentText.{item_line};

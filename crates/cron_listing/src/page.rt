@@ -25,9 +25,9 @@ fn item_or(given: Moment, listed: Option<Moment>) -> Moment
     }
 }
 
-/// Writes a line for each of the first `size` items after `last`, or before it where `back` says so,
-/// fewer where the timeline ends, and flushes. It takes no memory and keeps no walk. Lines are handed
-/// to the writer as `run` hands them. No call of the writer may have failed before.
+/// Writes a line for each of the first `size` items after `last`, or before it where `back` says
+/// so, fewer where the timeline ends, and flushes. It takes no memory and keeps no walk. Lines are
+/// handed to the writer as `run` hands them. No call of the writer may have failed before.
 pub fn page<W: Watchable>(
     schedule: &Schedule,
     last: &Moment,

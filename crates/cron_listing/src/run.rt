@@ -1,5 +1,5 @@
-//! The items of an expression, or the line that says why it is refused, written to a watched writer.
-//! That such a line begins with `error: ` is decided here.
+//! The items of an expression, or the line that says why it is refused, written to a watched
+//! writer. That such a line begins with `error: ` is decided here.
 
 ghost use Rattle.std.specs.Prelude.{◌≡◌, ℕ, List, [], Option, false};
 ghost use Rattle.jiff.specs.Words.{plain_zone};
@@ -26,7 +26,8 @@ use std::alloc::Global;
 pub enum Outcome {
     /// The items were written, fewer than were asked for where the walk ended.
     Listed,
-    /// The expression was refused, or memory ran out for it, and the one line that says so was written.
+    /// The expression was refused, or memory ran out for it, and the one line that says so was
+    /// written.
     Refused,
     /// A write or the flush failed, and nothing more was written.
     WriteFailed,
@@ -35,8 +36,8 @@ pub enum Outcome {
 /// How a page ended.
 #[derive(Clone, Copy, Debug, PartialEq, Eq)]
 pub enum Page {
-    /// The items were written. This is the last of them, or the given item where there was none: hand
-    /// it in for the following page.
+    /// The items were written. This is the last of them, or the given item where there was none:
+    /// hand it in for the following page.
     Listed(Moment),
     /// The given moment is no item of the schedule in this zone. Nothing was written or flushed.
     NotAnItem,
@@ -143,8 +144,8 @@ pub(crate) fn finish<W: Watchable>(out: &mut Watched<W>, done: Outcome) -> Outco
     done
 }
 
-/// Writes the one line that says why nothing is listed, and flushes. No call of the writer may have failed
-/// before.
+/// Writes the one line that says why nothing is listed, and flushes. No call of the writer may have
+/// failed before.
 pub fn refuse<W: Watchable>(out: &mut Watched<W>, line: &str) -> Outcome
     requires { has_failed out.old ≡ false }
     ensures ends { Ends Refused line.now (W.contents (writer_of out.old)) (W.contents (writer_of out.new)) result }
@@ -162,9 +163,9 @@ pub fn refuse<W: Watchable>(out: &mut Watched<W>, line: &str) -> Outcome
 /// itself or an instant before it, and with `back` the other way round.
 ///
 /// Whole lines are handed to the writer together, up to 4,096 bytes a call, and the last of them
-/// before the flush. So who reads sees a short list at once, and a long one in blocks. The line of a
-/// refused expression comes in three pieces. Once a call fails the writer is not called again: it holds
-/// what it took before. None may have failed before this call.
+/// before the flush. So who reads sees a short list at once, and a long one in blocks. The line of
+/// a refused expression comes in three pieces. Once a call fails the writer is not called again: it
+/// holds what it took before. None may have failed before this call.
 pub fn run<W: Watchable>(
     alloc: Global,
     expression: &str,

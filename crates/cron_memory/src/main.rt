@@ -1,5 +1,6 @@
 //! The program makes calls that take no memory, one after another, with a line after each:
-//! `tools/count_growths` counts the growths between the lines. The tests make calls that take memory.
+//! `tools/count_growths` counts the growths between the lines. The tests make calls that take
+//! memory.
 #![tactic(auto)]
 
 mod fires;

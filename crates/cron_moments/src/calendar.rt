@@ -1,7 +1,7 @@
 //! Days of the range and their numbers, in closed form.
 //!
-//! Years and their months are counted from March, so that a leap day ends its year. Of the years of the
-//! range that 4 divides, 2100 alone has no leap day.
+//! Years and their months are counted from March, so that a leap day ends its year. Of the years of
+//! the range that 4 divides, 2100 alone has no leap day.
 ghost use Rattle.std.specs.Prelude.{◌≡◌, cond, nat_lt, ◌+◌, ◌*◌, ◌/◌, ◌<◌, ◌≤◌};
 ghost use Rattle.cron_moments.specs.Civil.{days_in_range};
 ghost use Rattle.cron_moments.specs.CivilDates.{date_numbered};
@@ -25,8 +25,8 @@ const MARCH_2100: u32 = 25_202;
 /// The days from 1970-01-01 to 2100-03-01.
 const DAYS_TO_MARCH_2100: u32 = 47_541;
 
-// The days of so many years from March 1969 on. The third of them ends in a leap day, and each fourth
-// after it.
+// The days of so many years from March 1969 on. The third of them ends in a leap day, and each
+// fourth after it.
 #[inline(always)]
 fn days_of_years(years: u32) -> u32
     requires { years < 1000 }

@@ -1,4 +1,5 @@
-//! Single civil seconds and dates: their numbers, their readings in a zone, and moments with their texts.
+//! Single civil seconds and dates: their numbers, their readings in a zone, and moments with their
+//! texts.
 #![tactic(auto)]
 
 pub mod calendar;

@@ -10,8 +10,8 @@ use jiff::civil::DateTime;
 use jiff::tz::Offset;
 
 impl Moment {
-    /// The civil second that a clock at this offset shows, as `2022-11-06 01:00:00` at `-05:00`. It is
-    /// `None` where the datetime has a part of a second, or lies outside 1970 to 2100.
+    /// The civil second that a clock at this offset shows, as `2022-11-06 01:00:00` at `-05:00`. It
+    /// is `None` where the datetime has a part of a second, or lies outside 1970 to 2100.
     pub fn from_parts(date_time: DateTime, offset: Offset) -> Option<Moment>
         ensures parts { IfSome result (HasParts date_time offset) }
         ensures only { (m : Reading) → HasParts date_time offset m → result ≡ Some m }

@@ -8,8 +8,8 @@ use crate::civil::civil_of;
 use crate::moment::{Moment, moment_numbered};
 use jiff::tz::{AmbiguousOffset, Offset, TimeZone};
 
-/// The readings of a civil second that has some: the earlier one first, and the later one where there
-/// are two.
+/// The readings of a civil second that has some: the earlier one first, and the later one where
+/// there are two.
 #[derive(Clone, Copy, Debug, PartialEq, Eq)]
 pub struct Found {
     /// The only reading, or the earlier one.

@@ -60,8 +60,8 @@ fn add_set<T: TimeUnitSpec>(
     })
 }
 
-/// Writes the set of the days of the month, with an `L` behind the numbered ones where the last day is
-/// marked.
+/// Writes the set of the days of the month, with an `L` behind the numbered ones where the last day
+/// is marked.
 fn add_days(alloc: Global, text: &mut String, days: &DaysOfMonth) -> Result<(), AllocError> {
     add_set(alloc, text, days, "1-31")?;
     if !days.last_day() {

@@ -1,8 +1,9 @@
-//! The fires of a year. A row has five parts: the expression, the zone, two instants, and of the fires
-//! after the first and not after the second their number and the sum that is made of all of them in order.
+//! The fires of a year. A row has five parts: the expression, the zone, two instants, and of the
+//! fires after the first and not after the second their number and the sum that is made of all of
+//! them in order.
 //!
-//! The numbers were made from the zone database of an ordinary system (2025b), of which it was asked for
-//! each second what the clock shows.
+//! The numbers were made from the zone database of an ordinary system (2025b), of which it was
+//! asked for each second what the clock shows.
 
 use crate::report::{Report, Row, cut};
 use crate::settings::{Setting, case_of, setting_of, start_at};

@@ -1,10 +1,10 @@
-//! Due fires: those after an instant, each past the one before it, the last one by an instant, and those
-//! between two instants. A zone `file NAME` is that of a zone's file.
+//! Due fires: those after an instant, each past the one before it, the last one by an instant, and
+//! those between two instants. A zone `file NAME` is that of a zone's file.
 //!
-//! The answers were counted apart: of each second of a span it was asked what the clock shows, and a
-//! civil second is due at the first that shows it or a later one. Those of `dues_between.txt` are of the
-//! zone database of an ordinary system (2025b). Its last six rows are of New York in 2024, where those of fixed
-//! times are also what Debian's cron, cronie and bcron do.
+//! The answers were counted apart: of each second of a span it was asked what the clock shows, and
+//! a civil second is due at the first that shows it or a later one. Those of `dues_between.txt` are
+//! of the zone database of an ordinary system (2025b). Its last six rows are of New York in 2024,
+//! where those of fixed times are also what Debian's cron, cronie and bcron do.
 
 use crate::report::{Report, Row, cut};
 use crate::settings::{Case, case_of, start_at, zone_named};

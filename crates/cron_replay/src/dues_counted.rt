@@ -1,5 +1,6 @@
-//! The due fires of days. A row has five parts: the expression, the zone, two instants, and of the due fires
-//! after the first and not after the second their number and the sum that is made of all of them in order.
+//! The due fires of days. A row has five parts: the expression, the zone, two instants, and of the
+//! due fires after the first and not after the second their number and the sum that is made of all
+//! of them in order.
 //!
 //! The numbers were made as the answers of `dues_between.txt`.
 

@@ -33,7 +33,8 @@ pub(crate) enum Kind {
     DuesCounted,
     /// A text, and the due fire that it is.
     DueTexts,
-    /// What is asked of several schedules as one: fires or due fires, expressions, zone, instants, answers.
+    /// What is asked of several schedules as one: fires or due fires, expressions, zone, instants,
+    /// answers.
     Unions,
 }
 

@@ -1,5 +1,5 @@
-//! Very long texts. A row has a count; the text as a front, a piece that stands so many times, and an end;
-//! and its answer, in which braces stand for all the pieces.
+//! Very long texts. A row has a count; the text as a front, a piece that stands so many times, and
+//! an end; and its answer, in which braces stand for all the pieces.
 
 use crate::characters::text_meant;
 use crate::readers::READERS;

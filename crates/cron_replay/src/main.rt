@@ -1,7 +1,8 @@
-//! Replays the rows of `data/`: texts and what they mean, walks and what they answer, fires and due fires by
-//! instants, also those of several schedules as one. It prints each answer that isn't the one of its row, for
-//! each file how many rows it has, and how many texts one change away from an accepted one were tried. Where an
-//! answer differs, a file is missing or a row can't be taken apart, it ends with a status other than 0.
+//! Replays the rows of `data/`: texts and what they mean, walks and what they answer, fires and due
+//! fires by instants, also those of several schedules as one. It prints each answer that isn't the
+//! one of its row, for each file how many rows it has, and how many texts one change away from an
+//! accepted one were tried. Where an answer differs, a file is missing or a row can't be taken
+//! apart, it ends with a status other than 0.
 #![tactic(auto)]
 
 mod answers;

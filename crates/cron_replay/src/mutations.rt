@@ -1,5 +1,6 @@
-//! Every text that is one change away from an accepted one. Nothing says from outside what each of them
-//! means; but the readers agree on it, and the source of what is accepted is read as the same sets again.
+//! Every text that is one change away from an accepted one. Nothing says from outside what each of
+//! them means; but the readers agree on it, and the source of what is accepted is read as the same
+//! sets again.
 
 use crate::characters::text_meant;
 use crate::report::{Report, Row, cut};
@@ -53,7 +54,8 @@ fn push_exchanged(
     Ok(())
 }
 
-/// Adds the texts in which the character is dropped, doubled, exchanged with the next one, and replaced.
+/// Adds the texts in which the character is dropped, doubled, exchanged with the next one, and
+/// replaced.
 fn push_changed(
     texts: &mut Vec<String>,
     alloc: Global,

@@ -5,7 +5,8 @@ use cron::error::Error;
 use std::alloc::Global;
 use std::borrow::CowStr;
 
-/// A reader. `try_from_cow` counts twice: it takes texts that are borrowed and texts that are owned.
+/// A reader. `try_from_cow` counts twice: it takes texts that are borrowed and texts that are
+/// owned.
 #[derive(Clone, Copy)]
 pub(crate) enum Reader {
     FromStr,

@@ -47,7 +47,8 @@ impl<'r> Report<'r> {
         self.differences
     }
 
-    /// Compares what was asked in one form or another, which has a name, and its answer with what a row has.
+    /// Compares what was asked in one form or another, which has a name, and its answer with what a
+    /// row has.
     pub(crate) fn compare(
         &mut self,
         row: Row<'_>,

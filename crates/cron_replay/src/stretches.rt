@@ -1,9 +1,10 @@
-//! The fires between two instants. A row has five parts: the expression, the zone, the two instants and
-//! the fires after the first and not after the second, or `none`.
+//! The fires between two instants. A row has five parts: the expression, the zone, the two instants
+//! and the fires after the first and not after the second, or `none`.
 //!
-//! The answers of `fires_between.txt` are those of the zone database of an ordinary system (2025b): of each
-//! second about the turns of 2025 and 2026 it was asked what the clock shows. Those of
-//! `fires_counted_by_hand.txt` were counted by hand, from the offsets of the rule and the ends of the range.
+//! The answers of `fires_between.txt` are those of the zone database of an ordinary system (2025b):
+//! of each second about the turns of 2025 and 2026 it was asked what the clock shows. Those of
+//! `fires_counted_by_hand.txt` were counted by hand, from the offsets of the rule and the ends of
+//! the range.
 
 use crate::report::{Report, Row, cut};
 use crate::settings::{Setting, case_of, setting_of, start_at};
@@ -38,7 +39,8 @@ fn listed(alloc: Global, setting: &Setting, now: Timestamp) -> Result<Vec<Moment
     Ok(missed(alloc, &setting.schedule, setting.start, now, &setting.zone)?)
 }
 
-/// The fires, asked for one after another: the first after an instant, and then the first past each.
+/// The fires, asked for one after another: the first after an instant, and then the first past
+/// each.
 fn asked_in_turn(alloc: Global, setting: &Setting, now: Timestamp) -> Result<Vec<Moment>> {
     let mut fires = Vec::new(alloc);
     let mut next = first_fire_after(&setting.schedule, setting.start, &setting.zone);
@@ -55,8 +57,8 @@ fn asked_in_turn(alloc: Global, setting: &Setting, now: Timestamp) -> Result<Vec
     Ok(fires)
 }
 
-/// The same by another way: of the items of a walk from three days before to three days after those that
-/// lie between, sorted by their instants. No clock is further from UTC than 26 hours.
+/// The same by another way: of the items of a walk from three days before to three days after those
+/// that lie between, sorted by their instants. No clock is further from UTC than 26 hours.
 fn sorted_walk(alloc: Global, setting: &Setting, now: Timestamp) -> Result<Vec<Moment>> {
     let reach = SignedDuration::from_hours(72);
     let begin = setting.start.saturating_sub(reach)?;

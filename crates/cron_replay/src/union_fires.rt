@@ -44,8 +44,8 @@ fn calls_after(alloc: Global, union: Union<'_>, start: Timestamp, count: usize) 
     Ok(text)
 }
 
-/// So many fires after an instant by calls one after another, or else, where these are what is wanted, those
-/// of a run.
+/// So many fires after an instant by calls one after another, or else, where these are what is
+/// wanted, those of a run.
 pub(crate) fn after(
     alloc: Global,
     union: Union<'_>,

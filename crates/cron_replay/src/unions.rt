@@ -1,5 +1,5 @@
-//! Several schedules as one: what is asked, the expressions, a zone, an instant or two, and the answers. Those
-//! were counted apart, second by second, as those of due fires.
+//! Several schedules as one: what is asked, the expressions, a zone, an instant or two, and the
+//! answers. Those were counted apart, second by second, as those of due fires.
 
 use crate::report::{Report, Row, cut};
 use crate::settings::{Case, case_of, zone_named};

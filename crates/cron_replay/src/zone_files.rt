@@ -1,5 +1,5 @@
-//! Zones of files. A line of `zones.txt` has the name of a zone and the bytes of its file, in hexadecimal
-//! digits.
+//! Zones of files. A line of `zones.txt` has the name of a zone and the bytes of its file, in
+//! hexadecimal digits.
 
 use anyhow::{Context, Result};
 use std::alloc::Global;

@@ -1,4 +1,5 @@
-//! What the arguments of a command line are answered: the fires that they ask for, or the usage line.
+//! What the arguments of a command line are answered: the fires that they ask for, or the usage
+//! line.
 
 ghost use Rattle.std.specs.Prelude.{◌≡◌, map, string_bytes};
 ghost use Rattle.cron_ringing.specs.Answering.{IsAnswered, code_of};
@@ -33,7 +34,8 @@ impl Status {
     }
 }
 
-/// Answers the arguments after the program's name: rings at what they ask for, or writes the usage line.
+/// Answers the arguments after the program's name: rings at what they ask for, or writes the usage
+/// line.
 pub fn answer<C: AlarmClock, W: Watchable>(
     alloc: Global,
     arguments: &[String],

@@ -49,8 +49,8 @@ fn read<'a>(
     })
 }
 
-/// Reads three arguments, or four that end in `--once`; `None` where one of them can't be read. The expression
-/// is left as it is.
+/// Reads three arguments, or four that end in `--once`; `None` where one of them can't be read. The
+/// expression is left as it is.
 pub fn request_of(arguments: &[String]) -> Option<Request<'_>>
     ensures succeeds { IsSome result ↔ IsReadable (map string_bytes arguments.now) }
     ensures value { IfSome result (Asks (map string_bytes arguments.now)) }

@@ -1,5 +1,5 @@
-//! A line at each fire of an expression, by any clock and to any writer, and what the arguments of a command line
-//! ask for.
+//! A line at each fire of an expression, by any clock and to any writer, and what the arguments of
+//! a command line ask for.
 #![tactic(auto)]
 
 pub mod answer;

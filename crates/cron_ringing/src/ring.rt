@@ -90,8 +90,9 @@ fn print_asked<C: AlarmClock, W: Watchable>(
     }
 }
 
-/// Prints a line at each fire that is asked for, when the clock has come to it. The fires begin after the time that the
-/// clock shows first. Where the expression is refused the clock isn't asked, and nothing is written.
+/// Prints a line at each fire that is asked for, when the clock has come to it. The fires begin
+/// after the time that the clock shows first. Where the expression is refused the clock isn't
+/// asked, and nothing is written.
 pub fn ring<C: AlarmClock, W: Watchable>(
     alloc: Global,
     request: &Request<'_>,

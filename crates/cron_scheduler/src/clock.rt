@@ -5,8 +5,8 @@ ghost use Rattle.jiff_core.specs.declared.Timestamp.{Timestamp};
 
 use jiff::Timestamp;
 
-/// A clock that shows the time, and waits until an instant. It may go back, jump ahead, or wake early
-/// or late: nothing is asked of what it shows.
+/// A clock that shows the time, and waits until an instant. It may go back, jump ahead, or wake
+/// early or late: nothing is asked of what it shows.
 pub trait AlarmClock {
     /// Why the clock can't be read, or can't wait.
     type Error;

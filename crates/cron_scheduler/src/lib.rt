@@ -1,5 +1,5 @@
-//! Runs a job at each fire of a schedule, over any clock that can wait: each fire once, in order, none
-//! before its instant, and none lost, however the clock goes.
+//! Runs a job at each fire of a schedule, over any clock that can wait: each fire once, in order,
+//! none before its instant, and none lost, however the clock goes.
 //!
 //! ```text
 //! let mut clock = MachineClock(&rt);
@@ -12,8 +12,8 @@
 //! plan.run(&mut clock, &mut |fire: Moment| println!(rt; "{fire}"))?;
 //! ```
 //!
-//! A job that takes a `DueFire` in place of a `Moment` is run once for each match, also where the clock
-//! changes.
+//! A job that takes a `DueFire` in place of a `Moment` is run once for each match, also where the
+//! clock changes.
 #![tactic(auto)]
 
 mod clock;

@@ -9,8 +9,8 @@ use std::rt::Clock;
 use std::thread;
 use std::time::Duration;
 
-/// The clock of the machine that the program runs on. It wakes once a minute at least and is read again,
-/// so a clock that is set while it waits is followed.
+/// The clock of the machine that the program runs on. It wakes once a minute at least and is read
+/// again, so a clock that is set while it waits is followed.
 #[derive_where(Clone, Copy)]
 pub struct MachineClock<'a, R>(pub &'a R);
 

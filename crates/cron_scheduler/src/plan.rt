@@ -20,9 +20,9 @@ pub enum Start<F> {
     Past(F),
 }
 
-/// Which fires are to be run: those of a schedule in a zone from a start on, all of them or the first
-/// so many. What the job takes is the rule by which they come: a `Moment` for each time that the clock shows
-/// a match, or a `DueFire` for each match.
+/// Which fires are to be run: those of a schedule in a zone from a start on, all of them or the
+/// first so many. What the job takes is the rule by which they come: a `Moment` for each time that
+/// the clock shows a match, or a `DueFire` for each match.
 #[derive(Clone, Copy)]
 pub struct Plan<'a, F> {
     /// When to fire.

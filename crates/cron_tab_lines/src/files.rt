@@ -21,8 +21,8 @@ pub struct FileLine<'a> {
     pub read: Result<Line<'a>, Refusal<'a>>,
 }
 
-/// The lines of a file, one after another, the refused ones too. It takes no memory. Contracts see the
-/// list of the lines that are left.
+/// The lines of a file, one after another, the refused ones too. It takes no memory. Contracts see
+/// the list of the lines that are left.
 #[derive(Drop)]
 pub struct Lines<'a> {
     kind: Crontab,

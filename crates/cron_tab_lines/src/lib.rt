@@ -1,5 +1,5 @@
-//! Crontabs: what a line is (blank, a comment, a setting, an entry), why another is refused, and the
-//! lines of a file.
+//! Crontabs: what a line is (blank, a comment, a setting, an entry), why another is refused, and
+//! the lines of a file.
 #![tactic(auto)]
 
 mod bytes;

@@ -1,4 +1,5 @@
-//! Percent signs: where a command ends, where its input begins, and what both are without backslashes.
+//! Percent signs: where a command ends, where its input begins, and what both are without
+//! backslashes.
 
 ghost use Rattle.std.specs.Prelude.{◌≡◌, ◌==◌, ◌∷◌, [], false, MatchOption};
 ghost use Rattle.cron_tab_lines.specs.Bytes.{first};
@@ -50,8 +51,8 @@ impl<'a> Model for Unescaped<'a> {
 }
 
 impl<'a> Unescaped<'a> {
-    /// What the shell gets of an entry's command, or a command of its input. Crons end an input by a
-    /// line feed; it isn't among these bytes.
+    /// What the shell gets of an entry's command, or a command of its input. Crons end an input by
+    /// a line feed; it isn't among these bytes.
     pub fn of(text: &'a [u8]) -> Unescaped<'a>
         ensures { result ≡ unescaped text.now }
     {

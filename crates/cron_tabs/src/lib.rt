@@ -1,4 +1,5 @@
-//! When crontabs run: the law that the schedules of an expression match just when its fields say so.
+//! When crontabs run: the law that the schedules of an expression match just when its fields say
+//! so.
 #![tactic(auto)]
 
 pub mod laws;

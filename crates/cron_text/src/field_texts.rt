@@ -89,8 +89,8 @@ fn growth_by<'a, T: TimeUnitField>(
     }
 }
 
-/// The next connector and token, where the field goes on with them: what they make of the item, whether
-/// the token is a wildcard as the last one was, and the place after it. Of a wildcard and a
+/// The next connector and token, where the field goes on with them: what they make of the item,
+/// whether the token is a wildcard as the last one was, and the place after it. Of a wildcard and a
 /// connector side by side, the second has no white space before it.
 #[inline(always)]
 fn more_at<'a, T: TimeUnitField>(
@@ -120,8 +120,8 @@ fn more_at<'a, T: TimeUnitField>(
     Some((growth, wildcard, after))
 }
 
-/// That a field isn't read. Its fault is written where the caller has room for it: as a result it would be
-/// moved through memory after each field, read ones too.
+/// That a field isn't read. Its fault is written where the caller has room for it: as a result it
+/// would be moved through memory after each field, read ones too.
 #[derive(Clone, Copy)]
 pub struct Unread;
 
@@ -147,8 +147,8 @@ fn add_to<'a, T: TimeUnitField>(
     }
 }
 
-/// Reads a field that is one star into a set, and finds the place after it. Most fields are such a star,
-/// and no token is made for it.
+/// Reads a field that is one star into a set, and finds the place after it. Most fields are such a
+/// star, and no token is made for it.
 #[inline(always)]
 fn read_star<T: TimeUnitField>(text: &str, place: Place, set: &mut T) -> Option<Place>
     requires { IsPlace text.now place }

@@ -1,6 +1,6 @@
-//! Fields as most are written: numbers and names, ranges and steps with commas between them, and white
-//! space behind them alone. They are added to a set as they are read. Any other field, and one that is
-//! refused, is left to the reader of tokens.
+//! Fields as most are written: numbers and names, ranges and steps with commas between them, and
+//! white space behind them alone. They are added to a set as they are read. Any other field, and
+//! one that is refused, is left to the reader of tokens.
 
 ghost use Rattle.std.specs.Prelude.{◌≡◌, ◌<◌, ℕ, IfSome, IsTrue, length, slice_index};
 ghost use Rattle.cron_units.specs.Units.{TimeUnit, with_mark};

@@ -1,7 +1,7 @@
 //! What the grammar sees in a token. That a number past 32 bits is foreign is decided here.
 //!
-//! A token is read once, with its symbol. The two parts of a place are written one by one: a copy of the
-//! whole moves its padding too, in pieces that overlap.
+//! A token is read once, with its symbol. The two parts of a place are written one by one: a copy
+//! of the whole moves its padding too, in pieces that overlap.
 
 ghost use Rattle.std.specs.Prelude.{◌≡◌, ◌<◌, ◌+◌, ◌*◌, [], ℕ, length, slice_index, MatchOption, IfSome, true, false};
 ghost use Rattle.std.specs.Char.{digit_value};
@@ -64,7 +64,8 @@ fn number(value: u64) -> Symbol<'static>
     }
 }
 
-/// The value of the digits that begin at an index, and where they end. Each digit is looked at once.
+/// The value of the digits that begin at an index, and where they end. Each digit is looked at
+/// once.
 #[inline(always)]
 pub fn digits_at(text: &[u8], at: usize) -> (u64, usize)
     requires within { at < length text.now }
@@ -144,7 +145,8 @@ pub fn token_at(text: &str, place: Place) -> Option<(Token<'_>, Place)>
     Some((Token { spaced, symbol }, skip_space(text.as_bytes(), end)))
 }
 
-/// The place behind a star that no connector goes on with: white space stands behind it, or nothing.
+/// The place behind a star that no connector goes on with: white space stands behind it, or
+/// nothing.
 #[inline(always)]
 pub fn lone_star_at(text: &[u8], place: Place) -> Option<Place>
     requires { IsPlace text.now place }

@@ -30,8 +30,8 @@ fn shorthand_at(text: &[u8], at: usize) -> Option<ScheduleFields>
     shorthand_named(trimmed_end(&text[at..]))
 }
 
-/// Reads the years after the six fields, all of them where nothing is left. A refused field of years
-/// has no message of its own.
+/// Reads the years after the six fields, all of them where nothing is left. A refused field of
+/// years has no message of its own.
 fn read_years<'a>(
     text: &'a str,
     start: Place,
@@ -99,8 +99,9 @@ fn read_fields<'a>(
     Ok(())
 }
 
-/// Reads six fields, and years or none. It stands alone, so that a shorthand doesn't pay for the room that
-/// a fault takes. The fault isn't handed out: most texts have none, and whoever wants it asks for it.
+/// Reads six fields, and years or none. It stands alone, so that a shorthand doesn't pay for the
+/// room that a fault takes. The fault isn't handed out: most texts have none, and whoever wants it
+/// asks for it.
 #[inline(never)]
 fn longhand(text: &str, start: Place, fields: &mut ScheduleFields) -> bool
     requires { IsPlace text.now start }

@@ -5,7 +5,8 @@ ghost use Rattle.cron_text.specs.Tokens.{tokens, is_space, is_digit, is_letter};
 ghost use Rattle.cron_text.specs.Meaning.{trimmed_front, trimmed_end};
 ghost use Rattle.cron_text.specs.Inner.Places.{IsPlace, tokens_from};
 
-/// White space is space, tab, carriage return and line feed. Most bytes that are asked for are greater.
+/// White space is space, tab, carriage return and line feed. Most bytes that are asked for are
+/// greater.
 #[inline(always)]
 pub fn is_space(byte: u8) -> bool
     ensures { result ≡ is_space byte }

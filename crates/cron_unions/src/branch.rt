@@ -7,8 +7,8 @@ use cron_instants::run::Run;
 use cron_moments::moment::Moment;
 use std::marker::Model;
 
-/// A run, and the fire that it answers next. Contracts see the fires that are left, that one in front. The
-/// default has none.
+/// A run, and the fire that it answers next. Contracts see the fires that are left, that one in
+/// front. The default has none.
 #[derive(Drop)]
 pub(crate) struct Branch<'a> {
     head: Option<Moment>,

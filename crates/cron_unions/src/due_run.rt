@@ -15,8 +15,8 @@ use jiff::Timestamp;
 use jiff::tz::TimeZone;
 use std::marker::Model;
 
-/// Some of the due fires of several schedules in a zone, in order: each once, also where several of them
-/// match its civil second. Contracts see those that are left. It takes no memory.
+/// Some of the due fires of several schedules in a zone, in order: each once, also where several of
+/// them match its civil second. Contracts see those that are left. It takes no memory.
 #[derive(Drop)]
 pub struct DueRun<'a> {
     schedules: &'a [ScheduleFields],

@@ -27,11 +27,11 @@ pub(crate) fn nearest_due(
     Some(due_of(zone, second))
 }
 
-/// Of the due fires of any of the schedules whose instant comes after `now` the first. `None` where there is
-/// none.
+/// Of the due fires of any of the schedules whose instant comes after `now` the first. `None` where
+/// there is none.
 ///
-/// A loop goes on from the fire that it ran, by `first_past`: several may share an instant, and this call
-/// answers only the first of them.
+/// A loop goes on from the fire that it ran, by `first_past`: several may share an instant, and
+/// this call answers only the first of them.
 pub fn first_after(
     schedules: &[ScheduleFields],
     now: Timestamp,
@@ -42,8 +42,8 @@ pub fn first_after(
     nearest_due(schedules, zone, Way::Ahead, reached_by(zone, now) + 1)
 }
 
-/// Of the due fires of any of the schedules past this one the first. `None` where there is none. The one
-/// that is handed in may be none of theirs: its nominal time alone counts.
+/// Of the due fires of any of the schedules past this one the first. `None` where there is none.
+/// The one that is handed in may be none of theirs: its nominal time alone counts.
 pub fn first_past(
     schedules: &[ScheduleFields],
     fire: &DueFire,
@@ -59,8 +59,8 @@ pub fn first_past(
     )
 }
 
-/// Of the due fires of any of the schedules whose instant is `now` or comes before it the last. `None` where
-/// there is none.
+/// Of the due fires of any of the schedules whose instant is `now` or comes before it the last.
+/// `None` where there is none.
 pub fn last_by(schedules: &[ScheduleFields], now: Timestamp, zone: &TimeZone<'_>) -> Option<DueFire>
     ensures { IsLastDueByAny schedules.now (plain_zone zone.now) now.nanosecond result }
 {

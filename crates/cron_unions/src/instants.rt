@@ -1,4 +1,5 @@
-//! Fires of several schedules as one in a zone, by their instants. None of these calls takes memory.
+//! Fires of several schedules as one in a zone, by their instants. None of these calls takes
+//! memory.
 ghost use Rattle.jiff.specs.Words.{plain_zone};
 ghost use Rattle.cron_unions.specs.FirstOfAny.{IsFirstAfterAny, IsFirstPastAny, IsLastByAny};
 
@@ -10,7 +11,8 @@ use cron_units::way::Way;
 use jiff::Timestamp;
 use jiff::tz::TimeZone;
 
-/// The earliest fire of any of the schedules whose instant comes after `now`. `None` where there is none.
+/// The earliest fire of any of the schedules whose instant comes after `now`. `None` where there is
+/// none.
 pub fn first_after(
     schedules: &[ScheduleFields],
     now: Timestamp,
@@ -25,8 +27,8 @@ pub fn first_after(
     first
 }
 
-/// The earliest fire of any of the schedules that is later than this one. `None` where there is none. The
-/// one that is handed in may be no fire of them.
+/// The earliest fire of any of the schedules that is later than this one. `None` where there is
+/// none. The one that is handed in may be no fire of them.
 pub fn first_past(
     schedules: &[ScheduleFields],
     fire: &Moment,
@@ -41,8 +43,8 @@ pub fn first_past(
     first
 }
 
-/// The latest fire of any of the schedules whose instant is `now` or comes before it. `None` where there is
-/// none.
+/// The latest fire of any of the schedules whose instant is `now` or comes before it. `None` where
+/// there is none.
 pub fn last_by(schedules: &[ScheduleFields], now: Timestamp, zone: &TimeZone<'_>) -> Option<Moment>
     ensures { IsLastByAny schedules.now (plain_zone zone.now) now.nanosecond result }
 {

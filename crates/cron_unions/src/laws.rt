@@ -1,4 +1,5 @@
-//! Laws over the definitions: the functions do nothing, and a caller calls one for what its contract says.
+//! Laws over the definitions: the functions do nothing, and a caller calls one for what its
+//! contract says.
 
 ghost use Rattle.cron_unions.specs.UnionLaws.{CutDuesGoOn, CutFiresGoOn, DuesAreOfTheSchedules, DuesComeOnce, FiresAreOfTheSchedules, FiresAscend, ItemsAreOfTheSchedules, OneIsItsUnion, OrderDoesNotMatter, SecondsAreOfTheSchedules};
 
@@ -14,8 +15,8 @@ pub fn fires_are_of_the_schedules()
     ensures dues { DuesAreOfTheSchedules }
 {}
 
-/// Each fire is earlier than those behind it, and each due fire has a lesser nominal second, so none comes
-/// twice.
+/// Each fire is earlier than those behind it, and each due fire has a lesser nominal second, so
+/// none comes twice.
 pub fn fires_come_once()
     ensures fires { FiresAscend }
     ensures dues { DuesComeOnce }

@@ -1,5 +1,5 @@
-//! Several schedules as one: the civil seconds that match any of them, each once, and when they fire, by
-//! both rules at clock changes.
+//! Several schedules as one: the civil seconds that match any of them, each once, and when they
+//! fire, by both rules at clock changes.
 #![tactic(auto)]
 
 mod branch;

@@ -1,5 +1,5 @@
-//! The nearest civil second that matches one of several schedules. It needs no reading, and no zone is asked
-//! for one.
+//! The nearest civil second that matches one of several schedules. It needs no reading, and no zone
+//! is asked for one.
 ghost use Rattle.std.specs.Prelude.{◌≡◌, ◌<◌, IfSome};
 ghost use Rattle.cron_units.specs.Nearest.{IsNearest};
 ghost use Rattle.cron_moments.specs.Civil.{seconds_in_range};
@@ -27,8 +27,9 @@ fn nearer_second(way: Way, best: Option<u32>, other: Option<u32>) -> Option<u32>
     if nearer { Some(next) } else { Some(second) }
 }
 
-/// The nearest civil second of the range that matches one of the schedules, from a number on: ahead the
-/// first one at or after it, back the last one at or before it, and `None` exactly where there is none.
+/// The nearest civil second of the range that matches one of the schedules, from a number on: ahead
+/// the first one at or after it, back the last one at or before it, and `None` exactly where there
+/// is none.
 pub(crate) fn nearest_match(schedules: &[ScheduleFields], way: Way, from: i64) -> Option<u32>
     ensures nearest { IsNearest way (is_match_any schedules.now) from result }
     ensures bound { IfSome result (λ c. c < seconds_in_range) }

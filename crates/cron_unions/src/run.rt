@@ -24,8 +24,8 @@ enum Part {
     PastBy(Moment, Timestamp),
 }
 
-/// Some of the fires of at most N schedules in a zone, the earliest first: each once, also where several of
-/// them match its civil second. Contracts see those that are left. It takes no memory.
+/// Some of the fires of at most N schedules in a zone, the earliest first: each once, also where
+/// several of them match its civil second. Contracts see those that are left. It takes no memory.
 #[derive(Drop)]
 pub struct Run<'a, const N: usize> {
     branches: ArrayVec<Branch<'a>, N>,
@@ -111,8 +111,8 @@ impl<'a, const N: usize> Run<'a, N> {
         Run::over(schedules, Part::Between(last, now), zone)
     }
 
-    /// The fires that are later than this one, which may be none of the schedules, and whose instant doesn't
-    /// come after `now`.
+    /// The fires that are later than this one, which may be none of the schedules, and whose
+    /// instant doesn't come after `now`.
     pub fn past_by(
         schedules: &[ScheduleFields],
         fire: &Moment,

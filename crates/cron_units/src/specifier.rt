@@ -188,8 +188,9 @@ pub fn add_item<'a, T: TimeUnitField>(set: &mut T, item: Item<'a>) -> Result<(),
     Ok(())
 }
 
-/// Adds the ordinal of a name of letters to a set, by the key of the name. `false`, with the set as it was,
-/// where the key is that of no name, and in a unit with a word for the last day of the month.
+/// Adds the ordinal of a name of letters to a set, by the key of the name. `false`, with the set as
+/// it was, where the key is that of no name, and in a unit with a word for the last day of the
+/// month.
 #[inline(always)]
 pub fn add_name<T: TimeUnitField>(set: &mut T, key: Key) -> bool
     ensures { IsTrue result → (word : List ℕ) → list_all is_letter word ≡ true → IsKey word key
@@ -209,8 +210,9 @@ pub fn add_name<T: TimeUnitField>(set: &mut T, key: Key) -> bool
     true
 }
 
-/// Adds the ordinals from one name of letters to another to a set, by the keys of the names. `false`, with
-/// the set as it was, where a key is that of no name, or the first ordinal is greater than the last.
+/// Adds the ordinals from one name of letters to another to a set, by the keys of the names.
+/// `false`, with the set as it was, where a key is that of no name, or the first ordinal is greater
+/// than the last.
 #[inline(always)]
 pub fn add_names<T: TimeUnitField>(set: &mut T, from: Key, to: Key) -> bool
     ensures { IsTrue result → (v w : List ℕ) → list_all is_letter v ≡ true

@@ -1,4 +1,5 @@
-//! Walks over gaps of a day and longer, ahead and back. The civil seconds and the offsets are counted by hand.
+//! Walks over gaps of a day and longer, ahead and back. The civil seconds and the offsets are
+//! counted by hand.
 
 use crate::support::{check, number, read_datetime, read_instant, read_schedule};
 use crate::zone_files::read_file;
@@ -8,8 +9,8 @@ use jiff::Timestamp;
 use jiff::tz::TimeZone;
 use std::process::Abort;
 
-// A clock that changes between 24:59:59 behind UTC and as much ahead of it. Each year it leaves out what lies
-// from 10 April on, up to 12 April 01:59:57.
+// A clock that changes between 24:59:59 behind UTC and as much ahead of it. Each year it leaves out
+// what lies from 10 April on, up to 12 April 01:59:57.
 const TWO_DAYS: &str = "AAA24:59:59BBB-24:59:59,J100/0,J300/0";
 
 const BEFORE: i32 = -89_999;

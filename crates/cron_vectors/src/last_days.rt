@@ -139,8 +139,8 @@ fn push_days(rt: &impl Abort, text: &mut String, days: &DaysOfMonth) {
     }
 }
 
-// What days are: whether the last one is marked, how many are numbered, whether they are all, and the
-// numbers.
+// What days are: whether the last one is marked, how many are numbered, whether they are all, and
+// the numbers.
 fn days_shown(rt: &(impl Abort + AllocGlobal), days: &DaysOfMonth) -> String {
     let (last, count, all) = (days.last_day(), days.count(), days.is_all());
     let mut shown = format!(in rt.alloc(); "{last} {count} {all}").expect(rt, "memory");

@@ -1,5 +1,5 @@
-//! The mark of the last day: days of the month with it are not equal to those without it, also where a
-//! walk over the one goes as over the other.
+//! The mark of the last day: days of the month with it are not equal to those without it, also
+//! where a walk over the one goes as over the other.
 
 use crate::last_days::check_date;
 use crate::support::{check, check_rows, check_text, cut, read_instant, read_schedule};
@@ -8,8 +8,9 @@ use cron::{Schedule, ScheduleIterator};
 use jiff::tz::TimeZone;
 use std::process::Abort;
 
-// Pairs of texts, whether their sets are equal and whether their days are, and of each text the last item
-// before half past noon of 2022-11-25 in UTC and the first one after it, as the calendar has them.
+// Pairs of texts, whether their sets are equal and whether their days are, and of each text the
+// last item before half past noon of 2022-11-25 in UTC and the first one after it, as the calendar
+// has them.
 const PAIRS: &str = "\
 0 0 0 * * ? | 0 0 0 *,L * ? | false false | 2022-11-25T00:00:00 2022-11-26T00:00:00 | 2022-11-25T00:00:00 2022-11-26T00:00:00
 0 0 0 31 * ? | 0 0 0 L * ? | false false | 2022-10-31T00:00:00 2022-12-31T00:00:00 | 2022-10-31T00:00:00 2022-11-30T00:00:00

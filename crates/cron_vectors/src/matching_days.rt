@@ -30,7 +30,8 @@ struct Days {
     past: i64,
 }
 
-// To 1972-02-29; over the end of February 2000; two years and two months from 2023 on; from 2096 to the end of 2100.
+// To 1972-02-29; over the end of February 2000; two years and two months from 2023 on; from 2096 to
+// the end of 2100.
 const STRETCHES: [Days; 4] = [
     Days {
         first: 0,
@@ -73,8 +74,8 @@ fn check_midnight(rt: &impl Abort, answer: Option<Moment>, wanted: DateTime, tex
     check(rt, moment.datetime() == wanted, text);
 }
 
-// Goes ahead over the midnights, and from each back to the one before it and ahead again. What is answered
-// past the last one lies behind the stretch.
+// Goes ahead over the midnights, and from each back to the one before it and ahead again. What is
+// answered past the last one lies behind the stretch.
 fn check_ahead(
     rt: &impl Abort,
     schedule: &Schedule,

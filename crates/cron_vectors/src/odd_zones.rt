@@ -1,6 +1,6 @@
-//! Zones that break schedulers: each second of a gap is passed and counted, and each second of a fold
-//! is answered twice. The turns are told from outside, and the days around them also go through the
-//! slow twin.
+//! Zones that break schedulers: each second of a gap is passed and counted, and each second of a
+//! fold is answered twice. The turns are told from outside, and the days around them also go
+//! through the slow twin.
 
 use crate::slow_twin::check_day;
 use crate::support::{
@@ -35,8 +35,8 @@ IST-1GMT0,M10.5.0,M3.5.0/1 | 2022-10-30T01:00:00 | 3600 | 3600 | 0
 EET-2EEST,M3.5.0/0,M10.5.0/0 | 2022-10-29T23:00:00 | 3600 | 10800 | 7200
 LMT5:50:36LDT4:50:37,M3.2.0,M11.1.0 | 2022-11-06T01:00:01 | 3599 | -17437 | -21036";
 
-// A stretch of civil seconds at which a zone turns: the number of the first, how many they are, and the
-// seconds ahead of UTC before and after the turn.
+// A stretch of civil seconds at which a zone turns: the number of the first, how many they are, and
+// the seconds ahead of UTC before and after the turn.
 #[derive(Clone, Copy)]
 struct Stretch {
     first: i64,

@@ -60,7 +60,8 @@ fn a_source_of_a_hundred_thousand_bytes(rt: HostRuntime) {
     check_long(&rt, text.as_str());
 }
 
-// What a schedule, its error and its moment show in holes with a width, an alignment and a precision.
+// What a schedule, its error and its moment show in holes with a width, an alignment and a
+// precision.
 fn shown_in_holes(rt: &(impl Abort + AllocGlobal), schedule: &Schedule, moment: Moment) -> String {
     let error = Error::from(ErrorKind::OutOfMemory);
     format!(in rt.alloc(); "{schedule:>9}|{schedule:.2}|{error:^20}|{moment:<30}|").expect(

@@ -106,8 +106,9 @@ fn check_beyond(rt: &impl Abort, beyond: Option<Moment>, span: Span) {
     }
 }
 
-// The instant before a span's first second. Where the zone turns there, it goes by the offset after the
-// turn: the second that follows is then the first one of the span, and no earlier one comes again.
+// The instant before a span's first second. Where the zone turns there, it goes by the offset after
+// the turn: the second that follows is then the first one of the span, and no earlier one comes
+// again.
 fn before(rt: &impl Abort, zone: &TimeZone<'_>, span: Span) -> Timestamp {
     let last = shown(rt, span.first.saturating_sub(1));
     let offset = match zone.to_ambiguous_timestamp(last).offset() {
@@ -118,14 +119,15 @@ fn before(rt: &impl Abort, zone: &TimeZone<'_>, span: Span) -> Timestamp {
     offset.to_timestamp(last).expect(rt, "an instant")
 }
 
-// The instant after a span's last second. Where the zone turns there, it goes by the offset before it.
+// The instant after a span's last second. Where the zone turns there, it goes by the offset before
+// it.
 fn after(rt: &impl Abort, zone: &TimeZone<'_>, span: Span) -> Timestamp {
     zone.to_timestamp(shown(rt, span.past))
         .expect(rt, "an instant")
 }
 
-// Makes one call ahead for each reading, which it has to answer, and one more, which it may not answer
-// in the same span.
+// Makes one call ahead for each reading, which it has to answer, and one more, which it may not
+// answer in the same span.
 fn check_ahead(
     rt: &impl Abort,
     schedule: &Schedule,
@@ -268,7 +270,8 @@ fn check_schedule(
     check_readings(rt, schedule, zone, span, readings.as_slice());
 }
 
-/// Compares a span's part of the walks in both directions, and both searches from some of its seconds.
+/// Compares a span's part of the walks in both directions, and both searches from some of its
+/// seconds.
 pub(crate) fn check_span(
     rt: &(impl Abort + AllocGlobal),
     text: &str,

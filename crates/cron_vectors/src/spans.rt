@@ -1,13 +1,13 @@
-//! 250 spans of 8 to 72 hours through the slow twin: 50 in each of five zones, 655,200 civil seconds
-//! around each of ten dates, 32,760,000 in all.
+//! 250 spans of 8 to 72 hours through the slow twin: 50 in each of five zones, 655,200 civil
+//! seconds around each of ten dates, 32,760,000 in all.
 
 use crate::slow_twin::{Span, check_span, midnight};
 use crate::support::{chicago, read_date};
 use jiff::tz::{Offset, TimeZone};
 use std::process::Abort;
 
-// The text of a span, how many hours it begins before a date, and how many it lasts. The turns of the
-// zones lie in the first hours of their dates.
+// The text of a span, how many hours it begins before a date, and how many it lasts. The turns of
+// the zones lie in the first hours of their dates.
 const SPANS: [(&str, i64, i64); 5] = [
     ("* * * * * *", 3, 8),
     ("*/7 */3 * * * *", 12, 24),

@@ -9,8 +9,8 @@ use jiff::tz::{TimeZone, Tzif};
 use std::fmt::Write;
 use std::process::Abort;
 
-// A file of version 2 up to its transitions: a block with one type alone, and the header of a block with
-// two transitions, two types and eight bytes of names.
+// A file of version 2 up to its transitions: a block with one type alone, and the header of a block
+// with two transitions, two types and eight bytes of names.
 const FRONT: &[u8] = b"TZif2\0\0\0\0\0\0\0\0\0\0\0\0\0\0\0\
 \0\0\0\0\0\0\0\0\0\0\0\0\0\0\0\0\0\0\0\x01\0\0\0\x04\
 \0\0\0\0\0\0AAA\0\

@@ -4,11 +4,12 @@ ghost use Rattle.std.specs.Prelude.{◌≡◌, ◌≤◌, ◌+◌, ◌++◌, [],
 
 use std::marker::Model;
 
-/// How many bytes are gathered at most. A pipe takes that many in one piece, also where others write to it.
+/// How many bytes are gathered at most. A pipe takes that many in one piece, also where others
+/// write to it.
 pub const ROOM: usize = 4096;
 
-/// How many bytes a short text has at most. Each is copied as that many bytes, since a copy of a known
-/// length is a few instructions.
+/// How many bytes a short text has at most. Each is copied as that many bytes, since a copy of a
+/// known length is a few instructions.
 pub const WIDTH: usize = 32;
 
 /// The size of the array, which leaves room behind the last text for the copy of a short one.

@@ -43,8 +43,8 @@ impl Gathered {
         }
     }
 
-    /// Gathers a line of at most [`ROOM`] bytes after the others. Where it has no room, those are handed on
-    /// first.
+    /// Gathers a line of at most [`ROOM`] bytes after the others. Where it has no room, those are
+    /// handed on first.
     pub fn push_line<W: Watchable>(&mut self, line: &[u8], out: &mut Watched<W>)
         requires { length line.now ≤ 4096 }
         ensures gathered { (origin : Option (List ℕ)) (before : List ℕ)
@@ -57,8 +57,8 @@ impl Gathered {
         self.block.push(line);
     }
 
-    /// Gathers a short line after the others: the first `len` of these bytes, all of which are copied.
-    /// Where it has no room, those before it are handed on first.
+    /// Gathers a short line after the others: the first `len` of these bytes, all of which are
+    /// copied. Where it has no room, those before it are handed on first.
     #[inline(always)]
     pub fn push_short<W: Watchable>(
         &mut self,

@@ -1,4 +1,5 @@
-//! A writer that remembers whether it failed, and lines that are gathered before they are handed to it.
+//! A writer that remembers whether it failed, and lines that are gathered before they are handed to
+//! it.
 #![tactic(auto)]
 
 mod block;

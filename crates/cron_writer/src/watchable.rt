@@ -8,8 +8,8 @@ ghost use Rattle.std.specs.declared.io.Error.{Error};
 use std::io::{self, Write};
 
 /// A writer whose calls contracts can tell one by one. What one call may do to a writer is known to
-/// its own type alone. So a function over any writer whose contract promises one call can't have made two,
-/// nor another beside it. Every writer is such.
+/// its own type alone. So a function over any writer whose contract promises one call can't have
+/// made two, nor another beside it. Every writer is such.
 pub trait Watchable: Write {
     // one call of `write`: the writer before it, the piece, the answer, and the writer after it
     ghost writes: { Self → List ℕ → Result ℕ Error → Self → Type 0 };

@@ -44,8 +44,8 @@ impl<W> Watched<W> {
     }
 }
 
-// Whether a write failed, or took no byte of a piece that isn't empty. It only borrows the answer, so that
-// the proof of `write` has no cases.
+// Whether a write failed, or took no byte of a piece that isn't empty. It only borrows the answer,
+// so that the proof of `write` has no cases.
 #[inline(always)]
 fn is_failed_write(answer: &io::Result<usize>, piece: &[u8]) -> bool
     ensures { result ≡ is_failed_write answer.now piece.now }

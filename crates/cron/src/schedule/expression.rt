@@ -103,8 +103,8 @@ impl Schedule {
         &self.fields.months
     }
 
-    /// The set of days of the month. Its views are of the numbered days; whether the last day is one of
-    /// the set is told by its `last_day`.
+    /// The set of days of the month. Its views are of the numbered days; whether the last day is
+    /// one of the set is told by its `last_day`.
     pub fn days_of_month(&self) -> &DaysOfMonth
         ensures { result.now ≡ self.now.sets.days_of_month }
     {
@@ -139,8 +139,8 @@ impl Schedule {
         &self.fields.seconds
     }
 
-    /// Whether all seven sets are equal, however they were written. The mark of the last day of the month
-    /// is part of a set: `*,L` and `*` differ, though they mean the same days.
+    /// Whether all seven sets are equal, however they were written. The mark of the last day of the
+    /// month is part of a set: `*,L` and `*` differ, though they mean the same days.
     pub fn timeunitspec_eq(&self, other: &Schedule) -> bool
         ensures { IsTrue result ↔ (self.now.sets ≡ other.now.sets) }
     {

@@ -79,8 +79,8 @@ impl<C: Inputs> Walker<C> {
         self.state.answer()
     }
 
-    /// The item before the cursor, to which the cursor moves. `None` where there is none, and from then
-    /// on for ever, in both directions.
+    /// The item before the cursor, to which the cursor moves. `None` where there is none, and from
+    /// then on for ever, in both directions.
     pub fn next_back(&mut self) -> Option<Moment>
         ensures { Gives Back self.old result self.new }
     {
@@ -106,8 +106,8 @@ impl<C: Inputs> Iterator for Walker<C> {
 
     ghost remaining = { item_count rest_ahead };
 
-    /// The item after the cursor, to which the cursor moves. `None` where there is none, and from then
-    /// on for ever, in both directions.
+    /// The item after the cursor, to which the cursor moves. `None` where there is none, and from
+    /// then on for ever, in both directions.
     fn next(&mut self) -> Option<Moment> {
         self.step(Way::Ahead)
     }
@@ -137,8 +137,8 @@ impl<C: Inputs> Reversed<C> {
     ghost use Rattle.cron_units.specs.declared.way.Way.TheVariants.{Ahead};
     ghost use Rattle.cron_time.specs.Walk.Rest.{Gives};
 
-    /// The item after the cursor, to which the cursor moves. `None` where there is none, and from then
-    /// on for ever, in both directions.
+    /// The item after the cursor, to which the cursor moves. `None` where there is none, and from
+    /// then on for ever, in both directions.
     pub fn next_back(&mut self) -> Option<Moment>
         ensures { Gives Ahead self.old result self.new }
     {
@@ -157,8 +157,8 @@ impl<C: Inputs> Iterator for Reversed<C> {
 
     ghost remaining = { item_count rest_back };
 
-    /// The item before the cursor, to which the cursor moves. `None` where there is none, and from then
-    /// on for ever, in both directions.
+    /// The item before the cursor, to which the cursor moves. `None` where there is none, and from
+    /// then on for ever, in both directions.
     fn next(&mut self) -> Option<Moment> {
         self.walk.next_back()
     }

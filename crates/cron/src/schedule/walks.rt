@@ -14,18 +14,18 @@ use jiff::tz::TimeZone;
 use std::alloc::AllocError;
 
 impl Schedule {
-    /// A walk whose cursor is at the start. Its first `next` answers the first moment from the civil
-    /// second on that a clock in the zone shows one second after the start. Its first `next_back`
-    /// answers the last one up to the civil second that a clock shows at the start, where that has a part
-    /// of a second, and else one second before it.
+    /// A walk whose cursor is at the start. Its first `next` answers the first moment from the
+    /// civil second on that a clock in the zone shows one second after the start. Its first
+    /// `next_back` answers the last one up to the civil second that a clock shows at the start,
+    /// where that has a part of a second, and else one second before it.
     ///
-    /// In a fold that civil second comes twice. So a walk that is begun there may leave out items after the
-    /// start, or answer the start itself or an instant before it, and back the other way round.
-    /// In Chicago on 2022-11-06 `0 30 1 * * *` from 06:30Z leaves out 07:30Z, and `59 59 1 * * *` from
-    /// 06:59:59Z answers 06:59:59Z. A loop that asks anew from each instant loses fires by this: a
-    /// scheduler asks by instants (`cron_fires`). One walk that was begun outside a fold, or one that
-    /// [`Schedule::resume`] makes from its last item, leaves nothing out. In a fold its instants step back:
-    /// 06:00Z, 07:00Z, 06:30Z, 07:30Z.
+    /// In a fold that civil second comes twice. So a walk that is begun there may leave out items
+    /// after the start, or answer the start itself or an instant before it, and back the other way
+    /// round. In Chicago on 2022-11-06 `0 30 1 * * *` from 06:30Z leaves out 07:30Z, and
+    /// `59 59 1 * * *` from 06:59:59Z answers 06:59:59Z. A loop that asks anew from each instant
+    /// loses fires by this: a scheduler asks by instants (`cron_fires`). One walk that was begun
+    /// outside a fold, or one that [`Schedule::resume`] makes from its last item, leaves nothing
+    /// out. In a fold its instants step back: 06:00Z, 07:00Z, 06:30Z, 07:30Z.
     ///
     /// ```text
     /// let mut walk = schedule.after(start, &zone); // `0 30 1 * * *` in Chicago, from 2022-11-05T12:00:00Z
@@ -52,9 +52,9 @@ impl Schedule {
         self.after(now, zone)
     }
 
-    /// The walk whose cursor is at the place of an item, as after the call that answered it. Its `next`
-    /// answers the following one, its `next_back` the one before, also in a fold. It is `None` where the
-    /// moment is no item of this schedule in this zone. It takes no memory.
+    /// The walk whose cursor is at the place of an item, as after the call that answered it. Its
+    /// `next` answers the following one, its `next_back` the one before, also in a fold. It is
+    /// `None` where the moment is no item of this schedule in this zone. It takes no memory.
     pub fn resume<'a>(
         &'a self,
         item: &Moment,

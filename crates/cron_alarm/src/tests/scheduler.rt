@@ -18,8 +18,8 @@ use std::process::Abort;
 // Chicago goes from -06:00 to -05:00 on 2022-03-13, and back on 2022-11-06.
 const CHICAGO: &str = "CST6CDT,M3.2.0,M11.1.0";
 
-// What a run came to: how it ended, the instants of the fires that were run, and those that were waited
-// for.
+// What a run came to: how it ended, the instants of the fires that were run, and those that were
+// waited for.
 #[derive(Debug, Drop)]
 struct Ran {
     answer: Result<(), Stop<Fault, AllocError>>,

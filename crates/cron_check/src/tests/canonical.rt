@@ -36,7 +36,8 @@ fn written_texts_are_canonical_so(rt: HostRuntime) {
     );
 }
 
-// How a range is canonical among sixty numbers: a star for all of them, and no dash in a single number.
+// How a range is canonical among sixty numbers: a star for all of them, and no dash in a single
+// number.
 fn range_text(rt: &(impl Abort + AllocGlobal), first: u32, last: u32) -> String {
     if first == 0 && last == 59 {
         return String::from_str(rt.alloc(), "*").expect(rt, "memory");
@@ -55,7 +56,8 @@ fn two_text(rt: &(impl Abort + AllocGlobal), first: u32, last: u32) -> String {
     format!(in rt.alloc(); "{first},{last}").expect(rt, "memory")
 }
 
-// A range of seconds, its ends as minutes, and an hour and a day, written with more than is canonical.
+// A range of seconds, its ends as minutes, and an hour and a day, written with more than is
+// canonical.
 fn check_range(rt: &(impl Abort + AllocGlobal), first: u32, last: u32) {
     let (day, hour) = (first % 31 + 1, last % 24);
     let text = format!(in rt.alloc(); "{first}-{last},{last} {first},{last} {hour} {day},L * *");

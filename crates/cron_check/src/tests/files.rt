@@ -161,7 +161,8 @@ fn a_failed_read_ends_the_check(rt: HostRuntime) {
     );
 }
 
-/// A terminal: it gives what was typed before its end, then no byte once, and then what was typed behind.
+/// A terminal: it gives what was typed before its end, then no byte once, and then what was typed
+/// behind.
 #[derive(Drop)]
 struct Terminal<'a> {
     front: &'a [u8],

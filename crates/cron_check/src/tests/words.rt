@@ -18,7 +18,8 @@ fn words_in(rt: &(impl Abort + AllocGlobal), line: &str) -> Vec<String> {
     words
 }
 
-// The words ask for this file in this mode: `faults`, `sets`, `next`, or `none` where they can't be read.
+// The words ask for this file in this mode: `faults`, `sets`, `next`, or `none` where they can't be
+// read.
 fn check_words(rt: &(impl Abort + AllocGlobal), line: &str, mode: &str, file: Option<&str>) {
     let words = words_in(rt, line);
     let Some(request) = request_of(words.as_slice()) else {

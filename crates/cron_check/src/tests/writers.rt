@@ -88,8 +88,9 @@ fn calls_for(rt: &(impl Abort + AllocGlobal), lines: u32) -> u32 {
     out.into_inner().0
 }
 
-// The line of such a fault has 51 bytes where its number has one digit, 52 where it has two, and 53 where it has three.
-// So 4,096 bytes hold those of the lines 1 to 78, and then those of the lines 79 to 155.
+// The line of such a fault has 51 bytes where its number has one digit, 52 where it has two, and 53
+// where it has three. So 4,096 bytes hold those of the lines 1 to 78, and then those of the lines
+// 79 to 155.
 #[test]
 fn lines_are_written_many_at_a_time(rt: HostRuntime) {
     for (lines, calls) in [(0, 0), (1, 1), (78, 1), (79, 2), (155, 2), (156, 3)] {

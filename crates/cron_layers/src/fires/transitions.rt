@@ -1,5 +1,5 @@
-//! Runs over transitions of the clock, over new years and at the ends of the range. The instants are those of
-//! Python's `zoneinfo`.
+//! Runs over transitions of the clock, over new years and at the ends of the range. The instants
+//! are those of Python's `zoneinfo`.
 
 use super::zone_files::{NOON, read_file};
 use super::{CHICAGO, seconds};

@@ -7,20 +7,20 @@ use jiff::Timestamp;
 use jiff::tz::{TimeZone, Tzif};
 use std::process::Abort;
 
-// A file of version 2 up to its transitions: a block with one type alone, and the header of a block with
-// four transitions, two types and eight bytes of names.
+// A file of version 2 up to its transitions: a block with one type alone, and the header of a block
+// with four transitions, two types and eight bytes of names.
 const FRONT: &[u8] = b"TZif2\0\0\0\0\0\0\0\0\0\0\0\0\0\0\0\
 \0\0\0\0\0\0\0\0\0\0\0\0\0\0\0\0\0\0\0\x01\0\0\0\x04\
 \0\0\0\0\0\0AAA\0\
 TZif2\0\0\0\0\0\0\0\0\0\0\0\0\0\0\0\
 \0\0\0\0\0\0\0\0\0\0\0\0\0\0\0\x04\0\0\0\x02\0\0\0\x08";
 
-// The indexes of the types after the transitions, the types `AAA` at UTC and `BBB` half an hour ahead,
-// the names and the footer.
+// The indexes of the types after the transitions, the types `AAA` at UTC and `BBB` half an hour
+// ahead, the names and the footer.
 const END: &[u8] = b"\x01\0\x01\0\0\0\0\0\0\0\0\0\x07\x08\x01\x04AAA\0BBB\0\nAAA0\n";
 
-// 2020-03-01T12:00:00Z, when the clock goes from 12:00 to 12:30. At 12:30Z it goes from 13:00 back to
-// 12:30, at 13:00Z from 13:00 to 13:30, and at 13:30Z from 14:00 back to 13:30.
+// 2020-03-01T12:00:00Z, when the clock goes from 12:00 to 12:30. At 12:30Z it goes from 13:00 back
+// to 12:30, at 13:00Z from 13:00 to 13:30, and at 13:30Z from 14:00 back to 13:30.
 pub(super) const NOON: i64 = 1_583_064_000;
 
 const QUARTER: i64 = 900;
@@ -49,8 +49,8 @@ pub(super) fn read_file(rt: &(impl Abort + AllocGlobal)) -> Tzif {
     Tzif::parse(rt.alloc(), None, bytes.as_slice()).expect(rt, "a zone file")
 }
 
-// Each quarter of an hour from noon on fires: the clock shows 12:30 and 12:45 twice, and then 13:30 and
-// 13:45 twice, and by instants no quarter is left out.
+// Each quarter of an hour from noon on fires: the clock shows 12:30 and 12:45 twice, and then 13:30
+// and 13:45 twice, and by instants no quarter is left out.
 fn check_quarter(rt: &impl Abort, schedule: &Schedule, zone: &TimeZone<'_>, quarter: u8) {
     let instant = NOON + QUARTER * i64::from(quarter);
     let before = Timestamp::from_second(instant - 1).expect(rt, "an instant");

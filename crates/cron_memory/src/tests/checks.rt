@@ -34,7 +34,8 @@ const TOLD: [&str; 3] = [
     "4: 2024-01-15 09:30:00 +00:00\n",
 ];
 
-// How many of the lines stand at the beginning of a text, one after another, and what stands behind them.
+// How many of the lines stand at the beginning of a text, one after another, and what stands behind
+// them.
 fn past_lines(mut text: &str) -> (usize, &str) {
     let mut count = 0_usize;
     for line in TOLD {

@@ -54,7 +54,8 @@ fn is_message(error: &Error) -> bool {
     matches!(error.kind(), ErrorKind::Expression(text) if text.as_str() == MESSAGE)
 }
 
-/// Fails unless a reading of the accepted expression gave its sets, or memory ran out, which is printed.
+/// Fails unless a reading of the accepted expression gave its sets, or memory ran out, which is
+/// printed.
 pub(crate) fn check_accepted(
     rt: &(impl Abort + Print),
     read: Result<Schedule, Error>,
@@ -69,7 +70,8 @@ pub(crate) fn check_accepted(
     Ok(())
 }
 
-/// Fails unless a reading of the refused expression told its fault, or memory ran out, which is printed.
+/// Fails unless a reading of the refused expression told its fault, or memory ran out, which is
+/// printed.
 pub(crate) fn check_refused(
     rt: &(impl Abort + Print),
     read: Result<Schedule, Error>,

@@ -108,7 +108,8 @@ fn check_failed(rt: &(impl Abort + AllocGlobal), text: &str, room: usize, step: 
     check_failed_page(rt, text, Limited::new(rt.alloc(), room, step));
 }
 
-// Within each of three blocks: before its first byte, after that, after its first line and further on.
+// Within each of three blocks: before its first byte, after that, after its first line and further
+// on.
 const ROOMS: [usize; 12] = [
     0,
     1,

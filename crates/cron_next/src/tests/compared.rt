@@ -1,5 +1,5 @@
-//! Comparisons that say at which row they fail. That each is a function keeps the proof of the tests
-//! short: an assertion has a branch that prints.
+//! Comparisons that say at which row they fail. That each is a function keeps the proof of the
+//! tests short: an assertion has a branch that prints.
 
 use cron::Schedule;
 use std::fmt::{Debug, Display};

@@ -1,5 +1,5 @@
-//! Calls that take no memory, where none is left: the readers of an owned text that is accepted, and
-//! the ways to an owned walk. Like the tests of `memory`, these take all of it.
+//! Calls that take no memory, where none is left: the readers of an owned text that is accepted,
+//! and the ways to an owned walk. Like the tests of `memory`, these take all of it.
 
 use super::calls::start;
 use super::compared::{are_same, check_same};

@@ -16,8 +16,8 @@ use jiff::tz::TimeZone;
 use std::io::{ErrorKind, Write};
 use std::process::Abort;
 
-// Four items in the fold of Chicago, of which the two texts list the last three, and the first three
-// from the last.
+// Four items in the fold of Chicago, of which the two texts list the last three, and the first
+// three from the last.
 const FOLD: &str = "0 0,30 1 6 11 ? 2022";
 
 const LATER_THREE: &str =

@@ -21,8 +21,8 @@ fn check_writer(rt: &impl Abort, place: &str, writer: &Limited, text: &str, fail
     check_same(rt, &place, writer.failures, failures);
 }
 
-// Two items are asked for over this writer. The run ends so, and then the writer holds the text, and
-// has failed so often.
+// Two items are asked for over this writer. The run ends so, and then the writer holds the text,
+// and has failed so often.
 fn check_run(
     rt: &(impl Abort + AllocGlobal),
     expression: &str,

@@ -41,8 +41,8 @@ fn time_after(fields: &ScheduleFields, way: Way, time: u32) -> Option<u32>
     time_past(&members, way, time)
 }
 
-// The nearest match in the days past one whose date matches. `BACK` says the way once more, so that each has
-// code of its own.
+// The nearest match in the days past one whose date matches. `BACK` says the way once more, so that
+// each has code of its own.
 #[inline(never)]
 fn match_in_days_past<const BACK: bool>(
     fields: &ScheduleFields,
@@ -96,9 +96,9 @@ fn match_from(fields: &ScheduleFields, way: Way, start: u32, days: &mut MonthDay
     match_past_day(fields, way, day, days)
 }
 
-/// The nearest civil second of the range that matches, from a number on: ahead the first one at or after it,
-/// back the last one at or before it, and `None` exactly where there is none. It ends at once where no month
-/// has a day of the set.
+/// The nearest civil second of the range that matches, from a number on: ahead the first one at or
+/// after it, back the last one at or before it, and `None` exactly where there is none. It ends at
+/// once where no month has a day of the set.
 pub fn nearest_match(fields: &ScheduleFields, way: Way, from: i64) -> Option<u32>
     ensures nearest { IsNearest way (is_match fields.now) from result }
     ensures bound { IfSome result (λ n. n < seconds_in_range) }
@@ -112,8 +112,9 @@ pub fn nearest_match(fields: &ScheduleFields, way: Way, from: i64) -> Option<u32
     match_from(fields, way, start, &mut days)
 }
 
-/// The nearest civil second that matches past one that does: first in its own day, whose date needn't be made.
-/// It begins with the days of a month that an earlier search knew, and leaves those that it knows.
+/// The nearest civil second that matches past one that does: first in its own day, whose date
+/// needn't be made. It begins with the days of a month that an earlier search knew, and leaves
+/// those that it knows.
 #[inline(always)]
 pub fn match_past(
     fields: &ScheduleFields,

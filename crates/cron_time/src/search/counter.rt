@@ -28,7 +28,8 @@ impl Counter for Uncounted {
     ghost joined = { λ m n a b c h k. tt };
 }
 
-/// How many questions were asked, counted from 0 again after 2^64. So no search needs a bound for them.
+/// How many questions were asked, counted from 0 again after 2^64. So no search needs a bound for
+/// them.
 #[derive(Clone, Copy)]
 pub(crate) struct Questions {
     pub(crate) asked: u64,

@@ -24,8 +24,8 @@ pub(crate) struct Day {
     pub(crate) day: u32,
 }
 
-/// The day of a civil second. It is read, by the help of a month, and neither made from the sets nor
-/// tested.
+/// The day of a civil second. It is read, by the help of a month, and neither made from the sets
+/// nor tested.
 #[inline(always)]
 pub(crate) fn day_with(known: KnownMonth, second: u32) -> Day
     requires { second < seconds_in_range }
@@ -44,8 +44,8 @@ fn longest_month(month: u32) -> u32
     days_in_month(2000, month as u8) as u32
 }
 
-// Whether some month of the set has a day of this number in some year. Few sets ask so, and it stands out of
-// the way of the others.
+// Whether some month of the set has a day of this number in some year. Few sets ask so, and it
+// stands out of the way of the others.
 #[inline(never)]
 fn some_month_reaches(members: &Members<'_>, day: u32) -> bool
     ensures { result ≡ false → (m : ℕ) → contains members.now.months m ≡ true → longest m < day }
@@ -60,7 +60,8 @@ fn some_month_reaches(members: &Members<'_>, day: u32) -> bool
     false
 }
 
-/// Whether some month of the set has the least day of the set in some year. Each month has a last day.
+/// Whether some month of the set has the least day of the set in some year. Each month has a last
+/// day.
 #[inline(always)]
 pub(crate) fn some_month_has_a_day(members: &Members<'_>) -> bool
     ensures { result ≡ false → (p : ℕ) → matches_rank members.now p ≡ false }
@@ -77,7 +78,8 @@ pub(crate) fn some_month_has_a_day(members: &Members<'_>) -> bool
     some_month_reaches(members, least)
 }
 
-/// The nearest one past a month that lies in the sets: first in its own year, which isn't asked for.
+/// The nearest one past a month that lies in the sets: first in its own year, which isn't asked
+/// for.
 #[inline(always)]
 pub(crate) fn month_past(members: &Members<'_>, way: Way, month: u32) -> Option<u32>
     requires range { (first_month ≤ month) × (month < months_end) }

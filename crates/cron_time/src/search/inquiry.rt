@@ -20,10 +20,10 @@ use cron_units::fields::ScheduleFields;
 use jiff::tz::TimeZone;
 use std::marker::Model;
 
-/// The sets and the zone that a counted search asks, and how often it has asked. No two public calls share
-/// one. Its methods alone make dates and ask the zone, and each raises its own count by one. It knows the month
-/// of the date that was made last, and the stretch of civil seconds, at first an empty one, in which it looked
-/// for a reading last.
+/// The sets and the zone that a counted search asks, and how often it has asked. No two public
+/// calls share one. Its methods alone make dates and ask the zone, and each raises its own count by
+/// one. It knows the month of the date that was made last, and the stretch of civil seconds, at
+/// first an empty one, in which it looked for a reading last.
 #[derive(Drop)]
 pub(crate) struct Inquiry<'a> {
     fields: &'a ScheduleFields,
@@ -96,7 +96,8 @@ impl<'a> Inquiry<'a> {
         self.conversions
     }
 
-    /// Makes the date of a day of a month, and tests whether its weekday lies in its set: the number of the day.
+    /// Makes the date of a day of a month, and tests whether its weekday lies in its set: the
+    /// number of the day.
     #[inline(always)]
     pub(crate) fn matching_day(&mut self, month: u32, day: u32) -> Option<u32>
         requires month { (first_month ≤ month) × (month < months_end) }
@@ -119,7 +120,8 @@ impl<'a> Inquiry<'a> {
         Some(number)
     }
 
-    /// Looks up the readings of a civil second, in the stretch that is known or by the zone: none in a gap.
+    /// Looks up the readings of a civil second, in the stretch that is known or by the zone: none
+    /// in a gap.
     #[inline(always)]
     pub(crate) fn readings(&mut self, second: u32) -> Option<Found>
         requires in_range { second < seconds_in_range }

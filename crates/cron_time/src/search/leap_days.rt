@@ -1,7 +1,7 @@
 //! Schedules of which 29 February alone can match.
 //!
-//! The next February of a year that 4 divides is a division by 48. The set of years is asked as ever, and
-//! 2100 fails by the length of its February.
+//! The next February of a year that 4 divides is a division by 48. The set of years is asked as
+//! ever, and 2100 fails by the length of its February.
 
 ghost use Rattle.std.specs.Prelude.{◌≡◌, ℕ, ◌%◌, ◌<◌, ◌≤◌, true};
 ghost use Rattle.cron_units.specs.Nearest.{LiesFrom, Precedes};
@@ -14,7 +14,8 @@ use cron_units::fields::ScheduleFields;
 use cron_units::time_unit::layout::{bits, bits_of_days};
 use cron_units::way::Way;
 
-/// Whether of the months February alone is wanted, and of its days none of those that each year has.
+/// Whether of the months February alone is wanted, and of its days none of those that each year
+/// has.
 #[inline(always)]
 pub(crate) fn wants_leap_days(fields: &ScheduleFields) -> bool
     ensures { result ≡ true → WantsLeapDays fields.now }

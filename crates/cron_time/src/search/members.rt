@@ -19,8 +19,8 @@ pub(crate) enum Unit {
     Year,
 }
 
-/// The sets, of which members can be asked for, and nothing else: who has them alone makes no date and asks
-/// no zone.
+/// The sets, of which members can be asked for, and nothing else: who has them alone makes no date
+/// and asks no zone.
 #[derive(Drop)]
 pub(crate) struct Members<'a> {
     fields: &'a ScheduleFields,

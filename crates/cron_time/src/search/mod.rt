@@ -43,8 +43,8 @@ use cron_units::fields::ScheduleFields;
 use cron_units::way::Way;
 use jiff::tz::TimeZone;
 
-/// A day whose date matches: its times of day are gone through from the first one on, until one has a
-/// reading. The first one is the nearest from `from` on.
+/// A day whose date matches: its times of day are gone through from the first one on, until one has
+/// a reading. The first one is the nearest from `from` on.
 #[inline(always)]
 pub(crate) fn search_times(
     inquiry: &mut Inquiry<'_>,
@@ -119,7 +119,8 @@ fn search_day(inquiry: &mut Inquiry<'_>, way: Way, start: u32, day: Day) -> Opti
 }
 
 /// The candidates from one on, until the times of one of them find an answer. The first one is the
-/// nearest from the start's day on. `BACK` says the way once more, so that each has code of its own.
+/// nearest from the start's day on. `BACK` says the way once more, so that each has code of its
+/// own.
 pub(crate) fn search_candidates<const BACK: bool>(
     inquiry: &mut Inquiry<'_>,
     way: Way,
@@ -218,8 +219,8 @@ pub(crate) fn search_from(inquiry: &mut Inquiry<'_>, way: Way, from: i64) -> Opt
     search_days_either_way(inquiry, way, start)
 }
 
-/// A search from a number in a new inquiry, with the numbers of dates and of look-ups of readings that
-/// it took.
+/// A search from a number in a new inquiry, with the numbers of dates and of look-ups of readings
+/// that it took.
 pub fn search(fields: &ScheduleFields, zone: &TimeZone<'_>, way: Way, from: i64) -> Search
     ensures found { IsFound way
         fields.now

@@ -1,7 +1,7 @@
 //! The days of a month whose dates match, a bit for each.
 //!
-//! Walks and calls by instants go by these bits. The public searches make and test each date by itself,
-//! since they promise how many dates they make.
+//! Walks and calls by instants go by these bits. The public searches make and test each date by
+//! itself, since they promise how many dates they make.
 
 ghost use Rattle.std.specs.Prelude.{◌≡◌, ℕ, ◌+◌, ◌%◌, ◌<◌, ◌≤◌, pos, IfSome, option_map, true, false};
 ghost use Rattle.jiff.specs.Words.{plain_zone};
@@ -33,16 +33,16 @@ use cron_units::time_unit::TimeUnitSpec;
 use cron_units::time_unit::layout::{bits, bits_of_days};
 use cron_units::way::Way;
 
-/// A month, and a bit for each of its days, the first one for the first day: 1 where the date matches.
-/// If no bit is 1, nobody may have looked.
+/// A month, and a bit for each of its days, the first one for the first day: 1 where the date
+/// matches. If no bit is 1, nobody may have looked.
 #[derive(Clone, Copy)]
 pub struct MonthDays {
     month: KnownMonth,
     days: u64,
 }
 
-// The days of a month that lie in their set: by their numbers, and the last one where it is marked. The
-// length of the month matters for the last numbers alone.
+// The days of a month that lie in their set: by their numbers, and the last one where it is marked.
+// The length of the month matters for the last numbers alone.
 #[inline(always)]
 fn days_in_set(fields: &ScheduleFields, month: u32) -> u64
     requires { month < months_end }
@@ -99,8 +99,8 @@ fn month_beside(fields: &ScheduleFields, way: Way, month: u32) -> Option<u32>
     }
 }
 
-// A month past one that lies in the sets. Where 29 February alone is wanted, the years between two leap
-// years are passed. It asks no zone.
+// A month past one that lies in the sets. Where 29 February alone is wanted, the years between two
+// leap years are passed. It asks no zone.
 #[inline(always)]
 fn next_month(fields: &ScheduleFields, way: Way, month: u32) -> Option<u32>
     requires range { (first_month ≤ month) × (month < months_end) }

@@ -81,8 +81,8 @@ fn nearest_past_block<O: Neighbours, I: Neighbours, C: Counter>(
     Some(next * width + inner)
 }
 
-/// The nearest number whose quotient by the limit of the inner numbers, the width of a block, is one of the outer
-/// unit, and whose rest is one of the inner numbers.
+/// The nearest number whose quotient by the limit of the inner numbers, the width of a block, is
+/// one of the outer unit, and whose rest is one of the inner numbers.
 #[inline(always)]
 pub(crate) fn nearest_in_parts<O: Neighbours, I: Neighbours, C: Counter>(
     members: &Members<'_>,
@@ -126,8 +126,8 @@ pub(crate) fn nearest_past<N: Neighbours>(members: &Members<'_>, way: Way, n: u3
     N::nearest(members, way, past(way, n)?)
 }
 
-/// The nearest number past one whose quotient is one of the outer unit: first in its own block, with
-/// the nearest inner number past its rest.
+/// The nearest number past one whose quotient is one of the outer unit: first in its own block,
+/// with the nearest inner number past its rest.
 #[inline(always)]
 pub(crate) fn past_in_parts<O: Neighbours, I: Neighbours>(
     members: &Members<'_>,
@@ -307,7 +307,8 @@ fn rest_past(members: &Members<'_>, way: Way, rest: u32) -> Option<u32>
     past_in_parts::<Minutes, Seconds>(members, way, 60, rest, second)
 }
 
-/// The nearest time of day past one that lies in the sets: its hour and minute aren't asked for again.
+/// The nearest time of day past one that lies in the sets: its hour and minute aren't asked for
+/// again.
 #[inline(always)]
 pub(crate) fn time_past(members: &Members<'_>, way: Way, time: u32) -> Option<u32>
     requires fits { time < 86_400 }

@@ -1,4 +1,5 @@
-//! The nearest civil second on the timeline, past a matching one or from a number on, without counts.
+//! The nearest civil second on the timeline, past a matching one or from a number on, without
+//! counts.
 ghost use Rattle.std.specs.Prelude.{◌≡◌, ◌+◌, ◌/◌, ◌%◌, ◌^◌, ◌<◌, ◌≤◌, pos, true, MatchOption, option_map};
 ghost use Rattle.jiff.specs.Words.{plain_zone};
 ghost use Rattle.cron_moments.specs.Civil.{days_in_range, seconds_in_range};
@@ -78,9 +79,9 @@ fn search_day_times(
     search_readable(fields, zone, way, day, from, first, stretch)
 }
 
-// The days past one whose date matches, out of the way of the items of the own day. It begins with the days
-// and the stretch that the search before knew, and leaves those that it knows. `BACK` says the way once more,
-// so that each has code of its own.
+// The days past one whose date matches, out of the way of the items of the own day. It begins with
+// the days and the stretch that the search before knew, and leaves those that it knows. `BACK` says
+// the way once more, so that each has code of its own.
 #[inline(never)]
 fn days_past<const BACK: bool>(
     fields: &ScheduleFields,
@@ -135,9 +136,9 @@ fn days_past_either_way(
     }
 }
 
-/// The nearest civil second on the timeline past one that matches: first in its own day, whose date needn't be
-/// made, and then in the days past it. It begins with the days of a month and the stretch that an earlier search
-/// knew, and leaves those that it knows.
+/// The nearest civil second on the timeline past one that matches: first in its own day, whose date
+/// needn't be made, and then in the days past it. It begins with the days of a month and the
+/// stretch that an earlier search knew, and leaves those that it knows.
 #[inline(always)]
 pub fn search_past(
     fields: &ScheduleFields,
@@ -168,8 +169,8 @@ pub fn search_past(
     days_past_either_way(fields, zone, way, day, days, stretch)
 }
 
-// The days from that of a civil second on: in the first one whose date matches the times from a start on, and
-// then the days past it.
+// The days from that of a civil second on: in the first one whose date matches the times from a
+// start on, and then the days past it.
 fn days_from<const BACK: bool>(
     fields: &ScheduleFields,
     zone: &TimeZone<'_>,
@@ -199,8 +200,8 @@ fn days_from<const BACK: bool>(
     days_past::<BACK>(fields, zone, way, day, days, stretch)
 }
 
-/// The nearest civil second on the timeline from a number on. It begins with the days of a month and the stretch
-/// that an earlier search knew, and leaves those that it knows.
+/// The nearest civil second on the timeline from a number on. It begins with the days of a month
+/// and the stretch that an earlier search knew, and leaves those that it knows.
 pub fn search_onward(
     fields: &ScheduleFields,
     zone: &TimeZone<'_>,

@@ -1,5 +1,5 @@
-//! The times of a day that have a reading, without counts: a stretch of civil seconds that is known to have
-//! none is passed in one step.
+//! The times of a day that have a reading, without counts: a stretch of civil seconds that is known
+//! to have none is passed in one step.
 ghost use Rattle.std.specs.Prelude.{◌≡◌, ℕ, ◌+◌, ◌*◌, ◌<◌, [], true, pos, IfSome, MatchOption, option_map};
 ghost use Rattle.jiff.specs.Words.{plain_zone};
 ghost use Rattle.cron_units.specs.Nearest.{IsNearest, LiesFrom, Precedes};
@@ -55,8 +55,8 @@ fn past_stretch(stretch: &Stretch, way: Way, day: u32, time: u32) -> Option<u32>
     }
 }
 
-// Past a time of the day that has no reading, the next one that lies in the sets and may have a reading. It is
-// asked for in a gap alone.
+// Past a time of the day that has no reading, the next one that lies in the sets and may have a
+// reading. It is asked for in a gap alone.
 #[inline(never)]
 fn past_gap(
     fields: &ScheduleFields,
@@ -78,8 +78,8 @@ fn past_gap(
     TimesOfDay::nearest(&members, way, from)
 }
 
-/// A day whose date matches: its times of day are gone through from the first one on, until one has a reading.
-/// The first one is the nearest from `from` on.
+/// A day whose date matches: its times of day are gone through from the first one on, until one has
+/// a reading. The first one is the nearest from `from` on.
 #[inline(always)]
 pub(crate) fn search_readable(
     fields: &ScheduleFields,

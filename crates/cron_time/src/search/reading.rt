@@ -10,8 +10,8 @@ use cron_clocks::stretch::Stretch;
 use cron_moments::readings::{Found, readings_of};
 use jiff::tz::TimeZone;
 
-/// The readings of a civil second, in the stretch that is known or by the zone. Where a zone has more than one
-/// offset, the stretch of civil seconds around this one is known from now on.
+/// The readings of a civil second, in the stretch that is known or by the zone. Where a zone has
+/// more than one offset, the stretch of civil seconds around this one is known from now on.
 #[inline(always)]
 pub(crate) fn readings_within(
     zone: &TimeZone<'_>,

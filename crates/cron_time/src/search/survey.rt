@@ -29,7 +29,8 @@ fn survey_of(inquiry: &Inquiry<'_>, seconds: u32) -> Survey
 }
 
 /// Searches ahead from a number, then from the second after each answer, until so many are found or
-/// a search finds none. Where an answer isn't at 23:59:59 the search past it looks at its day again.
+/// a search finds none. Where an answer isn't at 23:59:59 the search past it looks at its day
+/// again.
 pub fn survey(fields: &ScheduleFields, zone: &TimeZone<'_>, from: i64, count: u32) -> Survey
     ensures seconds { result.seconds
         ≡ length (take count (standing_from fields.now (plain_zone zone.now) from)) }

@@ -1,5 +1,5 @@
-//! The nearest time of day, by hour, then by minute and second: so at most 7 members are asked for. By hour
-//! and minute, then second, it would be up to 8.
+//! The nearest time of day, by hour, then by minute and second: so at most 7 members are asked for.
+//! By hour and minute, then second, it would be up to 8.
 
 ghost use Rattle.std.specs.Prelude.{◌<◌, ◌≤◌, MatchOption, option_map};
 ghost use Rattle.cron_units.specs.Sets.{AreSets};

@@ -32,9 +32,10 @@ fn is_whole(instant: Timestamp, zone: &TimeZone<'_>) -> bool
     instant.as_nanosecond() == instant.to_plain().floor_second() as i128 * SECOND
 }
 
-/// The number of the civil second that a clock shows one second after the start; or, back, of the one that it
-/// shows at the start, where that has a part of a second, and else one second before. Where a rule is looked up
-/// for it, the stretch may become that of this civil second, so that it needn't be looked up once more.
+/// The number of the civil second that a clock shows one second after the start; or, back, of the
+/// one that it shows at the start, where that has a part of a second, and else one second before.
+/// Where a rule is looked up for it, the stretch may become that of this civil second, so that it
+/// needn't be looked up once more.
 pub(crate) fn bound(
     way: Way,
     start: Timestamp,

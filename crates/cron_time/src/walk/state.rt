@@ -26,9 +26,10 @@ pub(crate) enum Stage {
     Ended,
 }
 
-/// The stage of a walk, the readings of its civil second, and the instant that it started from. What
-/// the stage doesn't speak of means nothing. The days are those of the month that was looked up last, as far
-/// as they are known, and the stretch, perhaps an empty one, is the one in which a reading was last looked for.
+/// The stage of a walk, the readings of its civil second, and the instant that it started from.
+/// What the stage doesn't speak of means nothing. The days are those of the month that was looked
+/// up last, as far as they are known, and the stretch, perhaps an empty one, is the one in which a
+/// reading was last looked for.
 #[derive(Clone, Copy)]
 pub struct State {
     pub(crate) stage: Stage,
@@ -56,7 +57,8 @@ impl State {
         }
     }
 
-    /// Goes where a search led: to the first of the readings found, in this direction, or to the end.
+    /// Goes where a search led: to the first of the readings found, in this direction, or to the
+    /// end.
     #[inline(always)]
     pub(crate) fn arrive(&mut self, way: Way, found: Option<Found>)
         ensures stand { stand_of self.new ≡ stop_of way found }

@@ -43,8 +43,8 @@ fn from_bound(fields: &ScheduleFields, zone: &TimeZone<'_>, way: Way, state: &mu
     }
 }
 
-// The walk goes to the first item from its start, whose bound isn't made where no month has a day of the
-// set.
+// The walk goes to the first item from its start, whose bound isn't made where no month has a day
+// of the set.
 #[inline(never)]
 fn from_start(fields: &ScheduleFields, zone: &TimeZone<'_>, way: Way, state: &mut State)
     requires known { Knows fields.now (plain_zone zone.now) state.old }
@@ -90,8 +90,8 @@ fn past_item(fields: &ScheduleFields, zone: &TimeZone<'_>, way: Way, state: &mut
     state.arrive(way, found)
 }
 
-// Takes a walk from where it stands to where a call in this direction leads. `BACK` says the way once
-// more, so that each has code of its own.
+// Takes a walk from where it stands to where a call in this direction leads. `BACK` says the way
+// once more, so that each has code of its own.
 fn step_one_way<const BACK: bool>(
     fields: &ScheduleFields,
     zone: &TimeZone<'_>,

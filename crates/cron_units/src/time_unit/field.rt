@@ -28,8 +28,8 @@ pub trait TimeUnitField: Copy {
         ensures unit { definition_view result ≡ unit }
         ensures keys { AreKeyed result.names };
 
-    /// Does nothing when it runs. A proof learns from it that the set has ordinals of the unit alone, in
-    /// ascending order.
+    /// Does nothing when it runs. A proof learns from it that the set has ordinals of the unit
+    /// alone, in ascending order.
     fn known(&self)
         ensures { IsSet unit (members self.now) };
 
@@ -87,7 +87,8 @@ pub trait TimeUnitField: Copy {
         ensures nearest { IsNearest way (contains (members self.now)) (pos from) result }
         ensures within { IfSome result (λ n. (unit.least ≤ n) × (n ≤ unit.greatest)) };
 
-    /// The bounds are in order, the names' ordinals are within them, and the ordinals can be counted.
+    /// The bounds are in order, the names' ordinals are within them, and the ordinals can be
+    /// counted.
     ghost is_unit: { IsUnit unit };
 
     /// What messages call the unit.

@@ -1,7 +1,7 @@
 //! Iterators over the members of a set, from both ends.
 //!
-//! An iterator keeps the bits that are left as `Wide`, whatever the unit, so no unit is a parameter of it.
-//! A step from either end clears one bit.
+//! An iterator keeps the bits that are left as `Wide`, whatever the unit, so no unit is a parameter
+//! of it. A step from either end clears one bit.
 
 ghost use Rattle.std.specs.Prelude.{◌≡◌, ◌<◌, ◌+◌, ◌^◌, ℕ, true, nat_le, nat_lt, filter};
 ghost use Rattle.std.specs.Iterator.{YieldsFirst, YieldsLast};

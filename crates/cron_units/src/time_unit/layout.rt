@@ -1,6 +1,6 @@
 //! Sets as plain words, a bit for each ordinal: bit i stands for the least ordinal plus i. The C
-//! interface names this module, and so does `cron_time`, for the days of a month that match. `cron` passes
-//! none of it on, so its users see no layout.
+//! interface names this module, and so does `cron_time`, for the days of a month that match. `cron`
+//! passes none of it on, so its users see no layout.
 
 ghost use Rattle.std.specs.Prelude.{◌≡◌, ◌<◌, ◌+◌, ◌-◌, ◌^◌, ℕ};
 ghost use Rattle.cron_bits.specs.Words.{bit_of_three, has_bit};
@@ -27,8 +27,8 @@ pub fn bits<U: UnitTable<u64>>(set: &Ordinals<U, u64>) -> u64
     set.words.word(0)
 }
 
-/// Makes the set of the ordinals whose bits in three words are 1: bit i of the second stands for the
-/// least ordinal plus 64 + i, and so on. A bit past that of the greatest ordinal means nothing.
+/// Makes the set of the ordinals whose bits in three words are 1: bit i of the second stands for
+/// the least ordinal plus 64 + i, and so on. A bit past that of the greatest ordinal means nothing.
 pub fn from_three<U: UnitTable<Wide>>(first: u64, second: u64, third: u64) -> Ordinals<U, Wide>
     ensures { result ≡ set_of U.unit (λ x. bit_of_three first second third (x - U.unit.least)) }
 {
@@ -46,8 +46,8 @@ pub fn three<U: UnitTable<Wide>>(set: &Ordinals<U, Wide>) -> (u64, u64, u64)
     (words.word(0), words.word(1), words.word(2))
 }
 
-/// Makes the set of the numbered days whose bits are 1, where bit i stands for day i + 1, and of the
-/// last day of the month where it is marked. A bit past that of day 31 means nothing.
+/// Makes the set of the numbered days whose bits are 1, where bit i stands for day i + 1, and of
+/// the last day of the month where it is marked. A bit past that of day 31 means nothing.
 pub fn days_from_bits(bits: u64, last_day: bool) -> DaysOfMonth
     ensures { result
         ≡ with_mark (set_of days_of_month (λ x. has_bit bits (x - days_of_month.least))) last_day }

@@ -1,4 +1,5 @@
-//! The names of ordinals, in small letters, and the look-up in any case of letters: by one comparison of numbers.
+//! The names of ordinals, in small letters, and the look-up in any case of letters: by one
+//! comparison of numbers.
 
 ghost use Rattle.std.specs.Prelude.{◌≡◌, ◌∷◌, ◌++◌, [], ℕ, List, true, false, Some, IfSome, MatchOption};
 ghost use Rattle.std.specs.List.{list_all};
@@ -8,8 +9,8 @@ ghost use Rattle.cron_units.specs.Tables.{ordinals_view, are_keyed, keyed_in};
 
 use super::Ordinal;
 
-/// The letters of a name as one number, five bits for each. A word with more letters than any name has a
-/// key that is no name's.
+/// The letters of a name as one number, five bits for each. A word with more letters than any name
+/// has a key that is no name's.
 pub type Key = u64;
 
 /// What no key of a name reaches.
@@ -22,12 +23,12 @@ pub struct Names {
     pub noun: &'static str,
     /// Each name, in small letters, with its ordinal.
     pub ordinals: &'static [(&'static str, Ordinal)],
-    /// The names' keys with their ordinals, each in the slot that its key gives. Where no name's key gives
-    /// a slot, the first name stands there once more.
+    /// The names' keys with their ordinals, each in the slot that its key gives. Where no name's
+    /// key gives a slot, the first name stands there once more.
     pub slots: &'static [(Key, Ordinal)],
-    /// The slot of a key is the first five bits of its product with this number: an odd one by which no two
-    /// keys of the unit share a slot, found by trying. `definition` holds the table to it (`AreKeyed`), so
-    /// where a name is added and it no longer does, nothing is proved.
+    /// The slot of a key is the first five bits of its product with this number: an odd one by
+    /// which no two keys of the unit share a slot, found by trying. `definition` holds the table to
+    /// it (`AreKeyed`), so where a name is added and it no longer does, nothing is proved.
     pub spread: u64,
 }
 

@@ -36,7 +36,8 @@ pub trait UnitTable<W: Words>: Copy {
         Self::definition().greatest
     }
 
-    /// The bounds are in order, the names' ordinals are within them, and the ordinals can be counted.
+    /// The bounds are in order, the names' ordinals are within them, and the ordinals can be
+    /// counted.
     ghost is_unit: { IsUnit unit };
 
     /// No name means the last day of the month.
@@ -89,8 +90,8 @@ impl<U: UnitTable<W>, W: Words> Clone for Ordinals<U, W> {
 impl<U: UnitTable<W>, W: Words> Copy for Ordinals<U, W> {}
 
 impl<U: UnitTable<W>, W: Words> Ordinals<U, W> {
-    /// Makes the set of the ordinals whose bits are 1. A bit past that of the greatest ordinal means
-    /// nothing.
+    /// Makes the set of the ordinals whose bits are 1. A bit past that of the greatest ordinal
+    /// means nothing.
     pub(super) fn cut(words: W) -> Ordinals<U, W>
         requires { W.IsFit words }
         ensures { result ≡ set_of U.unit (λ x. W.has words (x - U.unit.least)) }

@@ -33,8 +33,8 @@ pub trait TimeUnitSpec {
         ensures set { IsSet time_unit (ordinals self.now) }
         ensures countable { length result < 2 ^ 32 };
 
-    /// Goes over the members between two bounds, in ascending order. The first bound may not lie above the second, nor both
-    /// exclude one number; a bound need not be an ordinal of the unit.
+    /// Goes over the members between two bounds, in ascending order. The first bound may not lie
+    /// above the second, nor both exclude one number; a bound need not be an ordinal of the unit.
     fn range(&self, range: (Bound<Ordinal>, Bound<Ordinal>)) -> OrdinalRangeIter<'_>
         requires { IsForward range.0 range.1 }
         ensures members { result ≡ filter (is_within range.0 range.1) (ordinals self.now) }

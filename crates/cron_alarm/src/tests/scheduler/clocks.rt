@@ -13,8 +13,8 @@ pub(super) enum Fault {
     Full,
 }
 
-/// Shows the times that it was told, one after another, and fails behind them. A wait takes no time, and
-/// is noted.
+/// Shows the times that it was told, one after another, and fails behind them. A wait takes no
+/// time, and is noted.
 #[derive(Drop)]
 pub(super) struct Told<'a> {
     times: &'a [i64],
