@@ -31,7 +31,8 @@ pub fn headline(
     zone: &TimeZone<'_>,
     turns: &[Turn],
 ) -> Result<Vec<Option<Moment>>, Error>
-    ensures walked { IfOk result (λ answers. IsWalked text.now (plain_zone zone.now) start.nanosecond turns.now answers.items) }
+    ensures walked { IfOk result (λ answers. IsWalked text.now
+        (plain_zone zone.now) start.nanosecond turns.now answers.items) }
     ensures refused { IfErr result (Tells (IsRefusal text.now)) }
 {
     let schedule = Schedule::from_str(alloc, text)?;
@@ -65,9 +66,12 @@ pub fn first_instants(
     zone: &TimeZone<'_>,
 ) -> (Option<Moment>, Option<Moment>)
     requires { one.HasOneOffset (plain_zone zone.now) (one.offset_of (plain_zone zone.now)) }
-    ensures first { IsLeastIfAny schedule.now.sets (one.offset_of (plain_zone zone.now)) start.nanosecond result.0 }
-    ensures next { IsNextIfAny schedule.now.sets (one.offset_of (plain_zone zone.now)) result.0 result.1 }
-    ensures walked { AreFirstTwo schedule.now.sets (plain_zone zone.now) start.nanosecond result.0 result.1 }
+    ensures first { IsLeastIfAny schedule.now.sets
+        (one.offset_of (plain_zone zone.now)) start.nanosecond result.0 }
+    ensures next { IsNextIfAny schedule.now.sets
+        (one.offset_of (plain_zone zone.now)) result.0 result.1 }
+    ensures walked { AreFirstTwo schedule.now.sets
+        (plain_zone zone.now) start.nanosecond result.0 result.1 }
 {
     let mut ahead = schedule.after(start, zone);
     let first = ahead.next();

@@ -87,7 +87,8 @@ impl Schedule {
         ensures means { IfOk result (λ s. Means (cow_str_bytes text.entry) s.sets) }
         ensures source { IfOk result (λ s. s.source ≡ cow_str_bytes text.entry) }
         ensures refused { IfErr result (Tells (IsRefusal (cow_str_bytes text.entry))) }
-        ensures accepted { IsOwnedStr text.entry → IfErr result (λ _. MeansNothing (cow_str_bytes text.entry)) }
+        ensures accepted { IsOwnedStr text.entry
+            → IfErr result (λ _. MeansNothing (cow_str_bytes text.entry)) }
     {
         match text {
             CowStr::Borrowed(text) => Schedule::from_str(alloc, text),

@@ -30,9 +30,10 @@ impl Schedule {
     pub fn first_at_or_after(&self, from: DateTime, zone: &TimeZone<'_>) -> Search
         ensures found { IsFound Ahead self.now.sets (plain_zone zone.now) (civil_seconds from)
             (option_map found_items result.found) }
-        ensures days { result.days ≡ days_of Ahead self.now.sets (civil_seconds from) (second_of result.found) }
-        ensures conversions { result.conversions
-            ≡ conversions Ahead self.now.sets (plain_zone zone.now) (civil_seconds from) (second_of result.found) }
+        ensures days { result.days
+            ≡ days_of Ahead self.now.sets (civil_seconds from) (second_of result.found) }
+        ensures conversions { result.conversions ≡ conversions Ahead self.now.sets
+            (plain_zone zone.now) (civil_seconds from) (second_of result.found) }
     {
         search(self.fields(), zone, Way::Ahead, civil_number(from))
     }
@@ -41,9 +42,10 @@ impl Schedule {
     pub fn last_at_or_before(&self, from: DateTime, zone: &TimeZone<'_>) -> Search
         ensures found { IsFound Back self.now.sets (plain_zone zone.now) (civil_seconds from)
             (option_map found_items result.found) }
-        ensures days { result.days ≡ days_of Back self.now.sets (civil_seconds from) (second_of result.found) }
-        ensures conversions { result.conversions
-            ≡ conversions Back self.now.sets (plain_zone zone.now) (civil_seconds from) (second_of result.found) }
+        ensures days { result.days
+            ≡ days_of Back self.now.sets (civil_seconds from) (second_of result.found) }
+        ensures conversions { result.conversions ≡ conversions Back self.now.sets
+            (plain_zone zone.now) (civil_seconds from) (second_of result.found) }
     {
         search(self.fields(), zone, Way::Back, civil_number(from))
     }
@@ -53,8 +55,8 @@ impl Schedule {
     /// and the sums of both counts. A day in which one search ends and the next begins is counted
     /// twice, so there is at most one day more than the candidates for each of the seconds found.
     pub fn survey(&self, from: DateTime, zone: &TimeZone<'_>, count: u32) -> Survey
-        ensures seconds { result.seconds
-            ≡ length (take count (standing_from self.now.sets (plain_zone zone.now) (civil_seconds from))) }
+        ensures seconds { result.seconds ≡ length
+            (take count (standing_from self.now.sets (plain_zone zone.now) (civil_seconds from))) }
         ensures conversions { result.conversions
             ≡ gap_matches self.now.sets (plain_zone zone.now)
             (surveyed self.now.sets (plain_zone zone.now) (civil_seconds from) count)

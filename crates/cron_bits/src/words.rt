@@ -110,7 +110,10 @@ pub trait Words: Copy {
     ghost countable: { size < 2 ^ 32 };
 
     /// The bits tell the words.
-    ghost remade: { (words : Self) (test : ℕ → Bool) → IsFit words → ((k : ℕ) → test k ≡ has words k) → made test ≡ words };
+    ghost remade: { (words : Self) (test : ℕ → Bool)
+        → IsFit words
+        → ((k : ℕ) → test k ≡ has words k)
+        → made test ≡ words };
 }
 
 impl Words for u64 {
@@ -244,11 +247,13 @@ impl<R: Extensible> Words for Longer<R> {
 
     ghost size = { 64 + R.size };
 
-    ghost within = { λ words. then_within (has_bit words.low) (R.has words.rest) R.size (R.within words.rest) };
+    ghost within = { λ words. then_within
+        (has_bit words.low) (R.has words.rest) R.size (R.within words.rest) };
 
     ghost countable = { R.extensible };
 
-    ghost remade = { λ words test fit. then_remade R.made R.has words test fit.0 (λ other. R.remade words.rest other fit.1) };
+    ghost remade = { λ words test fit. then_remade R.made R.has words test fit.0
+        (λ other. R.remade words.rest other fit.1) };
 
     fn none() -> Longer<R> {
         Longer {

@@ -10,7 +10,8 @@ use std::alloc::{AllocError, Global};
 
 /// Why a line is refused, `None` exactly where it is in the grammar. Want of memory is no answer.
 pub fn fault_of(alloc: Global, line: &str) -> Result<Option<String>, AllocError>
-    ensures { IfOk result (λ fault. MatchOption fault (IsInGrammar line.now) (λ text. IsRefusal line.now (string_bytes text))) }
+    ensures { IfOk result (λ fault. MatchOption fault
+        (IsInGrammar line.now) (λ text. IsRefusal line.now (string_bytes text))) }
 {
     match Schedule::from_str(alloc, line) {
         Ok(_schedule) => Ok(None),

@@ -21,7 +21,8 @@ pub struct Alarms {
 
 // The instant of an item, if there is one.
 fn instant_of(moment: Option<Moment>) -> Option<Timestamp>
-    ensures { option_map (λ t. t.nanosecond) result ≡ option_map (λ r. instant r *ℤ pos 1_000_000_000) moment }
+    ensures { option_map (λ t. t.nanosecond) result
+        ≡ option_map (λ r. instant r *ℤ pos 1_000_000_000) moment }
 {
     let moment = moment?;
     Some(moment.timestamp())

@@ -47,7 +47,8 @@ pub fn last_items(
 /// How many items a walk ahead from a start has, up to so many. Where the start lies in a fold,
 /// later instants may be left out, and the start or an instant before it counted.
 pub fn count_items(schedule: &Schedule, start: Timestamp, zone: &TimeZone<'_>, most: usize) -> usize
-    ensures { result ≡ length (take most (items_ahead schedule.now.sets (plain_zone zone.now) start.nanosecond)) }
+    ensures { result ≡ length
+        (take most (items_ahead schedule.now.sets (plain_zone zone.now) start.nanosecond)) }
 {
     schedule.after(start, zone).take(most).count()
 }
@@ -62,8 +63,8 @@ pub fn items_of_day(
     date: Date,
     zone: &TimeZone<'_>,
 ) -> Result<Vec<Moment>, AllocError>
-    ensures { IfOk result (λ listed. listed.items
-        ≡ take_while (is_through date) (items_ahead schedule.now.sets (plain_zone zone.now) eve.nanosecond)) }
+    ensures { IfOk result (λ listed. listed.items ≡ take_while (is_through date)
+        (items_ahead schedule.now.sets (plain_zone zone.now) eve.nanosecond)) }
 {
     let mut listed = Vec::new(alloc);
     let last = date.to_plain().to_unix_epoch_day();

@@ -23,7 +23,8 @@ pub fn year_count(schedule: &Schedule) -> usize
 /// most.
 pub fn count_hours(schedule: &Schedule, first: Ordinal, last: Ordinal) -> usize
     requires { first ≤ last }
-    ensures { result ≡ length (filter (is_within (Included first) (Included last)) schedule.now.sets.hours) }
+    ensures { result
+        ≡ length (filter (is_within (Included first) (Included last)) schedule.now.sets.hours) }
 {
     schedule
         .hours()
@@ -46,7 +47,8 @@ pub fn minutes_between(
     last: Ordinal,
 ) -> Result<Vec<Ordinal>, AllocError>
     requires { first ≤ last }
-    ensures { IfOk result (λ minutes. minutes.items ≡ filter (is_within (Included first) (Included last)) schedule.now.sets.minutes) }
+    ensures { IfOk result (λ minutes. minutes.items
+        ≡ filter (is_within (Included first) (Included last)) schedule.now.sets.minutes) }
 {
     schedule
         .minutes()
@@ -56,7 +58,8 @@ pub fn minutes_between(
 
 /// The months from June to August, the last one first.
 pub fn summer_months(alloc: Global, schedule: &Schedule) -> Result<Vec<Ordinal>, AllocError>
-    ensures { IfOk result (λ months. months.items ≡ reverse (filter (is_within (Included 6) (Included 8)) schedule.now.sets.months)) }
+    ensures { IfOk result (λ months. months.items
+        ≡ reverse (filter (is_within (Included 6) (Included 8)) schedule.now.sets.months)) }
 {
     schedule
         .months()
@@ -67,7 +70,8 @@ pub fn summer_months(alloc: Global, schedule: &Schedule) -> Result<Vec<Ordinal>,
 
 /// The first month from June to September, if there is one.
 pub fn some_warm_month(schedule: &Schedule) -> Option<Ordinal>
-    ensures { result ≡ slice_get (filter (is_within (Included 6) (Included 9)) schedule.now.sets.months) 0 }
+    ensures { result
+        ≡ slice_get (filter (is_within (Included 6) (Included 9)) schedule.now.sets.months) 0 }
 {
     schedule
         .months()
@@ -79,7 +83,8 @@ pub fn some_warm_month(schedule: &Schedule) -> Option<Ordinal>
 /// month is between. The first is the last at most.
 pub fn greatest_month(schedule: &Schedule, first: Ordinal, last: Ordinal) -> Option<Ordinal>
     requires { first ≤ last }
-    ensures { result ≡ reduce max (filter (is_within (Included first) (Included last)) schedule.now.sets.months) }
+    ensures { result ≡ reduce max
+        (filter (is_within (Included first) (Included last)) schedule.now.sets.months) }
 {
     let mut greatest = None;
     for month in schedule

@@ -18,7 +18,8 @@ pub struct Request<'a> {
 
 // A path, or none. A word that begins with a dash is no path.
 fn file_of(words: &[String]) -> Option<Option<&str>>
-    ensures value { IfSome result (λ file. NamesFile (map string_bytes words.now) (option_copied file)) }
+    ensures value { IfSome result
+        (λ file. NamesFile (map string_bytes words.now) (option_copied file)) }
     ensures refused { IsNone result → NamesNoFile (map string_bytes words.now) }
 {
     let Some((path, others)) = words.split_first() else {

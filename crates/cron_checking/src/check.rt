@@ -95,7 +95,8 @@ fn tell_lines<R: Readable, W: Watchable>(
     gathered: &mut Gathered,
     out: &mut Watched<W>,
 ) -> Outcome
-    ensures tells { TellsAll mode.now (R.remaining reader.old) (R.remaining reader.new) W.contents W.writes gathered.old out.old gathered.new out.new result }
+    ensures tells { TellsAll mode.now (R.remaining reader.old) (R.remaining reader.new)
+        W.contents W.writes gathered.old out.old gathered.new out.new result }
     ensures reads { AreReads R.reads reader.old reader.new }
 {
     let mut line = Vec::new(alloc);
@@ -138,7 +139,8 @@ pub(crate) fn finish<W: Watchable>(out: &mut Watched<W>, end: Outcome) -> Outcom
         → IsSent origin (W.contents (writer_of out.old)) (has_failed out.old) text
         → Ends end text origin (W.contents (writer_of out.new)) result }
     ensures mark { has_failed out.new ≡ is_write_failure result }
-    ensures calls { IsFlushed W.flushes (writer_of out.old) (has_failed out.old) (writer_of out.new) (has_failed out.new) }
+    ensures calls { IsFlushed W.flushes
+        (writer_of out.old) (has_failed out.old) (writer_of out.new) (has_failed out.new) }
 {
     if out.failed() {
         return Outcome::WriteFailed;
@@ -162,10 +164,13 @@ pub fn check<R: Readable, W: Watchable>(
     out: &mut Watched<W>,
 ) -> Outcome
     requires { has_failed out.old ≡ false }
-    ensures checks { Checks mode.now (R.remaining reader.old) (R.remaining reader.new) (W.contents (writer_of out.old)) (W.contents (writer_of out.new)) result }
+    ensures checks { Checks mode.now
+        (R.remaining reader.old) (R.remaining reader.new)
+        (W.contents (writer_of out.old)) (W.contents (writer_of out.new)) result }
     ensures reads { AreReads R.reads reader.old reader.new }
     ensures mark { has_failed out.new ≡ is_write_failure result }
-    ensures calls { AreWritesFlushed W.writes W.flushes (writer_of out.old) (has_failed out.old) (writer_of out.new) (has_failed out.new) }
+    ensures calls { AreWritesFlushed W.writes W.flushes
+        (writer_of out.old) (has_failed out.old) (writer_of out.new) (has_failed out.new) }
 {
     let mut gathered = Gathered::new();
     let end = tell_lines(alloc, mode, reader, &mut gathered, out);

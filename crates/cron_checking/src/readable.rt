@@ -22,11 +22,16 @@ pub trait Readable: BufRead {
         ensures err { OnErr result (vec_len line.old ≤ vec_len line.new) }
         ensures appends { StartsWith line.new.items line.old.items }
         ensures stops { StopsAt (appended_bytes line.old.items line.new.items) 10 }
-        ensures bytes { OnOk result (IfSome (Self.remaining self.old) (λ xs. line.new.items ≡ line.old.items ++ take_through 10 xs)) }
-        ensures rest { OnOk result (DropsThrough (Self.remaining self.old) (Self.remaining self.new) 10) }
+        ensures bytes { OnOk result (IfSome (Self.remaining self.old)
+            (λ xs. line.new.items ≡ line.old.items ++ take_through 10 xs)) }
+        ensures rest { OnOk result
+            (DropsThrough (Self.remaining self.old) (Self.remaining self.new) 10) }
         ensures end { IfOk result (λ n. n ≡ 0 → IsAtEnd (Self.remaining self.old)) }
-        ensures none_lost { Consumes (Self.remaining self.old) (Self.remaining self.new) (appended_bytes line.old.items line.new.items) }
-        ensures call { reads self.old result (appended_bytes line.old.items line.new.items) self.new };
+        ensures none_lost { Consumes
+            (Self.remaining self.old) (Self.remaining self.new)
+            (appended_bytes line.old.items line.new.items) }
+        ensures call { reads self.old result
+            (appended_bytes line.old.items line.new.items) self.new };
 }
 
 impl<R: BufRead> Readable for R {

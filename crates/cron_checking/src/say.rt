@@ -15,9 +15,11 @@ use cron_writer::watched::{Watched, send};
 pub fn say<W: Watchable>(out: &mut Watched<W>, line: &str, end: Outcome) -> Outcome
     requires fresh { has_failed out.old ≡ false }
     requires end { is_write_failure end ≡ false }
-    ensures ends { Ends end line.now (W.contents (writer_of out.old)) (W.contents (writer_of out.new)) result }
+    ensures ends { Ends end line.now
+        (W.contents (writer_of out.old)) (W.contents (writer_of out.new)) result }
     ensures mark { has_failed out.new ≡ is_write_failure result }
-    ensures calls { HandsOnFlushed W.writes W.flushes (writer_of out.old) (has_failed out.old) (writer_of out.new) (has_failed out.new) line.now }
+    ensures calls { HandsOnFlushed W.writes W.flushes
+        (writer_of out.old) (has_failed out.old) (writer_of out.new) (has_failed out.new) line.now }
 {
     send(out, line.as_bytes());
     finish(out, end)

@@ -13,7 +13,8 @@ use cron_units::time_unit::{DaysOfMonth, Ordinal, OrdinalIter, TimeUnitSpec};
 use std::alloc::{AllocError, Global};
 
 fn push_run(text: &mut String, first: Ordinal, last: Ordinal) -> Result<(), AllocError>
-    ensures { OnOk result (string_bytes text.new ≡ string_bytes text.old ++ short_item (run_item (first, last))) }
+    ensures { OnOk result
+        (string_bytes text.new ≡ string_bytes text.old ++ short_item (run_item (first, last))) }
 {
     if first == last {
         return write!(text, "{first}");
@@ -30,7 +31,8 @@ fn is_next(last: Ordinal, ordinal: Ordinal) -> bool
 
 // Pushes the runs of a start and of the ordinals after it.
 fn push_runs(text: &mut String, start: Ordinal, ordinals: OrdinalIter<'_>) -> Result<(), AllocError>
-    ensures { OnOk result (string_bytes text.new ≡ string_bytes text.old ++ items_text (map run_item (runs_of (start ∷ ordinals.entry)))) }
+    ensures { OnOk result (string_bytes text.new
+        ≡ string_bytes text.old ++ items_text (map run_item (runs_of (start ∷ ordinals.entry)))) }
 {
     let (mut first, mut last) = (start, start);
     for ordinal in ordinals {
@@ -46,7 +48,8 @@ fn push_runs(text: &mut String, start: Ordinal, ordinals: OrdinalIter<'_>) -> Re
 
 // Pushes the numbers of a set: a star for all of them.
 fn push_numbers<T: TimeUnitSpec>(text: &mut String, set: &T) -> Result<(), AllocError>
-    ensures { OnOk result (string_bytes text.new ≡ string_bytes text.old ++ items_text (number_items T.time_unit (T.ordinals set.now))) }
+    ensures { OnOk result (string_bytes text.new
+        ≡ string_bytes text.old ++ items_text (number_items T.time_unit (T.ordinals set.now))) }
 {
     if set.is_all() {
         return write!(text, "*");
@@ -60,7 +63,8 @@ fn push_numbers<T: TimeUnitSpec>(text: &mut String, set: &T) -> Result<(), Alloc
 
 // Pushes the numbers of a set, and a space.
 fn push_field<T: TimeUnitSpec>(text: &mut String, set: &T) -> Result<(), AllocError>
-    ensures { OnOk result (string_bytes text.new ≡ string_bytes text.old ++ (items_text (number_items T.time_unit (T.ordinals set.now)) ++ 32 ∷ [])) }
+    ensures { OnOk result (string_bytes text.new ≡ string_bytes text.old
+        ++ (items_text (number_items T.time_unit (T.ordinals set.now)) ++ 32 ∷ [])) }
 {
     push_numbers(text, set)?;
     write!(text, " ")
@@ -68,7 +72,8 @@ fn push_field<T: TimeUnitSpec>(text: &mut String, set: &T) -> Result<(), AllocEr
 
 // Pushes the days of the month, and a space.
 fn push_days(text: &mut String, days: &DaysOfMonth) -> Result<(), AllocError>
-    ensures { OnOk result (string_bytes text.new ≡ string_bytes text.old ++ (field_text units.days_of_month days.now ++ 32 ∷ [])) }
+    ensures { OnOk result (string_bytes text.new
+        ≡ string_bytes text.old ++ (field_text units.days_of_month days.now ++ 32 ∷ [])) }
 {
     push_numbers(text, days)?;
     if !days.last_day() {

@@ -49,7 +49,8 @@ fn star_numbers(field: Field, word: &str) -> Option<u64>
 /// has room for it: as a result it would be moved through memory after each field, read ones too.
 #[inline(never)]
 fn read_items<'a>(field: Field, word: &'a str, fault: &mut Fault<'a>) -> Option<u64>
-    ensures items { MatchOption result (items_of field word.now ≡ Err (fault_view fault.new)) (AreRead field word.now) }
+    ensures items { MatchOption result
+        (items_of field word.now ≡ Err (fault_view fault.new)) (AreRead field word.now) }
     ensures fit { IfSome result (λ bits. bits < 2 ^ 64) }
 {
     let mut numbers = u64::none();
@@ -76,7 +77,8 @@ fn read_items<'a>(field: Field, word: &'a str, fault: &mut Fault<'a>) -> Option<
 
 #[inline(always)]
 fn read_numbers<'a>(field: Field, word: &'a str, fault: &mut Fault<'a>) -> Option<u64>
-    ensures items { MatchOption result (items_of field word.now ≡ Err (fault_view fault.new)) (AreRead field word.now) }
+    ensures items { MatchOption result
+        (items_of field word.now ≡ Err (fault_view fault.new)) (AreRead field word.now) }
     ensures fit { IfSome result (λ bits. bits < 2 ^ 64) }
 {
     match star_numbers(field, word) {
@@ -92,7 +94,9 @@ fn next_field<'a>(
     text: &'a str,
     fault: &mut Fault<'a>,
 ) -> Option<(FieldNumbers, &'a str)>
-    ensures field { MatchOption result (field_of field (words text.now) ≡ Err (fault_view fault.new)) (λ r. IsFieldRead field (words text.now) r.0 (words r.1.now)) }
+    ensures field { MatchOption result
+        (field_of field (words text.now) ≡ Err (fault_view fault.new))
+        (λ r. IsFieldRead field (words text.now) r.0 (words r.1.now)) }
     ensures fit { IfSome result (λ r. r.0.numbers < 2 ^ 64) }
 {
     let Some((word, rest)) = next_word(text) else {
@@ -106,7 +110,8 @@ fn next_field<'a>(
 
 /// Reads five fields, behind which nothing stands.
 pub(crate) fn read_five<'a>(text: &'a str, fault: &mut Fault<'a>) -> Option<FiveNumbers>
-    ensures five { MatchOption result (five_of (words text.now) ≡ Err (fault_view fault.new)) (AreFiveRead (words text.now)) }
+    ensures five { MatchOption result
+        (five_of (words text.now) ≡ Err (fault_view fault.new)) (AreFiveRead (words text.now)) }
     ensures fit { IfSome result (λ five. five.day_of_week.numbers < 2 ^ 64) }
 {
     let (minute, rest) = next_field(Field::Minute, text, fault)?;

@@ -33,7 +33,9 @@ pub(crate) fn begins_with_star(text: &str) -> bool
 /// Reads one number, or two with a dash between them.
 #[inline(always)]
 fn read_range<'a>(field: Field, text: &'a str) -> Result<Base, Reason<'a>>
-    ensures base { MatchResult result (λ b. between field (pieces 45 text.now) ≡ Ok (base_view b)) (λ r. between field (pieces 45 text.now) ≡ Err (reason_view r)) }
+    ensures base { MatchResult result
+        (λ b. between field (pieces 45 text.now) ≡ Ok (base_view b))
+        (λ r. between field (pieces 45 text.now) ≡ Err (reason_view r)) }
     ensures within { IfOk result (IsBaseWithin field) }
 {
     let (first, behind) = cut_at(text, b'-');
@@ -52,7 +54,9 @@ fn read_range<'a>(field: Field, text: &'a str) -> Result<Base, Reason<'a>>
 /// Reads what stands before a step.
 #[inline(always)]
 pub(crate) fn read_base<'a>(field: Field, text: &'a str) -> Result<Base, Reason<'a>>
-    ensures base { MatchResult result (λ b. base_of field text.now ≡ Ok (base_view b)) (λ r. base_of field text.now ≡ Err (reason_view r)) }
+    ensures base { MatchResult result
+        (λ b. base_of field text.now ≡ Ok (base_view b))
+        (λ r. base_of field text.now ≡ Err (reason_view r)) }
     ensures within { IfOk result (IsBaseWithin field) }
 {
     if !begins_with_star(text) {
@@ -73,7 +77,10 @@ fn bits_of(least: u32, first: u32, last: u32, every: u32) -> u64
     requires room { last < least + 64 }
     requires every { 0 < every }
     ensures fit { result < 2 ^ 64 }
-    ensures bits { (x : ℕ) → least ≤ x → has_bit result (x - least) ≡ in_steps (record { first = first; last = last; every = every }) x }
+    ensures bits { (x : ℕ)
+        → least ≤ x
+        → has_bit result (x - least)
+        ≡ in_steps (record { first = first; last = last; every = every }) x }
 {
     u64::every_nth(first - least, every).below(last - least + 1)
 }
@@ -104,7 +111,8 @@ fn single_bits(field: Field, text: &str) -> Option<u64>
 
 /// Reads an item of a field, where it isn't one number.
 fn read_longer<'a>(field: Field, text: &'a str) -> Result<u64, Reason<'a>>
-    ensures item { MatchResult result (IsItemRead field text.now) (λ r. item_of field text.now ≡ Err (reason_view r)) }
+    ensures item { MatchResult result
+        (IsItemRead field text.now) (λ r. item_of field text.now ≡ Err (reason_view r)) }
     ensures fit { IfOk result (λ bits. bits < 2 ^ 64) }
 {
     let (front, behind) = cut_at(text, b'/');
@@ -126,7 +134,8 @@ fn read_longer<'a>(field: Field, text: &'a str) -> Result<u64, Reason<'a>>
 /// Reads an item of a field.
 #[inline(always)]
 pub(crate) fn read_item<'a>(field: Field, text: &'a str) -> Result<u64, Reason<'a>>
-    ensures item { MatchResult result (IsItemRead field text.now) (λ r. item_of field text.now ≡ Err (reason_view r)) }
+    ensures item { MatchResult result
+        (IsItemRead field text.now) (λ r. item_of field text.now ≡ Err (reason_view r)) }
     ensures fit { IfOk result (λ bits. bits < 2 ^ 64) }
 {
     match single_bits(field, text) {

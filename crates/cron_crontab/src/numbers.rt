@@ -53,7 +53,9 @@ fn are_digits(text: &[u8]) -> bool
 /// The number that a text spells which is digits alone, nine at most. They are looked at once.
 #[inline(always)]
 fn lone_digits(text: &[u8]) -> Option<u32>
-    ensures { MatchOption result (0 < length text.now → list_all is_ascii_digit text.now ≡ true → 9 < length text.now) (AreDigits text.now) }
+    ensures { MatchOption result
+        (0 < length text.now → list_all is_ascii_digit text.now ≡ true → 9 < length text.now)
+        (AreDigits text.now) }
 {
     if text.is_empty() || text.len() > MOST_DIGITS {
         return None;
@@ -80,7 +82,8 @@ enum Spelling {
 
 #[inline(always)]
 fn spelling_of(text: &[u8]) -> Spelling
-    ensures { (other : Result ℕ refusals.Reason) → spelt text.now other ≡ spelling_view other result }
+    ensures { (other : Result ℕ refusals.Reason)
+        → spelt text.now other ≡ spelling_view other result }
 {
     match lone_digits(text) {
         Some(number) => Spelling::Number(number),
@@ -130,7 +133,9 @@ pub(crate) fn lone_number(field: Field, text: &str) -> Option<u32>
 
 /// Reads a number of a field, or a name, as it is written.
 fn read_front<'a>(field: Field, text: &'a str) -> Result<u32, Reason<'a>>
-    ensures number { MatchResult result (λ n. number_of field text.now ≡ Ok n) (λ r. number_of field text.now ≡ Err (reason_view r)) }
+    ensures number { MatchResult result
+        (λ n. number_of field text.now ≡ Ok n)
+        (λ r. number_of field text.now ≡ Err (reason_view r)) }
     ensures within { IfOk result (IsWithin field) }
 {
     if text.is_empty() {
@@ -157,7 +162,9 @@ fn read_front<'a>(field: Field, text: &'a str) -> Result<u32, Reason<'a>>
 /// Reads a number of a field, or a name.
 #[inline(always)]
 pub(crate) fn read_number<'a>(field: Field, text: &'a str) -> Result<u32, Reason<'a>>
-    ensures number { MatchResult result (λ n. number_of field text.now ≡ Ok n) (λ r. number_of field text.now ≡ Err (reason_view r)) }
+    ensures number { MatchResult result
+        (λ n. number_of field text.now ≡ Ok n)
+        (λ r. number_of field text.now ≡ Err (reason_view r)) }
     ensures within { IfOk result (IsWithin field) }
 {
     match lone_number(field, text) {
@@ -169,7 +176,8 @@ pub(crate) fn read_number<'a>(field: Field, text: &'a str) -> Result<u32, Reason
 /// Reads a step.
 #[inline(always)]
 pub(crate) fn read_step(text: &str) -> Result<u32, Reason<'_>>
-    ensures step { MatchResult result (λ n. step_of text.now ≡ Ok n) (λ r. step_of text.now ≡ Err (reason_view r)) }
+    ensures step { MatchResult result
+        (λ n. step_of text.now ≡ Ok n) (λ r. step_of text.now ≡ Err (reason_view r)) }
     ensures positive { IfOk result (λ n. 0 < n) }
 {
     if text.is_empty() {

@@ -73,7 +73,9 @@ fn is_capital(word: &str) -> bool
 
 /// Reads five fields.
 fn read_fields(text: &str) -> Result<Expression, Fault<'_>>
-    ensures { MatchResult result (λ e. meant_by (words text.now) ≡ Ok (expression_view e)) (λ fault. meant_by (words text.now) ≡ Err (fault_view fault)) }
+    ensures { MatchResult result
+        (λ e. meant_by (words text.now) ≡ Ok (expression_view e))
+        (λ fault. meant_by (words text.now) ≡ Err (fault_view fault)) }
 {
     let mut fault = Fault::NoField(Field::Minute);
     match read_five(text, &mut fault) {
@@ -84,7 +86,9 @@ fn read_fields(text: &str) -> Result<Expression, Fault<'_>>
 
 /// Reads a word that begins with `@`.
 fn read_nickname(word: &str) -> Result<Expression, Fault<'_>>
-    ensures { MatchResult result (λ e. nickname_of word.now ≡ Ok (expression_view e)) (λ fault. nickname_of word.now ≡ Err (fault_view fault)) }
+    ensures { MatchResult result
+        (λ e. nickname_of word.now ≡ Ok (expression_view e))
+        (λ fault. nickname_of word.now ≡ Err (fault_view fault)) }
 {
     if word == REBOOT {
         return Ok(Expression::Reboot);
@@ -108,7 +112,8 @@ fn begins_with_at(word: &str) -> bool
 /// Reads an expression of a crontab: five fields, or a nickname, with white space around and
 /// between them.
 pub fn read(text: &str) -> Result<Expression, Fault<'_>>
-    ensures { MatchResult result (λ e. Means text.now (expression_view e)) (λ fault. Refuses text.now (fault_view fault)) }
+    ensures { MatchResult result
+        (λ e. Means text.now (expression_view e)) (λ fault. Refuses text.now (fault_view fault)) }
 {
     let Some((word, rest)) = next_word(text) else {
         return Err(Fault::NoField(Field::Minute));

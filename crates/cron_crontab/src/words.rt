@@ -26,7 +26,9 @@ fn mark_at(text: &[u8], mark: u8) -> usize
 #[inline(always)]
 pub fn cut_at(text: &str, mark: u8) -> (&str, Option<&str>)
     requires { mark < 128 }
-    ensures pieces { MatchOption result.1 (pieces mark text.now ≡ result.0.now ∷ []) (λ rest. pieces mark text.now ≡ result.0.now ∷ pieces mark rest.now) }
+    ensures pieces { MatchOption result.1
+        (pieces mark text.now ≡ result.0.now ∷ [])
+        (λ rest. pieces mark text.now ≡ result.0.now ∷ pieces mark rest.now) }
     ensures text { IfSome result.1 (λ rest. IsUtf8 rest.now) }
     ensures shorter { IfSome result.1 (λ rest. length rest.now < length text.now) }
 {
@@ -71,7 +73,8 @@ fn word_end(text: &[u8], from: usize) -> usize
 
 /// The first word of a text, and what stands behind it. White space stands between words.
 pub fn next_word(text: &str) -> Option<(&str, &str)>
-    ensures words { MatchOption result (words text.now ≡ []) (λ r. words text.now ≡ r.0.now ∷ words r.1.now) }
+    ensures words { MatchOption result
+        (words text.now ≡ []) (λ r. words text.now ≡ r.0.now ∷ words r.1.now) }
     ensures filled { IfSome result (λ r. 0 < length r.0.now) }
 {
     let bytes = text.as_bytes();

@@ -86,7 +86,8 @@ impl<'a> Dues<'a> {
         now: Timestamp,
         zone: &'a TimeZone<'a>,
     ) -> Dues<'a>
-        ensures { result ≡ dues_between schedule.now.sets (plain_zone zone.now) last.nanosecond now.nanosecond }
+        ensures { result
+            ≡ dues_between schedule.now.sets (plain_zone zone.now) last.nanosecond now.nanosecond }
     {
         Dues {
             run: Run::between(fields_of(schedule), last, now, zone),
@@ -100,7 +101,8 @@ impl<'a> Dues<'a> {
         now: Timestamp,
         zone: &'a TimeZone<'a>,
     ) -> Dues<'a>
-        ensures { result ≡ dues_past_by schedule.now.sets (plain_zone zone.now) fire.now now.nanosecond }
+        ensures { result
+            ≡ dues_past_by schedule.now.sets (plain_zone zone.now) fire.now now.nanosecond }
     {
         Dues {
             run: Run::past_by(fields_of(schedule), fire, now, zone),

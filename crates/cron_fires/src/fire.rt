@@ -30,11 +30,15 @@ pub trait Fire: Copy {
 
     /// The first fire after an instant.
     fn first_after(schedule: &Schedule, now: Timestamp, zone: &TimeZone<'_>) -> Option<Self>
-        ensures { IsFirstOf (after schedule.now.sets (plain_zone zone.now) now.nanosecond) (past schedule.now.sets (plain_zone zone.now)) result };
+        ensures { IsFirstOf
+            (after schedule.now.sets (plain_zone zone.now) now.nanosecond)
+            (past schedule.now.sets (plain_zone zone.now)) result };
 
     /// The next fire after this one.
     fn first_past(schedule: &Schedule, fire: &Self, zone: &TimeZone<'_>) -> Option<Self>
-        ensures { IsFirstOf (past schedule.now.sets (plain_zone zone.now) fire.now) (past schedule.now.sets (plain_zone zone.now)) result };
+        ensures { IsFirstOf
+            (past schedule.now.sets (plain_zone zone.now) fire.now)
+            (past schedule.now.sets (plain_zone zone.now)) result };
 
     /// A law, for a caller's proof: from fire to fire instants never decrease.
     fn never_decrease()

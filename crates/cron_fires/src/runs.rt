@@ -60,7 +60,8 @@ impl<'a> Fires<'a> {
         now: Timestamp,
         zone: &'a TimeZone<'a>,
     ) -> Fires<'a>
-        ensures { result ≡ fires_between schedule.now.sets (plain_zone zone.now) last.nanosecond now.nanosecond }
+        ensures { result
+            ≡ fires_between schedule.now.sets (plain_zone zone.now) last.nanosecond now.nanosecond }
     {
         Fires {
             run: Run::between(fields_of(schedule), last, now, zone),

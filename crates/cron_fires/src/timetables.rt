@@ -23,7 +23,8 @@ pub trait Timetable {
 
     /// The earliest fire whose instant comes after `now`. `None` where there is none.
     fn first_after(&self, now: Timestamp, zone: &TimeZone<'_>) -> Option<Moment>
-        ensures { IsFirstAfterAny (schedules self.now) (plain_zone zone.now) now.nanosecond result };
+        ensures { IsFirstAfterAny
+            (schedules self.now) (plain_zone zone.now) now.nanosecond result };
 
     /// The earliest fire that is later than this one. `None` where there is none.
     fn first_past(&self, fire: &Moment, zone: &TimeZone<'_>) -> Option<Moment>
@@ -36,7 +37,8 @@ pub trait Timetable {
     /// By the rule that each match is due once: of the due fires whose instant comes after `now`
     /// the first.
     fn first_due_after(&self, now: Timestamp, zone: &TimeZone<'_>) -> Option<DueFire>
-        ensures { IsFirstDueAfterAny (schedules self.now) (plain_zone zone.now) now.nanosecond result };
+        ensures { IsFirstDueAfterAny
+            (schedules self.now) (plain_zone zone.now) now.nanosecond result };
 
     /// Of the due fires past this one the first.
     fn first_due_past(&self, fire: &DueFire, zone: &TimeZone<'_>) -> Option<DueFire>

@@ -57,9 +57,11 @@ impl From<Outcome> for Status {
 // The arguments ask for a list.
 fn list<W: Watchable>(alloc: Global, request: &Request<'_>, out: &mut Watched<W>) -> Status
     requires { has_failed out.old ≡ false }
-    ensures answered { Lists request.now (W.contents (writer_of out.old)) (W.contents (writer_of out.new)) result }
+    ensures answered { Lists request.now
+        (W.contents (writer_of out.old)) (W.contents (writer_of out.new)) result }
     ensures mark { has_failed out.new ≡ is_failed result }
-    ensures calls { AreWritesFlushed W.writes W.flushes (writer_of out.old) (has_failed out.old) (writer_of out.new) (has_failed out.new) }
+    ensures calls { AreWritesFlushed W.writes W.flushes
+        (writer_of out.old) (has_failed out.old) (writer_of out.new) (has_failed out.new) }
 {
     let outcome = run(
         alloc,
@@ -76,9 +78,12 @@ fn list<W: Watchable>(alloc: Global, request: &Request<'_>, out: &mut Watched<W>
 /// Writes the usage line, and flushes. No call of the writer may have failed before.
 pub fn usage<W: Watchable>(out: &mut Watched<W>) -> Status
     requires { has_failed out.old ≡ false }
-    ensures answered { IsUsage (W.contents (writer_of out.old)) (W.contents (writer_of out.new)) result }
+    ensures answered { IsUsage
+        (W.contents (writer_of out.old)) (W.contents (writer_of out.new)) result }
     ensures mark { has_failed out.new ≡ is_failed result }
-    ensures calls { HandsOnFlushed W.writes W.flushes (writer_of out.old) (has_failed out.old) (writer_of out.new) (has_failed out.new) usage_line }
+    ensures calls { HandsOnFlushed W.writes W.flushes
+        (writer_of out.old) (has_failed out.old)
+        (writer_of out.new) (has_failed out.new) usage_line }
 {
     match refuse(out, USAGE) {
         Outcome::WriteFailed => Status::WriteFailed,
@@ -90,9 +95,11 @@ pub fn usage<W: Watchable>(out: &mut Watched<W>) -> Status
 /// says why there is none. No call of the writer may have failed before.
 pub fn answer<W: Watchable>(alloc: Global, arguments: &[String], out: &mut Watched<W>) -> Status
     requires { has_failed out.old ≡ false }
-    ensures answered { IsAnswered (map string_bytes arguments.now) (W.contents (writer_of out.old)) (W.contents (writer_of out.new)) result }
+    ensures answered { IsAnswered (map string_bytes arguments.now)
+        (W.contents (writer_of out.old)) (W.contents (writer_of out.new)) result }
     ensures mark { has_failed out.new ≡ is_failed result }
-    ensures calls { AreWritesFlushed W.writes W.flushes (writer_of out.old) (has_failed out.old) (writer_of out.new) (has_failed out.new) }
+    ensures calls { AreWritesFlushed W.writes W.flushes
+        (writer_of out.old) (has_failed out.old) (writer_of out.new) (has_failed out.new) }
 {
     match request_of(arguments) {
         Some(request) => list(alloc, &request, out),

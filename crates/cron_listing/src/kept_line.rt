@@ -102,10 +102,15 @@ impl KeptLine {
     #[inline(always)]
     pub(crate) fn push_to<W: Watchable>(&self, lines: &mut Gathered, out: &mut Watched<W>)
         ensures gathered { (origin : Option (List ℕ)) (before : List ℕ)
-            → IsGathered origin (W.contents (writer_of out.old)) (has_failed out.old) (kept_in lines.old) before
-            → IsGathered origin (W.contents (writer_of out.new)) (has_failed out.new) (kept_in lines.new) (before ++ item_line self.now) }
-        ensures calls { AreWrites W.writes (writer_of out.old) (has_failed out.old) (writer_of out.new) (has_failed out.new) }
-        ensures gathers { Gathers W.writes out.old out.new (kept_in lines.old) (kept_in lines.new) (item_line self.now) }
+            → IsGathered origin
+            (W.contents (writer_of out.old)) (has_failed out.old) (kept_in lines.old) before
+            → IsGathered origin
+            (W.contents (writer_of out.new)) (has_failed out.new) (kept_in lines.new)
+            (before ++ item_line self.now) }
+        ensures calls { AreWrites W.writes
+            (writer_of out.old) (has_failed out.old) (writer_of out.new) (has_failed out.new) }
+        ensures gathers { Gathers W.writes out.old out.new
+            (kept_in lines.old) (kept_in lines.new) (item_line self.now) }
     {
         lines.push_short(&self.bytes, self.len, out);
     }

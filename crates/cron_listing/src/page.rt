@@ -37,12 +37,15 @@ pub fn page<W: Watchable>(
     out: &mut Watched<W>,
 ) -> Page
     requires { has_failed out.old ≡ false }
-    ensures writes { Pages schedule.now.sets (plain_zone zone.now) last.now size back (W.contents (writer_of out.old)) (W.contents (writer_of out.new)) result }
+    ensures writes { Pages schedule.now.sets (plain_zone zone.now) last.now size back
+        (W.contents (writer_of out.old)) (W.contents (writer_of out.new)) result }
     ensures mark { has_failed out.new ≡ is_page_failure result }
     ensures untouched { result ≡ NotAnItem → out.new ≡ out.old }
     ensures calls { (result ≡ NotAnItem → ⊥)
-        → AreWritesFlushed W.writes W.flushes (writer_of out.old) (has_failed out.old) (writer_of out.new) (has_failed out.new) }
-    ensures gathers { (result ≡ NotAnItem → ⊥) → HandsOnItemsFlushed W.writes W.flushes out.old out.new }
+        → AreWritesFlushed W.writes W.flushes
+        (writer_of out.old) (has_failed out.old) (writer_of out.new) (has_failed out.new) }
+    ensures gathers { (result ≡ NotAnItem → ⊥)
+        → HandsOnItemsFlushed W.writes W.flushes out.old out.new }
 {
     let Some(mut walk) = schedule.resume(last, zone) else {
         return Page::NotAnItem;

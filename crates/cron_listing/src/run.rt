@@ -62,9 +62,13 @@ fn gather_items<W: Watchable>(
 ) -> Option<Moment>
     requires fresh { has_failed out.old ≡ false }
     requires nothing { kept_in lines.old ≡ [] }
-    ensures lines { IsGathered (W.contents (writer_of out.old)) (W.contents (writer_of out.new)) (has_failed out.new) (kept_in lines.new) (lines_of back walk.old count) }
-    ensures last { has_failed out.new ≡ false → result ≡ last_item (answers_of back walk.old count) }
-    ensures calls { AreWrites W.writes (writer_of out.old) (has_failed out.old) (writer_of out.new) (has_failed out.new) }
+    ensures lines { IsGathered
+        (W.contents (writer_of out.old)) (W.contents (writer_of out.new)) (has_failed out.new)
+        (kept_in lines.new) (lines_of back walk.old count) }
+    ensures last { has_failed out.new ≡ false
+        → result ≡ last_item (answers_of back walk.old count) }
+    ensures calls { AreWrites W.writes
+        (writer_of out.old) (has_failed out.old) (writer_of out.new) (has_failed out.new) }
     ensures gathers { GathersItems W.writes out.old out.new [] (kept_in lines.new) }
 {
     let mut line = KeptLine::new();
@@ -92,9 +96,13 @@ pub(crate) fn send_items<W: Watchable>(
     out: &mut Watched<W>,
 ) -> Option<Moment>
     requires { has_failed out.old ≡ false }
-    ensures lines { IsSent (W.contents (writer_of out.old)) (W.contents (writer_of out.new)) (has_failed out.new) (lines_of back walk.old count) }
-    ensures last { has_failed out.new ≡ false → result ≡ last_item (answers_of back walk.old count) }
-    ensures calls { AreWrites W.writes (writer_of out.old) (has_failed out.old) (writer_of out.new) (has_failed out.new) }
+    ensures lines { IsSent
+        (W.contents (writer_of out.old)) (W.contents (writer_of out.new)) (has_failed out.new)
+        (lines_of back walk.old count) }
+    ensures last { has_failed out.new ≡ false
+        → result ≡ last_item (answers_of back walk.old count) }
+    ensures calls { AreWrites W.writes
+        (writer_of out.old) (has_failed out.old) (writer_of out.new) (has_failed out.new) }
     ensures gathers { HandsOnItems W.writes out.old out.new }
 {
     let mut lines = Gathered::new();
@@ -116,8 +124,11 @@ fn message_of(error: &Error) -> &str
 // Writes the line that tells why an expression is refused.
 fn send_complaint<W: Watchable>(error: &Error, out: &mut Watched<W>)
     requires { has_failed out.old ≡ false }
-    ensures sent { IsSent (W.contents (writer_of out.old)) (W.contents (writer_of out.new)) (has_failed out.new) (complaint (error_text error.now)) }
-    ensures calls { AreWrites W.writes (writer_of out.old) (has_failed out.old) (writer_of out.new) (has_failed out.new) }
+    ensures sent { IsSent
+        (W.contents (writer_of out.old)) (W.contents (writer_of out.new)) (has_failed out.new)
+        (complaint (error_text error.now)) }
+    ensures calls { AreWrites W.writes
+        (writer_of out.old) (has_failed out.old) (writer_of out.new) (has_failed out.new) }
 {
     send(out, b"error: ");
     send(out, message_of(error).as_bytes());
@@ -132,7 +143,8 @@ pub(crate) fn finish<W: Watchable>(out: &mut Watched<W>, done: Outcome) -> Outco
         → Ends done text origin (W.contents (writer_of out.new)) result }
     ensures mark { has_failed out.new ≡ is_write_failure result }
     ensures whole { is_write_failure result ≡ false → has_failed out.old ≡ false }
-    ensures calls { IsFlushed W.flushes (writer_of out.old) (has_failed out.old) (writer_of out.new) (has_failed out.new) }
+    ensures calls { IsFlushed W.flushes
+        (writer_of out.old) (has_failed out.old) (writer_of out.new) (has_failed out.new) }
 {
     if out.failed() {
         return Outcome::WriteFailed;
@@ -148,9 +160,11 @@ pub(crate) fn finish<W: Watchable>(out: &mut Watched<W>, done: Outcome) -> Outco
 /// failed before.
 pub fn refuse<W: Watchable>(out: &mut Watched<W>, line: &str) -> Outcome
     requires { has_failed out.old ≡ false }
-    ensures ends { Ends Refused line.now (W.contents (writer_of out.old)) (W.contents (writer_of out.new)) result }
+    ensures ends { Ends Refused line.now
+        (W.contents (writer_of out.old)) (W.contents (writer_of out.new)) result }
     ensures mark { has_failed out.new ≡ is_write_failure result }
-    ensures calls { HandsOnFlushed W.writes W.flushes (writer_of out.old) (has_failed out.old) (writer_of out.new) (has_failed out.new) line.now }
+    ensures calls { HandsOnFlushed W.writes W.flushes
+        (writer_of out.old) (has_failed out.old) (writer_of out.new) (has_failed out.new) line.now }
 {
     send(out, line.as_bytes());
     finish(out, Outcome::Refused)
@@ -176,9 +190,11 @@ pub fn run<W: Watchable>(
     out: &mut Watched<W>,
 ) -> Outcome
     requires { has_failed out.old ≡ false }
-    ensures writes { Writes expression.now (plain_zone zone.now) start.nanosecond count back (W.contents (writer_of out.old)) (W.contents (writer_of out.new)) result }
+    ensures writes { Writes expression.now (plain_zone zone.now) start.nanosecond count back
+        (W.contents (writer_of out.old)) (W.contents (writer_of out.new)) result }
     ensures mark { has_failed out.new ≡ is_write_failure result }
-    ensures calls { AreWritesFlushed W.writes W.flushes (writer_of out.old) (has_failed out.old) (writer_of out.new) (has_failed out.new) }
+    ensures calls { AreWritesFlushed W.writes W.flushes
+        (writer_of out.old) (has_failed out.old) (writer_of out.new) (has_failed out.new) }
     ensures gathers { result ≡ Listed → HandsOnItemsFlushed W.writes W.flushes out.old out.new }
 {
     match Schedule::from_str(alloc, expression) {

@@ -123,7 +123,9 @@ impl Model for KnownMonth {
 
     ghost inverse = { λ month. record { month = month; first = day_number month 1 } };
 
-    ghost invariant = { λ m. (first_month ≤ m.month) × (m.month < months_end) × (m.first ≡ day_number m.month 1) };
+    ghost invariant = { λ m. (first_month ≤ m.month)
+        × (m.month < months_end)
+        × (m.first ≡ day_number m.month 1) };
 }
 
 impl KnownMonth {

@@ -9,8 +9,8 @@
 //! by that crate, and their answers were made by a copy in which three faults are mended; to all
 //! others the copy answers alike.
 //!
-//! - Late starts: the crate keeps the month, the day and the time of the start when it goes back to an
-//!   earlier year, so it misses the items late in that year.
+//! - Late starts: the crate keeps the month, the day and the time of the start when it goes back to
+//!   an earlier year, so it misses the items late in that year.
 //! - Early starts: it takes a year below 0 for one far ahead.
 //! - Turns: it keeps the other reading of an hour that a clock shows twice when a walk turns round.
 //!

@@ -42,7 +42,8 @@ pub fn answer<C: AlarmClock, W: Watchable>(
     clock: &mut C,
     printer: &mut Printer<W>,
 ) -> Result<Status, Failure<C::Error>>
-    ensures { IsAnswered C.shows C.waits W.writes W.flushes W.contents (map string_bytes arguments.now) clock.old printer.old result clock.new printer.new }
+    ensures { IsAnswered C.shows C.waits W.writes W.flushes W.contents
+        (map string_bytes arguments.now) clock.old printer.old result clock.new printer.new }
 {
     let Some(request) = request_of(arguments) else {
         return match printer.print(USAGE.as_bytes()) {

@@ -73,7 +73,8 @@ pub(crate) fn print_fires<F: Lined, C: AlarmClock, W: Watchable>(
     printer: &mut Printer<W>,
 ) -> Result<(), Stop<C::Error, WriteFailed>>
     ensures { Prints C.shows C.waits W.writes W.flushes W.contents F.line F.at
-        (planned F.after F.past plan.now.schedule.now.sets (plain_zone plan.now.zone.now) plan.now.start plan.now.most)
+        (planned F.after F.past plan.now.schedule.now.sets
+        (plain_zone plan.now.zone.now) plan.now.start plan.now.most)
         clock.old printer.old result clock.new printer.new }
 {
     plan.run(clock, printer)

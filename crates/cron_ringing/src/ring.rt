@@ -56,7 +56,8 @@ fn print_after<F: Lined, C: AlarmClock, W: Watchable>(
     printer: &mut Printer<W>,
 ) -> Result<(), Stop<C::Error, WriteFailed>>
     ensures { Prints C.shows C.waits W.writes W.flushes W.contents F.line F.at
-        (planned F.after F.past schedule.now.sets (plain_zone request.now.zone) (After now) (Some request.now.count))
+        (planned F.after F.past schedule.now.sets
+        (plain_zone request.now.zone) (After now) (Some request.now.count))
         clock.old printer.old result clock.new printer.new }
 {
     let start: Start<F> = Start::After(now);
@@ -77,8 +78,9 @@ fn print_asked<C: AlarmClock, W: Watchable>(
     clock: &mut C,
     printer: &mut Printer<W>,
 ) -> Result<(), Stop<C::Error, WriteFailed>>
-    ensures { PrintsAfter C.shows C.waits W.writes W.flushes W.contents request.now.changes schedule.now.sets (plain_zone request.now.zone) now
-        request.now.count clock.old printer.old result clock.new printer.new }
+    ensures { PrintsAfter C.shows C.waits W.writes W.flushes W.contents request.now.changes
+        schedule.now.sets (plain_zone request.now.zone) now request.now.count
+        clock.old printer.old result clock.new printer.new }
 {
     match request.changes {
         ClockChanges::AsShown => {
@@ -99,7 +101,8 @@ pub fn ring<C: AlarmClock, W: Watchable>(
     clock: &mut C,
     printer: &mut Printer<W>,
 ) -> Result<(), Failure<C::Error>>
-    ensures { Rings C.shows C.waits W.writes W.flushes W.contents request.now clock.old printer.old result clock.new printer.new }
+    ensures { Rings C.shows C.waits W.writes W.flushes W.contents request.now
+        clock.old printer.old result clock.new printer.new }
 {
     let schedule = match Schedule::from_str(alloc, request.expression) {
         Ok(schedule) => schedule,

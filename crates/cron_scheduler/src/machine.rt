@@ -23,7 +23,8 @@ fn sleep_between(now: Timestamp, instant: Timestamp) -> Duration
     ensures near { now.nanosecond ≤ℤ instant.nanosecond
         → (instant.nanosecond -ℤ now.nanosecond) ≤ℤ pos 60_000_000_000
         → pos (as_nanos result) ≡ (instant.nanosecond -ℤ now.nanosecond) }
-    ensures far { pos 60_000_000_000 ≤ℤ (instant.nanosecond -ℤ now.nanosecond) → as_nanos result ≡ 60_000_000_000 }
+    ensures far { pos 60_000_000_000 ≤ℤ (instant.nanosecond -ℤ now.nanosecond)
+        → as_nanos result ≡ 60_000_000_000 }
 {
     let nanoseconds = instant.as_nanosecond() - now.as_nanosecond();
     Duration::from_nanos(nanoseconds.clamp(0, MINUTE) as u64)

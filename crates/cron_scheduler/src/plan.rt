@@ -56,7 +56,8 @@ impl<F: Fire> Rest<F> {
 impl<F: Fire> Plan<'_, F> {
     // The first of the fires that are left.
     pub(crate) fn first(&self, rest: &Rest<F>) -> Option<F>
-        ensures { IsFirst F.after F.past self.now.schedule.now.sets (plain_zone self.now.zone.now) rest.now.start rest.now.most result }
+        ensures { IsFirst F.after F.past self.now.schedule.now.sets
+            (plain_zone self.now.zone.now) rest.now.start rest.now.most result }
     {
         if rest.most == Some(0) {
             return None;
@@ -69,7 +70,8 @@ impl<F: Fire> Plan<'_, F> {
 
     // The first of the fires that are left, if its instant is now or came before.
     pub(crate) fn first_due(&self, rest: &Rest<F>, now: Timestamp) -> Option<F>
-        ensures { IsFirstDue F.at F.after F.past self.now.schedule.now.sets (plain_zone self.now.zone.now) rest.now.start rest.now.most now.nanosecond result }
+        ensures { IsFirstDue F.at F.after F.past self.now.schedule.now.sets
+            (plain_zone self.now.zone.now) rest.now.start rest.now.most now.nanosecond result }
     {
         let first = self.first(rest)?;
         F::never_decrease();

@@ -29,8 +29,12 @@ fn run_due<F: Fire, J: Job<F>>(
     job: &mut J,
 ) -> Result<(), J::Error>
     requires { J.can_run job.old }
-    ensures due { RunsDue F.at J.runs now.nanosecond (planned F.after F.past plan.now.schedule.now.sets (plain_zone plan.now.zone.now) rest.old.start rest.old.most) job.old
-        result (planned F.after F.past plan.now.schedule.now.sets (plain_zone plan.now.zone.now) rest.new.start rest.new.most) job.new }
+    ensures due { RunsDue F.at J.runs now.nanosecond
+        (planned F.after F.past plan.now.schedule.now.sets
+        (plain_zone plan.now.zone.now) rest.old.start rest.old.most)
+        job.old result
+        (planned F.after F.past plan.now.schedule.now.sets
+        (plain_zone plan.now.zone.now) rest.new.start rest.new.most) job.new }
     ensures stays { J.can_run job.new }
 {
     while let Some(fire) = plan.first_due(rest, now) {
@@ -56,7 +60,8 @@ impl<F: Fire> Plan<'_, F> {
     ) -> Result<(), Stop<C::Error, J::Error>>
         requires { J.can_run job.old }
         ensures run { IsRun C.shows C.waits J.runs F.at
-            (planned F.after F.past self.now.schedule.now.sets (plain_zone self.now.zone.now) self.now.start self.now.most)
+            (planned F.after F.past self.now.schedule.now.sets
+            (plain_zone self.now.zone.now) self.now.start self.now.most)
             clock.old job.old result clock.new job.new }
         ensures stays { J.can_run job.new }
     {

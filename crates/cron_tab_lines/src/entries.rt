@@ -60,7 +60,9 @@ fn are_plain(text: &[u8]) -> bool
 
 /// Reads five fields, or a nickname.
 fn read_fields(fields: &[u8]) -> Result<Expression, Refusal<'_>>
-    ensures { MatchResult result (λ e. meaning_of fields.now ≡ Ok (expression_view e)) (λ r. meaning_of fields.now ≡ Err (refusal_view r)) }
+    ensures { MatchResult result
+        (λ e. meaning_of fields.now ≡ Ok (expression_view e))
+        (λ r. meaning_of fields.now ≡ Err (refusal_view r)) }
 {
     if !are_plain(fields) {
         return Err(Refusal::StrangeByte);
@@ -81,7 +83,11 @@ fn read_task<'a>(
     task: &[u8],
     whole: &'a [u8],
 ) -> Result<Entry<'a>, Refusal<'a>>
-    ensures { MatchResult result (λ e. with_task (expression_view expression) (bytes_view user.entry) task.now whole.now ≡ Ok (entry_view e)) (λ r. with_task (expression_view expression) (bytes_view user.entry) task.now whole.now ≡ Err (refusal_view r)) }
+    ensures { MatchResult result
+        (λ e. with_task (expression_view expression) (bytes_view user.entry) task.now whole.now
+        ≡ Ok (entry_view e))
+        (λ r. with_task (expression_view expression) (bytes_view user.entry) task.now whole.now
+        ≡ Err (refusal_view r)) }
 {
     if task.is_empty() {
         return Err(Refusal::NoCommand);
@@ -109,7 +115,11 @@ fn read_behind<'a>(
 ) -> Result<Entry<'a>, Refusal<'a>>
     requires rest { length rest.now ≤ length core.now }
     requires core { length core.now ≤ length text.now }
-    ensures { MatchResult result (λ e. behind_fields kind (expression_view expression) text.now core.now rest.now ≡ Ok (entry_view e)) (λ r. behind_fields kind (expression_view expression) text.now core.now rest.now ≡ Err (refusal_view r)) }
+    ensures { MatchResult result
+        (λ e. behind_fields kind (expression_view expression) text.now core.now rest.now
+        ≡ Ok (entry_view e))
+        (λ r. behind_fields kind (expression_view expression) text.now core.now rest.now
+        ≡ Err (refusal_view r)) }
 {
     match kind {
         Crontab::User => {
@@ -139,7 +149,9 @@ fn begins_with_star(text: &[u8]) -> bool
 
 /// Reads an entry.
 pub(crate) fn read_entry(kind: Crontab, text: &[u8]) -> Result<Entry<'_>, Refusal<'_>>
-    ensures { MatchResult result (λ e. entry_of kind text.now ≡ Ok (entry_view e)) (λ r. entry_of kind text.now ≡ Err (refusal_view r)) }
+    ensures { MatchResult result
+        (λ e. entry_of kind text.now ≡ Ok (entry_view e))
+        (λ r. entry_of kind text.now ≡ Err (refusal_view r)) }
 {
     let core = without_return(text);
     let rest = behind_words(core, field_count(core));

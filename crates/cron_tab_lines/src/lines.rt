@@ -25,7 +25,9 @@ fn has_nul(line: &[u8]) -> bool
 
 /// Reads the value of a setting.
 fn read_setting<'a>(name: &'a [u8], text: &'a [u8]) -> Result<Line<'a>, Refusal<'a>>
-    ensures { MatchResult result (λ l. setting_of name.now text.now ≡ Ok (line_view l)) (λ r. setting_of name.now text.now ≡ Err (refusal_view r)) }
+    ensures { MatchResult result
+        (λ l. setting_of name.now text.now ≡ Ok (line_view l))
+        (λ r. setting_of name.now text.now ≡ Err (refusal_view r)) }
 {
     match read_value(text) {
         Err(refusal) => Err(refusal),
@@ -44,7 +46,10 @@ fn read_no_setting<'a>(
     text: &'a [u8],
     refusal: Refusal<'a>,
 ) -> Result<Line<'a>, Refusal<'a>>
-    ensures { MatchResult result (λ l. no_setting (refusal_view refusal.entry) (entry_of kind text.now) ≡ Ok (line_view l)) (λ r. no_setting (refusal_view refusal.entry) (entry_of kind text.now) ≡ Err (refusal_view r)) }
+    ensures { MatchResult result
+        (λ l. no_setting (refusal_view refusal.entry) (entry_of kind text.now) ≡ Ok (line_view l))
+        (λ r. no_setting (refusal_view refusal.entry) (entry_of kind text.now)
+        ≡ Err (refusal_view r)) }
 {
     if let Refusal::NoValue = refusal {
         return Err(Refusal::NoValue);
@@ -62,7 +67,9 @@ fn read_named<'a>(
     name: &'a [u8],
     value: &'a [u8],
 ) -> Result<Line<'a>, Refusal<'a>>
-    ensures { MatchResult result (λ l. if_no_setting kind text.now (setting_of name.now value.now) ≡ Ok (line_view l)) (λ r. if_no_setting kind text.now (setting_of name.now value.now) ≡ Err (refusal_view r)) }
+    ensures { MatchResult result
+        (λ l. if_no_setting kind text.now (setting_of name.now value.now) ≡ Ok (line_view l))
+        (λ r. if_no_setting kind text.now (setting_of name.now value.now) ≡ Err (refusal_view r)) }
 {
     match read_setting(name, value) {
         Ok(line) => Ok(line),
@@ -72,7 +79,9 @@ fn read_named<'a>(
 
 /// Reads a line from its first byte on that isn't blank.
 fn read_text(kind: Crontab, text: &[u8]) -> Result<Line<'_>, Refusal<'_>>
-    ensures { MatchResult result (λ l. text_outcome kind text.now ≡ Ok (line_view l)) (λ r. text_outcome kind text.now ≡ Err (refusal_view r)) }
+    ensures { MatchResult result
+        (λ l. text_outcome kind text.now ≡ Ok (line_view l))
+        (λ r. text_outcome kind text.now ≡ Err (refusal_view r)) }
 {
     if text.is_empty() {
         return Ok(Line::Blank);
@@ -94,7 +103,8 @@ fn read_text(kind: Crontab, text: &[u8]) -> Result<Line<'_>, Refusal<'_>>
 
 /// Reads a line without its line feed.
 pub fn read_line(kind: Crontab, line: &[u8]) -> Result<Line<'_>, Refusal<'_>>
-    ensures { MatchResult result (λ l. IsLine kind line.now (line_view l)) (λ r. IsRefused kind line.now (refusal_view r)) }
+    ensures { MatchResult result
+        (λ l. IsLine kind line.now (line_view l)) (λ r. IsRefused kind line.now (refusal_view r)) }
 {
     if has_nul(line) {
         return Err(Refusal::Nul);

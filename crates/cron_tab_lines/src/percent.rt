@@ -87,7 +87,8 @@ fn begins_with_percent(text: &[u8]) -> bool
 
 /// The first byte without backslashes, and the bytes that are left.
 fn first_unescaped(text: &[u8]) -> Option<(u8, &[u8])>
-    ensures { MatchOption result (unescaped text.now ≡ []) (λ r. unescaped text.now ≡ r.0 ∷ unescaped r.1.now) }
+    ensures { MatchOption result
+        (unescaped text.now ≡ []) (λ r. unescaped text.now ≡ r.0 ∷ unescaped r.1.now) }
 {
     let (first, others) = text.split_first()?;
     if *first == b'%' {

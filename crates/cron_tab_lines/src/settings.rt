@@ -10,7 +10,11 @@ use crate::refusals::Refusal;
 
 /// The first byte, if it is a quotation mark.
 fn opening(text: &[u8]) -> Option<u8>
-    ensures { MatchOption result (is_quote (first text.now) ≡ false) (λ mark. (is_quote (first text.now) ≡ true) × (mark ≡ first text.now) × (0 < length text.now)) }
+    ensures { MatchOption result
+        (is_quote (first text.now) ≡ false)
+        (λ mark. (is_quote (first text.now) ≡ true)
+        × (mark ≡ first text.now)
+        × (0 < length text.now)) }
 {
     match text.first() {
         Some(byte) if is_quote(*byte) => Some(*byte),
@@ -21,7 +25,9 @@ fn opening(text: &[u8]) -> Option<u8>
 /// What stands behind the first byte, if that is the one which is wanted.
 fn behind_byte(text: &[u8], wanted: u8) -> Option<&[u8]>
     requires { 0 < wanted }
-    ensures { MatchOption result ((first text.now == wanted) ≡ false) (λ rest. ((first text.now == wanted) ≡ true) × (rest.now ≡ drop 1 text.now)) }
+    ensures { MatchOption result
+        ((first text.now == wanted) ≡ false)
+        (λ rest. ((first text.now == wanted) ≡ true) × (rest.now ≡ drop 1 text.now)) }
 {
     match text.first() {
         Some(byte) if *byte == wanted => Some(&text[1..]),
@@ -31,7 +37,8 @@ fn behind_byte(text: &[u8], wanted: u8) -> Option<&[u8]>
 
 /// A name, bare or quoted, and what stands behind it.
 fn cut_name(text: &[u8]) -> Option<(&[u8], &[u8])>
-    ensures { MatchOption result (name_at text.now ≡ None) (λ cut. name_at text.now ≡ Some (cut.0.now, cut.1.now)) }
+    ensures { MatchOption result
+        (name_at text.now ≡ None) (λ cut. name_at text.now ≡ Some (cut.0.now, cut.1.now)) }
 {
     let Some(mark) = opening(text) else {
         return Some(cut(text, Class::Name));
@@ -43,7 +50,8 @@ fn cut_name(text: &[u8]) -> Option<(&[u8], &[u8])>
 
 /// A name, and what stands behind the `=` that follows it.
 pub(crate) fn read_name(text: &[u8]) -> Option<(&[u8], &[u8])>
-    ensures { MatchOption result (name_of text.now ≡ None) (λ cut. name_of text.now ≡ Some (cut.0.now, cut.1.now)) }
+    ensures { MatchOption result
+        (name_of text.now ≡ None) (λ cut. name_of text.now ≡ Some (cut.0.now, cut.1.now)) }
 {
     let (name, rest) = cut_name(text)?;
     let value = behind_byte(behind(rest, Class::White), b'=')?;
@@ -65,7 +73,9 @@ fn trim_end(text: &[u8]) -> &[u8]
 
 /// A value, bare or quoted.
 pub(crate) fn read_value(text: &[u8]) -> Result<&[u8], Refusal<'_>>
-    ensures { MatchResult result (λ value. value_of text.now ≡ Ok value.now) (λ r. value_of text.now ≡ Err (refusal_view r)) }
+    ensures { MatchResult result
+        (λ value. value_of text.now ≡ Ok value.now)
+        (λ r. value_of text.now ≡ Err (refusal_view r)) }
 {
     if text.is_empty() {
         return Err(Refusal::NoValue);

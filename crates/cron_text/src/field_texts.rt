@@ -33,7 +33,8 @@ pub enum Connector {
 
 #[inline(always)]
 fn connector_of(byte: u8) -> Option<Connector>
-    ensures { MatchOption result (is_connector (sign_of byte) ≡ false) (λ kept. connector_view kept ≡ sign_of byte) }
+    ensures { MatchOption result
+        (is_connector (sign_of byte) ≡ false) (λ kept. connector_view kept ≡ sign_of byte) }
 {
     match byte {
         b',' => Some(Connector::Comma),
@@ -47,7 +48,8 @@ fn connector_of(byte: u8) -> Option<Connector>
 #[inline(always)]
 pub fn connector_at(text: &[u8], place: Place) -> Option<Connector>
     requires { IsPlace text.now place }
-    ensures connector { MatchOption result (NoConnector (tokens_from text.now place)) (IsConnector text.now place) }
+    ensures connector { MatchOption result
+        (NoConnector (tokens_from text.now place)) (IsConnector text.now place) }
     ensures within { IfSome result (λ _. place.at < length text.now) }
 {
     if place.at >= text.len() {
@@ -78,9 +80,12 @@ fn growth_by<'a, T: TimeUnitField>(
     connector: Connector,
     symbol: Symbol<'a>,
 ) -> Option<Growth<'a>>
-    ensures { (done : List field.Item) (last x : spec.Token) → symbol_view symbol.entry ≡ symbol_of x → MatchOption result
+    ensures { (done : List field.Item) (last x : spec.Token)
+        → symbol_view symbol.entry ≡ symbol_of x
+        → MatchOption result
         (joined T.unit (state_view done item.entry last) (connector_view connector) x ≡ None)
-        (λ g. joined T.unit (state_view done item.entry last) (connector_view connector) x ≡ Some (after_growth done item.entry x g)) }
+        (λ g. joined T.unit (state_view done item.entry last) (connector_view connector) x
+        ≡ Some (after_growth done item.entry x g)) }
 {
     match connector {
         Connector::Comma => Some(Growth::Next(lone_item::<T>(symbol)?)),
@@ -100,9 +105,14 @@ fn more_at<'a, T: TimeUnitField>(
     wildcard: bool,
 ) -> Option<(Growth<'a>, bool, Place)>
     requires { IsPlace text.now place }
-    ensures more { (done : List field.Item) (last : spec.Token) → is_wildcard (symbol_of last) ≡ wildcard → MatchOption result
-        (furthest T.unit (state_view done item.entry last) (tokens_from text.now place) ≡ (state_view done item.entry last, tokens_from text.now place))
-        (λ m. GrowsOn T.unit (state_view done item.entry last) (tokens_from text.now place) done item.entry m.0 m.1 (tokens_from text.now m.2)) }
+    ensures more { (done : List field.Item) (last : spec.Token)
+        → is_wildcard (symbol_of last) ≡ wildcard
+        → MatchOption result
+        (furthest T.unit (state_view done item.entry last) (tokens_from text.now place)
+        ≡ (state_view done item.entry last, tokens_from text.now place))
+        (λ m. GrowsOn T.unit
+        (state_view done item.entry last) (tokens_from text.now place)
+        done item.entry m.0 m.1 (tokens_from text.now m.2)) }
     ensures place { IfSome result (λ m. IsPlace text.now m.2) }
     ensures further { IfSome result (λ m. place.at < m.2.at) }
 {
@@ -132,7 +142,9 @@ fn add_to<'a, T: TimeUnitField>(
     item: Item<'a>,
     fault: &mut Fault<'a>,
 ) -> Result<(), Unread>
-    ensures ok { OnOk result (AddsItem T.unit (item_view item.entry) (with_mark (T.members set.old) (T.marked set.old)) (with_mark (T.members set.new) (T.marked set.new))) }
+    ensures ok { OnOk result (AddsItem T.unit
+        (item_view item.entry) (with_mark (T.members set.old) (T.marked set.old))
+        (with_mark (T.members set.new) (T.marked set.new))) }
     ensures err { OnErr result (TellsItem T.unit (item_view item.entry) fault.new) }
 {
     match add_item::<T>(set, item) {
@@ -152,7 +164,9 @@ fn add_to<'a, T: TimeUnitField>(
 #[inline(always)]
 fn read_star<T: TimeUnitField>(text: &str, place: Place, set: &mut T) -> Option<Place>
     requires { IsPlace text.now place }
-    ensures taken { IfSome result (λ after. TakesField T.unit (tokens_from text.now place) (with_mark (T.members set.new) (T.marked set.new)) (tokens_from text.now after)) }
+    ensures taken { IfSome result (λ after. TakesField T.unit
+        (tokens_from text.now place) (with_mark (T.members set.new) (T.marked set.new))
+        (tokens_from text.now after)) }
     ensures place { IfSome result (IsPlace text.now) }
 {
     let behind = lone_star_at(text.as_bytes(), place)?;
@@ -175,7 +189,9 @@ fn read_items<'a, T: TimeUnitField>(
     fault: &mut Fault<'a>,
 ) -> Result<(), Unread>
     requires { IsPlace text.now place.old }
-    ensures taken { OnOk result (TakesField T.unit (tokens_from text.now place.old) (with_mark (T.members set.new) (T.marked set.new)) (tokens_from text.now place.new)) }
+    ensures taken { OnOk result (TakesField T.unit
+        (tokens_from text.now place.old) (with_mark (T.members set.new) (T.marked set.new))
+        (tokens_from text.now place.new)) }
     ensures place { OnOk result (IsPlace text.now place.new) }
     ensures refused { OnErr result (IsUnread T.unit (tokens_from text.now place.old) fault.new) }
 {
@@ -218,7 +234,9 @@ pub fn read_field<'a, T: TimeUnitField>(
     fault: &mut Fault<'a>,
 ) -> Result<(), Unread>
     requires { IsPlace text.now place.old }
-    ensures taken { OnOk result (TakesField T.unit (tokens_from text.now place.old) (with_mark (T.members set.new) (T.marked set.new)) (tokens_from text.now place.new)) }
+    ensures taken { OnOk result (TakesField T.unit
+        (tokens_from text.now place.old) (with_mark (T.members set.new) (T.marked set.new))
+        (tokens_from text.now place.new)) }
     ensures place { OnOk result (IsPlace text.now place.new) }
     ensures refused { OnErr result (IsUnread T.unit (tokens_from text.now place.old) fault.new) }
 {

@@ -27,7 +27,8 @@ pub fn lone_item<'a, T: TimeUnitField>(symbol: Symbol<'a>) -> Option<Item<'a>>
 /// The range from an item to a token.
 #[inline(always)]
 pub fn with_end<'a>(item: Item<'a>, end: Symbol<'a>) -> Option<Item<'a>>
-    ensures { option_map item_view result ≡ with_end (item_view item.entry) (symbol_view end.entry) }
+    ensures { option_map item_view result
+        ≡ with_end (item_view item.entry) (symbol_view end.entry) }
 {
     match (item, end) {
         (Item::Plain(Base::Single(first)), Symbol::Number(last)) => {
@@ -41,7 +42,8 @@ pub fn with_end<'a>(item: Item<'a>, end: Symbol<'a>) -> Option<Item<'a>>
 /// The item with a step.
 #[inline(always)]
 pub fn with_step<'a>(item: Item<'a>, step: Symbol<'a>) -> Option<Item<'a>>
-    ensures { option_map item_view result ≡ with_step (item_view item.entry) (symbol_view step.entry) }
+    ensures { option_map item_view result
+        ≡ with_step (item_view item.entry) (symbol_view step.entry) }
 {
     match (item, step) {
         (Item::Plain(base), Symbol::Number(step)) => Some(Item::Stepped(base, step)),

@@ -57,7 +57,9 @@ fn number_behind(text: &[u8], at: usize, byte: u8) -> Option<(u32, usize)>
 /// The item that a base is, with the step behind it, where one stands there.
 #[inline(always)]
 fn item_of(text: &[u8], base: Base<'static>, end: usize) -> (Item<'static>, usize)
-    ensures { (u : TimeUnit) (at : ℕ) → IsItemAt u text.now at (items.plain (base_view base.entry)) end → IsItemAt u text.now at (item_view result.0) result.1 }
+    ensures { (u : TimeUnit) (at : ℕ)
+        → IsItemAt u text.now at (items.plain (base_view base.entry)) end
+        → IsItemAt u text.now at (item_view result.0) result.1 }
 {
     match number_behind(text, end, b'/') {
         Some((step, end)) => (Item::Stepped(base, step), end),
@@ -113,7 +115,9 @@ fn word_from(text: &[u8], at: usize) -> Option<(Key, usize)>
 /// Adds what the name or the range of names at an index denotes, and finds where it ends.
 #[inline(always)]
 fn add_words<T: TimeUnitField>(text: &[u8], at: usize, set: &mut T) -> Option<usize>
-    ensures { IfSome result (λ end. IsAddedAt T.unit text.now at end (with_mark (T.members set.old) (T.marked set.old)) (with_mark (T.members set.new) (T.marked set.new))) }
+    ensures { IfSome result (λ end. IsAddedAt T.unit text.now at end
+        (with_mark (T.members set.old) (T.marked set.old))
+        (with_mark (T.members set.new) (T.marked set.new))) }
 {
     let (first, end) = word_from(text, at)?;
     if !stands(text, end, b'-') {
@@ -134,7 +138,9 @@ fn add_words<T: TimeUnitField>(text: &[u8], at: usize, set: &mut T) -> Option<us
 /// Adds what the item at an index denotes, and finds where it ends.
 #[inline(always)]
 fn add_plain<T: TimeUnitField>(text: &[u8], at: usize, set: &mut T) -> Option<usize>
-    ensures { IfSome result (λ end. IsAddedAt T.unit text.now at end (with_mark (T.members set.old) (T.marked set.old)) (with_mark (T.members set.new) (T.marked set.new))) }
+    ensures { IfSome result (λ end. IsAddedAt T.unit text.now at end
+        (with_mark (T.members set.old) (T.marked set.old))
+        (with_mark (T.members set.new) (T.marked set.new))) }
 {
     let found = match numbers_at(text, at) {
         Some(found) => Some(found),
@@ -152,7 +158,9 @@ fn add_plain<T: TimeUnitField>(text: &[u8], at: usize, set: &mut T) -> Option<us
 /// Reads a field of such items into a set, and finds the place after it.
 #[inline(always)]
 pub fn read_plain<T: TimeUnitField>(text: &[u8], place: Place, set: &mut T) -> Option<Place>
-    ensures taken { IfSome result (λ after. TakesField T.unit (tokens_from text.now place) (with_mark (T.members set.new) (T.marked set.new)) (tokens_from text.now after)) }
+    ensures taken { IfSome result (λ after. TakesField T.unit
+        (tokens_from text.now place) (with_mark (T.members set.new) (T.marked set.new))
+        (tokens_from text.now after)) }
     ensures place { IfSome result (IsPlace text.now) }
 {
     let mut joined: T = empty();

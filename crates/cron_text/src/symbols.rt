@@ -133,7 +133,8 @@ pub struct Token<'a> {
 #[inline(always)]
 pub fn token_at(text: &str, place: Place) -> Option<(Token<'_>, Place)>
     requires { IsPlace text.now place }
-    ensures token { MatchOption result (tokens_from text.now place ≡ []) (λ found. IsRead text.now place found.0 found.1) }
+    ensures token { MatchOption result
+        (tokens_from text.now place ≡ []) (λ found. IsRead text.now place found.0 found.1) }
     ensures place { IfSome result (λ found. IsPlace text.now found.1) }
     ensures further { IfSome result (λ found. place.at < found.1.at) }
 {

@@ -40,7 +40,8 @@ fn read_years<'a>(
 ) -> Result<(), Unread>
     requires { IsPlace text.now start }
     ensures years { OnOk result (DenoteYears (tokens_from text.now start) (unmarked years.new)) }
-    ensures refused { OnErr result (IsRefusalOf [] (tokens_from text.now start) (fault_text fault.new)) }
+    ensures refused { OnErr result
+        (IsRefusalOf [] (tokens_from text.now start) (fault_text fault.new)) }
 {
     if start.at >= text.len() {
         *years = whole();
@@ -63,7 +64,15 @@ fn read_years<'a>(
 
 /// Seven empty sets.
 pub fn no_ordinals() -> ScheduleFields
-    ensures { result ≡ record { seconds = []; minutes = []; hours = []; days_of_month = unmarked []; months = []; days_of_week = []; years = [] } }
+    ensures { result ≡ record {
+      seconds = [];
+      minutes = [];
+      hours = [];
+      days_of_month = unmarked [];
+      months = [];
+      days_of_week = [];
+      years = [];
+    } }
 {
     ScheduleFields {
         seconds: empty(),
@@ -85,8 +94,10 @@ fn read_fields<'a>(
     fault: &mut Fault<'a>,
 ) -> Result<(), Unread>
     requires { IsPlace text.now start }
-    ensures sets { OnOk result (DenoteSets six_units (tokens_from text.now start) (field_sets fields.new)) }
-    ensures refused { OnErr result (IsRefusalOf six_units (tokens_from text.now start) (fault_text fault.new)) }
+    ensures sets { OnOk result
+        (DenoteSets six_units (tokens_from text.now start) (field_sets fields.new)) }
+    ensures refused { OnErr result
+        (IsRefusalOf six_units (tokens_from text.now start) (fault_text fault.new)) }
 {
     let mut place = start;
     read_field(text, &mut place, &mut fields.seconds, fault)?;
@@ -105,8 +116,12 @@ fn read_fields<'a>(
 #[inline(never)]
 fn longhand(text: &str, start: Place, fields: &mut ScheduleFields) -> bool
     requires { IsPlace text.now start }
-    ensures sets { IsTrue result → DenoteSets six_units (tokens_from text.now start) (field_sets fields.new) }
-    ensures nothing { result ≡ false → (xss : List FieldSet) → DenoteSets six_units (tokens_from text.now start) xss → ⊥ }
+    ensures sets { IsTrue result
+        → DenoteSets six_units (tokens_from text.now start) (field_sets fields.new) }
+    ensures nothing { result ≡ false
+        → (xss : List FieldSet)
+        → DenoteSets six_units (tokens_from text.now start) xss
+        → ⊥ }
 {
     let mut fault = Fault::Syntax;
     match read_fields(text, start, fields, &mut fault) {

@@ -34,7 +34,8 @@ impl<'a> Model for DueRun<'a> {
 
     ghost Value = { List Due };
 
-    ghost view = { λ r. left_from (dues_any r.schedules.now (plain_zone r.zone.now)) r.from r.until };
+    ghost view = { λ r. left_from
+        (dues_any r.schedules.now (plain_zone r.zone.now)) r.from r.until };
 }
 
 impl<'a> DueRun<'a> {
@@ -84,7 +85,8 @@ impl<'a> DueRun<'a> {
         now: Timestamp,
         zone: &'a TimeZone<'a>,
     ) -> DueRun<'a>
-        ensures { result ≡ dues_any_between schedules.now (plain_zone zone.now) last.nanosecond now.nanosecond }
+        ensures { result
+            ≡ dues_any_between schedules.now (plain_zone zone.now) last.nanosecond now.nanosecond }
     {
         let until = Some(now.to_plain().floor_second());
         DueRun::from(schedules, reached_by(zone, last) + 1, until, zone)
@@ -97,7 +99,8 @@ impl<'a> DueRun<'a> {
         now: Timestamp,
         zone: &'a TimeZone<'a>,
     ) -> DueRun<'a>
-        ensures { result ≡ dues_any_past_by schedules.now (plain_zone zone.now) fire.now now.nanosecond }
+        ensures { result
+            ≡ dues_any_past_by schedules.now (plain_zone zone.now) fire.now now.nanosecond }
     {
         let until = Some(now.to_plain().floor_second());
         DueRun::from(schedules, i64::from(nominal_second(fire)) + 1, until, zone)

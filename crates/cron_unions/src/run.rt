@@ -61,7 +61,8 @@ fn add_branches<'a, const N: usize>(
     zone: &'a TimeZone<'a>,
 )
     requires { length branches.old.items + length schedules.now ≤ N }
-    ensures { branches.new.items ≡ branches.old.items ++ map (λ s. part_of s (plain_zone zone.now) part.now) schedules.now }
+    ensures { branches.new.items
+        ≡ branches.old.items ++ map (λ s. part_of s (plain_zone zone.now) part.now) schedules.now }
 {
     for fields in schedules {
         branches.push(Branch::of(run_over(*fields, part, zone)));
@@ -106,7 +107,8 @@ impl<'a, const N: usize> Run<'a, N> {
         zone: &'a TimeZone<'a>,
     ) -> Run<'a, N>
         requires { length schedules.now ≤ N }
-        ensures { result ≡ fires_any_between schedules.now (plain_zone zone.now) last.nanosecond now.nanosecond }
+        ensures { result
+            ≡ fires_any_between schedules.now (plain_zone zone.now) last.nanosecond now.nanosecond }
     {
         Run::over(schedules, Part::Between(last, now), zone)
     }
@@ -120,7 +122,8 @@ impl<'a, const N: usize> Run<'a, N> {
         zone: &'a TimeZone<'a>,
     ) -> Run<'a, N>
         requires { length schedules.now ≤ N }
-        ensures { result ≡ fires_any_past_by schedules.now (plain_zone zone.now) fire.now now.nanosecond }
+        ensures { result
+            ≡ fires_any_past_by schedules.now (plain_zone zone.now) fire.now now.nanosecond }
     {
         Run::over(schedules, Part::PastBy(*fire, now), zone)
     }

@@ -31,12 +31,19 @@ impl Gathered {
         requires { more ≤ 4096 }
         ensures room { length (kept_in self.new) + more ≤ 4096 }
         ensures gathered { (origin : Option (List ℕ)) (text : List ℕ)
-            → IsGathered origin (W.contents (writer_of out.old)) (has_failed out.old) (kept_in self.old) text
-            → IsGathered origin (W.contents (writer_of out.new)) (has_failed out.new) (kept_in self.new) text }
-        ensures calls { AreWrites W.writes (writer_of out.old) (has_failed out.old) (writer_of out.new) (has_failed out.new) }
-        ensures held { length (kept_in self.old) + more ≤ 4096 → (out.new ≡ out.old) × (kept_in self.new ≡ kept_in self.old) }
+            → IsGathered origin
+            (W.contents (writer_of out.old)) (has_failed out.old) (kept_in self.old) text
+            → IsGathered origin
+            (W.contents (writer_of out.new)) (has_failed out.new) (kept_in self.new) text }
+        ensures calls { AreWrites W.writes
+            (writer_of out.old) (has_failed out.old) (writer_of out.new) (has_failed out.new) }
+        ensures held { length (kept_in self.old) + more ≤ 4096
+            → (out.new ≡ out.old) × (kept_in self.new ≡ kept_in self.old) }
         ensures handed { 4096 < length (kept_in self.old) + more
-            → HandsOn W.writes (writer_of out.old) (has_failed out.old) (writer_of out.new) (has_failed out.new) (kept_in self.old) × (kept_in self.new ≡ []) }
+            → HandsOn W.writes
+            (writer_of out.old) (has_failed out.old)
+            (writer_of out.new) (has_failed out.new) (kept_in self.old)
+            × (kept_in self.new ≡ []) }
     {
         if !self.block.has_room(more) {
             self.send(out);
@@ -48,10 +55,15 @@ impl Gathered {
     pub fn push_line<W: Watchable>(&mut self, line: &[u8], out: &mut Watched<W>)
         requires { length line.now ≤ 4096 }
         ensures gathered { (origin : Option (List ℕ)) (before : List ℕ)
-            → IsGathered origin (W.contents (writer_of out.old)) (has_failed out.old) (kept_in self.old) before
-            → IsGathered origin (W.contents (writer_of out.new)) (has_failed out.new) (kept_in self.new) (before ++ line.now) }
-        ensures calls { AreWrites W.writes (writer_of out.old) (has_failed out.old) (writer_of out.new) (has_failed out.new) }
-        ensures gathers { Gathers W.writes out.old out.new (kept_in self.old) (kept_in self.new) line.now }
+            → IsGathered origin
+            (W.contents (writer_of out.old)) (has_failed out.old) (kept_in self.old) before
+            → IsGathered origin
+            (W.contents (writer_of out.new)) (has_failed out.new) (kept_in self.new)
+            (before ++ line.now) }
+        ensures calls { AreWrites W.writes
+            (writer_of out.old) (has_failed out.old) (writer_of out.new) (has_failed out.new) }
+        ensures gathers { Gathers W.writes out.old out.new
+            (kept_in self.old) (kept_in self.new) line.now }
     {
         self.make_room(line.len(), out);
         self.block.push(line);
@@ -68,10 +80,15 @@ impl Gathered {
     )
         requires { len ≤ 32 }
         ensures gathered { (origin : Option (List ℕ)) (before : List ℕ)
-            → IsGathered origin (W.contents (writer_of out.old)) (has_failed out.old) (kept_in self.old) before
-            → IsGathered origin (W.contents (writer_of out.new)) (has_failed out.new) (kept_in self.new) (before ++ take len bytes.now) }
-        ensures calls { AreWrites W.writes (writer_of out.old) (has_failed out.old) (writer_of out.new) (has_failed out.new) }
-        ensures gathers { Gathers W.writes out.old out.new (kept_in self.old) (kept_in self.new) (take len bytes.now) }
+            → IsGathered origin
+            (W.contents (writer_of out.old)) (has_failed out.old) (kept_in self.old) before
+            → IsGathered origin
+            (W.contents (writer_of out.new)) (has_failed out.new) (kept_in self.new)
+            (before ++ take len bytes.now) }
+        ensures calls { AreWrites W.writes
+            (writer_of out.old) (has_failed out.old) (writer_of out.new) (has_failed out.new) }
+        ensures gathers { Gathers W.writes out.old out.new
+            (kept_in self.old) (kept_in self.new) (take len bytes.now) }
     {
         self.make_room(len, out);
         self.block.push_front(bytes, len);
@@ -81,10 +98,13 @@ impl Gathered {
     pub fn send<W: Watchable>(&mut self, out: &mut Watched<W>)
         ensures empty { kept_in self.new ≡ [] }
         ensures sent { (origin : Option (List ℕ)) (text : List ℕ)
-            → IsGathered origin (W.contents (writer_of out.old)) (has_failed out.old) (kept_in self.old) text
+            → IsGathered origin
+            (W.contents (writer_of out.old)) (has_failed out.old) (kept_in self.old) text
             → IsSent origin (W.contents (writer_of out.new)) (has_failed out.new) text }
         ensures untouched { has_failed out.old ≡ true → out.new ≡ out.old }
-        ensures calls { HandsOn W.writes (writer_of out.old) (has_failed out.old) (writer_of out.new) (has_failed out.new) (kept_in self.old) }
+        ensures calls { HandsOn W.writes
+            (writer_of out.old) (has_failed out.old)
+            (writer_of out.new) (has_failed out.new) (kept_in self.old) }
     {
         send(out, self.block.as_slice());
         self.block.clear();

@@ -20,7 +20,8 @@ pub trait Watchable: Write {
     /// Calls `write` once.
     fn write_once(&mut self, piece: &[u8]) -> io::Result<usize>
         ensures bound { WritesAtMost result piece.now }
-        ensures bytes { WriteAppends (Self.contents self.old) (Self.contents self.new) result piece.now }
+        ensures bytes { WriteAppends
+            (Self.contents self.old) (Self.contents self.new) result piece.now }
         ensures call { writes self.old piece.now result self.new };
 
     /// Calls `flush` once.
@@ -30,7 +31,8 @@ pub trait Watchable: Write {
 }
 
 impl<W: Write> Watchable for W {
-    ghost writes = { λ old piece result new. WriteAppends (W.contents old) (W.contents new) result piece };
+    ghost writes = { λ old piece result new. WriteAppends
+        (W.contents old) (W.contents new) result piece };
 
     ghost flushes = { λ old result new. Keeps (W.contents old) (W.contents new) };
 

@@ -62,8 +62,10 @@ impl<W: Watchable> Watched<W> {
     pub fn write(&mut self, piece: &[u8]) -> io::Result<usize>
         ensures call { W.writes (writer_of self.old) piece.now result (writer_of self.new) }
         ensures bound { WritesAtMost result piece.now }
-        ensures bytes { WriteAppends (W.contents (writer_of self.old)) (W.contents (writer_of self.new)) result piece.now }
-        ensures mark { has_failed self.new ≡ (has_failed self.old || is_failed_write result piece.now) }
+        ensures bytes { WriteAppends
+            (W.contents (writer_of self.old)) (W.contents (writer_of self.new)) result piece.now }
+        ensures mark { has_failed self.new
+            ≡ (has_failed self.old || is_failed_write result piece.now) }
     {
         let result = self.writer.write_once(piece);
         self.failed |= is_failed_write(&result, piece);
@@ -87,8 +89,11 @@ impl<W: Watchable> Watched<W> {
 // Hands the whole text on, in as many writes as it takes, and stops at the first failure.
 fn send_whole<W: Watchable>(out: &mut Watched<W>, text: &[u8])
     requires { has_failed out.old ≡ false }
-    ensures sent { IsSent (W.contents (writer_of out.old)) (W.contents (writer_of out.new)) (has_failed out.new) text.now }
-    ensures calls { HandsOn W.writes (writer_of out.old) (has_failed out.old) (writer_of out.new) (has_failed out.new) text.now }
+    ensures sent { IsSent
+        (W.contents (writer_of out.old)) (W.contents (writer_of out.new)) (has_failed out.new)
+        text.now }
+    ensures calls { HandsOn W.writes
+        (writer_of out.old) (has_failed out.old) (writer_of out.new) (has_failed out.new) text.now }
 {
     let mut rest = text;
     while !rest.is_empty() {
@@ -105,7 +110,8 @@ pub fn send<W: Watchable>(out: &mut Watched<W>, text: &[u8])
         → IsSent origin (W.contents (writer_of out.old)) (has_failed out.old) before
         → IsSent origin (W.contents (writer_of out.new)) (has_failed out.new) (before ++ text.now) }
     ensures untouched { has_failed out.old ≡ true → out.new ≡ out.old }
-    ensures calls { HandsOn W.writes (writer_of out.old) (has_failed out.old) (writer_of out.new) (has_failed out.new) text.now }
+    ensures calls { HandsOn W.writes
+        (writer_of out.old) (has_failed out.old) (writer_of out.new) (has_failed out.new) text.now }
 {
     if !out.failed() {
         send_whole(out, text);

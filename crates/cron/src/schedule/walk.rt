@@ -61,7 +61,8 @@ impl<C: Inputs> Walker<C> {
         requires known { Knows (C.sets inputs) (C.zone inputs) state }
         ensures sets { result.sets ≡ C.sets inputs }
         ensures zone { result.zone ≡ C.zone inputs }
-        ensures cursor { result.cursor ≡ cursor_of (C.sets inputs) (C.zone inputs) (stand_of state) }
+        ensures cursor { result.cursor
+            ≡ cursor_of (C.sets inputs) (C.zone inputs) (stand_of state) }
     {
         Walker { inputs, state }
     }

@@ -30,7 +30,8 @@ impl<'a> Model for OrdinalIter<'a> {
 
     ghost view = { λ s. listed s.least 192 (⟦<Wide as Words>⟧.has s.remaining) };
 
-    ghost invariant = { λ s. ⟦<Wide as Words>⟧.IsFit s.remaining × ((k : ℕ) → ⟦<Wide as Words>⟧.has s.remaining k ≡ true → s.least + k < 2 ^ 32) };
+    ghost invariant = { λ s. ⟦<Wide as Words>⟧.IsFit s.remaining
+        × ((k : ℕ) → ⟦<Wide as Words>⟧.has s.remaining k ≡ true → s.least + k < 2 ^ 32) };
 }
 
 impl<'a> OrdinalIter<'a> {

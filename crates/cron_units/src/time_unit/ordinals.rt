@@ -68,7 +68,10 @@ impl<U: UnitTable<W>, W: Words> Model for Ordinals<U, W> {
 
     ghost invariant = { λ s. IsLaidOut U.unit W.IsFit W.has W.made s.words };
 
-    ghost inverse = { λ ordinals. record { words = W.made (λ k. contains ordinals (U.unit.least + k)); of = record {} } };
+    ghost inverse = { λ ordinals. record {
+      words = W.made (λ k. contains ordinals (U.unit.least + k));
+      of = record {};
+    } };
 
     ghost use Rattle.std.proofs.Common.{ap};
 
