@@ -41,7 +41,7 @@ pub fn headline(
 }
 
 /// Reading a source again gives the same schedule. Out of memory is its only error.
-pub fn reread(alloc: Global, schedule: &Schedule) -> Result<Schedule, Error>
+pub fn read_again(alloc: Global, schedule: &Schedule) -> Result<Schedule, Error>
     ensures same { IfOk result (λ again. again ≡ schedule.now) }
     ensures refused { IfErr result IsMemory }
 {

@@ -68,7 +68,7 @@ pub trait Words: Copy {
         ensures bits { (k : ℕ) → has result k ≡ (nat_lt k place && has self k) };
 
     /// Joins two rows of bits.
-    fn joined(self, other: Self) -> Self
+    fn join(self, other: Self) -> Self
         requires fit { IsFit self }
         requires other_fit { IsFit other }
         ensures fit { IsFit result }
@@ -183,7 +183,7 @@ impl Words for u64 {
         }
     }
 
-    fn joined(self, other: u64) -> u64 {
+    fn join(self, other: u64) -> u64 {
         self | other
     }
 
@@ -341,10 +341,10 @@ impl<R: Extensible> Words for Longer<R> {
         }
     }
 
-    fn joined(self, other: Longer<R>) -> Longer<R> {
+    fn join(self, other: Longer<R>) -> Longer<R> {
         Longer {
-            low: self.low.joined(other.low),
-            rest: self.rest.joined(other.rest),
+            low: self.low.join(other.low),
+            rest: self.rest.join(other.rest),
         }
     }
 

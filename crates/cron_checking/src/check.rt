@@ -81,7 +81,7 @@ fn tell_next<W: Watchable>(
     let Some(refused) = told else {
         return Err(Outcome::NotUtf8);
     };
-    if out.failed() {
+    if out.has_failed() {
         return Err(Outcome::WriteFailed);
     }
     Ok(refused)
@@ -142,11 +142,11 @@ pub(crate) fn finish<W: Watchable>(out: &mut Watched<W>, end: Outcome) -> Outcom
     ensures calls { IsFlushed W.flushes
         (writer_of out.old) (has_failed out.old) (writer_of out.new) (has_failed out.new) }
 {
-    if out.failed() {
+    if out.has_failed() {
         return Outcome::WriteFailed;
     }
     let _flushed = out.flush();
-    if out.failed() {
+    if out.has_failed() {
         return Outcome::WriteFailed;
     }
     end

@@ -13,7 +13,7 @@ ghost use Rattle.cron_clocks.specs.Steady.{IsKnown};
 use crate::offsets::Placed;
 use crate::rule::{Span, Transitions, between_transitions, saving_of, transitions_around};
 use crate::season::season_at;
-use crate::stretch::{Stretch, season_stretch, told_stretch};
+use crate::stretch::{Stretch, rule_stretch, season_stretch};
 use cron_moments::civil::{FURTHEST_OFFSET, SECONDS};
 use jiff::Timestamp;
 use jiff::tz::{Offset, TimeZone};
@@ -100,7 +100,7 @@ fn learn(
     }
     if transitions.year.has(second) {
         let civil = second as u32;
-        *stretch = told_stretch(
+        *stretch = rule_stretch(
             rule,
             civil,
             between_transitions(rule, dst, transitions, civil),

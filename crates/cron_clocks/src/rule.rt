@@ -257,7 +257,7 @@ pub(crate) fn saving_of(rule: TimeZone, dst: Dst) -> i64
 /// What a rule tells of a civil second: the offsets at which it is read, and the civil seconds
 /// around it of which the same is told.
 #[derive(Clone, Copy)]
-pub(crate) struct Told {
+pub(crate) struct SpanOffsets {
     pub span: Span,
     pub earlier: Option<Offset>,
     pub later: Option<Offset>,
@@ -271,7 +271,7 @@ pub(crate) fn between_transitions(
     dst: Dst,
     transitions: Transitions,
     second: u32,
-) -> Told
+) -> SpanOffsets
     requires range { second < seconds_in_range }
     requires saving { rule.dst ≡ Some dst }
     requires transitions { AreTransitions dst
@@ -304,7 +304,7 @@ pub(crate) fn between_transitions(
         Offset::from_plain(dst.offset),
         placed,
     );
-    Told {
+    SpanOffsets {
         span,
         earlier,
         later,

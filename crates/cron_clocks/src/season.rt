@@ -12,7 +12,7 @@ ghost use Rattle.cron_clocks.specs.Seasons.{AreInOrder, AreOrdered, IsSeasonBoun
 ghost use Rattle.cron_clocks.specs.Spans.{IsNarrowed, IsToldAlike};
 ghost use Rattle.cron_clocks.specs.Steady.{IsToldBy};
 
-use crate::rule::{Span, Told, WHOLE, between_transitions, transitions_around};
+use crate::rule::{Span, SpanOffsets, WHOLE, between_transitions, transitions_around};
 use crate::transitions::{SecondsOfYear, is_week_before, is_week_inside, seconds_of};
 use cron_moments::civil::{FURTHEST_OFFSET, SECONDS, SECONDS_PER_DAY};
 use jiff::tz::Offset;
@@ -34,13 +34,13 @@ pub(crate) struct Season {
 
 impl Season {
     // What a rule tells of a civil second of the season.
-    fn told(self) -> Told
+    fn offsets(self) -> SpanOffsets
         ensures first { result.span.first ≡ pos self.first }
         ensures end { result.span.end ≡ pos self.end }
         ensures earlier { result.earlier ≡ Some self.offset }
         ensures later { result.later ≡ None }
     {
-        Told {
+        SpanOffsets {
             span: Span {
                 first: i64::from(self.first),
                 end: i64::from(self.end),
@@ -181,7 +181,7 @@ pub(crate) fn season_at(rule: TimeZone, dst: Dst, second: u32) -> Option<Season>
 }
 
 /// What a rule tells of a civil second.
-pub(crate) fn told_at(rule: TimeZone, second: u32) -> Told
+pub(crate) fn rule_offsets(rule: TimeZone, second: u32) -> SpanOffsets
     requires { second < seconds_in_range }
     ensures alike { IsToldAlike rule second result.span.first result.span.end }
     ensures low { result.span.first ≤ℤ pos second }
@@ -190,14 +190,14 @@ pub(crate) fn told_at(rule: TimeZone, second: u32) -> Told
     ensures told { IsToldBy (Rule.ambiguous_at rule (civil second)) result.earlier result.later }
 {
     let Some(dst) = rule.dst else {
-        return Told {
+        return SpanOffsets {
             span: WHOLE,
             earlier: Some(Offset::from_plain(rule.std_offset)),
             later: None,
         };
     };
     match season_at(rule, dst, second) {
-        Some(season) => season.told(),
+        Some(season) => season.offsets(),
         None => between_transitions(rule, dst, transitions_around(dst, second), second),
     }
 }

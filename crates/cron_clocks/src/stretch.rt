@@ -10,9 +10,9 @@ ghost use Rattle.cron_clocks.specs.Spans.{IsNarrowed, IsToldAlike};
 ghost use Rattle.cron_clocks.specs.Seasons.{IsSeason};
 ghost use Rattle.cron_clocks.specs.Steady.{IsKnown, IsSteady, IsToldBy, readings_at, whole_range};
 
-use crate::rule::Told;
-use crate::season::{Season, told_at};
-use crate::table::told_in;
+use crate::rule::SpanOffsets;
+use crate::season::{Season, rule_offsets};
+use crate::table::table_offsets;
 use cron_moments::civil::SECONDS;
 use cron_moments::moment::moment_numbered;
 use cron_moments::readings::Found;
@@ -46,7 +46,7 @@ fn whole(offset: Offset) -> Stretch
 }
 
 /// The civil seconds around this one of which a rule tells what it tells of this one.
-pub(crate) fn told_stretch(rule: posix::TimeZone, second: u32, told: Told) -> Stretch
+pub(crate) fn rule_stretch(rule: posix::TimeZone, second: u32, told: SpanOffsets) -> Stretch
     requires range { second < seconds_in_range }
     requires alike { IsToldAlike rule second told.span.first told.span.end }
     requires low { told.span.first ≤ℤ pos second }
@@ -85,7 +85,7 @@ fn between_rows(table: &jiff_tz::Tzif, second: u32) -> Stretch
     ensures low { result.first ≤ second }
     ensures high { second < result.end }
 {
-    let told = told_in(table, second);
+    let told = table_offsets(table, second);
     Stretch {
         first: told.span.first as u32,
         end: told.span.end as u32,
@@ -142,7 +142,11 @@ impl Stretch {
         match zone.to_plain() {
             jiff_tz::TimeZone::UTC | jiff_tz::TimeZone::Unknown => whole(Offset::UTC),
             jiff_tz::TimeZone::Fixed(offset) => whole(Offset::from_plain(offset)),
-            jiff_tz::TimeZone::Posix(rule) => told_stretch(rule, second, told_at(rule, second)),
+            jiff_tz::TimeZone::Posix(rule) => rule_stretch(
+                rule,
+                second,
+                rule_offsets(rule, second),
+            ),
             jiff_tz::TimeZone::Tzif(table) => between_rows(table, second),
         }
     }

@@ -6,8 +6,8 @@ ghost use Rattle.cron_clocks.specs.Spans.{IsNarrowed};
 ghost use Rattle.cron_clocks.specs.Steady.{IsToldBy};
 ghost use Rattle.cron_clocks.specs.Tables.{IsAlikeAround, IsBetweenTransitions, IsShortOf, IsToldAlikeIn, IsTransitionAround, offsets_around, transitions_of};
 
-use crate::rule::{Span, Told, WHOLE, part, part_twice};
-use crate::season::told_at;
+use crate::rule::{Span, SpanOffsets, WHOLE, part, part_twice};
+use crate::season::rule_offsets;
 use jiff::tz::Offset;
 use jiff_tz::Tzif;
 use jiff_tz::tzif::Transition;
@@ -110,7 +110,7 @@ fn offset_past(table: &Tzif, count: usize) -> Offset
 
 // What is told of a civil second behind the last of so many transitions: past all of them by the
 // rule, if there is one.
-fn behind_transitions(table: &Tzif, count: usize, second: u32) -> Told
+fn behind_transitions(table: &Tzif, count: usize, second: u32) -> SpanOffsets
     requires range { second < seconds_in_range }
     requires count { count ≤ length (transitions_of table.now) }
     ensures alike { IsAlikeAround table.now count false second result.span.first result.span.end }
@@ -123,8 +123,8 @@ fn behind_transitions(table: &Tzif, count: usize, second: u32) -> Told
         result.later }
 {
     match table.posix_tz() {
-        Some(rule) if count == table.transitions().len() => told_at(rule, second),
-        _ => Told {
+        Some(rule) if count == table.transitions().len() => rule_offsets(rule, second),
+        _ => SpanOffsets {
             span: WHOLE,
             earlier: Some(offset_past(table, count)),
             later: None,
@@ -133,7 +133,7 @@ fn behind_transitions(table: &Tzif, count: usize, second: u32) -> Told
 }
 
 // What is told of a civil second past so many transitions.
-fn told_past(table: &Tzif, count: usize, second: u32) -> Told
+fn table_offsets_past(table: &Tzif, count: usize, second: u32) -> SpanOffsets
     requires range { second < seconds_in_range }
     requires count { count ≤ length (transitions_of table.now) }
     ensures alike { IsAlikeAround table.now count
@@ -153,7 +153,7 @@ fn told_past(table: &Tzif, count: usize, second: u32) -> Told
         return behind_transitions(table, count, second);
     };
     let (earlier, later) = offsets_inside(transition);
-    Told {
+    SpanOffsets {
         span: WHOLE,
         earlier,
         later,
@@ -161,7 +161,7 @@ fn told_past(table: &Tzif, count: usize, second: u32) -> Told
 }
 
 /// What a table tells of a civil second.
-pub(crate) fn told_in(table: &Tzif, second: u32) -> Told
+pub(crate) fn table_offsets(table: &Tzif, second: u32) -> SpanOffsets
     requires { second < seconds_in_range }
     ensures alike { IsToldAlikeIn table.now second result.span.first result.span.end }
     ensures low { result.span.first ≤ℤ pos second }
@@ -171,8 +171,8 @@ pub(crate) fn told_in(table: &Tzif, second: u32) -> Told
 {
     let at = i64::from(second);
     let count = transitions_by(table, at);
-    let told = told_past(table, count, second);
-    Told {
+    let told = table_offsets_past(table, count, second);
+    SpanOffsets {
         span: between_transitions(table, count, at, told.span),
         earlier: told.earlier,
         later: told.later,

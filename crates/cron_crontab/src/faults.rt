@@ -56,12 +56,12 @@ pub enum Fault<'a> {
 
 // The words for a reason, which name the numbers and the names of the field.
 #[derive(Clone, Copy)]
-struct Told<'a> {
+struct ReasonText<'a> {
     field: Field,
     reason: Reason<'a>,
 }
 
-impl<'a> fmt::Display for Told<'a> {
+impl<'a> fmt::Display for ReasonText<'a> {
     ghost use Rattle.std.specs.Prelude.{Some};
     ghost use Rattle.cron_crontab.specs.Refusals.{reason_text};
     ghost use Rattle.cron_crontab.specs.Views.{reason_view};
@@ -116,7 +116,7 @@ impl<'a> fmt::Display for Fault<'a> {
                 },
             ) => {
                 let title = field.title();
-                let told = Told {
+                let told = ReasonText {
                     field: *field,
                     reason: *reason,
                 };

@@ -58,7 +58,7 @@ fn read_items<'a>(field: Field, word: &'a str, fault: &mut Fault<'a>) -> Option<
     loop {
         let (item, behind) = cut_at(rest, b',');
         match read_item(field, item) {
-            Ok(more) => numbers = numbers.joined(more),
+            Ok(more) => numbers = numbers.join(more),
             Err(reason) => {
                 *fault = Fault::Refused(RefusedItem {
                     field,

@@ -35,7 +35,7 @@ fn monotone_about(zone: &TimeZone<'_>, stretch: &Stretch, second: u32) -> Option
 
 // The civil second that a clock shows at a mark, and what is known of it, if it is read at that
 // instant.
-fn settled_at(
+fn reading_at(
     zone: &TimeZone<'_>,
     mark: Mark,
     shown: i64,
@@ -101,7 +101,7 @@ pub(crate) fn first_item(
         (IsBeyond Ahead fields.now (plain_zone zone.now) mark.instant mark.second)
         result }
 {
-    match settled_at(zone, mark, shown, stretch) {
+    match reading_at(zone, mark, shown, stretch) {
         Some((second, monotone)) => item_past(fields, zone, mark, second, monotone),
         None => nearest_item(fields, zone, Way::Ahead, mark),
     }

@@ -45,7 +45,7 @@ pub enum Page {
     WriteFailed,
 }
 
-fn step(walk: &mut ScheduleIterator<'_>, back: bool) -> Option<Moment>
+fn neighbour(walk: &mut ScheduleIterator<'_>, back: bool) -> Option<Moment>
     ensures { Steps (direction back) walk.old result walk.new }
 {
     if back { walk.next_back() } else { walk.next() }
@@ -74,12 +74,12 @@ fn gather_items<W: Watchable>(
     let mut line = KeptLine::new();
     let mut last = None;
     for _ in 0..count {
-        let Some(moment) = step(walk, back) else {
+        let Some(moment) = neighbour(walk, back) else {
             return last;
         };
         line.show(&moment);
         line.push_to(lines, out);
-        if out.failed() {
+        if out.has_failed() {
             return last;
         }
         last = Some(moment);
@@ -146,11 +146,11 @@ pub(crate) fn finish<W: Watchable>(out: &mut Watched<W>, done: Outcome) -> Outco
     ensures calls { IsFlushed W.flushes
         (writer_of out.old) (has_failed out.old) (writer_of out.new) (has_failed out.new) }
 {
-    if out.failed() {
+    if out.has_failed() {
         return Outcome::WriteFailed;
     }
     let _flushed = out.flush();
-    if out.failed() {
+    if out.has_failed() {
         return Outcome::WriteFailed;
     }
     done

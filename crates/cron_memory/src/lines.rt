@@ -19,8 +19,8 @@ pub fn run(rt: &HostRuntime, schedule: &Schedule) -> Result<(), Error> {
     send(&mut out, b"send\n");
     let _written = out.write(b"write\n");
     let _flushed = out.flush();
-    println!(rt; "flush: {}", out.failed())?;
-    if out.failed() {
+    println!(rt; "flush: {}", out.has_failed())?;
+    if out.has_failed() {
         return Ok(());
     }
     let _listed = page(schedule, &item, &zone, 3, false, &mut out);

@@ -26,10 +26,10 @@ pub fn run(rt: &HostRuntime, schedule: &Schedule) -> Result<(), Error> {
     };
     let resumed = schedule.resume(&item, &zone);
     println!(rt; "resume: {}", resumed.is_some())?;
-    owned(rt, schedule, start, zone)
+    run_owned(rt, schedule, start, zone)
 }
 
-fn owned(
+fn run_owned(
     rt: &HostRuntime,
     schedule: &Schedule,
     start: Timestamp,

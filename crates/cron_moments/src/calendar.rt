@@ -136,7 +136,7 @@ impl KnownMonth {
 
     /// The month with this number.
     #[inline(always)]
-    pub fn numbered(month: u32) -> KnownMonth
+    pub fn of_number(month: u32) -> KnownMonth
         requires { (first_month ≤ month) × (month < months_end) }
         ensures { result ≡ month }
     {
@@ -167,7 +167,7 @@ impl KnownMonth {
     pub fn january_1970() -> KnownMonth
         ensures { result ≡ first_month }
     {
-        KnownMonth::numbered(FIRST_MONTH)
+        KnownMonth::of_number(FIRST_MONTH)
     }
 
     /// The month with this number: itself, if it is the one.
@@ -179,7 +179,7 @@ impl KnownMonth {
         if self.month == month {
             return self;
         }
-        KnownMonth::numbered(month)
+        KnownMonth::of_number(month)
     }
 
     /// The number of a day of the month.

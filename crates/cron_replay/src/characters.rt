@@ -19,7 +19,7 @@ const SHOWN: [(char, char); 12] = [
 ];
 
 /// What a character of a row stands for.
-fn meant(character: char) -> char {
+fn meaning(character: char) -> char {
     for (stand_in, meant) in SHOWN {
         if character == stand_in {
             return meant;
@@ -29,7 +29,7 @@ fn meant(character: char) -> char {
 }
 
 /// How a row shows a character.
-pub(crate) fn shown(character: char) -> char {
+pub(crate) fn stand_in_for(character: char) -> char {
     for (stand_in, meant) in SHOWN {
         if character == meant {
             return stand_in;
@@ -39,6 +39,6 @@ pub(crate) fn shown(character: char) -> char {
 }
 
 /// The text that a row shows.
-pub(crate) fn text_meant(alloc: Global, row: &str) -> Result<String, AllocError> {
-    row.chars().map(meant).collect(alloc)
+pub(crate) fn text_of_row(alloc: Global, row: &str) -> Result<String, AllocError> {
+    row.chars().map(meaning).collect(alloc)
 }

@@ -50,7 +50,7 @@ fn add_fires(tally: Tally, setting: &Setting, from: Timestamp, to: Timestamp) ->
 }
 
 /// The fires of one run.
-fn uncut(setting: &Setting, end: Timestamp) -> Tally {
+fn tally_whole(setting: &Setting, end: Timestamp) -> Tally {
     add_fires(Tally::new(), setting, setting.start, end)
 }
 
@@ -110,7 +110,7 @@ fn compare_tallies(
     answers: &str,
 ) -> Result<()> {
     let by_hour = hour_by_hour(setting, end)?;
-    compare_tally(report, row, "one run", answers, uncut(setting, end))?;
+    compare_tally(report, row, "one run", answers, tally_whole(setting, end))?;
     compare_tally(report, row, "hour by hour", answers, by_hour)?;
     compare_tally(report, row, "ten by ten", answers, ten_by_ten(setting, end))
 }

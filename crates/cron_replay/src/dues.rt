@@ -59,13 +59,13 @@ impl Call {
     }
 
     /// The texts of the answers, with a comma between two.
-    fn told(self, alloc: Global, question: &Question<'_>, end: Timestamp) -> Result<String> {
+    fn answers(self, alloc: Global, question: &Question<'_>, end: Timestamp) -> Result<String> {
         match self {
-            Call::FirstPast => asked_in_turn(alloc, question),
-            Call::After => taken(alloc, question),
+            Call::FirstPast => ask_in_turn(alloc, question),
+            Call::After => take_dues(alloc, question),
             Call::LastBy => last(alloc, question),
             Call::Between => between(alloc, question, end),
-            Call::Missed => listed(alloc, question, end),
+            Call::Missed => list_missed(alloc, question, end),
         }
     }
 }
@@ -77,7 +77,7 @@ fn fire_past(question: &Question<'_>, fire: &Option<DueFire>) -> Option<DueFire>
     }
 }
 
-fn asked_in_turn(alloc: Global, question: &Question<'_>) -> Result<String> {
+fn ask_in_turn(alloc: Global, question: &Question<'_>) -> Result<String> {
     let mut told = String::new(alloc);
     let mut next = first_due_after(question.schedule, question.instant, question.zone);
     for _ in 0..question.count {
@@ -87,7 +87,7 @@ fn asked_in_turn(alloc: Global, question: &Question<'_>) -> Result<String> {
     Ok(told)
 }
 
-fn taken(alloc: Global, question: &Question<'_>) -> Result<String> {
+fn take_dues(alloc: Global, question: &Question<'_>) -> Result<String> {
     let mut told = String::new(alloc);
     let mut dues = Dues::after(question.schedule, question.instant, question.zone);
     for _ in 0..question.count {
@@ -111,7 +111,7 @@ fn between(alloc: Global, question: &Question<'_>, end: Timestamp) -> Result<Str
     Ok(told)
 }
 
-fn listed(alloc: Global, question: &Question<'_>, end: Timestamp) -> Result<String> {
+fn list_missed(alloc: Global, question: &Question<'_>, end: Timestamp) -> Result<String> {
     let mut told = String::new(alloc);
     let fires = missed_dues(
         alloc,
@@ -144,7 +144,7 @@ fn compare(
         count: case.rest.split(", ").count(),
     };
     for call in calls {
-        let told = call.told(report.alloc(), &question, end)?;
+        let told = call.answers(report.alloc(), &question, end)?;
         report.compare(row, call.name(), case.rest, told.as_str())?;
     }
     Ok(())

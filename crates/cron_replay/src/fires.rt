@@ -1,7 +1,7 @@
 //! Fires by instants: the first one after an instant, and the last one by it.
 
 use crate::report::{Report, Row};
-use crate::settings::{case_of, listed, setting_of};
+use crate::settings::{case_of, list_answers, setting_of};
 use anyhow::Result;
 use cron::schedule::Moment;
 use cron_fires::{first_fire_after, last_fire_by};
@@ -13,7 +13,7 @@ fn compare_fire(
     fire: Option<Moment>,
     wanted: &str,
 ) -> Result<()> {
-    let answer = listed(report.alloc(), &[fire])?;
+    let answer = list_answers(report.alloc(), &[fire])?;
     report.compare(row, asked, wanted, answer.as_str())
 }
 

@@ -1,7 +1,7 @@
 //! Very long texts. A row has a count; the text as a front, a piece that stands so many times, and
 //! an end; and its answer, in which braces stand for all the pieces.
 
-use crate::characters::text_meant;
+use crate::characters::text_of_row;
 use crate::readers::READERS;
 use crate::report::{Report, Row, cut};
 use crate::texts::compare_reader;
@@ -9,7 +9,7 @@ use anyhow::Result;
 use std::alloc::{AllocError, Global};
 
 /// So many times one piece.
-fn repeated(alloc: Global, piece: &str, count: u32) -> Result<String, AllocError> {
+fn repeat(alloc: Global, piece: &str, count: u32) -> Result<String, AllocError> {
     let mut text = String::new(alloc);
     for _ in 0..count {
         text.push_str(piece)?;
@@ -18,7 +18,7 @@ fn repeated(alloc: Global, piece: &str, count: u32) -> Result<String, AllocError
 }
 
 /// An answer with all the pieces in place of the braces.
-fn filled(alloc: Global, answer: &str, pieces: &str) -> Result<String, AllocError> {
+fn fill(alloc: Global, answer: &str, pieces: &str) -> Result<String, AllocError> {
     match answer.split_once("{}") {
         Some((front, back)) => format!(in alloc; "{front}{pieces}{back}"),
         None => String::from_str(alloc, answer),
@@ -26,16 +26,16 @@ fn filled(alloc: Global, answer: &str, pieces: &str) -> Result<String, AllocErro
 }
 
 /// The pieces between a front and an end.
-fn enclosed(alloc: Global, front: &str, pieces: &str, end: &str) -> Result<String> {
-    let front = text_meant(alloc, front)?;
-    let end = text_meant(alloc, end)?;
+fn enclose(alloc: Global, front: &str, pieces: &str, end: &str) -> Result<String> {
+    let front = text_of_row(alloc, front)?;
+    let end = text_of_row(alloc, end)?;
     Ok(format!(in alloc; "{front}{pieces}{end}")?)
 }
 
 /// All the pieces of a row.
 fn pieces_of(alloc: Global, count: &str, piece: &str) -> Result<String> {
-    let piece = text_meant(alloc, piece)?;
-    Ok(repeated(alloc, piece.as_str(), count.parse::<u32>()?)?)
+    let piece = text_of_row(alloc, piece)?;
+    Ok(repeat(alloc, piece.as_str(), count.parse::<u32>()?)?)
 }
 
 /// The text of a row, and its answer.
@@ -45,8 +45,8 @@ fn text_and_answer(alloc: Global, row: &str) -> Result<(String, String)> {
     let (piece, row) = cut(row)?;
     let (end, answer) = cut(row)?;
     let pieces = pieces_of(alloc, count, piece)?;
-    let text = enclosed(alloc, front, pieces.as_str(), end)?;
-    Ok((text, filled(alloc, answer, pieces.as_str())?))
+    let text = enclose(alloc, front, pieces.as_str(), end)?;
+    Ok((text, fill(alloc, answer, pieces.as_str())?))
 }
 
 pub(crate) fn replay(report: &mut Report<'_>, row: Row<'_>) -> Result<()> {

@@ -90,17 +90,21 @@ fn by_new(alloc: Global, setting: &Setting, turns: &[Turn]) -> Result<Answers, A
     one_by_one(alloc, &mut walk, turns)
 }
 
-fn reversed(alloc: Global, setting: &Setting, turns: &[Turn]) -> Result<Answers, AllocError> {
+fn reverse_walk(alloc: Global, setting: &Setting, turns: &[Turn]) -> Result<Answers, AllocError> {
     let mut walk = setting.schedule.after(setting.start, &setting.zone).rev();
     one_by_one(alloc, &mut walk, turns)
 }
 
-fn owned_reversed(alloc: Global, setting: &Setting, turns: &[Turn]) -> Result<Answers, AllocError> {
+fn reverse_owned_walk(
+    alloc: Global,
+    setting: &Setting,
+    turns: &[Turn],
+) -> Result<Answers, AllocError> {
     let walk = setting.schedule.after_owned(setting.start, setting.zone)?;
     one_by_one(alloc, &mut walk.rev(), turns)
 }
 
-fn played(alloc: Global, setting: &Setting, turns: &[Turn]) -> Result<Answers, AllocError> {
+fn play(alloc: Global, setting: &Setting, turns: &[Turn]) -> Result<Answers, AllocError> {
     let mut walk = setting.schedule.after(setting.start, &setting.zone);
     walk.play(alloc, turns)
 }
@@ -158,9 +162,9 @@ impl Maker {
             Maker::AfterOwned => by_after_owned(alloc, setting, turns),
             Maker::UpcomingOwned => by_upcoming_owned(alloc, setting, turns),
             Maker::New => by_new(alloc, setting, turns),
-            Maker::Reversed => reversed(alloc, setting, turns),
-            Maker::OwnedReversed => owned_reversed(alloc, setting, turns),
-            Maker::Played => played(alloc, setting, turns),
+            Maker::Reversed => reverse_walk(alloc, setting, turns),
+            Maker::OwnedReversed => reverse_owned_walk(alloc, setting, turns),
+            Maker::Played => play(alloc, setting, turns),
         }
     }
 }

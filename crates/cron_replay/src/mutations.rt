@@ -2,7 +2,7 @@
 //! them means; but the readers agree on it, and the source of what is accepted is read as the same
 //! sets again.
 
-use crate::characters::text_meant;
+use crate::characters::text_of_row;
 use crate::report::{Report, Row, cut};
 use crate::texts::compare_readers;
 use anyhow::Result;
@@ -75,7 +75,7 @@ fn push_changed(
     Ok(())
 }
 
-fn changed(alloc: Global, place: Place<'_>) -> Result<Vec<String>, AllocError> {
+fn changes_of(alloc: Global, place: Place<'_>) -> Result<Vec<String>, AllocError> {
     let mut texts = Vec::new(alloc);
     push_changed(&mut texts, alloc, place)?;
     Ok(texts)
@@ -86,7 +86,7 @@ fn compare_reread(report: &mut Report<'_>, row: Row<'_>, text: &str) -> Result<(
     let Ok(schedule) = Schedule::from_str(report.alloc(), text) else {
         return Ok(());
     };
-    let again = laws::reread(report.alloc(), &schedule)?;
+    let again = laws::read_again(report.alloc(), &schedule)?;
     let told = if again.timeunitspec_eq(&schedule) {
         "equal sets"
     } else {
@@ -97,7 +97,7 @@ fn compare_reread(report: &mut Report<'_>, row: Row<'_>, text: &str) -> Result<(
 
 /// Tries the changes of one character, and counts them.
 fn try_place(report: &mut Report<'_>, row: Row<'_>, place: Place<'_>) -> Result<usize> {
-    let texts = changed(report.alloc(), place)?;
+    let texts = changes_of(report.alloc(), place)?;
     for text in &texts {
         compare_readers(report, row, text.as_str())?;
         compare_reread(report, row, text.as_str())?;
@@ -108,7 +108,7 @@ fn try_place(report: &mut Report<'_>, row: Row<'_>, place: Place<'_>) -> Result<
 /// Tries the changes of every character of a text, and counts them.
 fn try_text(report: &mut Report<'_>, row: Row<'_>) -> Result<usize> {
     let (text, _) = cut(row.text)?;
-    let text = text_meant(report.alloc(), text)?;
+    let text = text_of_row(report.alloc(), text)?;
     let mut count = 0_usize;
     for (at, _) in text.char_indices() {
         if let Some(place) = place_at(text.as_str(), at) {

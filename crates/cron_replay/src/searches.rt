@@ -1,7 +1,7 @@
 //! Single searches, with their counts of dates and of look-ups of readings.
 
 use crate::report::{Report, Row};
-use crate::settings::{Case, case_of, listed, zone_named};
+use crate::settings::{Case, case_of, list_answers, zone_named};
 use crate::texts::compare_beginnings;
 use anyhow::Result;
 use cron::Schedule;
@@ -13,15 +13,15 @@ use std::alloc::{AllocError, Global};
 fn found_text(alloc: Global, found: Option<Found>) -> Result<String, AllocError> {
     match found {
         Some(found) if found.second.is_some() => {
-            listed(alloc, &[Some(found.first), found.second])
+            list_answers(alloc, &[Some(found.first), found.second])
         }
-        Some(found) => listed(alloc, &[Some(found.first)]),
+        Some(found) => list_answers(alloc, &[Some(found.first)]),
         None => String::from_str(alloc, "none"),
     }
 }
 
 /// An answer with its counts.
-fn told(alloc: Global, search: Search) -> Result<String, AllocError> {
+fn text_of(alloc: Global, search: Search) -> Result<String, AllocError> {
     let (conversions, days) = (search.conversions, search.days);
     let found = found_text(alloc, search.found)?;
     format!(in alloc; "{found}, conversions {conversions}, days {days}")
@@ -32,7 +32,7 @@ fn ahead(alloc: Global, case: Case<'_>) -> Result<String> {
     let zone = zone_named(case.zone)?;
     let from = case.start.parse::<DateTime>()?;
     let schedule = Schedule::from_str(alloc, case.expression)?;
-    Ok(told(alloc, schedule.first_at_or_after(from, &zone))?)
+    Ok(text_of(alloc, schedule.first_at_or_after(from, &zone))?)
 }
 
 /// What the search back answers.
@@ -40,7 +40,7 @@ fn back(alloc: Global, case: Case<'_>) -> Result<String> {
     let zone = zone_named(case.zone)?;
     let from = case.start.parse::<DateTime>()?;
     let schedule = Schedule::from_str(alloc, case.expression)?;
-    Ok(told(alloc, schedule.last_at_or_before(from, &zone))?)
+    Ok(text_of(alloc, schedule.last_at_or_before(from, &zone))?)
 }
 
 pub(crate) fn replay_ahead(report: &mut Report<'_>, row: Row<'_>) -> Result<()> {

@@ -94,7 +94,10 @@ pub(crate) fn setting_of(alloc: Global, case: Case<'_>) -> Result<Setting> {
 }
 
 /// The texts of answers, with a comma between two.
-pub(crate) fn listed(alloc: Global, answers: &[Option<Moment>]) -> Result<String, AllocError> {
+pub(crate) fn list_answers(
+    alloc: Global,
+    answers: &[Option<Moment>],
+) -> Result<String, AllocError> {
     let mut text = String::new(alloc);
     for answer in answers {
         if !text.is_empty() {

@@ -9,7 +9,7 @@
 //! 0.17.0 of the Rust crate `cron`, which was given each of the short texts in each form; those
 //! with an `L`, which it refuses, were added by the rule for the last day of a month.
 
-use crate::characters::shown;
+use crate::characters::stand_in_for;
 use crate::readers::{READERS, Reader};
 use crate::report::{Report, Row};
 use anyhow::{Context, Result, ensure};
@@ -51,7 +51,7 @@ fn accepts(
 }
 
 /// Lists the short texts that a reader accepts between a front and a back.
-fn accepted_between(
+fn list_accepted(
     alloc: Global,
     reader: Reader,
     shorts: &[String],
@@ -62,7 +62,7 @@ fn accepted_between(
     for short in shorts {
         if accepts(alloc, reader, front, short.as_str(), back)? {
             list.push(' ')?;
-            list.extend(short.chars().map(shown))?;
+            list.extend(short.chars().map(stand_in_for))?;
         }
     }
     Ok(list)
@@ -74,7 +74,7 @@ pub(crate) fn replay(report: &mut Report<'_>, row: Row<'_>) -> Result<()> {
     let shorts = short_texts(report.alloc())?;
     ensure!(shorts.len() == COUNT, "there aren't {COUNT} short texts");
     for reader in READERS {
-        let list = accepted_between(report.alloc(), reader, shorts.as_slice(), front, back)?;
+        let list = list_accepted(report.alloc(), reader, shorts.as_slice(), front, back)?;
         report.compare(row, reader.name(), wanted, list.as_str())?;
     }
     Ok(())

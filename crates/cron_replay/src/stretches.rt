@@ -10,7 +10,7 @@ use crate::report::{Report, Row, cut};
 use crate::settings::{Setting, case_of, setting_of, start_at};
 use anyhow::Result;
 use cron::schedule::Moment;
-use cron_fires::{Fires, first_fire_after, first_fire_past, missed};
+use cron_fires::{Fires, first_fire_after, first_fire_past, missed_fires};
 use jiff::{SignedDuration, Timestamp};
 use std::alloc::{AllocError, Global};
 use std::fmt::Write;
@@ -35,13 +35,13 @@ fn between(alloc: Global, setting: &Setting, now: Timestamp) -> Result<Vec<Momen
     Ok(fires.collect(alloc)?)
 }
 
-fn listed(alloc: Global, setting: &Setting, now: Timestamp) -> Result<Vec<Moment>> {
-    Ok(missed(alloc, &setting.schedule, setting.start, now, &setting.zone)?)
+fn list_missed(alloc: Global, setting: &Setting, now: Timestamp) -> Result<Vec<Moment>> {
+    Ok(missed_fires(alloc, &setting.schedule, setting.start, now, &setting.zone)?)
 }
 
 /// The fires, asked for one after another: the first after an instant, and then the first past
 /// each.
-fn asked_in_turn(alloc: Global, setting: &Setting, now: Timestamp) -> Result<Vec<Moment>> {
+fn ask_in_turn(alloc: Global, setting: &Setting, now: Timestamp) -> Result<Vec<Moment>> {
     let mut fires = Vec::new(alloc);
     let mut next = first_fire_after(&setting.schedule, setting.start, &setting.zone);
     for _ in 0..u64::MAX {
@@ -107,14 +107,14 @@ impl Source {
     fn fires(self, alloc: Global, setting: &Setting, now: Timestamp) -> Result<Vec<Moment>> {
         match self {
             Source::Between => between(alloc, setting, now),
-            Source::Missed => listed(alloc, setting, now),
-            Source::InTurn => asked_in_turn(alloc, setting, now),
+            Source::Missed => list_missed(alloc, setting, now),
+            Source::InTurn => ask_in_turn(alloc, setting, now),
             Source::SortedWalk => sorted_walk(alloc, setting, now),
         }
     }
 
     /// The text of these fires.
-    fn told(self, alloc: Global, setting: &Setting, now: Timestamp) -> Result<String> {
+    fn text(self, alloc: Global, setting: &Setting, now: Timestamp) -> Result<String> {
         let fires = self.fires(alloc, setting, now)?;
         Ok(text_of(alloc, fires.as_slice())?)
     }
@@ -128,7 +128,7 @@ fn compare_sources(
     answers: &str,
 ) -> Result<()> {
     for source in SOURCES {
-        let told = source.told(report.alloc(), setting, now)?;
+        let told = source.text(report.alloc(), setting, now)?;
         report.compare(row, source.name(), answers, told.as_str())?;
     }
     Ok(())

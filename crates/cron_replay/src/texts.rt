@@ -15,7 +15,7 @@
 //! ones were made by chance, half of them by changing a few characters of a text that is read.
 
 use crate::answers::{kept_text, outcome};
-use crate::characters::text_meant;
+use crate::characters::text_of_row;
 use crate::readers::{READERS, Reader};
 use crate::report::{Report, Row, cut};
 use anyhow::Result;
@@ -77,7 +77,7 @@ pub(crate) fn compare_beginnings(report: &mut Report<'_>, row: Row<'_>, text: &s
 
 pub(crate) fn replay(report: &mut Report<'_>, row: Row<'_>) -> Result<()> {
     let (text, answer) = cut(row.text)?;
-    let text = text_meant(report.alloc(), text)?;
+    let text = text_of_row(report.alloc(), text)?;
     for reader in READERS {
         compare_reader(report, row, reader, text.as_str(), answer)?;
     }

@@ -22,7 +22,7 @@
 
 use crate::makers::{MAKERS, Maker};
 use crate::report::{Report, Row, cut};
-use crate::settings::{Case, Setting, case_of, listed, setting_of};
+use crate::settings::{Case, Setting, case_of, list_answers, setting_of};
 use crate::texts::compare_beginnings;
 use anyhow::{Result, bail};
 use cron::schedule::Turn;
@@ -47,14 +47,14 @@ fn turns_of(alloc: Global, calls: &str) -> Result<Vec<Turn>> {
 }
 
 /// What a walk of one maker answers to these calls.
-fn told_by(
+fn answers_of(
     alloc: Global,
     maker: Maker,
     setting: &Setting,
     turns: &[Turn],
 ) -> Result<String, AllocError> {
     let answers = maker.answers(alloc, setting, turns)?;
-    listed(alloc, answers.as_slice())
+    list_answers(alloc, answers.as_slice())
 }
 
 fn compare_makers(
@@ -65,7 +65,7 @@ fn compare_makers(
     answers: &str,
 ) -> Result<()> {
     for maker in MAKERS {
-        let told = told_by(report.alloc(), maker, setting, turns)?;
+        let told = answers_of(report.alloc(), maker, setting, turns)?;
         report.compare(row, maker.name(), answers, told.as_str())?;
     }
     Ok(())

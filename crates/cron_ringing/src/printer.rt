@@ -43,11 +43,11 @@ impl<W: Watchable> Printer<W> {
         ensures { PrintsText W.writes W.flushes W.contents self.old text.now result self.new }
     {
         send(&mut self.out, text);
-        if self.out.failed() {
+        if self.out.has_failed() {
             return Err(WriteFailed);
         }
         let _flushed = self.out.flush();
-        if self.out.failed() {
+        if self.out.has_failed() {
             return Err(WriteFailed);
         }
         Ok(())

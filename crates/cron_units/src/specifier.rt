@@ -100,7 +100,7 @@ fn ends<'a, T: TimeUnitField>(base: Base<'a>) -> Result<(Ordinal, Ordinal), Refu
 
 // Finds what a base with a step denotes. The step is tested before the base.
 #[inline(always)]
-fn stepped<'a, T: TimeUnitField>(base: Base<'a>, every: u32) -> Result<Progression, Refusal<'a>>
+fn progression<'a, T: TimeUnitField>(base: Base<'a>, every: u32) -> Result<Progression, Refusal<'a>>
     ensures within { IfOk result
         (λ s. (T.unit.least ≤ s.first) × (s.last ≤ T.unit.greatest) × (0 < s.every)) }
     ensures value { MatchResult result
@@ -143,7 +143,7 @@ fn steps_of<'a, T: TimeUnitField>(item: Item<'a>) -> Result<Progression, Refusal
                 every: 1,
             })
         }
-        Item::Stepped(base, every) => stepped::<T>(base, every),
+        Item::Stepped(base, every) => progression::<T>(base, every),
         Item::Name(name) => {
             let only = ordinal::<T>(name)?;
             Ok(Progression {
@@ -178,7 +178,7 @@ pub fn add_item<'a, T: TimeUnitField>(set: &mut T, item: Item<'a>) -> Result<(),
     ensures err { IfErr result (λ r. IsRefusedFor T.unit (item_view item.entry) (refusal_view r)) }
     ensures unchanged { OnErr result (set.new ≡ set.old) }
 {
-    set.known();
+    set.state_facts();
     if names_last_day::<T>(item) {
         set.mark();
         return Ok(());
@@ -205,7 +205,7 @@ pub fn add_name<T: TimeUnitField>(set: &mut T, key: Key) -> bool
     let Some(only) = T::ordinal_from_key(key) else {
         return false;
     };
-    set.known();
+    set.state_facts();
     add_steps(set, only, only, 1);
     true
 }
@@ -231,7 +231,7 @@ pub fn add_names<T: TimeUnitField>(set: &mut T, from: Key, to: Key) -> bool
     if first > last {
         return false;
     }
-    set.known();
+    set.state_facts();
     add_steps(set, first, last, 1);
     true
 }

@@ -75,7 +75,7 @@ fn the_headline(rt: HostRuntime) {
 
 // Reading a schedule's source again gives an equal schedule.
 fn check_reread(rt: &(impl Abort + AllocGlobal), schedule: &Schedule, text: &str) {
-    let again = laws::reread(rt.alloc(), schedule).expect(rt, "a schedule");
+    let again = laws::read_again(rt.alloc(), schedule).expect(rt, "a schedule");
     laws::equal_sets(schedule, &again);
     let is_equal = again == *schedule && again.timeunitspec_eq(schedule);
     check(rt, is_equal, text);

@@ -46,12 +46,12 @@ fn the_mark_is_set_by_a_failure_alone(rt: HostRuntime) {
         (None, "", true),
     ] {
         let mut out = Watched::new(Told::new(takes, true));
-        assert!(rt; !out.failed());
+        assert!(rt; !out.has_failed());
         let written = out.write(piece.as_bytes());
         assert_eq!(rt; written.ok(), takes.map(|count| count.min(piece.len())));
-        assert_eq!(rt; out.failed(), failed, "{takes:?} of {piece}");
+        assert_eq!(rt; out.has_failed(), failed, "{takes:?} of {piece}");
         assert!(rt; out.flush().is_ok());
-        assert_eq!(rt; out.failed(), failed, "{takes:?} of {piece}, flushed");
+        assert_eq!(rt; out.has_failed(), failed, "{takes:?} of {piece}, flushed");
     }
 }
 
@@ -60,9 +60,9 @@ fn a_failed_flush_sets_the_mark(rt: HostRuntime) {
     let mut out = Watched::new(Told::new(Some(4), false));
     let kind = out.flush().map_err(|error| error.kind()).err();
     assert_eq!(rt; kind, Some(ErrorKind::BrokenPipe));
-    assert!(rt; out.failed());
+    assert!(rt; out.has_failed());
     assert_eq!(rt; out.write(b"text").ok(), Some(4));
-    assert!(rt; out.failed());
+    assert!(rt; out.has_failed());
 }
 
 // Fails in its first write alone.
@@ -90,11 +90,11 @@ fn the_mark_stays_set(rt: HostRuntime) {
     let mut out = Watched::new(FailsOnce { failed: false });
     let kind = out.write(b"text").map_err(|error| error.kind()).err();
     assert_eq!(rt; kind, Some(ErrorKind::Interrupted));
-    assert!(rt; out.failed());
+    assert!(rt; out.has_failed());
     assert_eq!(rt; out.write(b"text").ok(), Some(4));
-    assert!(rt; out.failed());
+    assert!(rt; out.has_failed());
     assert!(rt; out.flush().is_ok());
-    assert!(rt; out.failed());
+    assert!(rt; out.has_failed());
 }
 
 #[test]

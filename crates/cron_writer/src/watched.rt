@@ -29,7 +29,7 @@ impl<W> Watched<W> {
     }
 
     /// Whether a write or a flush failed, or a write took no byte of a piece that isn't empty.
-    pub fn failed(&self) -> bool
+    pub fn has_failed(&self) -> bool
         ensures { result ≡ has_failed self.now }
     {
         self.failed
@@ -113,7 +113,7 @@ pub fn send<W: Watchable>(out: &mut Watched<W>, text: &[u8])
     ensures calls { HandsOn W.writes
         (writer_of out.old) (has_failed out.old) (writer_of out.new) (has_failed out.new) text.now }
 {
-    if !out.failed() {
+    if !out.has_failed() {
         send_whole(out, text);
     }
 }

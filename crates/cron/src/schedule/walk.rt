@@ -44,7 +44,7 @@ impl<C: Inputs> Walker<C> {
     ghost use Rattle.cron_time.specs.Walk.Rest.{Gives};
 
     /// A walk whose cursor is at a start.
-    pub(crate) fn starting(inputs: C, start: Timestamp) -> Walker<C>
+    pub(crate) fn begin(inputs: C, start: Timestamp) -> Walker<C>
         ensures sets { result.sets ≡ C.sets inputs }
         ensures zone { result.zone ≡ C.zone inputs }
         ensures cursor { result.cursor ≡ Start start.nanosecond }

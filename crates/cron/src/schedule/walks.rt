@@ -39,7 +39,7 @@ impl Schedule {
         ensures cursor { result.cursor ≡ Start start.nanosecond }
     {
         let fields = self.fields();
-        Walker::starting(Borrowed { fields, zone }, start)
+        Walker::begin(Borrowed { fields, zone }, start)
     }
 
     /// [`Schedule::after`] from the present instant, with what is said there of a fold. An item at
@@ -82,7 +82,7 @@ impl Schedule {
         ensures succeeds { IsOk result }
     {
         let fields = *self.fields();
-        Ok(Walker::starting(Owned { fields, zone }, start))
+        Ok(Walker::begin(Owned { fields, zone }, start))
     }
 
     /// [`Schedule::after_owned`] from the present instant.
@@ -112,6 +112,6 @@ impl<'z> Walker<Owned<'z>> {
         ensures cursor { result.cursor ≡ Start start.nanosecond }
     {
         let fields = schedule.into_fields();
-        Walker::starting(Owned { fields, zone }, start)
+        Walker::begin(Owned { fields, zone }, start)
     }
 }

@@ -101,7 +101,7 @@ fn run_asked(alloc: Global, asked: &Request<'_>, out: &mut Watched<Vec<u8>>) -> 
 
 // A writer that didn't fail, and holds this.
 fn check_held(rt: &impl Abort, line: &str, out: Watched<Vec<u8>>, want: &str) {
-    check_same(rt, &line, out.failed(), false);
+    check_same(rt, &line, out.has_failed(), false);
     check_same(rt, &line, out.into_inner().as_slice(), want.as_bytes());
 }
 

@@ -34,7 +34,7 @@ fn check_run(
     let mut out = Watched::new(writer);
     let outcome = run_from_start(rt, expression, 2, &mut out);
     check_same(rt, &text, outcome, done);
-    check_same(rt, &text, out.failed(), done == Outcome::WriteFailed);
+    check_same(rt, &text, out.has_failed(), done == Outcome::WriteFailed);
     check_writer(rt, text, &out.into_inner(), text, failures);
 }
 

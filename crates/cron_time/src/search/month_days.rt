@@ -246,7 +246,7 @@ impl MonthDays {
     {
         let mut next = next_month(fields, way, month);
         while let Some(month) = next {
-            let there = MonthDays::of(fields, KnownMonth::numbered(month));
+            let there = MonthDays::of(fields, KnownMonth::of_number(month));
             if let Some(first) = first_bit(way, there.days) {
                 *self = there;
                 return Some(Day {

@@ -66,5 +66,5 @@ pub fn resume(fields: &ScheduleFields, zone: &TimeZone<'_>, moment: &Moment) -> 
     let Some(later) = is_later(&found, *moment) else {
         return None;
     };
-    Some(State::starting(moment.timestamp()).standing(found, later))
+    Some(State::starting(moment.timestamp()).stand_at(found, later))
 }

@@ -88,7 +88,7 @@ impl State {
     }
 
     /// The state at the later or at the earlier of the readings found.
-    pub(crate) fn standing(self, found: Found, later: bool) -> State
+    pub(crate) fn stand_at(self, found: Found, later: bool) -> State
         requires { (r : Reading) × (reading_of found later ≡ Some r) }
         ensures stand { stand_of result ≡ kept.At found later }
         ensures days { result.days ≡ self.days }

@@ -54,8 +54,8 @@ impl TimeUnitField for DaysOfMonth {
         }
     }
 
-    fn known(&self) {
-        self.numbered.known();
+    fn state_facts(&self) {
+        self.numbered.state_facts();
     }
 
     fn empty() -> DaysOfMonth {
@@ -89,8 +89,8 @@ impl TimeUnitField for DaysOfMonth {
         self.numbered.len()
     }
 
-    fn ascending(&self) -> OrdinalIter<'_> {
-        self.numbered.ascending()
+    fn iterate(&self) -> OrdinalIter<'_> {
+        self.numbered.iterate()
     }
 
     fn nearest(&self, way: Way, from: Ordinal) -> Option<Ordinal> {

@@ -30,7 +30,7 @@ pub trait TimeUnitField: Copy {
 
     /// Does nothing when it runs. A proof learns from it that the set has ordinals of the unit
     /// alone, in ascending order.
-    fn known(&self)
+    fn state_facts(&self)
         ensures { IsSet unit (members self.now) };
 
     /// Makes the set without members.
@@ -79,7 +79,7 @@ pub trait TimeUnitField: Copy {
         ensures { result ≡ length (members self.now) };
 
     /// Goes over the members, in ascending order.
-    fn ascending(&self) -> OrdinalIter<'_>
+    fn iterate(&self) -> OrdinalIter<'_>
         ensures { result ≡ members self.now };
 
     /// Finds the member nearest to an ordinal, which may be that ordinal itself.

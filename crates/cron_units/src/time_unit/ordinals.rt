@@ -99,11 +99,11 @@ impl<U: UnitTable<W>, W: Words> Ordinals<U, W> {
         requires { W.IsFit words }
         ensures { result ≡ set_of U.unit (λ x. W.has words (x - U.unit.least)) }
     {
-        Ordinals::laid(words.below(U::greatest() - U::least() + 1))
+        Ordinals::from_words(words.below(U::greatest() - U::least() + 1))
     }
 
     /// Takes words for a set.
-    fn laid(words: W) -> Ordinals<U, W>
+    fn from_words(words: W) -> Ordinals<U, W>
         requires fit { W.IsFit words }
         requires none_past { NonePast U.unit (W.has words) }
         ensures { result ≡ placed U.unit (W.has words) }
@@ -130,16 +130,16 @@ impl<U: UnitTable<W>, W: Words> TimeUnitField for Ordinals<U, W> {
         U::definition()
     }
 
-    fn known(&self) {
+    fn state_facts(&self) {
         let _words = &self.words;
     }
 
     fn empty() -> Ordinals<U, W> {
-        Ordinals::laid(W::none())
+        Ordinals::from_words(W::none())
     }
 
     fn insert(&mut self, ordinal: Ordinal) {
-        *self = Ordinals::laid(self.words.with(ordinal - U::least()));
+        *self = Ordinals::from_words(self.words.with(ordinal - U::least()));
     }
 
     #[inline(always)]
@@ -147,7 +147,7 @@ impl<U: UnitTable<W>, W: Words> TimeUnitField for Ordinals<U, W> {
         if first <= last {
             let least = U::least();
             let range = W::full().at_least(first - least).below(last - least + 1);
-            *self = Ordinals::laid(self.words.joined(range));
+            *self = Ordinals::from_words(self.words.join(range));
         }
     }
 
@@ -158,7 +158,7 @@ impl<U: UnitTable<W>, W: Words> TimeUnitField for Ordinals<U, W> {
         if first <= last {
             let least = U::least();
             let steps = W::every_nth(first - least, every).below(last - least + 1);
-            *self = Ordinals::laid(self.words.joined(steps));
+            *self = Ordinals::from_words(self.words.join(steps));
         }
     }
 
@@ -171,7 +171,7 @@ impl<U: UnitTable<W>, W: Words> TimeUnitField for Ordinals<U, W> {
         self.words.count()
     }
 
-    fn ascending(&self) -> OrdinalIter<'_> {
+    fn iterate(&self) -> OrdinalIter<'_> {
         OrdinalIter::new(widen(self.words), U::least())
     }
 

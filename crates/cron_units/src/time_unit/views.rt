@@ -59,13 +59,13 @@ impl<T: TimeUnitField> TimeUnitSpec for T {
     }
 
     fn iter(&self) -> OrdinalIter<'_> {
-        self.known();
-        self.ascending()
+        self.state_facts();
+        self.iterate()
     }
 
     fn range(&self, range: (Bound<Ordinal>, Bound<Ordinal>)) -> OrdinalRangeIter<'_> {
-        self.known();
-        OrdinalRangeIter::new(self.ascending(), range)
+        self.state_facts();
+        OrdinalRangeIter::new(self.iterate(), range)
     }
 
     fn count(&self) -> u32 {
@@ -73,7 +73,7 @@ impl<T: TimeUnitField> TimeUnitSpec for T {
     }
 
     fn is_all(&self) -> bool {
-        self.known();
+        self.state_facts();
         let whole = T::inclusive_max() - T::inclusive_min() + 1;
         whole == self.len()
     }

@@ -13,7 +13,7 @@ pub returns : goal.returns
 returns g c = (
   string_bytes c.tell_line.new.text,
   (
-    sym c.failed.ensures ∙ c.if-failed.false,
+    sym c.has_failed.ensures ∙ c.if-has_failed.false,
     some_told c.args.mode.now c.args.number c.args.line.now (string_bytes c.tell_line.new.text) _ c.in-Some.refused c.in-Some.is c.in-Ok.ensures,
   ),
   subst (Puts _ _ _ _ _ _) c.as_bytes.ensures.value c.put.ensures,

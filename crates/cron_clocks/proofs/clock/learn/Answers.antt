@@ -25,23 +25,23 @@ between_transitions-requires-clause-low c = search rules
 pub between_transitions-requires-clause-high : goal.between_transitions-requires-clause-high
 between_transitions-requires-clause-high c = search rules
 
-pub told_stretch-requires-clause-range : goal.told_stretch-requires-clause-range
-told_stretch-requires-clause-range c = search rules
+pub rule_stretch-requires-clause-range : goal.rule_stretch-requires-clause-range
+rule_stretch-requires-clause-range c = search rules
 
-pub told_stretch-requires-clause-alike : goal.told_stretch-requires-clause-alike
-told_stretch-requires-clause-alike c = search rules
+pub rule_stretch-requires-clause-alike : goal.rule_stretch-requires-clause-alike
+rule_stretch-requires-clause-alike c = search rules
 
-pub told_stretch-requires-clause-low : goal.told_stretch-requires-clause-low
-told_stretch-requires-clause-low c = search rules
+pub rule_stretch-requires-clause-low : goal.rule_stretch-requires-clause-low
+rule_stretch-requires-clause-low c = search rules
 
-pub told_stretch-requires-clause-high : goal.told_stretch-requires-clause-high
-told_stretch-requires-clause-high c = search rules
+pub rule_stretch-requires-clause-high : goal.rule_stretch-requires-clause-high
+rule_stretch-requires-clause-high c = search rules
 
-pub told_stretch-requires-clause-narrowed : goal.told_stretch-requires-clause-narrowed
-told_stretch-requires-clause-narrowed c = search rules
+pub rule_stretch-requires-clause-narrowed : goal.rule_stretch-requires-clause-narrowed
+rule_stretch-requires-clause-narrowed c = search rules
 
-pub told_stretch-requires-clause-told : goal.told_stretch-requires-clause-told
-told_stretch-requires-clause-told c = search rules
+pub rule_stretch-requires-clause-told : goal.rule_stretch-requires-clause-told
+rule_stretch-requires-clause-told c = search rules
 
 pub returns-then-has : goal.returns-then-has
 returns-then-has c = search rules

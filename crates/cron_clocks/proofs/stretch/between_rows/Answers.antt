@@ -6,8 +6,8 @@ use Rattle.cron_clocks.proofs.stretch.between_rows.Goals as goal
 
 pub returns-clause-steady : goal.returns-clause-steady
 returns-clause-steady c =
-    let span = c.told_in-told.result.span in
-    let around = c.told_in-told.ensures in
+    let span = c.table_offsets-told.result.span in
+    let around = c.table_offsets-told.ensures in
     let start = around.narrowed.0 in
     let high = around.high in
     let fits-first : FitsSigned w64 span.first = search rules in

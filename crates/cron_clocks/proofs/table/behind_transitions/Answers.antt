@@ -13,11 +13,11 @@ returns-in-Some-clause-alike c k above below =
     λ dt. past_all c.args.table.now c.args.count c.in-Some.rule c.posix_tz.result c.transitions.result.now dt c.posix_tz.ensures c.in-Some.is
     c.transitions.ensures
     c.if-count-transitions.true in
-    by (civil k) ∙ c.told_at.ensures.alike k above below ∙ sym (by (civil c.args.second))
+    by (civil k) ∙ c.rule_offsets.ensures.alike k above below ∙ sym (by (civil c.args.second))
 
 pub returns-in-Some-clause-told : goal.returns-in-Some-clause-told
 returns-in-Some-clause-told c =
-    subst (λ a. IsToldBy a c.told_at.result.earlier c.told_at.result.later)
+    subst (λ a. IsToldBy a c.rule_offsets.result.earlier c.rule_offsets.result.later)
     (sym (past_all c.args.table.now c.args.count c.in-Some.rule c.posix_tz.result c.transitions.result.now (civil c.args.second) c.posix_tz.ensures c.in-Some.is
     c.transitions.ensures c.if-count-transitions.true))
-    c.told_at.ensures.told
+    c.rule_offsets.ensures.told

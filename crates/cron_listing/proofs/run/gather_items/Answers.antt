@@ -45,19 +45,19 @@ one_gathered writes r old mid new held kept (items, h) fresh g =
 pub returns-in_default-clause-lines : goal.returns-in_default-clause-lines
 returns-in_default-clause-lines g c =
     let (so_far, split, was, kept, made, fresh, items) = c.loop.invariant in
-    let steps = subst (λ (r : Option Reading). Steps (direction c.args.back) c.loop.walk r c.step.new.walk) c.in_default.is c.step.ensures in
+    let steps = subst (λ (r : Option Reading). Steps (direction c.args.back) c.loop.walk r c.neighbour.new.walk) c.in_default.is c.neighbour.ensures in
     let end = ap (lines_of c.args.back c.loop.walk) (one_less c.args.count c.loop.counter c.loop-test.true)
-    ∙ lines_stop c.args.back c.loop.walk c.step.new.walk (c.args.count - (c.loop.counter + 1)) steps in
+    ∙ lines_stop c.args.back c.loop.walk c.neighbour.new.walk (c.args.count - (c.loop.counter + 1)) steps in
     subst (IsGathered _ _ _ _) (no_more _ so_far _ split end) was
 
 pub returns-then-failed-clause-lines : goal.returns-then-failed-clause-lines
 returns-then-failed-clause-lines g c =
     let (so_far, split, was, kept, made, fresh, items) = c.loop.invariant in
-    let steps = subst (λ (r : Option Reading). Steps (direction c.args.back) c.loop.walk r c.step.new.walk) c.in-Some.is c.step.ensures in
+    let steps = subst (λ (r : Option Reading). Steps (direction c.args.back) c.loop.walk r c.neighbour.new.walk) c.in-Some.is c.neighbour.ensures in
     let line = ap item_line c.show.ensures in
     gathered_part _ _ _ _ _ (so_far ++ item_line c.show.new.self) _
-    (one_more _ so_far (item_line c.show.new.self) c.loop.walk c.step.new.walk c.args.back c.in-Some.moment c.args.count c.loop.counter c.loop-test.true
-    split steps line) (sym c.failed.ensures ∙ c.if-failed.true) (c.push_to.ensures.gathered _ so_far was)
+    (one_more _ so_far (item_line c.show.new.self) c.loop.walk c.neighbour.new.walk c.args.back c.in-Some.moment c.args.count c.loop.counter c.loop-test.true
+    split steps line) (sym c.has_failed.ensures ∙ c.if-has_failed.true) (c.push_to.ensures.gathered _ so_far was)
 
 pub loop-init : goal.loop-init
 loop-init g c =
@@ -66,16 +66,16 @@ loop-init g c =
 pub loop-preserved : goal.loop-preserved
 loop-preserved g c =
     let (so_far, split, was, kept, made, fresh, items) = c.loop.invariant in
-    let steps = subst (λ (r : Option Reading). Steps (direction c.args.back) c.loop.walk r c.step.new.walk) c.in-Some.is c.step.ensures in
+    let steps = subst (λ (r : Option Reading). Steps (direction c.args.back) c.loop.walk r c.neighbour.new.walk) c.in-Some.is c.neighbour.ensures in
     let line = ap item_line c.show.ensures in (
       so_far ++ item_line c.show.new.self,
-      one_more _ so_far (item_line c.show.new.self) c.loop.walk c.step.new.walk c.args.back c.in-Some.moment c.args.count c.loop.counter c.loop-test.true split
+      one_more _ so_far (item_line c.show.new.self) c.loop.walk c.neighbour.new.walk c.args.back c.in-Some.moment c.args.count c.loop.counter c.loop-test.true split
           steps line,
       c.push_to.ensures.gathered _ so_far was,
-      last_more c.args.back c.loop.walk c.step.new.walk c.in-Some.moment (c.args.count - (c.loop.counter + 1)) _ c.loop.last
+      last_more c.args.back c.loop.walk c.neighbour.new.walk c.in-Some.moment (c.args.count - (c.loop.counter + 1)) _ c.loop.last
           (still c.args.back c.loop.walk c.args.count c.loop.counter _ c.loop.last c.loop-test.true kept) steps,
       writes_on _ _ _ _ _ _ _ made c.push_to.ensures.calls,
-      sym c.failed.ensures ∙ c.if-failed.false,
+      sym c.has_failed.ensures ∙ c.if-has_failed.false,
       one_gathered _ c.show.new.self _ _ _ _ _ items fresh c.push_to.ensures.gathers,
     )
 
@@ -89,8 +89,8 @@ returns-clause-lines g c =
 pub returns-in_default-clause-last : goal.returns-in_default-clause-last
 returns-in_default-clause-last g c unmarked =
     let (so_far, split, was, kept, made, fresh, items) = c.loop.invariant in
-    let steps = subst (λ (r : Option Reading). Steps (direction c.args.back) c.loop.walk r c.step.new.walk) c.in_default.is c.step.ensures in
-    last_stop c.args.back c.loop.walk c.step.new.walk (c.args.count - (c.loop.counter + 1)) _ c.loop.last
+    let steps = subst (λ (r : Option Reading). Steps (direction c.args.back) c.loop.walk r c.neighbour.new.walk) c.in_default.is c.neighbour.ensures in
+    last_stop c.args.back c.loop.walk c.neighbour.new.walk (c.args.count - (c.loop.counter + 1)) _ c.loop.last
     (still c.args.back c.loop.walk c.args.count c.loop.counter _ c.loop.last c.loop-test.true kept) steps
 
 pub returns-clause-last : goal.returns-clause-last

@@ -10,8 +10,8 @@ pub returns-then-names_last_day-clause-ok : goal.returns-then-names_last_day-cla
 returns-then-names_last_day-clause-ok g c =
     let field = g.T.TimeUnitField in
     let denoted = last_denoted field.unit (item_view c.args.item) (sym c.names_last_day.ensures ∙ c.if-names_last_day.true) in
-    adds_item field.unit (item_view c.args.item) the_last_day _ _ _ _ g.met.T.TimeUnitField.is_unit denoted c.known.ensures
-    (last_unnumbered field.unit (field.members c.args.set.now) (field.members c.mark.new.self) c.known.ensures c.mark.ensures.members)
+    adds_item field.unit (item_view c.args.item) the_last_day _ _ _ _ g.met.T.TimeUnitField.is_unit denoted c.state_facts.ensures
+    (last_unnumbered field.unit (field.members c.args.set.now) (field.members c.mark.new.self) c.state_facts.ensures c.mark.ensures.members)
     (or_marked (field.marked c.args.set.now) (field.marked c.mark.new.self)
     (c.mark.ensures.mark ∙ last_is_there field.unit (item_view c.args.item) (sym c.names_last_day.ensures ∙ c.if-names_last_day.true)))
 
@@ -20,7 +20,7 @@ returns-clause-ok g c =
     let field = g.T.TimeUnitField in
     let denoted = steps_denoted field.unit (item_view c.args.item) (sym c.names_last_day.ensures ∙ c.if-names_last_day.false)
     ∙ ap of_steps c.in_ok-first.ensures.value in
-    adds_item field.unit (item_view c.args.item) (by_steps (steps_view c.in_ok-first.field-0)) _ _ _ _ g.met.T.TimeUnitField.is_unit denoted c.known.ensures
+    adds_item field.unit (item_view c.args.item) (by_steps (steps_view c.in_ok-first.field-0)) _ _ _ _ g.met.T.TimeUnitField.is_unit denoted c.state_facts.ensures
     c.add_steps.ensures.members (c.add_steps.ensures.mark ∙ sym (or-false (field.marked c.args.set.now)))
 
 pub returns-in_err-first-clause-ok : goal.returns-in_err-first-clause-ok

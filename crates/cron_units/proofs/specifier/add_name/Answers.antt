@@ -8,4 +8,4 @@ returns g c = λ _ word letters key.
     adds_name field.unit word c.in-Some.only (field.members c.args.set.now) (field.members c.add_steps.new.set) (field.marked c.args.set.now)
     (field.marked c.add_steps.new.set) g.met.T.TimeUnitField.is_unit
     (no_word field.unit c.definition.result c.definition.ensures.unit (sym c.is_some.ensures ∙ c.if-is_some.false))
-    (sym (c.in-Some.ensures.value word letters key)) c.known.ensures c.add_steps.ensures.members c.add_steps.ensures.mark
+    (sym (c.in-Some.ensures.value word letters key)) c.state_facts.ensures c.add_steps.ensures.members c.add_steps.ensures.mark

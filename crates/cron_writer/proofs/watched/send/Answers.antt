@@ -6,7 +6,7 @@ use Rattle.cron_writer.proofs.watched.send.Goals as goal
 
 pub returns-then-not-failed-clause-sent : goal.returns-then-not-failed-clause-sent
 returns-then-not-failed-clause-sent g c =
-    λ origin before s. sent_on origin _ _ _ before c.args.text.now (s.whole (sym c.failed.ensures ∙ c.if-not-failed.true)) c.send_whole.ensures.sent
+    λ origin before s. sent_on origin _ _ _ before c.args.text.now (s.whole (sym c.has_failed.ensures ∙ c.if-not-failed.true)) c.send_whole.ensures.sent
 
 pub returns-then-not-failed-clause-untouched : goal.returns-then-not-failed-clause-untouched
 returns-then-not-failed-clause-untouched c = search rules

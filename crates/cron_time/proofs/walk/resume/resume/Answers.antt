@@ -22,8 +22,8 @@ returns-in_default-is_later c =
     let same = ap (items_of c.args.fields.now (plain_zone c.args.zone.now)) c.civil_second-second.ensures in
     absent_among _ _ c.args.moment.now (found_items c.in-Some.found) (c.in-Some.ensures ∙ same) c.in_default-is_later.ensures
 
-pub standing-requires : goal.standing-requires
-standing-requires c = (c.args.moment.now, c.in-Some-is_later.ensures)
+pub stand_at-requires : goal.stand_at-requires
+stand_at-requires c = (c.args.moment.now, c.in-Some-is_later.ensures)
 
 pub returns : goal.returns
 returns c =
@@ -34,5 +34,5 @@ returns c =
     let s = c.args.fields.now in
     let z = plain_zone c.args.zone.now in
     let begun = c.starting.ensures.known s z in
-    let known : Knows s z c.standing.result = (rw c.standing.ensures.days begun.0, rw c.standing.ensures.stretch begun.1) in
-    rw c.standing.ensures.stand (kept, known, at_item _ _ c.args.moment.now c.in-Some.found c.in-Some-is_later.later kept is)
+    let known : Knows s z c.stand_at.result = (rw c.stand_at.ensures.days begun.0, rw c.stand_at.ensures.stretch begun.1) in
+    rw c.stand_at.ensures.stand (kept, known, at_item _ _ c.args.moment.now c.in-Some.found c.in-Some-is_later.later kept is)

@@ -6,21 +6,21 @@ use Rattle.cron_units.proofs.Laid.{range_past}
 use Rattle.cron_units.proofs.Progressions.{steps_more, steps_empty}
 use Rattle.cron_units.proofs.time_unit.ordinals.OrdinalsTimeUnitField.insert_steps.Goals as goal
 
-pub laid-requires-clause-none_past : goal.laid-requires-clause-none_past
-laid-requires-clause-none_past g c =
+pub from_words-requires-clause-none_past : goal.from_words-requires-clause-none_past
+from_words-requires-clause-none_past g c =
     let w = g.W.Words in
-    range_past g.U.UnitTable.unit (w.has c.self.inside.words) (w.has c.every_nth.result) (w.has c.below-steps.result) (w.has c.joined.result) c.args.last
+    range_past g.U.UnitTable.unit (w.has c.self.inside.words) (w.has c.every_nth.result) (w.has c.below-steps.result) (w.has c.join.result) c.args.last
     c.least-least.result c.self.invariant.none_past g.met.U.UnitTable.is_unit.ordered c.least-least.ensures c.requires.high c.below-steps.ensures.bits
-    c.joined.ensures.bits
+    c.join.ensures.bits
 
 pub returns-then-first-last-clause-members : goal.returns-then-first-last-clause-members
 returns-then-first-last-clause-members g c =
     let w = g.W.Words in
     let s : Progression = record { first = c.args.first; last = c.args.last; every = c.args.every } in
-    c.self-then-first-last.view_is ∙ (c.laid.ensures
-    ∙ steps_more g.U.UnitTable.unit (w.has c.self.inside.words) (w.has c.every_nth.result) (w.has c.below-steps.result) (w.has c.joined.result)
+    c.self-then-first-last.view_is ∙ (c.from_words.ensures
+    ∙ steps_more g.U.UnitTable.unit (w.has c.self.inside.words) (w.has c.every_nth.result) (w.has c.below-steps.result) (w.has c.join.result)
     c.args.self.now s c.least-least.result w.size c.self.view_is c.least-least.ensures c.requires.low c.if-first-last.true g.met.U.UnitTable.fits
-    c.every_nth.ensures.bits c.below-steps.ensures.bits c.joined.ensures.bits)
+    c.every_nth.ensures.bits c.below-steps.ensures.bits c.join.ensures.bits)
 
 pub returns-else-first-last-clause-members : goal.returns-else-first-last-clause-members
 returns-else-first-last-clause-members g c =

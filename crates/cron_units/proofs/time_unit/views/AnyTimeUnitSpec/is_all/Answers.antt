@@ -11,6 +11,6 @@ returns g c =
     let greatest = c.inclusive_max.result in
     let ordered = g.met.T.TimeUnitField.is_unit.ordered in
     let counted : c.len.result ≡ length xs = c.len.ensures in (
-      λ t. full_set u xs c.known.ensures (omega (arith, eqb-true (greatest - least + 1) c.len.result t)),
+      λ t. full_set u xs c.state_facts.ensures (omega (arith, eqb-true (greatest - least + 1) c.len.result t)),
       λ e. eq-eqb (greatest - least + 1) c.len.result (omega (arith, ap (λ (ys : List ℕ). length ys) e, length_whole u)),
     )

@@ -7,12 +7,12 @@ pub returns-clause-countable : goal.returns-clause-countable
 returns-clause-countable g c =
     let u = g.T.TimeUnitField.unit in
     let xs = g.T.TimeUnitField.members c.args.self.now in
-    let kept : c.new.result ≡ filter (is_within c.args.range.0 c.args.range.1) c.ascending.result = c.new.ensures in
+    let kept : c.new.result ≡ filter (is_within c.args.range.0 c.args.range.1) c.iterate.result = c.new.ensures in
     omega (
       arith,
-      length_filter (is_within c.args.range.0 c.args.range.1) c.ascending.result,
-      length_set u xs c.known.ensures,
-      ap (λ (ys : List ℕ). length ys) c.ascending.ensures,
+      length_filter (is_within c.args.range.0 c.args.range.1) c.iterate.result,
+      length_set u xs c.state_facts.ensures,
+      ap (λ (ys : List ℕ). length ys) c.iterate.ensures,
       ap (λ (ys : List ℕ). length ys) kept,
       g.met.T.TimeUnitField.is_unit.countable,
     )

@@ -2,7 +2,7 @@ use Rattle.std.proofs.Common.{rules, pos, ◌≤ℤ◌, FitsSigned, w64, to_z-of
 use Rattle.jiff_core.proofs.SignedLemmas.{signed_arith}
 use Rattle.cron_clocks.proofs.SteadyLemmas.{steady_rule}
 use Rattle.cron_clocks.proofs.SpanLemmas.{as_number}
-use Rattle.cron_clocks.proofs.stretch.told_stretch.Goals as goal
+use Rattle.cron_clocks.proofs.stretch.rule_stretch.Goals as goal
 
 pub returns-clause-steady : goal.returns-clause-steady
 returns-clause-steady c =

@@ -1,4 +1,4 @@
-use Rattle.cron.proofs.schedule.walk.Walker.starting.Goals as goal
+use Rattle.cron.proofs.schedule.walk.Walker.begin.Goals as goal
 
 pub invariant_of-result : goal.invariant_of-result
 invariant_of-result g c =

@@ -3,7 +3,7 @@ use Rattle.std.specs.Result.{IfOk}
 use Rattle.cron_units.specs.declared.error.Error.{Error}
 use Rattle.cron.specs.Plan.{Plan}
 use Rattle.cron.proofs.ReadLemmas.{read_sets, read_refused}
-use Rattle.cron.proofs.laws.reread.Goals as goal
+use Rattle.cron.proofs.laws.read_again.Goals as goal
 
 same_plan : (s p : Plan) → s.source ≡ p.source → s.sets ≡ p.sets → s ≡ p
 same_plan s p e d = let h : record { source = s.source; sets = s.sets } ≡ record { source = p.source; sets = p.sets } = rw (e, d) refl in h

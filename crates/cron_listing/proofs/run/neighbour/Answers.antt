@@ -1,5 +1,5 @@
 use Rattle.std.proofs.Common.{rules}
-use Rattle.cron_listing.proofs.run.step.Goals as goal
+use Rattle.cron_listing.proofs.run.neighbour.Goals as goal
 
 pub returns-then-back : goal.returns-then-back
 returns-then-back c = search rules

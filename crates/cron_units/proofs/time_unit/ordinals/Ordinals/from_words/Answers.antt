@@ -1,5 +1,5 @@
 use Rattle.cron_units.proofs.PlaceLemmas.{laid_out}
-use Rattle.cron_units.proofs.time_unit.ordinals.Ordinals.laid.Goals as goal
+use Rattle.cron_units.proofs.time_unit.ordinals.Ordinals.from_words.Goals as goal
 
 pub invariant_of-result : goal.invariant_of-result
 invariant_of-result g c =

@@ -1,6 +1,6 @@
 use Rattle.std.proofs.Common.{◌∙◌}
 use Rattle.cron_units.proofs.Remaining.{placed_wide}
-use Rattle.cron_units.proofs.time_unit.ordinals.OrdinalsTimeUnitField.ascending.Goals as goal
+use Rattle.cron_units.proofs.time_unit.ordinals.OrdinalsTimeUnitField.iterate.Goals as goal
 
 pub returns : goal.returns
 returns g c =

@@ -1,7 +1,7 @@
 use Rattle.std.proofs.Common.{subst}
 use Rattle.cron_units.specs.Units.{IsSet}
 use Rattle.cron_units.proofs.PlaceLemmas.{placed_set}
-use Rattle.cron_units.proofs.time_unit.ordinals.OrdinalsTimeUnitField.known.Goals as goal
+use Rattle.cron_units.proofs.time_unit.ordinals.OrdinalsTimeUnitField.state_facts.Goals as goal
 
 pub returns : goal.returns
 returns g c =
