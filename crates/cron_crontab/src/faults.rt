@@ -56,12 +56,12 @@ pub enum Fault<'a> {
 
 // The words for a reason, which name the numbers and the names of the field.
 #[derive(Clone, Copy)]
-struct ReasonText<'a> {
+struct ReasonWords<'a> {
     field: Field,
     reason: Reason<'a>,
 }
 
-impl<'a> fmt::Display for ReasonText<'a> {
+impl<'a> fmt::Display for ReasonWords<'a> {
     ghost use Rattle.std.specs.Prelude.{Some};
     ghost use Rattle.cron_crontab.specs.Refusals.{reason_text};
     ghost use Rattle.cron_crontab.specs.Views.{reason_view};
@@ -116,7 +116,7 @@ impl<'a> fmt::Display for Fault<'a> {
                 },
             ) => {
                 let title = field.title();
-                let told = ReasonText {
+                let told = ReasonWords {
                     field: *field,
                     reason: *reason,
                 };

@@ -100,7 +100,7 @@ fn ends<'a, T: TimeUnitField>(base: Base<'a>) -> Result<(Ordinal, Ordinal), Refu
 
 // Finds what a base with a step denotes. The step is tested before the base.
 #[inline(always)]
-fn progression<'a, T: TimeUnitField>(base: Base<'a>, every: u32) -> Result<Progression, Refusal<'a>>
+fn steps_over<'a, T: TimeUnitField>(base: Base<'a>, every: u32) -> Result<Progression, Refusal<'a>>
     ensures within { IfOk result
         (λ s. (T.unit.least ≤ s.first) × (s.last ≤ T.unit.greatest) × (0 < s.every)) }
     ensures value { MatchResult result
@@ -143,7 +143,7 @@ fn steps_of<'a, T: TimeUnitField>(item: Item<'a>) -> Result<Progression, Refusal
                 every: 1,
             })
         }
-        Item::Stepped(base, every) => progression::<T>(base, every),
+        Item::Stepped(base, every) => steps_over::<T>(base, every),
         Item::Name(name) => {
             let only = ordinal::<T>(name)?;
             Ok(Progression {
