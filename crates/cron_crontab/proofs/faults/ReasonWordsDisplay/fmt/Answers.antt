@@ -1,4 +1,4 @@
-use Rattle.cron_crontab.proofs.faults.ToldDisplay.fmt.Goals as goal
+use Rattle.cron_crontab.proofs.faults.ReasonWordsDisplay.fmt.Goals as goal
 
 pub returns-in-Outside-clause-writes : goal.returns-in-Outside-clause-writes
 returns-in-Outside-clause-writes g c =
