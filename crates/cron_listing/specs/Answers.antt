@@ -2,7 +2,7 @@
 use Rattle.std.specs.Prelude.{◌≡◌, ℕ, Bool, true, false, List, [], ◌∷◌, ◌++◌, ◌⊎◌, Option, codes}
 use Rattle.std.specs.Io.KnownBytes.{Appends}
 use Rattle.jiff.specs.Words.{plain_zone}
-use Rattle.cron_listing.specs.Output.{Writes}
+use Rattle.cron_listing.specs.Output.{IsListing, Writes}
 use Rattle.cron_writer.specs.Watching.{IsFrontSent}
 use Rattle.cron_listing.specs.Arguments.{IsReadable, Asks}
 use Rattle.cron_listing.specs.declared.answer.Status.{Status}
@@ -39,7 +39,7 @@ IsUsage old new _ = ⊥
 -- what a request asks for was written as a run writes it, and the status is that of the run
 abbrev pub Lists : Request → Option (List ℕ) → Option (List ℕ) → Status → Type 0
 Lists r old new status =
-    (outcome : Outcome) × Writes r.expression.now (plain_zone r.zone) r.start.nanosecond r.count r.back old new outcome × (status ≡ status_of outcome)
+    (outcome : Outcome) × Writes r.expression.now (IsListing r.expression.now (plain_zone r.zone) r.start.nanosecond r.count r.back) old new outcome × (status ≡ status_of outcome)
 
 -- the arguments can be read, and what they ask for was listed; or they can't, and the usage line was written
 abbrev pub IsAnswered : List (List ℕ) → Option (List ℕ) → Option (List ℕ) → Status → Type 0

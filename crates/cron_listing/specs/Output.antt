@@ -72,9 +72,9 @@ Ends done text old new Refused = (done ≡ Refused) × Appends old new text
 Ends done text old new WriteFailed = IsFrontSent old new text
 
 -- what a run writes: the listing of what the expression means, or the complaint
-abbrev pub Writes : List ℕ → TimeZone → ℤ → ℕ → Bool → Option (List ℕ) → Option (List ℕ) → Outcome → Type 0
-Writes expression z start count back old new outcome =
-    ((text : List ℕ) × IsListing expression z start count back text × Ends Listed text old new outcome)
+abbrev pub Writes : List ℕ → (List ℕ → Type 0) → Option (List ℕ) → Option (List ℕ) → Outcome → Type 0
+Writes expression lists old new outcome =
+    ((text : List ℕ) × lists text × Ends Listed text old new outcome)
     ⊎ ((text : List ℕ) × IsComplaint expression text × Ends Refused text old new outcome)
 
 abbrev pub is_write_failure : Outcome → Bool

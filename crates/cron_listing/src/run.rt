@@ -5,7 +5,7 @@ ghost use Rattle.std.specs.Prelude.{◌≡◌, ℕ, List, [], Option, false};
 ghost use Rattle.jiff.specs.Words.{plain_zone};
 ghost use Rattle.cron_units.specs.Texts.{error_text};
 ghost use Rattle.cron_time.specs.Walk.Cursor.{Steps};
-ghost use Rattle.cron_listing.specs.Output.{answers_of, direction, last_item, lines_of, complaint, Ends, GathersItems, HandsOnItems, HandsOnItemsFlushed, Writes, is_write_failure};
+ghost use Rattle.cron_listing.specs.Output.{answers_of, direction, last_item, lines_of, complaint, Ends, GathersItems, HandsOnItems, HandsOnItemsFlushed, IsListing, Writes, is_write_failure};
 ghost use Rattle.cron_writer.specs.Calls.{AreWrites, AreWritesFlushed, HandsOnFlushed, IsFlushed};
 ghost use Rattle.cron_writer.specs.Watching.{has_failed, kept_in, writer_of, IsGathered, IsSent};
 ghost use Rattle.cron_listing.specs.declared.run.Outcome.TheVariants.{Listed, Refused};
@@ -190,7 +190,8 @@ pub fn run<W: Watchable>(
     out: &mut Watched<W>,
 ) -> Outcome
     requires { has_failed out.old ≡ false }
-    ensures writes { Writes expression.now (plain_zone zone.now) start.nanosecond count back
+    ensures writes { Writes expression.now
+        (IsListing expression.now (plain_zone zone.now) start.nanosecond count back)
         (W.contents (writer_of out.old)) (W.contents (writer_of out.new)) result }
     ensures mark { has_failed out.new ≡ is_write_failure result }
     ensures calls { AreWritesFlushed W.writes W.flushes

@@ -50,8 +50,8 @@ returns-in_default-clause-lines g c =
     ∙ lines_stop c.args.back c.loop.walk c.neighbour.new.walk (c.args.count - (c.loop.counter + 1)) steps in
     subst (IsGathered _ _ _ _) (no_more _ so_far _ split end) was
 
-pub returns-then-failed-clause-lines : goal.returns-then-failed-clause-lines
-returns-then-failed-clause-lines g c =
+pub returns-then-has_failed-clause-lines : goal.returns-then-has_failed-clause-lines
+returns-then-has_failed-clause-lines g c =
     let (so_far, split, was, kept, made, fresh, items) = c.loop.invariant in
     let steps = subst (λ (r : Option Reading). Steps (direction c.args.back) c.loop.walk r c.neighbour.new.walk) c.in-Some.is c.neighbour.ensures in
     let line = ap item_line c.show.ensures in
@@ -98,14 +98,14 @@ returns-clause-last g c unmarked =
     let (so_far, split, was, kept, made, fresh, items) = c.loop.invariant in
     last_done c.args.back c.loop.walk (c.args.count - c.loop.counter) _ c.loop.last kept (omega arith)
 
-pub returns-then-failed-clause-last : goal.returns-then-failed-clause-last
-returns-then-failed-clause-last c = search rules
+pub returns-then-has_failed-clause-last : goal.returns-then-has_failed-clause-last
+returns-then-has_failed-clause-last c = search rules
 
 pub returns-in_default-clause-calls : goal.returns-in_default-clause-calls
 returns-in_default-clause-calls g c = let (so_far, split, was, kept, made, fresh, items) = c.loop.invariant in made
 
-pub returns-then-failed-clause-calls : goal.returns-then-failed-clause-calls
-returns-then-failed-clause-calls g c =
+pub returns-then-has_failed-clause-calls : goal.returns-then-has_failed-clause-calls
+returns-then-has_failed-clause-calls g c =
     let (so_far, split, was, kept, made, fresh, items) = c.loop.invariant in writes_on _ _ _ _ _ _ _ made c.push_to.ensures.calls
 
 pub returns-clause-calls : goal.returns-clause-calls
@@ -114,8 +114,8 @@ returns-clause-calls g c = let (so_far, split, was, kept, made, fresh, items) = 
 pub returns-in_default-clause-gathers : goal.returns-in_default-clause-gathers
 returns-in_default-clause-gathers g c = let (so_far, split, was, kept, made, fresh, items) = c.loop.invariant in items
 
-pub returns-then-failed-clause-gathers : goal.returns-then-failed-clause-gathers
-returns-then-failed-clause-gathers g c =
+pub returns-then-has_failed-clause-gathers : goal.returns-then-has_failed-clause-gathers
+returns-then-has_failed-clause-gathers g c =
     let (so_far, split, was, kept, made, fresh, items) = c.loop.invariant in one_gathered _ c.show.new.self _ _ _ _ _ items fresh c.push_to.ensures.gathers
 
 pub returns-clause-gathers : goal.returns-clause-gathers
