@@ -155,7 +155,7 @@ pub line_stops : {W : Type 0} (contents : W → Option (List ℕ)) (writes : W �
     (line piece put : List ℕ) (end : Outcome)
     → IsReadSoFar given now checked → TellsLines mode 1 checked report refused → number ≡ 1 + length checked → Puts contents writes old was mid here report
     → Consumes now left piece → AreWhole now left piece (line ∷ []) → StopsAtLine mode number line end put (has_failed is)
-    → Puts contents writes mid here new is put → TellsAll mode given left contents writes old was new is end
+    → Puts contents writes mid here new is put → TellsAll mode (given, left) contents writes (old, was) (new, is) end
 line_stops contents writes mode given now left old mid new was here is checked report refused number line piece put AllRead r t n p c w h q = absurd h
 line_stops contents writes mode given now left old mid new was here is checked report refused number line piece put SomeRefused r t n p c w h q = absurd h
 line_stops contents writes mode given now left old mid new was here is checked report refused number line piece put Unreadable r t n p c w h q = absurd h

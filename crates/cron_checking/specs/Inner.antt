@@ -35,21 +35,21 @@ abbrev pub stop_line : Outcome → ℕ → List ℕ
 stop_line NotUtf8 count = line_not_utf8 (count + 1)
 stop_line _ count = []
 
--- the lines that were read were told in order, until this end
-pub record TellsAll {W : Type 0} (mode : Mode) (given left : Option (List ℕ)) (contents : W → Option (List ℕ))
-    (writes : W → List ℕ → Result ℕ Error → W → Type 0) (old : Gathered) (was : Watched W) (new : Gathered) (is : Watched W) (end : Outcome)
-    : Type 0 where
+-- The lines that were read were told in order, until this end: of the bytes before and after, and of what was gathered and what is
+-- written to, before and after.
+pub record TellsAll {W : Type 0} (mode : Mode) (bytes : Option (List ℕ) × Option (List ℕ)) (contents : W → Option (List ℕ))
+    (writes : W → List ℕ → Result ℕ Error → W → Type 0) (old new : Gathered × Watched W) (end : Outcome) : Type 0 where
   pub checked : List (List ℕ)
   pub front : List ℕ
   pub piece : List ℕ
   pub report : List ℕ
   pub refused : Bool
-  pub read : Consumes given left (front ++ piece)
+  pub read : Consumes bytes.0 bytes.1 (front ++ piece)
   pub one_line : length (lines_of piece) ≤ 1
-  pub ends : EndsAt end given left front piece checked refused
+  pub ends : EndsAt end bytes.0 bytes.1 front piece checked refused
   pub tells : TellsLines mode 1 checked report refused
-  pub puts : Puts contents writes old was new is (report ++ stop_line end (length checked))
-  pub failed : end ≡ WriteFailed → has_failed is ≡ true
+  pub puts : Puts contents writes old.0 old.1 new.0 new.1 (report ++ stop_line end (length checked))
+  pub failed : end ≡ WriteFailed → has_failed new.1 ≡ true
 
 abbrev pub end_of : Bool → Outcome
 end_of true = SomeRefused

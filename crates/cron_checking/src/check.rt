@@ -95,8 +95,8 @@ fn tell_lines<R: Readable, W: Watchable>(
     gathered: &mut Gathered,
     out: &mut Watched<W>,
 ) -> Outcome
-    ensures tells { TellsAll mode.now (R.remaining reader.old) (R.remaining reader.new)
-        W.contents W.writes gathered.old out.old gathered.new out.new result }
+    ensures tells { TellsAll mode.now (R.remaining reader.old, R.remaining reader.new)
+        W.contents W.writes (gathered.old, out.old) (gathered.new, out.new) result }
     ensures reads { AreReads R.reads reader.old reader.new }
 {
     let mut line = Vec::new(alloc);
