@@ -1,10 +1,9 @@
 -- What the arguments of a command line are answered.
-use Rattle.std.specs.Prelude.{◌≡◌, ◌⊎◌, ◌++◌, ℕ, List, [], ◌∷◌, Option, Result, Ok, Err, ⊤, codes}
-use Rattle.std.specs.declared.io.Error.{Error}
-use Rattle.jiff_core.specs.declared.Timestamp.{Timestamp}
+use Rattle.std.specs.Prelude.{◌≡◌, ◌⊎◌, ◌++◌, ℕ, List, [], ◌∷◌, Result, Ok, Err, ⊤, codes}
 use Rattle.cron_scheduler.specs.declared.stop.Stop.TheVariants.{Job}
+use Rattle.cron_scheduler.specs.Runs.{ClockCalls}
 use Rattle.cron_ringing.specs.Arguments.{IsReadable, Asks}
-use Rattle.cron_ringing.specs.Printing.{PrintsText}
+use Rattle.cron_ringing.specs.Printing.{PrintsText, WriterCalls}
 use Rattle.cron_ringing.specs.Ringing.{Rings}
 use Rattle.cron_ringing.specs.declared.answer.Status.{Status}
 use Rattle.cron_ringing.specs.declared.answer.Status.TheVariants.{Rung, BadArguments}
@@ -32,11 +31,9 @@ misread (Ok done) = Ok BadArguments
 misread (Err e) = Err (Stopped (Job e))
 
 -- the arguments can be read, and what they ask for was rung at; or they can't, the clock was left alone, and the usage line was printed
-abbrev pub IsAnswered : {C W E : Type 0} → (C → Result Timestamp E → C → Type 0) → (C → Timestamp → Result ⊤ E → C → Type 0)
-    → (W → List ℕ → Result ℕ Error → W → Type 0) → (W → Result ⊤ Error → W → Type 0) → (W → Option (List ℕ))
-    → List (List ℕ) → C → Printer W → Result Status (Failure E) → C → Printer W → Type 0
-IsAnswered {C} {W} {E} shows waits writes flushes contents arguments c p answer c' p' =
+abbrev pub IsAnswered : {C W E : Type 0} → ClockCalls C E → WriterCalls W → List (List ℕ) → C × Printer W → Result Status (Failure E) → C × Printer W → Type 0
+IsAnswered {C} {W} {E} clock writer arguments old answer new =
     (IsReadable arguments
-    × ((r : Request) × Asks arguments r × ((told : Result ⊤ (Failure E)) × Rings shows waits writes flushes contents r c p told c' p' × (answer ≡ rung told))))
-    ⊎ ((IsReadable arguments → ⊥) × (c' ≡ c)
-    × ((told : Result ⊤ WriteFailed) × PrintsText writes flushes contents p usage_line told p' × (answer ≡ misread told)))
+    × ((r : Request) × Asks arguments r × ((told : Result ⊤ (Failure E)) × Rings clock writer r old told new × (answer ≡ rung told))))
+    ⊎ ((IsReadable arguments → ⊥) × (new.0 ≡ old.0)
+    × ((told : Result ⊤ WriteFailed) × PrintsText writer old.1 usage_line told new.1 × (answer ≡ misread told)))

@@ -1,9 +1,7 @@
 -- What it is to ring at the fires that were asked for.
 use Rattle.std.specs.Prelude.{◌≡◌, ◌⊎◌, ℕ, List, Option, Some, Result, Ok, Err, ⊤}
-use Rattle.std.specs.declared.io.Error.{Error}
 use Rattle.jiff.specs.Words.{plain_zone}
 use Rattle.jiff_core.specs.declared.Timestamp.{Timestamp}
-use Rattle.jiff_tz.specs.declared.timezone.TimeZone.{TimeZone}
 use Rattle.cron_units.specs.Sets.{Sets}
 use Rattle.cron_moments.specs.MomentText.{item_line}
 use Rattle.cron_moments.specs.Readings as moments
@@ -15,7 +13,7 @@ use Rattle.cron_scheduler.specs.declared.plan.Start.TheVariants.{After}
 use Rattle.cron_scheduler.specs.declared.stop.Stop.{Stop}
 use Rattle.cron_scheduler.specs.declared.stop.Stop.TheVariants.{Clock}
 use Rattle.cron_scheduler.specs.Plans.{planned}
-use Rattle.cron_scheduler.specs.Runs.{stop_text}
+use Rattle.cron_scheduler.specs.Runs.{ClockCalls, stop_text}
 use Rattle.cron_units.specs.Texts.{error_text}
 use Rattle.cron_ringing.specs.declared.arguments.ClockChanges.{ClockChanges}
 use Rattle.cron_ringing.specs.declared.arguments.ClockChanges.TheVariants.{AsShown, Once}
@@ -24,49 +22,56 @@ use Rattle.cron_ringing.specs.declared.printer.Printer.{Printer}
 use Rattle.cron_ringing.specs.declared.printer.WriteFailed.{WriteFailed}
 use Rattle.cron_ringing.specs.declared.ring.Failure.{Failure}
 use Rattle.cron_ringing.specs.declared.ring.Failure.TheVariants.{Refused, Stopped}
-use Rattle.cron_ringing.specs.Printing.{Prints, due_line, write_failed_text}
+use Rattle.cron_ringing.specs.Printing.{Prints, WriterCalls, due_line, write_failed_text}
 
--- Of the fires of sets in a zone after an instant the first so many were printed: each time that the clock shows a match, or each
--- match once.
-abbrev pub PrintsAfter : {C W E : Type 0} → (C → Result Timestamp E → C → Type 0) → (C → Timestamp → Result ⊤ E → C → Type 0)
-    → (W → List ℕ → Result ℕ Error → W → Type 0) → (W → Result ⊤ Error → W → Type 0) → (W → Option (List ℕ))
-    → ClockChanges → Sets → TimeZone → Timestamp → ℕ → C → Printer W → Result ⊤ (Stop E WriteFailed) → C → Printer W → Type 0
-PrintsAfter shows waits writes flushes contents AsShown sets zone start count =
-    Prints shows waits writes flushes contents item_line moments.instant (planned fires_after fires_past sets zone (After start) (Some count))
-PrintsAfter shows waits writes flushes contents Once sets zone start count =
-    Prints shows waits writes flushes contents due_line dues.instant (planned dues_after dues_past sets zone (After start) (Some count))
+-- what is rung at: what a request asks for, the sets that its expression means, and the time that the clock showed first
+pub record Asked : Type 0 where
+  pub sets : Sets
+  pub start : Timestamp
+
+abbrev pub asked : Sets → Timestamp → Asked
+asked sets start = record { sets = sets; start = start }
+
+-- Of the fires of the sets in the zone after the start the first so many were printed: each time that the clock shows a match, or
+-- each match once.
+abbrev pub PrintsBy : {C W E : Type 0} → ClockChanges → ClockCalls C E → WriterCalls W → Request → Asked → C × Printer W
+    → Result ⊤ (Stop E WriteFailed) → C × Printer W → Type 0
+PrintsBy AsShown clock writer r a =
+    Prints clock writer (item_line, moments.instant) (planned fires_after fires_past a.sets (plain_zone r.zone) (After a.start) (Some r.count))
+PrintsBy Once clock writer r a =
+    Prints clock writer (due_line, dues.instant) (planned dues_after dues_past a.sets (plain_zone r.zone) (After a.start) (Some r.count))
+
+abbrev pub PrintsAfter : {C W E : Type 0} → ClockCalls C E → WriterCalls W → Request → Asked → C × Printer W
+    → Result ⊤ (Stop E WriteFailed) → C × Printer W → Type 0
+PrintsAfter clock writer r a = PrintsBy r.changes clock writer r a
 
 -- The expression means sets, the clock was looked at, and then the fires of these sets after what it showed were printed,
 -- up to the count.
-pub record PrintsAsked {C W E : Type 0} (shows : C → Result Timestamp E → C → Type 0) (waits : C → Timestamp → Result ⊤ E → C → Type 0)
-    (writes : W → List ℕ → Result ℕ Error → W → Type 0) (flushes : W → Result ⊤ Error → W → Type 0) (contents : W → Option (List ℕ))
-    (r : Request) (c : C) (p : Printer W) (answer : Result ⊤ (Stop E WriteFailed)) (c' : C) (p' : Printer W) : Type 0 where
+pub record PrintsAsked {C W E : Type 0} (clock : ClockCalls C E) (writer : WriterCalls W) (r : Request) (old : C × Printer W)
+    (answer : Result ⊤ (Stop E WriteFailed)) (new : C × Printer W) : Type 0 where
   pub sets : Sets
   pub means : Means r.expression.now sets
   pub start : Timestamp
   pub looked : C
-  pub looks : shows c (Ok start) looked
-  pub prints : PrintsAfter shows waits writes flushes contents r.changes sets (plain_zone r.zone) start r.count looked p answer c' p'
+  pub looks : clock.shows old.0 (Ok start) looked
+  pub prints : PrintsAfter clock writer r (asked sets start) (looked, old.1) answer new
 
 -- The expression means sets, but the clock could not be read, and nothing was written.
-pub record IsUnread {C W E : Type 0} (shows : C → Result Timestamp E → C → Type 0) (r : Request) (c : C) (p : Printer W)
-    (stop : Stop E WriteFailed) (c' : C) (p' : Printer W) : Type 0 where
+pub record IsUnread {C W E : Type 0} (clock : ClockCalls C E) (r : Request) (old : C × Printer W) (stop : Stop E WriteFailed) (new : C × Printer W)
+    : Type 0 where
   pub sets : Sets
   pub means : Means r.expression.now sets
   pub fault : E
-  pub looks : shows c (Err fault) c'
+  pub looks : clock.shows old.0 (Err fault) new.0
   pub cause : stop ≡ Clock fault
-  pub untouched : p' ≡ p
+  pub untouched : new.1 ≡ old.1
 
 -- What a request asks for was printed. Or the expression is refused or memory ran out, and the clock and the printer are as
 -- before; or the clock could not be read; or the run that prints was stopped.
-abbrev pub Rings : {C W E : Type 0} → (C → Result Timestamp E → C → Type 0) → (C → Timestamp → Result ⊤ E → C → Type 0)
-    → (W → List ℕ → Result ℕ Error → W → Type 0) → (W → Result ⊤ Error → W → Type 0) → (W → Option (List ℕ))
-    → Request → C → Printer W → Result ⊤ (Failure E) → C → Printer W → Type 0
-Rings shows waits writes flushes contents r c p (Ok done) c' p' = PrintsAsked shows waits writes flushes contents r c p (Ok tt) c' p'
-Rings shows waits writes flushes contents r c p (Err (Refused e)) c' p' = Tells (IsRefusal r.expression.now) e × (c' ≡ c) × (p' ≡ p)
-Rings shows waits writes flushes contents r c p (Err (Stopped stop)) c' p' =
-    IsUnread shows r c p stop c' p' ⊎ PrintsAsked shows waits writes flushes contents r c p (Err stop) c' p'
+abbrev pub Rings : {C W E : Type 0} → ClockCalls C E → WriterCalls W → Request → C × Printer W → Result ⊤ (Failure E) → C × Printer W → Type 0
+Rings clock writer r old (Ok done) new = PrintsAsked clock writer r old (Ok tt) new
+Rings clock writer r old (Err (Refused e)) new = Tells (IsRefusal r.expression.now) e × (new.0 ≡ old.0) × (new.1 ≡ old.1)
+Rings clock writer r old (Err (Stopped stop)) new = IsUnread clock r old stop new ⊎ PrintsAsked clock writer r old (Err stop) new
 
 -- what a failure prints, by what an error of the clock prints
 abbrev pub failure_text : {E : Type 0} → (E → Option (List ℕ)) → Failure E → Option (List ℕ)

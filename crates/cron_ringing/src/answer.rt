@@ -2,7 +2,9 @@
 //! line.
 
 ghost use Rattle.std.specs.Prelude.{◌≡◌, map, string_bytes};
+ghost use Rattle.cron_scheduler.specs.Runs.{clock_calls};
 ghost use Rattle.cron_ringing.specs.Answering.{IsAnswered, code_of};
+ghost use Rattle.cron_ringing.specs.Printing.{writer_calls};
 
 use crate::arguments::request_of;
 use crate::printer::Printer;
@@ -42,8 +44,11 @@ pub fn answer<C: AlarmClock, W: Watchable>(
     clock: &mut C,
     printer: &mut Printer<W>,
 ) -> Result<Status, Failure<C::Error>>
-    ensures { IsAnswered C.shows C.waits W.writes W.flushes W.contents
-        (map string_bytes arguments.now) clock.old printer.old result clock.new printer.new }
+    ensures { IsAnswered (clock_calls C.shows C.waits) (writer_calls W.writes W.flushes W.contents)
+        (map string_bytes arguments.now)
+        (clock.old, printer.old)
+        result
+        (clock.new, printer.new) }
 {
     let Some(request) = request_of(arguments) else {
         return match printer.print(USAGE.as_bytes()) {

@@ -1,8 +1,8 @@
 //! A job that writes a line for each fire.
 
-ghost use Rattle.jiff.specs.Words.{plain_zone};
-ghost use Rattle.cron_scheduler.specs.Plans.{planned};
-ghost use Rattle.cron_ringing.specs.Printing.{Prints, PrintsText};
+ghost use Rattle.cron_scheduler.specs.Plans.{fires_of};
+ghost use Rattle.cron_scheduler.specs.Runs.{clock_calls};
+ghost use Rattle.cron_ringing.specs.Printing.{Prints, PrintsText, writer_calls};
 
 use crate::lined::Lined;
 use cron_scheduler::{AlarmClock, Job, Plan, Stop};
@@ -40,7 +40,8 @@ pub struct Printer<W> {
 impl<W: Watchable> Printer<W> {
     /// Hands a text on and flushes. Once a call has failed it does nothing, and fails.
     pub fn print(&mut self, text: &[u8]) -> Result<(), WriteFailed>
-        ensures { PrintsText W.writes W.flushes W.contents self.old text.now result self.new }
+        ensures { PrintsText (writer_calls W.writes W.flushes W.contents)
+            self.old text.now result self.new }
     {
         send(&mut self.out, text);
         if self.out.has_failed() {
@@ -59,7 +60,7 @@ impl<F: Lined, W: Watchable> Job<F> for Printer<W> {
 
     type Error = WriteFailed;
 
-    ghost runs = { PrintsLine W.writes W.flushes W.contents F.line };
+    ghost runs = { PrintsLine (writer_calls W.writes W.flushes W.contents) F.line };
 
     fn run(&mut self, fire: F) -> Result<(), WriteFailed> {
         self.print(fire.line().as_slice())
@@ -72,10 +73,12 @@ pub(crate) fn print_fires<F: Lined, C: AlarmClock, W: Watchable>(
     clock: &mut C,
     printer: &mut Printer<W>,
 ) -> Result<(), Stop<C::Error, WriteFailed>>
-    ensures { Prints C.shows C.waits W.writes W.flushes W.contents F.line F.at
-        (planned F.after F.past plan.now.schedule.now.sets
-        (plain_zone plan.now.zone.now) plan.now.start plan.now.most)
-        clock.old printer.old result clock.new printer.new }
+    ensures { Prints (clock_calls C.shows C.waits) (writer_calls W.writes W.flushes W.contents)
+        (F.line, F.at)
+        (fires_of F.after F.past plan.now)
+        (clock.old, printer.old)
+        result
+        (clock.new, printer.new) }
 {
     plan.run(clock, printer)
 }

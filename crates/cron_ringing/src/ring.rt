@@ -4,8 +4,9 @@ ghost use Rattle.std.specs.Prelude.{Some};
 ghost use Rattle.jiff.specs.Words.{plain_zone};
 ghost use Rattle.cron_scheduler.specs.Plans.{planned};
 ghost use Rattle.cron_scheduler.specs.declared.plan.Start.TheVariants.{After};
-ghost use Rattle.cron_ringing.specs.Printing.{Prints};
-ghost use Rattle.cron_ringing.specs.Ringing.{PrintsAfter, Rings};
+ghost use Rattle.cron_scheduler.specs.Runs.{clock_calls};
+ghost use Rattle.cron_ringing.specs.Printing.{Prints, writer_calls};
+ghost use Rattle.cron_ringing.specs.Ringing.{PrintsAfter, Rings, asked};
 
 use crate::arguments::{ClockChanges, Request};
 use crate::lined::Lined;
@@ -55,10 +56,13 @@ fn print_after<F: Lined, C: AlarmClock, W: Watchable>(
     clock: &mut C,
     printer: &mut Printer<W>,
 ) -> Result<(), Stop<C::Error, WriteFailed>>
-    ensures { Prints C.shows C.waits W.writes W.flushes W.contents F.line F.at
+    ensures { Prints (clock_calls C.shows C.waits) (writer_calls W.writes W.flushes W.contents)
+        (F.line, F.at)
         (planned F.after F.past schedule.now.sets
         (plain_zone request.now.zone) (After now) (Some request.now.count))
-        clock.old printer.old result clock.new printer.new }
+        (clock.old, printer.old)
+        result
+        (clock.new, printer.new) }
 {
     let start: Start<F> = Start::After(now);
     let plan = Plan {
@@ -78,9 +82,12 @@ fn print_asked<C: AlarmClock, W: Watchable>(
     clock: &mut C,
     printer: &mut Printer<W>,
 ) -> Result<(), Stop<C::Error, WriteFailed>>
-    ensures { PrintsAfter C.shows C.waits W.writes W.flushes W.contents request.now.changes
-        schedule.now.sets (plain_zone request.now.zone) now request.now.count
-        clock.old printer.old result clock.new printer.new }
+    ensures { PrintsAfter (clock_calls C.shows C.waits) (writer_calls W.writes W.flushes W.contents)
+        request.now
+        (asked schedule.now.sets now)
+        (clock.old, printer.old)
+        result
+        (clock.new, printer.new) }
 {
     match request.changes {
         ClockChanges::AsShown => {
@@ -101,8 +108,11 @@ pub fn ring<C: AlarmClock, W: Watchable>(
     clock: &mut C,
     printer: &mut Printer<W>,
 ) -> Result<(), Failure<C::Error>>
-    ensures { Rings C.shows C.waits W.writes W.flushes W.contents request.now
-        clock.old printer.old result clock.new printer.new }
+    ensures { Rings (clock_calls C.shows C.waits) (writer_calls W.writes W.flushes W.contents)
+        request.now
+        (clock.old, printer.old)
+        result
+        (clock.new, printer.new) }
 {
     let schedule = match Schedule::from_str(alloc, request.expression) {
         Ok(schedule) => schedule,

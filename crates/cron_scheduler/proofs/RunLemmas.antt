@@ -6,7 +6,7 @@ use Rattle.std.proofs.lemmas.List.{append-nil}
 use Rattle.jiff_core.specs.declared.Timestamp.{Timestamp}
 use Rattle.cron_scheduler.specs.declared.stop.Stop.{Stop}
 use Rattle.cron_scheduler.specs.declared.stop.Stop.TheVariants.{Clock, Job}
-use Rattle.cron_scheduler.specs.Runs.{Event, Wait, Look, Run, Happened, ran, shown, is_due, due, next, EndsBy, HasWaited, MayFollow, RunsWhole, IsRun}
+use Rattle.cron_scheduler.specs.Runs.{Event, Wait, Look, Run, Happened, ran, shown, is_due, due, next, EndsBy, HasWaited, MayFollow, RunsWhole, IsRun, clock_calls}
 use Rattle.cron_scheduler.specs.Inner.Passing.{AllPass, NonePass, RanFor, RunsDue, Wakes}
 use Rattle.cron_scheduler.proofs.CallLemmas.{InTurn, happened_on, ran-append, shown-append, ends_on, turn_on, none_in_turn, not_waited_yet, awake_by_look, awake_by_run}
 use Rattle.cron_scheduler.proofs.PassingLemmas.{left_on, pass_on}
@@ -59,7 +59,7 @@ made_on shows waits runs instant fires c j c1 j1 c2 j2 calls e made one turn wel
 failed : {A C J E F : Type 0} (shows : C → Result Timestamp E → C → Type 0) (waits : C → Timestamp → Result ⊤ E → C → Type 0)
     (runs : J → A → Result ⊤ F → J → Type 0) (instant : A → ℤ) (fires : List A) (c : C) (j : J) (c1 : C) (j1 : J) (c2 : C) (j2 : J) (calls : List (Event A E F))
     (e : Event A E F) (stop : Stop E F) → Made shows waits runs instant fires c j c1 j1 calls → Happened shows waits runs (e ∷ []) c1 j1 c2 j2 → MayFollow instant fires calls e
-    → EndsBy (e ∷ []) (Err stop) → RunsWhole instant (Err stop) fires (calls ++ e ∷ []) → IsRun shows waits runs instant fires c j (Err stop) c2 j2
+    → EndsBy (e ∷ []) (Err stop) → RunsWhole instant (Err stop) fires (calls ++ e ∷ []) → IsRun (clock_calls shows waits) runs instant fires (c, j) (Err stop) (c2, j2)
 failed shows waits runs instant fires c j c1 j1 c2 j2 calls e stop made one turn ends whole =
     record {
       calls = calls ++ e ∷ [];
@@ -128,7 +128,7 @@ whole shows waits runs instant fires left looks c j c1 j1 st =
 -- nothing is left
 pub ended : {A C J E F : Type 0} (shows : C → Result Timestamp E → C → Type 0) (waits : C → Timestamp → Result ⊤ E → C → Type 0)
     (runs : J → A → Result ⊤ F → J → Type 0) (instant : A → ℤ) (fires left : List A) (looks : ℕ) (c : C) (j : J) (c1 : C) (j1 : J)
-    → Stands shows waits runs instant fires left looks c j c1 j1 → left ≡ [] → IsRun shows waits runs instant fires c j (Ok tt) c1 j1
+    → Stands shows waits runs instant fires left looks c j c1 j1 → left ≡ [] → IsRun (clock_calls shows waits) runs instant fires (c, j) (Ok tt) (c1, j1)
 ended shows waits runs instant fires left looks c j c1 j1 st none =
     record {
       calls = st.calls;
@@ -141,7 +141,7 @@ ended shows waits runs instant fires left looks c j c1 j1 st none =
 -- the clock was read as often as it may be
 pub spent : {A C J E F : Type 0} (shows : C → Result Timestamp E → C → Type 0) (waits : C → Timestamp → Result ⊤ E → C → Type 0)
     (runs : J → A → Result ⊤ F → J → Type 0) (instant : A → ℤ) (fires left : List A) (looks : ℕ) (c : C) (j : J) (c1 : C) (j1 : J)
-    → Stands shows waits runs instant fires left looks c j c1 j1 → looks ≡ 2 ^ 64 - 1 → IsRun shows waits runs instant fires c j (Ok tt) c1 j1
+    → Stands shows waits runs instant fires left looks c j c1 j1 → looks ≡ 2 ^ 64 - 1 → IsRun (clock_calls shows waits) runs instant fires (c, j) (Ok tt) (c1, j1)
 spent shows waits runs instant fires left looks c j c1 j1 st all =
     record {
       calls = st.calls;
@@ -174,7 +174,7 @@ wait_fails : {A C J E F : Type 0} (shows : C → Result Timestamp E → C → Ty
     (runs : J → A → Result ⊤ F → J → Type 0)
     (instant : A → ℤ) (fires left rest : List A) (looks : ℕ) (c : C) (j : J) (c1 : C) (j1 : J) (c2 : C) (r : A) (t : Timestamp) (e : E)
     → Stands shows waits runs instant fires left looks c j c1 j1 → left ≡ r ∷ rest → t.nanosecond ≡ instant r *ℤ pos 1_000_000_000 → waits c1 t (Err e) c2
-    → IsRun shows waits runs instant fires c j (Err (Clock e)) c2 j1
+    → IsRun (clock_calls shows waits) runs instant fires (c, j) (Err (Clock e)) (c2, j1)
 wait_fails {A} {C} {J} {E} {F} shows waits runs instant fires left rest looks c j c1 j1 c2 r t e st first at waited =
     let call : Event A E F = Wait t (Err e) in
     failed shows waits runs instant fires c j c1 j1 c2 j1 st.calls call (Clock e) st.made (c2, waited, (refl, refl))
@@ -195,7 +195,7 @@ look_fails : {A C J E F : Type 0} (shows : C → Result Timestamp E → C → Ty
     (runs : J → A → Result ⊤ F → J → Type 0)
     (instant : A → ℤ) (fires left rest : List A) (looks : ℕ) (c : C) (j : J) (c1 : C) (j1 : J) (c2 c3 : C) (r : A) (t : Timestamp) (e : E)
     → Stands shows waits runs instant fires left looks c j c1 j1 → left ≡ r ∷ rest → t.nanosecond ≡ instant r *ℤ pos 1_000_000_000 → waits c1 t (Ok tt) c2
-    → shows c2 (Err e) c3 → IsRun shows waits runs instant fires c j (Err (Clock e)) c3 j1
+    → shows c2 (Err e) c3 → IsRun (clock_calls shows waits) runs instant fires (c, j) (Err (Clock e)) (c3, j1)
 look_fails {A} {C} {J} {E} {F} shows waits runs instant fires left rest looks c j c1 j1 c2 c3 r t e st first at waited looked =
     let wait : Event A E F = Wait t (Ok tt) in
     let call : Event A E F = Look (Err e) in
@@ -237,7 +237,7 @@ pub job_fails : {A C J E F : Type 0} (shows : C → Result Timestamp E → C →
     (instant : A → ℤ) (fires left after rest : List A) (looks : ℕ) (c : C) (j : J) (c1 : C) (j1 : J) (c2 : C) (j2 : J) (r : A) (t now :
     Timestamp) (f : F)
     → Stands shows waits runs instant fires left looks c j c1 j1 → left ≡ r ∷ rest → t.nanosecond ≡ instant r *ℤ pos 1_000_000_000 → Wakes shows waits t c1 (Ok now) c2
-    → RunsDue instant runs now.nanosecond left j1 (Err f) after j2 → IsRun shows waits runs instant fires c j (Err (Job f)) c2 j2
+    → RunsDue instant runs now.nanosecond (left, j1) (Err f) (after, j2) → IsRun (clock_calls shows waits) runs instant fires (c, j) (Err (Job f)) (c2, j2)
 job_fails {A} {C} {J} {E} {F} shows waits runs instant fires left after rest looks c j c1 j1 c2 j2 r t now f st first at wakes ran_due =
     let (rs, mid, q, behind, went, fails, parts, at_q, all, due_q) = ran_due in
     let call : Event A E F = Run q (Err f) in
@@ -270,7 +270,7 @@ pub round : {A C J E F : Type 0} (shows : C → Result Timestamp E → C → Typ
     (runs : J → A → Result ⊤ F → J → Type 0)
     (instant : A → ℤ) (fires left after rest : List A) (looks : ℕ) (c : C) (j : J) (c1 : C) (j1 : J) (c2 : C) (j2 : J) (r : A) (t now : Timestamp)
     → Stands shows waits runs instant fires left looks c j c1 j1 → left ≡ r ∷ rest → t.nanosecond ≡ instant r *ℤ pos 1_000_000_000 → Wakes shows waits t c1 (Ok now) c2
-    → RunsDue instant runs now.nanosecond left j1 (Ok tt) after j2 → Stands shows waits runs instant fires after (looks + 1) c j c2 j2
+    → RunsDue instant runs now.nanosecond (left, j1) (Ok tt) (after, j2) → Stands shows waits runs instant fires after (looks + 1) c j c2 j2
 round {A} {C} {J} {E} {F} shows waits runs instant fires left after rest looks c j c1 j1 c2 j2 r t now st first at wakes ran_due =
     let (rs, went, parts, all, none) = ran_due in
     let l = after_look shows waits runs instant fires left rest looks c j c1 j1 wakes.0 c2 r t now st first at wakes.1 wakes.2 in
@@ -297,7 +297,7 @@ round {A} {C} {J} {E} {F} shows waits runs instant fires left after rest looks c
 pub clock_fails : {A C J E F : Type 0} (shows : C → Result Timestamp E → C → Type 0) (waits : C → Timestamp → Result ⊤ E → C → Type 0)
     (runs : J → A → Result ⊤ F → J → Type 0) (instant : A → ℤ) (fires left rest : List A) (looks : ℕ) (c : C) (j : J) (c1 : C) (j1 : J) (c2 : C) (r : A)
     (t : Timestamp) (e : E) → Stands shows waits runs instant fires left looks c j c1 j1 → left ≡ r ∷ rest → t.nanosecond ≡ instant r *ℤ pos 1_000_000_000
-    → Wakes shows waits t c1 (Err e) c2 → IsRun shows waits runs instant fires c j (Err (Clock e)) c2 j1
+    → Wakes shows waits t c1 (Err e) c2 → IsRun (clock_calls shows waits) runs instant fires (c, j) (Err (Clock e)) (c2, j1)
 clock_fails shows waits runs instant fires left rest looks c j c1 j1 c2 r t e st first at wakes = elim wakes [
   | inl waited ↦ wait_fails shows waits runs instant fires left rest looks c j c1 j1 c2 r t e st first at waited
   | inr looked ↦ look_fails shows waits runs instant fires left rest looks c j c1 j1 looked.0 c2 r t e st first at looked.1 looked.2

@@ -12,6 +12,14 @@ pub data Event (A E F : Type 0) : Type 0 where
   Look : Result Timestamp E → Event A E F
   Run : A → Result ⊤ F → Event A E F
 
+-- what the calls of a clock do: a reading of it, and a wait
+pub record ClockCalls (C E : Type 0) : Type 1 where
+  pub shows : C → Result Timestamp E → C → Type 0
+  pub waits : C → Timestamp → Result ⊤ E → C → Type 0
+
+abbrev pub clock_calls : {C E : Type 0} → (C → Result Timestamp E → C → Type 0) → (C → Timestamp → Result ⊤ E → C → Type 0) → ClockCalls C E
+clock_calls shows waits = record { shows = shows; waits = waits }
+
 -- The calls were made one after another: from a clock and a job to what they were afterwards.
 abbrev pub Happened : {A C J E F : Type 0} → (C → Result Timestamp E → C → Type 0) → (C → Timestamp → Result ⊤ E → C → Type 0)
     → (J → A → Result ⊤ F → J → Type 0) → List (Event A E F) → C → J → C → J → Type 0
@@ -89,10 +97,10 @@ RunsWhole instant (Err (Clock e)) fires es = ran es ≡ due instant fires es
 RunsWhole {A} instant (Err (Job f)) fires es = (left : List A) × (due instant fires es ≡ ran es ++ left)
 
 -- A run over some fires: its calls, from a clock and a job to what they were afterwards.
-pub record IsRun {A C J E F : Type 0} (shows : C → Result Timestamp E → C → Type 0) (waits : C → Timestamp → Result ⊤ E → C → Type 0)
-    (runs : J → A → Result ⊤ F → J → Type 0) (instant : A → ℤ) (fires : List A) (c : C) (j : J) (answer : Result ⊤ (Stop E F)) (c' : C) (j' : J) : Type 0 where
+pub record IsRun {A C J E F : Type 0} (clock : ClockCalls C E) (runs : J → A → Result ⊤ F → J → Type 0) (instant : A → ℤ) (fires : List A) (old : C × J)
+    (answer : Result ⊤ (Stop E F)) (new : C × J) : Type 0 where
   pub calls : List (Event A E F)
-  pub happened : Happened shows waits runs calls c j c' j'
+  pub happened : Happened clock.shows clock.waits runs calls old.0 old.1 new.0 new.1
   pub in_turn : (before after : List (Event A E F)) (e : Event A E F) → calls ≡ before ++ e ∷ after → MayFollow instant fires before e
   pub ends : EndsBy calls answer
   pub whole : RunsWhole instant answer fires calls

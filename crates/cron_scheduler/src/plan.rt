@@ -2,8 +2,7 @@
 
 ghost use Rattle.std.specs.Prelude.{◌≡◌, ◌-◌};
 ghost use Rattle.std.specs.Option.{option_map};
-ghost use Rattle.jiff.specs.Words.{plain_zone};
-ghost use Rattle.cron_scheduler.specs.Inner.Passing.{IsFirst, IsFirstDue};
+ghost use Rattle.cron_scheduler.specs.Inner.Passing.{IsFirstDueLeft, IsFirstLeft};
 ghost use Rattle.cron_scheduler.specs.declared.plan.Start.TheVariants.{Past};
 
 use cron::Schedule;
@@ -56,8 +55,7 @@ impl<F: Fire> Rest<F> {
 impl<F: Fire> Plan<'_, F> {
     // The first of the fires that are left.
     pub(crate) fn first(&self, rest: &Rest<F>) -> Option<F>
-        ensures { IsFirst F.after F.past self.now.schedule.now.sets
-            (plain_zone self.now.zone.now) rest.now.start rest.now.most result }
+        ensures { IsFirstLeft F.after F.past self.now rest.now result }
     {
         if rest.most == Some(0) {
             return None;
@@ -70,8 +68,7 @@ impl<F: Fire> Plan<'_, F> {
 
     // The first of the fires that are left, if its instant is now or came before.
     pub(crate) fn first_due(&self, rest: &Rest<F>, now: Timestamp) -> Option<F>
-        ensures { IsFirstDue F.at F.after F.past self.now.schedule.now.sets
-            (plain_zone self.now.zone.now) rest.now.start rest.now.most now.nanosecond result }
+        ensures { IsFirstDueLeft F.at F.after F.past self.now rest.now now.nanosecond result }
     {
         let first = self.first(rest)?;
         F::never_decrease();

@@ -1,10 +1,9 @@
 //! Runs the job for the fires of a plan, as the clock goes.
 
 ghost use Rattle.std.specs.Prelude.{◌≡◌};
-ghost use Rattle.jiff.specs.Words.{plain_zone};
-ghost use Rattle.cron_scheduler.specs.Plans.{planned};
-ghost use Rattle.cron_scheduler.specs.Runs.{IsRun};
-ghost use Rattle.cron_scheduler.specs.Inner.Passing.{RunsDue, Wakes};
+ghost use Rattle.cron_scheduler.specs.Plans.{fires_of};
+ghost use Rattle.cron_scheduler.specs.Runs.{IsRun, clock_calls};
+ghost use Rattle.cron_scheduler.specs.Inner.Passing.{RunsDue, Wakes, left_of};
 
 use crate::clock::AlarmClock;
 use crate::job::Job;
@@ -30,11 +29,9 @@ fn run_due<F: Fire, J: Job<F>>(
 ) -> Result<(), J::Error>
     requires { J.can_run job.old }
     ensures due { RunsDue F.at J.runs now.nanosecond
-        (planned F.after F.past plan.now.schedule.now.sets
-        (plain_zone plan.now.zone.now) rest.old.start rest.old.most)
-        job.old result
-        (planned F.after F.past plan.now.schedule.now.sets
-        (plain_zone plan.now.zone.now) rest.new.start rest.new.most) job.new }
+        (left_of F.after F.past plan.now rest.old, job.old)
+        result
+        (left_of F.after F.past plan.now rest.new, job.new) }
     ensures stays { J.can_run job.new }
 {
     while let Some(fire) = plan.first_due(rest, now) {
@@ -59,10 +56,11 @@ impl<F: Fire> Plan<'_, F> {
         job: &mut J,
     ) -> Result<(), Stop<C::Error, J::Error>>
         requires { J.can_run job.old }
-        ensures run { IsRun C.shows C.waits J.runs F.at
-            (planned F.after F.past self.now.schedule.now.sets
-            (plain_zone self.now.zone.now) self.now.start self.now.most)
-            clock.old job.old result clock.new job.new }
+        ensures run { IsRun (clock_calls C.shows C.waits) J.runs F.at
+            (fires_of F.after F.past self.now)
+            (clock.old, job.old)
+            result
+            (clock.new, job.new) }
         ensures stays { J.can_run job.new }
     {
         let mut rest = Rest {

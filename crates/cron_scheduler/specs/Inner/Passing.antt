@@ -2,9 +2,12 @@
 use Rattle.std.specs.Prelude.{◌≡◌, ◌⊎◌, ◌++◌, ◌-◌, ℤ, ℕ, Bool, true, false, Option, List, [], ◌∷◌, Result, Ok, Err, ⊤, MatchOption}
 use Rattle.std.specs.Option.{option_map}
 use Rattle.jiff_core.specs.declared.Timestamp.{Timestamp}
+use Rattle.jiff.specs.Words.{plain_zone}
 use Rattle.jiff_tz.specs.declared.timezone.TimeZone.{TimeZone}
 use Rattle.cron_units.specs.Sets.{Sets}
 use Rattle.cron_fires.specs.Rules.{IsFirstOf, is_by}
+use Rattle.cron_scheduler.specs.declared.plan.Plan.{Plan}
+use Rattle.cron_scheduler.specs.declared.plan.Rest.{Rest}
 use Rattle.cron_scheduler.specs.declared.plan.Start.{Start}
 use Rattle.cron_scheduler.specs.declared.plan.Start.TheVariants.{Past}
 use Rattle.cron_scheduler.specs.Plans.{planned}
@@ -34,6 +37,19 @@ IsFirstDue instant after past s z start most now answer =
     MatchOption answer (NonePass (is_by instant now) (planned after past s z start most))
     (λ r. (planned after past s z start most ≡ r ∷ planned_past after past s z r most) × (is_by instant now r ≡ true))
 
+-- what is left of the fires of a plan
+abbrev pub left_of : {A : Type 0} → (Sets → TimeZone → ℤ → List A) → (Sets → TimeZone → A → List A) → Plan A → Rest A → List A
+left_of after past p rest = planned after past p.schedule.now.sets (plain_zone p.zone.now) rest.start rest.most
+
+-- the first of what is left, and the first where it is due by an instant
+abbrev pub IsFirstLeft : {A : Type 0} → (Sets → TimeZone → ℤ → List A) → (Sets → TimeZone → A → List A) → Plan A → Rest A → Option A → Type 0
+IsFirstLeft after past p rest answer = IsFirst after past p.schedule.now.sets (plain_zone p.zone.now) rest.start rest.most answer
+
+abbrev pub IsFirstDueLeft : {A : Type 0} → (A → ℤ) → (Sets → TimeZone → ℤ → List A) → (Sets → TimeZone → A → List A) → Plan A → Rest A → ℤ
+    → Option A → Type 0
+IsFirstDueLeft instant after past p rest now answer =
+    IsFirstDue instant after past p.schedule.now.sets (plain_zone p.zone.now) rest.start rest.most now answer
+
 -- the clock was asked to wait until an instant, and where it did it was read
 abbrev pub Wakes : {C E : Type 0} → (C → Result Timestamp E → C → Type 0) → (C → Timestamp → Result ⊤ E → C → Type 0) → Timestamp
     → C → Result Timestamp E → C → Type 0
@@ -45,10 +61,11 @@ abbrev pub RanFor : {A J F : Type 0} → (J → A → Result ⊤ F → J → Typ
 RanFor runs [] j j' = j' ≡ j
 RanFor {A} {J} runs (r ∷ rs) j j' = (next : J) × runs j r (Ok tt) next × RanFor runs rs next j'
 
--- Of a plan's fires what is due by an instant was run, or the job failed for one of them. What is left comes behind.
-abbrev pub RunsDue : {A J F : Type 0} → (A → ℤ) → (J → A → Result ⊤ F → J → Type 0) → ℤ → List A → J → Result ⊤ F → List A → J → Type 0
-RunsDue {A} instant runs now fires j (Ok done) left j' =
+-- Of some fires what is due by an instant was run, or the job failed for one of them. What is left comes behind. So it goes from the
+-- fires and the job to what is left of both.
+abbrev pub RunsDue : {A J F : Type 0} → (A → ℤ) → (J → A → Result ⊤ F → J → Type 0) → ℤ → List A × J → Result ⊤ F → List A × J → Type 0
+RunsDue {A} instant runs now (fires, j) (Ok done) (left, j') =
     (rs : List A) × RanFor runs rs j j' × (fires ≡ rs ++ left) × AllPass (is_by instant now) rs × NonePass (is_by instant now) left
-RunsDue {A} {J} instant runs now fires j (Err f) left j' =
+RunsDue {A} {J} instant runs now (fires, j) (Err f) (left, j') =
     (rs : List A) × (mid : J) × (r : A) × (rest : List A)
     × RanFor runs rs j mid × runs mid r (Err f) j' × (fires ≡ rs ++ left) × (left ≡ r ∷ rest) × AllPass (is_by instant now) rs × (is_by instant now r ≡ true)
