@@ -24,7 +24,7 @@ use Rattle.cron_ringing.specs.declared.ring.Failure.{Failure}
 use Rattle.cron_ringing.specs.declared.ring.Failure.TheVariants.{Refused, Stopped}
 use Rattle.cron_ringing.specs.Printing.{Prints, WriterCalls, due_line, write_failed_text}
 
--- what is rung at: what a request asks for, the sets that its expression means, and the time that the clock showed first
+-- what the fires of a request are made of: the sets that its expression means, and the time that the clock showed first
 pub record Asked : Type 0 where
   pub sets : Sets
   pub start : Timestamp
