@@ -7,7 +7,7 @@ ghost use Rattle.cron_instants.specs.Instants.{IsFirstAfter};
 
 use cron::Schedule;
 use cron::schedule::Moment;
-use cron_fires::{first_fire_after, missed_fires};
+use cron_fires::{first_fire_after, missed};
 use jiff::Timestamp;
 use jiff::tz::TimeZone;
 use std::alloc::{AllocError, Global};
@@ -33,5 +33,5 @@ pub fn missed_runs(
     ensures { IfOk result (λ missed. missed.items
         ≡ fires_between schedule.now.sets (plain_zone zone.now) last.nanosecond now.nanosecond) }
 {
-    missed_fires(alloc, schedule, last, now, zone)
+    missed(alloc, schedule, last, now, zone)
 }

@@ -33,7 +33,7 @@ mod timetables;
 pub use cron_dues::fire::DueFire;
 pub use dues::{Dues, first_due_after, first_due_past, last_due_by, missed_dues};
 pub use fire::Fire;
-pub use runs::{Fires, missed_fires};
+pub use runs::{Fires, missed};
 pub use timetables::{Timetable, Union};
 
 /// The seven sets of a schedule, for functions that take sets in place of a schedule.

@@ -86,7 +86,7 @@ impl<'a> Iterator for Fires<'a> {
 
 /// What [`Fires::between`] answers, as a list: what came due between two instants, the second one
 /// included. It may run out of memory; no clause says when.
-pub fn missed_fires(
+pub fn missed(
     alloc: Global,
     schedule: &Schedule,
     last: Timestamp,

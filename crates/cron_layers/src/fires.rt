@@ -6,7 +6,7 @@ mod zone_files;
 
 use cron::Schedule;
 use cron::schedule::Moment;
-use cron_fires::{Fires, first_fire_after, first_fire_past, last_fire_by, missed_fires};
+use cron_fires::{Fires, first_fire_after, first_fire_past, last_fire_by, missed};
 use jiff::Timestamp;
 use jiff::tz::TimeZone;
 
@@ -87,7 +87,7 @@ fn a_stretch_has_its_last_instant(rt: HostRuntime) {
     let schedule = Schedule::from_str(rt.alloc(), "0 0,30 * * * *").expect(&rt, "a schedule");
     let last = Timestamp::from_second(HALF_PAST).expect(&rt, "an instant");
     let now = Timestamp::from_second(HALF_PAST + 3600).expect(&rt, "an instant");
-    let fires = missed_fires(rt.alloc(), &schedule, last, now, &zone).expect(&rt, "memory");
+    let fires = missed(rt.alloc(), &schedule, last, now, &zone).expect(&rt, "memory");
     assert_eq!(rt; fires.len(), 2);
     let mut run = Fires::between(&schedule, last, now, &zone);
     assert_eq!(rt; seconds(run.next()), Some(HALF_PAST + 1800));

@@ -10,7 +10,7 @@ use crate::report::{Report, Row, cut};
 use crate::settings::{Setting, case_of, setting_of, start_at};
 use anyhow::Result;
 use cron::schedule::Moment;
-use cron_fires::{Fires, first_fire_after, first_fire_past, missed_fires};
+use cron_fires::{Fires, first_fire_after, first_fire_past, missed};
 use jiff::{SignedDuration, Timestamp};
 use std::alloc::{AllocError, Global};
 use std::fmt::Write;
@@ -36,7 +36,7 @@ fn between(alloc: Global, setting: &Setting, now: Timestamp) -> Result<Vec<Momen
 }
 
 fn list_missed(alloc: Global, setting: &Setting, now: Timestamp) -> Result<Vec<Moment>> {
-    Ok(missed_fires(alloc, &setting.schedule, setting.start, now, &setting.zone)?)
+    Ok(missed(alloc, &setting.schedule, setting.start, now, &setting.zone)?)
 }
 
 /// The fires, asked for one after another: the first after an instant, and then the first past

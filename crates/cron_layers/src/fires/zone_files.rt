@@ -2,7 +2,7 @@
 
 use super::seconds;
 use cron::Schedule;
-use cron_fires::{Fires, first_fire_after, first_fire_past, last_fire_by, missed_fires};
+use cron_fires::{Fires, first_fire_after, first_fire_past, last_fire_by, missed};
 use jiff::Timestamp;
 use jiff::tz::{TimeZone, Tzif};
 use std::process::Abort;
@@ -73,7 +73,7 @@ fn check_quarters(rt: &(impl Abort + AllocGlobal), zone: &TimeZone<'_>) {
     }
     let last = Timestamp::from_second(NOON - 1).expect(rt, "an instant");
     let now = Timestamp::from_second(NOON + 86_400).expect(rt, "an instant");
-    let fires = missed_fires(rt.alloc(), &schedule, last, now, zone).expect(rt, "memory");
+    let fires = missed(rt.alloc(), &schedule, last, now, zone).expect(rt, "memory");
     assert_eq!(rt; fires.len(), 8);
 }
 
