@@ -11,8 +11,9 @@
 2022-11-07 01:30:00-06:00
 """
 
+from .due import Due
 from .errors import CronError, InstantError, TextError, ZoneError
 from .schedule import Schedule
 
-__all__ = ["CronError", "InstantError", "Schedule", "TextError", "ZoneError"]
-__version__ = "1.3.0"
+__all__ = ["CronError", "Due", "InstantError", "Schedule", "TextError", "ZoneError"]
+__version__ = "1.4.0"

@@ -20,7 +20,8 @@ class Sets(ctypes.Structure):
 
 
 class Item(ctypes.Structure):
-    """An instant in seconds since 1970, and how far the clock is ahead of UTC."""
+    """An instant in seconds since 1970, how far the clock is ahead of UTC, and of a due fire by how many seconds
+    what the clock shows lies past the nominal time."""
 
     _fields_ = [("instant", ctypes.c_int64), ("offset", ctypes.c_int32), ("reserved", ctypes.c_uint32)]
 
@@ -50,13 +51,18 @@ YEARS: Place = (7, 3, 1970)
 WORD_BITS = 64
 
 Fire = Tuple[int, int]  # an instant in seconds since 1970, and how far the clock is ahead of UTC then
+DueFire = Tuple[int, int, int]  # the same, and by how many seconds what the clock shows lies past the nominal time
 
 # The arguments for eras, and how many they are.
 Eras = Tuple["ctypes.Array[Era]", int]
 
 # An item as its bytes stand in an array, and how many a first and a later page of fires have room for.
 ITEM = struct.Struct("=qi4x")
+DUE_ITEM = struct.Struct("=qiI")
 FIRST_PAGE, PAGE = 16, 1024
+
+# The bytes of the longest text of a due fire.
+DUE_TEXT = 53
 
 
 class History:
@@ -82,7 +88,7 @@ class History:
 FIVE_FIELDS = "five fields: a crontab line. Here seconds stand before the minutes, and Sunday is 1."
 
 # The first version that has every call below, and the first whose structs may be others.
-LEAST_VERSION, OTHER_VERSION = 10_300, 20_000
+LEAST_VERSION, OTHER_VERSION = 10_400, 20_000
 
 
 def _numbers(version: int) -> str:
@@ -107,15 +113,22 @@ def _load() -> ctypes.CDLL:
     library.cron_c_parse.argtypes = text + [pointer(Sets)] + text + [pointer(size)]
     library.cron_c_zone_parse.argtypes = text + [pointer(Zone)]
     given: List[Any] = [pointer(Sets), pointer(Era), size]
-    searches = ("history_fire_after", "history_fire_by", "history_fire_at")
+    searches = ("history_fire_after", "history_fire_by", "history_fire_at", "history_due_after", "history_due_by")
     for call in searches:
         getattr(library, f"cron_c_{call}").argtypes = given + [instant, pointer(Item)]
     page: List[Any] = [instant, pointer(Item), size, pointer(size)]
-    library.cron_c_history_fires_between.argtypes = given + [instant] + page
-    library.cron_c_history_fires_past.argtypes = given + [pointer(Item)] + page
+    lists = ("history_fires_between", "history_dues_between")
+    for call in lists:
+        getattr(library, f"cron_c_{call}").argtypes = given + [instant] + page
+    lists_past = ("history_fires_past", "history_dues_past")
+    for call in lists_past:
+        getattr(library, f"cron_c_{call}").argtypes = given + [pointer(Item)] + page
+    library.cron_c_history_due_past.argtypes = given + [pointer(Item)]
+    library.cron_c_due_format.argtypes = [pointer(Item)] + text + [pointer(size)]
     library.cron_c_history_read.argtypes = [ctypes.c_char_p, size, pointer(Era), size, pointer(size)]
     library.cron_c_history_check.argtypes = [pointer(Era), size]
-    for call in ("parse", "zone_parse", "history_read", "history_check", "history_fires_between", "history_fires_past", *searches):
+    others = ("parse", "zone_parse", "history_read", "history_check", "history_due_past", "due_format")
+    for call in (*others, *searches, *lists, *lists_past):
         getattr(library, f"cron_c_{call}").restype = ctypes.c_uint32
     return library
 
@@ -260,3 +273,71 @@ def fires_before(sets: Sets, eras: History, start: int, end: int) -> Iterator[Fi
     while found is not None and found[0] >= end:
         yield found
         found = fire_by(sets, eras, found[0] - 1)
+
+
+def _due(status: int, item: Item) -> Optional[DueFire]:
+    found = _found(status, item)
+    return None if found is None else (*found, item.reserved)
+
+
+def due_after(sets: Sets, eras: History, instant: int) -> Optional[DueFire]:
+    """Of the due fires after this instant the first."""
+    item = Item()
+    return _due(_LIBRARY.cron_c_history_due_after(sets, *eras.all(), _within(instant), item), item)
+
+
+def due_by(sets: Sets, eras: History, instant: int) -> Optional[DueFire]:
+    """Of the due fires up to this instant the last."""
+    item = Item()
+    return _due(_LIBRARY.cron_c_history_due_by(sets, *eras.all(), _within(instant), item), item)
+
+
+def due_past(sets: Sets, eras: History, nominal: int) -> Optional[DueFire]:
+    """Of the due fires past a nominal time, as the number of its second, the first."""
+    item = Item(nominal, 0, 0)
+    return _due(_LIBRARY.cron_c_history_due_past(sets, *eras.all(), item), item)
+
+
+def due_pages(sets: Sets, eras: History, start: int, end: int, *, nominal: bool) -> Iterator[List[DueFire]]:
+    """The due fires up to and with an instant, in lists: those after another, or past a nominal time."""
+    room, count, last = FIRST_PAGE, ctypes.c_size_t(), _within(end)
+    items = (Item * room)()
+    if nominal:
+        status = _LIBRARY.cron_c_history_dues_past(sets, *eras.all(), Item(start, 0, 0), last, items, room, count)
+    else:
+        status = _LIBRARY.cron_c_history_dues_between(sets, *eras.all(), _within(start), last, items, room, count)
+    while status == MORE:
+        page = _due_page(items, room)
+        yield page
+        noted = Item(*page[-1])
+        if room != PAGE:
+            room, items = PAGE, (Item * PAGE)()
+        status = _LIBRARY.cron_c_history_dues_past(sets, *eras.all(), noted, last, items, room, count)
+    if status != OK:
+        raise CronError(f"status {status}")
+    yield _due_page(items, count.value)
+
+
+def _due_page(items: ctypes.Array[Item], count: int) -> List[DueFire]:
+    """The first of the items as due fires."""
+    told: Iterator[Any] = DUE_ITEM.iter_unpack(bytes(items)[: count * DUE_ITEM.size])
+    return list(told)
+
+
+def dues_before(sets: Sets, eras: History, start: int, end: int) -> Iterator[DueFire]:
+    """The due fires up to one instant and from another on, the last first."""
+    found = due_by(sets, eras, start)
+    while found is not None and found[0] >= end:
+        instant = found[0]
+        # those that share it come by their nominal times
+        shared = [it for page in due_pages(sets, eras, instant - 1, instant, nominal=False) for it in page]
+        yield from reversed(shared)
+        found = due_by(sets, eras, instant - 1)
+
+
+def due_text(due: DueFire) -> str:
+    """The text of a due fire."""
+    needed, text = ctypes.c_size_t(), ctypes.create_string_buffer(DUE_TEXT)
+    if _LIBRARY.cron_c_due_format(Item(*due), text, len(text), needed) != OK:
+        raise ValueError("no match is due so")
+    return text.raw[: needed.value].decode()

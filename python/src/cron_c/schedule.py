@@ -2,13 +2,20 @@
 
 from __future__ import annotations
 
-from datetime import datetime, tzinfo
+from datetime import datetime, timedelta, tzinfo
 from itertools import chain
-from typing import FrozenSet, Iterator, List, Optional, Tuple, Type
+from typing import FrozenSet, Iterable, Iterator, List, Optional, Tuple, Type, Union
 
 from . import library
+from .due import Due
 from .errors import InstantError
 from .zones import EPOCH, SECOND, all_shown, eras_of, shown
+
+# The rules at clock changes: each time that the clock shows a match, or each match once.
+AS_SHOWN, ONCE = "as_shown", "once"
+
+# The second of the number 0, as a clock shows it.
+FIRST = datetime(1970, 1, 1)
 
 
 def _zone_of(moment: datetime) -> tzinfo:
@@ -27,6 +34,22 @@ def _floor(moment: datetime) -> int:
 def _ceiling(moment: datetime) -> int:
     """The first second since 1970 that isn't before."""
     return -((EPOCH - moment) // SECOND)
+
+
+def _is_once(clock_changes: str, start: Union[datetime, Due]) -> bool:
+    """Whether each match comes once."""
+    if clock_changes not in (AS_SHOWN, ONCE):
+        raise ValueError(f"clock_changes is neither {AS_SHOWN!r} nor {ONCE!r}: {clock_changes!r}")
+    if clock_changes == AS_SHOWN and isinstance(start, Due):
+        raise TypeError(f"a Due is gone on from with clock_changes={ONCE!r}")
+    return clock_changes == ONCE
+
+
+def _dues_of(found: Iterable[library.DueFire], zone: tzinfo) -> Iterator[Due]:
+    """Due fires with what the clock of the zone shows."""
+    for instant, offset, past in found:
+        nominal = FIRST + timedelta(seconds=instant + offset - past)
+        yield Due(shown((instant, offset), zone), nominal)
 
 
 class Schedule:
@@ -115,28 +138,53 @@ class Schedule:
         eras, instant = eras_of(_zone_of(moment)), _floor(moment)
         return instant == _ceiling(moment) and library.fires_at(self._sets, eras, instant)
 
-    def after(self, moment: datetime) -> Optional[datetime]:
-        """When it fires first after a datetime, in its zone; None where it fires no more."""
-        zone = _zone_of(moment)
-        found = library.fire_after(self._sets, eras_of(zone), _floor(moment))
+    def after(self, start: Union[datetime, Due], *, clock_changes: str = AS_SHOWN) -> Optional[datetime]:
+        """When it fires first after a datetime, in its zone; None where it fires no more. With
+        `clock_changes="once"` each match is due once, and a `Due` goes on past its nominal time."""
+        if _is_once(clock_changes, start):
+            due = self.due_after(start)
+            return None if due is None else due.moment
+        zone = _zone_of(start)
+        found = library.fire_after(self._sets, eras_of(zone), _floor(start))
         return None if found is None else shown(found, zone)
 
-    def before(self, moment: datetime) -> Optional[datetime]:
+    def due_after(self, start: Union[datetime, Due]) -> Optional[Due]:
+        """Of the matches that are due after a datetime, in its zone, the first; or of those past a
+        `Due`. None where there is none."""
+        if isinstance(start, Due):
+            zone = _zone_of(start.moment)
+            found = library.due_past(self._sets, eras_of(zone), (start.nominal - FIRST) // SECOND)
+        else:
+            zone = _zone_of(start)
+            found = library.due_after(self._sets, eras_of(zone), _floor(start))
+        return None if found is None else next(_dues_of([found], zone))
+
+    def before(self, moment: datetime, *, clock_changes: str = AS_SHOWN) -> Optional[datetime]:
         """When it fired last before a datetime, in its zone; None where it hasn't fired. A fire at the
         datetime itself isn't before it."""
-        zone = _zone_of(moment)
-        found = library.fire_by(self._sets, eras_of(zone), _ceiling(moment) - 1)
-        return None if found is None else shown(found, zone)
+        zone, is_once = _zone_of(moment), _is_once(clock_changes, moment)
+        last_by = library.due_by if is_once else library.fire_by
+        found = last_by(self._sets, eras_of(zone), _ceiling(moment) - 1)
+        return None if found is None else shown(found[:2], zone)
 
-    def between(self, start: datetime, end: datetime) -> List[datetime]:
+    def between(self, start: Union[datetime, Due], end: datetime, *, clock_changes: str = AS_SHOWN) -> List[datetime]:
         """When it fires after one datetime and up to and with another, in the zone of the first, as a
         list. `fires` tells the same one after the other."""
         _zone_of(end)
-        return list(self.fires(start, end))
+        return list(self.fires(start, end, clock_changes=clock_changes))
 
-    def fires(self, start: datetime, end: Optional[datetime] = None, *, reverse: bool = False) -> Iterator[datetime]:
+    def fires(
+        self,
+        start: Union[datetime, Due],
+        end: Optional[datetime] = None,
+        *,
+        reverse: bool = False,
+        clock_changes: str = AS_SHOWN,
+    ) -> Iterator[datetime]:
         """When it fires after a datetime, in its zone, one after the other: up to and with the end, if
         there is one. Or, reversed, when it fired before it, the latest first, back to and with the end."""
+        if _is_once(clock_changes, start):
+            return (due.moment for due in self.dues(start, end, reverse=reverse))
         zone = _zone_of(start)
         if end is not None:
             _zone_of(end)
@@ -146,3 +194,22 @@ class Schedule:
             return all_shown(library.fires_before(self._sets, eras, _ceiling(start) - 1, first), zone)
         last = library.GREATEST_INSTANT if end is None else _floor(end)
         return all_shown(chain.from_iterable(library.pages(self._sets, eras, _floor(start), last)), zone)
+
+    def dues(self, start: Union[datetime, Due], end: Optional[datetime] = None, *, reverse: bool = False) -> Iterator[Due]:
+        """The matches that are due after a datetime, in its zone, or past a `Due`, each once and one
+        after the other: up to and with the end, if there is one. Or, reversed, those that were due
+        before a datetime, the last first, back to and with the end."""
+        moment = start.moment if isinstance(start, Due) else start
+        zone = _zone_of(moment)
+        if end is not None:
+            _zone_of(end)
+        eras = eras_of(zone)
+        if reverse:
+            if isinstance(start, Due):
+                raise TypeError("reversed, the matches are those due before a datetime")
+            first = library.LEAST_INSTANT if end is None else _ceiling(end)
+            return _dues_of(library.dues_before(self._sets, eras, _ceiling(start) - 1, first), zone)
+        last = library.GREATEST_INSTANT if end is None else _floor(end)
+        is_due = isinstance(start, Due)
+        begin = (start.nominal - FIRST) // SECOND if isinstance(start, Due) else _floor(start)
+        return _dues_of(chain.from_iterable(library.due_pages(self._sets, eras, begin, last, nominal=is_due)), zone)
