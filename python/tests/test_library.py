@@ -34,8 +34,8 @@ class Versions(unittest.TestCase):
                 load(version)
 
     def test_a_refusal_names_both_versions(self):
-        with self.assertRaisesRegex(ImportError, r"is of version 1\.2\.0, and this package needs 1\.4\.0 or later, before 2\.0\.0$"):
-            load(10_200)
+        with self.assertRaisesRegex(ImportError, r"is of version 1\.3\.0, and this package needs 1\.4\.0 or later, before 2\.0\.0$"):
+            load(10_300)
 
 
 class Eras(unittest.TestCase):

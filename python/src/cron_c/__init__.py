@@ -11,9 +11,9 @@
 2022-11-07 01:30:00-06:00
 """
 
-from .due import Due
+from .dues import DueFire
 from .errors import CronError, InstantError, TextError, ZoneError
 from .schedule import Schedule
 
-__all__ = ["CronError", "Due", "InstantError", "Schedule", "TextError", "ZoneError"]
+__all__ = ["CronError", "DueFire", "InstantError", "Schedule", "TextError", "ZoneError"]
 __version__ = "1.4.0"

@@ -5,7 +5,7 @@ from __future__ import annotations
 import ctypes
 import pathlib
 import struct
-from typing import Any, FrozenSet, Iterable, Iterator, List, Optional, Tuple
+from typing import Any, Callable, FrozenSet, Iterable, Iterator, List, Optional, Tuple
 
 from .errors import CronError, TextError, ZoneError
 
@@ -20,8 +20,7 @@ class Sets(ctypes.Structure):
 
 
 class Item(ctypes.Structure):
-    """An instant in seconds since 1970, how far the clock is ahead of UTC, and of a due fire by how many seconds
-    what the clock shows lies past the nominal time."""
+    """An instant in seconds since 1970, how far the clock is ahead of UTC, and by how much what it shows lies past the match."""
 
     _fields_ = [("instant", ctypes.c_int64), ("offset", ctypes.c_int32), ("reserved", ctypes.c_uint32)]
 
@@ -51,7 +50,9 @@ YEARS: Place = (7, 3, 1970)
 WORD_BITS = 64
 
 Fire = Tuple[int, int]  # an instant in seconds since 1970, and how far the clock is ahead of UTC then
-DueFire = Tuple[int, int, int]  # the same, and by how many seconds what the clock shows lies past the nominal time
+
+# The same of a due fire, and by how many seconds what the clock shows lies past the match.
+Due = Tuple[int, int, int]
 
 # The arguments for eras, and how many they are.
 Eras = Tuple["ctypes.Array[Era]", int]
@@ -60,9 +61,6 @@ Eras = Tuple["ctypes.Array[Era]", int]
 ITEM = struct.Struct("=qi4x")
 DUE_ITEM = struct.Struct("=qiI")
 FIRST_PAGE, PAGE = 16, 1024
-
-# The bytes of the longest text of a due fire.
-DUE_TEXT = 53
 
 
 class History:
@@ -117,18 +115,15 @@ def _load() -> ctypes.CDLL:
     for call in searches:
         getattr(library, f"cron_c_{call}").argtypes = given + [instant, pointer(Item)]
     page: List[Any] = [instant, pointer(Item), size, pointer(size)]
-    lists = ("history_fires_between", "history_dues_between")
-    for call in lists:
+    runs = ("history_fires_between", "history_dues_between")
+    for call in runs:
         getattr(library, f"cron_c_{call}").argtypes = given + [instant] + page
-    lists_past = ("history_fires_past", "history_dues_past")
-    for call in lists_past:
+    runs_past = ("history_fires_past", "history_dues_past")
+    for call in runs_past:
         getattr(library, f"cron_c_{call}").argtypes = given + [pointer(Item)] + page
-    library.cron_c_history_due_past.argtypes = given + [pointer(Item)]
-    library.cron_c_due_format.argtypes = [pointer(Item)] + text + [pointer(size)]
     library.cron_c_history_read.argtypes = [ctypes.c_char_p, size, pointer(Era), size, pointer(size)]
     library.cron_c_history_check.argtypes = [pointer(Era), size]
-    others = ("parse", "zone_parse", "history_read", "history_check", "history_due_past", "due_format")
-    for call in (*others, *searches, *lists, *lists_past):
+    for call in ("parse", "zone_parse", "history_read", "history_check", *runs, *runs_past, *searches):
         getattr(library, f"cron_c_{call}").restype = ctypes.c_uint32
     return library
 
@@ -246,25 +241,44 @@ def fires_at(sets: Sets, eras: History, instant: int) -> bool:
 
 def pages(sets: Sets, eras: History, start: int, end: int) -> Iterator[List[Fire]]:
     """The fires after one instant and up to and with another, in lists."""
+    first, rest = _LIBRARY.cron_c_history_fires_between, _LIBRARY.cron_c_history_fires_past
+    return _pages(first, rest, ITEM, sets, eras, _within(start), end)
+
+
+def due_pages(sets: Sets, eras: History, start: int, end: int) -> Iterator[List[Due]]:
+    """The due fires after one instant and up to and with another, in lists."""
+    first, rest = _LIBRARY.cron_c_history_dues_between, _LIBRARY.cron_c_history_dues_past
+    return _pages(first, rest, DUE_ITEM, sets, eras, _within(start), end)
+
+
+def due_pages_past(sets: Sets, eras: History, due: Due, end: int) -> Iterator[List[Due]]:
+    """The due fires past one and up to and with an instant, in lists."""
+    rest = _LIBRARY.cron_c_history_dues_past
+    return _pages(rest, rest, DUE_ITEM, sets, eras, Item(*due), end)
+
+
+def _pages(
+    first: Callable[..., int], rest: Callable[..., int], layout: struct.Struct, sets: Sets, eras: History, start: Any, end: int
+) -> Iterator[List[Any]]:
+    """What one call writes from the start on, and then another from the last item of each full page."""
     room, count, last = FIRST_PAGE, ctypes.c_size_t(), _within(end)
     items = (Item * room)()
-    status = _LIBRARY.cron_c_history_fires_between(sets, *eras.all(), _within(start), last, items, room, count)
+    status = first(sets, *eras.all(), start, last, items, room, count)
     while status == MORE:
-        page = _page(items, room)
+        page = _page(layout, items, room)
         yield page
         noted = Item.from_buffer_copy(items, (room - 1) * ctypes.sizeof(Item))
         if room != PAGE:
             room, items = PAGE, (Item * PAGE)()
-        status = _LIBRARY.cron_c_history_fires_past(sets, *eras.all(), noted, last, items, room, count)
+        status = rest(sets, *eras.all(), noted, last, items, room, count)
     if status != OK:
         raise CronError(f"status {status}")
-    yield _page(items, count.value)
+    yield _page(layout, items, count.value)
 
 
-def _page(items: ctypes.Array[Item], count: int) -> List[Fire]:
-    """The first of the items as fires."""
-    told: Iterator[Any] = ITEM.iter_unpack(bytes(items)[: count * ITEM.size])
-    return list(told)
+def _page(layout: struct.Struct, items: ctypes.Array[Item], count: int) -> List[Any]:
+    """The first of the items as tuples."""
+    return list(layout.iter_unpack(bytes(items)[: count * layout.size]))
 
 
 def fires_before(sets: Sets, eras: History, start: int, end: int) -> Iterator[Fire]:
@@ -275,69 +289,28 @@ def fires_before(sets: Sets, eras: History, start: int, end: int) -> Iterator[Fi
         found = fire_by(sets, eras, found[0] - 1)
 
 
-def _due(status: int, item: Item) -> Optional[DueFire]:
+def _found_due(status: int, item: Item) -> Optional[Due]:
     found = _found(status, item)
     return None if found is None else (*found, item.reserved)
 
 
-def due_after(sets: Sets, eras: History, instant: int) -> Optional[DueFire]:
+def due_after(sets: Sets, eras: History, instant: int) -> Optional[Due]:
     """Of the due fires after this instant the first."""
     item = Item()
-    return _due(_LIBRARY.cron_c_history_due_after(sets, *eras.all(), _within(instant), item), item)
+    return _found_due(_LIBRARY.cron_c_history_due_after(sets, *eras.all(), _within(instant), item), item)
 
 
-def due_by(sets: Sets, eras: History, instant: int) -> Optional[DueFire]:
+def due_by(sets: Sets, eras: History, instant: int) -> Optional[Due]:
     """Of the due fires up to this instant the last."""
     item = Item()
-    return _due(_LIBRARY.cron_c_history_due_by(sets, *eras.all(), _within(instant), item), item)
+    return _found_due(_LIBRARY.cron_c_history_due_by(sets, *eras.all(), _within(instant), item), item)
 
 
-def due_past(sets: Sets, eras: History, nominal: int) -> Optional[DueFire]:
-    """Of the due fires past a nominal time, as the number of its second, the first."""
-    item = Item(nominal, 0, 0)
-    return _due(_LIBRARY.cron_c_history_due_past(sets, *eras.all(), item), item)
-
-
-def due_pages(sets: Sets, eras: History, start: int, end: int, *, nominal: bool) -> Iterator[List[DueFire]]:
-    """The due fires up to and with an instant, in lists: those after another, or past a nominal time."""
-    room, count, last = FIRST_PAGE, ctypes.c_size_t(), _within(end)
-    items = (Item * room)()
-    if nominal:
-        status = _LIBRARY.cron_c_history_dues_past(sets, *eras.all(), Item(start, 0, 0), last, items, room, count)
-    else:
-        status = _LIBRARY.cron_c_history_dues_between(sets, *eras.all(), _within(start), last, items, room, count)
-    while status == MORE:
-        page = _due_page(items, room)
-        yield page
-        noted = Item(*page[-1])
-        if room != PAGE:
-            room, items = PAGE, (Item * PAGE)()
-        status = _LIBRARY.cron_c_history_dues_past(sets, *eras.all(), noted, last, items, room, count)
-    if status != OK:
-        raise CronError(f"status {status}")
-    yield _due_page(items, count.value)
-
-
-def _due_page(items: ctypes.Array[Item], count: int) -> List[DueFire]:
-    """The first of the items as due fires."""
-    told: Iterator[Any] = DUE_ITEM.iter_unpack(bytes(items)[: count * DUE_ITEM.size])
-    return list(told)
-
-
-def dues_before(sets: Sets, eras: History, start: int, end: int) -> Iterator[DueFire]:
+def dues_before(sets: Sets, eras: History, start: int, end: int) -> Iterator[Due]:
     """The due fires up to one instant and from another on, the last first."""
     found = due_by(sets, eras, start)
     while found is not None and found[0] >= end:
         instant = found[0]
-        # those that share it come by their nominal times
-        shared = [it for page in due_pages(sets, eras, instant - 1, instant, nominal=False) for it in page]
-        yield from reversed(shared)
+        together = [due for page in due_pages(sets, eras, instant - 1, instant) for due in page]
+        yield from reversed(together)
         found = due_by(sets, eras, instant - 1)
-
-
-def due_text(due: DueFire) -> str:
-    """The text of a due fire."""
-    needed, text = ctypes.c_size_t(), ctypes.create_string_buffer(DUE_TEXT)
-    if _LIBRARY.cron_c_due_format(Item(*due), text, len(text), needed) != OK:
-        raise ValueError("no match is due so")
-    return text.raw[: needed.value].decode()

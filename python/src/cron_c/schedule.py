@@ -2,20 +2,24 @@
 
 from __future__ import annotations
 
-from datetime import datetime, timedelta, tzinfo
+from datetime import datetime, tzinfo
 from itertools import chain
-from typing import FrozenSet, Iterable, Iterator, List, Optional, Tuple, Type, Union
+from typing import FrozenSet, Iterator, List, Literal, Optional, Tuple, Type, Union
 
 from . import library
-from .due import Due
+from .dues import DueFire, all_due, parts_of
 from .errors import InstantError
 from .zones import EPOCH, SECOND, all_shown, eras_of, shown
 
-# The rules at clock changes: each time that the clock shows a match, or each match once.
-AS_SHOWN, ONCE = "as_shown", "once"
 
-# The second of the number 0, as a clock shows it.
-FIRST = datetime(1970, 1, 1)
+# Whether a time that a clock repeats is two fires and one that it skips none, or each match is one.
+ClockChanges = Literal["as_shown", "once"]
+
+
+def _is_once(clock_changes: str) -> bool:
+    if clock_changes not in ("as_shown", "once"):
+        raise ValueError(f"clock_changes is 'as_shown' or 'once', and no {clock_changes!r}")
+    return clock_changes == "once"
 
 
 def _zone_of(moment: datetime) -> tzinfo:
@@ -36,22 +40,6 @@ def _ceiling(moment: datetime) -> int:
     return -((EPOCH - moment) // SECOND)
 
 
-def _is_once(clock_changes: str, start: Union[datetime, Due]) -> bool:
-    """Whether each match comes once."""
-    if clock_changes not in (AS_SHOWN, ONCE):
-        raise ValueError(f"clock_changes is neither {AS_SHOWN!r} nor {ONCE!r}: {clock_changes!r}")
-    if clock_changes == AS_SHOWN and isinstance(start, Due):
-        raise TypeError(f"a Due is gone on from with clock_changes={ONCE!r}")
-    return clock_changes == ONCE
-
-
-def _dues_of(found: Iterable[library.DueFire], zone: tzinfo) -> Iterator[Due]:
-    """Due fires with what the clock of the zone shows."""
-    for instant, offset, past in found:
-        nominal = FIRST + timedelta(seconds=instant + offset - past)
-        yield Due(shown((instant, offset), zone), nominal)
-
-
 class Schedule:
     """The meaning of a text of six fields, or seven with years: `Schedule("0 30 9 * * Mon-Fri")`.
 
@@ -60,6 +48,11 @@ class Schedule:
     read all year. Each call is exact also where a clock goes back, and knows the zone's past. Python
     compares and subtracts answers of one `ZoneInfo` by what their clocks show: take `timestamp()` of
     both. Nothing fires outside the years 1970 to 2100.
+
+    With `clock_changes="once"` each match fires once: one that the clock repeats at its first pass, and
+    one that it skips when it passes over it, where the answer is what the clock shows then. Matches that
+    are passed over together are fires at one instant, so a loop goes along `dues`, whose answers tell them
+    apart, and begins anew from one of these.
     """
 
     __slots__ = ("__weakref__", "_sets", "_text")
@@ -133,83 +126,68 @@ class Schedule:
         # as its text: what the words of the sets mean is the library's affair
         return type(self), (self._text,)
 
-    def matches(self, moment: datetime) -> bool:
+    def matches(self, moment: datetime, *, clock_changes: ClockChanges = "as_shown") -> bool:
         """Whether it fires at this very instant: never where the datetime has a part of a second."""
         eras, instant = eras_of(_zone_of(moment)), _floor(moment)
+        if _is_once(clock_changes):
+            found = library.due_by(self._sets, eras, instant)
+            return instant == _ceiling(moment) and found is not None and found[0] == instant
         return instant == _ceiling(moment) and library.fires_at(self._sets, eras, instant)
 
-    def after(self, start: Union[datetime, Due], *, clock_changes: str = AS_SHOWN) -> Optional[datetime]:
-        """When it fires first after a datetime, in its zone; None where it fires no more. With
-        `clock_changes="once"` each match is due once, and a `Due` goes on past its nominal time."""
-        if _is_once(clock_changes, start):
-            due = self.due_after(start)
-            return None if due is None else due.moment
-        zone = _zone_of(start)
-        found = library.fire_after(self._sets, eras_of(zone), _floor(start))
+    def after(self, moment: datetime, *, clock_changes: ClockChanges = "as_shown") -> Optional[datetime]:
+        """When it fires first after a datetime, in its zone; None where it fires no more."""
+        zone = _zone_of(moment)
+        if _is_once(clock_changes):
+            due = library.due_after(self._sets, eras_of(zone), _floor(moment))
+            return None if due is None else shown(due[:2], zone)
+        found = library.fire_after(self._sets, eras_of(zone), _floor(moment))
         return None if found is None else shown(found, zone)
 
-    def due_after(self, start: Union[datetime, Due]) -> Optional[Due]:
-        """Of the matches that are due after a datetime, in its zone, the first; or of those past a
-        `Due`. None where there is none."""
-        if isinstance(start, Due):
-            zone = _zone_of(start.moment)
-            found = library.due_past(self._sets, eras_of(zone), (start.nominal - FIRST) // SECOND)
-        else:
-            zone = _zone_of(start)
-            found = library.due_after(self._sets, eras_of(zone), _floor(start))
-        return None if found is None else next(_dues_of([found], zone))
-
-    def before(self, moment: datetime, *, clock_changes: str = AS_SHOWN) -> Optional[datetime]:
+    def before(self, moment: datetime, *, clock_changes: ClockChanges = "as_shown") -> Optional[datetime]:
         """When it fired last before a datetime, in its zone; None where it hasn't fired. A fire at the
         datetime itself isn't before it."""
-        zone, is_once = _zone_of(moment), _is_once(clock_changes, moment)
-        last_by = library.due_by if is_once else library.fire_by
-        found = last_by(self._sets, eras_of(zone), _ceiling(moment) - 1)
-        return None if found is None else shown(found[:2], zone)
+        zone = _zone_of(moment)
+        if _is_once(clock_changes):
+            due = library.due_by(self._sets, eras_of(zone), _ceiling(moment) - 1)
+            return None if due is None else shown(due[:2], zone)
+        found = library.fire_by(self._sets, eras_of(zone), _ceiling(moment) - 1)
+        return None if found is None else shown(found, zone)
 
-    def between(self, start: Union[datetime, Due], end: datetime, *, clock_changes: str = AS_SHOWN) -> List[datetime]:
+    def between(self, start: datetime, end: datetime, *, clock_changes: ClockChanges = "as_shown") -> List[datetime]:
         """When it fires after one datetime and up to and with another, in the zone of the first, as a
         list. `fires` tells the same one after the other."""
         _zone_of(end)
         return list(self.fires(start, end, clock_changes=clock_changes))
 
     def fires(
-        self,
-        start: Union[datetime, Due],
-        end: Optional[datetime] = None,
-        *,
-        reverse: bool = False,
-        clock_changes: str = AS_SHOWN,
+        self, start: datetime, end: Optional[datetime] = None, *, reverse: bool = False, clock_changes: ClockChanges = "as_shown"
     ) -> Iterator[datetime]:
         """When it fires after a datetime, in its zone, one after the other: up to and with the end, if
         there is one. Or, reversed, when it fired before it, the latest first, back to and with the end."""
-        if _is_once(clock_changes, start):
-            return (due.moment for due in self.dues(start, end, reverse=reverse))
         zone = _zone_of(start)
         if end is not None:
             _zone_of(end)
-        eras = eras_of(zone)
+        eras, once = eras_of(zone), _is_once(clock_changes)
         if reverse:
             first = library.LEAST_INSTANT if end is None else _ceiling(end)
+            if once:
+                dues = library.dues_before(self._sets, eras, _ceiling(start) - 1, first)
+                return all_shown((due[:2] for due in dues), zone)
             return all_shown(library.fires_before(self._sets, eras, _ceiling(start) - 1, first), zone)
+        if once:
+            return (due.moment for due in self.dues(start, end))
         last = library.GREATEST_INSTANT if end is None else _floor(end)
         return all_shown(chain.from_iterable(library.pages(self._sets, eras, _floor(start), last)), zone)
 
-    def dues(self, start: Union[datetime, Due], end: Optional[datetime] = None, *, reverse: bool = False) -> Iterator[Due]:
-        """The matches that are due after a datetime, in its zone, or past a `Due`, each once and one
-        after the other: up to and with the end, if there is one. Or, reversed, those that were due
-        before a datetime, the last first, back to and with the end."""
-        moment = start.moment if isinstance(start, Due) else start
-        zone = _zone_of(moment)
+    def dues(self, start: Union[datetime, DueFire], end: Optional[datetime] = None) -> Iterator[DueFire]:
+        """Each match once, one after the other: those that come due after a datetime, in its zone, or those
+        past a due fire, as a run goes on that was cut after it; up to and with the end, if there is one."""
+        zone = _zone_of(start.moment if isinstance(start, DueFire) else start)
         if end is not None:
             _zone_of(end)
-        eras = eras_of(zone)
-        if reverse:
-            if isinstance(start, Due):
-                raise TypeError("reversed, the matches are those due before a datetime")
-            first = library.LEAST_INSTANT if end is None else _ceiling(end)
-            return _dues_of(library.dues_before(self._sets, eras, _ceiling(start) - 1, first), zone)
-        last = library.GREATEST_INSTANT if end is None else _floor(end)
-        is_due = isinstance(start, Due)
-        begin = (start.nominal - FIRST) // SECOND if isinstance(start, Due) else _floor(start)
-        return _dues_of(chain.from_iterable(library.due_pages(self._sets, eras, begin, last, nominal=is_due)), zone)
+        eras, last = eras_of(zone), library.GREATEST_INSTANT if end is None else _floor(end)
+        if isinstance(start, DueFire):
+            told = library.due_pages_past(self._sets, eras, parts_of(start), last)
+        else:
+            told = library.due_pages(self._sets, eras, _floor(start), last)
+        return all_due(chain.from_iterable(told), zone)
