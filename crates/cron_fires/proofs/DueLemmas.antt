@@ -1,5 +1,5 @@
 -- What holds of the due fires of every schedule in every zone.
-use Rattle.std.proofs.Common.{◌≡◌, ℕ, ℤ, pos, ◌*ℤ◌, ◌≤ℤ◌, Bool, true, false, List, [], ◌∷◌, ◌++◌, Option, Some, None, refl, sym, ap, ◌∙◌, arith}
+use Rattle.std.proofs.Common.{◌≡◌, ℕ, ℤ, pos, ◌*ℤ◌, Bool, true, false, List, [], ◌∷◌, ◌++◌, Option, Some, None, refl, sym, ap, ◌∙◌, arith}
 use Rattle.std.specs.Prelude.{filter}
 use Rattle.jiff_core.proofs.SignedLemmas.{signed_arith}
 use Rattle.jiff_tz.specs.declared.timezone.TimeZone.{TimeZone}
@@ -7,7 +7,7 @@ use Rattle.cron_clocks.proofs.Windows.{lt_yes}
 use Rattle.cron_units.specs.Sets.{Sets}
 use Rattle.cron_instants.proofs.FireLemmas.{int_lt-true}
 use Rattle.cron_dues.specs.Due.{Due, clock_of, instant}
-use Rattle.cron_dues.specs.Dues.{dues, dues_after, dues_past, dues_between, is_due_after, is_due_by, is_past}
+use Rattle.cron_dues.specs.Dues.{dues, dues_after, dues_past, is_due_after, is_due_by, is_past}
 use Rattle.cron_dues.specs.FirstDues.{IsDue, IsFirst, IsFirstDueAfter, IsFirstDuePast}
 use Rattle.cron_dues.proofs.LawLemmas.{due_no_later, dues-ascend}
 use Rattle.cron_time.proofs.ListLemmas.{Among, among-filter, among-first, among-rest, filter-none, filter-swap, filter-within}

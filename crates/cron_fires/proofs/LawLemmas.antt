@@ -1,7 +1,7 @@
 -- What holds of the fires of every schedule in every zone.
-use Rattle.std.proofs.Common.{◌≡◌, ℤ, pos, ◌*ℤ◌, ◌≤ℤ◌, Bool, true, false, List, [], ◌∷◌, ◌++◌, length, take, Some, inl, inr, suc, refl, sym, ap, ◌∙◌, arith}
+use Rattle.std.proofs.Common.{◌≡◌, ℤ, pos, ◌*ℤ◌, ◌≤ℤ◌, Bool, true, false, List, [], ◌∷◌, ◌++◌, length, take, Some, suc, refl, sym, ap, ◌∙◌, arith}
 use Rattle.std.specs.Prelude.{filter, slice_get}
-use Rattle.std.proofs.lemmas.Int.{ints, by_lt_z}
+use Rattle.std.proofs.lemmas.Int.{by_lt_z}
 use Rattle.jiff_core.proofs.SignedLemmas.{signed_arith}
 use Rattle.jiff_tz.specs.declared.timezone.TimeZone.{TimeZone}
 use Rattle.cron_clocks.proofs.Windows.{le_yes, lt_yes, lt_no}
@@ -9,10 +9,9 @@ use Rattle.cron_units.specs.Sets.{Sets}
 use Rattle.cron_moments.specs.Readings.{Reading, instant}
 use Rattle.cron_time.specs.Timeline.{timeline}
 use Rattle.cron_instants.specs.Fires.{fires, fires_after, fires_past, fires_between, is_after, is_by}
-use Rattle.cron_instants.specs.Instants.{IsAmong}
 use Rattle.cron_instants.specs.Order.{is_earlier}
 use Rattle.cron_instants.proofs.AgreementLemmas.{instants_apart}
-use Rattle.cron_time.proofs.ListLemmas.{among-cases, among-filter, filter-alike, filter-all, filter-among, filter-none, filter-swap, filter-within}
+use Rattle.cron_time.proofs.ListLemmas.{among-filter, filter-alike, filter-among, filter-swap, filter-within}
 use Rattle.cron_instants.proofs.AscentLemmas.{Ascends, KeepsOn, among-cut, ascends-filter, cut-behind, earlier-not_itself}
 use Rattle.cron_instants.proofs.FireLemmas.{after-keeps_on, not_later, fires-ascend, fires-ascend_at, fires-of_item, first-after, int_le-true, int_lt-true, item-of_fires, past-keeps_on}
 use Rattle.cron_instants.proofs.OrderLemmas.{before-less, before-not_less}
