@@ -165,10 +165,10 @@ impl<T: Timetable + Copy> Agenda<T> {
         let Some(lent) = zones.get(zone) else {
             return Err(AddError::NoZone);
         };
-        let Some(fire) = first_past(&table, &last, lent) else {
+        let Some(later) = first_past(&table, &last, lent) else {
             return Err(AddError::NoFires);
         };
-        self.insert(table, zone, fire)
+        self.insert(table, zone, later)
     }
 
     // Drops the slots whose entry is gone, once fewer than half of them have one. It takes no memory.
