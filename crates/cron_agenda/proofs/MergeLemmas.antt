@@ -1,5 +1,5 @@
 -- Fires of entries in their order.
-use Rattle.std.proofs.Common.{◌≡◌, ℕ, zero, suc, ◌<◌, ℤ, int_lt, ◌≤ℤ◌, ◌<ℤ◌, Bool, true, false, cond, ◌&&◌, ◌||◌, List, [], ◌∷◌, ◌++◌, Option, Some, None, ◌⊎◌, inl, inr, refl, sym, ap, subst, ◌∙◌, append_assoc, arith}
+use Rattle.std.proofs.Common.{◌≡◌, ℕ, zero, suc, ◌<◌, ℤ, int_lt, ◌≤ℤ◌, ◌<ℤ◌, Bool, true, false, cond, ◌&&◌, ◌||◌, List, [], ◌∷◌, ◌++◌, Option, Some, None, inl, inr, refl, sym, ap, subst, ◌∙◌, arith}
 use Rattle.std.specs.Prelude.{Result, Ok, Err, nat_lt, not, slice_get, ◌==◌}
 use Rattle.std.specs.List.Sorted.{IsPermutation}
 use Rattle.std.specs.Ordering.{int_eq}
@@ -16,7 +16,7 @@ use Rattle.cron_agenda.specs.declared.entry.Entry.{Entry}
 use Rattle.cron_agenda.specs.declared.error.AddError.{AddError}
 use Rattle.cron_agenda.specs.declared.fire.AgendaFire.{AgendaFire}
 use Rattle.cron_agenda.specs.declared.fire.EntryFire.{EntryFire}
-use Rattle.cron_agenda.specs.Entries.{Adds, ComesFirst, IsBeforeAll, IsTaken, Listed, entry, gone_on, without}
+use Rattle.cron_agenda.specs.Entries.{Adds, IsBeforeAll, IsTaken, Listed, entry, gone_on, without}
 use Rattle.cron_agenda.specs.Fires.{civil_second, fires_past, instant}
 use Rattle.cron_agenda.specs.Laws.{EntriesAscend, MergedHasTheFires, MergedIsInOrder, OneEntryIsItsFires, TakenIsTheFirst}
 use Rattle.cron_agenda.specs.Merged.{AllAscend, Ascend, IsEarlierThan, OwnFire, all_of, in_order, left, merged, own, owned, precedes, put, rest_in}

@@ -26,7 +26,7 @@ use Rattle.jiff_tz.specs.declared.timezone.TimeZone.{TimeZone}
 use Rattle.cron_units.specs.Sets.{Sets}
 use Rattle.cron_fires.specs.Rules.{IsFirstOf}
 use Rattle.cron_agenda.specs.Fires.{fires_past, instant}
-use Rattle.cron_agenda.specs.Entries.{Adds, ComesFirst, HaveIds, IsBeforeAll, IsEntryOf, IsFirstEntry, IsRefused, IsTaken, Listed, TakesDue, TakesNext, entry, gone_on, has, is_before, is_by, without}
+use Rattle.cron_agenda.specs.Entries.{Adds, ComesFirst, HaveIds, IsBeforeAll, IsEntryOf, IsFirstEntry, IsRefused, IsTaken, Listed, TakesDue, TakesNext, entry, gone_on, has, is_by, without}
 use Rattle.cron_agenda.specs.Inner.Slots.{HasEntry, IdsAscend, Inserts, IsKept, IsOwn, entries_of, entry_of, entry_when, instant_of}
 
 -- ---- lists

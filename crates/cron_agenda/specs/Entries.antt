@@ -1,5 +1,5 @@
 -- The entries of an agenda, and what is added to them and taken from them.
-use Rattle.std.specs.Prelude.{◌≡◌, ◌≤◌, ℕ, ◌+◌, ◌-◌, ◌^◌, ℤ, pos, ◌*ℤ◌, Bool, true, false, not, ◌==◌, int_le, List, [], ◌∷◌, ◌++◌, filter, length, slice_get, Option, Some, None, MatchOption, Result, Ok, Err, ⊤}
+use Rattle.std.specs.Prelude.{◌≡◌, ◌≤◌, ℕ, ◌+◌, ◌-◌, ◌^◌, ℤ, pos, ◌*ℤ◌, Bool, true, false, not, ◌==◌, int_le, List, [], ◌∷◌, ◌++◌, filter, slice_get, Option, Some, None, MatchOption, Result, Ok, Err, ⊤}
 use Rattle.std.specs.List.{list_any}
 use Rattle.std.specs.Option.{is_none}
 use Rattle.jiff_tz.specs.declared.timezone.TimeZone.{TimeZone}

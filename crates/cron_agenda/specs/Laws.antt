@@ -1,5 +1,5 @@
 -- What holds of the fires that entries have left, merged.
-use Rattle.std.specs.Prelude.{◌≡◌, ℕ, ◌<◌, ◌↔◌, ℤ, false, Some, List, [], ◌∷◌, Result, slice_get}
+use Rattle.std.specs.Prelude.{◌≡◌, ℕ, ◌<◌, ℤ, false, Some, List, [], ◌∷◌, Result, slice_get}
 use Rattle.std.specs.List.Sorted.{IsPermutation}
 use Rattle.jiff_tz.specs.declared.timezone.TimeZone.{TimeZone}
 use Rattle.cron_units.specs.Sets.{Sets}

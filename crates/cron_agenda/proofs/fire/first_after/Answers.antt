@@ -1,4 +1,4 @@
-use Rattle.std.proofs.Common.{◌≡◌, Some, None, ap, ◌∙◌}
+use Rattle.std.proofs.Common.{Some, None, ap, ◌∙◌}
 use Rattle.jiff.specs.Words.{plain_zone}
 use Rattle.cron_agenda.specs.Fires.{fires_after}
 use Rattle.cron_agenda.proofs.FireLemmas.{shown-after, once-after}

@@ -1,10 +1,10 @@
-use Rattle.std.proofs.Common.{◌≡◌, ◌+◌, true, false, cond, Some, [], ◌∷◌, ◌++◌, refl, sym, ap, ◌∙◌, rules}
+use Rattle.std.proofs.Common.{◌≡◌, ◌+◌, true, cond, Some, [], ◌∷◌, ◌++◌, refl, sym, ap, ◌∙◌, rules}
 use Rattle.std.specs.Prelude.{not}
 use Rattle.std.specs.Result.{is_ok}
 use Rattle.cron_agenda.specs.declared.slots.Slot.{Slot}
 use Rattle.cron_agenda.specs.Entries.{listed}
 use Rattle.cron_agenda.specs.Fires.{instant}
-use Rattle.cron_agenda.specs.Inner.Slots.{entries_of, instant_of}
+use Rattle.cron_agenda.specs.Inner.Slots.{entries_of}
 use Rattle.cron_agenda.proofs.SlotLemmas.{entries-fewer, entries-more, kept-more, on_ok}
 use Rattle.cron_agenda.proofs.agenda.Agenda.insert.Goals as goal
 

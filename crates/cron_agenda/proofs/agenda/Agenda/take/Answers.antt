@@ -1,5 +1,5 @@
-use Rattle.std.proofs.Common.{◌≡◌, true, false, [], Some, length, refl, sym, ap, subst, ◌∙◌, map, rules}
-use Rattle.std.specs.Prelude.{slice_get, slice_set}
+use Rattle.std.proofs.Common.{◌≡◌, Some, length, refl, sym, ap, ◌∙◌, map, rules}
+use Rattle.std.specs.Prelude.{slice_get}
 use Rattle.std.proofs.lemmas.Option.{slice_get_read, slice_get_within, slice_get-map}
 use Rattle.std.specs.Option.{option_map}
 use Rattle.jiff.specs.Words.{plain_zone}
