@@ -4,3 +4,4 @@ pub mod Entries
 pub mod Merged
 pub mod Laws
 pub mod Inner
+pub mod Messages

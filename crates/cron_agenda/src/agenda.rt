@@ -266,7 +266,8 @@ impl<T: Timetable + Copy> Agenda<T> {
         now: Timestamp,
         zones: &[TimeZone<'_>],
     ) -> Result<Option<AgendaFire>, ZoneMissing>
-        ensures { TakesDue T.schedules (map plain_zone zones.now) now.nanosecond self.old result self.new }
+        ensures { TakesDue T.schedules (map plain_zone zones.now) now.nanosecond
+            self.old result self.new }
     {
         let Some(first) = self.first() else {
             return Ok(None);

@@ -1,8 +1,5 @@
 //! Why an entry can't be added, or a fire can't be taken.
 
-ghost use Rattle.std.specs.Prelude.{Some, string_bytes};
-
-use std::alloc::AllocError;
 use std::error::Error;
 use std::fmt;
 
@@ -20,13 +17,18 @@ pub enum AddError {
 }
 
 impl fmt::Display for AddError {
+    ghost use Rattle.std.specs.Prelude.{Some};
+    ghost use Rattle.cron_agenda.specs.Messages.{add_error_text};
+
+    ghost output = { λ error. Some (add_error_text error) };
+
     fn fmt<W: fmt::Write>(&self, f: &mut fmt::Formatter<W>) -> fmt::Result {
-        f.write_str(match self {
-            AddError::NoZone => "no zone with this number is lent",
-            AddError::NoFires => "it would never fire",
-            AddError::NoIds => "no id is left",
-            AddError::OutOfMemory => "out of memory",
-        })
+        match self {
+            AddError::NoZone => f.write_str("no zone with this number is lent"),
+            AddError::NoFires => f.write_str("it would never fire"),
+            AddError::NoIds => f.write_str("no id is left"),
+            AddError::OutOfMemory => f.write_str("out of memory"),
+        }
     }
 }
 
@@ -40,8 +42,12 @@ pub struct ZoneMissing {
 }
 
 impl fmt::Display for ZoneMissing {
+    ghost use Rattle.std.specs.Prelude.{Some, codes};
+
+    ghost output = { λ _. Some (codes "the zone of the entry that comes first is not lent") };
+
     fn fmt<W: fmt::Write>(&self, f: &mut fmt::Formatter<W>) -> fmt::Result {
-        write!(f, "the zone of entry {} is not lent", self.id)
+        f.write_str("the zone of the entry that comes first is not lent")
     }
 }
 

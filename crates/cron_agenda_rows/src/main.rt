@@ -72,7 +72,10 @@ fn write_taken(text: &mut String, taken: &Result<Option<AgendaFire>, ZoneMissing
             }
         }
         Ok(None) => text.push_str("None")?,
-        Err(error) => write!(text, "{error}")?,
+        Err(missing) => {
+            let id = missing.id;
+            write!(text, "the zone of entry {id} is not lent")?;
+        }
     }
     Ok(())
 }

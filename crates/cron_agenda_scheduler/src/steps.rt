@@ -19,7 +19,8 @@ fn run_due<T: Timetable + Copy, C: AlarmClock, J: AgendaJob<T>>(
     now: Timestamp,
     job: &mut J,
 ) -> Result<(), AgendaStop<C::Error, J::Error>>
-    ensures { RunsDue T.schedules J.runs (map plain_zone zones.now) now.nanosecond agenda.old job.old result agenda.new job.new }
+    ensures { RunsDue T.schedules J.runs (map plain_zone zones.now) now.nanosecond
+        agenda.old job.old result agenda.new job.new }
 {
     for _ in 0..u64::MAX {
         let taken = match agenda.next_due(now, zones) {
