@@ -15,7 +15,7 @@ use Rattle.cron_instants.proofs.OrderLemmas.{before-up_to}
 use Rattle.cron_instants.proofs.AscentLemmas as ascent
 use Rattle.cron_instants.proofs.FireLemmas.{after-keeps_on, int_lt-true, past-keeps_on}
 use Rattle.cron_time.proofs.ListLemmas.{Among, among-filter, among-first, among-rest, filter-none}
-use Rattle.cron_dues.specs.Due.{Due, due, due_instant}
+use Rattle.cron_dues.specs.Due.{Due, clock_of, due, due_instant}
 use Rattle.cron_dues.specs.Due as dues
 use Rattle.cron_dues.specs.Dues.{is_due_after, is_past}
 use Rattle.cron_dues.specs.FirstDues.{IsFirst}
@@ -77,15 +77,15 @@ key d = d.second
 pub due_no_later : (ss : List Sets) (z : TimeZone) (d e : Due) → IsDueOfAny ss z d → IsDueOfAny ss z e → d.second ≤ e.second
     → dues.instant d ≤ℤ dues.instant e
 due_no_later ss z d e here there le =
-    let one = own-of (seconds_of_any ss) (is_match_any ss) z (any-matches ss) d here in
-    let other = own-of (seconds_of_any ss) (is_match_any ss) z (any-matches ss) e there in
-    let first : dues.instant d ≡ due_instant z d.second = ap dues.instant one.own ∙ fire_due z d.second in
-    let second : dues.instant e ≡ due_instant z e.second = ap dues.instant other.own ∙ fire_due z e.second in
-    let ascends = due_ascends z d.second e.second (omega (arith, signed_arith)) in
+    let one = own-of (seconds_of_any ss) (is_match_any ss) (clock_of z) (any-matches ss) d here in
+    let other = own-of (seconds_of_any ss) (is_match_any ss) (clock_of z) (any-matches ss) e there in
+    let first : dues.instant d ≡ due_instant z d.second = ap dues.instant one.own ∙ fire_due (clock_of z) d.second in
+    let second : dues.instant e ≡ due_instant z e.second = ap dues.instant other.own ∙ fire_due (clock_of z) e.second in
+    let ascends = due_ascends (clock_of z) d.second e.second (omega (arith, signed_arith)) in
     rw (first, second) ascends
 
 pub dues_any-ascend : (ss : List Sets) (z : TimeZone) → Ascends key (dues_any ss z)
-dues_any-ascend ss z = all-ascend (seconds_of_any ss) (is_match_any ss) z (any-matches ss)
+dues_any-ascend ss z = all-ascend (seconds_of_any ss) (is_match_any ss) (clock_of z) (any-matches ss)
 
 after-keeps : (ss : List Sets) (z : TimeZone) (t : ℤ) → KeepsOn key (is_due_after t) (dues_any ss z)
 after-keeps ss z t a b one other h less =
