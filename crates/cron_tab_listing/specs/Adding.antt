@@ -1,0 +1,70 @@
+-- What the lines of a file add to an agenda.
+use Rattle.std.specs.Prelude.{◌≡◌, ◌⊎◌, ℕ, ℤ, true, false, Bool, List, [], ◌∷◌, take, Option, Some, None, Result, Ok, Err, ⊤, if◌then◌else◌}
+use Rattle.std.specs.Str.Lossy.{utf8_valid_len}
+use Rattle.jiff_tz.specs.declared.timezone.TimeZone.{TimeZone}
+use Rattle.cron_units.specs.Sets.{Sets}
+use Rattle.cron_tab_lines.specs.Files.{FileLine}
+use Rattle.cron_tab_warnings.specs.Clocks.{follows_clock}
+use Rattle.cron_tab_warnings.specs.Files.{is_zone}
+use Rattle.cron_agenda.specs.Entries.{Adds, Listed}
+use Rattle.cron_agenda.specs.Fires.{fires_after}
+use Rattle.cron_agenda.specs.declared.error.AddError.{AddError}
+use Rattle.cron_agenda.specs.declared.error.AddError.TheVariants.{NoFires}
+use Rattle.cron_agenda.specs.declared.fire.ClockChanges.{ClockChanges}
+use Rattle.cron_agenda.specs.declared.fire.ClockChanges.TheVariants.{AsShown, Once}
+use Rattle.cron_tab_listing.specs.Tabs.{IsTab, schedules_in, schedules_of}
+use Rattle.cron_tab_listing.specs.declared.tab_entry.TabEntry.{TabEntry}
+use Rattle.cron_tab_listing.specs.declared.adding.Clock.{Clock}
+use Rattle.cron_tab_listing.specs.declared.adding.Clock.TheVariants.{Own, Chosen}
+use Rattle.cron_tab_listing.specs.declared.adding.LineError.{LineError}
+use Rattle.cron_tab_listing.specs.declared.adding.LineError.TheVariants.{ZoneLine, NotAdded}
+
+-- an entry that follows the clock fires each time that it shows a match, every other one once for each
+abbrev pub own_changes : List ℕ → ClockChanges
+own_changes text = if follows_clock text then AsShown else Once
+
+-- by the line's front that is text, or as the caller chose
+abbrev pub changes_of : Clock → List ℕ → ClockChanges
+changes_of Own bytes = own_changes (take (utf8_valid_len bytes) bytes)
+changes_of (Chosen changes) bytes = changes
+
+-- where, from when on and by which rule entries fire: in the zone with this number, after the instant t
+pub record Start : Type 0 where
+  pub zones : List TimeZone
+  pub zone : ℕ
+  pub clock : Clock
+  pub t : ℤ
+
+abbrev pub start_of : List TimeZone → ℕ → Clock → ℤ → Start
+start_of zones zone clock t = record { zones = zones; zone = zone; clock = clock; t = t }
+
+-- as an agenda adds a table's fires by a rule
+abbrev pub AddsTab : Start → ClockChanges → TabEntry → Listed TabEntry → Result ℕ AddError → Listed TabEntry → Type 0
+AddsTab s changes table = Adds schedules_of s.zones table s.zone (λ z. fires_after (schedules_of table) z changes s.t)
+
+-- Its entry is added, or nothing, since it never fires again; or it can't be, for a reason.
+abbrev pub AddsEntry : Start → ClockChanges → TabEntry → Listed TabEntry → Result (Option ℕ) AddError → Listed TabEntry → Type 0
+AddsEntry s changes table old (Ok (Some id)) new = AddsTab s changes table old (Ok id) new
+AddsEntry s changes table old (Ok None) new = AddsTab s changes table old (Err NoFires) new
+AddsEntry s changes table old (Err why) new = AddsTab s changes table old (Err why) new
+
+-- A line's entry is added where it is one that fires, with the line's number; no other line changes anything.
+abbrev pub AddsLine : Start → FileLine → Listed TabEntry → Result (Option ℕ) AddError → Listed TabEntry → Type 0
+AddsLine s line old answer new =
+    ((schedules_in line.outcome ≡ None) × (answer ≡ Ok None) × (new ≡ old))
+    ⊎ ((table : TabEntry) × IsTab line table × AddsEntry s (changes_of s.clock line.bytes) table old answer new)
+
+-- at this line it ends, since it sets `CRON_TZ`, or its entry can't be added
+abbrev pub EndsAt : Start → FileLine → Listed TabEntry → LineError → Listed TabEntry → Type 0
+EndsAt s line old (ZoneLine number) new = (number ≡ line.number) × (is_zone line.outcome ≡ true) × (new ≡ old)
+EndsAt s line old (NotAdded number why) new = (number ≡ line.number) × AddsLine s line old (Err why) new
+
+-- Lines are added one after another. None of them sets `CRON_TZ`; or it ends at one of them, and those in front of it were added.
+abbrev pub AddsLines : Start → List FileLine → Listed TabEntry → Result ⊤ LineError → Listed TabEntry → Type 0
+AddsLines s [] old (Ok done) new = new ≡ old
+AddsLines s [] old (Err error) new = ⊥
+AddsLines s (line ∷ lines) old (Ok done) new =
+    (answer : Option ℕ) × (between : Listed TabEntry) × (is_zone line.outcome ≡ false) × AddsLine s line old (Ok answer) between × AddsLines s lines between (Ok done) new
+AddsLines s (line ∷ lines) old (Err error) new =
+    EndsAt s line old error new
+    ⊎ ((answer : Option ℕ) × (between : Listed TabEntry) × (is_zone line.outcome ≡ false) × AddsLine s line old (Ok answer) between × AddsLines s lines between (Err error) new)

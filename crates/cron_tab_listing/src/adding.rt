@@ -1,0 +1,105 @@
+//! The entries of a crontab's lines, added to an agenda.
+
+ghost use Rattle.std.specs.Prelude.{◌≡◌, map};
+ghost use Rattle.jiff.specs.Words.{plain_zone};
+ghost use Rattle.cron_tab_lines.specs.Views.{file_line_view, outcome_view};
+ghost use Rattle.cron_tab_warnings.specs.Files.{is_zone};
+ghost use Rattle.cron_tab_listing.specs.Adding.{AddsLine, AddsLines, changes_of, start_of};
+
+use crate::tab_entry::TabEntry;
+use cron_agenda::{AddError, Agenda, ClockChanges};
+use cron_tab_lines::{FileLine, Line, Lines, Refusal};
+use cron_tab_warnings::{follows_clock, text_of};
+use jiff::Timestamp;
+use jiff::tz::TimeZone;
+
+/// By which rule entries fire where the clock changes.
+#[derive(Clone, Copy, Debug, PartialEq, Eq)]
+pub enum Clock {
+    /// Each entry by its own: one that follows the clock each time that it shows a match, one at a fixed time
+    /// once for each.
+    Own,
+    /// All by this one.
+    Chosen(ClockChanges),
+}
+
+/// Why the lines of a file weren't all added, with the number of the line, from 1 on.
+#[derive(Clone, Copy, Debug, PartialEq, Eq)]
+pub enum LineError {
+    /// It sets `CRON_TZ`: the entries below it may be of another zone.
+    ZoneLine(usize),
+    /// Its entry can't be added.
+    NotAdded(usize, AddError),
+}
+
+/// The rule of an entry, by the bytes of its line.
+pub fn changes_of(clock: Clock, bytes: &[u8]) -> ClockChanges
+    ensures { result ≡ changes_of clock bytes.now }
+{
+    match clock {
+        Clock::Chosen(changes) => changes,
+        Clock::Own => {
+            if follows_clock(text_of(bytes)) {
+                ClockChanges::AsShown
+            } else {
+                ClockChanges::Once
+            }
+        }
+    }
+}
+
+/// Adds the entry of a line: its fires after an instant, in the zone with this number. It answers the entry's
+/// id, and `None` where the line is no entry, where no clock fires it (`@reboot`), or where it never fires
+/// again. An error changes nothing.
+pub fn add_line(
+    agenda: &mut Agenda<TabEntry>,
+    line: &FileLine<'_>,
+    clock: Clock,
+    start: Timestamp,
+    zones: &[TimeZone<'_>],
+    zone: usize,
+) -> Result<Option<u64>, AddError>
+    ensures { AddsLine (start_of (map plain_zone zones.now) zone clock start.nanosecond)
+        (file_line_view line.now) agenda.old result agenda.new }
+{
+    let Some(table) = TabEntry::of(line) else {
+        return Ok(None);
+    };
+    let changes = changes_of(clock, line.bytes);
+    match agenda.add(table, changes, start, zones, zone) {
+        Ok(id) => Ok(Some(id)),
+        Err(AddError::NoFires) => Ok(None),
+        Err(error) => Err(error),
+    }
+}
+
+fn is_zone(read: &Result<Line<'_>, Refusal<'_>>) -> bool
+    ensures { result ≡ is_zone (outcome_view read.now) }
+{
+    matches!(read, Ok(Line::Zone(_)))
+}
+
+/// Adds the entries of a file's lines, in the order of the lines: their fires after an instant, in the zone with
+/// this number. Lines that are refused, settings and comments are passed over. It ends at the first line that
+/// sets `CRON_TZ`, or whose entry can't be added; those above it are added then.
+pub fn add_lines(
+    agenda: &mut Agenda<TabEntry>,
+    lines: Lines<'_>,
+    clock: Clock,
+    start: Timestamp,
+    zones: &[TimeZone<'_>],
+    zone: usize,
+) -> Result<(), LineError>
+    ensures { AddsLines (start_of (map plain_zone zones.now) zone clock start.nanosecond)
+        lines.entry agenda.old result agenda.new }
+{
+    for line in lines {
+        if is_zone(&line.read) {
+            return Err(LineError::ZoneLine(line.number));
+        }
+        if let Err(error) = add_line(agenda, &line, clock, start, zones, zone) {
+            return Err(LineError::NotAdded(line.number, error));
+        }
+    }
+    Ok(())
+}
