@@ -1,2 +1,4 @@
 pub mod Tabs
 pub mod Adding
+pub mod Listing
+pub mod Inner

@@ -4,7 +4,9 @@
 
 mod adding;
 mod few;
+mod listing;
 mod tab_entry;
 
 pub use adding::{Clock, LineError, add_line, add_lines, changes_of};
+pub use listing::{ListError, TabFire, list_fires, next_fire};
 pub use tab_entry::TabEntry;

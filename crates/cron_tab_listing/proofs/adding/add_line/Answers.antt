@@ -7,5 +7,5 @@ use Rattle.cron_tab_listing.proofs.adding.add_line.Goals as goal
 pub returns-in-Ok : goal.returns-in-Ok
 returns-in-Ok c =
     let adds = subst (λ changes. AddsTab (start_of (map plain_zone c.args.zones.now) c.args.zone c.args.clock c.args.start.nanosecond) changes c.in-Some.table
-        c.args.agenda.now (Ok c.in-Ok.id) c.add.new.self) c.changes_of-changes.ensures c.in-Ok.ensures in
+    c.args.agenda.now (Ok c.in-Ok.id) c.add.new.self) c.changes_of-changes.ensures c.in-Ok.ensures in
     inr (c.in-Some.table, c.in-Some.ensures, adds)

@@ -1,0 +1,51 @@
+-- The fires of a file's entries, taken from their agenda in one order.
+use Rattle.std.specs.Prelude.{◌≡◌, ◌⊎◌, ◌++◌, ℕ, ℤ, Bool, List, [], ◌∷◌, map, length, Option, Some, None, Result, Ok, Err}
+use Rattle.jiff_tz.specs.declared.timezone.TimeZone.{TimeZone}
+use Rattle.cron_agenda.specs.Entries.{ComesFirst, Listed, TakesDue}
+use Rattle.cron_agenda.specs.Merged.{AllAscend, OwnFire, merged, own}
+use Rattle.cron_agenda.specs.declared.entry.Entry.{Entry}
+use Rattle.cron_agenda.specs.declared.error.ZoneMissing.{ZoneMissing}
+use Rattle.cron_agenda.specs.declared.fire.AgendaFire.{AgendaFire}
+use Rattle.cron_tab_listing.specs.Tabs.{schedules_of}
+use Rattle.cron_tab_listing.specs.declared.listing.TabFire.{TabFire}
+use Rattle.cron_tab_listing.specs.declared.tab_entry.TabEntry.{TabEntry}
+
+abbrev pub agenda_fire : TabFire → Bool → AgendaFire
+agenda_fire f is_last = record { id = f.id; fire = f.fire; is_last = is_last }
+
+-- the first of all fires that are left is taken; it is due by t, and has the line of its entry
+pub record IsTabTaken (zones : List TimeZone) (t : ℤ) (old : Listed TabEntry) (fire : TabFire) (new : Listed TabEntry) : Type 0 where
+  pub entry : Entry TabEntry
+  pub first : ComesFirst old.entries entry
+  pub id : fire.id ≡ entry.id
+  pub line : fire.line ≡ entry.table.line
+  pub is_last : Bool
+  pub taken : TakesDue schedules_of zones t old (Ok (Some (agenda_fire fire is_last))) new
+
+-- the same, or none is due by t, or the zone isn't lent
+abbrev pub TakesTab : List TimeZone → ℤ → Listed TabEntry → Result (Option TabFire) ZoneMissing → Listed TabEntry → Type 0
+TakesTab zones t old (Ok (Some fire)) new = IsTabTaken zones t old fire new
+TakesTab zones t old (Ok None) new = TakesDue schedules_of zones t old (Ok None) new
+TakesTab zones t old (Err why) new = TakesDue schedules_of zones t old (Err why) new
+
+-- some fires were taken one after another
+abbrev pub AreTaken : List TimeZone → ℤ → Listed TabEntry → List TabFire → Listed TabEntry → Type 0
+AreTaken zones t old [] new = new ≡ old
+AreTaken zones t old (fire ∷ fires) new = (between : Listed TabEntry) × IsTabTaken zones t old fire between × AreTaken zones t between fires new
+
+abbrev pub own_of : TabFire → OwnFire
+own_of fire = own fire.id fire.fire
+
+-- they are the front of all fires that were left, in their order, and what is left now stands behind it
+abbrev pub AreTheFront : List TimeZone → Listed TabEntry → List TabFire → Listed TabEntry → Type 0
+AreTheFront zones old fires new = merged schedules_of zones old.entries ≡ map own_of fires ++ merged schedules_of zones new.entries
+
+-- So many were wanted, or no more are due by t.
+abbrev pub IsDone : List TimeZone → ℤ → ℕ → List TabFire → Listed TabEntry → Type 0
+IsDone zones t limit fires new = (length fires ≡ limit) ⊎ TakesDue schedules_of zones t new (Ok None) new
+
+-- Fires are taken up to and with the instant t, at most so many: the front of all that were left.
+pub record Lists (zones : List TimeZone) (t : ℤ) (limit : ℕ) (old : Listed TabEntry) (fires : List TabFire) (new : Listed TabEntry) : Type 0 where
+  pub taken : AreTaken zones t old fires new
+  pub front : AllAscend schedules_of zones old.entries → AreTheFront zones old fires new × AllAscend schedules_of zones new.entries
+  pub done : IsDone zones t limit fires new
