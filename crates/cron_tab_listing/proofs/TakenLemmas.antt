@@ -1,15 +1,14 @@
 -- Fires that were taken one after another.
-use Rattle.std.proofs.Common.{◌≡◌, ℕ, ℤ, Bool, true, List, [], ◌∷◌, ◌++◌, map, Some, refl, sym, ap, subst, ◌∙◌, arith}
-use Rattle.std.specs.Prelude.{Ok, Option, None}
+use Rattle.std.proofs.Common.{◌≡◌, ℕ, ℤ, true, List, [], ◌∷◌, ◌++◌, Some, refl, sym, ap, subst, ◌∙◌, arith}
+use Rattle.std.specs.Prelude.{Ok}
 use Rattle.std.proofs.lemmas.Int.{ints}
-use Rattle.jiff_core.proofs.SignedLemmas.{signed_arith}
 use Rattle.jiff_tz.specs.declared.timezone.TimeZone.{TimeZone}
 use Rattle.cron_instants.specs.Order.{comes_before}
 use Rattle.cron_agenda.specs.declared.entry.Entry.{Entry}
 use Rattle.cron_agenda.specs.declared.fire.AgendaFire.{AgendaFire}
 use Rattle.cron_agenda.specs.Entries.{ComesFirst, IsBeforeAll, Listed, TakesDue, is_before}
 use Rattle.cron_agenda.specs.Fires.{instant}
-use Rattle.cron_agenda.specs.Merged.{AllAscend, merged, own}
+use Rattle.cron_agenda.specs.Merged.{AllAscend, merged}
 use Rattle.cron_agenda.proofs.MergeLemmas.{taken_is_first}
 use Rattle.cron_tab_listing.specs.Listing.{AreTaken, AreTheFront, IsTabTaken, own_of, agenda_fire}
 use Rattle.cron_tab_listing.specs.Tabs.{schedules_of}

@@ -1,5 +1,5 @@
 -- What entries of a crontab's file fire by.
-use Rattle.std.specs.Prelude.{◌≡◌, ℕ, List, [], Option, Some, None, Result, Ok}
+use Rattle.std.specs.Prelude.{◌≡◌, List, [], Option, Some, None, Result, Ok}
 use Rattle.cron_units.specs.Sets.{Sets}
 use Rattle.cron_crontab.specs.Crontab.{Meaning, schedules, reboot}
 use Rattle.cron_tab_lines.specs.Files.{FileLine}

@@ -1,4 +1,4 @@
-use Rattle.std.proofs.Common.{[], ◌∷◌, ◌++◌, ◌+◌, map, subst, sym, ap, ◌∙◌, length-append, append_assoc}
+use Rattle.std.proofs.Common.{[], ◌∷◌, ◌++◌, ◌+◌, map, subst, ap, ◌∙◌, length-append, append_assoc}
 use Rattle.jiff.specs.Words.{plain_zone}
 use Rattle.cron_tab_listing.specs.Inner.Pushes.{IsPushed}
 use Rattle.cron_tab_listing.proofs.TakenLemmas.{taken-on}
