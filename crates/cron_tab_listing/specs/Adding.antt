@@ -45,6 +45,7 @@ AddsTab s changes table = Adds schedules_of s.zones table s.zone (λ z. fires_af
 abbrev pub AddsEntry : Start → ClockChanges → TabEntry → Listed TabEntry → Result (Option ℕ) AddError → Listed TabEntry → Type 0
 AddsEntry s changes table old (Ok (Some id)) new = AddsTab s changes table old (Ok id) new
 AddsEntry s changes table old (Ok None) new = AddsTab s changes table old (Err NoFires) new
+AddsEntry s changes table old (Err NoFires) new = ⊥
 AddsEntry s changes table old (Err why) new = AddsTab s changes table old (Err why) new
 
 -- A line's entry is added where it is one that fires, with the line's number; no other line changes anything.
