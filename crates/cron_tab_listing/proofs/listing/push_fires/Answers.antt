@@ -9,7 +9,7 @@ loop-preserved c =
     let zones = map plain_zone c.args.zones.now in
     let was = c.loop.invariant in
     let pushed = subst (IsPushed zones c.args.until.nanosecond c.loop.agenda c.loop.fires.items c.push_next.new.fires.items c.push_next.new.agenda)
-        c.in-Ok-true.field-0-test c.in-Ok-true.ensures in (
+    c.in-Ok-true.field-0-test c.in-Ok-true.ensures in (
       was.0 ++ pushed.0 ∷ [],
       length-append was.0 (pushed.0 ∷ []) ∙ ap (λ n. n + 1) was.1,
       pushed.2 ∙ ap (λ l. l ++ pushed.0 ∷ []) was.2 ∙ append_assoc c.args.fires.now.items was.0 (pushed.0 ∷ []),

@@ -7,5 +7,5 @@ use Rattle.cron_tab_listing.proofs.listing.push_next.Goals as goal
 pub returns-in-Ok : goal.returns-in-Ok
 returns-in-Ok c =
     let takes = subst (λ o. TakesTab (map plain_zone c.args.zones.now) c.args.until.nanosecond c.args.agenda.now (Ok o) c.next_fire.new.agenda)
-        c.in-Ok-Some.field-0-is c.in-Ok-Some.ensures in
+    c.in-Ok-Some.field-0-is c.in-Ok-Some.ensures in
     (c.in-Ok-Some.fire, takes, c.in-Ok.ensures.items)
