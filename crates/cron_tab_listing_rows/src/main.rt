@@ -1,6 +1,6 @@
 //! Replays `data/`: a crontab, and the fires of its entries over two days around a change of Chicago's clock, by each
-//! rule. They were counted apart, by a scan of minutes with the zone's transitions. It prints the rows that differ, and how many
-//! there are. Where one differs, it ends with a status other than 0.
+//! rule. They were counted apart, by a scan of minutes in the zone's file. It prints the rows that differ, and how
+//! many there are. Where one differs, it ends with a status other than 0.
 #![tactic(auto)]
 
 use anyhow::{Context, Error, Result, anyhow, ensure};
@@ -9,6 +9,7 @@ use cron_tab_lines::{Crontab, Lines};
 use cron_tab_listing::{Clock, TabFire, add_lines, list_fires};
 use jiff::Timestamp;
 use jiff::tz::TimeZone;
+use std::alloc::Global;
 use std::fs;
 
 const TAB: &str = "chicago.tab";
@@ -22,6 +23,29 @@ const FILES: [(Clock, &str); 3] = [
 // How many fires are listed at once: fewer than there are, so that a listing goes on where another ended.
 const PAGE: usize = 7;
 
+const PAGES: usize = 20;
+
+// The fires of the crontab's entries by a rule, a page behind another.
+fn fires_of(alloc: Global, tab: &str, clock: Clock) -> Result<Vec<TabFire>> {
+    let zones = [TimeZone::posix("CST6CDT,M3.2.0,M11.1.0")?];
+    let start = "2025-03-08T18:00:00Z".parse::<Timestamp>()?;
+    let until = "2025-03-10T18:00:00Z".parse::<Timestamp>()?;
+    let mut agenda = Agenda::new(alloc);
+    let lines = Lines::of(Crontab::User, tab.as_bytes());
+    add_lines(&mut agenda, lines, clock, start, &zones, 0).map_err(|_stopped| -> Error {
+        anyhow!("a line can't be added")
+    })?;
+    let mut fires = Vec::new(alloc);
+    for _page in 0..PAGES {
+        let page = list_fires(alloc, &mut agenda, until, PAGE, &zones).map_err(|_error| -> Error {
+            anyhow!("no listing")
+        })?;
+        fires.extend_from_slice(page.as_slice())?;
+    }
+    Ok(fires)
+}
+
+// Whether a fire is the one of a row.
 fn replay_fire(rt: &HostRuntime, fire: &TabFire, row: Option<&str>) -> Result<bool> {
     let line = fire.line;
     let instant = fire.fire.timestamp();
@@ -34,33 +58,20 @@ fn replay_fire(rt: &HostRuntime, fire: &TabFire, row: Option<&str>) -> Result<bo
     Ok(same)
 }
 
+// Replays the rows of a file, and answers how many differ.
 fn replay(rt: &HostRuntime, clock: Clock, file: &str) -> Result<usize> {
-    let alloc = rt.alloc();
     let tab = fs::read_to_string(rt, TAB).context(TAB)?;
     let rows = fs::read_to_string(rt, file).context(file)?;
-    let zones = [TimeZone::posix("CST6CDT,M3.2.0,M11.1.0")?];
-    let start = "2025-03-08T18:00:00Z".parse::<Timestamp>()?;
-    let until = "2025-03-10T18:00:00Z".parse::<Timestamp>()?;
-    let mut agenda = Agenda::new(alloc);
-    let lines = Lines::of(Crontab::User, tab.as_bytes());
-    add_lines(&mut agenda, lines, clock, start, &zones, 0).map_err(|_stopped| -> Error {
-        anyhow!("a line can't be added")
-    })?;
+    let fires = fires_of(rt.alloc(), tab.as_str(), clock)?;
     let mut wanted = rows.as_str().lines();
     let mut differences = 0_usize;
-    let mut count = 0_usize;
-    for _page in 0..100_usize {
-        let fires = list_fires(alloc, &mut agenda, until, PAGE, &zones).map_err(|_error| -> Error {
-            anyhow!("no listing")
-        })?;
-        for fire in &fires {
-            count = count.saturating_add(1);
-            if !replay_fire(rt, fire, wanted.next())? {
-                differences = differences.saturating_add(1);
-            }
+    for fire in &fires {
+        if !replay_fire(rt, fire, wanted.next())? {
+            differences = differences.saturating_add(1);
         }
     }
     ensure!(wanted.next().is_none(), "fires are lacking");
+    let count = fires.len();
     println!(rt; "{file}: {count}")?;
     Ok(differences)
 }
