@@ -43,12 +43,12 @@ fn places<'a>(tz: Option<&'a str>, machine: &'a str) -> Places<'a> {
     }
 }
 
-fn check_opened(rt: &(impl Abort + AllocGlobal), text: &str, places: &Places<'_>, hours: i32) {
+fn check_opened(rt: &(impl Abort + AllocGlobal), text: &str, places: &Places<'_>, seconds: i32) {
     let mut shelf = Shelf { reads: 0 };
     let opened = open(rt.alloc(), text, places, &mut shelf).expect(rt, "a zone");
     let epoch = Timestamp::from_second(0).expect(rt, "an instant");
-    let seconds = opened.time_zone().to_offset(epoch).seconds();
-    assert_eq!(rt; seconds, hours * 3_600, "{text}");
+    let offset = opened.time_zone().to_offset(epoch).seconds();
+    assert_eq!(rt; offset, seconds, "{text}");
 }
 
 fn check_refused(
@@ -97,25 +97,25 @@ fn names_stay_in_their_folder(rt: HostRuntime) {
 #[test]
 fn a_text_opens_its_zone(rt: HostRuntime) {
     let unset = places(None, "/one");
-    for (text, hours) in [
+    for (text, seconds) in [
         ("UTC", 0),
-        ("EST5", -5),
-        ("<+01>-1", 1),
-        ("Etc/GMT-1", 1),
-        ("local", 1),
+        ("EST5", -18_000),
+        ("<+01>-1", 3_600),
+        ("Etc/GMT-1", 3_600),
+        ("local", 3_600),
     ] {
-        check_opened(&rt, text, &unset, hours);
+        check_opened(&rt, text, &unset, seconds);
     }
-    for (tz, hours) in [
+    for (tz, seconds) in [
         ("", 0),
         (":", 0),
-        ("EST5", -5),
-        (":EST5", -5),
-        ("Etc/GMT-1", 1),
-        (":Etc/GMT-1", 1),
-        (":/one", 1),
+        ("EST5", -18_000),
+        (":EST5", -18_000),
+        ("Etc/GMT-1", 3_600),
+        (":Etc/GMT-1", 3_600),
+        (":/one", 3_600),
     ] {
-        check_opened(&rt, "local", &places(Some(tz), "/none"), hours);
+        check_opened(&rt, "local", &places(Some(tz), "/none"), seconds);
     }
     check_opened(&rt, "local", &places(None, "/none"), 0);
 }
