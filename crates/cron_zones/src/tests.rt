@@ -6,7 +6,6 @@ use crate::names::is_zone_name;
 use crate::open::{Places, open};
 use jiff::Timestamp;
 use std::alloc::Global;
-use std::fs;
 use std::io::{self, ErrorKind};
 use std::process::Abort;
 use std::test::Fail;
@@ -164,12 +163,11 @@ fn an_error_names_the_file(rt: HostRuntime) {
 
 #[test]
 fn files_of_a_machine_are_read_whole(rt: HostRuntime) {
-    let path = "/tmp/cron_zones_read_whole";
-    fs::write(&rt, path, ONE_AHEAD).expect(&rt, "a file to write");
+    // a regular file that each Linux has, with the same bytes
     let bytes = MachineFiles(&rt)
-        .read(rt.alloc(), path)
+        .read(rt.alloc(), "/proc/sys/kernel/ostype")
         .expect(&rt, "a file");
-    assert_eq!(rt; bytes.as_slice(), ONE_AHEAD);
+    assert_eq!(rt; bytes.as_slice(), b"Linux\n".as_slice());
     for (path, kind) in [
         ("/tmp/cron_zones_no_such_file", ErrorKind::NotFound),
         ("/tmp", ErrorKind::InvalidInput),
