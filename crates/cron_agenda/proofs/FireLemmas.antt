@@ -30,8 +30,8 @@ use Rattle.cron_unions.specs.Inner.Nearest.{is_match_any}
 use Rattle.cron_unions.proofs.UnionLemmas.{any-matches, fires_any-ascend}
 use Rattle.cron_agenda.specs.declared.fire.EntryFire.{EntryFire}
 use Rattle.cron_agenda.specs.declared.fire.EntryFire.TheVariants.{AsShown, Once}
-use Rattle.cron_agenda.specs.declared.fire.ClockChanges.{ClockChanges}
-use Rattle.cron_agenda.specs.declared.fire.ClockChanges.TheVariants as rule
+use Rattle.cron_fires.specs.declared.changes.ClockChanges.{ClockChanges}
+use Rattle.cron_fires.specs.declared.changes.ClockChanges.TheVariants as rule
 use Rattle.cron_agenda.specs.Fires.{fires_after, fires_past}
 use Rattle.cron_agenda.specs.Laws.{FiresAscend}
 use Rattle.cron_agenda.specs.Merged.{Ascend, IsEarlierThan}

@@ -6,8 +6,8 @@ use Rattle.cron_moments.specs.Readings as moments
 use Rattle.cron_dues.specs.Due as dues
 use Rattle.cron_unions.specs.Unions.{fires_any_after, fires_any_past}
 use Rattle.cron_unions.specs.UnionDues.{dues_any_after, dues_any_past}
-use Rattle.cron_agenda.specs.declared.fire.ClockChanges.{ClockChanges}
-use Rattle.cron_agenda.specs.declared.fire.ClockChanges.TheVariants as rule
+use Rattle.cron_fires.specs.declared.changes.ClockChanges.{ClockChanges}
+use Rattle.cron_fires.specs.declared.changes.ClockChanges.TheVariants as rule
 use Rattle.cron_agenda.specs.declared.fire.EntryFire.{EntryFire}
 use Rattle.cron_agenda.specs.declared.fire.EntryFire.TheVariants.{AsShown, Once}
 

@@ -6,7 +6,7 @@ use Rattle.cron_units.specs.Sets.{Sets}
 use Rattle.cron_agenda.specs.declared.entry.Entry.{Entry}
 use Rattle.cron_agenda.specs.declared.error.AddError.{AddError}
 use Rattle.cron_agenda.specs.declared.fire.AgendaFire.{AgendaFire}
-use Rattle.cron_agenda.specs.declared.fire.ClockChanges.{ClockChanges}
+use Rattle.cron_fires.specs.declared.changes.ClockChanges.{ClockChanges}
 use Rattle.cron_agenda.specs.declared.fire.EntryFire.{EntryFire}
 use Rattle.cron_agenda.specs.Entries.{Adds, IsTaken, Listed, without}
 use Rattle.cron_agenda.specs.Fires.{fires_after, fires_past}

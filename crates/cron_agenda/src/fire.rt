@@ -6,19 +6,10 @@ ghost use Rattle.cron_agenda.specs.Fires.{fires_after, fires_past, instant};
 
 use cron::schedule::Moment;
 use cron_dues::fire::due_second;
-use cron_fires::{DueFire, Timetable};
+use cron_fires::{ClockChanges, DueFire, Timetable};
 use cron_moments::moment::instant_of;
 use jiff::Timestamp;
 use jiff::tz::TimeZone;
-
-/// When an entry fires where a clock changes.
-#[derive(Clone, Copy, Debug, PartialEq, Eq)]
-pub enum ClockChanges {
-    /// Each time that the clock shows a match.
-    AsShown,
-    /// Each match once.
-    Once,
-}
 
 /// A fire of an entry, by the rule that the entry has.
 #[derive(Clone, Copy, Debug, PartialEq, Eq)]

@@ -13,4 +13,4 @@ mod slots;
 pub use agenda::Agenda;
 pub use entry::Entry;
 pub use error::{AddError, ZoneMissing};
-pub use fire::{AgendaFire, ClockChanges, EntryFire};
+pub use fire::{AgendaFire, EntryFire};

@@ -6,8 +6,8 @@
 
 use anyhow::{Context, Result, bail, ensure};
 use cron::Schedule;
-use cron_agenda::{AddError, Agenda, AgendaFire, ClockChanges, EntryFire, ZoneMissing};
-use cron_fires::{Union, fields_of};
+use cron_agenda::{AddError, Agenda, AgendaFire, EntryFire, ZoneMissing};
+use cron_fires::{ClockChanges, Union, fields_of};
 use cron_units::fields::ScheduleFields;
 use jiff::Timestamp;
 use jiff::tz::TimeZone;

@@ -7,8 +7,9 @@ mod late_clock;
 #[cfg(test)]
 mod tests;
 
+use cron_fires::ClockChanges;
 use cron_ringing::answer::{Status, answer};
-use cron_ringing::arguments::{ClockChanges, Request};
+use cron_ringing::arguments::Request;
 use cron_ringing::printer::Printer;
 use cron_ringing::ring::{Failure, ring};
 use cron_scheduler::{MachineClock, Stop};

@@ -24,12 +24,14 @@ use cron_units::fields::ScheduleFields;
 use jiff::Timestamp;
 use jiff::tz::TimeZone;
 
+mod changes;
 mod dues;
 mod fire;
 pub mod laws;
 mod runs;
 mod timetables;
 
+pub use changes::ClockChanges;
 pub use cron_dues::fire::DueFire;
 pub use dues::{Dues, first_due_after, first_due_past, last_due_by, missed_dues};
 pub use fire::Fire;

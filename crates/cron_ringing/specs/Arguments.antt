@@ -4,8 +4,8 @@ use Rattle.std.specs.Str.Parse.{digits_value}
 use Rattle.jiff.specs.Words.{plain_zone}
 use Rattle.cron_moments.specs.Zones.{NamesZone, IsZoneOf}
 use Rattle.cron_listing.specs.Arguments.{IsCount}
-use Rattle.cron_ringing.specs.declared.arguments.ClockChanges.{ClockChanges}
-use Rattle.cron_ringing.specs.declared.arguments.ClockChanges.TheVariants.{AsShown, Once}
+use Rattle.cron_fires.specs.declared.changes.ClockChanges.{ClockChanges}
+use Rattle.cron_fires.specs.declared.changes.ClockChanges.TheVariants.{AsShown, Once}
 use Rattle.cron_ringing.specs.declared.arguments.Request.{Request}
 
 -- the request is what the arguments say

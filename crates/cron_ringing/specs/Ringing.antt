@@ -15,8 +15,8 @@ use Rattle.cron_scheduler.specs.declared.stop.Stop.TheVariants.{Clock}
 use Rattle.cron_scheduler.specs.Plans.{planned}
 use Rattle.cron_scheduler.specs.Runs.{ClockCalls, stop_text}
 use Rattle.cron_units.specs.Texts.{error_text}
-use Rattle.cron_ringing.specs.declared.arguments.ClockChanges.{ClockChanges}
-use Rattle.cron_ringing.specs.declared.arguments.ClockChanges.TheVariants.{AsShown, Once}
+use Rattle.cron_fires.specs.declared.changes.ClockChanges.{ClockChanges}
+use Rattle.cron_fires.specs.declared.changes.ClockChanges.TheVariants.{AsShown, Once}
 use Rattle.cron_ringing.specs.declared.arguments.Request.{Request}
 use Rattle.cron_ringing.specs.declared.printer.Printer.{Printer}
 use Rattle.cron_ringing.specs.declared.printer.WriteFailed.{WriteFailed}

@@ -5,18 +5,10 @@ ghost use Rattle.cron_listing.specs.Arguments.{IsCount};
 ghost use Rattle.cron_moments.specs.Zones.{NamesZone};
 ghost use Rattle.cron_ringing.specs.Arguments.{IsReadable, IsRead, Asks};
 
+use cron_fires::ClockChanges;
 use cron_listing::arguments::count_of;
 use cron_moments::zone::zone_of;
 use jiff::tz::TimeZone;
-
-/// What is rung at where a clock changes.
-#[derive(Clone, Copy, Debug, PartialEq, Eq)]
-pub enum ClockChanges {
-    /// Each time that the clock shows a match.
-    AsShown,
-    /// Each match once.
-    Once,
-}
 
 /// What is asked for: the first so many fires of an expression in a zone.
 #[derive(Drop)]

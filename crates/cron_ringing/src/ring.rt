@@ -8,13 +8,13 @@ ghost use Rattle.cron_scheduler.specs.Runs.{clock_calls};
 ghost use Rattle.cron_ringing.specs.Printing.{Prints, writer_calls};
 ghost use Rattle.cron_ringing.specs.Ringing.{PrintsAfter, Rings, asked};
 
-use crate::arguments::{ClockChanges, Request};
+use crate::arguments::Request;
 use crate::lined::Lined;
 use crate::printer::{Printer, WriteFailed, print_fires};
 use cron::Schedule;
 use cron::error::Error as ReadError;
 use cron::schedule::Moment;
-use cron_fires::DueFire;
+use cron_fires::{ClockChanges, DueFire};
 use cron_scheduler::{AlarmClock, Plan, Start, Stop};
 use cron_writer::watchable::Watchable;
 use jiff::Timestamp;

@@ -9,8 +9,8 @@ use Rattle.cron_agenda.specs.Entries.{Adds, Listed}
 use Rattle.cron_agenda.specs.Fires.{fires_after}
 use Rattle.cron_agenda.specs.declared.error.AddError.{AddError}
 use Rattle.cron_agenda.specs.declared.error.AddError.TheVariants.{NoFires}
-use Rattle.cron_agenda.specs.declared.fire.ClockChanges.{ClockChanges}
-use Rattle.cron_agenda.specs.declared.fire.ClockChanges.TheVariants.{AsShown, Once}
+use Rattle.cron_fires.specs.declared.changes.ClockChanges.{ClockChanges}
+use Rattle.cron_fires.specs.declared.changes.ClockChanges.TheVariants.{AsShown, Once}
 use Rattle.cron_tab_listing.specs.Tabs.{IsTab, schedules_in, schedules_of}
 use Rattle.cron_tab_listing.specs.declared.tab_entry.TabEntry.{TabEntry}
 use Rattle.cron_tab_listing.specs.declared.adding.Clock.{Clock}

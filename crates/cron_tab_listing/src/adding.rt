@@ -7,7 +7,8 @@ ghost use Rattle.cron_tab_warnings.specs.Files.{is_zone};
 ghost use Rattle.cron_tab_listing.specs.Adding.{AddsLine, AddsLines, changes_of, start_of};
 
 use crate::tab_entry::TabEntry;
-use cron_agenda::{AddError, Agenda, ClockChanges};
+use cron_agenda::{AddError, Agenda};
+use cron_fires::ClockChanges;
 use cron_tab_lines::{FileLine, Line, Lines, Refusal};
 use cron_tab_warnings::{follows_clock, text_of};
 use jiff::Timestamp;

@@ -4,7 +4,8 @@
 #![tactic(auto)]
 
 use anyhow::{Context, Error, Result, anyhow, ensure};
-use cron_agenda::{Agenda, ClockChanges};
+use cron_agenda::Agenda;
+use cron_fires::ClockChanges;
 use cron_tab_lines::{Crontab, Lines};
 use cron_tab_listing::{Clock, TabFire, add_lines, list_fires};
 use jiff::Timestamp;

@@ -1,0 +1,10 @@
+//! Which rule at clock changes, as a value.
+
+/// When a schedule fires where a clock changes.
+#[derive(Clone, Copy, Debug, PartialEq, Eq)]
+pub enum ClockChanges {
+    /// Each time that the clock shows a match.
+    AsShown,
+    /// Each match once.
+    Once,
+}
