@@ -1,6 +1,6 @@
 //! `cron_alarm EXPRESSION ZONE COUNT` prints a line at each of the next fires of a cron expression,
-//! when it comes; with `--once` behind them each match once, also where the clock changes. With no
-//! arguments it shows the fold and the gap of Chicago's 2022 on a clock of its own.
+//! when it comes. With `--once` behind them each match comes once, also where the clock changes.
+//! With no arguments it shows the fold and the gap of Chicago's 2022 on a clock of its own.
 #![tactic(auto)]
 
 mod late_clock;

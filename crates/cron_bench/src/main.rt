@@ -1,10 +1,13 @@
-//! `cron_bench run` prints what a parse and a call of a walk cost, in nanoseconds;
-//! `cron_bench growth` what parses of longer and longer lists cost; `cron_bench lines` what each of
-//! 100,000 varied lines costs, and of the lines that `cron_check` checks; `cron_bench print` those
-//! lines; and `cron_bench turn FILE` what runs cost around a turn of the zone in a file;
-//! `cron_bench unions` what a fire of two schedules as one costs. With no word it prints nothing.
-//! At other words, and where a text, a zone or a file is refused, it ends with an error and the
-//! status 1.
+//! Prints what calls cost, in nanoseconds:
+//!
+//! - `cron_bench run`: a parse, and a call of a walk;
+//! - `cron_bench growth`: parses of longer and longer lists;
+//! - `cron_bench lines`: each of 100,000 varied lines, and of lines as `cron_check` checks them;
+//! - `cron_bench turn FILE`: runs and first fires around a transition of the zone in a file;
+//! - `cron_bench unions`: a fire of two schedules as one.
+//!
+//! `cron_bench print` prints the varied lines. With no word it prints nothing. At other words, and
+//! where a text, a zone or a file is refused, it ends with an error and the status 1.
 #![tactic(auto)]
 
 mod calls;

@@ -1,4 +1,4 @@
-//! What runs around a turn of a zone cost, in the zone from a file and by Chicago's rule.
+//! What runs around a transition of a zone cost, in the zone from a file and by Chicago's rule.
 
 use crate::calls::Call;
 use crate::rounds::least_cost;
@@ -41,11 +41,11 @@ const FIRST_CALLS: [(Call, &str); 2] = [
     (Call::FirstFire, "first fire"),
 ];
 
-/// How long before the turn a run starts: half of a million seconds.
+/// How long before the transition a run starts: half of a million seconds.
 const RUN_UP: i64 = 500_000;
 
-/// Where the first fires are asked for, by seconds from the turn: far before it, in the hour before
-/// it, at it, in the hour after it, and far after it.
+/// Where the first fires are asked for, by seconds from the transition: far before it, in the hour
+/// before it, at it, in the hour after it, and far after it.
 const PLACES: [(&str, i64); 5] = [
     ("far before", -10_000_000),
     ("before", -1_800),
@@ -54,7 +54,7 @@ const PLACES: [(&str, i64); 5] = [
     ("far after", 5_000_000),
 ];
 
-/// A zone under its name in a row, and the second of the turn.
+/// A zone under its name in a row, and the second of the transition.
 #[derive(Drop)]
 struct Setting<'z> {
     name: &'static str,
@@ -63,7 +63,7 @@ struct Setting<'z> {
 }
 
 impl<'z> Setting<'z> {
-    /// The instant so many seconds after the turn.
+    /// The instant so many seconds after the transition.
     fn instant(&self, seconds: i64) -> Result<Timestamp> {
         Ok(Timestamp::from_second(self.turn.saturating_add(seconds))?)
     }
@@ -131,7 +131,7 @@ fn time_zone(rt: &HostRuntime, setting: &Setting<'_>) -> Result<()> {
     time_firsts(rt, setting)
 }
 
-/// The second of the first turn of a zone after June of 2022.
+/// The second of the first transition of a zone after June of 2022.
 fn turn_of(zone: &TimeZone<'_>) -> Result<i64> {
     let july = "2022-07-01T00:00:00Z".parse::<Timestamp>()?;
     let turn = zone
@@ -141,8 +141,8 @@ fn turn_of(zone: &TimeZone<'_>) -> Result<i64> {
     Ok(turn.timestamp().as_second())
 }
 
-/// Prints what runs and first fires cost around a turn of the zone in a file, and around that turn
-/// by Chicago's rule.
+/// Prints what runs and first fires cost around a transition of the zone in a file, and around that
+/// one by Chicago's rule.
 pub fn run(rt: &HostRuntime, path: &str) -> Result<()> {
     let bytes = fs::read(rt, path).context(path)?;
     let table = Tzif::parse(rt.alloc(), None, bytes.as_slice()).context(path)?;

@@ -9,8 +9,8 @@ use crate::check::{Outcome, finish};
 use cron_writer::watchable::Watchable;
 use cron_writer::watched::{Watched, send};
 
-/// Writes a line and flushes, and answers the given end, which is no failed write, unless one of
-/// both failed: then that is the end. No call of the writer may have failed before. It takes no
+/// Writes a line and flushes. It answers the given end, which is no failed write; or, where the
+/// write or the flush failed, that end. No call of the writer may have failed before. It takes no
 /// memory.
 pub fn say<W: Watchable>(out: &mut Watched<W>, line: &str, end: Outcome) -> Outcome
     requires fresh { has_failed out.old ≡ false }

@@ -98,7 +98,7 @@ pub(crate) fn push_sets(text: &mut String, fields: &ScheduleFields) -> Result<()
     push_numbers(text, &fields.years)
 }
 
-/// The canonical text of a schedule: seven fields with one space between two, each a star, or its
+/// The canonical text of a schedule: seven fields with one space between two. Each is a star, or its
 /// runs of numbers as `0-4,30`, with `L` last among the days of the month. It means the sets of the
 /// schedule, and two schedules have one canonical text exactly if their sets are the same.
 /// `AllocError` comes where the allocator refuses memory for the text.

@@ -1,4 +1,5 @@
-//! Fires, of which the type is the rule.
+//! `Fire`: a moment or a due fire, whose type tells by which rule a schedule fires. Calls that find
+//! moments stand in `lib.rt`, and those that find due fires in `dues.rt`.
 ghost use Rattle.std.specs.Prelude.{◌≡◌, ◌*ℤ◌, ℤ, pos, List};
 ghost use Rattle.jiff.specs.Words.{plain_zone};
 ghost use Rattle.jiff_tz.specs.declared.timezone.TimeZone.{TimeZone};
@@ -44,7 +45,7 @@ pub trait Fire: Copy {
     fn never_decrease()
         ensures { FiresNeverDecrease at after past };
 
-    /// A law: behind each of some fires come those past it.
+    /// A law: in a list of such fires, what stands behind one of them is the list of those past it.
     fn go_on_past()
         ensures { FiresGoOn after past };
 }

@@ -6,6 +6,7 @@ use cron_fires::{Fires, first_fire_after, first_fire_past, last_fire_by};
 use jiff::Timestamp;
 use jiff::tz::TimeZone;
 
+/// The calls by instants, with a line after each.
 pub fn run(rt: &HostRuntime, schedule: &Schedule) -> Result<(), Error> {
     let zone = TimeZone::posix("CST6CDT,M3.2.0,M11.1.0")?;
     let start: Timestamp = "2022-11-06T05:30:00Z".parse()?;

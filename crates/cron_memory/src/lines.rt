@@ -8,6 +8,7 @@ use jiff::Timestamp;
 use jiff::tz::TimeZone;
 use std::io;
 
+/// Pages and the calls of a watched writer, with a line after each.
 pub fn run(rt: &HostRuntime, schedule: &Schedule) -> Result<(), Error> {
     let zone = TimeZone::UTC;
     let start: Timestamp = "2024-01-01T00:00:00Z".parse()?;

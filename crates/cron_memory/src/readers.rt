@@ -7,7 +7,7 @@ use std::ops::Bound;
 
 const TEXT: &str = "0 0,30 1-3 6,L * ?";
 
-// The schedule that the other calls are made of.
+/// The schedule that the other calls are made of.
 pub fn run(rt: &HostRuntime) -> Result<Schedule, Error> {
     let text = String::from_str(rt.alloc(), TEXT)?;
     let other = String::from_str(rt.alloc(), TEXT)?;

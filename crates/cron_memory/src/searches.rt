@@ -6,6 +6,7 @@ use cron::schedule::Moment;
 use jiff::civil::DateTime;
 use jiff::tz::TimeZone;
 
+/// The searches and the calls of a moment, with a line after each.
 pub fn run(rt: &HostRuntime, schedule: &Schedule) -> Result<(), Error> {
     let zone = TimeZone::posix("CST6CDT,M3.2.0,M11.1.0")?;
     let from: DateTime = "2022-11-06T00:00:00".parse()?;

@@ -5,6 +5,7 @@ use cron::{OwnedScheduleIterator, Schedule};
 use jiff::Timestamp;
 use jiff::tz::TimeZone;
 
+/// The calls of walks, with a line after each.
 pub fn run(rt: &HostRuntime, schedule: &Schedule) -> Result<(), Error> {
     let zone = TimeZone::posix("CST6CDT,M3.2.0,M11.1.0")?;
     let start: Timestamp = "2022-11-06T05:30:00Z".parse()?;

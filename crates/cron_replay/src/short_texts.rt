@@ -6,7 +6,7 @@
 //!
 //! A row has a form, a bar, and after a space each the short texts that are accepted in place of
 //! the braces of the form. So each of the others must be refused. The rows were made by version
-//! 0.17.0 of the Rust crate `cron`, which was given each of the short texts in each form; those
+//! 0.17.0 of the Rust crate `cron`, which was given each of the short texts in each form. Those
 //! with an `L`, which it refuses, were added by the rule for the last day of a month.
 
 use crate::characters::stand_in_for;

@@ -1,10 +1,10 @@
 //! The fires between two instants. A row has five parts: the expression, the zone, the two instants
 //! and the fires after the first and not after the second, or `none`.
 //!
-//! The answers of `fires_between.txt` are those of the zone database of an ordinary system (2025b):
-//! of each second about the turns of 2025 and 2026 it was asked what the clock shows. Those of
-//! `fires_counted_by_hand.txt` were counted by hand, from the offsets of the rule and the ends of
-//! the range.
+//! The answers of `fires_between.txt` are those of the zone database of an ordinary system (2025b).
+//! Of each second about the transitions of 2025 and 2026 it was asked what the clock shows. Those
+//! of `fires_counted_by_hand.txt` were counted by hand, from the offsets of the rule and the ends
+//! of the range.
 
 use crate::report::{Report, Row, cut};
 use crate::settings::{Setting, case_of, setting_of, start_at};

@@ -4,15 +4,16 @@
 //! The days of the month have an `L` behind them where their last one is marked.
 //!
 //! The answers of the files of shorthands, units, names, faults, spaces and random texts were made
-//! by version 0.17.0 of the Rust crate `cron`; it has no message of its own for a text outside its
+//! by version 0.17.0 of the Rust crate `cron`. It has no message of its own for a text outside its
 //! grammar, so `Invalid cron expression.` was written for it. It refuses `L` in days of the month,
 //! `@annually` and `@midnight`: the few texts with these have the answers that the rules for them
 //! give.
 //!
 //! The texts were chosen for each rule and each unit: the least and the greatest value and one
-//! beyond, leading zeros, the greatest numbers that a word of 32 bits holds, ranges, steps, lists,
-//! names in each spelling, white space at each place, and texts with several faults. The random
-//! ones were made by chance, half of them by changing a few characters of a text that is read.
+//! beyond, leading zeros, and the greatest numbers that a word of 32 bits holds. There are ranges,
+//! steps, lists, names in each spelling, white space at each place, and texts with several faults.
+//! The random ones were made by chance, half of them by changing a few characters of a text that is
+//! read.
 
 use crate::answers::{kept_text, outcome};
 use crate::characters::text_of_row;

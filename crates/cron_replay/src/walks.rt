@@ -1,21 +1,28 @@
-//! Walks and their answers. A row has five parts: the expression; the zone, as `UTC`, a place,
-//! `fixed` and the seconds ahead of UTC, or a rule for the turns of a year; the start; the calls,
-//! `>` for the next item and `<` for the one before; and the answers to these calls.
+//! Walks and their answers. A row has five parts:
+//!
+//! - the expression;
+//! - the zone, as `UTC`, a place, `fixed` and the seconds ahead of UTC, or a rule text;
+//! - the start;
+//! - the calls, `>` for the next item and `<` for the one before;
+//! - the answers to these calls.
 //!
 //! The answers of `walks_utc.txt`, `walks_fixed.txt` and `walks_rules.txt` were made by version
 //! 0.17.0 of the Rust crate `cron`. Their starts were chosen on items, between them and far from
-//! them, with and without a part of a second, at the turns of the zones, and before the first year
-//! and after the last one. The walks of the three files `walks_mended_*.txt` are answered wrongly
-//! by that crate, and their answers were made by a copy in which three faults are mended; to all
-//! others the copy answers alike.
+//! them, with and without a part of a second. Others lie at the transitions of the zones, before
+//! the first year and after the last one.
+//!
+//! The walks of the three files `walks_mended_*.txt` are answered wrongly by that crate. Their
+//! answers were made by a copy in which three faults are mended; to all others the copy answers
+//! alike.
 //!
 //! - Late starts: the crate keeps the month, the day and the time of the start when it goes back to
 //!   an earlier year, so it misses the items late in that year.
 //! - Early starts: it takes a year below 0 for one far ahead.
-//! - Turns: it keeps the other reading of an hour that a clock shows twice when a walk turns round.
+//! - Turns: it keeps the other reading of an hour that a clock shows twice where the calls change
+//!   their direction.
 //!
-//! `walks_zone_turns.txt` has the turns of 2025 and 2026 in twelve places, and some midnights of
-//! places that don't turn, as the zone database of an ordinary system tells them (2025b).
+//! `walks_zone_turns.txt` has the transitions of 2025 and 2026 in twelve places, and some midnights
+//! of places without one, as the zone database of an ordinary system tells them (2025b).
 //!
 //! `walks_of_eight_calls.txt` has every list of eight calls from four starts about a fold of four
 //! items, with what an index answers that is moved along these items.

@@ -89,8 +89,9 @@ abbrev pub EndsBy : {A E F : Type 0} → List (Event A E F) → Result ⊤ (Stop
 EndsBy [] answer = answer ≡ Ok tt
 EndsBy (e ∷ es) answer = MatchOption (failure e) (EndsBy es answer) (λ stop. (es ≡ []) × (answer ≡ Err stop))
 
--- What was run in the end: all that was due; where nothing failed all of the fires, unless the clock was read 2^64 - 1 times,
--- and no wait came last; and where the job failed a beginning of what was due, since it failed for the last one that was run.
+-- What was run in the end. Where nothing failed it is all that was due, which is all of the fires unless the clock was read
+-- 2^64 - 1 times, and no wait came last. Where the clock failed it is all that was due. Where the job failed it is a beginning of
+-- that, up to and with the fire for which it failed.
 abbrev pub RunsWhole : {A E F : Type 0} → (A → ℤ) → Result ⊤ (Stop E F) → List A → List (Event A E F) → Type 0
 RunsWhole instant (Ok done) fires es = (ran es ≡ due instant fires es) × ((ran es ≡ fires) ⊎ (length (shown es) ≡ 2 ^ 64 - 1)) × (HasWaited es → ⊥)
 RunsWhole instant (Err (Clock e)) fires es = ran es ≡ due instant fires es

@@ -1,5 +1,5 @@
-//! Runs a job at each fire of a schedule, over any clock that can wait: each fire once, in order,
-//! none before its instant, and none lost, however the clock goes.
+//! Runs a job at each fire of a schedule, over any clock that can wait. Each fire is run once, in
+//! order, none before its instant, and none is lost, however the clock goes.
 //!
 //! ```text
 //! let mut clock = MachineClock(&rt);

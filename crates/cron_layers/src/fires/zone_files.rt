@@ -1,4 +1,4 @@
-//! Fires in a zone from a file whose clock turns each half hour, forth and back by half an hour.
+//! Fires in a zone from a file whose clock changes each half hour, forth and back by half an hour.
 
 use super::seconds;
 use cron::Schedule;
