@@ -1,5 +1,5 @@
 -- Up to the next transition of a zone, and to the end of the year, a clock keeps its offset.
-use Rattle.std.proofs.Common.{◌≡◌, ℕ, ◌<◌, ◌==◌, Bool, true, false, ℤ, ◌≤ℤ◌, ◌<ℤ◌, int_le, length, get_or, Option, Some, None, refl, ap, ◌∙◌, arith, cond, vec_len}
+use Rattle.std.proofs.Common.{◌≡◌, ◌⊎◌, inl, inr, ℕ, ◌<◌, ◌==◌, Bool, true, false, ℤ, pos, ◌≤ℤ◌, ◌<ℤ◌, int_le, length, get_or, Option, Some, None, refl, ap, ◌∙◌, arith, cond, vec_len}
 use Rattle.std.proofs.lemmas.List.Sums.{prefix_len_is, prefix_len_passes, prefix_len-le-length}
 use Rattle.jiff_core.proofs.SignedLemmas.{signed_arith}
 use Rattle.jiff_core.specs.Timestamp.{nanos_of_seconds}
@@ -17,7 +17,8 @@ use Rattle.jiff_tz.specs.Zone.{offset_at, next_at}
 use Rattle.jiff_tz.specs.Year.{year_of_nanos}
 use Rattle.cron_clocks.proofs.Windows.{le_yes, le_no}
 use Rattle.cron_instants.proofs.FireLemmas.{int_le-true}
-use Rattle.cron_dues.specs.Inner.Steady.{IsShortOf}
+use Rattle.cron_dues.specs.Clock.Due.{clock_of}
+use Rattle.cron_dues.specs.Inner.Steady.{IsKept, IsShortOf}
 use Rattle.cron_dues.proofs.SteadyLemmas.{lowest, highest, rule_kept}
 
 -- ---- tables
@@ -82,3 +83,14 @@ zone_kept Unknown n k le low high year h = refl
 zone_kept (Fixed offset) n k le low high year h = refl
 zone_kept (Posix tz) n k le low high year h = ap (λ o. o.seconds) (rule_kept tz n k le low high year h)
 zone_kept (Tzif z) n k le low high year h = ap (λ o. o.seconds) (table_kept z.now n k le low high year h)
+
+-- ---- zones with one offset
+
+pub utc_kept : (z : TimeZone) → (z ≡ UTC) ⊎ (z ≡ Unknown) → (n end : ℤ) → IsKept (clock_of z) n end (pos 0)
+unfolding offset_at
+utc_kept z (inl e) n end k low high = rw e refl
+utc_kept z (inr e) n end k low high = rw e refl
+
+pub fixed_kept : (z : TimeZone) (o : Offset) → z ≡ Fixed o → (n end : ℤ) → IsKept (clock_of z) n end o.seconds
+unfolding offset_at
+fixed_kept z o e n end k low high = rw e refl

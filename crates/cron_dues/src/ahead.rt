@@ -1,32 +1,44 @@
-//! The due fire that comes next, by what is known of the one before it.
-ghost use Rattle.std.specs.Prelude.{◌≡◌, ℕ, ◌<◌, ◌≤◌, pos, ◌≤ℤ◌, ◌<ℤ◌, IfSome};
+//! The due fire that comes next, by what is known after the one before it.
+ghost use Rattle.std.specs.Prelude.{◌≡◌, ℕ, ◌<◌, ◌≤◌, pos, ◌≤ℤ◌, ◌<ℤ◌, false, IfSome};
 ghost use Rattle.cron_moments.specs.Civil.{seconds_in_range};
 ghost use Rattle.cron_time.specs.Matches.{is_match};
 ghost use Rattle.cron_time.specs.Search.Inner.MonthDays.{KnowsDays};
 ghost use Rattle.cron_units.specs.Nearest.{IsNearest};
 ghost use Rattle.cron_units.specs.declared.way.Way.TheVariants.{Ahead};
 ghost use Rattle.cron_dues.specs.Clock.Due.{due};
-ghost use Rattle.cron_dues.specs.Inner.Known.{IsKnown, IsNextDue, IsPast, IsShownBehind};
-ghost use Rattle.cron_dues.specs.Inner.Reached.{IsAhead};
+ghost use Rattle.cron_dues.specs.Inner.Known.{AreDueFrom, IsKnown, IsNextDue, IsPastIfKnown};
+ghost use Rattle.cron_dues.specs.Inner.Reached.{IsAhead, ends_before};
 
 use crate::clock::Clock;
 use crate::fire::{DueFire, due_fire};
 use crate::steady::DueSpan;
-use crate::way_to::due_past;
+use crate::way_to::span_of;
 use cron_time::search::civil_seconds::{match_past, nearest_match};
 use cron_time::search::month_days::MonthDays;
 use cron_units::fields::ScheduleFields;
 use cron_units::way::Way;
 use jiff::tz::Offset;
 
-/// What is known of a due fire: its civil second, which matches; and that those behind it, from a first one
-/// up to an end, are due when the clock shows them, at this offset.
+/// What is known of the civil seconds from one on, up to an end: each is due at this offset, when
+/// the clock shows it, or shows the first where it skips it.
 #[derive(Clone, Copy)]
-pub(crate) struct Known {
-    pub second: u32,
+pub struct Known {
     pub first: u32,
     pub end: u32,
     pub offset: Offset,
+}
+
+impl Known {
+    /// Nothing is known.
+    pub fn nothing() -> Known
+        ensures { result.end ≡ 0 }
+    {
+        Known {
+            first: 0,
+            end: 0,
+            offset: Offset::UTC,
+        }
+    }
 }
 
 // The number of a civil second, or the nearest one that a word holds.
@@ -43,90 +55,106 @@ fn clamp(number: i64) -> u32
     number as u32
 }
 
-// What is known of the due fire of a civil second.
+// What is known from a civil second on.
 fn known_of<C: Clock>(_clock: &C, second: u32, span: &DueSpan) -> Known
+    requires range { second < seconds_in_range }
     requires ahead { IsAhead (C.offsets _clock.now) second span.now.from span.now.steady }
-    ensures second { result.second ≡ second }
-    ensures shown { IsShownBehind (C.offsets _clock.now) second result }
+    requires shown { ends_before span.now.steady second ≡ false }
+    ensures due { AreDueFrom (C.offsets _clock.now) (pos second) result }
+    ensures own { second < result.end }
 {
     Known {
-        second,
         first: clamp(span.steady.shown(span.from)),
         end: clamp(span.steady.shown(span.steady.end)),
         offset: span.steady.offset,
     }
 }
 
-// The due fire of a civil second, and what is known of it.
+// The clock is asked what is known from a civil second on, that one included.
 #[inline(never)]
-fn fresh_due<C: Clock>(clock: &C, second: u32) -> (DueFire, Known)
+fn learn<C: Clock>(clock: &C, second: u32, known: &mut Known)
     requires { second < seconds_in_range }
-    ensures due { result.0 ≡ due (C.offsets clock.now) second }
-    ensures second { result.1.second ≡ second }
-    ensures shown { IsShownBehind (C.offsets clock.now) second result.1 }
+    ensures due { AreDueFrom (C.offsets clock.now) (pos second) known.new }
+    ensures own { second < known.new.end }
 {
-    let (fire, span) = due_past(clock, second, None);
-    (fire, known_of(clock, second, &span))
+    *known = known_of(clock, second, &span_of(clock, second));
 }
 
-// The nearest civil second that matches, from a number on. Behind one that is known the days of the month
-// tell it.
+// The clock is asked only where nothing is known of the civil second.
+#[inline(always)]
+fn extend<C: Clock>(clock: &C, second: u32, known: &mut Known)
+    requires range { second < seconds_in_range }
+    requires known { AreDueFrom (C.offsets clock.now) (pos second) known.old }
+    ensures due { AreDueFrom (C.offsets clock.now) (pos second) known.new }
+    ensures own { second < known.new.end }
+{
+    if second >= known.end {
+        learn(clock, second, known);
+    }
+}
+
+// The due fire of a civil second of which this is known.
+#[inline(always)]
+fn known_due<C: Clock>(_clock: &C, second: u32, known: &Known) -> DueFire
+    requires range { second < seconds_in_range }
+    requires known { AreDueFrom (C.offsets _clock.now) (pos second) known.now }
+    requires own { second < known.now.end }
+    ensures { result ≡ due (C.offsets _clock.now) second }
+{
+    due_fire(second, known.first.saturating_sub(second), known.offset)
+}
+
+/// The due fire of a civil second. From that one on something may be known before, and more after.
+#[inline(always)]
+pub fn due_ahead<C: Clock>(clock: &C, second: u32, known: &mut Known) -> DueFire
+    requires range { second < seconds_in_range }
+    requires known { AreDueFrom (C.offsets clock.now) (pos second) known.old }
+    ensures due { result ≡ due (C.offsets clock.now) second }
+    ensures known { AreDueFrom (C.offsets clock.now) (pos second) known.new }
+    ensures own { second < known.new.end }
+{
+    extend(clock, second, known);
+    known_due(clock, second, known)
+}
+
+// The nearest civil second that matches, from a number on. Past one that does the days of the
+// month tell it.
 #[inline(always)]
 fn next_match(
     fields: &ScheduleFields,
     from: i64,
-    known: &Option<Known>,
+    known: &Known,
     days: &mut MonthDays,
 ) -> Option<u32>
-    requires known { IfSome known.now (λ k. IsPast fields.now k.second from) }
+    requires known { IsPastIfKnown fields.now from known.now }
     requires days { KnowsDays fields.now days.old }
     ensures nearest { IsNearest Ahead (is_match fields.now) from result }
     ensures bound { IfSome result (λ n. n < seconds_in_range) }
     ensures days { KnowsDays fields.now days.new }
 {
-    match known {
-        Some(known) => match_past(fields, Way::Ahead, known.second, days),
-        None => nearest_match(fields, Way::Ahead, from),
+    if known.end == 0 {
+        return nearest_match(fields, Way::Ahead, from);
     }
+    match_past(fields, Way::Ahead, (from - 1) as u32, days)
 }
 
-// The due fire of a civil second behind one that is known, and what is known of it.
-#[inline(always)]
-fn due_behind<C: Clock>(clock: &C, second: u32, known: Known) -> (DueFire, Known)
-    requires range { second < seconds_in_range }
-    requires behind { known.second ≤ second }
-    requires shown { IsShownBehind (C.offsets clock.now) known.second known }
-    ensures due { result.0 ≡ due (C.offsets clock.now) second }
-    ensures second { result.1.second ≡ second }
-    ensures shown { IsShownBehind (C.offsets clock.now) second result.1 }
-{
-    if second < known.first || second >= known.end {
-        return fresh_due(clock, second);
-    }
-    (due_fire(second, 0, known.offset), Known { second, ..known })
-}
-
-/// The due fire of the nearest civil second that matches, from a number on, and what is known of it. Where
-/// the one before it is known, that number is the next one.
+/// The due fire of the nearest civil second that matches, from a number on. Where something is
+/// known, that number is past a match.
 #[inline(always)]
 pub(crate) fn next_due<C: Clock>(
     fields: &ScheduleFields,
     clock: &C,
     from: i64,
-    known: Option<Known>,
+    known: &mut Known,
     days: &mut MonthDays,
-) -> (Option<DueFire>, Option<Known>)
-    requires known { IsKnown fields.now (C.offsets clock.now) from known }
+) -> Option<DueFire>
+    requires known { IsKnown fields.now (C.offsets clock.now) from known.old }
     requires days { KnowsDays fields.now days.old }
-    ensures next { IsNextDue fields.now (C.offsets clock.now) from result.0 result.1 }
+    ensures next { IsNextDue fields.now (C.offsets clock.now) from result known.new }
     ensures days { KnowsDays fields.now days.new }
 {
-    let Some(second) = next_match(fields, from, &known, days) else {
-        return (None, None);
+    let Some(second) = next_match(fields, from, known, days) else {
+        return None;
     };
-    let (fire, known) = match known {
-        Some(known) => due_behind(clock, second, known),
-        None => fresh_due(clock, second),
-    };
-    (Some(fire), Some(known))
+    Some(due_ahead(clock, second, known))
 }

@@ -7,13 +7,14 @@ ghost use Rattle.cron_dues.specs.Inner.Steady.{IsKept};
 use crate::steady::{Steady, steady_in};
 use jiff::tz::TimeZone;
 
-/// A clock. Contracts see how far it is ahead of UTC at each whole second since 1970-01-01T00:00:00Z.
+/// A clock. Contracts see how far it is ahead of UTC at each whole second since
+/// 1970-01-01T00:00:00Z.
 pub trait Clock {
     /// Its offset at each second.
     ghost offsets: { Self → due.Clock };
 
-    /// The offset that it has at a second of UTC, and up to where it keeps it. It may change back there, or
-    /// keep it: the end is only one up to which it doesn't change.
+    /// The offset that it has at a second of UTC, and up to where it keeps it. It may change back
+    /// there, or keep it: the end is only one up to which it doesn't change.
     fn steady_from(&self, second: i64) -> Steady
         requires { IsBetween (neg_ℤ (pos 1_000_000)) (pos 8_000_000_000) second }
         ensures kept { IsKept (offsets self.now) second result.end result.offset.seconds }

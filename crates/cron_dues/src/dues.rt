@@ -27,8 +27,8 @@ pub fn nearest_due<C: Clock>(
 
 /// Of the due fires whose instant comes after `now` the first. `None` where there is none.
 ///
-/// A loop goes on from the fire that it ran, by `first_past`: several may share an instant, and this call
-/// answers only the first of them.
+/// A loop goes on from the fire that it ran, by `first_past`: several may share an instant, and
+/// this call answers only the first of them.
 pub fn first_after<C: Clock>(fields: &ScheduleFields, now: Timestamp, clock: &C) -> Option<DueFire>
     ensures { IsFirstDueAfter fields.now (C.offsets clock.now) now.nanosecond result }
 {
@@ -39,8 +39,8 @@ pub fn first_after<C: Clock>(fields: &ScheduleFields, now: Timestamp, clock: &C)
     Some(due_past(clock, second, reach.span).0)
 }
 
-/// Of the due fires past this one the first. `None` where there is none. The one that is handed in may be
-/// none of these sets: its nominal time alone counts.
+/// Of the due fires past this one the first. `None` where there is none. The one that is handed in
+/// may be none of these sets: its nominal time alone counts.
 pub fn first_past<C: Clock>(fields: &ScheduleFields, fire: &DueFire, clock: &C) -> Option<DueFire>
     ensures { IsFirstDuePast fields.now (C.offsets clock.now) fire.now result }
 {

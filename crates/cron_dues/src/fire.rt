@@ -15,8 +15,9 @@ use jiff::civil::DateTime;
 use jiff::tz::Offset;
 use std::marker::Model;
 
-/// A due fire: a matching civil second, which is the nominal time, the instant at which it is due, and how
-/// far the clock is ahead of UTC then. Two fires of one gap share their instant, and no nominal time.
+/// A due fire: a matching civil second, which is the nominal time, the instant at which it is due,
+/// and how far the clock is ahead of UTC then. Two fires of one gap share their instant, and no
+/// nominal time.
 #[derive(Clone, Copy, Debug, PartialEq, Eq)]
 pub struct DueFire {
     second: u32,
@@ -58,8 +59,8 @@ impl DueFire {
         self.offset
     }
 
-    /// By how many seconds what the clock shows at the due instant lies past the nominal time: 0 outside of
-    /// gaps.
+    /// By how many seconds what the clock shows at the due instant lies past the nominal time: 0
+    /// outside of gaps.
     pub fn seconds_past(&self) -> u32
         ensures value { result ≡ self.now.past }
         ensures range { CanBeDue self.now }
@@ -67,7 +68,8 @@ impl DueFire {
         self.past
     }
 
-    /// What the clock shows at the due instant. After the last matches of 2100 that may lie in 2101.
+    /// What the clock shows at the due instant. After the last matches of 2100 that may lie in
+    /// 2101.
     pub fn shown(&self) -> DateTime
         ensures { civil_nanos result ≡ nanos_of_seconds (pos self.now.second +ℤ pos self.now.past) }
     {
@@ -75,13 +77,14 @@ impl DueFire {
     }
 }
 
-/// The furthest that what a clock shows at a due instant can lie past the nominal time: twice the longest
-/// offset.
+/// The furthest that what a clock shows at a due instant can lie past the nominal time: twice the
+/// longest offset.
 const FURTHEST_PAST: u32 = 187_198;
 
-/// A due fire from the number of the civil second that matches, by how many seconds what the clock shows at
-/// the due instant lies past it, and the clock's offset then. `None` where no clock can be so: the civil
-/// second lies outside 1970 to 2100, or what the clock shows lies more than 187,198 seconds past it.
+/// A due fire from the number of the civil second that matches, by how many seconds what the clock
+/// shows at the due instant lies past it, and the clock's offset then. `None` where no clock can be
+/// so: the civil second lies outside 1970 to 2100, or what the clock shows lies more than 187,198
+/// seconds past it.
 pub fn fire_of_parts(second: u32, past: u32, offset: Offset) -> Option<DueFire>
     ensures { MatchOption result
         (CanBeDue (parts second past offset) → ⊥)

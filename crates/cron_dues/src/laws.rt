@@ -1,10 +1,12 @@
-//! Laws over the definitions: the functions do nothing, and a caller calls one for what its contract says.
+//! Laws over the definitions: the functions do nothing, and a caller calls one for what its
+//! contract says.
 
 ghost use Rattle.cron_dues.specs.Clock.Due.{DueInstantsAreFirst, FiresAreDue};
 ghost use Rattle.cron_dues.specs.DueReading.{TextsDiffer};
 ghost use Rattle.cron_dues.specs.DueLaws.{CutListsGoOn, DueInstantsNeverDecrease, FiresAreTheMatches, FirstReadingsAreDue, GapsArePassedOver, NominalSecondsAscend};
 
-/// The due instant of a civil second is the first at which the clock shows it or a later one, by any clock.
+/// The due instant of a civil second is the first at which the clock shows it or a later one, by
+/// any clock.
 pub fn due_instants_are_first()
     ensures { DueInstantsAreFirst }
 {}
@@ -29,8 +31,8 @@ pub fn due_instants_never_decrease()
     ensures { DueInstantsNeverDecrease }
 {}
 
-/// Where the look-ups of a zone agree, a civil second is due at its first reading exactly if the clock
-/// doesn't pass over it.
+/// Where the look-ups of a zone agree, a civil second is due at its first reading exactly if the
+/// clock doesn't pass over it.
 pub fn first_readings_are_due()
     ensures { FirstReadingsAreDue }
 {}

@@ -2,7 +2,7 @@
 //! first instant at which the clock shows it or a later one.
 #![tactic(auto)]
 
-mod ahead;
+pub mod ahead;
 pub mod clock;
 pub mod dues;
 pub mod fire;

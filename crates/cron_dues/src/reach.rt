@@ -42,7 +42,8 @@ fn greatest_by<C: Clock>(clock: &C, second: i64) -> Reach
 
 /// How far a clock has come by an instant.
 pub(crate) fn reach_by<C: Clock>(clock: &C, now: Timestamp) -> Reach
-    ensures reached { IsReachedBy (C.offsets clock.now) (int_div_euclid now.nanosecond (pos 1_000_000_000)) result.second }
+    ensures reached { IsReachedBy (C.offsets clock.now)
+        (int_div_euclid now.nanosecond (pos 1_000_000_000)) result.second }
     ensures bound { IsBetween (neg_ℤ (pos 400_000)) (pos 6_000_000_000) result.second }
     ensures span { LeadsOn (C.offsets clock.now) result.second result.span }
 {
@@ -64,7 +65,8 @@ pub(crate) fn reach_by<C: Clock>(clock: &C, now: Timestamp) -> Reach
 
 /// The number up to which civil seconds of the range are due by an instant.
 pub fn reached_by<C: Clock>(clock: &C, now: Timestamp) -> i64
-    ensures reached { IsReachedBy (C.offsets clock.now) (int_div_euclid now.nanosecond (pos 1_000_000_000)) result }
+    ensures reached { IsReachedBy (C.offsets clock.now)
+        (int_div_euclid now.nanosecond (pos 1_000_000_000)) result }
     ensures bound { IsBetween (neg_ℤ (pos 400_000)) (pos 6_000_000_000) result }
 {
     reach_by(clock, now).second

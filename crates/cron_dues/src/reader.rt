@@ -25,7 +25,8 @@ pub struct NoDueText;
 impl fmt::Display for NoDueText {
     ghost use Rattle.std.specs.Prelude.{Some, codes};
 
-    ghost output = { λ _. Some (codes "it is not the text of a due fire, as 2022-03-13 03:00:00 -05:00 for 02:30:00") };
+    ghost output = { λ _. Some
+        (codes "it is not the text of a due fire, as 2022-03-13 03:00:00 -05:00 for 02:30:00") };
 
     fn fmt<W: fmt::Write>(&self, f: &mut fmt::Formatter<W>) -> fmt::Result {
         f.write_str("it is not the text of a due fire, as 2022-03-13 03:00:00 -05:00 for 02:30:00")
@@ -46,7 +47,9 @@ fn two_at(text: &[u8], at: usize) -> u32
 // The number of the first second of a day, by its date.
 fn midnight_of(text: &[u8]) -> Option<i64>
     requires { length text.now ≡ 10 }
-    ensures { (c : ℕ) → c < 2 ^ 32 → text.now ≡ date_text (civil c).date → result ≡ Some (pos (c / 86_400 * 86_400)) }
+    ensures { (c : ℕ) → c < 2 ^ 32
+        → text.now ≡ date_text (civil c).date
+        → result ≡ Some (pos (c / 86_400 * 86_400)) }
 {
     let year = two_at(text, 0) * 100 + two_at(text, 2);
     let month = two_at(text, 5);
@@ -71,7 +74,10 @@ fn seconds_of_day(text: &[u8]) -> u32
 fn second_of(date: &[u8], time: &[u8]) -> Option<u32>
     requires date { length date.now ≡ 10 }
     requires time { length time.now ≡ 8 }
-    ensures { (c : ℕ) → c < 2 ^ 32 → date.now ≡ date_text (civil c).date → time.now ≡ time_text (civil c).time → result ≡ Some c }
+    ensures { (c : ℕ) → c < 2 ^ 32
+        → date.now ≡ date_text (civil c).date
+        → time.now ≡ time_text (civil c).time
+        → result ≡ Some c }
 {
     let midnight = midnight_of(date)?;
     u32::try_from(midnight.saturating_add(i64::from(seconds_of_day(time)))).ok()
@@ -80,7 +86,8 @@ fn second_of(date: &[u8], time: &[u8]) -> Option<u32>
 // The seconds of an offset, without its sign.
 fn offset_size(text: &[u8]) -> i32
     requires { (length text.now ≡ 6) ⊎ (length text.now ≡ 9) }
-    ensures value { (o : Offset) → text.now ≡ offset_text o.seconds → result ≡ pos (unsigned_abs o.seconds) }
+    ensures value { (o : Offset) → text.now ≡ offset_text o.seconds
+        → result ≡ pos (unsigned_abs o.seconds) }
     ensures bound { IsBetween (pos 0) (pos 10_000_000) result }
 {
     let minutes = two_at(text, 1) * 60 + two_at(text, 4);
@@ -115,7 +122,10 @@ fn offset_end(len: usize) -> Option<usize>
 // The number of the nominal second: the one shown, or a time of that day, or of another day.
 fn nominal_of(text: &[u8], end: usize, shown: u32) -> Option<u32>
     requires { CanEnd (length text.now) end }
-    ensures { (d : Due) → CanBeDue d → text.now ≡ due_text d → shown ≡ d.second + d.past → result ≡ Some d.second }
+    ensures { (d : Due) → CanBeDue d
+        → text.now ≡ due_text d
+        → shown ≡ d.second + d.past
+        → result ≡ Some d.second }
 {
     if text.len() == end {
         return Some(shown);
@@ -128,7 +138,11 @@ fn nominal_of(text: &[u8], end: usize, shown: u32) -> Option<u32>
 
 // The due fire with these numbers.
 fn fire_of(nominal: u32, shown: u32, offset: Offset) -> Option<DueFire>
-    ensures { (d : Due) → CanBeDue d → nominal ≡ d.second → shown ≡ d.second + d.past → offset ≡ d.offset → result ≡ Some d }
+    ensures { (d : Due) → CanBeDue d
+        → nominal ≡ d.second
+        → shown ≡ d.second + d.past
+        → offset ≡ d.offset
+        → result ≡ Some d }
 {
     if shown < nominal {
         return None;
@@ -150,8 +164,8 @@ fn guess(text: &[u8]) -> Option<DueFire>
     fire_of(nominal, shown, offset_of(&text[20..end])?)
 }
 
-/// Reads the text of a due fire, as its `Display` prints it: `2022-03-13 03:00:00 -05:00 for 02:30:00`.
-/// Each other text is refused, also where it only says more or less than it need.
+/// Reads the text of a due fire, as its `Display` prints it: `2022-03-13 03:00:00 -05:00 for
+/// 02:30:00`. Each other text is refused, also where it only says more or less than it need.
 pub fn read(text: &str) -> Result<DueFire, NoDueText>
     ensures text { IfOk result (HasText text.now) }
     ensures only { (d : Due) → HasText text.now d → result ≡ Ok d }
@@ -169,7 +183,8 @@ impl FromStr for DueFire {
     ghost use Rattle.cron_dues.specs.Due.{Due};
     ghost use Rattle.cron_dues.specs.DueReading.{HasText};
 
-    ghost from_str_gives = { λ text r. IfOk r (HasText text) × ((d : Due) → HasText text d → r ≡ Ok d) };
+    ghost from_str_gives = { λ text r. IfOk r (HasText text)
+        × ((d : Due) → HasText text d → r ≡ Ok d) };
 
     fn from_str(text: &str) -> Result<DueFire, NoDueText> {
         read(text)

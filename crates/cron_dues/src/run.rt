@@ -16,14 +16,14 @@ use cron_units::fields::ScheduleFields;
 use jiff::Timestamp;
 use std::marker::Model;
 
-/// Some of the due fires of seven sets by a clock, in order. Contracts see those that are left. It takes no
-/// memory.
+/// Some of the due fires of seven sets by a clock, in order. Contracts see those that are left. It
+/// takes no memory.
 #[derive(Drop)]
 pub struct Run<'a, C: Clock> {
     fields: ScheduleFields,
     clock: &'a C,
     from: i64,
-    known: Option<Known>,
+    known: Known,
     days: MonthDays,
     until: Option<i64>,
 }
@@ -40,7 +40,8 @@ impl<'a, C: Clock> Model for Run<'a, C> {
 
     ghost view = { λ r. left_from (dues r.fields (C.offsets r.clock.now)) r.from r.until };
 
-    ghost invariant = { λ r. IsKnown r.fields (C.offsets r.clock.now) r.from r.known × KnowsDays r.fields r.days };
+    ghost invariant = { λ r. IsKnown r.fields (C.offsets r.clock.now) r.from r.known
+        × KnowsDays r.fields r.days };
 }
 
 impl<'a, C: Clock> Run<'a, C> {
@@ -52,7 +53,7 @@ impl<'a, C: Clock> Run<'a, C> {
             fields,
             clock,
             from,
-            known: None,
+            known: Known::nothing(),
             days: MonthDays::unknown(KnownMonth::january_1970()),
             until,
         }
@@ -79,7 +80,8 @@ impl<'a, C: Clock> Run<'a, C> {
         now: Timestamp,
         clock: &'a C,
     ) -> Run<'a, C>
-        ensures { result ≡ dues_between fields (C.offsets clock.now) last.nanosecond now.nanosecond }
+        ensures { result
+            ≡ dues_between fields (C.offsets clock.now) last.nanosecond now.nanosecond }
     {
         let until = Some(now.to_plain().floor_second());
         Run::from(fields, reached_by(clock, last) + 1, until, clock)
@@ -103,15 +105,13 @@ impl<'a, C: Clock> Run<'a, C> {
     fn take_first(&mut self) -> Option<DueFire>
         ensures { YieldsFirst (λ rest. rest) self.old result self.new }
     {
-        let (next, known) = next_due(
+        let Some(fire) = next_due(
             &self.fields,
             self.clock,
             self.from,
-            self.known,
+            &mut self.known,
             &mut self.days,
-        );
-        self.known = known;
-        let Some(fire) = next else {
+        ) else {
             return None;
         };
         self.from = i64::from(nominal_second(&fire)) + 1;

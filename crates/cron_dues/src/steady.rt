@@ -1,5 +1,5 @@
 //! How long a clock keeps its offset.
-ghost use Rattle.std.specs.Prelude.{◌≡◌, neg_ℤ, pos, ◌*ℤ◌, ◌+ℤ◌, ◌≤ℤ◌, ◌<ℤ◌, ℤ};
+ghost use Rattle.std.specs.Prelude.{◌≡◌, neg_ℤ, pos, ◌*ℤ◌, ◌+ℤ◌, ◌≤ℤ◌, ◌<ℤ◌, ℤ, IfSome};
 ghost use Rattle.std.specs.Int.{int_div_euclid};
 ghost use Rattle.jiff_core.specs.Calendar.{IsBetween, IsYear};
 ghost use Rattle.jiff_core.specs.Date.{epoch_day};
@@ -24,8 +24,8 @@ const DAY: i64 = SECONDS_PER_DAY as i64;
 // Past each instant at which a civil second of the range can be due.
 const NEVER: i64 = 2 * SECONDS;
 
-/// An offset that a clock keeps up to an end, which is in whole seconds since 1970-01-01T00:00:00Z, and that
-/// one left out.
+/// An offset that a clock keeps up to an end, which is in whole seconds since 1970-01-01T00:00:00Z,
+/// and that one left out.
 #[derive(Clone, Copy)]
 pub struct Steady {
     pub offset: Offset,
@@ -45,7 +45,8 @@ impl Steady {
     }
 }
 
-/// Instants from one on, among which a civil second is due: none before them shows it or a later one.
+/// Instants from one on, among which a civil second is due: none before them shows it or a later
+/// one.
 #[derive(Clone, Copy)]
 pub struct DueSpan {
     pub from: i64,
@@ -89,7 +90,8 @@ fn year_end(second: i64) -> i64
 fn transition_end(zone: jiff_tz::TimeZone<'_>, at: jiff_core::Timestamp, second: i64) -> i64
     requires at { at.nanosecond ≡ nanos_of_seconds second }
     requires bound { IsBetween (neg_ℤ (pos 1_000_000)) (pos 8_000_000_000) second }
-    ensures untouched { (k : ℤ) → second <ℤ k → k <ℤ result → IsShortOf (next_at zone.entry (nanos_of_seconds second)) (nanos_of_seconds k) }
+    ensures untouched { (k : ℤ) → second <ℤ k → k <ℤ result
+        → IsShortOf (next_at zone.entry (nanos_of_seconds second)) (nanos_of_seconds k) }
     ensures later { second <ℤ result }
     ensures bound { result ≤ℤ pos 8_267_961_600 }
 {
@@ -119,12 +121,28 @@ fn steady_up_to_transition(zone: &TimeZone<'_>, second: i64) -> Steady
     }
 }
 
+// The offset of a zone that has only one.
+#[inline(always)]
+fn only_offset(zone: &TimeZone<'_>) -> Option<Offset>
+    ensures { IfSome result
+        (λ o. (n end : ℤ) → IsKept (zone_clock zone.now) n end o.seconds) }
+{
+    match zone.to_plain() {
+        jiff_tz::TimeZone::UTC | jiff_tz::TimeZone::Unknown => Some(Offset::UTC),
+        jiff_tz::TimeZone::Fixed(offset) => Some(Offset::from_plain(offset)),
+        _ => None,
+    }
+}
+
 /// The offset that a clock in a zone shows at a second of UTC, and up to where it keeps it.
 pub(crate) fn steady_in(zone: &TimeZone<'_>, second: i64) -> Steady
     requires { IsBetween (neg_ℤ (pos 1_000_000)) (pos 8_000_000_000) second }
     ensures kept { IsKept (zone_clock zone.now) second result.end result.offset.seconds }
     ensures later { second <ℤ result.end }
 {
+    if let Some(offset) = only_offset(zone) {
+        return Steady { offset, end: NEVER };
+    }
     match kept_in_season(zone, second) {
         Some(kept) => Steady {
             offset: kept.offset,

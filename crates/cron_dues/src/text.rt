@@ -31,9 +31,12 @@ fn push_bytes(text: &mut Text, bytes: &[u8])
     text.try_extend_from_slice(bytes).unwrap();
 }
 
-// Where the nominal time begins in the text of its moment: the date is left out where it is the one shown.
+// Where the nominal time begins in the text of its moment: the date is left out where it is the one
+// shown.
 fn nominal_start(fire: &DueFire) -> usize
-    ensures { result ≡ if fire.now.second / 86_400 == (fire.now.second + fire.now.past) / 86_400 then 11 else 0 }
+    ensures { result
+        ≡ if fire.now.second / 86_400 == (fire.now.second + fire.now.past) / 86_400 then 11
+        else 0 }
 {
     let second = nominal_second(fire);
     if second / SECONDS_PER_DAY == (second + fire.seconds_past()) / SECONDS_PER_DAY {

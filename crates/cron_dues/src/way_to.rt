@@ -45,7 +45,7 @@ fn fire_in<C: Clock>(_clock: &C, second: u32, span: &DueSpan) -> DueFire
 
 /// The instants among which a civil second is due.
 #[inline(never)]
-fn span_of<C: Clock>(clock: &C, second: u32) -> DueSpan
+pub(crate) fn span_of<C: Clock>(clock: &C, second: u32) -> DueSpan
     requires { second < seconds_in_range }
     ensures ahead { IsAhead (C.offsets clock.now) second result.from result.steady }
     ensures shown { ends_before result.steady second ≡ false }
@@ -73,12 +73,13 @@ fn span_past<C: Clock>(clock: &C, second: u32, earlier: DueSpan) -> DueSpan
     earlier
 }
 
-/// The due fire of a civil second, and the instants among which it is due. Those of an earlier one, if they
-/// are known, may be its own.
+/// The due fire of a civil second, and the instants among which it is due. Those of an earlier one,
+/// if they are known, may be its own.
 #[inline(always)]
 pub fn due_past<C: Clock>(clock: &C, second: u32, earlier: Option<DueSpan>) -> (DueFire, DueSpan)
     requires range { second < seconds_in_range }
-    requires ahead { IfSome earlier (λ span. IsAhead (C.offsets clock.now) second span.from span.steady) }
+    requires ahead { IfSome earlier
+        (λ span. IsAhead (C.offsets clock.now) second span.from span.steady) }
     ensures due { result.0 ≡ due (C.offsets clock.now) second }
     ensures ahead { IsAhead (C.offsets clock.now) second result.1.from result.1.steady }
 {
@@ -89,8 +90,8 @@ pub fn due_past<C: Clock>(clock: &C, second: u32, earlier: Option<DueSpan>) -> (
     (fire_in(clock, second, &span), span)
 }
 
-/// The due fire of a civil second: in a fold that of the first pass. In a gap it is due at the transition,
-/// since there the clock first shows a later second.
+/// The due fire of a civil second: in a fold that of the first pass. In a gap it is due at the
+/// transition, since there the clock first shows a later second.
 pub fn due_of<C: Clock>(clock: &C, second: u32) -> DueFire
     requires { second < seconds_in_range }
     ensures { result ≡ due (C.offsets clock.now) second }

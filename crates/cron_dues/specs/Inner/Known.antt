@@ -1,5 +1,5 @@
 -- What is known after a due fire.
-use Rattle.std.specs.Prelude.{◌≡◌, ℕ, ◌≤◌, ◌<◌, ℤ, pos, ◌+ℤ◌, true, Option, Some, None, IfSome}
+use Rattle.std.specs.Prelude.{◌≡◌, ◌⊎◌, ℕ, ◌-◌, ◌<◌, ℤ, pos, ◌+ℤ◌, ◌≤ℤ◌, true, Option, Some, None}
 use Rattle.cron_units.specs.Sets.{Sets}
 use Rattle.cron_units.specs.declared.way.Way.TheVariants.{Ahead}
 use Rattle.cron_time.specs.Matches.{is_match}
@@ -7,24 +7,30 @@ use Rattle.cron_dues.specs.Clock.Due.{Clock, Due, due, parts}
 use Rattle.cron_dues.specs.Inner.Nearest.{IsNearestDue}
 use Rattle.cron_dues.specs.declared.ahead.Known.{Known}
 
--- the civil second matches, and this number comes next
-abbrev pub IsPast : Sets → ℕ → ℤ → Type 0
-IsPast s c from = (is_match s c ≡ true) × (from ≡ pos c +ℤ pos 1)
+-- each civil second from a number on, up to the end, is due at this offset: when the clock shows it, or the first one if that is later
+abbrev pub AreDueFrom : Clock → ℤ → Known → Type 0
+AreDueFrom clock from known = (k : ℕ) → from ≤ℤ pos k → k < known.end → due clock k ≡ parts k (known.first - k) known.offset
 
--- from the civil second c on, those between the two ends are due when the clock shows them, at this offset
-abbrev pub IsShownBehind : Clock → ℕ → Known → Type 0
-IsShownBehind clock c known = (k : ℕ) → c ≤ k → known.first ≤ k → k < known.end → due clock k ≡ parts k 0 known.offset
+-- the number comes right after a civil second that matches
+pub record IsPast (s : Sets) (from : ℤ) : Type 0 where
+  pub second : ℕ
+  pub matching : is_match s second ≡ true
+  pub next : from ≡ pos second +ℤ pos 1
 
--- what is known of the due fire before a number
-abbrev pub IsKnown : Sets → Clock → ℤ → Option Known → Type 0
-IsKnown s clock from known = IfSome known (λ k. IsPast s k.second from × IsShownBehind clock k.second k)
+-- if something is known
+abbrev pub IsPastIfKnown : Sets → ℤ → Known → Type 0
+IsPastIfKnown s from known = (known.end ≡ 0) ⊎ IsPast s from
 
--- nothing is known after no due fire
-abbrev pub IsKnownAfter : Sets → Clock → Option Due → Option Known → Type 0
-IsKnownAfter s clock None known = known ≡ None
-IsKnownAfter s clock (Some d) known = IsKnown s clock (pos d.second +ℤ pos 1) known
+-- what is known before a number
+abbrev pub IsKnown : Sets → Clock → ℤ → Known → Type 0
+IsKnown s clock from known = AreDueFrom clock from known × IsPastIfKnown s from known
+
+-- after a due fire it is known before the number past it; after none nothing has changed
+abbrev pub IsKnownAfter : Sets → Clock → ℤ → Option Due → Known → Type 0
+IsKnownAfter s clock from None known = IsKnown s clock from known
+IsKnownAfter s clock from (Some d) known = IsKnown s clock (pos d.second +ℤ pos 1) known
 
 -- the first due fire from a number on, and what is known after it
-pub record IsNextDue (s : Sets) (clock : Clock) (from : ℤ) (next : Option Due) (known : Option Known) : Type 0 where
+pub record IsNextDue (s : Sets) (clock : Clock) (from : ℤ) (next : Option Due) (known : Known) : Type 0 where
   pub nearest : IsNearestDue Ahead (is_match s) clock from next
-  pub after : IsKnownAfter s clock next known
+  pub after : IsKnownAfter s clock from next known
