@@ -7,3 +7,4 @@ pub mod NearestLemmas
 pub mod MergeLemmas
 pub mod HeadLemmas
 pub mod PartLemmas
+pub mod DueHeadLemmas

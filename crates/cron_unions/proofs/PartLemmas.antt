@@ -54,12 +54,12 @@ all_ascend_part ss z part = subst AllAscend (sym (all_kept ss z part)) (all_asce
 
 -- ---- a list written over
 
-take_whole : (ws : List (List Reading)) → take (length ws) (ws ++ []) ≡ ws
+take_whole : {X : Type 0} (ws : List X) → take (length ws) (ws ++ []) ≡ ws
 take_whole [] = refl
 take_whole (w ∷ ws) = ap (λ l. w ∷ l) (take_whole ws)
 
-drop_whole : (xs : List (List Reading)) (n : ℕ) → n ≡ length xs → drop n xs ≡ []
+drop_whole : {X : Type 0} (xs : List X) (n : ℕ) → n ≡ length xs → drop n xs ≡ []
 drop_whole xs n e = drop_all n xs (omega arith)
 
-pub refill_whole : (xs ws : List (List Reading)) → length ws ≡ length xs → refill (length xs) xs ws ≡ ws
+pub refill_whole : {X : Type 0} (xs ws : List X) → length ws ≡ length xs → refill (length xs) xs ws ≡ ws
 refill_whole xs ws e = ap (λ l. take (length xs) (ws ++ l)) (drop_whole xs (length ws) e) ∙ ap (λ n. take n (ws ++ [])) (sym e) ∙ take_whole ws

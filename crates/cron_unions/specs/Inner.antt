@@ -1,3 +1,4 @@
 pub mod Nearest
+pub mod DueHeads
 pub mod Merges
 pub mod Parts

@@ -5,12 +5,13 @@ ghost use Rattle.jiff.specs.Words.{plain_zone};
 ghost use Rattle.cron_dues.specs.Inner.Left.{left_from};
 ghost use Rattle.cron_unions.specs.UnionDues.{dues_any, dues_any_after, dues_any_between, dues_any_past, dues_any_past_by};
 
-use crate::dues::nearest_due;
+use crate::due_heads::{HEADS, Head, heads_of, nearest_head, pass_heads};
+use arrayvec::ArrayVec;
+use cron_dues::ahead::{Known, due_ahead};
 use cron_dues::fire::{DueFire, due_second, nominal_second};
 use cron_dues::reach::reached_by;
 use cron_instants::run::is_within;
 use cron_units::fields::ScheduleFields;
-use cron_units::way::Way;
 use jiff::Timestamp;
 use jiff::tz::TimeZone;
 use std::marker::Model;
@@ -22,20 +23,27 @@ pub struct DueRun<'a> {
     schedules: &'a [ScheduleFields],
     zone: &'a TimeZone<'a>,
     from: i64,
+    heads: ArrayVec<Head, HEADS>,
+    known: Known,
     until: Option<i64>,
 }
 
 impl<'a> Model for DueRun<'a> {
     ghost use Rattle.std.specs.Prelude.{List};
     ghost use Rattle.jiff.specs.Words.{plain_zone};
-    ghost use Rattle.cron_dues.specs.Due.{Due};
+    ghost use Rattle.cron_dues.specs.Due.{Due, zone_clock};
+    ghost use Rattle.cron_dues.specs.Inner.Known.{AreDueFrom};
     ghost use Rattle.cron_dues.specs.Inner.Left.{left_from};
+    ghost use Rattle.cron_unions.specs.Inner.DueHeads.{AreHeads};
     ghost use Rattle.cron_unions.specs.UnionDues.{dues_any};
 
     ghost Value = { List Due };
 
     ghost view = { λ r. left_from
         (dues_any r.schedules.now (plain_zone r.zone.now)) r.from r.until };
+
+    ghost invariant = { λ r. AreHeads r.schedules.now r.from r.heads.items
+        × AreDueFrom (zone_clock r.zone.now) r.from r.known };
 }
 
 impl<'a> DueRun<'a> {
@@ -52,6 +60,8 @@ impl<'a> DueRun<'a> {
             schedules,
             zone,
             from,
+            heads: heads_of(schedules, from),
+            known: Known::nothing(),
             until,
         }
     }
@@ -110,10 +120,12 @@ impl<'a> DueRun<'a> {
     fn take_first(&mut self) -> Option<DueFire>
         ensures { YieldsFirst (λ rest. rest) self.old result self.new }
     {
-        let Some(fire) = nearest_due(self.schedules, self.zone, Way::Ahead, self.from) else {
+        let Some(second) = nearest_head(self.heads.as_slice(), self.schedules, self.from) else {
             return None;
         };
-        self.from = i64::from(nominal_second(&fire)) + 1;
+        let fire = due_ahead(self.zone, second, &mut self.known);
+        pass_heads(self.heads.as_mut_slice(), self.schedules, second);
+        self.from = i64::from(second) + 1;
         if !is_within(self.until, due_second(&fire)) {
             return None;
         }

@@ -3,6 +3,7 @@
 #![tactic(auto)]
 
 mod branch;
+mod due_heads;
 pub mod due_run;
 pub mod dues;
 mod heads;

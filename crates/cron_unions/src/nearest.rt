@@ -9,9 +9,9 @@ use cron_time::search::civil_seconds;
 use cron_units::fields::ScheduleFields;
 use cron_units::way::Way;
 
-// The nearer of two civil seconds, in this direction.
+/// The nearer of two civil seconds, in this direction.
 #[inline(always)]
-fn nearer_second(way: Way, best: Option<u32>, other: Option<u32>) -> Option<u32>
+pub(crate) fn nearer_second(way: Way, best: Option<u32>, other: Option<u32>) -> Option<u32>
     ensures { result ≡ nearer_second way best other }
 {
     let Some(second) = best else {
