@@ -1,7 +1,9 @@
-//! Texts, and the due fires that they are. A row has two parts: the text, and the number of the nominal second,
-//! by how many seconds what the clock shows lies past it, and the clock's offset in seconds; or `refused`.
+//! Texts, and the due fires that they are. A row has two parts: the text, and the number of the
+//! nominal second, by how many seconds what the clock shows lies past it, and the clock's offset in
+//! seconds; or `refused`.
 //!
-//! Python's `datetime` made the texts, and told of those with a byte changed which are texts of due fires.
+//! Python's `datetime` made the texts, and told of those with a byte changed which are texts of due
+//! fires.
 
 use crate::report::{Report, Row};
 use anyhow::{Context, Result};

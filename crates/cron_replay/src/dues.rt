@@ -3,7 +3,7 @@
 //!
 //! The answers were counted apart: of each second of a span it was asked what the clock shows, and
 //! a civil second is due at the first that shows it or a later one. Those of `dues_between.txt` are
-//! of the zone database of an ordinary system (2025b). Its last six rows are of New York in 2024,
+//! of the zone database of an ordinary system (2025b). Its last eight rows are of New York in 2024,
 //! where those of fixed times are also what Debian's cron, cronie and bcron do.
 
 use crate::report::{Report, Row, cut};

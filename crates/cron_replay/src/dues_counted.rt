@@ -2,7 +2,9 @@
 //! due fires after the first and not after the second their number and the sum that is made of all
 //! of them in order.
 //!
-//! The numbers were made as the answers of `dues_between.txt`.
+//! The numbers were made as the answers of `dues_between.txt`. São Paulo stands by the rule that it
+//! had in 2018. The last two rows are of fixed times, which Debian's cron, cronie and bcron run once
+//! on each day of the year.
 
 use crate::report::{Report, Row, cut};
 use crate::settings::{Setting, case_of, setting_of, start_at};
