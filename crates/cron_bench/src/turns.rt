@@ -34,11 +34,16 @@ const FIRSTS: [&str; 5] = [
 ];
 
 /// What is called for a run and for a first fire, each beside its name in a row.
-const RUN_CALLS: [(Call, &str); 2] = [(Call::Next, "walk"), (Call::Fires, "fires")];
+const RUN_CALLS: [(Call, &str); 3] = [
+    (Call::Next, "walk"),
+    (Call::Fires, "fires"),
+    (Call::DueFires, "due fires"),
+];
 
-const FIRST_CALLS: [(Call, &str); 2] = [
+const FIRST_CALLS: [(Call, &str); 3] = [
     (Call::FreshNext, "fresh next"),
     (Call::FirstFire, "first fire"),
+    (Call::FirstDueFire, "first due fire"),
 ];
 
 /// How long before the transition a run starts: half of a million seconds.
