@@ -105,6 +105,7 @@ fn known_due<C: Clock>(_clock: &C, second: u32, known: &Known) -> DueFire
 }
 
 /// The due fire of a civil second. From that one on something may be known before, and more after.
+/// What is known is lent: a copy at each fire would wait for what the fire before it stored.
 #[inline(always)]
 pub fn due_ahead<C: Clock>(clock: &C, second: u32, known: &mut Known) -> DueFire
     requires range { second < seconds_in_range }
