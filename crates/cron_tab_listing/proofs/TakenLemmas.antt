@@ -1,6 +1,6 @@
 -- Fires that were taken one after another.
-use Rattle.std.proofs.Common.{◌≡◌, ℕ, ℤ, true, List, [], ◌∷◌, ◌++◌, Some, refl, sym, ap, subst, ◌∙◌, arith}
-use Rattle.std.specs.Prelude.{Ok}
+use Rattle.std.proofs.Common.{◌≡◌, ℕ, ℤ, true, List, [], ◌∷◌, ◌++◌, Some, inr, refl, sym, ap, subst, ◌∙◌, arith}
+use Rattle.std.specs.Prelude.{◌<◌, length, None, Result, Ok, Err, ⊤}
 use Rattle.std.proofs.lemmas.Int.{ints}
 use Rattle.jiff_tz.specs.declared.timezone.TimeZone.{TimeZone}
 use Rattle.cron_instants.specs.Order.{comes_before}
@@ -10,8 +10,11 @@ use Rattle.cron_agenda.specs.Entries.{ComesFirst, IsBeforeAll, Listed, TakesDue,
 use Rattle.cron_agenda.specs.Fires.{instant}
 use Rattle.cron_agenda.specs.Merged.{AllAscend, merged}
 use Rattle.cron_agenda.proofs.MergeLemmas.{taken_is_first}
-use Rattle.cron_tab_listing.specs.Listing.{AreTaken, AreTheFront, IsTabTaken, own_of, agenda_fire}
+use Rattle.cron_tab_listing.specs.Inner.Pushes.{IsPushed}
+use Rattle.cron_tab_listing.specs.Listing.{AreTaken, AreTheFront, EndsBy, IsTabTaken, Lists, own_of, agenda_fire}
 use Rattle.cron_tab_listing.specs.Tabs.{schedules_of}
+use Rattle.cron_tab_listing.specs.declared.error.ListError.{ListError}
+use Rattle.cron_tab_listing.specs.declared.error.ListError.TheVariants.{Zone, OutOfMemory}
 use Rattle.cron_tab_listing.specs.declared.listing.TabFire.{TabFire}
 use Rattle.cron_tab_listing.specs.declared.tab_entry.TabEntry.{TabEntry}
 
@@ -78,3 +81,27 @@ taken-front zones t (f ∷ fires) old new were up =
     let one = taken_is_first schedules_of zones old.entries (agenda_fire f were.1.is_last) were.0.entries up were.1.taken.0.0 in
     let rest = taken-front zones t fires were.0 new were.2 one.1 in
     (one.0 ∙ ap (λ l. own_of f ∷ l) rest.0, rest.1)
+
+-- ---- why it ends
+
+pub lists-so : (zones : List TimeZone) (t : ℤ) (limit : ℕ) (old : Listed TabEntry) (before more : List TabFire) (answer : Result ⊤ ListError) (after : List TabFire) (new : Listed TabEntry)
+    → after ≡ before ++ more → AreTaken zones t old more new → EndsBy zones t limit (length more) answer new → Lists zones t limit old before answer after new
+lists-so zones t limit old before more answer after new is were ends =
+    record { more = more; are = is; taken = were; front = taken-front zones t more old new were; ends = ends }
+
+module _ (zones : List TimeZone) (t : ℤ) (limit : ℕ) (old : Listed TabEntry) (before more : List TabFire) (mid : Listed TabEntry) (middle : List TabFire) (after : List TabFire) (new : Listed TabEntry)
+    (is : middle ≡ before ++ more) (were : AreTaken zones t old more mid) where
+  still : new ≡ mid → AreTaken zones t old more new
+  still same = subst (λ a. AreTaken zones t old more a) (sym same) were
+
+  pub lists-none : TakesDue schedules_of zones t mid (Ok None) new × (after ≡ middle) → (done : ⊤) → Lists zones t limit old before (Ok done) after new
+  lists-none pushed done =
+      lists-so zones t limit old before more (Ok done) after new (pushed.1 ∙ is) (still pushed.0.1)
+      (inr (subst (λ a. TakesDue schedules_of zones t a (Ok None) a) (sym pushed.0.1) (pushed.0.0, refl)))
+
+  pub lists-error : (error : ListError) → length more < limit → IsPushed zones t mid middle (Err error) after new
+      → Lists zones t limit old before (Err error) after new
+  lists-error (Zone why) less pushed =
+      lists-so zones t limit old before more (Err (Zone why)) after new (pushed.1 ∙ is) (still pushed.0.1)
+      (less, subst (λ a. TakesDue schedules_of zones t a (Err why) a) (sym pushed.0.1) (pushed.0.0, refl))
+  lists-error OutOfMemory less pushed = lists-so zones t limit old before more (Err OutOfMemory) after new (pushed.1 ∙ is) (still pushed.0) less

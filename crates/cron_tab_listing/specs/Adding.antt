@@ -15,8 +15,8 @@ use Rattle.cron_tab_listing.specs.Tabs.{IsTab, schedules_in, schedules_of}
 use Rattle.cron_tab_listing.specs.declared.tab_entry.TabEntry.{TabEntry}
 use Rattle.cron_tab_listing.specs.declared.adding.Clock.{Clock}
 use Rattle.cron_tab_listing.specs.declared.adding.Clock.TheVariants.{Own, Chosen}
-use Rattle.cron_tab_listing.specs.declared.adding.LineError.{LineError}
-use Rattle.cron_tab_listing.specs.declared.adding.LineError.TheVariants.{ZoneLine, NotAdded}
+use Rattle.cron_tab_listing.specs.declared.error.LineError.{LineError}
+use Rattle.cron_tab_listing.specs.declared.error.LineError.TheVariants.{ZoneLine, NotAdded}
 
 -- an entry that follows the clock fires each time that it shows a match, every other one once for each
 abbrev pub own_changes : List ℕ → ClockChanges

@@ -1,4 +1,5 @@
 pub mod Tabs
 pub mod Adding
 pub mod Listing
+pub mod Messages
 pub mod Inner

@@ -1,5 +1,5 @@
 -- The fires of a file's entries, taken from their agenda in one order.
-use Rattle.std.specs.Prelude.{◌≡◌, ◌⊎◌, ◌++◌, ℕ, ℤ, Bool, List, [], ◌∷◌, map, length, Option, Some, None, Result, Ok, Err}
+use Rattle.std.specs.Prelude.{◌≡◌, ◌<◌, ◌⊎◌, ◌++◌, ℕ, ℤ, Bool, List, [], ◌∷◌, map, length, Option, Some, None, Result, Ok, Err, ⊤}
 use Rattle.jiff_tz.specs.declared.timezone.TimeZone.{TimeZone}
 use Rattle.cron_agenda.specs.Entries.{ComesFirst, Listed, TakesDue}
 use Rattle.cron_agenda.specs.Merged.{AllAscend, OwnFire, merged, own}
@@ -7,6 +7,8 @@ use Rattle.cron_agenda.specs.declared.entry.Entry.{Entry}
 use Rattle.cron_agenda.specs.declared.error.ZoneMissing.{ZoneMissing}
 use Rattle.cron_agenda.specs.declared.fire.AgendaFire.{AgendaFire}
 use Rattle.cron_tab_listing.specs.Tabs.{schedules_of}
+use Rattle.cron_tab_listing.specs.declared.error.ListError.{ListError}
+use Rattle.cron_tab_listing.specs.declared.error.ListError.TheVariants.{Zone, OutOfMemory}
 use Rattle.cron_tab_listing.specs.declared.listing.TabFire.{TabFire}
 use Rattle.cron_tab_listing.specs.declared.tab_entry.TabEntry.{TabEntry}
 
@@ -40,12 +42,18 @@ own_of fire = own fire.id fire.fire
 abbrev pub AreTheFront : List TimeZone → Listed TabEntry → List TabFire → Listed TabEntry → Type 0
 AreTheFront zones old fires new = merged schedules_of zones old.entries ≡ map own_of fires ++ merged schedules_of zones new.entries
 
--- So many were wanted, or no more are due by t.
-abbrev pub IsDone : List TimeZone → ℤ → ℕ → List TabFire → Listed TabEntry → Type 0
-IsDone zones t limit fires new = (length fires ≡ limit) ⊎ TakesDue schedules_of zones t new (Ok None) new
+-- Why it ends, once so many were taken of those that were wanted: no more are wanted, or none is due by t; or fewer were taken, and the zone
+-- of the entry that comes first isn't lent, or memory ran out.
+abbrev pub EndsBy : List TimeZone → ℤ → ℕ → ℕ → Result ⊤ ListError → Listed TabEntry → Type 0
+EndsBy zones t limit count (Ok done) new = (count ≡ limit) ⊎ TakesDue schedules_of zones t new (Ok None) new
+EndsBy zones t limit count (Err (Zone why)) new = (count < limit) × TakesDue schedules_of zones t new (Err why) new
+EndsBy zones t limit count (Err OutOfMemory) new = count < limit
 
--- Fires are taken up to and with the instant t, at most so many: the front of all that were left.
-pub record Lists (zones : List TimeZone) (t : ℤ) (limit : ℕ) (old : Listed TabEntry) (fires : List TabFire) (new : Listed TabEntry) : Type 0 where
-  pub taken : AreTaken zones t old fires new
-  pub front : AllAscend schedules_of zones old.entries → AreTheFront zones old fires new × AllAscend schedules_of zones new.entries
-  pub done : IsDone zones t limit fires new
+-- Fires are taken up to and with the instant t, at most so many, and stand behind those before: the front of all that were left. The agenda
+-- has the rest, and nothing that was taken is lost.
+pub record Lists (zones : List TimeZone) (t : ℤ) (limit : ℕ) (old : Listed TabEntry) (before : List TabFire) (answer : Result ⊤ ListError) (after : List TabFire) (new : Listed TabEntry) : Type 0 where
+  pub more : List TabFire
+  pub are : after ≡ before ++ more
+  pub taken : AreTaken zones t old more new
+  pub front : AllAscend schedules_of zones old.entries → AreTheFront zones old more new × AllAscend schedules_of zones new.entries
+  pub ends : EndsBy zones t limit (length more) answer new

@@ -6,6 +6,7 @@ ghost use Rattle.cron_tab_lines.specs.Views.{file_line_view, outcome_view};
 ghost use Rattle.cron_tab_warnings.specs.Files.{is_zone};
 ghost use Rattle.cron_tab_listing.specs.Adding.{AddsLine, AddsLines, changes_of, start_of};
 
+use crate::error::LineError;
 use crate::tab_entry::TabEntry;
 use cron_agenda::{AddError, Agenda};
 use cron_fires::ClockChanges;
@@ -17,20 +18,11 @@ use jiff::tz::TimeZone;
 /// By which rule entries fire where the clock changes.
 #[derive(Clone, Copy, Debug, PartialEq, Eq)]
 pub enum Clock {
-    /// Each entry by its own: one that follows the clock each time that it shows a match, one at a fixed time
-    /// once for each.
+    /// Each entry by its own: one that follows the clock each time that it shows a match, one at a
+    /// fixed time once for each.
     Own,
     /// All by this one.
     Chosen(ClockChanges),
-}
-
-/// Why the lines of a file weren't all added, with the number of the line, from 1 on.
-#[derive(Clone, Copy, Debug, PartialEq, Eq)]
-pub enum LineError {
-    /// It sets `CRON_TZ`: the entries below it may be of another zone.
-    ZoneLine(usize),
-    /// Its entry can't be added.
-    NotAdded(usize, AddError),
 }
 
 /// The rule of an entry, by the bytes of its line.
@@ -49,9 +41,9 @@ pub fn changes_of(clock: Clock, bytes: &[u8]) -> ClockChanges
     }
 }
 
-/// Adds the entry of a line: its fires after an instant, in the zone with this number. It answers the entry's
-/// id, and `None` where the line is no entry, where no clock fires it (`@reboot`), or where it never fires
-/// again. An error changes nothing.
+/// Adds the entry of a line: its fires after an instant, in the zone with this number. It answers
+/// the entry's id, and `None` where the line is no entry, where no clock fires it (`@reboot`), or
+/// where it never fires again. An error changes nothing.
 pub fn add_line(
     agenda: &mut Agenda<TabEntry>,
     line: &FileLine<'_>,
@@ -80,9 +72,10 @@ fn is_zone(read: &Result<Line<'_>, Refusal<'_>>) -> bool
     matches!(read, Ok(Line::Zone(_)))
 }
 
-/// Adds the entries of a file's lines, in the order of the lines: their fires after an instant, in the zone with
-/// this number. Lines that are refused, settings and comments are passed over. It ends at the first line that
-/// sets `CRON_TZ`, or whose entry can't be added; those above it are added then.
+/// Adds the entries of a file's lines, in the order of the lines: their fires after an instant, in
+/// the zone with this number. Lines that are refused, settings and comments are passed over. It
+/// ends at the first line that sets `CRON_TZ`, or whose entry can't be added; those above it are
+/// added then.
 pub fn add_lines(
     agenda: &mut Agenda<TabEntry>,
     lines: Lines<'_>,

@@ -1,15 +1,15 @@
 //! The fires of a crontab's entries, in one order.
 
-ghost use Rattle.std.specs.Prelude.{map, IfOk};
+ghost use Rattle.std.specs.Prelude.{◌≡◌, ◌≤◌, IfErr, map, vec_capacity, vec_len};
 ghost use Rattle.jiff.specs.Words.{plain_zone};
-ghost use Rattle.cron_tab_listing.specs.Inner.Pushes.{ArePushed, IsPushed};
+ghost use Rattle.cron_tab_listing.specs.Inner.Pushes.{IsPushed};
 ghost use Rattle.cron_tab_listing.specs.Listing.{Lists, TakesTab};
 
+use crate::error::ListError;
 use crate::tab_entry::TabEntry;
 use cron_agenda::{Agenda, EntryFire, ZoneMissing};
 use jiff::Timestamp;
 use jiff::tz::TimeZone;
-use std::alloc::Global;
 
 /// A fire of a crontab's entry.
 #[derive(Clone, Copy, Debug, PartialEq, Eq)]
@@ -22,18 +22,9 @@ pub struct TabFire {
     pub fire: EntryFire,
 }
 
-/// Why fires couldn't be listed.
-#[derive(Clone, Copy, Debug, PartialEq, Eq)]
-pub enum ListError {
-    /// The zone of the entry that comes first isn't lent.
-    Zone(ZoneMissing),
-    /// Memory ran out.
-    OutOfMemory,
-}
-
-/// Takes what fires next of all entries, if its instant is `until` or comes before it: by instant, of those at
-/// one instant that of the line that was added first. Nothing is taken where its zone isn't lent. It takes no
-/// memory.
+/// Takes what fires next of all entries, if its instant is `until` or comes before it: by instant,
+/// of those at one instant that of the line that was added first. Nothing is taken where its zone
+/// isn't lent. It takes no memory.
 pub fn next_fire(
     agenda: &mut Agenda<TabEntry>,
     until: Timestamp,
@@ -56,19 +47,26 @@ pub fn next_fire(
     }
 }
 
-// Takes what fires next, and puts it behind other fires. It answers whether one was due.
+// Takes what fires next, once there is room for it, and puts it behind other fires. It answers
+// whether one was due.
 fn push_next(
     fires: &mut Vec<TabFire>,
     agenda: &mut Agenda<TabEntry>,
     until: Timestamp,
     zones: &[TimeZone<'_>],
 ) -> Result<bool, ListError>
-    ensures { IfOk result (IsPushed (map plain_zone zones.now) until.nanosecond
-        agenda.old fires.old.items fires.new.items agenda.new) }
+    ensures pushed { IsPushed (map plain_zone zones.now) until.nanosecond
+        agenda.old fires.old.items result fires.new.items agenda.new }
+    ensures full { IfErr result
+        (λ e. e ≡ ListError.OutOfMemory → vec_capacity fires.new ≤ vec_len fires.new) }
 {
+    if fires.try_reserve(1).is_err() {
+        return Err(ListError::OutOfMemory);
+    }
     match next_fire(agenda, until, zones) {
         Ok(Some(fire)) => match fires.push(fire) {
             Ok(()) => Ok(true),
+            // never, since there is room
             Err(_) => Err(ListError::OutOfMemory),
         },
         Ok(None) => Ok(false),
@@ -76,16 +74,20 @@ fn push_next(
     }
 }
 
-// Takes fires, and puts them behind others.
-fn push_fires(
+/// Takes the fires of all entries up to and with an instant, at most so many, and puts them behind
+/// others: by instant, of those at one instant in the order in which their lines were added. What
+/// was taken stands there also where it ends by an error: room is made before a fire is taken.
+pub fn list_fires(
     fires: &mut Vec<TabFire>,
     agenda: &mut Agenda<TabEntry>,
     until: Timestamp,
     limit: usize,
     zones: &[TimeZone<'_>],
 ) -> Result<(), ListError>
-    ensures { IfOk result (λ _. ArePushed (map plain_zone zones.now) until.nanosecond limit
-        agenda.old fires.old.items fires.new.items agenda.new) }
+    ensures lists { Lists (map plain_zone zones.now) until.nanosecond limit
+        agenda.old fires.old.items result fires.new.items agenda.new }
+    ensures full { IfErr result
+        (λ e. e ≡ ListError.OutOfMemory → vec_capacity fires.new ≤ vec_len fires.new) }
 {
     for _ in 0..limit {
         match push_next(fires, agenda, until, zones) {
@@ -95,23 +97,4 @@ fn push_fires(
         }
     }
     Ok(())
-}
-
-/// Takes the fires of all entries up to and with an instant, at most so many, and lists them: by instant, of those
-/// at one instant in the order in which their lines were added. What was taken before an error is lost.
-pub fn list_fires(
-    alloc: Global,
-    agenda: &mut Agenda<TabEntry>,
-    until: Timestamp,
-    limit: usize,
-    zones: &[TimeZone<'_>],
-) -> Result<Vec<TabFire>, ListError>
-    ensures { IfOk result (λ fires. Lists (map plain_zone zones.now) until.nanosecond limit
-        agenda.old fires.items agenda.new) }
-{
-    let mut fires = Vec::new(alloc);
-    match push_fires(&mut fires, agenda, until, limit, zones) {
-        Ok(()) => Ok(fires),
-        Err(error) => Err(error),
-    }
 }

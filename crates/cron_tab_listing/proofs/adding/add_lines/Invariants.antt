@@ -3,7 +3,7 @@ use Rattle.std.specs.Prelude.{Result, ⊤}
 use Rattle.jiff.specs.Words.{plain_zone}
 use Rattle.cron_agenda.specs.Entries.{Listed}
 use Rattle.cron_tab_listing.specs.Adding.{AddsLines, start_of}
-use Rattle.cron_tab_listing.specs.declared.adding.LineError.{LineError}
+use Rattle.cron_tab_listing.specs.declared.error.LineError.{LineError}
 use Rattle.cron_tab_listing.specs.declared.tab_entry.TabEntry.{TabEntry}
 use Rattle.cron_tab_listing.proofs.adding.add_lines.Given as goal
 

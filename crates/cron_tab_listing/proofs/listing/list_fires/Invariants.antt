@@ -2,7 +2,7 @@ use Rattle.std.proofs.Common.{◌≡◌, ◌++◌, List, length, map}
 use Rattle.jiff.specs.Words.{plain_zone}
 use Rattle.cron_tab_listing.specs.Listing.{AreTaken}
 use Rattle.cron_tab_listing.specs.declared.listing.TabFire.{TabFire}
-use Rattle.cron_tab_listing.proofs.listing.push_fires.Given as goal
+use Rattle.cron_tab_listing.proofs.listing.list_fires.Given as goal
 
 -- so many were taken, and put behind the others
 abbrev pub invariant-loop : goal.invariant-loop
