@@ -20,8 +20,9 @@ pub(crate) enum Base {
     Range(u32, u32),
 }
 
+/// Tells whether a word begins with a star.
 #[inline(always)]
-pub(crate) fn begins_with_star(text: &str) -> bool
+pub fn begins_with_star(text: &str) -> bool
     ensures { result ≡ begins_with_star text.now }
 {
     match text.as_bytes().first() {

@@ -14,7 +14,8 @@ mod words;
 
 pub use faults::{Fault, Reason, RefusedItem};
 pub use field::Field;
+pub use items::begins_with_star;
 pub use schedules::Schedules;
 pub use steps::{Item, read_steps};
-pub use texts::{Expression, read};
+pub use texts::{Expression, begins_with_at, read};
 pub use words::{cut_at, next_word};

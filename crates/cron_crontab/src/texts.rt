@@ -100,7 +100,8 @@ fn read_nickname(word: &str) -> Result<Expression, Fault<'_>>
     }
 }
 
-fn begins_with_at(word: &str) -> bool
+/// Tells whether a word begins with `@`, as a nickname does.
+pub fn begins_with_at(word: &str) -> bool
     ensures { result ≡ begins_with_at word.now }
 {
     match word.as_bytes().first() {

@@ -1,22 +1,16 @@
 -- What entries of a crontab's file fire by.
-use Rattle.std.specs.Prelude.{◌≡◌, List, [], Option, Some, None, Result, Ok}
+use Rattle.std.specs.Prelude.{◌≡◌, List, Option, Some, None, Result, Ok}
 use Rattle.cron_units.specs.Sets.{Sets}
 use Rattle.cron_crontab.specs.Crontab.{Meaning, schedules, reboot}
 use Rattle.cron_tab_lines.specs.Files.{FileLine}
 use Rattle.cron_tab_lines.specs.Lines as lines
 use Rattle.cron_tab_lines.specs.Lines.{entry}
 use Rattle.cron_tab_lines.specs.Refusals.{Refusal}
-use Rattle.cron_tab_listing.specs.declared.few.Few.{Few}
-use Rattle.cron_tab_listing.specs.declared.few.Few.TheVariants.{None as no_more, One, Two}
 use Rattle.cron_tab_listing.specs.declared.tab_entry.TabEntry.{TabEntry}
 
-abbrev pub list_of : Few → List Sets
-list_of no_more = []
-list_of (One one) = one
-list_of (Two two) = two
-
+-- the entry's schedules
 abbrev pub schedules_of : TabEntry → List Sets
-schedules_of e = list_of e.few
+schedules_of e = e.schedules
 
 -- an expression's schedules, of which one suffices; none where no clock fires it
 abbrev pub schedules_by : Meaning → Option (List Sets)

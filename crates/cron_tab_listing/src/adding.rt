@@ -2,16 +2,15 @@
 
 ghost use Rattle.std.specs.Prelude.{◌≡◌, map};
 ghost use Rattle.jiff.specs.Words.{plain_zone};
-ghost use Rattle.cron_tab_lines.specs.Views.{file_line_view, outcome_view};
-ghost use Rattle.cron_tab_warnings.specs.Files.{is_zone};
+ghost use Rattle.cron_tab_lines.specs.Views.{file_line_view};
 ghost use Rattle.cron_tab_listing.specs.Adding.{AddsLine, AddsLines, changes_of, start_of};
 
 use crate::error::LineError;
 use crate::tab_entry::TabEntry;
 use cron_agenda::{AddError, Agenda};
 use cron_fires::ClockChanges;
-use cron_tab_lines::{FileLine, Line, Lines, Refusal};
-use cron_tab_warnings::{follows_clock, text_of};
+use cron_tab_lines::{FileLine, Lines};
+use cron_tab_warnings::{LineWarning, follows_clock, text_of, warns_line};
 use jiff::Timestamp;
 use jiff::tz::TimeZone;
 
@@ -66,12 +65,6 @@ pub fn add_line(
     }
 }
 
-fn is_zone(read: &Result<Line<'_>, Refusal<'_>>) -> bool
-    ensures { result ≡ is_zone (outcome_view read.now) }
-{
-    matches!(read, Ok(Line::Zone(_)))
-}
-
 /// Adds the entries of a file's lines, in the order of the lines: their fires after an instant, in
 /// the zone with this number. Lines that are refused, settings and comments are passed over. It
 /// ends at the first line that sets `CRON_TZ`, or whose entry can't be added; those above it are
@@ -88,7 +81,7 @@ pub fn add_lines(
         lines.entry agenda.old result agenda.new }
 {
     for line in lines {
-        if is_zone(&line.read) {
+        if warns_line(LineWarning::IgnoredZone, &line) {
             return Err(LineError::ZoneLine(line.number));
         }
         if let Err(error) = add_line(agenda, &line, clock, start, zones, zone) {

@@ -4,7 +4,6 @@
 
 mod adding;
 mod error;
-mod few;
 mod listing;
 mod tab_entry;
 

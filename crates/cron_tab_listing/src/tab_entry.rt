@@ -1,12 +1,11 @@
 //! What an entry of a crontab fires by.
 
-ghost use Rattle.std.specs.Prelude.{◌≡◌, ◌≤◌, length, None, MatchOption};
+ghost use Rattle.std.specs.Prelude.{◌≡◌, None, MatchOption};
 ghost use Rattle.cron_tab_lines.specs.Views.{file_line_view};
 ghost use Rattle.cron_tab_listing.specs.Tabs.{IsTab, schedules_in, schedules_of};
 
-use crate::few::Few;
 use cron::schedule::Moment;
-use cron_crontab::Expression;
+use cron_crontab::{Expression, Schedules};
 use cron_fires::{DueFire, Timetable, Union};
 use cron_tab_lines::{FileLine, Line};
 use cron_units::fields::ScheduleFields;
@@ -17,21 +16,10 @@ use jiff::tz::TimeZone;
 #[derive(Clone, Copy)]
 pub struct TabEntry {
     line: usize,
-    few: Few,
+    schedules: Schedules,
 }
 
 impl TabEntry {
-    fn new(line: usize, schedules: &[ScheduleFields]) -> TabEntry
-        requires { length schedules.now ≤ 2 }
-        ensures line { result.line ≡ line }
-        ensures schedules { schedules_of result ≡ schedules.now }
-    {
-        TabEntry {
-            line,
-            few: Few::of(schedules),
-        }
-    }
-
     /// That of a line. `None` where the line is no entry, or one that no clock fires: `@reboot`.
     pub fn of(line: &FileLine<'_>) -> Option<TabEntry>
         ensures { MatchOption result (schedules_in (file_line_view line.now).outcome ≡ None)
@@ -43,7 +31,10 @@ impl TabEntry {
         let Expression::Fires(schedules) = &entry.expression else {
             return None;
         };
-        Some(TabEntry::new(line.number, schedules.as_slice()))
+        Some(TabEntry {
+            line: line.number,
+            schedules: *schedules,
+        })
     }
 
     /// The number of its line, from 1 on.
@@ -57,7 +48,7 @@ impl TabEntry {
     pub fn as_slice(&self) -> &[ScheduleFields]
         ensures { result.now ≡ schedules_of self.now }
     {
-        self.few.as_slice()
+        self.schedules.as_slice()
     }
 }
 

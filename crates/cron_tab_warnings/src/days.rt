@@ -5,8 +5,8 @@ ghost use Rattle.cron_tab_warnings.specs.Written.{names_all};
 ghost use Rattle.cron_tab_warnings.specs.Warnings.{is_left_out, is_star_step, lacks, leaves_out, other_days, shortest, some_lacks, stars_step};
 
 use crate::items::names;
-use crate::words::{begins_with_star, field_word, size};
-use cron_crontab::Field;
+use crate::words::{field_word, size};
+use cron_crontab::{Field, begins_with_star};
 
 /// Tells whether a field names all its numbers.
 fn names_all(field: Field, word: &str) -> bool

@@ -1,11 +1,9 @@
 //! Words of a line, and fields among them.
 
-ghost use Rattle.std.specs.Prelude.{◌≡◌, ◌==◌, ◌<◌, slice_index};
-ghost use Rattle.cron_crontab.specs.Crontab.{begins_with_at};
-ghost use Rattle.cron_crontab.specs.Items.{begins_with_star};
+ghost use Rattle.std.specs.Prelude.{◌≡◌};
 ghost use Rattle.cron_tab_warnings.specs.Written.{field_word, has_fields, place, size, word_at};
 
-use cron_crontab::{Field, next_word};
+use cron_crontab::{Field, begins_with_at, next_word};
 
 /// The word at a place, from 0 on. It is empty past the last one.
 pub(crate) fn word_at(text: &str, place: usize) -> &str
@@ -41,28 +39,6 @@ pub(crate) fn field_word(text: &str, field: Field) -> &str
     ensures { result.now ≡ field_word text.now field }
 {
     word_at(text, place(field))
-}
-
-fn begins_with(word: &str, byte: u8) -> bool
-    requires { 0 < byte }
-    ensures { result ≡ (slice_index word.now 0 == byte) }
-{
-    match word.as_bytes().first() {
-        Some(first) => *first == byte,
-        None => false,
-    }
-}
-
-pub(crate) fn begins_with_star(word: &str) -> bool
-    ensures { result ≡ begins_with_star word.now }
-{
-    begins_with(word, b'*')
-}
-
-pub(crate) fn begins_with_at(word: &str) -> bool
-    ensures { result ≡ begins_with_at word.now }
-{
-    begins_with(word, b'@')
 }
 
 /// A nickname has no fields.
