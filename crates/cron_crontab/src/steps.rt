@@ -11,8 +11,8 @@ use crate::items::{Base, read_base};
 use crate::numbers::read_step;
 use crate::words::cut_at;
 
-/// An item of a field: the numbers from a first one to a last one by steps. There are none where the first
-/// is above the last. Of a lone number both ends are that number.
+/// An item of a field: the numbers from a first one to a last one by steps. There are none where
+/// the first is above the last. Of a lone number both ends are that number.
 #[derive(Clone, Copy, Debug, PartialEq, Eq)]
 pub struct Item {
     pub first: u32,
@@ -36,7 +36,9 @@ fn by_step(base: Base, every: u32) -> Item
 
 /// Reads an item of a field, `5`, `1-5` or `*/15`, without the commas around it.
 pub fn read_steps<'a>(field: Field, text: &'a str) -> Result<Item, Reason<'a>>
-    ensures item { MatchResult result (λ i. item_of field text.now ≡ Ok (item_view i)) (λ r. item_of field text.now ≡ Err (reason_view r)) }
+    ensures item { MatchResult result
+        (λ i. item_of field text.now ≡ Ok (item_view i))
+        (λ r. item_of field text.now ≡ Err (reason_view r)) }
     ensures positive { IfOk result (λ i. 0 < i.every) }
 {
     let (front, behind) = cut_at(text, b'/');

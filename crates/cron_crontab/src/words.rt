@@ -22,7 +22,8 @@ fn mark_at(text: &[u8], mark: u8) -> usize
     text.len()
 }
 
-/// What stands before the first mark, a byte of ASCII, and what stands behind it, where there is one.
+/// What stands before the first mark, a byte of ASCII, and what stands behind it, where there is
+/// one.
 #[inline(always)]
 pub fn cut_at(text: &str, mark: u8) -> (&str, Option<&str>)
     requires { mark < 128 }

@@ -22,7 +22,8 @@ const FILES: [(Clock, &str); 3] = [
     (Clock::Chosen(ClockChanges::Once), "chicago_once.txt"),
 ];
 
-// How many fires are listed at once: fewer than there are, so that a listing goes on where another ended.
+// How many fires are listed at once: fewer than there are, so that a listing goes on where another
+// ended.
 const PAGE: usize = 7;
 
 const PAGES: usize = 20;

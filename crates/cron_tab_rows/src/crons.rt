@@ -1,7 +1,7 @@
-//! Expressions, and what Debian's cron 3.0pl1-162 and cronie 1.7.2 make of each: `OK`, the sets of its
-//! minutes, hours, days, months and weekdays, where bit i is number i and Sunday is 0 and 7, whether
-//! its third and its fifth field begin with a star, and whether it is `@reboot`; or `BAD`. Tabs stand
-//! between the three.
+//! Expressions, and what Debian's cron 3.0pl1-162 and cronie 1.7.2 make of each: `OK`, the sets of
+//! its minutes, hours, days, months and weekdays, where bit i is number i and Sunday is 0 and 7,
+//! whether its third and its fifth field begin with a star, and whether it is `@reboot`; or `BAD`.
+//! Tabs stand between the three.
 //!
 //! What both make of an expression alike is what it means. Every other one must be refused.
 

@@ -1,7 +1,8 @@
-//! Replays the rows of `data/`: expressions of crontabs, and what two crons make of them; others and
-//! the schedules that they are; texts with the message of their refusal; files with what their
-//! lines are; and the warnings of both. It prints each answer that isn't the one of its row, and for each file how many rows it has. Where an answer differs, or a
-//! row can't be taken apart, it ends with a status other than 0.
+//! Replays the rows of `data/`: expressions of crontabs, and what two crons make of them; others
+//! and the schedules that they are; texts with the message of their refusal; files with what their
+//! lines are; and the warnings of both. It prints each answer that isn't the one of its row, and
+//! for each file how many rows it has. Where an answer differs, or a row can't be taken apart, it
+//! ends with a status other than 0.
 #![tactic(auto)]
 
 mod crons;

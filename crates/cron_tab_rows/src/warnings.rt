@@ -1,5 +1,6 @@
-//! Lines that begin with an expression, whether they follow the clock or have a fixed time, and their warnings. A
-//! small program of another language made them from the raw text, and counted the calendar day by day.
+//! Lines that begin with an expression, whether they follow the clock or have a fixed time, and
+//! their warnings. A small program of another language made them from the raw text, and counted the
+//! calendar day by day.
 
 use crate::report::{Report, Row};
 use anyhow::{Context, Error, Result, anyhow};

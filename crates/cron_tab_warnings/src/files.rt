@@ -14,7 +14,8 @@ const LONG: usize = 999;
 pub enum LineWarning {
     /// It sets `CRON_TZ`, of which Debian's cron takes no notice.
     IgnoredZone,
-    /// Its command, with the input behind a percent sign, has 999 bytes or more: Debian's cron refuses it.
+    /// Its command, with the input behind a percent sign, has 999 bytes or more: Debian's cron
+    /// refuses it.
     LongCommand,
     /// It is the first past 10,000 lines: Debian's cron refuses the file.
     ManyLines,

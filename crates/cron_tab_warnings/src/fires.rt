@@ -19,7 +19,8 @@ fn never_matches(fields: &ScheduleFields) -> bool
 }
 
 fn none_matches(schedules: &[ScheduleFields]) -> bool
-    ensures { IsTrue result ↔ ((c : ℕ) → c < seconds_in_range → matches_one schedules.now (civil c) ≡ false) }
+    ensures { IsTrue result
+        ↔ ((c : ℕ) → c < seconds_in_range → matches_one schedules.now (civil c) ≡ false) }
 {
     for fields in schedules {
         if !never_matches(fields) {
@@ -29,7 +30,8 @@ fn none_matches(schedules: &[ScheduleFields]) -> bool
     true
 }
 
-/// Tells whether an expression never fires: no civil second of 1970 to 2100 matches, as of `0 0 30 2 *`.
+/// Tells whether an expression never fires: no civil second of 1970 to 2100 matches, as of
+/// `0 0 30 2 *`.
 pub fn never_runs(expression: &Expression) -> bool
     ensures { IsTrue result ↔ NeverRuns (expression_view expression.now) }
 {

@@ -5,8 +5,8 @@ ghost use Rattle.std.specs.Str.Lossy.{utf8_valid_len};
 
 use std::str;
 
-/// The longest front of a line that is text. The fields of an entry are ASCII, so it has all of them, whatever
-/// bytes stand in the command.
+/// The longest front of a line that is text. The fields of an entry are ASCII, so it has all of
+/// them, whatever bytes stand in the command.
 pub fn text_of(line: &[u8]) -> &str
     ensures { result.now ≡ take (utf8_valid_len line.now) line.now }
 {

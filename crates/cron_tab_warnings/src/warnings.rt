@@ -26,7 +26,8 @@ pub enum Warning {
     StarStep(Field),
     /// Some month that is named lacks a day that is named: `0 0 31 * *`.
     LeftOutDays,
-    /// The first word behind five fields is itself a field, as behind one of seconds, or a question mark.
+    /// The first word behind five fields is itself a field, as behind one of seconds, or a question
+    /// mark.
     SixFields,
     /// The first two words behind five fields are themselves fields, the second one of years.
     SevenFields,
@@ -103,9 +104,9 @@ fn is_so(warning: Warning, text: &str) -> bool
     }
 }
 
-/// Tells whether a warning is due of an expression, by its text and what it means. The text may also be a
-/// line that begins with the fields; what stands behind the fifth is looked at by `SixFields` and
-/// `SevenFields` alone.
+/// Tells whether a warning is due of an expression, by its text and what it means. The text may
+/// also be a line that begins with the fields; what stands behind the fifth is looked at by
+/// `SixFields` and `SevenFields` alone.
 pub fn warns(warning: Warning, text: &str, expression: &Expression) -> bool
     ensures { IsTrue result ↔ Warns warning text.now (expression_view expression.now) }
 {
