@@ -1,8 +1,8 @@
 //! Lines of files that another cron reads otherwise, or refuses.
 
-ghost use Rattle.std.specs.Prelude.{◌≡◌, ◌==◌, ◌-◌, length, nat_le, slice_index};
+ghost use Rattle.std.specs.Prelude.{◌≡◌, ◌==◌, ◌<◌, nat_le};
 ghost use Rattle.cron_tab_lines.specs.Views.{file_line_view, outcome_view, entry_view};
-ghost use Rattle.cron_tab_warnings.specs.Files.{is_long, is_zone, task_len, warns_line};
+ghost use Rattle.cron_tab_warnings.specs.Files.{ends_in_return, has_two_backslashes, is_long, is_zone, keeps_return, last_byte, loses_backslash, task_len, warns_line};
 
 use cron_tab_lines::{Entry, FileLine, Line, Refusal};
 
@@ -17,6 +17,12 @@ pub enum LineWarning {
     /// Its command, with the input behind a percent sign, has 999 bytes or more: Debian's cron
     /// refuses it.
     LongCommand,
+    /// Its command, or the input behind a percent sign, ends in a carriage return, which stands in
+    /// front of the line feed of another system and stays.
+    ReturnAtEnd,
+    /// Two backslashes stand in front of the percent sign that ends its command. Debian's cron
+    /// makes one of them.
+    TwoBackslashes,
     /// It is the first past 10,000 lines: Debian's cron refuses the file.
     ManyLines,
     /// It is the last, and no line feed ends it: Debian's cron refuses the file.
@@ -24,9 +30,11 @@ pub enum LineWarning {
 }
 
 /// All warnings of a file's line.
-pub const LINE_WARNINGS: [LineWarning; 4] = [
+pub const LINE_WARNINGS: [LineWarning; 6] = [
     LineWarning::IgnoredZone,
     LineWarning::LongCommand,
+    LineWarning::ReturnAtEnd,
+    LineWarning::TwoBackslashes,
     LineWarning::ManyLines,
     LineWarning::NoLineFeed,
 ];
@@ -56,12 +64,49 @@ fn is_long(read: &Result<Line<'_>, Refusal<'_>>) -> bool
     }
 }
 
-fn has_line_feed(bytes: &[u8]) -> bool
-    ensures { result ≡ (slice_index bytes.now (length bytes.now - 1) == 10) }
+fn ends_in(bytes: &[u8], byte: u8) -> bool
+    requires { 0 < byte }
+    ensures { result ≡ (last_byte bytes.now == byte) }
 {
     match bytes.last() {
-        Some(byte) => *byte == b'\n',
+        Some(last) => *last == byte,
         None => false,
+    }
+}
+
+fn keeps_return(entry: &Entry<'_>) -> bool
+    ensures { result ≡ keeps_return (entry_view entry.now) }
+{
+    match entry.input {
+        Some(input) => ends_in(input, b'\r'),
+        None => ends_in(entry.command, b'\r'),
+    }
+}
+
+fn has_two_backslashes(entry: &Entry<'_>) -> bool
+    ensures { result ≡ has_two_backslashes (entry_view entry.now) }
+{
+    match entry.input {
+        Some(_) => entry.command.ends_with(b"\\\\".as_slice()),
+        None => false,
+    }
+}
+
+fn ends_in_return(read: &Result<Line<'_>, Refusal<'_>>) -> bool
+    ensures { result ≡ ends_in_return (outcome_view read.now) }
+{
+    match read {
+        Ok(Line::Entry(entry)) => keeps_return(entry),
+        _ => false,
+    }
+}
+
+fn loses_backslash(read: &Result<Line<'_>, Refusal<'_>>) -> bool
+    ensures { result ≡ loses_backslash (outcome_view read.now) }
+{
+    match read {
+        Ok(Line::Entry(entry)) => has_two_backslashes(entry),
+        _ => false,
     }
 }
 
@@ -72,7 +117,9 @@ pub fn warns_line(warning: LineWarning, line: &FileLine<'_>) -> bool
     match warning {
         LineWarning::IgnoredZone => is_zone(&line.read),
         LineWarning::LongCommand => is_long(&line.read),
+        LineWarning::ReturnAtEnd => ends_in_return(&line.read),
+        LineWarning::TwoBackslashes => loses_backslash(&line.read),
         LineWarning::ManyLines => line.number == 10_001,
-        LineWarning::NoLineFeed => !has_line_feed(line.bytes),
+        LineWarning::NoLineFeed => !ends_in(line.bytes, b'\n'),
     }
 }

@@ -26,6 +26,12 @@ fn line_warning_text(warning: LineWarning) -> &'static str
     match warning {
         LineWarning::IgnoredZone => "Debian's cron ignores CRON_TZ",
         LineWarning::LongCommand => "Debian's cron refuses a command of 999 bytes or more",
+        LineWarning::ReturnAtEnd => {
+            "a carriage return stays at the end of the command or of its input"
+        }
+        LineWarning::TwoBackslashes => {
+            "of two backslashes in front of a % Debian's cron leaves one"
+        }
         LineWarning::ManyLines => "Debian's cron refuses a file of more than 10000 lines",
         LineWarning::NoLineFeed => {
             "Debian's cron refuses a file whose last line has no line feed"
