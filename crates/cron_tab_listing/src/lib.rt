@@ -3,11 +3,13 @@
 #![tactic(auto)]
 
 mod adding;
+mod changed_days;
 mod error;
 mod listing;
 mod tab_entry;
 
 pub use adding::{Clock, add_line, add_lines, changes_of};
+pub use changed_days::{ChangedDay, list_changes};
 pub use error::{LineError, ListError};
 pub use listing::{TabFire, list_fires, next_fire};
 pub use tab_entry::TabEntry;
