@@ -7,6 +7,7 @@
 
 mod crons;
 mod files;
+mod large;
 mod line_warnings;
 mod masks;
 mod messages;
@@ -33,15 +34,18 @@ enum Kind {
     Warnings,
     /// A file, and the warnings of its lines.
     LineWarnings,
+    /// A large file, and how many of its lines are of each kind.
+    Large,
 }
 
-const FILES: [(Kind, &str); 6] = [
+const FILES: [(Kind, &str); 7] = [
     (Kind::Crons, "lines.tsv"),
     (Kind::Schedules, "schedules.txt"),
     (Kind::Messages, "messages.txt"),
     (Kind::Files, "files.tsv"),
     (Kind::Warnings, "warnings.tsv"),
     (Kind::LineWarnings, "line_warnings.tsv"),
+    (Kind::Large, "large.tsv"),
 ];
 
 fn replay_row(report: &mut Report<'_>, kind: Kind, row: Row<'_>) -> Result<()> {
@@ -52,6 +56,7 @@ fn replay_row(report: &mut Report<'_>, kind: Kind, row: Row<'_>) -> Result<()> {
         Kind::Files => files::replay(report, row),
         Kind::Warnings => warnings::replay(report, row),
         Kind::LineWarnings => line_warnings::replay(report, row),
+        Kind::Large => large::replay(report, row),
     }
 }
 
