@@ -1,5 +1,5 @@
 -- The fires of a plan, by the first one.
-use Rattle.std.proofs.Common.{◌≡◌, ◌-◌, ℕ, zero, suc, nat_eq, ℤ, Bool, false, Option, Some, None, List, [], ◌∷◌, take, refl, ap, arith}
+use Rattle.std.proofs.Common.{◌≡◌, ◌-◌, ℕ, zero, suc, nat_eq, ℤ, Bool, true, false, Option, Some, None, List, [], ◌∷◌, take, refl, ap, arith}
 use Rattle.std.specs.Prelude.{◌*ℤ◌, ◌<ℤ◌, ◌≤ℤ◌, pos, slice_get}
 use Rattle.std.specs.Option.{option_eq}
 use Rattle.std.proofs.lemmas.Int.{ints}
@@ -68,3 +68,6 @@ none_due instant after past s z start most now r afters pasts e late =
 
 pub late_by : {A : Type 0} (instant : A → ℤ) (i now : ℤ) (r : A) → i ≡ instant r *ℤ pos 1_000_000_000 → now <ℤ i → is_by instant now r ≡ false
 late_by instant i now r e late = grind (arith, ints)
+
+pub due_by : {A : Type 0} (instant : A → ℤ) (i now : ℤ) (r : A) → i ≡ instant r *ℤ pos 1_000_000_000 → i ≤ℤ now → is_by instant now r ≡ true
+due_by instant i now r e early = grind (arith, ints)

@@ -20,6 +20,12 @@ pub record ClockCalls (C E : Type 0) : Type 1 where
 abbrev pub clock_calls : {C E : Type 0} → (C → Result Timestamp E → C → Type 0) → (C → Timestamp → Result ⊤ E → C → Type 0) → ClockCalls C E
 clock_calls shows waits = record { shows = shows; waits = waits }
 
+-- the clock was asked to wait until an instant, and where it did it was read
+abbrev pub Wakes : {C E : Type 0} → (C → Result Timestamp E → C → Type 0) → (C → Timestamp → Result ⊤ E → C → Type 0) → Timestamp
+    → C → Result Timestamp E → C → Type 0
+Wakes {C} shows waits t c (Ok now) c' = (mid : C) × waits c t (Ok tt) mid × shows mid (Ok now) c'
+Wakes {C} shows waits t c (Err e) c' = waits c t (Err e) c' ⊎ ((mid : C) × waits c t (Ok tt) mid × shows mid (Err e) c')
+
 -- The calls were made one after another: from a clock and a job to what they were afterwards.
 abbrev pub Happened : {A C J E F : Type 0} → (C → Result Timestamp E → C → Type 0) → (C → Timestamp → Result ⊤ E → C → Type 0)
     → (J → A → Result ⊤ F → J → Type 0) → List (Event A E F) → C → J → C → J → Type 0

@@ -2,6 +2,7 @@
 
 ghost use Rattle.std.specs.Prelude.{⊤, Result};
 ghost use Rattle.jiff_core.specs.declared.Timestamp.{Timestamp};
+ghost use Rattle.cron_scheduler.specs.Runs.{Wakes};
 
 use jiff::Timestamp;
 
@@ -24,4 +25,12 @@ pub trait AlarmClock {
     /// Waits until the clock shows this instant. It may come back early, or late.
     fn sleep_until(&mut self, instant: Timestamp) -> Result<(), Self::Error>
         ensures { waits self.old instant result self.new };
+}
+
+/// Waits until an instant, and tells what the clock shows then.
+pub fn wake_at<C: AlarmClock>(clock: &mut C, instant: Timestamp) -> Result<Timestamp, C::Error>
+    ensures { Wakes C.shows C.waits instant clock.old result clock.new }
+{
+    clock.sleep_until(instant)?;
+    clock.now()
 }

@@ -24,7 +24,7 @@ mod plan;
 mod runs;
 mod stop;
 
-pub use clock::AlarmClock;
+pub use clock::{AlarmClock, wake_at};
 pub use job::Job;
 pub use machine::MachineClock;
 pub use plan::{Plan, Start};

@@ -2,7 +2,8 @@
 
 ghost use Rattle.std.specs.Prelude.{◌≡◌, ◌-◌};
 ghost use Rattle.std.specs.Option.{option_map};
-ghost use Rattle.cron_scheduler.specs.Inner.Passing.{IsFirstDueLeft, IsFirstLeft};
+ghost use Rattle.jiff.specs.Words.{plain_zone};
+ghost use Rattle.cron_scheduler.specs.Inner.Passing.{IsFirst, IsFirstDueLeft, IsFirstLeft};
 ghost use Rattle.cron_scheduler.specs.declared.plan.Start.TheVariants.{Past};
 
 use cron::Schedule;
@@ -34,33 +35,24 @@ pub struct Plan<'a, F> {
     pub most: Option<u64>,
 }
 
-/// What is left of a plan.
+/// What is left of a plan, and the first of it.
 #[derive(Clone, Copy)]
 pub(crate) struct Rest<F> {
     pub(crate) start: Start<F>,
     pub(crate) most: Option<u64>,
-}
-
-impl<F: Fire> Rest<F> {
-    // Leaves out the first fire.
-    pub(crate) fn pass(&mut self, first: F)
-        ensures start { self.new.start ≡ Past first }
-        ensures most { self.new.most ≡ option_map (λ n. n - 1) self.old.most }
-    {
-        self.start = Start::Past(first);
-        self.most = self.most.map(|most| most.saturating_sub(1));
-    }
+    pub(crate) next: Option<F>,
 }
 
 impl<F: Fire> Plan<'_, F> {
-    // The first of the fires that are left.
-    pub(crate) fn first(&self, rest: &Rest<F>) -> Option<F>
-        ensures { IsFirstLeft F.after F.past self.now rest.now result }
+    // The first of the fires from a start on, of which there are so many at most.
+    pub(crate) fn first(&self, start: Start<F>, most: Option<u64>) -> Option<F>
+        ensures { IsFirst F.after F.past self.now.schedule.now.sets (plain_zone self.now.zone.now)
+            start most result }
     {
-        if rest.most == Some(0) {
+        if most == Some(0) {
             return None;
         }
-        match rest.start {
+        match start {
             Start::After(now) => F::first_after(self.schedule, now, self.zone),
             Start::Past(fire) => F::first_past(self.schedule, &fire, self.zone),
         }
@@ -68,13 +60,28 @@ impl<F: Fire> Plan<'_, F> {
 
     // The first of the fires that are left, if its instant is now or came before.
     pub(crate) fn first_due(&self, rest: &Rest<F>, now: Timestamp) -> Option<F>
+        requires { IsFirstLeft F.after F.past self.now rest.now rest.now.next }
         ensures { IsFirstDueLeft F.at F.after F.past self.now rest.now now.nanosecond result }
     {
-        let first = self.first(rest)?;
+        let Some(first) = rest.next else {
+            return None;
+        };
         F::never_decrease();
         if first.instant() > now {
             return None;
         }
         Some(first)
+    }
+
+    // What is left behind the first fire. It is searched for once.
+    pub(crate) fn behind(&self, rest: &Rest<F>, first: F) -> Rest<F>
+        ensures start { result.start ≡ Past first }
+        ensures most { result.most ≡ option_map (λ n. n - 1) rest.now.most }
+        ensures next { IsFirstLeft F.after F.past self.now result result.next }
+    {
+        let start = Start::Past(first);
+        let most = rest.most.map(|most| most.saturating_sub(1));
+        let next = self.first(start, most);
+        Rest { start, most, next }
     }
 }

@@ -3,22 +3,14 @@
 ghost use Rattle.std.specs.Prelude.{◌≡◌};
 ghost use Rattle.cron_scheduler.specs.Plans.{fires_of};
 ghost use Rattle.cron_scheduler.specs.Runs.{IsRun, clock_calls};
-ghost use Rattle.cron_scheduler.specs.Inner.Passing.{RunsDue, Wakes, left_of};
+ghost use Rattle.cron_scheduler.specs.Inner.Passing.{IsFirstLeft, RunsDue, left_of};
 
-use crate::clock::AlarmClock;
+use crate::clock::{AlarmClock, wake_at};
 use crate::job::Job;
 use crate::plan::{Plan, Rest};
 use crate::stop::Stop;
 use cron_fires::Fire;
 use jiff::Timestamp;
-
-// Waits until an instant, and tells what the clock shows then.
-fn wake_at<C: AlarmClock>(clock: &mut C, instant: Timestamp) -> Result<Timestamp, C::Error>
-    ensures { Wakes C.shows C.waits instant clock.old result clock.new }
-{
-    clock.sleep_until(instant)?;
-    clock.now()
-}
 
 // Runs the job for each fire that is due by now, and leaves these fires out.
 fn run_due<F: Fire, J: Job<F>>(
@@ -27,16 +19,18 @@ fn run_due<F: Fire, J: Job<F>>(
     now: Timestamp,
     job: &mut J,
 ) -> Result<(), J::Error>
-    requires { J.can_run job.old }
+    requires can { J.can_run job.old }
+    requires next { IsFirstLeft F.after F.past plan.now rest.old rest.old.next }
     ensures due { RunsDue F.at J.runs now.nanosecond
         (left_of F.after F.past plan.now rest.old, job.old)
         result
         (left_of F.after F.past plan.now rest.new, job.new) }
     ensures stays { J.can_run job.new }
+    ensures next { IsFirstLeft F.after F.past plan.now rest.new rest.new.next }
 {
     while let Some(fire) = plan.first_due(rest, now) {
         job.run(fire)?;
-        rest.pass(fire);
+        *rest = plan.behind(rest, fire);
     }
     Ok(())
 }
@@ -66,9 +60,10 @@ impl<F: Fire> Plan<'_, F> {
         let mut rest = Rest {
             start: self.start,
             most: self.most,
+            next: self.first(self.start, self.most),
         };
         for _ in 0..u64::MAX {
-            let Some(fire) = self.first(&rest) else {
+            let Some(fire) = rest.next else {
                 return Ok(());
             };
             let now = match wake_at(clock, fire.instant()) {

@@ -1,7 +1,6 @@
 -- A clock that is waited for and read, and a job that is run for what is due, fire by fire.
-use Rattle.std.specs.Prelude.{◌≡◌, ◌⊎◌, ◌++◌, ◌-◌, ℤ, ℕ, Bool, true, false, Option, List, [], ◌∷◌, Result, Ok, Err, ⊤, MatchOption}
+use Rattle.std.specs.Prelude.{◌≡◌, ◌++◌, ◌-◌, ℤ, ℕ, Bool, true, false, Option, List, [], ◌∷◌, Result, Ok, Err, ⊤, MatchOption}
 use Rattle.std.specs.Option.{option_map}
-use Rattle.jiff_core.specs.declared.Timestamp.{Timestamp}
 use Rattle.jiff.specs.Words.{plain_zone}
 use Rattle.jiff_tz.specs.declared.timezone.TimeZone.{TimeZone}
 use Rattle.cron_units.specs.Sets.{Sets}
@@ -49,12 +48,6 @@ abbrev pub IsFirstDueLeft : {A : Type 0} → (A → ℤ) → (Sets → TimeZone 
     → Option A → Type 0
 IsFirstDueLeft instant after past p rest now answer =
     IsFirstDue instant after past p.schedule.now.sets (plain_zone p.zone.now) rest.start rest.most now answer
-
--- the clock was asked to wait until an instant, and where it did it was read
-abbrev pub Wakes : {C E : Type 0} → (C → Result Timestamp E → C → Type 0) → (C → Timestamp → Result ⊤ E → C → Type 0) → Timestamp
-    → C → Result Timestamp E → C → Type 0
-Wakes {C} shows waits t c (Ok now) c' = (mid : C) × waits c t (Ok tt) mid × shows mid (Ok now) c'
-Wakes {C} shows waits t c (Err e) c' = waits c t (Err e) c' ⊎ ((mid : C) × waits c t (Ok tt) mid × shows mid (Err e) c')
 
 -- the job was run for these fires, one after another, and did well each time
 abbrev pub RanFor : {A J F : Type 0} → (J → A → Result ⊤ F → J → Type 0) → List A → J → J → Type 0

@@ -1,5 +1,6 @@
 use Rattle.jiff.specs.Words.{plain_zone}
 use Rattle.cron_scheduler.specs.Plans.{planned}
+use Rattle.cron_scheduler.specs.Inner.Passing.{IsFirst}
 use Rattle.cron_scheduler.proofs.RunLemmas.{Stands}
 use Rattle.cron_scheduler.proofs.plan.Plan.run.Given as goal
 
@@ -10,3 +11,4 @@ invariant-loop g l =
     (planned g.F.Fire.after g.F.Fire.past l.self.schedule.now.sets (plain_zone l.self.zone.now) l.rest.start l.rest.most)
     l.counter l.initial.clock l.initial.job l.clock l.job)
     × g.J.Job.can_run l.job
+    × IsFirst g.F.Fire.after g.F.Fire.past l.self.schedule.now.sets (plain_zone l.self.zone.now) l.rest.start l.rest.most l.rest.next
