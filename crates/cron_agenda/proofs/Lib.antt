@@ -1,4 +1,8 @@
 pub mod TreeLemmas
+pub mod ListLemmas
 pub mod SlotLemmas
+pub mod FirstLemmas
+pub mod IdLemmas
+pub mod EntryLemmas
 pub mod FireLemmas
 pub mod MergeLemmas

@@ -1,6 +1,7 @@
 use Rattle.std.proofs.Common.{◌+◌, ◌-◌, ◌/◌, length, refl, sym, ◌∙◌, arith}
 use Rattle.std.proofs.lemmas.Option.{slice_get_read}
-use Rattle.cron_agenda.proofs.SlotLemmas.{before_id, behind_id, dead_id, has_fire}
+use Rattle.cron_agenda.proofs.ListLemmas.{has_fire}
+use Rattle.cron_agenda.proofs.IdLemmas.{before_id, behind_id, dead_id}
 use Rattle.cron_agenda.proofs.agenda.place_of.Goals as goal
 
 pub returns-then-is_some : goal.returns-then-is_some

@@ -4,7 +4,8 @@ use Rattle.std.specs.Option.{option_map}
 use Rattle.std.proofs.lemmas.Option.{slice_get-map}
 use Rattle.jiff.specs.Words.{plain_zone}
 use Rattle.cron_agenda.specs.Fires.{fires_after}
-use Rattle.cron_agenda.proofs.SlotLemmas.{added, get_there}
+use Rattle.cron_agenda.proofs.ListLemmas.{get_there}
+use Rattle.cron_agenda.proofs.EntryLemmas.{added}
 use Rattle.cron_agenda.proofs.agenda.Agenda.add.Goals as goal
 
 pub returns : goal.returns

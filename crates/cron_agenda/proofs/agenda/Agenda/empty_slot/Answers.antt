@@ -4,7 +4,8 @@ use Rattle.std.proofs.lemmas.List.{length-map}
 use Rattle.cron_agenda.specs.declared.slots.Slot.{Slot}
 use Rattle.cron_agenda.specs.Entries.{listed}
 use Rattle.cron_agenda.specs.Inner.Slots.{HasEntry, IdsAscend, instant_of}
-use Rattle.cron_agenda.proofs.SlotLemmas.{is_without, kept-less, live_there, was_there, with_head, without-none}
+use Rattle.cron_agenda.proofs.SlotLemmas.{with_head}
+use Rattle.cron_agenda.proofs.IdLemmas.{is_without, kept-less, live_there, was_there, without-none}
 use Rattle.cron_agenda.proofs.agenda.Agenda.empty_slot.Goals as goal
 
 pub returns-in_default-clause-found : goal.returns-in_default-clause-found
@@ -33,21 +34,21 @@ set-requires g c =
 pub overflow_sub-self : goal.overflow_sub-self
 overflow_sub-self g c =
     let found = subst (λ l. HasEntry l c.args.id c.in-Some.place) c.deref.ensures.value c.in-Some.ensures in
-    live_there c.self.inside.slots.items c.self.inside.firsts c.self.inside.live c.self.inside.added c.self.invariant c.args.id c.in-Some.place found
+    live_there c.self.invariant found
 
 pub invariant_of-self : goal.invariant_of-self
 invariant_of-self g c =
     let found = subst (λ l. HasEntry l c.args.id c.in-Some.place) c.deref.ensures.value c.in-Some.ensures in
     let same : c.index_mut-slot.result.now.id ≡ found.slot.id = ap (λ (v : Slot _). v.id) (c.index_mut-slot.ensures.value ∙ get_or_from_slice_get c.self.inside.slots.items c.in-Some.place found.slot c.index_mut-slot.result.now found.here) in
-    rw c.set.ensures (kept-less c.self.inside.slots.items c.self.inside.firsts c.self.inside.live c.self.inside.added c.self.invariant c.args.id c.in-Some.place found (with_head None c.index_mut-slot.result.now) same refl)
+    rw c.set.ensures (kept-less c.self.invariant found (with_head None c.index_mut-slot.result.now) same refl)
 
 pub returns-clause-found : goal.returns-clause-found
 returns-clause-found g c =
     let found = subst (λ l. HasEntry l c.args.id c.in-Some.place) c.deref.ensures.value c.in-Some.ensures in
-    rw (← c.self.view_is) (sym (was_there c.self.inside.slots.items c.self.inside.firsts c.self.inside.live c.self.inside.added c.self.invariant c.args.id c.in-Some.place found))
+    rw (← c.self.view_is) (sym (was_there c.self.invariant found))
 
 pub returns-clause-rest : goal.returns-clause-rest
 returns-clause-rest g c =
     let found = subst (λ l. HasEntry l c.args.id c.in-Some.place) c.deref.ensures.value c.in-Some.ensures in
     let same : c.index_mut-slot.result.now.id ≡ found.slot.id = ap (λ (v : Slot _). v.id) (c.index_mut-slot.ensures.value ∙ get_or_from_slice_get c.self.inside.slots.items c.in-Some.place found.slot c.index_mut-slot.result.now found.here) in
-    rw (← c.self.view_is) (ap (λ es. listed es c.self.inside.added) (is_without c.self.inside.slots.items c.self.inside.firsts c.self.inside.live c.self.inside.added c.self.invariant c.args.id c.in-Some.place found (with_head None c.index_mut-slot.result.now) same refl))
+    rw (← c.self.view_is) (ap (λ es. listed es c.self.inside.added) (is_without c.self.invariant found (with_head None c.index_mut-slot.result.now) same refl))

@@ -2,7 +2,7 @@ use Rattle.std.proofs.Common.{◌≡◌, ℕ, Some, length, refl, sym, subst, ru
 use Rattle.std.specs.Prelude.{slice_get}
 use Rattle.std.proofs.lemmas.Option.{slice_get_read, slice_get_within}
 use Rattle.cron_agenda.specs.Inner.Slots.{HasEntry, IdsAscend}
-use Rattle.cron_agenda.proofs.SlotLemmas.{entry_there, without-none}
+use Rattle.cron_agenda.proofs.IdLemmas.{entry_there, without-none}
 use Rattle.cron_agenda.proofs.agenda.Agenda.get.Goals as goal
 
 pub returns-in_err-place : goal.returns-in_err-place
@@ -22,4 +22,4 @@ returns g c =
     let less = slice_get_within c.self.inside.slots.items c.in_ok-place.place found.slot found.here in
     let here : slice_get c.self.inside.slots.items c.in_ok-place.place ≡ Some c.index.result.now =
     slice_get_read c.self.inside.slots.items (length c.self.inside.slots.items) c.in_ok-place.place c.index.result.now refl less c.index.ensures in
-    rw (← c.self.view_is) (entry_there c.self.inside.slots.items c.self.inside.firsts c.self.inside.live c.self.inside.added c.self.invariant c.args.id c.in_ok-place.place found c.index.result.now here c.entry.result c.entry.ensures)
+    rw (← c.self.view_is) (entry_there c.self.invariant found c.index.result.now here c.entry.result c.entry.ensures)

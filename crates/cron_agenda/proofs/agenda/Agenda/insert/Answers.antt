@@ -5,7 +5,8 @@ use Rattle.cron_agenda.specs.declared.slots.Slot.{Slot}
 use Rattle.cron_agenda.specs.Entries.{listed}
 use Rattle.cron_agenda.specs.Fires.{instant}
 use Rattle.cron_agenda.specs.Inner.Slots.{entries_of}
-use Rattle.cron_agenda.proofs.SlotLemmas.{entries-fewer, entries-more, kept-more, on_ok}
+use Rattle.cron_agenda.proofs.ListLemmas.{on_ok}
+use Rattle.cron_agenda.proofs.SlotLemmas.{entries-fewer, entries-more, kept-more}
 use Rattle.cron_agenda.proofs.agenda.Agenda.insert.Goals as goal
 
 pub overflow_add-self-2 : goal.overflow_add-self-2

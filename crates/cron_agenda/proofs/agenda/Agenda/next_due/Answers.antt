@@ -5,7 +5,7 @@ use Rattle.jiff_core.proofs.SignedLemmas.{signed_arith}
 use Rattle.cron_clocks.proofs.Windows.{le_no, le_yes}
 use Rattle.cron_agenda.specs.Entries.{is_by}
 use Rattle.cron_agenda.specs.Fires.{instant}
-use Rattle.cron_agenda.proofs.SlotLemmas.{due_next, none_due}
+use Rattle.cron_agenda.proofs.EntryLemmas.{due_next, none_due}
 use Rattle.cron_agenda.proofs.agenda.Agenda.next_due.Goals as goal
 
 pub returns-then-gt : goal.returns-then-gt
