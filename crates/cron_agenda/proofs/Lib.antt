@@ -6,3 +6,4 @@ pub mod IdLemmas
 pub mod EntryLemmas
 pub mod FireLemmas
 pub mod MergeLemmas
+pub mod RestLemmas

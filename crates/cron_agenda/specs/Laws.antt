@@ -1,16 +1,17 @@
 -- What holds of the fires that entries have left, merged.
-use Rattle.std.specs.Prelude.{◌≡◌, ℕ, ◌<◌, ℤ, false, Some, List, [], ◌∷◌, Result, slice_get}
+use Rattle.std.specs.Prelude.{◌≡◌, ℕ, ◌<◌, ℤ, false, Some, List, [], ◌∷◌, ◌++◌, Result, Ok, Err, map, slice_get}
 use Rattle.std.specs.List.Sorted.{IsPermutation}
 use Rattle.jiff_tz.specs.declared.timezone.TimeZone.{TimeZone}
 use Rattle.cron_units.specs.Sets.{Sets}
 use Rattle.cron_agenda.specs.declared.entry.Entry.{Entry}
 use Rattle.cron_agenda.specs.declared.error.AddError.{AddError}
+use Rattle.cron_agenda.specs.declared.error.AddError.TheVariants.{NoFires}
 use Rattle.cron_agenda.specs.declared.fire.AgendaFire.{AgendaFire}
 use Rattle.cron_fires.specs.declared.changes.ClockChanges.{ClockChanges}
 use Rattle.cron_agenda.specs.declared.fire.EntryFire.{EntryFire}
-use Rattle.cron_agenda.specs.Entries.{Adds, IsTaken, Listed, without}
+use Rattle.cron_agenda.specs.Entries.{Adds, HaveIds, IsTaken, Listed, entry, without}
 use Rattle.cron_agenda.specs.Fires.{fires_after, fires_past}
-use Rattle.cron_agenda.specs.Merged.{AllAscend, Ascend, OwnFire, all_of, left, merged, own, owned, precedes}
+use Rattle.cron_agenda.specs.Merged.{AllAscend, AreTaken, Ascend, OwnFire, all_of, in_order, left, left_behind, merged, own, own_of, owned, precedes, rest_in}
 
 -- What is taken is the first of the merged fires, and leaves the others, where those of each entry ascend; and they do so then.
 abbrev pub TakenIsTheFirst : {T : Type 0} → (T → List Sets) → Type 0
@@ -57,3 +58,31 @@ OneEntryIsItsFires {T} schedules =
     (zones : List TimeZone) (e : Entry T)
     → Ascend (left schedules zones e)
     → merged schedules zones (e ∷ []) ≡ owned e.id (left schedules zones e)
+
+-- What is taken one after another is a front of the merged fires, and leaves the rest ..
+abbrev pub TakenAreTheFront : {T : Type 0} → (T → List Sets) → Type 0
+TakenAreTheFront {T} schedules =
+    (zones : List TimeZone) (fires : List AgendaFire) (old new : List (Entry T))
+    → AllAscend schedules zones old
+    → AreTaken schedules zones fires old new
+    → (merged schedules zones old ≡ map own_of fires ++ merged schedules zones new) × AllAscend schedules zones new
+
+-- .. which is what each entry has left behind the last of its own fires, merged: a run that is cut anywhere goes on from there.
+abbrev pub TheRestIsBehind : {T : Type 0} → (T → List Sets) → Type 0
+TheRestIsBehind {T} schedules =
+    (zones : List TimeZone) (fires : List AgendaFire) (old new : List (Entry T)) (low high : ℕ)
+    → HaveIds low old high
+    → AreTaken schedules zones fires old new
+    → merged schedules zones new ≡ in_order (left_behind schedules zones fires old)
+
+-- An entry that is added past a fire has left what comes behind it; and it would never fire exactly where nothing does.
+pub record AddedPastGoesOn {T : Type 0} (schedules : T → List Sets) : Type 0 where
+  pub added :
+      (zones : List TimeZone) (table : T) (zone : ℕ) (last : EntryFire) (old : Listed T) (id : ℕ) (new : Listed T)
+      → Adds schedules zones table zone (λ z. fires_past (schedules table) z last) old (Ok id) new
+      → (fire : EntryFire) × (new.entries ≡ old.entries ++ entry id table zone fire ∷ [])
+      × (left schedules zones (entry id table zone fire) ≡ rest_in (schedules table) (slice_get zones zone) last)
+  pub ended :
+      (zones : List TimeZone) (table : T) (zone : ℕ) (last : EntryFire) (old new : Listed T)
+      → Adds schedules zones table zone (λ z. fires_past (schedules table) z last) old (Err NoFires) new
+      → rest_in (schedules table) (slice_get zones zone) last ≡ []

@@ -2,11 +2,14 @@
 use Rattle.std.specs.Prelude.{◌≡◌, ℕ, Bool, true, ◌&&◌, ◌||◌, ◌==◌, int_lt, nat_lt, if◌then◌else◌, List, [], ◌∷◌, map, Option, Some, None, slice_get}
 use Rattle.std.specs.Ordering.{int_eq}
 use Rattle.std.specs.List.{flat_map}
+use Rattle.std.specs.Option.{option_or}
 use Rattle.jiff_tz.specs.declared.timezone.TimeZone.{TimeZone}
 use Rattle.cron_units.specs.Sets.{Sets}
 use Rattle.cron_instants.specs.Order.{comes_before}
 use Rattle.cron_agenda.specs.declared.entry.Entry.{Entry}
+use Rattle.cron_agenda.specs.declared.fire.AgendaFire.{AgendaFire}
 use Rattle.cron_agenda.specs.declared.fire.EntryFire.{EntryFire}
+use Rattle.cron_agenda.specs.Entries.{IsTaken}
 use Rattle.cron_agenda.specs.Fires.{civil_second, fires_past, instant}
 
 -- a fire with its entry's id
@@ -65,3 +68,25 @@ Ascend (f ∷ l) = IsEarlierThan f l × Ascend l
 abbrev pub AllAscend : {T : Type 0} → (T → List Sets) → List TimeZone → List (Entry T) → Type 0
 AllAscend schedules zones [] = Unit {0}
 AllAscend schedules zones (e ∷ es) = Ascend (left schedules zones e) × AllAscend schedules zones es
+
+abbrev pub own_of : AgendaFire → OwnFire
+own_of f = own f.id f.fire
+
+-- one fire after another was taken, each the first of the entries as they then were
+abbrev pub AreTaken : {T : Type 0} → (T → List Sets) → List TimeZone → List AgendaFire → List (Entry T) → List (Entry T) → Type 0
+AreTaken schedules zones [] old new = new ≡ old
+AreTaken {T} schedules zones (f ∷ fs) old new = (mid : List (Entry T)) × IsTaken schedules zones old f mid × AreTaken schedules zones fs mid new
+
+-- the last of some fires that is one of the entry with this id
+abbrev pub last_of : ℕ → List AgendaFire → Option EntryFire
+last_of id [] = None
+last_of id (f ∷ fs) = option_or (last_of id fs) (if f.id == id then Some f.fire else None)
+
+-- what an entry has left behind its last fire, where it has one
+abbrev pub behind : {T : Type 0} → (T → List Sets) → List TimeZone → Option EntryFire → Entry T → List EntryFire
+behind schedules zones None e = left schedules zones e
+behind schedules zones (Some last) e = rest_in (schedules e.table) (slice_get zones e.zone) last
+
+-- what all of them have left behind the last of their own among some fires, one entry after another
+abbrev pub left_behind : {T : Type 0} → (T → List Sets) → List TimeZone → List AgendaFire → List (Entry T) → List OwnFire
+left_behind schedules zones fires es = flat_map (λ e. owned e.id (behind schedules zones (last_of e.id fires) e)) es

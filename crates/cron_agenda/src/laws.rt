@@ -2,7 +2,7 @@
 
 ghost use Rattle.std.specs.Prelude.{List};
 ghost use Rattle.jiff_tz.specs.declared.timezone.TimeZone.{TimeZone};
-ghost use Rattle.cron_agenda.specs.Laws.{EntriesAscend, FiresAscend, MergedHasTheFires, MergedIsInOrder, OneEntryIsItsFires, TakenIsTheFirst};
+ghost use Rattle.cron_agenda.specs.Laws.{AddedPastGoesOn, EntriesAscend, FiresAscend, MergedHasTheFires, MergedIsInOrder, OneEntryIsItsFires, TakenAreTheFront, TakenIsTheFirst, TheRestIsBehind};
 
 use cron_fires::Timetable;
 
@@ -30,4 +30,12 @@ pub fn merged_has_the_fires<T: Timetable>()
 /// The merged fires of one entry are its own.
 pub fn one_entry_is_its_fires<T: Timetable>()
     ensures { OneEntryIsItsFires T.schedules }
+{}
+
+/// What is taken one after another is a front of the merged fires. What is left is what each entry has behind
+/// the last of its own: so who noted that, and adds the entry past it after a restart, goes on as uncut.
+pub fn cut_runs<T: Timetable>()
+    ensures front { TakenAreTheFront T.schedules }
+    ensures rest { TheRestIsBehind T.schedules }
+    ensures past { AddedPastGoesOn T.schedules }
 {}
