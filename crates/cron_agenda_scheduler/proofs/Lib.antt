@@ -1,1 +1,3 @@
+pub mod LateLemmas
 pub mod TurnLemmas
+pub mod LawLemmas

@@ -1,23 +1,82 @@
--- Fires that were run one after another, and one more.
-use Rattle.std.proofs.Common.{ℤ, Some, List, [], ◌∷◌, ◌++◌, refl, subst}
-use Rattle.std.specs.Prelude.{Result, Ok, ⊤}
-use Rattle.jiff_tz.specs.declared.timezone.TimeZone.{TimeZone}
-use Rattle.cron_units.specs.Sets.{Sets}
-use Rattle.cron_agenda.specs.declared.fire.AgendaFire.{AgendaFire}
-use Rattle.cron_agenda.specs.Entries.{Listed, TakesDue}
-use Rattle.cron_agenda_scheduler.specs.Turns.{AreRun}
+-- Deeds one after another, and turns.
+use Rattle.std.proofs.Common.{◌≡◌, ℕ, ◌+◌, ℤ, Bool, Some, None, List, [], ◌∷◌, ◌++◌, refl, subst, inl, inr, arith}
+use Rattle.std.specs.Prelude.{Option, Result, Ok, Err, ◌*ℤ◌, pos}
+use Rattle.jiff_core.specs.declared.Timestamp.{Timestamp}
+use Rattle.cron_agenda.specs.declared.entry.Entry.{Entry}
+use Rattle.cron_agenda.specs.Entries.{ComesFirst, Listed}
+use Rattle.cron_agenda.specs.Fires.{instant}
+use Rattle.cron_scheduler.specs.Runs.{ClockCalls, Wakes}
+use Rattle.cron_agenda_scheduler.specs.declared.stop.AgendaStop.{AgendaStop}
+use Rattle.cron_agenda_scheduler.specs.declared.picks.Pick.{Pick}
+use Rattle.cron_agenda_scheduler.specs.Inner.Picks.{Picks}
+use Rattle.cron_agenda_scheduler.specs.Late.{IsPicked, Tables}
+use Rattle.cron_agenda_scheduler.specs.Turns.{AreDone, AreTurns, Deed, IsDone, JobCalls, Looks, Passed, Ran, Turn, Turns, all_runs, runs_in}
 
-pub runs_on : {T J F : Type 0} (schedules : T → List Sets) (runs : J → AgendaFire → Listed T → Result ⊤ F → J → Listed T → Type 0) (zones : List TimeZone) (t : ℤ)
-    (fs : List AgendaFire) (a : Listed T) (j : J) (b : Listed T) (k : J) (f : AgendaFire) (c d : Listed T) (m : J)
-    → AreRun schedules runs zones t fs a j b k → TakesDue schedules zones t b (Ok (Some f)) c → runs k f c (Ok tt) m d
-    → AreRun schedules runs zones t (fs ++ f ∷ []) a j d m
-runs_on schedules runs zones t [] a j b k f c d m was takes run = (
-  c,
-  d,
-  m,
-  subst (λ x. TakesDue schedules zones t x (Ok (Some f)) c) was.0 takes,
-  subst (λ x. runs x f c (Ok tt) m d) was.1 run,
-  (refl, refl),
+pub done_on : {T J F : Type 0} (ts : Tables T) (js : JobCalls T J F) (t : ℤ) (ds : List Deed) (a : Listed T) (j : J) (b : Listed T) (k : J) (d : Deed)
+    (c : Listed T) (m : J) → AreDone ts js t ds a j b k → IsDone ts js t d b k c m → AreDone ts js t (ds ++ d ∷ []) a j c m
+done_on ts js t [] a j b k d c m was is =
+    (c, m, subst (λ x. IsDone ts js t d x j c m) was.0 (subst (λ y. IsDone ts js t d b y c m) was.1 is), (refl, refl))
+done_on ts js t (e ∷ ds) a j b k d c m was is = (was.0, was.1, was.2, done_on ts js t ds was.0 was.1 b k d c m was.3 is)
+
+pub runs_more : (ds : List Deed) (d : Deed) → runs_in (ds ++ d ∷ []) ≡ runs_in ds + runs_in (d ∷ [])
+runs_more [] d = omega arith
+runs_more (Ran f ∷ ds) d = let rest = runs_more ds d in omega arith
+runs_more (Passed f ∷ ds) d = runs_more ds d
+
+-- a turn of an agenda that has entries
+pub turned : {T C J E F : Type 0} {ts : Tables T} {cs : ClockCalls C E} {js : JobCalls T J F} {most : ℕ} {ds : List Deed} {c : C} {a : Listed T} {j : J}
+    {answer : Result (Option ℕ) (AgendaStop E F)} {c' : C} {a' : Listed T} {j' : J} {entry : Entry T} → ComesFirst a.entries entry
+    → (until : Timestamp) → until.nanosecond ≡ instant entry.fire *ℤ pos 1_000_000_000
+    → (look : Result Timestamp E) → Wakes cs.shows cs.waits until c look c' → Looks ts js most ds look a j answer a' j'
+    → Turn ts cs js most ds c a j answer c' a' j'
+turned {entry = entry} first until is look wakes looks =
+    record { entry = entry; first = first; until = until; is = is; look = look; wakes = wakes; looks = looks }
+
+pub turns_on : {T C J E F : Type 0} (ts : Tables T) (cs : ClockCalls C E) (js : JobCalls T J F) (dss : List (List Deed)) (most : ℕ) (c : C) (a : Listed T) (j : J)
+    (rest : ℕ) (d : C) (b : Listed T) (k : J) (ds : List Deed) (left : ℕ) (c' : C) (a' : Listed T) (j' : J) → AreTurns ts cs js dss most c a j rest d b k
+    → Turns ts cs js rest ds d b k (Ok (Some left)) c' a' j' → AreTurns ts cs js (dss ++ ds ∷ []) most c a j left c' a' j'
+turns_on ts cs js [] most c a j rest d b k ds left c' a' j' was turn = (
+  left,
+  c',
+  a',
+  j',
+  subst (λ x. Turns ts cs js x ds c a j (Ok (Some left)) c' a' j') was.0
+      (subst (λ x. Turns ts cs js rest ds x a j (Ok (Some left)) c' a' j') was.1
+      (subst (λ x. Turns ts cs js rest ds d x j (Ok (Some left)) c' a' j') was.2
+      (subst (λ x. Turns ts cs js rest ds d b x (Ok (Some left)) c' a' j') was.3 turn))),
+  (refl, refl, refl, refl),
 )
-runs_on schedules runs zones t (g ∷ fs) a j b k f c d m was takes run =
-    (was.0, was.1, was.2, was.3, was.4, runs_on schedules runs zones t fs was.1 was.2 b k f c d m was.5 takes run)
+turns_on ts cs js (here ∷ dss) most c a j rest d b k ds left c' a' j' was turn =
+    (was.0, was.1, was.2, was.3, was.4, turns_on ts cs js dss was.0 was.1 was.2 was.3 rest d b k ds left c' a' j' was.5 turn)
+
+-- how often the job was run in a turn
+looked : {T J E F : Type 0} (ts : Tables T) (js : JobCalls T J F) (most : ℕ) (ds : List Deed) (look : Result Timestamp E) (a : Listed T) (j : J) (left : ℕ)
+    (a' : Listed T) (j' : J) → Looks {E = E} ts js most ds look a j (Ok (Some left)) a' j' → runs_in ds + left ≡ most
+looked ts js most ds (Ok now) a j left a' j' looks = looks.ends.0
+looked ts js most ds (Err e) a j left a' j' looks = let no = looks.0 in absurd (cc)
+
+pub counted : {T C J E F : Type 0} (ts : Tables T) (cs : ClockCalls C E) (js : JobCalls T J F) (most : ℕ) (ds : List Deed) (c : C) (a : Listed T) (j : J) (left : ℕ)
+    (c' : C) (a' : Listed T) (j' : J) → Turns ts cs js most ds c a j (Ok (Some left)) c' a' j' → runs_in ds + left ≡ most
+counted ts cs js most ds c a j left c' a' j' (inl none) = let no = none.0 in absurd (cc)
+counted ts cs js most ds c a j left c' a' j' (inr turn) = looked ts js most ds turn.look a j left a' j' turn.looks
+
+pub all_more : (dss : List (List Deed)) (ds : List Deed) → all_runs (dss ++ ds ∷ []) ≡ all_runs dss + runs_in ds
+all_more [] ds = omega arith
+all_more (here ∷ dss) ds = let rest = all_more dss ds in omega arith
+
+-- a turn of an agenda without entries
+no_look : {T J E F : Type 0} (ts : Tables T) (js : JobCalls T J F) (most : ℕ) (ds : List Deed) (look : Result Timestamp E) (a : Listed T) (j : J)
+    (a' : Listed T) (j' : J) → Looks {E = E} ts js most ds look a j (Ok None) a' j' → ⊥
+no_look ts js most ds (Ok now) a j a' j' looks = looks
+no_look ts js most ds (Err e) a j a' j' looks = let no = looks.0 in cc
+
+pub none_turned : {T C J E F : Type 0} (ts : Tables T) (cs : ClockCalls C E) (js : JobCalls T J F) (most : ℕ) (ds : List Deed) (c : C) (a : Listed T) (j : J)
+    (c' : C) (a' : Listed T) (j' : J) → Turns ts cs js most ds c a j (Ok None) c' a' j' → (a.entries ≡ []) × (c' ≡ c) × (a' ≡ a) × (j' ≡ j)
+none_turned ts cs js most ds c a j c' a' j' (inl none) = (none.2, none.3, none.4, none.5)
+none_turned ts cs js most ds c a j c' a' j' (inr turn) = absurd (no_look ts js most ds turn.look a j a' j' turn.looks)
+
+-- what is picked, with what it is found to be
+pub picked_as : {T : Type 0} (ts : Tables T) (t : ℤ) (a : Listed T) (o : Option Pick) (pick : Pick) (b : Listed T) (run : Bool) → o ≡ Some pick
+    → pick.is_run ≡ run → Picks ts t a (Ok o) b → IsPicked ts t a pick.due run b
+picked_as ts t a o pick b run is told picks =
+    subst (λ (r : Bool). IsPicked ts t a pick.due r b) told (subst (λ (q : Option Pick). Picks ts t a (Ok q) b) is picks)

@@ -1,1 +1,4 @@
+pub mod Late
 pub mod Turns
+pub mod Laws
+pub mod Inner

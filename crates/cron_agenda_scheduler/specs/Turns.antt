@@ -1,71 +1,135 @@
--- What a step of the loop over an agenda does: a wait, a look, and a run of the job for each fire that is due.
-use Rattle.std.specs.Prelude.{◌≡◌, ◌⊎◌, ◌-◌, ◌^◌, ◌*ℤ◌, ℕ, ℤ, pos, Bool, true, false, Some, None, List, [], ◌∷◌, Result, Ok, Err, ⊤, length}
+-- What the loop over an agenda does: turn after turn, each a wait, a look at the clock, and all that is due then.
+use Rattle.std.specs.Prelude.{◌≡◌, ◌⊎◌, ◌+◌, ◌-◌, ◌^◌, ◌<◌, ◌*ℤ◌, ℕ, ℤ, pos, Bool, true, false, Option, Some, None, List, [], ◌∷◌, Result, Ok, Err, ⊤, length, map}
+use Rattle.std.specs.Option.{is_some}
 use Rattle.jiff_core.specs.declared.Timestamp.{Timestamp}
-use Rattle.jiff_tz.specs.declared.timezone.TimeZone.{TimeZone}
-use Rattle.cron_units.specs.Sets.{Sets}
 use Rattle.cron_agenda.specs.declared.entry.Entry.{Entry}
 use Rattle.cron_agenda.specs.declared.fire.AgendaFire.{AgendaFire}
 use Rattle.cron_agenda.specs.Entries.{ComesFirst, Listed, TakesDue}
 use Rattle.cron_agenda.specs.Fires.{instant}
+use Rattle.cron_scheduler.specs.Runs.{ClockCalls, Wakes}
 use Rattle.cron_agenda_scheduler.specs.declared.stop.AgendaStop.{AgendaStop}
 use Rattle.cron_agenda_scheduler.specs.declared.stop.AgendaStop.TheVariants.{Clock, Zone, Job}
+use Rattle.cron_agenda_scheduler.specs.Late.{IsPicked, Tables}
 
--- One fire after another was taken, each the first that was due by t of the agenda as it then was, and the job was run for it and went well.
-abbrev pub AreRun : {T J F : Type 0} → (T → List Sets) → (J → AgendaFire → Listed T → Result ⊤ F → J → Listed T → Type 0) → List TimeZone → ℤ → List AgendaFire
-    → Listed T → J → Listed T → J → Type 0
-AreRun schedules runs zones t [] a j a' j' = (a' ≡ a) × (j' ≡ j)
-AreRun {T} {J} schedules runs zones t (f ∷ fs) a j a' j' =
-    (b : Listed T) × (c : Listed T) × (k : J) × TakesDue schedules zones t a (Ok (Some f)) b × runs j f b (Ok tt) k c
-    × AreRun schedules runs zones t fs c k a' j'
+-- what the calls of a job do: a run, which has the agenda too, and a fire that it is told is passed over
+pub record JobCalls (T J F : Type 0) : Type 1 where
+  pub runs : J → AgendaFire → Listed T → Result ⊤ F → J → Listed T → Type 0
+  pub passes : J → AgendaFire → J → Type 0
 
--- What came behind so many runs: nothing was due any more, or 2^64 - 1 fires were run; or the job failed for one more, which was taken;
--- or a zone was missing.
-abbrev pub EndsTurn : {T J E F : Type 0} → (T → List Sets) → (J → AgendaFire → Listed T → Result ⊤ F → J → Listed T → Type 0) → List TimeZone → ℤ → ℕ
-    → Listed T → J → Result ⊤ (AgendaStop E F) → Listed T → J → Type 0
-EndsTurn schedules runs zones t count a j (Ok done) a' j' = (j' ≡ j) × (TakesDue schedules zones t a (Ok None) a' ⊎ ((a' ≡ a) × (count ≡ 2 ^ 64 - 1)))
-EndsTurn schedules runs zones t count a j (Err (Clock e)) a' j' = ⊥
-EndsTurn schedules runs zones t count a j (Err (Zone why)) a' j' = (j' ≡ j) × TakesDue schedules zones t a (Err why) a'
-EndsTurn {T} schedules runs zones t count a j (Err (Job e)) a' j' =
-    (f : AgendaFire) × (b : Listed T) × TakesDue schedules zones t a (Ok (Some f)) b × runs j f b (Err e) j' a'
+abbrev pub job_calls : {T J F : Type 0} → (J → AgendaFire → Listed T → Result ⊤ F → J → Listed T → Type 0) → (J → AgendaFire → J → Type 0) → JobCalls T J F
+job_calls runs passes = record { runs = runs; passes = passes }
 
--- all that was due by t was run, from an agenda and a job to what they were afterwards, up to what ended it
-pub record RunsDue {T J E F : Type 0} (schedules : T → List Sets) (runs : J → AgendaFire → Listed T → Result ⊤ F → J → Listed T → Type 0) (zones : List TimeZone)
-    (t : ℤ) (a : Listed T) (j : J) (answer : Result ⊤ (AgendaStop E F)) (a' : Listed T) (j' : J) : Type 0 where
-  pub fires : List AgendaFire
+-- what was done with a fire that was taken: the job was run for it and went well, or it was passed over
+pub data Deed : Type 0 where
+  Ran : AgendaFire → Deed
+  Passed : AgendaFire → Deed
+
+abbrev pub fire_of : Deed → AgendaFire
+fire_of (Ran f) = f
+fire_of (Passed f) = f
+
+-- the fires that were taken, in order
+abbrev pub taken : List Deed → List AgendaFire
+taken ds = map fire_of ds
+
+-- how often the job was run
+abbrev pub runs_in : List Deed → ℕ
+runs_in [] = 0
+runs_in (Ran f ∷ ds) = 1 + runs_in ds
+runs_in (Passed f ∷ ds) = runs_in ds
+
+-- the first fire that was due by t of the agenda as it was, and the job was run for it, or told, as the fire's entry says
+abbrev pub IsDone : {T J F : Type 0} → Tables T → JobCalls T J F → ℤ → Deed → Listed T → J → Listed T → J → Type 0
+IsDone {T} ts js t (Ran f) a j c k = (b : Listed T) × IsPicked ts t a f true b × js.runs j f b (Ok tt) k c
+IsDone ts js t (Passed f) a j c k = IsPicked ts t a f false c × js.passes j f k
+
+-- one after another
+abbrev pub AreDone : {T J F : Type 0} → Tables T → JobCalls T J F → ℤ → List Deed → Listed T → J → Listed T → J → Type 0
+AreDone ts js t [] a j a' j' = (a' ≡ a) × (j' ≡ j)
+AreDone {T} {J} ts js t (d ∷ ds) a j a' j' = (b : Listed T) × (k : J) × IsDone ts js t d a j b k × AreDone ts js t ds b k a' j'
+
+-- What came behind these deeds, where the job may be run so often: nothing was due any more, the job was run so often, or 2^64 - 1 fires
+-- were taken; or a zone was missing; or the job failed for one more.
+abbrev pub EndsTurn : {T J E F : Type 0} → Tables T → JobCalls T J F → ℤ → ℕ → List Deed → Listed T → J → Result ℕ (AgendaStop E F) → Listed T → J → Type 0
+EndsTurn ts js t most ds a j (Ok left) a' j' =
+    (runs_in ds + left ≡ most) × (j' ≡ j)
+    × (TakesDue ts.schedules ts.zones t a (Ok None) a' ⊎ ((a' ≡ a) × ((left ≡ 0) ⊎ (length ds ≡ 2 ^ 64 - 1))))
+EndsTurn ts js t most ds a j (Err (Clock e)) a' j' = ⊥
+EndsTurn ts js t most ds a j (Err (Zone why)) a' j' = (runs_in ds < most) × (j' ≡ j) × TakesDue ts.schedules ts.zones t a (Err why) a'
+EndsTurn {T} ts js t most ds a j (Err (Job e)) a' j' =
+    (runs_in ds < most) × (f : AgendaFire) × (b : Listed T) × IsPicked ts t a f true b × js.runs j f b (Err e) j' a'
+
+-- these deeds with all that was due by t, from an agenda and a job to what they were afterwards, up to what ended it
+pub record RunsDue {T J E F : Type 0} (ts : Tables T) (js : JobCalls T J F) (t : ℤ) (most : ℕ) (ds : List Deed) (a : Listed T) (j : J)
+    (answer : Result ℕ (AgendaStop E F)) (a' : Listed T) (j' : J) : Type 0 where
   pub agenda : Listed T
   pub job : J
-  pub are_run : AreRun schedules runs zones t fires a j agenda job
-  pub ends : EndsTurn schedules runs zones t (length fires) agenda job answer a' j'
+  pub are_done : AreDone ts js t ds a j agenda job
+  pub ends : EndsTurn ts js t most ds agenda job answer a' j'
 
 -- after a look at the clock
-abbrev pub Looks : {T J E F : Type 0} → (T → List Sets) → (J → AgendaFire → Listed T → Result ⊤ F → J → Listed T → Type 0) → List TimeZone
-    → Result Timestamp E → Listed T → J → Result Bool (AgendaStop E F) → Listed T → J → Type 0
-Looks schedules runs zones (Err e) a j answer a' j' = (answer ≡ Err (Clock e)) × (a' ≡ a) × (j' ≡ j)
-Looks {E = E} schedules runs zones (Ok now) a j (Ok went) a' j' = (went ≡ true) × RunsDue {E = E} schedules runs zones now.nanosecond a j (Ok tt) a' j'
-Looks schedules runs zones (Ok now) a j (Err stop) a' j' = RunsDue schedules runs zones now.nanosecond a j (Err stop) a' j'
-
--- after a wait
-abbrev pub Wakes : {T C J E F : Type 0} → (T → List Sets) → (C → Result Timestamp E → C → Type 0) → (J → AgendaFire → Listed T → Result ⊤ F → J → Listed T → Type 0)
-    → List TimeZone → Result ⊤ E → C → Listed T → J → Result Bool (AgendaStop E F) → C → Listed T → J → Type 0
-Wakes schedules shows runs zones (Err e) c a j answer c' a' j' = (answer ≡ Err (Clock e)) × (c' ≡ c) × (a' ≡ a) × (j' ≡ j)
-Wakes {E = E} schedules shows runs zones (Ok done) c a j answer c' a' j' =
-    (look : Result Timestamp E) × shows c look c' × Looks schedules runs zones look a j answer a' j'
+abbrev pub Looks : {T J E F : Type 0} → Tables T → JobCalls T J F → ℕ → List Deed → Result Timestamp E → Listed T → J → Result (Option ℕ) (AgendaStop E F)
+    → Listed T → J → Type 0
+Looks ts js most ds (Err e) a j answer a' j' = (answer ≡ Err (Clock e)) × (ds ≡ []) × (a' ≡ a) × (j' ≡ j)
+Looks ts js most ds (Ok now) a j (Ok None) a' j' = ⊥
+Looks {E = E} ts js most ds (Ok now) a j (Ok (Some left)) a' j' = RunsDue {E = E} ts js now.nanosecond most ds a j (Ok left) a' j'
+Looks ts js most ds (Ok now) a j (Err stop) a' j' = RunsDue ts js now.nanosecond most ds a j (Err stop) a' j'
 
 -- A wait until the instant of what fires next, a look, and all that is due then.
-pub record Turn {T C J E F : Type 0} (schedules : T → List Sets) (shows : C → Result Timestamp E → C → Type 0) (waits : C → Timestamp → Result ⊤ E → C → Type 0)
-    (runs : J → AgendaFire → Listed T → Result ⊤ F → J → Listed T → Type 0) (zones : List TimeZone) (c : C) (a : Listed T) (j : J)
-    (answer : Result Bool (AgendaStop E F)) (c' : C) (a' : Listed T) (j' : J) : Type 0 where
+pub record Turn {T C J E F : Type 0} (ts : Tables T) (cs : ClockCalls C E) (js : JobCalls T J F) (most : ℕ) (ds : List Deed) (c : C) (a : Listed T) (j : J)
+    (answer : Result (Option ℕ) (AgendaStop E F)) (c' : C) (a' : Listed T) (j' : J) : Type 0 where
   pub entry : Entry T
   pub first : ComesFirst a.entries entry
   pub until : Timestamp
   pub is : until.nanosecond ≡ instant entry.fire *ℤ pos 1_000_000_000
-  pub wait : Result ⊤ E
-  pub clock : C
-  pub waited : waits c until wait clock
-  pub wakes : Wakes schedules shows runs zones wait clock a j answer c' a' j'
+  pub look : Result Timestamp E
+  pub wakes : Wakes cs.shows cs.waits until c look c'
+  pub looks : Looks ts js most ds look a j answer a' j'
 
--- nothing where there are no entries, and else such a turn
-abbrev pub Steps : {T C J E F : Type 0} → (T → List Sets) → (C → Result Timestamp E → C → Type 0) → (C → Timestamp → Result ⊤ E → C → Type 0)
-    → (J → AgendaFire → Listed T → Result ⊤ F → J → Listed T → Type 0) → List TimeZone → C → Listed T → J → Result Bool (AgendaStop E F) → C → Listed T → J → Type 0
-Steps schedules shows waits runs zones c a j answer c' a' j' =
-    ((answer ≡ Ok false) × (a.entries ≡ []) × (c' ≡ c) × (a' ≡ a) × (j' ≡ j)) ⊎ Turn schedules shows waits runs zones c a j answer c' a' j'
+-- nothing where there are no entries, and else such a turn. The answer says then how many of so many runs are left.
+abbrev pub Turns : {T C J E F : Type 0} → Tables T → ClockCalls C E → JobCalls T J F → ℕ → List Deed → C → Listed T → J → Result (Option ℕ) (AgendaStop E F)
+    → C → Listed T → J → Type 0
+Turns ts cs js most ds c a j answer c' a' j' =
+    ((answer ≡ Ok None) × (ds ≡ []) × (a.entries ≡ []) × (c' ≡ c) × (a' ≡ a) × (j' ≡ j)) ⊎ Turn ts cs js most ds c a j answer c' a' j'
+
+abbrev pub went : {S : Type 0} → Result (Option ℕ) S → Result Bool S
+went (Ok left) = Ok (is_some left)
+went (Err stop) = Err stop
+
+-- a step: one turn, of up to 2^64 - 1 runs, and whether there was an entry
+pub record Steps {T C J E F : Type 0} (ts : Tables T) (cs : ClockCalls C E) (js : JobCalls T J F) (c : C) (a : Listed T) (j : J)
+    (answer : Result Bool (AgendaStop E F)) (c' : C) (a' : Listed T) (j' : J) : Type 0 where
+  pub deeds : List Deed
+  pub turned : Result (Option ℕ) (AgendaStop E F)
+  pub turns : Turns ts cs js (2 ^ 64 - 1) deeds c a j turned c' a' j'
+  pub told : answer ≡ went turned
+
+-- turn after turn, each with its deeds, from so many runs to what is left of them
+abbrev pub AreTurns : {T C J E F : Type 0} → Tables T → ClockCalls C E → JobCalls T J F → List (List Deed) → ℕ → C → Listed T → J → ℕ → C → Listed T → J → Type 0
+AreTurns ts cs js [] most c a j left c' a' j' = (left ≡ most) × (c' ≡ c) × (a' ≡ a) × (j' ≡ j)
+AreTurns {T} {C} {J} ts cs js (ds ∷ dss) most c a j left c' a' j' =
+    (rest : ℕ) × (d : C) × (b : Listed T) × (k : J) × Turns ts cs js most ds c a j (Ok (Some rest)) d b k × AreTurns ts cs js dss rest d b k left c' a' j'
+
+-- how often the job was run in all of them
+abbrev pub all_runs : List (List Deed) → ℕ
+all_runs [] = 0
+all_runs (ds ∷ dss) = runs_in ds + all_runs dss
+
+-- What came behind the turns: no run was left, or there were no entries, or there were 2^64 - 1 turns; or a turn ended with an error.
+abbrev pub EndsRun : {T C J E F : Type 0} → Tables T → ClockCalls C E → JobCalls T J F → ℕ → ℕ → C → Listed T → J → Result ⊤ (AgendaStop E F) → C → Listed T → J
+    → Type 0
+EndsRun ts cs js turns left c a j (Ok done) c' a' j' =
+    (c' ≡ c) × (a' ≡ a) × (j' ≡ j) × ((left ≡ 0) ⊎ ((a.entries ≡ []) ⊎ (turns ≡ 2 ^ 64 - 1)))
+EndsRun ts cs js turns left c a j (Err stop) c' a' j' = (ds : List Deed) × Turns ts cs js left ds c a j (Err stop) c' a' j'
+
+-- a run of the loop: its turns, in which the job was run so often at the most, and what ended it
+pub record RunsLoop {T C J E F : Type 0} (ts : Tables T) (cs : ClockCalls C E) (js : JobCalls T J F) (most : ℕ) (c : C) (a : Listed T) (j : J)
+    (answer : Result ⊤ (AgendaStop E F)) (c' : C) (a' : Listed T) (j' : J) : Type 0 where
+  pub deeds : List (List Deed)
+  pub left : ℕ
+  pub clock : C
+  pub agenda : Listed T
+  pub job : J
+  pub are_turns : AreTurns ts cs js deeds most c a j left clock agenda job
+  pub counted : all_runs deeds + left ≡ most
+  pub ends : EndsRun ts cs js (length deeds) left clock agenda job answer c' a' j'

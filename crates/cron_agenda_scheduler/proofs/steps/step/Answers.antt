@@ -1,55 +1,9 @@
-use Rattle.std.proofs.Common.{inr, refl}
+use Rattle.std.proofs.Common.{ap, refl}
 use Rattle.std.specs.Prelude.{Ok, Err}
 use Rattle.cron_agenda_scheduler.proofs.steps.step.Goals as goal
 
+pub returns-in-Ok : goal.returns-in-Ok
+returns-in-Ok g c = record { deeds = c.in-Ok.ensures.0; turned = Ok c.in-Ok.left; turns = c.in-Ok.ensures.1; told = ap Ok c.is_some.ensures }
+
 pub returns-in-Err : goal.returns-in-Err
-returns-in-Err g c =
-    inr (record {
-      entry = c.in-Some.first;
-      first = c.in-Some.ensures;
-      until = c.timestamp.result;
-      is = c.timestamp.ensures;
-      wait = Err c.in-Err.error;
-      clock = c.sleep_until.new.self;
-      waited = c.in-Err.ensures;
-      wakes = (refl, refl, refl, refl);
-    })
-
-pub returns-in-Err-now : goal.returns-in-Err-now
-returns-in-Err-now g c =
-    inr (record {
-      entry = c.in-Some.first;
-      first = c.in-Some.ensures;
-      until = c.timestamp.result;
-      is = c.timestamp.ensures;
-      wait = Ok tt;
-      clock = c.sleep_until.new.self;
-      waited = c.in_default-sleep_until.ensures;
-      wakes = (Err c.in-Err-now.error, c.in-Err-now.ensures, (refl, refl, refl));
-    })
-
-pub returns-in-Ok-run_due : goal.returns-in-Ok-run_due
-returns-in-Ok-run_due g c =
-    inr (record {
-      entry = c.in-Some.first;
-      first = c.in-Some.ensures;
-      until = c.timestamp.result;
-      is = c.timestamp.ensures;
-      wait = Ok tt;
-      clock = c.sleep_until.new.self;
-      waited = c.in_default-sleep_until.ensures;
-      wakes = (Ok c.in-Ok.now, c.in-Ok.ensures, (refl, c.in-Ok-run_due.ensures));
-    })
-
-pub returns-in-Err-run_due : goal.returns-in-Err-run_due
-returns-in-Err-run_due g c =
-    inr (record {
-      entry = c.in-Some.first;
-      first = c.in-Some.ensures;
-      until = c.timestamp.result;
-      is = c.timestamp.ensures;
-      wait = Ok tt;
-      clock = c.sleep_until.new.self;
-      waited = c.in_default-sleep_until.ensures;
-      wakes = (Ok c.in-Ok.now, c.in-Ok.ensures, c.in-Err-run_due.ensures);
-    })
+returns-in-Err g c = record { deeds = c.in-Err.ensures.0; turned = Err c.in-Err.stop; turns = c.in-Err.ensures.1; told = refl }
