@@ -1,0 +1,189 @@
+//! Rows of the loop over an agenda: zones, entries with their lateness, what the clock shows after each wait,
+//! what the job does, and how often it may be run; then the waits, the deeds and the end that these come to.
+
+use crate::tables::{changes_named, schedules_of, zones_named};
+use anyhow::{Context, Error, Result, bail, ensure};
+use cron_agenda::{AddError, Agenda, AgendaFire};
+use cron_agenda_scheduler::{AgendaJob, AgendaStop, Lateness, Timely, run};
+use cron_fires::{Timetable, Union};
+use cron_scheduler::AlarmClock;
+use cron_units::fields::ScheduleFields;
+use jiff::Timestamp;
+use jiff::tz::TimeZone;
+use std::alloc::Global;
+use std::fmt::Write;
+
+/// A clock that has a word for each wait: what it shows then, or that it fails.
+#[derive(Drop)]
+struct ScriptedClock<'a> {
+    words: &'a [&'a str],
+    waits: String,
+    count: usize,
+}
+
+impl AlarmClock for ScriptedClock<'_> {
+    type Error = Error;
+
+    fn now(&mut self) -> Result<Timestamp> {
+        let word = self.words.get(self.count).context("no word is left")?;
+        self.count = self.count.saturating_add(1);
+        ensure!(*word != "look-fails", "it can't be read");
+        Ok(word.parse::<Timestamp>()?)
+    }
+
+    fn sleep_until(&mut self, instant: Timestamp) -> Result<()> {
+        if !self.waits.is_empty() {
+            self.waits.push_str(", ")?;
+        }
+        write!(self.waits, "{instant}")?;
+        let word = self.words.get(self.count).context("no word is left")?;
+        ensure!(*word != "wait-fails", "it can't wait");
+        Ok(())
+    }
+}
+
+/// A job that notes each fire. Its run of some number may fail, and that of another removes an entry.
+#[derive(Drop)]
+struct ScriptedJob {
+    deeds: String,
+    runs: u64,
+    fails_at: u64,
+    removes_at: u64,
+    removed: u64,
+}
+
+impl ScriptedJob {
+    fn note(&mut self, word: &str, due: &AgendaFire) -> Result<()> {
+        if !self.deeds.is_empty() {
+            self.deeds.push_str(", ")?;
+        }
+        let (id, instant) = (due.id, due.fire.timestamp());
+        Ok(write!(self.deeds, "{word} {id} {instant}")?)
+    }
+}
+
+impl<T: Timetable + Copy> AgendaJob<T> for ScriptedJob {
+    type Error = Error;
+
+    fn run(&mut self, due: AgendaFire, agenda: &mut Agenda<T>) -> Result<()> {
+        self.runs = self.runs.saturating_add(1);
+        self.note("ran", &due)?;
+        if self.runs == self.removes_at {
+            let _found = agenda.remove(self.removed);
+        }
+        ensure!(self.runs != self.fails_at, "the run fails");
+        Ok(())
+    }
+
+    fn pass_over(&mut self, due: AgendaFire) {
+        let _noted = self.note("over", &due);
+    }
+}
+
+fn lateness_named(name: &str) -> Result<Lateness> {
+    match name.split_once(':') {
+        Some(("within", seconds)) => Ok(Lateness::Within(seconds.parse::<u64>()?)),
+        Some(_) => bail!("{name:?} is no lateness"),
+        None if name == "each" => Ok(Lateness::Each),
+        None if name == "latest" => Ok(Lateness::Latest),
+        None => bail!("{name:?} is no lateness"),
+    }
+}
+
+// What a job does: `-`, `fails:3`, or `removes:0:2`, the entry 0 at its second run.
+fn job_named(alloc: Global, name: &str) -> Result<ScriptedJob> {
+    let mut job = ScriptedJob {
+        deeds: String::new(alloc),
+        runs: 0,
+        fails_at: 0,
+        removes_at: 0,
+        removed: 0,
+    };
+    match name.split_once(':') {
+        None => {}
+        Some(("fails", at)) => job.fails_at = at.parse::<u64>()?,
+        Some(("removes", rest)) => {
+            let (id, at) = rest.split_once(':').context("a run is wanted")?;
+            job.removed = id.parse::<u64>()?;
+            job.removes_at = at.parse::<u64>()?;
+        }
+        Some(_) => bail!("{name:?} is no job"),
+    }
+    Ok(job)
+}
+
+// Adds an entry, unless it would never fire: `shown 0 latest 2024-03-10T05:00:00Z: ..`.
+fn add<'a>(
+    agenda: &mut Agenda<Timely<Union<'a>>>,
+    zones: &[TimeZone<'_>],
+    step: &str,
+    schedules: &'a [ScheduleFields],
+) -> Result<()> {
+    let (words, _) = step.split_once(": ").context("an expression is wanted")?;
+    let (rule, rest) = words.split_once(' ').context("a rule is wanted")?;
+    let (zone, rest) = rest.split_once(' ').context("a zone is wanted")?;
+    let (lateness, start) = rest.split_once(' ').context("a lateness is wanted")?;
+    let table = Timely {
+        table: Union { schedules },
+        lateness: lateness_named(lateness)?,
+    };
+    let added = agenda.add(
+        table,
+        changes_named(rule)?,
+        start.parse::<Timestamp>()?,
+        zones,
+        zone.parse::<usize>()?,
+    );
+    match added {
+        Ok(_) | Err(AddError::NoFires) => Ok(()),
+        Err(error) => bail!("{error}"),
+    }
+}
+
+// How the loop ended, and how many entries are left.
+fn ending(ended: Result<(), AgendaStop<Error, Error>>) -> &'static str {
+    match ended {
+        Ok(()) => "ok",
+        Err(AgendaStop::Clock(_)) => "the clock failed",
+        Err(AgendaStop::Zone(_)) => "a zone is missing",
+        Err(AgendaStop::Job(_)) => "the job failed",
+    }
+}
+
+fn or_none(text: &str) -> &str {
+    if text.is_empty() { "none" } else { text }
+}
+
+/// What a row of these comes to: the waits, the deeds and the end.
+pub(crate) fn told(
+    alloc: Global,
+    names: &str,
+    entries: &str,
+    (shown, job, most): (&str, &str, &str),
+) -> Result<String> {
+    let zones = zones_named(alloc, names)?;
+    let mut tables = Vec::new(alloc);
+    for step in entries.split(" ; ") {
+        tables.push(schedules_of(alloc, step)?)?;
+    }
+    let mut agenda = Agenda::new(alloc);
+    for (step, schedules) in entries.split(" ; ").zip(tables.as_slice()) {
+        add(&mut agenda, zones.as_slice(), step, schedules.as_slice())?;
+    }
+    let words: Vec<&str> = shown.split(' ').collect(alloc)?;
+    let mut clock = ScriptedClock {
+        words: words.as_slice(),
+        waits: String::new(alloc),
+        count: 0,
+    };
+    let mut job = job_named(alloc, job)?;
+    let most = if most == "-" {
+        u64::MAX
+    } else {
+        most.parse::<u64>()?
+    };
+    let ended = ending(run(&mut agenda, zones.as_slice(), &mut clock, &mut job, most));
+    let (waits, deeds) = (or_none(clock.waits.as_str()), or_none(job.deeds.as_str()));
+    let left = agenda.len();
+    Ok(format!(in alloc; "{waits} | {deeds} | {ended}, {left} left")?)
+}
