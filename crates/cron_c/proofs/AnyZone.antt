@@ -15,10 +15,10 @@ use Rattle.cron_moments.specs.Readings.{Reading, readings, readings_by}
 use Rattle.cron_time.specs.Matches.{matches}
 use Rattle.cron_time.specs.Timeline.{items_below, numbers_below, timeline}
 use Rattle.cron_instants.specs.Instants.{IsItem}
-use Rattle.cron_c.specs.AnyOffset.{not_utc, turn_once}
+use Rattle.cron_clocks.proofs.TableLemmas.{same_offset}
+use Rattle.cron_c.specs.Inner.AnyOffset.{not_utc, turn_once}
 use Rattle.cron_c.specs.Zones.{IsSavingIn, IsZoneIn}
 use Rattle.cron_c.specs.declared.zone.CronZone.{CronZone}
-use Rattle.cron_c.proofs.Items.{offset_once}
 
 saving_once : (c : CronZone) (std : Offset) (a b : Option Dst) (dt : DateTime) → IsSavingIn c a → IsSavingIn c b
     → ambiguous_at_by std a dt ≡ ambiguous_at_by std b dt
@@ -29,7 +29,7 @@ saving_once c std (Some a) (Some b) dt p q =
     let (kind, saving, starts, ends) = p in
     let (kind', saving', starts', ends') = q in
     rw (
-      offset_once a.offset b.offset (sym saving ∙ saving'),
+      same_offset a.offset b.offset (sym saving ∙ saving'),
       turn_once c.starts a.rule.start b.rule.start dt.date.year (pos 0) starts starts',
       turn_once c.ends a.rule.end b.rule.end dt.date.year (pos 0) ends ends',
     ) refl
@@ -47,7 +47,7 @@ zone_once c (Posix a) UTC dt p q = absurd (not_utc c a.dst q p.1)
 zone_once c (Posix a) Unknown dt p q = absurd q
 zone_once c (Posix a) (Fixed o) dt p q = absurd q
 zone_once c (Posix a) (Posix b) dt p q =
-    rw (offset_once a.std_offset b.std_offset (sym p.0 ∙ q.0)) (saving_once c b.std_offset a.dst b.dst dt p.1 q.1)
+    rw (same_offset a.std_offset b.std_offset (sym p.0 ∙ q.0)) (saving_once c b.std_offset a.dst b.dst dt p.1 q.1)
 zone_once c (Posix a) (Tzif t) dt p q = absurd q
 zone_once c (Tzif t) b dt p q = absurd p
 

@@ -1,20 +1,19 @@
--- Due fires written one after the other, and what a status says of them.
-use Rattle.std.proofs.Common.{◌≡◌, ℕ, ◌+◌, ◌<◌, ℤ, pos, ◌+ℤ◌, ◌-ℤ◌, ◌*ℤ◌, List, [], ◌∷◌, ◌++◌, refl, sym, ap, subst, ◌∙◌, arith, append_assoc, slice_set, length-append, Option, Some, None}
-use Rattle.std.specs.Prelude.{MatchOption, length}
-use Rattle.std.proofs.lemmas.List.{append-nil}
+-- Structs of due fires, and what a status says of them.
+use Rattle.std.proofs.Common.{◌≡◌, ℕ, ℤ, pos, ◌+ℤ◌, ◌-ℤ◌, ◌*ℤ◌, List, sym, ap, subst, ◌∙◌, arith, Option, Some, None}
+use Rattle.std.specs.Prelude.{MatchOption}
 use Rattle.jiff_core.proofs.SignedLemmas.{signed_arith}
 use Rattle.jiff_core.specs.declared.Offset.{Offset}
 use Rattle.jiff_tz.specs.declared.timezone.TimeZone.{TimeZone}
-use Rattle.cron_units.specs.Sets.{Sets}
 use Rattle.cron_dues.specs.Clock.Due.{CanBeDue, Clock, Due, clock_of, parts}
-use Rattle.cron_dues.specs.Clock.Dues.{dues_between, dues_past_by}
+use Rattle.cron_c.specs.Arrays.{Fills, Writes}
 use Rattle.cron_c.specs.Calls.{IsInstant}
-use Rattle.cron_c.specs.Dues.{FillsDue, InZone, IsDueFront, IsDueInRange, IsDueItem, IsDuePage, IsDueWhole, RunsDueBetween, RunsDuePast}
+use Rattle.cron_c.specs.Dues.{FindsDue, FollowsDue, InZone, IsDueInRange, IsDueItem, RunsDueBetween, RunsDuePast}
 use Rattle.cron_c.specs.Zones.{IsZoneIn}
 use Rattle.cron_c.specs.declared.item.CronItem.{CronItem}
 use Rattle.cron_c.specs.declared.status.Status.{Status}
 use Rattle.cron_c.specs.declared.status.Status.TheVariants.{Done, NoItem, Refused, NotUtf8, BadZone, BadInstant, NotAnItem, Untold, More, NoMemory}
 use Rattle.cron_c.specs.declared.zone.CronZone.{CronZone}
+use Rattle.cron_c.proofs.Arrays.{filled_says}
 
 -- ---- a struct
 
@@ -43,90 +42,36 @@ due_is (Some d) item offset second at same (is, can) =
       can,
     )
 
--- ---- the loop
-
-front_more : (ds : List Due) (old now : List CronItem) (d : Due) (x : CronItem) → IsDueFront ds old now → length ds < length old → IsDueItem d x
-    → IsDueFront (ds ++ d ∷ []) old (slice_set now (length ds) x)
-unfolding IsDueFront
-front_more [] [] now d x e l i = absurd (omega arith)
-front_more [] (a ∷ old) now d x e l i = subst (λ (n : List CronItem). IsDueFront (d ∷ []) (a ∷ old) (slice_set n 0 x)) (sym e) (i, refl)
-front_more (q ∷ ds) [] now d x p l i = absurd p
-front_more (q ∷ ds) (a ∷ old) [] d x p l i = absurd p
-front_more (q ∷ ds) (a ∷ old) (b ∷ now) d x p l i = (p.0, front_more ds old now d x p.1 (omega arith) i)
-
-front_none : (old : List CronItem) → IsDueFront [] old old
-unfolding IsDueFront
-front_none old = refl
-
--- so many of the due fires of a run are written, and the others are left
-pub record IsDueRunning (all left : List Due) (old now : List CronItem) (count : ℕ) : Type 0 where
-  pub written : List Due
-  pub cut : all ≡ written ++ left
-  pub items : IsDueFront written old now
-  pub counted : count ≡ length written
-
-pub running_begins : (all : List Due) (old : List CronItem) → IsDueRunning all all old old 0
-running_begins all old = record { written = []; cut = refl; items = front_none old; counted = refl }
-
-pub running_goes_on : (all left rest : List Due) (old now : List CronItem) (d : Due) (x : CronItem) (count : ℕ)
-    → IsDueRunning all left old now count → left ≡ d ∷ rest → count < length old → IsDueItem d x → IsDueRunning all rest old (slice_set now count x) (count + 1)
-running_goes_on all left rest old now d x count f first room item =
-    let more : count + 1 ≡ length (f.written ++ d ∷ []) = omega (arith, f.counted, length-append f.written (d ∷ [])) in
-    let within : length f.written < length old = omega (arith, f.counted) in
-    record {
-      written = f.written ++ d ∷ [];
-      cut = f.cut ∙ (ap (λ (l : List Due). f.written ++ l) first ∙ sym (append_assoc f.written (d ∷ []) rest));
-      items = subst (λ (n : ℕ). IsDueFront (f.written ++ d ∷ []) old (slice_set now n x)) (sym f.counted) (front_more f.written old now d x f.items within item);
-      counted = more;
-    }
-
-pub running_ends : (all left : List Due) (old now : List CronItem) (count : ℕ) → IsDueRunning all left old now count → left ≡ [] → IsDueWhole all old now count
-running_ends all left old now count f none =
-    let whole : all ≡ f.written = f.cut ∙ (ap (λ (l : List Due). f.written ++ l) none ∙ append-nil f.written) in
-    (subst (λ (l : List Due). IsDueFront l old now) (sym whole) f.items, f.counted ∙ ap length (sym whole))
-
-pub running_is_full : (all left rest : List Due) (old now : List CronItem) (d : Due) (count : ℕ)
-    → IsDueRunning all left old now count → left ≡ d ∷ rest → count ≡ length old → IsDuePage all old now count
-running_is_full all left rest old now d count f first full =
-    record {
-      written = f.written;
-      next = d;
-      left = rest;
-      cut = f.cut ∙ ap (λ (l : List Due). f.written ++ l) first;
-      items = f.items;
-      counted = f.counted;
-      full = full;
-    }
-
 -- ---- what a status says
 
-pub between_says : (s : Sets) (clock : Clock) (last now : ℤ) (old new : List CronItem) (count : ℕ) (status : Status) → IsInstant last → IsInstant now
-    → FillsDue (dues_between s clock (last *ℤ pos 1_000_000_000) (now *ℤ pos 1_000_000_000)) old new count status
-    → RunsDueBetween s last now old new count clock status
-between_says s clock last now old new count Done from to f = (from, to, f)
-between_says s clock last now old new count NoItem from to f = absurd f
-between_says s clock last now old new count Refused from to f = absurd f
-between_says s clock last now old new count NotUtf8 from to f = absurd f
-between_says s clock last now old new count BadZone from to f = absurd f
-between_says s clock last now old new count BadInstant from to f = absurd f
-between_says s clock last now old new count NotAnItem from to f = absurd f
-between_says s clock last now old new count Untold from to f = absurd f
-between_says s clock last now old new count More from to f = (from, to, f)
-between_says s clock last now old new count NoMemory from to f = absurd f
+pub finds : {S : Type 0} (IsWanted : S → Clock → ℤ → Option Due → Type 0) (s : S) (clock : Clock) (second : ℤ) (found : Option Due) (old new : CronItem)
+    (status : Status) → IsInstant second → IsWanted s clock (second *ℤ pos 1_000_000_000) found → Writes IsDueItem found old new status
+    → FindsDue IsWanted s second old new clock status
+finds IsWanted s clock second None old new status within wanted (is, kept) =
+    subst (FindsDue IsWanted s second old new clock) (sym is) (within, wanted, kept)
+finds IsWanted s clock second (Some d) old new status within wanted (is, item) =
+    subst (FindsDue IsWanted s second old new clock) (sym is) (d, within, wanted, item)
 
-pub past_says : (s : Sets) (clock : Clock) (d : Due) (item : CronItem) (now : ℤ) (old new : List CronItem) (count : ℕ) (status : Status)
-    → IsDueInRange d item → IsInstant now → FillsDue (dues_past_by s clock d (now *ℤ pos 1_000_000_000)) old new count status
-    → RunsDuePast s item now old new count clock status
-past_says s clock d item now old new count Done is to f = (d, is, to, f)
-past_says s clock d item now old new count NoItem is to f = absurd f
-past_says s clock d item now old new count Refused is to f = absurd f
-past_says s clock d item now old new count NotUtf8 is to f = absurd f
-past_says s clock d item now old new count BadZone is to f = absurd f
-past_says s clock d item now old new count BadInstant is to f = absurd f
-past_says s clock d item now old new count NotAnItem is to f = absurd f
-past_says s clock d item now old new count Untold is to f = absurd f
-past_says s clock d item now old new count More is to f = (d, is, to, f)
-past_says s clock d item now old new count NoMemory is to f = absurd f
+pub follows : {S : Type 0} (IsNext : S → Clock → Due → Option Due → Type 0) (s : S) (clock : Clock) (d : Due) (found : Option Due) (old new : CronItem)
+    (status : Status) → IsDueInRange d old → IsNext s clock d found → Writes IsDueItem found old new status → FollowsDue IsNext s old new clock status
+follows IsNext s clock d None old new status given next (is, kept) = subst (FollowsDue IsNext s old new clock) (sym is) (d, given, next, kept)
+follows IsNext s clock d (Some e) old new status given next (is, item) = subst (FollowsDue IsNext s old new clock) (sym is) (d, e, given, next, item)
+
+pub between_says : {S : Type 0} (between : S → Clock → ℤ → ℤ → List Due) (s : S) (clock : Clock) (last now : ℤ) (old new : List CronItem) (count : ℕ)
+    (status : Status) → IsInstant last → IsInstant now
+    → Fills IsDueItem (between s clock (last *ℤ pos 1_000_000_000) (now *ℤ pos 1_000_000_000)) old new count status
+    → RunsDueBetween between s last now old new count clock status
+between_says between s clock last now old new count status from to f =
+    filled_says IsDueItem (between s clock (last *ℤ pos 1_000_000_000) (now *ℤ pos 1_000_000_000)) old new count
+    (RunsDueBetween between s last now old new count clock) status (λ whole. (from, to, whole)) (λ page. (from, to, page)) f
+
+pub past_says : {S : Type 0} (past_by : S → Clock → Due → ℤ → List Due) (s : S) (clock : Clock) (d : Due) (item : CronItem) (now : ℤ)
+    (old new : List CronItem) (count : ℕ) (status : Status)
+    → IsDueInRange d item → IsInstant now → Fills IsDueItem (past_by s clock d (now *ℤ pos 1_000_000_000)) old new count status
+    → RunsDuePast past_by s item now old new count clock status
+past_says past_by s clock d item now old new count status is to f =
+    filled_says IsDueItem (past_by s clock d (now *ℤ pos 1_000_000_000)) old new count (RunsDuePast past_by s item now old new count clock)
+    status (λ whole. (d, is, to, whole)) (λ page. (d, is, to, page)) f
 
 -- what is said by the clock of a zone that a struct says
 pub in_zone : (c : CronZone) (z : TimeZone) (Says : Clock → Status → Type 0) (Kept : Type 0) (status : Status) → IsZoneIn c z

@@ -1,4 +1,4 @@
--- Items written one after the other.
+-- Items of a walk written one after the other.
 use Rattle.std.proofs.Common.{◌≡◌, ℕ, ◌+◌, ◌<◌, ℤ, List, [], ◌∷◌, ◌++◌, Some, None, refl, sym, ap, subst, ◌∙◌, arith, append_assoc, slice_set, length-append, inl, inr}
 use Rattle.std.specs.Prelude.{length}
 use Rattle.jiff_tz.specs.declared.timezone.TimeZone.{TimeZone}
@@ -13,29 +13,17 @@ use Rattle.cron_moments.specs.Readings.{Reading}
 use Rattle.cron_time.specs.Walk.Resume.{IsAtItem, IsResumed}
 use Rattle.cron_time.specs.Walk.Rest.{rest}
 use Rattle.cron_time.proofs.Walks.RestLemmas.{gives}
-use Rattle.cron_c.specs.Listings.{IsFront, IsListed, walk_at}
+use Rattle.cron_c.specs.Arrays.{IsFront}
+use Rattle.cron_c.specs.Listings.{IsListed, walk_at}
 use Rattle.cron_c.specs.Structs.{IsItem}
 use Rattle.cron_c.specs.declared.item.CronItem.{CronItem}
-
--- one item more behind those that are written
-pub front_more : (rs : List Reading) (old now : List CronItem) (r : Reading) (x : CronItem) → IsFront rs old now → length rs < length old → IsItem r x
-    → IsFront (rs ++ r ∷ []) old (slice_set now (length rs) x)
-unfolding IsFront
-front_more [] [] now r x e l i = absurd (omega arith)
-front_more [] (a ∷ old) now r x e l i = subst (λ (n : List CronItem). IsFront (r ∷ []) (a ∷ old) (slice_set n 0 x)) (sym e) (i, refl)
-front_more (q ∷ rs) [] now r x p l i = absurd p
-front_more (q ∷ rs) (a ∷ old) [] r x p l i = absurd p
-front_more (q ∷ rs) (a ∷ old) (b ∷ now) r x p l i = (p.0, front_more rs old now r x p.1 (omega arith) i)
-
-pub front_none : (old : List CronItem) → IsFront [] old old
-unfolding IsFront
-front_none old = refl
+use Rattle.cron_c.proofs.Arrays.{front_more, front_none}
 
 -- so many items of a walk are written, and it stands at the last of them
 pub record IsFilling (way : Way) (s : Sets) (z : TimeZone) (start : Stand) (old now : List CronItem) (stand : Stand) (count : ℕ) : Type 0 where
   pub written : List Reading
   pub cut : rest way (walk_at s z start) ≡ written ++ rest way (walk_at s z stand)
-  pub items : IsFront written old now
+  pub items : IsFront IsItem written old now
   pub counted : count ≡ length written
   pub placed : IsPlaced s z stand
 
@@ -43,7 +31,7 @@ pub start_is_placed : (s : Sets) (z : TimeZone) (t : ℤ) (stand : Stand) → st
 start_is_placed s z t stand e = subst (IsPlaced s z) (sym e) tt
 
 pub filling_begins : (way : Way) (s : Sets) (z : TimeZone) (start : Stand) (old : List CronItem) → IsPlaced s z start → IsFilling way s z start old old start 0
-filling_begins way s z start old placed = record { written = []; cut = refl; items = front_none old; counted = refl; placed = placed }
+filling_begins way s z start old placed = record { written = []; cut = refl; items = front_none IsItem old; counted = refl; placed = placed }
 
 pub filling_goes_on : (way : Way) (s : Sets) (z : TimeZone) (start from to : Stand) (old now : List CronItem) (count : ℕ) (r : Reading) (x : CronItem)
     → IsFilling way s z start old now from count → count < length old
@@ -55,7 +43,7 @@ filling_goes_on way s z start from to old now count r x f room stop answer item 
     record {
       written = f.written ++ r ∷ [];
       cut = f.cut ∙ (ap (λ (l : List Reading). f.written ++ l) first ∙ sym (append_assoc f.written (r ∷ []) (rest way (walk_at s z to))));
-      items = subst (λ (n : ℕ). IsFront (f.written ++ r ∷ []) old (slice_set now n x)) (sym f.counted) (front_more f.written old now r x f.items within item);
+      items = subst (λ (n : ℕ). IsFront IsItem (f.written ++ r ∷ []) old (slice_set now n x)) (sym f.counted) (front_more IsItem f.written old now r x f.items within item);
       counted = more;
       placed = stop.placed;
     }

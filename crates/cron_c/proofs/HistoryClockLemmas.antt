@@ -12,12 +12,13 @@ use Rattle.cron_time.proofs.PlaceLemmas.{nothing_in_nil}
 use Rattle.cron_dues.specs.Clock.Due.{Clock, clock_of}
 use Rattle.cron_dues.specs.Inner.Steady.{IsKept}
 use Rattle.cron_c.specs.Histories.{IsHistory, IsZoneAt, has_started}
-use Rattle.cron_c.specs.HistoryClocks.{Held, InHistory, IsClockOf, era_at, held_by, held_clock, held_of, held_once, history_clock, seconds_set, zone_held}
+use Rattle.cron_c.specs.HistoryClocks.{InHistory, IsClockOf, era_at}
+use Rattle.cron_c.specs.Inner.HistoryClocks.{Held, held_by, held_clock, held_of, held_once, history_clock, seconds_set, zone_held}
 use Rattle.cron_c.specs.Zones.{IsZoneIn}
 use Rattle.cron_c.specs.declared.era.CronEra.{CronEra}
 use Rattle.cron_c.specs.declared.status.Status.{Status}
 use Rattle.cron_c.specs.declared.status.Status.TheVariants.{Done, NoItem, Refused, NotUtf8, BadZone, BadInstant, NotAnItem, Untold, More, NoMemory}
-use Rattle.cron_c.specs.AnyOffset.{offset_in_any}
+use Rattle.cron_c.specs.Inner.AnyOffset.{offset_in_any}
 use Rattle.cron_c.proofs.Eras.{here_of, start_far, started_is, started_later}
 
 -- ---- which era holds a second

@@ -13,10 +13,9 @@ use Rattle.cron_instants.proofs.AscentLemmas.{Ascends, ascends-filter}
 use Rattle.cron_instants.proofs.FireLemmas.{fires-ascend, fires-of_item, int_le-true, int_lt-true, item-of_fires}
 use Rattle.cron_instants.proofs.OrderLemmas.{before-less}
 use Rattle.cron_c.specs.Calls.{IsInstant}
-use Rattle.cron_c.specs.Histories.{AllBelow, BeginsIn, EndsIn, FillsEra, FillsIn, FillsOf, IsBeyond, IsHistory, IsHistoryItem, IsItemAt, IsZoneAt, Leads, RunsInBetween, RunsInPast, fires_from, has_started}
-use Rattle.cron_c.specs.Listings.{IsFront}
-use Rattle.cron_c.specs.Runs.{Fills}
-use Rattle.cron_c.specs.Structs.{IsItemInRange}
+use Rattle.cron_c.specs.Histories.{AllBelow, BeginsIn, EndsIn, FillsEra, FillsIn, FillsOf, FiresIn, IsBeyond, IsHistory, IsHistoryItem, IsItemAt, IsZoneAt, Leads, RunsInBetween, RunsInPast, fires_from, has_started}
+use Rattle.cron_c.specs.Arrays.{Fills, IsFront, Writes}
+use Rattle.cron_c.specs.Structs.{IsItem, IsItemInRange}
 use Rattle.cron_c.specs.declared.era.CronEra.{CronEra}
 use Rattle.cron_c.specs.declared.history.Begin.{Begin}
 use Rattle.cron_c.specs.declared.history.Begin.TheVariants.{After, Past}
@@ -24,7 +23,7 @@ use Rattle.cron_c.specs.declared.item.CronItem.{CronItem}
 use Rattle.cron_c.specs.declared.status.Status.{Status}
 use Rattle.cron_c.specs.declared.status.Status.TheVariants.{Done, NoItem, Refused, NotUtf8, BadZone, BadInstant, NotAnItem, Untold, More, NoMemory}
 use Rattle.cron_c.proofs.Eras.{era_by_era, from_or_before, from_zone, in_zone, le_split, none_before}
-use Rattle.cron_c.proofs.Filling.{front_none}
+use Rattle.cron_c.proofs.Arrays.{filled_says, front_none, front_on, front_size}
 use Rattle.cron_c.proofs.HistoryLeads.{leads_alike, leads_hold, leads_next, leads_append, leads_wider, whole_leads, page_leads}
 
 -- ---- the items of one era
@@ -71,34 +70,26 @@ module _ (s : Sets) (eras : List CronEra) (at : ℕ) (e : CronEra) (z : TimeZone
       let (item, from, still) = in_zone s eras at e z r here zone h.0 in
       is_from s z b t r item ((begins r).1 (from, h.1)) ((ends r).1 (h.2, still))
 
-  pub era_says : (old new : List CronItem) (count : ℕ) (status : Status) → Fills (fires_from s z b t) old new count status
+  pub era_says : (old new : List CronItem) (count : ℕ) (status : Status) → Fills IsItem (fires_from s z b t) old new count status
       → FillsEra s eras at begin now old new count status
-  era_says old new count Done f =
+  era_says old new count status f =
       let all = fires_from s z b t in
-      (all, leads_alike (IsAmong all) (IsDueAt s eras at begin now) all None due_of of_due (whole_leads all (from_ascends s z b t)), f.0, f.1)
-  era_says old new count More f =
-      let all = fires_from s z b t in
-      let up : Ascends (f.written ++ f.next ∷ f.left) = subst Ascends f.cut (from_ascends s z b t) in
-      let led : Leads (IsAmong all) f.written (Some f.next) =
-      subst (λ (l : List Reading). Leads (IsAmong l) f.written (Some f.next)) (sym f.cut) (page_leads f.written f.next f.left up) in (
-        f.next,
-        (f.written, leads_alike (IsAmong all) (IsDueAt s eras at begin now) f.written (Some f.next) due_of of_due led, f.items, f.counted),
-        f.full,
-      )
-  era_says old new count NoItem f = absurd f
-  era_says old new count Refused f = absurd f
-  era_says old new count NotUtf8 f = absurd f
-  era_says old new count BadZone f = absurd f
-  era_says old new count BadInstant f = absurd f
-  era_says old new count NotAnItem f = absurd f
-  era_says old new count Untold f = absurd f
-  era_says old new count NoMemory f = absurd f
+      filled_says IsItem all old new count (FillsEra s eras at begin now old new count) status
+      (λ whole. (all, leads_alike (IsAmong all) (IsDueAt s eras at begin now) all None due_of of_due (whole_leads all (from_ascends s z b t)), whole.0, whole.1))
+      (λ page.
+      let up : Ascends (page.written ++ page.next ∷ page.left) = subst Ascends page.cut (from_ascends s z b t) in
+      let led : Leads (IsAmong all) page.written (Some page.next) =
+      subst (λ (l : List Reading). Leads (IsAmong l) page.written (Some page.next)) (sym page.cut) (page_leads page.written page.next page.left up) in (
+        page.next,
+        (page.written, leads_alike (IsAmong all) (IsDueAt s eras at begin now) page.written (Some page.next) due_of of_due led, page.items, page.counted),
+        page.full,
+      )) f
 
 -- an era without such an item
 pub era_empty : (s : Sets) (eras : List CronEra) (at : ℕ) (b : Begin) (now : ℤ) (old : List CronItem)
     → ((r : Reading) → IsItemAt s eras at r → IsBeyond b r → IsBy now r → ⊥) → FillsEra s eras at b now old old 0 Done
 unfolding Leads
-era_empty s eras at b now old none = ([], (λ r h. none r h.0 h.1 h.2), front_none old, refl)
+era_empty s eras at b now old none = ([], (λ r h. none r h.0 h.1 h.2), front_none IsItem old, refl)
 
 -- it is neither listed nor empty, so it shows that the eras are no history
 pub era_refused : (s : Sets) (eras : List CronEra) (at : ℕ) (b : Begin) (now : ℤ) (old new : List CronItem) (count : ℕ) (status : Status)
@@ -114,24 +105,6 @@ era_refused s eras at b now old new count NotAnItem f done more = absurd f
 era_refused s eras at b now old new count Untold f done more = absurd f
 era_refused s eras at b now old new count NoMemory f done more = absurd f
 
--- ---- what is written behind what is written
-
-pub front_size : (l : List Reading) (old new : List CronItem) → IsFront l old new → (length l ≤ length old) × (length new ≡ length old)
-unfolding IsFront
-front_size [] old new e = (omega arith, ap length e)
-front_size (r ∷ l) [] new p = absurd p
-front_size (r ∷ l) (x ∷ old) [] p = absurd p
-front_size (r ∷ l) (x ∷ old) (y ∷ new) p = let (within, size) = front_size l old new p.1 in (omega arith, omega arith)
-
-front_on : (l m : List Reading) (old front back new : List CronItem) → IsFront l old (front ++ back) → length front ≡ length l → IsFront m back new
-    → IsFront (l ++ m) old (front ++ new)
-unfolding IsFront
-front_on [] m old [] back new is size on = subst (λ (o : List CronItem). IsFront m o new) is on
-front_on [] m old (y ∷ front) back new is size on = absurd (omega arith)
-front_on (r ∷ l) m old [] back new is size on = absurd (omega arith)
-front_on (r ∷ l) m [] (y ∷ front) back new is size on = absurd is
-front_on (r ∷ l) m (x ∷ old) (y ∷ front) back new is size on = (is.0, front_on l m old front back new is.1 (omega arith) on)
-
 -- ---- the loop over eras
 
 abbrev pub IsDue : Sets → List CronEra → Begin → ℤ → Reading → Type 0
@@ -146,7 +119,7 @@ pub record IsFilling (s : Sets) (eras : List CronEra) (b : Begin) (now : ℤ) (o
   pub list : List Reading
   pub due : (r : Reading) → IsAmong list r → IsDue s eras b now r
   pub leads : IsHistory eras → Leads (IsDueBelow s eras b now at) list None
-  pub front : IsFront list old items
+  pub front : IsFront IsItem list old items
   pub counted : written ≡ length list
 
 nothing_leads : (P : Reading → Type 0) → ((r : Reading) → P r → ⊥) → Leads P [] None
@@ -163,7 +136,7 @@ filling_begins s eras b now old at least low begun =
           let (i, less, due) = below in
           let past : at ≤ i = none_before s eras b at least low begun h i r due.0 due.1 in
           absurd (omega arith));
-      front = front_none old;
+      front = front_none IsItem old;
       counted = refl;
     }
 
@@ -199,8 +172,8 @@ module _ (s : Sets) (eras : List CronEra) (b : Begin) (now : ℤ) (old front bac
   counted_on : (l : List Reading) → more ≡ length l → written + more ≡ length (f.list ++ l)
   counted_on l counted = omega (arith, f.counted, length-append f.list l)
 
-  front_of : (l : List Reading) → IsFront l back room → IsFront (f.list ++ l) old (front ++ room)
-  front_of l on = front_on f.list l old front back room f.front (size ∙ f.counted) on
+  front_of : (l : List Reading) → IsFront IsItem l back room → IsFront IsItem (f.list ++ l) old (front ++ room)
+  front_of l on = front_on IsItem f.list l old front back room f.front (size ∙ f.counted) on
 
   pub filling_goes_on : (next : ℕ) → FillsOf (IsDueAt s eras at b now) back room more Done → at < next
       → (IsHistory eras → (i : ℕ) (r : Reading) → at < i → IsItemAt s eras i r → next ≤ i) → IsFilling s eras b now old (front ++ room) next (written + more)
@@ -216,8 +189,8 @@ module _ (s : Sets) (eras : List CronEra) (b : Begin) (now : ℤ) (old front bac
   pub filling_is_full : FillsOf (IsDueAt s eras at b now) back room more More → FillsIn eras (IsDue s eras b now) old (front ++ room) (length old) More
   filling_is_full (next, (l, leads, on, counted), full) =
       let (item, beyond, by) = leads_next (IsDueAt s eras at b now) l next leads in
-      let whole = front_size (f.list ++ l) old (front ++ room) (front_of l on) in
-      let sizes = front_size l back room on in
+      let whole = front_size IsItem (f.list ++ l) old (front ++ room) (front_of l on) in
+      let sizes = front_size IsItem l back room on in
       let all : written + more ≡ length old = omega (arith, whole, sizes, size, full, length-append front room) in (
         next,
         ((at, item), beyond, by),
@@ -263,41 +236,50 @@ filling_ends s eras b now old items end at written f below le = (
 pub filling_fits : (s : Sets) (eras : List CronEra) (b : Begin) (now : ℤ) (old items : List CronItem) (at written : ℕ)
     → IsFilling s eras b now old items at written → (written ≤ length items) × (length items ≡ length old)
 filling_fits s eras b now old items at written f =
-    let (within, size) = front_size f.list old items f.front in
+    let (within, size) = front_size IsItem f.list old items f.front in
     let counted = f.counted in
     (omega arith, size)
 
 pub era_fits : (P : Reading → Type 0) (back room : List CronItem) (more : ℕ) → FillsOf P back room more Done → more ≤ length back
-era_fits P back room more (l, leads, on, counted) = let (within, size) = front_size l back room on in omega arith
+era_fits P back room more (l, leads, on, counted) = let (within, size) = front_size IsItem l back room on in omega arith
 
 -- ---- what a status says
 
-pub in_between_says : (s : Sets) (eras : List CronEra) (last now : ℤ) (old new : List CronItem) (count : ℕ) (status : Status)
-    → IsInstant last → IsInstant now
-    → FillsIn eras (λ r. IsHistoryItem s eras r × IsAfter (last *ℤ pos 1_000_000_000) r × IsBy (now *ℤ pos 1_000_000_000) r) old new count status
-    → RunsInBetween s eras last now old new count status
-in_between_says s eras last now old new count Done from to f = (from, to, f)
-in_between_says s eras last now old new count More from to f = (from, to, f)
-in_between_says s eras last now old new count BadZone from to f = (from, to, f)
-in_between_says s eras last now old new count NoItem from to f = absurd f
-in_between_says s eras last now old new count Refused from to f = absurd f
-in_between_says s eras last now old new count NotUtf8 from to f = absurd f
-in_between_says s eras last now old new count BadInstant from to f = absurd f
-in_between_says s eras last now old new count NotAnItem from to f = absurd f
-in_between_says s eras last now old new count Untold from to f = absurd f
-in_between_says s eras last now old new count NoMemory from to f = absurd f
+filled_in_says : (eras : List CronEra) (P : Reading → Type 0) (old new : List CronItem) (count : ℕ) (Says : Status → Type 0) (status : Status)
+    → (FillsIn eras P old new count Done → Says Done) → (FillsIn eras P old new count More → Says More)
+    → (FillsIn eras P old new count BadZone → Says BadZone) → FillsIn eras P old new count status → Says status
+filled_in_says eras P old new count Says Done whole page refused f = whole f
+filled_in_says eras P old new count Says More whole page refused f = page f
+filled_in_says eras P old new count Says BadZone whole page refused f = refused f
+filled_in_says eras P old new count Says NoItem whole page refused f = absurd f
+filled_in_says eras P old new count Says Refused whole page refused f = absurd f
+filled_in_says eras P old new count Says NotUtf8 whole page refused f = absurd f
+filled_in_says eras P old new count Says BadInstant whole page refused f = absurd f
+filled_in_says eras P old new count Says NotAnItem whole page refused f = absurd f
+filled_in_says eras P old new count Says Untold whole page refused f = absurd f
+filled_in_says eras P old new count Says NoMemory whole page refused f = absurd f
 
-pub in_past_says : (s : Sets) (eras : List CronEra) (r : Reading) (item : CronItem) (now : ℤ) (old new : List CronItem) (count : ℕ) (status : Status)
-    → IsItemInRange r item → IsInstant now
-    → FillsIn eras (λ q. IsHistoryItem s eras q × (is_earlier r q ≡ true) × IsBy (now *ℤ pos 1_000_000_000) q) old new count status
-    → RunsInPast s eras item now old new count status
-in_past_says s eras r item now old new count Done is to f = (r, is, to, f)
-in_past_says s eras r item now old new count More is to f = (r, is, to, f)
-in_past_says s eras r item now old new count BadZone is to f = (r, is, to, f)
-in_past_says s eras r item now old new count NoItem is to f = absurd f
-in_past_says s eras r item now old new count Refused is to f = absurd f
-in_past_says s eras r item now old new count NotUtf8 is to f = absurd f
-in_past_says s eras r item now old new count BadInstant is to f = absurd f
-in_past_says s eras r item now old new count NotAnItem is to f = absurd f
-in_past_says s eras r item now old new count Untold is to f = absurd f
-in_past_says s eras r item now old new count NoMemory is to f = absurd f
+module _ {S : Type 0} (IsOne : S → List CronEra → Reading → Type 0) (s : S) (eras : List CronEra) where
+  pub in_between_says : (last now : ℤ) (old new : List CronItem) (count : ℕ) (status : Status) → IsInstant last → IsInstant now
+      → FillsIn eras (λ r. IsOne s eras r × IsAfter (last *ℤ pos 1_000_000_000) r × IsBy (now *ℤ pos 1_000_000_000) r) old new count status
+      → RunsInBetween IsOne s eras last now old new count status
+  in_between_says last now old new count status from to f =
+      filled_in_says eras (λ r. IsOne s eras r × IsAfter (last *ℤ pos 1_000_000_000) r × IsBy (now *ℤ pos 1_000_000_000) r) old new count
+      (RunsInBetween IsOne s eras last now old new count) status (λ h. (from, to, h)) (λ h. (from, to, h)) (λ h. (from, to, h)) f
+
+  pub in_past_says : (r : Reading) (item : CronItem) (now : ℤ) (old new : List CronItem) (count : ℕ) (status : Status)
+      → IsItemInRange r item → IsInstant now
+      → FillsIn eras (λ q. IsOne s eras q × (is_earlier r q ≡ true) × IsBy (now *ℤ pos 1_000_000_000) q) old new count status
+      → RunsInPast IsOne s eras item now old new count status
+  in_past_says r item now old new count status is to f =
+      filled_in_says eras (λ q. IsOne s eras q × (is_earlier r q ≡ true) × IsBy (now *ℤ pos 1_000_000_000) q) old new count
+      (RunsInPast IsOne s eras item now old new count) status (λ h. (r, is, to, h)) (λ h. (r, is, to, h)) (λ h. (r, is, to, h)) f
+
+-- what was found of a history and is written
+pub fires_in : {S : Type 0} (IsWanted : S → List CronEra → ℤ → Option Reading → Type 0) (s : S) (eras : List CronEra) (second : ℤ) (found : Option Reading)
+    (old new : CronItem) (status : Status) → IsInstant second → IsWanted s eras (second *ℤ pos 1_000_000_000) found → Writes IsItem found old new status
+    → FiresIn IsWanted s eras second old new status
+fires_in IsWanted s eras second None old new status within wanted (is, kept) =
+    subst (FiresIn IsWanted s eras second old new) (sym is) (within, wanted, kept)
+fires_in IsWanted s eras second (Some r) old new status within wanted (is, item) =
+    subst (FiresIn IsWanted s eras second old new) (sym is) (r, within, wanted, item)

@@ -15,18 +15,16 @@ use Rattle.cron_time.specs.Walk.Cursor.{Cursor, Step, Walk, step}
 use Rattle.cron_time.specs.Walk.Inner.Placed.{answer_of}
 use Rattle.cron_time.specs.Walk.Inner.Stand.{Stand}
 use Rattle.cron_time.specs.Walk.Inner.Stop.{IsStop}
-use Rattle.cron_moments.specs.Readings.{Reading, reading}
+use Rattle.cron_moments.specs.Readings.{Reading}
 use Rattle.cron_time.specs.Walk.Resume.{IsAbsent, IsAtItem, IsResumed}
 use Rattle.cron_moments.specs.Parts.{ShowsAt}
 use Rattle.cron_time.proofs.Walks.ResumeLemmas.{same_reading}
+use Rattle.cron_clocks.proofs.TableLemmas.{same_offset}
 use Rattle.cron_c.specs.Structs.{IsItem}
 use Rattle.cron_c.specs.declared.item.CronItem.{CronItem}
 
 int_decides : (a b : ℤ) → a ≡ b → int_eq a b ≡ true
 int_decides a b e = (Decides-int_eq a b).1 e
-
-pub offset_once : (a b : Offset) → a.seconds ≡ b.seconds → a ≡ b
-offset_once a b e = ap (λ (r : Reading). r.offset) (same_reading (reading 0 a) (reading 0 b) (rw (int_decides a.seconds b.seconds e) refl))
 
 -- a struct is that of one reading
 pub item_once : (a b : Reading) (item : CronItem) → IsItem a item → IsItem b item → a ≡ b
@@ -51,7 +49,7 @@ moment_is None item offset zero e parts only = λ r is high.
     let none : None ≡ Some r = only r (record {
       in_range = high;
       instant_is = sym is.instant_is;
-      offset_is = offset_once r.offset offset (sym is.offset_is ∙ sym e);
+      offset_is = same_offset r.offset offset (sym is.offset_is ∙ sym e);
     }) in
     absurd (cc)
 moment_is (Some m) item offset zero e parts only =

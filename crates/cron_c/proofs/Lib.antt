@@ -1,4 +1,5 @@
 pub mod Over
+pub mod Arrays
 pub mod Items
 pub mod Filling
 pub mod Running

@@ -21,7 +21,7 @@ use Rattle.jiff_tz.specs.TzifText.{TransitionText, no_row}
 use Rattle.cron_clocks.specs.Tables.{row_at, transitions_of}
 use Rattle.cron_clocks.proofs.TableLemmas.{transition_is, transitions_length}
 use Rattle.cron_c.specs.ZoneFiles.{HasDoubleTransition, IsFileOf, transition_count}
-use Rattle.cron_c.proofs.Items.{offset_once}
+use Rattle.cron_clocks.proofs.TableLemmas.{same_offset}
 
 -- ---- what a rule says at an instant
 
@@ -35,7 +35,7 @@ turn_alike y a b s same =
 window_alike : (d e : Dst) (y : ℤ) (std : Offset) → dst_view d ≡ dst_view e → utc_window d y std ≡ utc_window e y std
 unfolding utc_window
 window_alike d e y std same =
-    let offset = offset_once d.offset e.offset (ap (λ (v : DstText). v.seconds) same) in
+    let offset = same_offset d.offset e.offset (ap (λ (v : DstText). v.seconds) same) in
     let start = turn_alike y d.rule.start e.rule.start std.seconds (ap (λ (v : DstText). v.start) same) in
     let finish = turn_alike y d.rule.end e.rule.end d.offset.seconds (ap (λ (v : DstText). v.finish) same) in
     rw (start, finish, offset) refl
@@ -70,7 +70,7 @@ module _ (a b : PosixRule) (n : ℤ) (std : a.std_offset ≡ b.std_offset) (name
 
 info_alike : (a b : PosixRule) (n : ℤ) → tz_view a ≡ tz_view b → info_view (info_at a n) ≡ info_view (info_at b n)
 info_alike a b n same =
-    by_saving a b n (offset_once a.std_offset b.std_offset (ap (λ (v : TzText). v.std_seconds) same)) (ap (λ (v : TzText). v.std_name) same)
+    by_saving a b n (same_offset a.std_offset b.std_offset (ap (λ (v : TzText). v.std_seconds) same)) (ap (λ (v : TzText). v.std_name) same)
     a.dst b.dst (ap (λ (v : TzText). v.dst) same)
 
 row_too : (a b : PosixRule) (row : TransitionText) → tz_view a ≡ tz_view b → RowAgrees a row → RowAgrees b row

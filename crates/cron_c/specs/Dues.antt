@@ -1,17 +1,15 @@
 -- What each status of a call says that goes by due fires: each match once, also where the clock changes.
-use Rattle.std.specs.Prelude.{◌≡◌, ℕ, ℤ, pos, ◌*ℤ◌, List, [], ◌∷◌, ◌++◌, Option, Some, None, length}
+use Rattle.std.specs.Prelude.{◌≡◌, ℕ, ℤ, pos, ◌*ℤ◌, List, Option, Some, None, length}
 use Rattle.jiff_tz.specs.declared.timezone.TimeZone.{TimeZone}
-use Rattle.cron_units.specs.Sets.{Sets}
 use Rattle.cron_dues.specs.Clock.Due.{CanBeDue, Clock, Due, clock_of, instant}
-use Rattle.cron_dues.specs.Clock.Dues.{dues_between, dues_past_by}
-use Rattle.cron_dues.specs.Clock.FirstDues.{IsFirstDuePast}
 use Rattle.cron_dues.specs.DueText.{due_text}
+use Rattle.cron_c.specs.Arrays.{Fills}
 use Rattle.cron_c.specs.Buffers.{laid_over}
 use Rattle.cron_c.specs.Calls.{IsInstant}
 use Rattle.cron_c.specs.Zones.{IsNoZone, IsZoneIn}
 use Rattle.cron_c.specs.declared.item.CronItem.{CronItem}
 use Rattle.cron_c.specs.declared.status.Status.{Status}
-use Rattle.cron_c.specs.declared.status.Status.TheVariants.{Done, NoItem, BadZone, BadInstant, NotAnItem, More}
+use Rattle.cron_c.specs.declared.status.Status.TheVariants.{Done, NoItem, BadZone, BadInstant, NotAnItem}
 use Rattle.cron_c.specs.declared.zone.CronZone.{CronZone}
 
 -- the struct is that of the due fire: the due instant in seconds since 1970-01-01T00:00:00Z, how far the clock is ahead of UTC then, and by
@@ -36,8 +34,8 @@ abbrev pub InZone : CronZone → (Clock → Status → Type 0) → Type 0 → St
 InZone zone Says Kept BadZone = IsNoZone zone × Kept
 InZone zone Says Kept status = (z : TimeZone) × IsZoneIn zone z × Says (clock_of z) status
 
--- Of the due fires by a clock the one that is looked for by an instant is written; or there is none; or nothing is looked for.
-abbrev pub FindsDue : (Sets → Clock → ℤ → Option Due → Type 0) → Sets → ℤ → CronItem → CronItem → Clock → Status → Type 0
+-- Of the due fires of one or several schedules by a clock the one that is looked for by an instant is written; or there is none; or nothing is looked for.
+abbrev pub FindsDue : {S : Type 0} → (S → Clock → ℤ → Option Due → Type 0) → S → ℤ → CronItem → CronItem → Clock → Status → Type 0
 FindsDue IsWanted s second old new clock Done =
     (d : Due) × IsInstant second × IsWanted s clock (second *ℤ pos 1_000_000_000) (Some d) × IsDueItem d new
 FindsDue IsWanted s second old new clock NoItem = IsInstant second × IsWanted s clock (second *ℤ pos 1_000_000_000) None × (new ≡ old)
@@ -46,55 +44,29 @@ FindsDue IsWanted s second old new clock _ = ⊥
 
 -- The first due fire past that of an item takes its place; or there is none; or the given one is none. That one may be none of the sets: its
 -- nominal second alone counts.
-abbrev pub FollowsDue : Sets → CronItem → CronItem → Clock → Status → Type 0
-FollowsDue s old new clock Done =
-    (d : Due) × (next : Due) × IsDueInRange d old × IsFirstDuePast s clock d (Some next) × IsDueItem next new
-FollowsDue s old new clock NoItem = (d : Due) × IsDueInRange d old × IsFirstDuePast s clock d None × (new ≡ old)
-FollowsDue s old new clock NotAnItem = IsNoDue old × (new ≡ old)
-FollowsDue s old new clock _ = ⊥
+abbrev pub FollowsDue : {S : Type 0} → (S → Clock → Due → Option Due → Type 0) → S → CronItem → CronItem → Clock → Status → Type 0
+FollowsDue IsNext s old new clock Done =
+    (d : Due) × (next : Due) × IsDueInRange d old × IsNext s clock d (Some next) × IsDueItem next new
+FollowsDue IsNext s old new clock NoItem = (d : Due) × IsDueInRange d old × IsNext s clock d None × (new ≡ old)
+FollowsDue IsNext s old new clock NotAnItem = IsNoDue old × (new ≡ old)
+FollowsDue IsNext s old new clock _ = ⊥
 
 -- ---- many at once
 
--- the first places of an array hold these due fires, and the others what they held
-unfoldable pub IsDueFront : List Due → List CronItem → List CronItem → Type 0
-IsDueFront [] old new = new ≡ old
-IsDueFront (d ∷ ds) (x ∷ xs) (y ∷ ys) = IsDueItem d y × IsDueFront ds xs ys
-IsDueFront _ _ _ = ⊥
-
--- all the due fires are in the array
-abbrev pub IsDueWhole : List Due → List CronItem → List CronItem → ℕ → Type 0
-IsDueWhole all old new count = IsDueFront all old new × (count ≡ length all)
-
--- the first of the due fires fill the array, and others are left
-pub record IsDuePage (all : List Due) (old new : List CronItem) (count : ℕ) : Type 0 where
-  pub written : List Due
-  pub next : Due
-  pub left : List Due
-  pub cut : all ≡ written ++ next ∷ left
-  pub items : IsDueFront written old new
-  pub counted : count ≡ length written
-  pub full : count ≡ length old
-
--- the due fires are written as far as they fit, and the status tells whether these are all
-abbrev pub FillsDue : List Due → List CronItem → List CronItem → ℕ → Status → Type 0
-FillsDue all old new count Done = IsDueWhole all old new count
-FillsDue all old new count More = IsDuePage all old new count
-FillsDue all old new count _ = ⊥
-
 -- The due fires after one instant and up to and with another are written as far as they fit; or nothing is looked for.
-abbrev pub RunsDueBetween : Sets → ℤ → ℤ → List CronItem → List CronItem → ℕ → Clock → Status → Type 0
-RunsDueBetween s last now old new count clock BadInstant = (IsInstant last → IsInstant now → ⊥) × (new ≡ old) × (count ≡ 0)
-RunsDueBetween s last now old new count clock status =
+abbrev pub RunsDueBetween : {S : Type 0} → (S → Clock → ℤ → ℤ → List Due) → S → ℤ → ℤ → List CronItem → List CronItem → ℕ → Clock → Status → Type 0
+RunsDueBetween between s last now old new count clock BadInstant = (IsInstant last → IsInstant now → ⊥) × (new ≡ old) × (count ≡ 0)
+RunsDueBetween between s last now old new count clock status =
     IsInstant last × IsInstant now
-    × FillsDue (dues_between s clock (last *ℤ pos 1_000_000_000) (now *ℤ pos 1_000_000_000)) old new count status
+    × Fills IsDueItem (between s clock (last *ℤ pos 1_000_000_000) (now *ℤ pos 1_000_000_000)) old new count status
 
 -- The due fires past that of a struct and up to and with an instant, alike. That one may be none of the sets.
-abbrev pub RunsDuePast : Sets → CronItem → ℤ → List CronItem → List CronItem → ℕ → Clock → Status → Type 0
-RunsDuePast s item now old new count clock NotAnItem = IsNoDue item × (new ≡ old) × (count ≡ 0)
-RunsDuePast s item now old new count clock BadInstant = IsSomeDue item × (IsInstant now → ⊥) × (new ≡ old) × (count ≡ 0)
-RunsDuePast s item now old new count clock status =
+abbrev pub RunsDuePast : {S : Type 0} → (S → Clock → Due → ℤ → List Due) → S → CronItem → ℤ → List CronItem → List CronItem → ℕ → Clock → Status → Type 0
+RunsDuePast past_by s item now old new count clock NotAnItem = IsNoDue item × (new ≡ old) × (count ≡ 0)
+RunsDuePast past_by s item now old new count clock BadInstant = IsSomeDue item × (IsInstant now → ⊥) × (new ≡ old) × (count ≡ 0)
+RunsDuePast past_by s item now old new count clock status =
     (d : Due) × IsDueInRange d item × IsInstant now
-    × FillsDue (dues_past_by s clock d (now *ℤ pos 1_000_000_000)) old new count status
+    × Fills IsDueItem (past_by s clock d (now *ℤ pos 1_000_000_000)) old new count status
 
 -- ---- text
 

@@ -7,8 +7,8 @@ use Rattle.cron_instants.specs.Fires.{fires_between, fires_past_by}
 use Rattle.cron_instants.specs.Instants.{IsAfter, IsAmong, IsBy, IsEarliest, IsLatest, IsItem as IsOnTimeline}
 use Rattle.cron_instants.specs.Order.{is_earlier}
 use Rattle.cron_c.specs.Zones.{IsSomeZone, IsZoneIn}
+use Rattle.cron_c.specs.Arrays.{IsFront}
 use Rattle.cron_c.specs.Calls.{IsInstant}
-use Rattle.cron_c.specs.Listings.{IsFront}
 use Rattle.cron_c.specs.Structs.{IsItem, IsItemInRange, IsNoItem, IsSomeItem}
 use Rattle.cron_c.specs.declared.era.CronEra.{CronEra}
 use Rattle.cron_c.specs.declared.history.Begin.{Begin}
@@ -67,7 +67,7 @@ ChecksHistory eras _ = ⊥
 
 -- Of the items of the history the one that is looked for by an instant is written; or there is none; or nothing is looked for. Eras that are
 -- no history are refused, or an item of one of them is written, or none.
-abbrev pub FiresIn : (Sets → List CronEra → ℤ → Option Reading → Type 0) → Sets → List CronEra → ℤ → CronItem → CronItem → Status → Type 0
+abbrev pub FiresIn : {S : Type 0} → (S → List CronEra → ℤ → Option Reading → Type 0) → S → List CronEra → ℤ → CronItem → CronItem → Status → Type 0
 FiresIn IsWanted s eras second old new Done =
     (r : Reading) × IsInstant second × IsWanted s eras (second *ℤ pos 1_000_000_000) (Some r) × IsItem r new
 FiresIn IsWanted s eras second old new NoItem = IsInstant second × IsWanted s eras (second *ℤ pos 1_000_000_000) None × (new ≡ old)
@@ -93,7 +93,7 @@ Leads P (r ∷ rs) next = IsEarliest P (Some r) × Leads (λ q. P q × (is_earli
 -- Readings with a property are in the array, before what it held. Where the eras are a history they are the first of them, and `next` comes next.
 abbrev pub IsFilledIn : List CronEra → (Reading → Type 0) → List CronItem → List CronItem → ℕ → Option Reading → Type 0
 IsFilledIn eras P old new count next =
-    (written : List Reading) × ((r : Reading) → IsAmong written r → P r) × (IsHistory eras → Leads P written next) × IsFront written old new
+    (written : List Reading) × ((r : Reading) → IsAmong written r → P r) × (IsHistory eras → Leads P written next) × IsFront IsItem written old new
     × (count ≡ length written)
 
 -- They are written as far as they fit, and the status tells whether these are all. Of eras that are refused so nothing more is said: they are
@@ -105,19 +105,19 @@ FillsIn eras P old new count BadZone = (IsHistory eras → ⊥) × (count ≡ 0)
 FillsIn eras P old new count _ = ⊥
 
 -- The items of the history after one instant and up to and with another are written as far as they fit; or nothing is looked for.
-abbrev pub RunsInBetween : Sets → List CronEra → ℤ → ℤ → List CronItem → List CronItem → ℕ → Status → Type 0
-RunsInBetween s eras last now old new count BadInstant = (IsInstant last → IsInstant now → ⊥) × (new ≡ old) × (count ≡ 0)
-RunsInBetween s eras last now old new count status =
+abbrev pub RunsInBetween : {S : Type 0} → (S → List CronEra → Reading → Type 0) → S → List CronEra → ℤ → ℤ → List CronItem → List CronItem → ℕ → Status → Type 0
+RunsInBetween IsOne s eras last now old new count BadInstant = (IsInstant last → IsInstant now → ⊥) × (new ≡ old) × (count ≡ 0)
+RunsInBetween IsOne s eras last now old new count status =
     IsInstant last × IsInstant now
-    × FillsIn eras (λ r. IsHistoryItem s eras r × IsAfter (last *ℤ pos 1_000_000_000) r × IsBy (now *ℤ pos 1_000_000_000) r) old new count status
+    × FillsIn eras (λ r. IsOne s eras r × IsAfter (last *ℤ pos 1_000_000_000) r × IsBy (now *ℤ pos 1_000_000_000) r) old new count status
 
 -- The items of the history that are later than the one of a struct and up to and with an instant, alike. That one may be none of the history.
-abbrev pub RunsInPast : Sets → List CronEra → CronItem → ℤ → List CronItem → List CronItem → ℕ → Status → Type 0
-RunsInPast s eras item now old new count NotAnItem = IsNoItem item × (new ≡ old) × (count ≡ 0)
-RunsInPast s eras item now old new count BadInstant = IsSomeItem item × (IsInstant now → ⊥) × (new ≡ old) × (count ≡ 0)
-RunsInPast s eras item now old new count status =
+abbrev pub RunsInPast : {S : Type 0} → (S → List CronEra → Reading → Type 0) → S → List CronEra → CronItem → ℤ → List CronItem → List CronItem → ℕ → Status → Type 0
+RunsInPast IsOne s eras item now old new count NotAnItem = IsNoItem item × (new ≡ old) × (count ≡ 0)
+RunsInPast IsOne s eras item now old new count BadInstant = IsSomeItem item × (IsInstant now → ⊥) × (new ≡ old) × (count ≡ 0)
+RunsInPast IsOne s eras item now old new count status =
     (r : Reading) × IsItemInRange r item × IsInstant now
-    × FillsIn eras (λ q. IsHistoryItem s eras q × (is_earlier r q ≡ true) × IsBy (now *ℤ pos 1_000_000_000) q) old new count status
+    × FillsIn eras (λ q. IsOne s eras q × (is_earlier r q ≡ true) × IsBy (now *ℤ pos 1_000_000_000) q) old new count status
 
 -- ---- the search
 
@@ -157,7 +157,7 @@ fires_from s z (Past item) now = fires_past_by s z item now
 
 -- the first of the readings with a property are in the array, before what it held, and this one comes next
 abbrev pub IsFilled : (Reading → Type 0) → List CronItem → List CronItem → ℕ → Option Reading → Type 0
-IsFilled P old new count next = (written : List Reading) × Leads P written next × IsFront written old new × (count ≡ length written)
+IsFilled P old new count next = (written : List Reading) × Leads P written next × IsFront IsItem written old new × (count ≡ length written)
 
 -- they are written as far as they fit, and the status tells whether these are all
 abbrev pub FillsOf : (Reading → Type 0) → List CronItem → List CronItem → ℕ → Status → Type 0

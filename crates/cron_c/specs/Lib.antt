@@ -1,6 +1,7 @@
 pub mod Statuses
 pub mod Structs
 pub mod Buffers
+pub mod Arrays
 pub mod Calls
 pub mod Listings
 pub mod Runs
@@ -9,5 +10,5 @@ pub mod Histories
 pub mod Savings
 pub mod ZoneFiles
 pub mod Dues
-pub mod AnyOffset
 pub mod HistoryClocks
+pub mod Inner

@@ -11,24 +11,19 @@ use Rattle.cron_time.specs.Walk.Resume.{IsAbsent}
 use Rattle.cron_time.specs.Walk.Rest.{rest}
 use Rattle.cron_c.specs.Zones.{IsNoZone, IsSomeZone, IsZoneIn}
 use Rattle.cron_c.specs.declared.zone.CronZone.{CronZone}
+use Rattle.cron_c.specs.Arrays.{IsFront}
 use Rattle.cron_c.specs.Calls.{IsInstant, IsResumedAt, start_at}
 use Rattle.cron_c.specs.Structs.{IsItem}
 use Rattle.cron_c.specs.declared.item.CronItem.{CronItem}
 use Rattle.cron_c.specs.declared.status.Status.{Status}
 use Rattle.cron_c.specs.declared.status.Status.TheVariants.{Done, BadZone, BadInstant, NotAnItem}
 
--- the first places of an array hold these items, and the others what they held
-unfoldable pub IsFront : List Reading → List CronItem → List CronItem → Type 0
-IsFront [] old new = new ≡ old
-IsFront (r ∷ rs) (x ∷ xs) (y ∷ ys) = IsItem r y × IsFront rs xs ys
-IsFront _ _ _ = ⊥
-
 -- Of all the items the first so many are in the array: as many as fit, or all.
 pub record IsListed (all : List Reading) (old new : List CronItem) (count : ℕ) : Type 0 where
   pub written : List Reading
   pub left : List Reading
   pub cut : all ≡ written ++ left
-  pub items : IsFront written old new
+  pub items : IsFront IsItem written old new
   pub counted : count ≡ length written
   pub most : (left ≡ []) ⊎ (count ≡ length old)
 

@@ -1,5 +1,5 @@
 -- Many items at once, in the order of instants.
-use Rattle.std.specs.Prelude.{◌≡◌, ℕ, ℤ, pos, ◌*ℤ◌, List, ◌∷◌, ◌++◌, length}
+use Rattle.std.specs.Prelude.{◌≡◌, ℕ, ℤ, pos, ◌*ℤ◌, List}
 use Rattle.jiff_tz.specs.declared.timezone.TimeZone.{TimeZone}
 use Rattle.cron_units.specs.Sets.{Sets}
 use Rattle.cron_moments.specs.Readings.{Reading}
@@ -7,31 +7,11 @@ use Rattle.cron_c.specs.Zones.{IsNoZone, IsSomeZone, IsZoneIn}
 use Rattle.cron_c.specs.declared.zone.CronZone.{CronZone}
 use Rattle.cron_instants.specs.Fires.{fires_between, fires_past_by}
 use Rattle.cron_c.specs.Calls.{IsInstant}
-use Rattle.cron_c.specs.Listings.{IsFront}
-use Rattle.cron_c.specs.Structs.{IsItemInRange, IsNoItem, IsSomeItem}
+use Rattle.cron_c.specs.Arrays.{Fills}
+use Rattle.cron_c.specs.Structs.{IsItem, IsItemInRange, IsNoItem, IsSomeItem}
 use Rattle.cron_c.specs.declared.item.CronItem.{CronItem}
 use Rattle.cron_c.specs.declared.status.Status.{Status}
-use Rattle.cron_c.specs.declared.status.Status.TheVariants.{Done, More, BadZone, BadInstant, NotAnItem}
-
--- all the items are in the array
-abbrev pub IsWhole : List Reading → List CronItem → List CronItem → ℕ → Type 0
-IsWhole all old new count = IsFront all old new × (count ≡ length all)
-
--- the first of the items fill the array, and others are left
-pub record IsPage (all : List Reading) (old new : List CronItem) (count : ℕ) : Type 0 where
-  pub written : List Reading
-  pub next : Reading
-  pub left : List Reading
-  pub cut : all ≡ written ++ next ∷ left
-  pub items : IsFront written old new
-  pub counted : count ≡ length written
-  pub full : count ≡ length old
-
--- the items are written as far as they fit, and the status tells whether these are all
-abbrev pub Fills : List Reading → List CronItem → List CronItem → ℕ → Status → Type 0
-Fills all old new count Done = IsWhole all old new count
-Fills all old new count More = IsPage all old new count
-Fills all old new count _ = ⊥
+use Rattle.cron_c.specs.declared.status.Status.TheVariants.{BadZone, BadInstant, NotAnItem}
 
 -- The items after one instant and up to and with another are written as far as they fit; or nothing is looked for.
 abbrev pub RunsBetween : Sets → CronZone → ℤ → ℤ → List CronItem → List CronItem → ℕ → Status → Type 0
@@ -39,7 +19,7 @@ RunsBetween s zone last now old new count BadZone = IsNoZone zone × (new ≡ ol
 RunsBetween s zone last now old new count BadInstant = IsSomeZone zone × (IsInstant last → IsInstant now → ⊥) × (new ≡ old) × (count ≡ 0)
 RunsBetween s zone last now old new count status =
     (z : TimeZone) × IsZoneIn zone z × IsInstant last × IsInstant now
-    × Fills (fires_between s z (last *ℤ pos 1_000_000_000) (now *ℤ pos 1_000_000_000)) old new count status
+    × Fills IsItem (fires_between s z (last *ℤ pos 1_000_000_000) (now *ℤ pos 1_000_000_000)) old new count status
 
 -- The items that are later than the one of a struct and up to and with an instant, alike. That one may be none of the timeline.
 abbrev pub RunsPast : Sets → CronZone → CronItem → ℤ → List CronItem → List CronItem → ℕ → Status → Type 0
@@ -50,4 +30,4 @@ RunsPast s zone item now old new count BadInstant =
     IsSomeZone zone × IsSomeItem item × (IsInstant now → ⊥) × (new ≡ old) × (count ≡ 0)
 RunsPast s zone item now old new count status =
     (z : TimeZone) × (r : Reading) × IsZoneIn zone z × IsItemInRange r item × IsInstant now
-    × Fills (fires_past_by s z r (now *ℤ pos 1_000_000_000)) old new count status
+    × Fills IsItem (fires_past_by s z r (now *ℤ pos 1_000_000_000)) old new count status

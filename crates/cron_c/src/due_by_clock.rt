@@ -1,10 +1,12 @@
 //! Due fires by any clock: that of a rule, or of a history.
 
-ghost use Rattle.cron_dues.specs.Clock.FirstDues.{IsFirstDueAfter, IsLastDueBy};
-ghost use Rattle.cron_c.specs.Dues.{FillsDue, FindsDue, FollowsDue, RunsDueBetween, RunsDuePast};
+ghost use Rattle.cron_dues.specs.Clock.Dues.{dues_between, dues_past_by};
+ghost use Rattle.cron_dues.specs.Clock.FirstDues.{IsFirstDueAfter, IsFirstDuePast, IsLastDueBy};
+ghost use Rattle.cron_c.specs.Arrays.{Fills};
+ghost use Rattle.cron_c.specs.Dues.{FindsDue, FollowsDue, IsDueItem, RunsDueBetween, RunsDuePast};
 ghost use Rattle.cron_c.specs.Structs.{sets_of};
 
-use crate::due_item::{due_of_item, item_of_due};
+use crate::due_item::{due_of_item, item_of_due, write_due};
 use crate::item::CronItem;
 use crate::schedule::{CronSchedule, fields_of};
 use crate::status::Status;
@@ -20,16 +22,13 @@ pub fn due_after<C: Clock>(
     second: i64,
     item: &mut CronItem,
 ) -> Status
-    ensures { FindsDue IsFirstDueAfter (sets_of schedule.now) second item.old item.new (C.offsets clock.now) result }
+    ensures { FindsDue IsFirstDueAfter (sets_of schedule.now) second
+        item.old item.new (C.offsets clock.now) result }
 {
     let Ok(now) = Timestamp::from_second(second) else {
         return Status::BadInstant;
     };
-    let Some(found) = first_after(&fields_of(schedule), now, clock) else {
-        return Status::NoItem;
-    };
-    *item = item_of_due(&found);
-    Status::Done
+    write_due(first_after(&fields_of(schedule), now, clock), item)
 }
 
 /// Writes the last due fire by an instant.
@@ -39,36 +38,29 @@ pub fn due_by<C: Clock>(
     second: i64,
     item: &mut CronItem,
 ) -> Status
-    ensures { FindsDue IsLastDueBy (sets_of schedule.now) second item.old item.new (C.offsets clock.now) result }
+    ensures { FindsDue IsLastDueBy (sets_of schedule.now) second
+        item.old item.new (C.offsets clock.now) result }
 {
     let Ok(now) = Timestamp::from_second(second) else {
         return Status::BadInstant;
     };
-    let Some(found) = last_by(&fields_of(schedule), now, clock) else {
-        return Status::NoItem;
-    };
-    *item = item_of_due(&found);
-    Status::Done
+    write_due(last_by(&fields_of(schedule), now, clock), item)
 }
 
 /// Puts the first due fire past that of an item in its place.
 pub fn due_past<C: Clock>(schedule: &CronSchedule, clock: &C, item: &mut CronItem) -> Status
-    ensures { FollowsDue (sets_of schedule.now) item.old item.new (C.offsets clock.now) result }
+    ensures { FollowsDue IsFirstDuePast (sets_of schedule.now) item.old item.new (C.offsets clock.now) result }
 {
     let Some(given) = due_of_item(*item) else {
         return Status::NotAnItem;
     };
-    let Some(found) = first_past(&fields_of(schedule), &given, clock) else {
-        return Status::NoItem;
-    };
-    *item = item_of_due(&found);
-    Status::Done
+    write_due(first_past(&fields_of(schedule), &given, clock), item)
 }
 
-// Writes the due fires that a run has left, as far as they fit. One more is asked for when the array is full:
-// only that one tells whether these were all.
+// Writes the due fires that a run has left, as far as they fit. One more is asked for when the
+// array is full: only that one tells whether these were all.
 fn fill<C: Clock>(mut run: Run<'_, C>, items: &mut [CronItem], count: &mut usize) -> Status
-    ensures { FillsDue run.entry items.old items.new count.new result }
+    ensures { Fills IsDueItem run.entry items.old items.new count.new result }
 {
     for at in 0..items.len() {
         let Some(fire) = run.next() else {
@@ -93,7 +85,8 @@ pub fn dues_between<C: Clock>(
     items: &mut [CronItem],
     count: &mut usize,
 ) -> Status
-    ensures { RunsDueBetween (sets_of schedule.now) last now items.old items.new count.new (C.offsets clock.now) result }
+    ensures { RunsDueBetween dues_between (sets_of schedule.now) last now
+        items.old items.new count.new (C.offsets clock.now) result }
 {
     *count = 0;
     let Ok(last) = Timestamp::from_second(last) else {
@@ -115,7 +108,8 @@ pub fn dues_past<C: Clock>(
     items: &mut [CronItem],
     count: &mut usize,
 ) -> Status
-    ensures { RunsDuePast (sets_of schedule.now) item.now now items.old items.new count.new (C.offsets clock.now) result }
+    ensures { RunsDuePast dues_past_by (sets_of schedule.now) item.now now
+        items.old items.new count.new (C.offsets clock.now) result }
 {
     *count = 0;
     let Some(given) = due_of_item(*item) else {

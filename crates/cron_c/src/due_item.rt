@@ -1,9 +1,11 @@
 //! A due fire as plain numbers.
 
 ghost use Rattle.std.specs.Prelude.{◌≡◌, ◌+ℤ◌, ◌-ℤ◌, pos, MatchOption};
+ghost use Rattle.cron_c.specs.Arrays.{Writes};
 ghost use Rattle.cron_c.specs.Dues.{IsDueInRange, IsDueItem, IsNoDue};
 
 use crate::item::CronItem;
+use crate::status::Status;
 use cron_dues::fire::{DueFire, due_second, fire_of_parts};
 use cron_moments::civil::SECONDS;
 use jiff::tz::Offset;
@@ -19,6 +21,17 @@ pub fn item_of_due(fire: &DueFire) -> CronItem
     }
 }
 
+/// Writes the due fire that was found, if one was.
+pub fn write_due(found: Option<DueFire>, item: &mut CronItem) -> Status
+    ensures { Writes IsDueItem found item.old item.new result }
+{
+    let Some(fire) = found else {
+        return Status::NoItem;
+    };
+    *item = item_of_due(&fire);
+    Status::Done
+}
+
 // The number of the nominal second that a struct says, in the range or not.
 fn nominal_second(item: CronItem) -> i128
     ensures { result ≡ item.instant +ℤ item.offset -ℤ pos item.reserved }
@@ -26,8 +39,8 @@ fn nominal_second(item: CronItem) -> i128
     item.instant as i128 + item.offset as i128 - item.reserved as i128
 }
 
-/// The due fire of a struct; `None` where the offset is longer than 25:59:59, what the clock shows lies more
-/// than 187,198 seconds past the nominal time, or that lies outside 1970 to 2100.
+/// The due fire of a struct; `None` where the offset is longer than 25:59:59, what the clock shows
+/// lies more than 187,198 seconds past the nominal time, or that lies outside 1970 to 2100.
 pub fn due_of_item(item: CronItem) -> Option<DueFire>
     ensures { MatchOption result
         (IsNoDue item)

@@ -9,8 +9,8 @@ use crate::era_table::fixed_rule;
 use crate::zone::{CronZone, FIXED, zone_in};
 use jiff::tz::{Offset, TimeZone};
 
-/// From `starts` on, in seconds since 1970-01-01T00:00:00Z, the clock is that of the zone, until the next
-/// era starts.
+/// From `starts` on, in seconds since 1970-01-01T00:00:00Z, the clock is that of the zone, until
+/// the next era starts.
 #[repr(C)]
 #[derive(Clone, Copy)]
 pub struct CronEra {
@@ -18,8 +18,8 @@ pub struct CronEra {
     pub zone: CronZone,
 }
 
-// Whether a struct with one offset says a zone. Most eras have one. The rule is made for the proof, which
-// names by it the zone that the struct says.
+// Whether a struct with one offset says a zone. Most eras have one. The rule is made for the proof,
+// which names by it the zone that the struct says.
 fn is_fixed(zone: &CronZone) -> bool
     requires { zone.now.kind ≡ 1 }
     ensures { (result ≡ true) ↔ IsSomeZone zone.now }

@@ -54,7 +54,8 @@ pub fn fixed_rule(offset: Offset) -> posix::TimeZone
     }
 }
 
-// The rule of the clock past so many transitions: past all of them that of the table, if it has one.
+// The rule of the clock past so many transitions: past all of them that of the table, if it has
+// one.
 fn rule_past(table: &Tzif, count: usize) -> posix::TimeZone
     requires { count ≤ transition_count table.now }
     ensures { SaysRulePast table.now count result }
@@ -102,8 +103,8 @@ fn fill(table: &Tzif, needed: usize, eras: &mut [CronEra])
     }
 }
 
-/// Writes the eras of a table to the front of an array, where there is room for all of them, and how
-/// many they are.
+/// Writes the eras of a table to the front of an array, where there is room for all of them, and
+/// how many they are.
 pub fn write_eras(table: &Tzif, eras: &mut [CronEra], count: &mut usize) -> Status
     ensures { WritesEras table.now eras.old eras.new count.new result }
 {

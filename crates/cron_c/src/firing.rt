@@ -5,7 +5,7 @@ ghost use Rattle.cron_instants.specs.Instants.{IsFirstAfter, IsLastBy};
 ghost use Rattle.cron_c.specs.Calls.{Answers, Fires, FiresAt, IsNearestFire};
 ghost use Rattle.cron_c.specs.Structs.{sets_of};
 
-use crate::item::{CronItem, item_of};
+use crate::item::{CronItem, item_of, write_found};
 use crate::schedule::{CronSchedule, fields_of};
 use crate::status::Status;
 use crate::zone::{CronZone, zone_in};
@@ -38,7 +38,8 @@ fn fire(
     second: i64,
     item: &mut CronItem,
 ) -> Status
-    ensures { Fires (IsNearestFire way) (sets_of schedule.now) zone.now second item.old item.new result }
+    ensures { Fires (IsNearestFire way) (sets_of schedule.now) zone.now second
+        item.old item.new result }
 {
     let Some(zone) = zone_in(zone) else {
         return Status::BadZone;
@@ -46,15 +47,11 @@ fn fire(
     let Ok(now) = Timestamp::from_second(second) else {
         return Status::BadInstant;
     };
-    let Some(found) = nearest_fire(way, schedule, &zone, now) else {
-        return Status::NoItem;
-    };
-    *item = item_of(&found);
-    Status::Done
+    write_found(nearest_fire(way, schedule, &zone, now), item)
 }
 
-/// Writes the earliest of the items whose instant comes after this one, which is given by its seconds
-/// since 1970-01-01T00:00:00Z.
+/// Writes the earliest of the items whose instant comes after this one, which is given by its
+/// seconds since 1970-01-01T00:00:00Z.
 #[unsafe(no_mangle)]
 pub extern "C" fn cron_c_fire_after(
     schedule: &CronSchedule,
@@ -62,7 +59,8 @@ pub extern "C" fn cron_c_fire_after(
     instant: i64,
     item: &mut CronItem,
 ) -> u32
-    ensures { Answers (Fires IsFirstAfter (sets_of schedule.now) zone.now instant item.old item.new) result }
+    ensures { Answers (Fires IsFirstAfter (sets_of schedule.now) zone.now instant
+        item.old item.new) result }
 {
     fire(Way::Ahead, schedule, zone, instant, item).code()
 }
@@ -75,7 +73,8 @@ pub extern "C" fn cron_c_fire_by(
     instant: i64,
     item: &mut CronItem,
 ) -> u32
-    ensures { Answers (Fires IsLastBy (sets_of schedule.now) zone.now instant item.old item.new) result }
+    ensures { Answers (Fires IsLastBy (sets_of schedule.now) zone.now instant
+        item.old item.new) result }
 {
     fire(Way::Back, schedule, zone, instant, item).code()
 }

@@ -25,7 +25,8 @@ pub enum Begin {
     Past(Moment),
 }
 
-/// That eras are no history: one that a search came to says no zone, or the next one starts no later.
+/// That eras are no history: one that a search came to says no zone, or the next one starts no
+/// later.
 #[derive(Clone, Copy)]
 pub struct NoHistory;
 
@@ -56,12 +57,15 @@ pub fn begin_in(era: &CronEra, begin: &Begin) -> Option<Begin>
     }
 }
 
-// The last instant before an era, or `until` where that comes earlier; `None` where no item is so early.
+// The last instant before an era, or `until` where that comes earlier; `None` where no item is so
+// early.
 fn until_before(era: &CronEra, until: Timestamp) -> Option<Timestamp>
     ensures { MatchOption result
         ((r : Reading) → instant r <ℤ era.now.starts → IsBy until.nanosecond r → ⊥)
-        (λ t. ((r : Reading) → instant r <ℤ era.now.starts → IsBy until.nanosecond r → IsBy t.nanosecond r)
-        × ((r : Reading) → IsBy t.nanosecond r → IsBy until.nanosecond r × (instant r <ℤ era.now.starts))) }
+        (λ t. ((r : Reading) → instant r <ℤ era.now.starts → IsBy until.nanosecond r
+        → IsBy t.nanosecond r)
+        × ((r : Reading) → IsBy t.nanosecond r
+        → IsBy until.nanosecond r × (instant r <ℤ era.now.starts))) }
 {
     if era.starts > until.to_plain().floor_second() {
         return Some(until);
@@ -75,12 +79,13 @@ fn until_before(era: &CronEra, until: Timestamp) -> Option<Timestamp>
     }
 }
 
-/// The last instant of the era at this place, or `now` where that comes earlier; `None` where no item is so
-/// early.
+/// The last instant of the era at this place, or `now` where that comes earlier; `None` where no
+/// item is so early.
 pub fn until_in(eras: &[CronEra], at: usize, now: Timestamp) -> Option<Timestamp>
     requires { at < length eras.now }
     ensures { MatchOption result
-        ((r : Reading) → IsBy now.nanosecond r → has_started eras.now (at + 1) (instant r) ≡ false → ⊥)
+        ((r : Reading) → IsBy now.nanosecond r
+        → has_started eras.now (at + 1) (instant r) ≡ false → ⊥)
         (λ t. EndsIn eras.now at now.nanosecond t.nanosecond) }
 {
     match eras.get(at + 1) {
@@ -89,7 +94,8 @@ pub fn until_in(eras: &[CronEra], at: usize, now: Timestamp) -> Option<Timestamp
     }
 }
 
-/// How many of the eras may have an item by an instant: of a history those up to the one that holds it.
+/// How many of the eras may have an item by an instant: of a history those up to the one that holds
+/// it.
 pub fn eras_by(eras: &[CronEra], now: Timestamp) -> usize
     ensures bound { result ≤ length eras.now }
     ensures below { (s : Sets) → IsHistory eras.now → AllBelow s eras.now now.nanosecond result }
@@ -100,7 +106,8 @@ pub fn eras_by(eras: &[CronEra], now: Timestamp) -> usize
 
 // The first item of a zone.
 fn first_of_zone(fields: &ScheduleFields, zone: &TimeZone<'_>, begin: &Begin) -> Option<Moment>
-    ensures { IsEarliest (λ r. IsItem fields.now (plain_zone zone.now) r × IsBeyond begin.now r) result }
+    ensures { IsEarliest
+        (λ r. IsItem fields.now (plain_zone zone.now) r × IsBeyond begin.now r) result }
 {
     match begin {
         Begin::After(now) => first_after(fields, *now, zone),

@@ -1,29 +1,26 @@
 //! Items of a zone with a history, by instants.
 
 ghost use Rattle.cron_c.specs.Calls.{Answers};
-ghost use Rattle.cron_c.specs.Histories.{ChecksHistory, FiresIn, FiresInAt, IsFirstInAfter, IsLastInBy, RunsInBetween, RunsInPast};
+ghost use Rattle.cron_c.specs.Histories.{ChecksHistory, FiresIn, FiresInAt, IsFirstInAfter, IsHistoryItem, IsLastInBy, RunsInBetween, RunsInPast};
 ghost use Rattle.cron_c.specs.Structs.{sets_of};
 
 use crate::era::{CronEra, is_history};
 use crate::history::{Begin, first_of_history, last_of_history};
 use crate::history_runs::fill_history;
-use crate::item::{CronItem, item_of, moment_of};
+use crate::item::{CronItem, item_of, moment_of, write_found};
 use crate::schedule::{CronSchedule, fields_of};
 use crate::status::Status;
 use jiff::Timestamp;
 
 fn fire_after(schedule: &CronSchedule, eras: &[CronEra], second: i64, item: &mut CronItem) -> Status
-    ensures { FiresIn IsFirstInAfter (sets_of schedule.now) eras.now second item.old item.new result }
+    ensures { FiresIn IsFirstInAfter (sets_of schedule.now) eras.now second
+        item.old item.new result }
 {
     let Ok(now) = Timestamp::from_second(second) else {
         return Status::BadInstant;
     };
     match first_of_history(&fields_of(schedule), eras, &Begin::After(now)) {
-        Ok(Some(found)) => {
-            *item = item_of(&found);
-            Status::Done
-        }
-        Ok(None) => Status::NoItem,
+        Ok(found) => write_found(found, item),
         Err(_) => Status::BadZone,
     }
 }
@@ -35,11 +32,7 @@ fn fire_by(schedule: &CronSchedule, eras: &[CronEra], second: i64, item: &mut Cr
         return Status::BadInstant;
     };
     match last_of_history(&fields_of(schedule), eras, now) {
-        Ok(Some(found)) => {
-            *item = item_of(&found);
-            Status::Done
-        }
-        Ok(None) => Status::NoItem,
+        Ok(found) => write_found(found, item),
         Err(_) => Status::BadZone,
     }
 }
@@ -71,7 +64,8 @@ fn run_between(
     items: &mut [CronItem],
     count: &mut usize,
 ) -> Status
-    ensures { RunsInBetween (sets_of schedule.now) eras.now last now items.old items.new count.new result }
+    ensures { RunsInBetween IsHistoryItem (sets_of schedule.now) eras.now last now
+        items.old items.new count.new result }
 {
     *count = 0;
     let Ok(last) = Timestamp::from_second(last) else {
@@ -92,7 +86,8 @@ fn run_past(
     items: &mut [CronItem],
     count: &mut usize,
 ) -> Status
-    ensures { RunsInPast (sets_of schedule.now) eras.now item.now now items.old items.new count.new result }
+    ensures { RunsInPast IsHistoryItem (sets_of schedule.now) eras.now item.now now
+        items.old items.new count.new result }
 {
     *count = 0;
     let Some(given) = moment_of(*item) else {
@@ -131,7 +126,8 @@ pub extern "C" fn cron_c_history_fire_after(
     instant: i64,
     item: &mut CronItem,
 ) -> u32
-    ensures { Answers (FiresIn IsFirstInAfter (sets_of schedule.now) eras.now instant item.old item.new) result }
+    ensures { Answers (FiresIn IsFirstInAfter (sets_of schedule.now) eras.now instant
+        item.old item.new) result }
 {
     fire_after(schedule, eras, instant, item).code()
 }
@@ -144,7 +140,8 @@ pub extern "C" fn cron_c_history_fire_by(
     instant: i64,
     item: &mut CronItem,
 ) -> u32
-    ensures { Answers (FiresIn IsLastInBy (sets_of schedule.now) eras.now instant item.old item.new) result }
+    ensures { Answers (FiresIn IsLastInBy (sets_of schedule.now) eras.now instant
+        item.old item.new) result }
 {
     fire_by(schedule, eras, instant, item).code()
 }
@@ -173,7 +170,8 @@ pub extern "C" fn cron_c_history_fires_between(
     items: &mut [CronItem],
     count: &mut usize,
 ) -> u32
-    ensures { Answers (RunsInBetween (sets_of schedule.now) eras.now last now items.old items.new count.new) result }
+    ensures { Answers (RunsInBetween IsHistoryItem (sets_of schedule.now) eras.now last now
+        items.old items.new count.new) result }
 {
     run_between(schedule, eras, last, now, items, count).code()
 }
@@ -188,7 +186,8 @@ pub extern "C" fn cron_c_history_fires_past(
     items: &mut [CronItem],
     count: &mut usize,
 ) -> u32
-    ensures { Answers (RunsInPast (sets_of schedule.now) eras.now item.now now items.old items.new count.new) result }
+    ensures { Answers (RunsInPast IsHistoryItem (sets_of schedule.now) eras.now item.now now
+        items.old items.new count.new) result }
 {
     run_past(schedule, eras, item, now, items, count).code()
 }

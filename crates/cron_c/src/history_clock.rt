@@ -12,8 +12,8 @@ use crate::places::place_of;
 use cron_dues::clock::Clock;
 use cron_dues::steady::Steady;
 
-/// The clock of a history: at each second that of the era which holds it, and before the first one starts
-/// that of the first.
+/// The clock of a history: at each second that of the era which holds it, and before the first one
+/// starts that of the first.
 #[derive(Clone, Copy)]
 pub struct HistoryClock<'a> {
     eras: &'a [CronEra],
@@ -60,14 +60,15 @@ fn steady_in_era(eras: &[CronEra], at: usize, second: i64) -> Steady
     requires history { ∥ IsHistory eras.now ∥₁ }
     requires within { at < length eras.now }
     requires bound { IsBetween (neg_ℤ (pos 1_000_000)) (pos 8_000_000_000) second }
-    ensures kept { (z : TimeZone) → IsZoneAt eras.now at z → IsKept (clock_of z) second result.end result.offset.seconds }
+    ensures kept { (z : TimeZone) → IsZoneAt eras.now at z
+        → IsKept (clock_of z) second result.end result.offset.seconds }
     ensures later { second <ℤ result.end }
 {
     zone_at(eras, at).unwrap().steady_from(second)
 }
 
 impl<'a> Clock for HistoryClock<'a> {
-    ghost use Rattle.cron_c.specs.HistoryClocks.{held_clock};
+    ghost use Rattle.cron_c.specs.Inner.HistoryClocks.{held_clock};
 
     ghost offsets = { λ h. held_clock h.eras.now h.history };
 

@@ -1,7 +1,8 @@
 //! Due fires of a zone with a history: each match once, also where the clock changes.
 
 ghost use Rattle.std.specs.Prelude.{◌≡◌};
-ghost use Rattle.cron_dues.specs.Clock.FirstDues.{IsFirstDueAfter, IsLastDueBy};
+ghost use Rattle.cron_dues.specs.Clock.Dues.{dues_between, dues_past_by};
+ghost use Rattle.cron_dues.specs.Clock.FirstDues.{IsFirstDueAfter, IsFirstDuePast, IsLastDueBy};
 ghost use Rattle.cron_c.specs.Calls.{Answers};
 ghost use Rattle.cron_c.specs.Dues.{FindsDue, FollowsDue, RunsDueBetween, RunsDuePast};
 ghost use Rattle.cron_c.specs.HistoryClocks.{InHistory};
@@ -15,7 +16,9 @@ use crate::schedule::CronSchedule;
 use crate::status::Status;
 
 fn due_after(schedule: &CronSchedule, eras: &[CronEra], second: i64, item: &mut CronItem) -> Status
-    ensures { InHistory eras.now (FindsDue IsFirstDueAfter (sets_of schedule.now) second item.old item.new) (item.new ≡ item.old) result }
+    ensures { InHistory eras.now
+        (FindsDue IsFirstDueAfter (sets_of schedule.now) second item.old item.new)
+        (item.new ≡ item.old) result }
 {
     let Some(clock) = clock_of_eras(eras) else {
         return Status::BadZone;
@@ -24,7 +27,9 @@ fn due_after(schedule: &CronSchedule, eras: &[CronEra], second: i64, item: &mut 
 }
 
 fn due_by(schedule: &CronSchedule, eras: &[CronEra], second: i64, item: &mut CronItem) -> Status
-    ensures { InHistory eras.now (FindsDue IsLastDueBy (sets_of schedule.now) second item.old item.new) (item.new ≡ item.old) result }
+    ensures { InHistory eras.now
+        (FindsDue IsLastDueBy (sets_of schedule.now) second item.old item.new)
+        (item.new ≡ item.old) result }
 {
     let Some(clock) = clock_of_eras(eras) else {
         return Status::BadZone;
@@ -33,7 +38,9 @@ fn due_by(schedule: &CronSchedule, eras: &[CronEra], second: i64, item: &mut Cro
 }
 
 fn due_past(schedule: &CronSchedule, eras: &[CronEra], item: &mut CronItem) -> Status
-    ensures { InHistory eras.now (FollowsDue (sets_of schedule.now) item.old item.new) (item.new ≡ item.old) result }
+    ensures { InHistory eras.now
+        (FollowsDue IsFirstDuePast (sets_of schedule.now) item.old item.new)
+        (item.new ≡ item.old) result }
 {
     let Some(clock) = clock_of_eras(eras) else {
         return Status::BadZone;
@@ -49,7 +56,9 @@ fn dues_between(
     items: &mut [CronItem],
     count: &mut usize,
 ) -> Status
-    ensures { InHistory eras.now (RunsDueBetween (sets_of schedule.now) last now items.old items.new count.new) ((items.new ≡ items.old) × (count.new ≡ 0)) result }
+    ensures { InHistory eras.now
+        (RunsDueBetween dues_between (sets_of schedule.now) last now items.old items.new count.new)
+        ((items.new ≡ items.old) × (count.new ≡ 0)) result }
 {
     *count = 0;
     let Some(clock) = clock_of_eras(eras) else {
@@ -66,7 +75,9 @@ fn dues_past(
     items: &mut [CronItem],
     count: &mut usize,
 ) -> Status
-    ensures { InHistory eras.now (RunsDuePast (sets_of schedule.now) item.now now items.old items.new count.new) ((items.new ≡ items.old) × (count.new ≡ 0)) result }
+    ensures { InHistory eras.now
+        (RunsDuePast dues_past_by (sets_of schedule.now) item.now now items.old items.new count.new)
+        ((items.new ≡ items.old) × (count.new ≡ 0)) result }
 {
     *count = 0;
     let Some(clock) = clock_of_eras(eras) else {
@@ -83,7 +94,9 @@ pub extern "C" fn cron_c_history_due_after(
     instant: i64,
     item: &mut CronItem,
 ) -> u32
-    ensures { Answers (InHistory eras.now (FindsDue IsFirstDueAfter (sets_of schedule.now) instant item.old item.new) (item.new ≡ item.old)) result }
+    ensures { Answers (InHistory eras.now
+        (FindsDue IsFirstDueAfter (sets_of schedule.now) instant item.old item.new)
+        (item.new ≡ item.old)) result }
 {
     due_after(schedule, eras, instant, item).code()
 }
@@ -96,7 +109,9 @@ pub extern "C" fn cron_c_history_due_by(
     instant: i64,
     item: &mut CronItem,
 ) -> u32
-    ensures { Answers (InHistory eras.now (FindsDue IsLastDueBy (sets_of schedule.now) instant item.old item.new) (item.new ≡ item.old)) result }
+    ensures { Answers (InHistory eras.now
+        (FindsDue IsLastDueBy (sets_of schedule.now) instant item.old item.new)
+        (item.new ≡ item.old)) result }
 {
     due_by(schedule, eras, instant, item).code()
 }
@@ -108,13 +123,15 @@ pub extern "C" fn cron_c_history_due_past(
     eras: &[CronEra],
     item: &mut CronItem,
 ) -> u32
-    ensures { Answers (InHistory eras.now (FollowsDue (sets_of schedule.now) item.old item.new) (item.new ≡ item.old)) result }
+    ensures { Answers (InHistory eras.now
+        (FollowsDue IsFirstDuePast (sets_of schedule.now) item.old item.new)
+        (item.new ≡ item.old)) result }
 {
     due_past(schedule, eras, item).code()
 }
 
-/// Writes the due fires of a history whose instant comes after `last` and not after `now`, in order, as far
-/// as they fit, and how many they are.
+/// Writes the due fires of a history whose instant comes after `last` and not after `now`, in
+/// order, as far as they fit, and how many they are.
 #[unsafe(no_mangle)]
 pub extern "C" fn cron_c_history_dues_between(
     schedule: &CronSchedule,
@@ -124,7 +141,9 @@ pub extern "C" fn cron_c_history_dues_between(
     items: &mut [CronItem],
     count: &mut usize,
 ) -> u32
-    ensures { Answers (InHistory eras.now (RunsDueBetween (sets_of schedule.now) last now items.old items.new count.new) ((items.new ≡ items.old) × (count.new ≡ 0))) result }
+    ensures { Answers (InHistory eras.now
+        (RunsDueBetween dues_between (sets_of schedule.now) last now items.old items.new count.new)
+        ((items.new ≡ items.old) × (count.new ≡ 0))) result }
 {
     dues_between(schedule, eras, last, now, items, count).code()
 }
@@ -139,7 +158,9 @@ pub extern "C" fn cron_c_history_dues_past(
     items: &mut [CronItem],
     count: &mut usize,
 ) -> u32
-    ensures { Answers (InHistory eras.now (RunsDuePast (sets_of schedule.now) item.now now items.old items.new count.new) ((items.new ≡ items.old) × (count.new ≡ 0))) result }
+    ensures { Answers (InHistory eras.now
+        (RunsDuePast dues_past_by (sets_of schedule.now) item.now now items.old items.new count.new)
+        ((items.new ≡ items.old) × (count.new ≡ 0))) result }
 {
     dues_past(schedule, eras, item, now, items, count).code()
 }

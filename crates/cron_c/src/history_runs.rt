@@ -31,8 +31,8 @@ fn run_from<'a>(
     }
 }
 
-// Writes the items of the era at this place, from where a list begins on, up to and with `now`, as far as
-// they fit.
+// Writes the items of the era at this place, from where a list begins on, up to and with `now`, as
+// far as they fit.
 fn fill_era(
     fields: &ScheduleFields,
     eras: &[CronEra],
@@ -43,7 +43,8 @@ fn fill_era(
     count: &mut usize,
 ) -> Status
     requires { at < length eras.now }
-    ensures { FillsEra fields.now eras.now at begin.now now.nanosecond items.old items.new count.new result }
+    ensures { FillsEra fields.now eras.now at begin.now now.nanosecond
+        items.old items.new count.new result }
 {
     *count = 0;
     let Some(zone) = zone_at(eras, at) else {
@@ -58,7 +59,8 @@ fn fill_era(
     fill(run_from(fields, &zone, &there, until), items, count)
 }
 
-/// Writes the items of a history from where a list begins on, up to and with `now`, as far as they fit.
+/// Writes the items of a history from where a list begins on, up to and with `now`, as far as they
+/// fit.
 pub fn fill_history(
     fields: &ScheduleFields,
     eras: &[CronEra],
@@ -67,7 +69,9 @@ pub fn fill_history(
     items: &mut [CronItem],
     count: &mut usize,
 ) -> Status
-    ensures { FillsIn eras.now (λ r. IsHistoryItem fields.now eras.now r × IsBeyond begin.now r × IsBy now.nanosecond r) items.old items.new count.new result }
+    ensures { FillsIn eras.now
+        (λ r. IsHistoryItem fields.now eras.now r × IsBeyond begin.now r × IsBy now.nanosecond r)
+        items.old items.new count.new result }
 {
     let most = items.len();
     let end = eras_by(eras, now);

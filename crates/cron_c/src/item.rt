@@ -1,16 +1,18 @@
 //! An item as plain numbers.
 
 ghost use Rattle.std.specs.Prelude.{◌≡◌, MatchOption};
+ghost use Rattle.cron_c.specs.Arrays.{Writes};
 ghost use Rattle.cron_c.specs.Structs.{IsItem, IsItemInRange, IsNoItem};
 
+use crate::status::Status;
 use cron_moments::moment::{Moment, instant_of};
 use cron_moments::parts::moment_at;
 use jiff::tz::Offset;
 
 /// The instant of an item in seconds since 1970-01-01T00:00:00Z, and how far its clock is ahead of
-/// UTC in seconds. What the clock shows is their sum. In a due fire `reserved` holds by how many seconds that
-/// lies past the nominal time. In any other item it is 0, and a struct that has another number there is none
-/// of an item.
+/// UTC in seconds. What the clock shows is their sum. In a due fire `reserved` holds by how many
+/// seconds that lies past the nominal time. In any other item it is 0, and a struct that has
+/// another number there is none of an item.
 #[repr(C)]
 #[derive(Clone, Copy)]
 pub struct CronItem {
@@ -28,6 +30,17 @@ pub fn item_of(moment: &Moment) -> CronItem
         offset: moment.offset().seconds(),
         reserved: 0,
     }
+}
+
+/// Writes the item that was found, if one was.
+pub fn write_found(found: Option<Moment>, item: &mut CronItem) -> Status
+    ensures { Writes IsItem found item.old item.new result }
+{
+    let Some(moment) = found else {
+        return Status::NoItem;
+    };
+    *item = item_of(&moment);
+    Status::Done
 }
 
 /// The moment of a struct; `None` where the offset is longer than 25:59:59, the clock shows a civil

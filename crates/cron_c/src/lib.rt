@@ -1,5 +1,5 @@
-//! The C interface: calls that keep nothing between them, over structs of numbers, texts and buffers
-//! that the caller owns. `include/cron_c.h` says what the language of the boundary can't.
+//! The C interface: calls that keep nothing between them, over structs of numbers, texts and
+//! buffers that the caller owns. `include/cron_c.h` says what the language of the boundary can't.
 #![tactic(auto)]
 
 mod buffer;

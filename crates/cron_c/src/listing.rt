@@ -30,7 +30,8 @@ fn fill(
 ) -> usize
     requires placed { IsPlaced fields.now (plain_zone zone.now) (stand_of from) }
     requires known { Knows fields.now (plain_zone zone.now) from }
-    ensures { IsListed (rest way (walk_at fields.now (plain_zone zone.now) (stand_of from))) items.old items.new result }
+    ensures { IsListed (rest way (walk_at fields.now (plain_zone zone.now) (stand_of from)))
+        items.old items.new result }
 {
     let mut state = from;
     for count in 0..items.len() {
@@ -51,7 +52,8 @@ fn list(
     items: &mut [CronItem],
     count: &mut usize,
 ) -> Status
-    ensures { Lists way (sets_of schedule.now) zone.now second items.old items.new count.new result }
+    ensures { Lists way (sets_of schedule.now) zone.now second
+        items.old items.new count.new result }
 {
     *count = 0;
     let Some(zone) = zone_in(zone) else {
@@ -78,7 +80,8 @@ fn list_on(
     items: &mut [CronItem],
     count: &mut usize,
 ) -> Status
-    ensures { ListsOn way (sets_of schedule.now) zone.now item.now items.old items.new count.new result }
+    ensures { ListsOn way (sets_of schedule.now) zone.now item.now
+        items.old items.new count.new result }
 {
     *count = 0;
     let Some(zone) = zone_in(zone) else {
@@ -95,9 +98,9 @@ fn list_on(
     Status::Done
 }
 
-/// Writes the first items of a walk ahead that starts at an instant as far as they fit, and how many
-/// they are. Where it starts in a fold, the first may be at the instant itself, or one before it, and
-/// later ones may be left out.
+/// Writes the first items of a walk ahead that starts at an instant as far as they fit, and how
+/// many they are. Where it starts in a fold, the first may be at the instant itself, or one before
+/// it, and later ones may be left out.
 #[unsafe(no_mangle)]
 pub extern "C" fn cron_c_list_after(
     schedule: &CronSchedule,
@@ -106,13 +109,14 @@ pub extern "C" fn cron_c_list_after(
     items: &mut [CronItem],
     count: &mut usize,
 ) -> u32
-    ensures { Answers (Lists Ahead (sets_of schedule.now) zone.now instant items.old items.new count.new) result }
+    ensures { Answers (Lists Ahead (sets_of schedule.now) zone.now instant
+        items.old items.new count.new) result }
 {
     list(Way::Ahead, schedule, zone, instant, items, count).code()
 }
 
-/// Writes the first items of a walk back that starts at an instant. Where it starts in a fold, the first
-/// may be at the instant itself, or one after it, and earlier ones may be left out.
+/// Writes the first items of a walk back that starts at an instant. Where it starts in a fold, the
+/// first may be at the instant itself, or one after it, and earlier ones may be left out.
 #[unsafe(no_mangle)]
 pub extern "C" fn cron_c_list_before(
     schedule: &CronSchedule,
@@ -121,7 +125,8 @@ pub extern "C" fn cron_c_list_before(
     items: &mut [CronItem],
     count: &mut usize,
 ) -> u32
-    ensures { Answers (Lists Back (sets_of schedule.now) zone.now instant items.old items.new count.new) result }
+    ensures { Answers (Lists Back (sets_of schedule.now) zone.now instant
+        items.old items.new count.new) result }
 {
     list(Way::Back, schedule, zone, instant, items, count).code()
 }
@@ -135,7 +140,8 @@ pub extern "C" fn cron_c_list_next(
     items: &mut [CronItem],
     count: &mut usize,
 ) -> u32
-    ensures { Answers (ListsOn Ahead (sets_of schedule.now) zone.now item.now items.old items.new count.new) result }
+    ensures { Answers (ListsOn Ahead (sets_of schedule.now) zone.now item.now
+        items.old items.new count.new) result }
 {
     list_on(Way::Ahead, schedule, zone, item, items, count).code()
 }
@@ -149,7 +155,8 @@ pub extern "C" fn cron_c_list_prev(
     items: &mut [CronItem],
     count: &mut usize,
 ) -> u32
-    ensures { Answers (ListsOn Back (sets_of schedule.now) zone.now item.now items.old items.new count.new) result }
+    ensures { Answers (ListsOn Back (sets_of schedule.now) zone.now item.now
+        items.old items.new count.new) result }
 {
     list_on(Way::Back, schedule, zone, item, items, count).code()
 }

@@ -14,7 +14,8 @@ use std::fmt::Write;
 // Writes the message of a fault to a buffer as far as it fits, and answers its whole length.
 fn tell(fault: Fault<'_>, message: &mut [u8]) -> Option<usize>
     ensures { MatchOption result (Unit {0})
-        (λ size. (message.new ≡ laid_over 0 (fault_text fault.entry) message.old) × (size ≡ length (fault_text fault.entry))) }
+        (λ size. (message.new ≡ laid_over 0 (fault_text fault.entry) message.old)
+        × (size ≡ length (fault_text fault.entry))) }
 {
     let mut sink = Sink {
         buffer: message,
@@ -36,7 +37,8 @@ fn parse(
     message: &mut [u8],
     message_length: &mut usize,
 ) -> Status
-    ensures { Parses text.now schedule.old schedule.new message.old message.new message_length.new result }
+    ensures { Parses text.now schedule.old schedule.new
+        message.old message.new message_length.new result }
 {
     *message_length = 0;
     let Ok(text) = str::from_utf8(text) else {
@@ -65,7 +67,8 @@ pub extern "C" fn cron_c_parse(
     message: &mut [u8],
     message_length: &mut usize,
 ) -> u32
-    ensures { Answers (Parses text.now schedule.old schedule.new message.old message.new message_length.new) result }
+    ensures { Answers (Parses text.now schedule.old schedule.new
+        message.old message.new message_length.new) result }
 {
     parse(text, schedule, message, message_length).code()
 }

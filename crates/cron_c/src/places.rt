@@ -44,7 +44,8 @@ fn shown_from(second: i64) -> i64
 
 // Up to a second of UTC no clock shows a civil second of the range past this one.
 fn shown_by(second: i64) -> i64
-    ensures { (r : Reading) → r.second < seconds_in_range → instant r ≤ℤ second → pos r.second ≤ℤ result }
+    ensures { (r : Reading) → r.second < seconds_in_range → instant r ≤ℤ second
+        → pos r.second ≤ℤ result }
 {
     if second > SECONDS {
         return SECONDS;
@@ -68,11 +69,13 @@ fn last_instant(second: u32) -> i64
     second as i64 + FURTHEST_OFFSET
 }
 
-// No item from a second on lies before this one, in any zone. `None` where no zone has an item there.
+// No item from a second on lies before this one, in any zone. `None` where no zone has an item
+// there.
 fn earliest_from(fields: &ScheduleFields, second: i64) -> Option<i64>
     ensures { MatchOption result
         ((z : TimeZone) (r : Reading) → IsItem fields.now z r → second ≤ℤ instant r → ⊥)
-        (λ t. (z : TimeZone) (r : Reading) → IsItem fields.now z r → second ≤ℤ instant r → t ≤ℤ instant r) }
+        (λ t. (z : TimeZone) (r : Reading) → IsItem fields.now z r
+        → second ≤ℤ instant r → t ≤ℤ instant r) }
 {
     let Some(next) = nearest_match(fields, Way::Ahead, shown_from(second)) else {
         return None;
@@ -84,7 +87,8 @@ fn earliest_from(fields: &ScheduleFields, second: i64) -> Option<i64>
 fn latest_by(fields: &ScheduleFields, second: i64) -> Option<i64>
     ensures { MatchOption result
         ((z : TimeZone) (r : Reading) → IsItem fields.now z r → instant r ≤ℤ second → ⊥)
-        (λ t. (z : TimeZone) (r : Reading) → IsItem fields.now z r → instant r ≤ℤ second → instant r ≤ℤ t) }
+        (λ t. (z : TimeZone) (r : Reading) → IsItem fields.now z r
+        → instant r ≤ℤ second → instant r ≤ℤ t) }
 {
     let Some(next) = nearest_match(fields, Way::Back, shown_by(second)) else {
         return None;
@@ -92,12 +96,13 @@ fn latest_by(fields: &ScheduleFields, second: i64) -> Option<i64>
     Some(last_instant(next))
 }
 
-/// The place of the next era to search: those in which no clock can show a match are passed over, so that
-/// a search does not grow with their number.
+/// The place of the next era to search: those in which no clock can show a match are passed over,
+/// so that a search does not grow with their number.
 pub fn place_past(fields: &ScheduleFields, eras: &[CronEra], at: usize) -> usize
     requires { at < length eras.now }
     ensures further { at < result }
-    ensures passed { IsHistory eras.now → (i : ℕ) (r : Reading) → at < i → IsItemAt fields.now eras.now i r → result ≤ i }
+    ensures passed { IsHistory eras.now → (i : ℕ) (r : Reading) → at < i
+        → IsItemAt fields.now eras.now i r → result ≤ i }
 {
     if at + 1 == eras.len() {
         return at + 1;
@@ -119,12 +124,13 @@ fn starts_at(eras: &[CronEra], at: usize) -> i64
     }
 }
 
-/// How many eras are left to search back from one. The last of those before it are passed over, as long as
-/// no clock can show a match there.
+/// How many eras are left to search back from one. The last of those before it are passed over, as
+/// long as no clock can show a match there.
 pub fn left_before(fields: &ScheduleFields, eras: &[CronEra], at: usize) -> usize
     requires { at < length eras.now }
     ensures fewer { result ≤ at }
-    ensures passed { IsHistory eras.now → (i : ℕ) (r : Reading) → i < at → IsItemAt fields.now eras.now i r → i < result }
+    ensures passed { IsHistory eras.now → (i : ℕ) (r : Reading) → i < at
+        → IsItemAt fields.now eras.now i r → i < result }
 {
     match latest_by(fields, starts_at(eras, at)) {
         Some(second) => (place_of(eras, second) + 1).min(at),

@@ -1,8 +1,9 @@
 //! Many items at once, in the order of instants.
 
+ghost use Rattle.cron_c.specs.Arrays.{Fills};
 ghost use Rattle.cron_c.specs.Calls.{Answers};
-ghost use Rattle.cron_c.specs.Runs.{Fills, RunsBetween, RunsPast};
-ghost use Rattle.cron_c.specs.Structs.{sets_of};
+ghost use Rattle.cron_c.specs.Runs.{RunsBetween, RunsPast};
+ghost use Rattle.cron_c.specs.Structs.{IsItem, sets_of};
 
 use crate::item::{CronItem, item_of, moment_of};
 use crate::schedule::{CronSchedule, fields_of};
@@ -11,10 +12,10 @@ use crate::zone::{CronZone, zone_in};
 use cron_instants::run::Run;
 use jiff::Timestamp;
 
-/// Writes the items that a run has left, as far as they fit. One more is asked for when the array is full:
-/// only that one tells whether these were all.
+/// Writes the items that a run has left, as far as they fit. One more is asked for when the array
+/// is full: only that one tells whether these were all.
 pub fn fill(mut run: Run<'_>, items: &mut [CronItem], count: &mut usize) -> Status
-    ensures { Fills run.entry items.old items.new count.new result }
+    ensures { Fills IsItem run.entry items.old items.new count.new result }
 {
     for at in 0..items.len() {
         let Some(moment) = run.next() else {
@@ -38,7 +39,8 @@ fn run_between(
     items: &mut [CronItem],
     count: &mut usize,
 ) -> Status
-    ensures { RunsBetween (sets_of schedule.now) zone.now last now items.old items.new count.new result }
+    ensures { RunsBetween (sets_of schedule.now) zone.now last now
+        items.old items.new count.new result }
 {
     *count = 0;
     let Some(zone) = zone_in(zone) else {
@@ -62,7 +64,8 @@ fn run_past(
     items: &mut [CronItem],
     count: &mut usize,
 ) -> Status
-    ensures { RunsPast (sets_of schedule.now) zone.now item.now now items.old items.new count.new result }
+    ensures { RunsPast (sets_of schedule.now) zone.now item.now now
+        items.old items.new count.new result }
 {
     *count = 0;
     let Some(zone) = zone_in(zone) else {
@@ -78,8 +81,8 @@ fn run_past(
     fill(run, items, count)
 }
 
-/// Writes the items whose instant comes after `last` and not after `now`, the earliest first, as far as
-/// they fit, and how many they are.
+/// Writes the items whose instant comes after `last` and not after `now`, the earliest first, as
+/// far as they fit, and how many they are.
 #[unsafe(no_mangle)]
 pub extern "C" fn cron_c_fires_between(
     schedule: &CronSchedule,
@@ -89,7 +92,8 @@ pub extern "C" fn cron_c_fires_between(
     items: &mut [CronItem],
     count: &mut usize,
 ) -> u32
-    ensures { Answers (RunsBetween (sets_of schedule.now) zone.now last now items.old items.new count.new) result }
+    ensures { Answers (RunsBetween (sets_of schedule.now) zone.now last now
+        items.old items.new count.new) result }
 {
     run_between(schedule, zone, last, now, items, count).code()
 }
@@ -104,7 +108,8 @@ pub extern "C" fn cron_c_fires_past(
     items: &mut [CronItem],
     count: &mut usize,
 ) -> u32
-    ensures { Answers (RunsPast (sets_of schedule.now) zone.now item.now now items.old items.new count.new) result }
+    ensures { Answers (RunsPast (sets_of schedule.now) zone.now item.now now
+        items.old items.new count.new) result }
 {
     run_past(schedule, zone, item, now, items, count).code()
 }

@@ -9,10 +9,10 @@ use cron_units::time_unit::layout::{
 };
 
 /// Seven sets. Bit i of a word stands for the least ordinal of the unit plus i, so bit 0 stands for
-/// second 0, day of the month 1 or Sunday; each word of years says from which year on it counts. The
-/// last day of each month is a day too where `last_day` isn't 0. What is given may have any bits, and
-/// one past that of the greatest ordinal means nothing. What is written has none, and `last_day` is 0
-/// or 1. What `reserved` holds means nothing, and what is written there is 0.
+/// second 0, day of the month 1 or Sunday; each word of years says from which year on it counts.
+/// The last day of each month is a day too where `last_day` isn't 0. What is given may have any
+/// bits, and one past that of the greatest ordinal means nothing. What is written has none, and
+/// `last_day` is 0 or 1. What `reserved` holds means nothing, and what is written there is 0.
 #[repr(C)]
 #[derive(Clone, Copy)]
 pub struct CronSchedule {

@@ -22,7 +22,11 @@ use jiff::tz::TimeZone;
 
 // What a walk that starts at the instant answers first.
 fn first(way: Way, schedule: &CronSchedule, zone: &TimeZone<'_>, start: Timestamp) -> Option<Moment>
-    ensures { result ≡ (step way (record { sets = sets_of schedule.now; zone = plain_zone zone.now; cursor = Start start.nanosecond })).answer }
+    ensures { result ≡ (step way (record {
+      sets = sets_of schedule.now;
+      zone = plain_zone zone.now;
+      cursor = Start start.nanosecond;
+    })).answer }
 {
     let fields = fields_of(schedule);
     let mut state = State::starting(start);
@@ -39,7 +43,9 @@ fn beside(
 ) -> Option<Option<Moment>>
     ensures { MatchOption result
         (IsAbsent (sets_of schedule.now) (plain_zone zone.now) item.now)
-        (λ answer. (w : Walk) × IsResumed (sets_of schedule.now) (plain_zone zone.now) item.now w × (answer ≡ (step way w).answer)) }
+        (λ answer. (w : Walk)
+        × IsResumed (sets_of schedule.now) (plain_zone zone.now) item.now w
+        × (answer ≡ (step way w).answer)) }
 {
     let fields = fields_of(schedule);
     match resume(&fields, zone, item) {
@@ -93,8 +99,8 @@ fn follow(way: Way, schedule: &CronSchedule, zone: &CronZone, item: &mut CronIte
     Status::Done
 }
 
-/// Writes what a walk ahead answers first that starts at an instant, which is given by its seconds since
-/// 1970-01-01T00:00:00Z. In a fold that may be the instant itself, or one before it.
+/// Writes what a walk ahead answers first that starts at an instant, which is given by its seconds
+/// since 1970-01-01T00:00:00Z. In a fold that may be the instant itself, or one before it.
 #[unsafe(no_mangle)]
 pub extern "C" fn cron_c_after(
     schedule: &CronSchedule,
@@ -102,13 +108,14 @@ pub extern "C" fn cron_c_after(
     instant: i64,
     item: &mut CronItem,
 ) -> u32
-    ensures { Answers (Searches Ahead (sets_of schedule.now) zone.now instant item.old item.new) result }
+    ensures { Answers (Searches Ahead (sets_of schedule.now) zone.now instant
+        item.old item.new) result }
 {
     search(Way::Ahead, schedule, zone, instant, item).code()
 }
 
-/// Writes what a walk back answers first that starts at an instant. In a fold that may be the instant itself,
-/// or one after it.
+/// Writes what a walk back answers first that starts at an instant. In a fold that may be the
+/// instant itself, or one after it.
 #[unsafe(no_mangle)]
 pub extern "C" fn cron_c_before(
     schedule: &CronSchedule,
@@ -116,7 +123,8 @@ pub extern "C" fn cron_c_before(
     instant: i64,
     item: &mut CronItem,
 ) -> u32
-    ensures { Answers (Searches Back (sets_of schedule.now) zone.now instant item.old item.new) result }
+    ensures { Answers (Searches Back (sets_of schedule.now) zone.now instant
+        item.old item.new) result }
 {
     search(Way::Back, schedule, zone, instant, item).code()
 }

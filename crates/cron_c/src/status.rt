@@ -22,7 +22,8 @@ pub enum Status {
     NotAnItem,
     /// The text means nothing, and the message couldn't be written.
     Untold,
-    /// Items were written as far as they fit, and more are left; or eras don't fit, and none was written.
+    /// Items were written as far as they fit, and more are left; or eras don't fit, and none was
+    /// written.
     More,
     /// Out of memory.
     NoMemory,

@@ -26,9 +26,10 @@ const JULIAN_ZERO: u32 = 2;
 
 const WEEKDAY_OF_MONTH: u32 = 3;
 
-/// When a clock turns each year: kind 1 is day 1 to 365 where 29 February isn't counted, kind 2 day 0
-/// to 365, and kind 3 a day of the week, from 0 for Sunday, in week 1 to 5 of a month, where week 5 is the
-/// last. The time is in seconds from the midnight that begins the day, -604,799 to 604,799.
+/// When a clock turns each year: kind 1 is day 1 to 365 where 29 February isn't counted, kind 2 day
+/// 0 to 365, and kind 3 a day of the week, from 0 for Sunday, in week 1 to 5 of a month, where week
+/// 5 is the last. The time is in seconds from the midnight that begins the day, -604,799 to
+/// 604,799.
 #[repr(C)]
 #[derive(Clone, Copy)]
 pub struct CronTurn {
@@ -39,9 +40,9 @@ pub struct CronTurn {
     pub time: i32,
 }
 
-/// Kind 0 is UTC, kind 1 has one offset, and kind 2 two, that of the saving from `starts` on and the
-/// other from `ends` on. Offsets are in seconds ahead of UTC, up to 25:59:59. What `reserved` holds means
-/// nothing, and what is written there is 0.
+/// Kind 0 is UTC, kind 1 has one offset, and kind 2 two, that of the saving from `starts` on and
+/// the other from `ends` on. Offsets are in seconds ahead of UTC, up to 25:59:59. What `reserved`
+/// holds means nothing, and what is written there is 0.
 #[repr(C)]
 #[derive(Clone, Copy)]
 pub struct CronZone {
@@ -91,7 +92,8 @@ fn day_in(turn: CronTurn) -> Option<Day>
 
 // The turn that a struct says.
 fn turn_in(turn: CronTurn) -> Option<DayTime>
-    ensures { MatchOption result ((time : DayTime) → IsTurnIn turn time → ⊥) (λ time. IsTurnIn turn time) }
+    ensures { MatchOption result
+        ((time : DayTime) → IsTurnIn turn time → ⊥) (λ time. IsTurnIn turn time) }
 {
     let Some(date) = day_in(turn) else {
         return None;
@@ -108,8 +110,10 @@ fn turn_in(turn: CronTurn) -> Option<DayTime>
 // The saving that a struct says.
 fn saving_in(zone: &CronZone) -> Option<Dst>
     ensures { MatchOption result
-        ((dst : Dst) → zone.now.saving ≡ dst.offset.seconds → IsTurnIn zone.now.starts dst.rule.start → IsTurnIn zone.now.ends dst.rule.end → ⊥)
-        (λ dst. (zone.now.saving ≡ dst.offset.seconds) × IsTurnIn zone.now.starts dst.rule.start × IsTurnIn zone.now.ends dst.rule.end) }
+        ((dst : Dst) → zone.now.saving ≡ dst.offset.seconds
+        → IsTurnIn zone.now.starts dst.rule.start → IsTurnIn zone.now.ends dst.rule.end → ⊥)
+        (λ dst. (zone.now.saving ≡ dst.offset.seconds)
+        × IsTurnIn zone.now.starts dst.rule.start × IsTurnIn zone.now.ends dst.rule.end) }
 {
     let Ok(offset) = Offset::from_seconds(zone.saving) else {
         return None;

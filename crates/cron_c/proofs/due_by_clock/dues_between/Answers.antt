@@ -1,4 +1,5 @@
 use Rattle.std.proofs.Common.{◌≡◌, ◌*ℤ◌, pos, rules}
+use Rattle.cron_dues.specs.Clock.Dues.{dues_between}
 use Rattle.cron_c.specs.Calls.{IsInstant}
 use Rattle.cron_c.specs.Structs.{sets_of}
 use Rattle.cron_c.proofs.Dues.{between_says}
@@ -11,5 +12,5 @@ returns g c =
     let from : IsInstant c.args.last = search rules in
     let to : IsInstant c.args.now = search rules in
     let filled = rw (c.between-run.ensures, c.fields_of.ensures, last_is, now_is) at c.fill.ensures in
-    between_says (sets_of c.args.schedule.now) (g.C.Clock.offsets c.args.clock.now) c.args.last c.args.now c.args.items.now c.fill.new.items
+    between_says dues_between (sets_of c.args.schedule.now) (g.C.Clock.offsets c.args.clock.now) c.args.last c.args.now c.args.items.now c.fill.new.items
     c.fill.new.count c.fill.result from to filled

@@ -22,4 +22,4 @@ returns c =
     c.args.items.now c.fill_history.new.items c.fill_history.new.count c.fill_history.result) last_is of_sets in
     let by_now = subst (λ (t : ℤ). FillsIn eras (λ r. IsHistoryItem sets eras r × IsAfter (c.args.last *ℤ pos 1_000_000_000) r × IsBy t r)
     c.args.items.now c.fill_history.new.items c.fill_history.new.count c.fill_history.result) now_is after_last in
-    in_between_says sets eras c.args.last c.args.now c.args.items.now c.fill_history.new.items c.fill_history.new.count c.fill_history.result from to by_now
+    in_between_says IsHistoryItem sets eras c.args.last c.args.now c.args.items.now c.fill_history.new.items c.fill_history.new.count c.fill_history.result from to by_now

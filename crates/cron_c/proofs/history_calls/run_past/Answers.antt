@@ -19,7 +19,7 @@ returns c =
     c.args.items.now c.fill_history.new.items c.fill_history.new.count c.fill_history.result) c.fields_of.ensures c.fill_history.ensures in
     let by_now = subst (λ (t : ℤ). FillsIn eras (λ q. IsHistoryItem sets eras q × (is_earlier given q ≡ true) × IsBy t q)
     c.args.items.now c.fill_history.new.items c.fill_history.new.count c.fill_history.result) now_is of_sets in
-    in_past_says sets eras given c.args.item.now c.args.now c.args.items.now c.fill_history.new.items c.fill_history.new.count c.fill_history.result
+    in_past_says IsHistoryItem sets eras given c.args.item.now c.args.now c.args.items.now c.fill_history.new.items c.fill_history.new.count c.fill_history.result
     c.in-Some.ensures to by_now
 
 pub returns-in_default-from_second : goal.returns-in_default-from_second

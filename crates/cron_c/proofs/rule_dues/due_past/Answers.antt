@@ -1,5 +1,6 @@
 use Rattle.std.proofs.Common.{◌≡◌}
 use Rattle.jiff.specs.Words.{plain_zone}
+use Rattle.cron_dues.specs.Clock.FirstDues.{IsFirstDuePast}
 use Rattle.cron_c.specs.Dues.{FollowsDue}
 use Rattle.cron_c.specs.Structs.{sets_of}
 use Rattle.cron_c.proofs.Dues.{in_zone}
@@ -8,5 +9,5 @@ use Rattle.cron_c.proofs.rule_dues.due_past.Goals as goal
 pub returns : goal.returns
 returns c =
     in_zone c.args.zone.now (plain_zone c.in-Some.zone)
-    (FollowsDue (sets_of c.args.schedule.now) c.args.item.now c.due_past.new.item)
+    (FollowsDue IsFirstDuePast (sets_of c.args.schedule.now) c.args.item.now c.due_past.new.item)
     (c.due_past.new.item ≡ c.args.item.now) c.due_past.result c.in-Some.ensures (λ f. f) c.due_past.ensures

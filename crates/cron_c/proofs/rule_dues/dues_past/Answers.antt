@@ -1,5 +1,6 @@
 use Rattle.std.proofs.Common.{◌≡◌, FitsSigned, w64, to_z-of_z, rules}
 use Rattle.jiff.specs.Words.{plain_zone}
+use Rattle.cron_dues.specs.Clock.Dues.{dues_past_by}
 use Rattle.cron_c.specs.Dues.{RunsDuePast}
 use Rattle.cron_c.specs.Structs.{sets_of}
 use Rattle.cron_c.proofs.Dues.{in_zone}
@@ -9,5 +10,5 @@ pub returns : goal.returns
 returns c =
     let fits-now : FitsSigned w64 c.args.now = search rules in
     in_zone c.args.zone.now (plain_zone c.in-Some.zone)
-    (RunsDuePast (sets_of c.args.schedule.now) c.args.item.now c.args.now c.args.items.now c.dues_past.new.items c.dues_past.new.count)
+    (RunsDuePast dues_past_by (sets_of c.args.schedule.now) c.args.item.now c.args.now c.args.items.now c.dues_past.new.items c.dues_past.new.count)
     ((c.dues_past.new.items ≡ c.args.items.now) × (c.dues_past.new.count ≡ 0)) c.dues_past.result c.in-Some.ensures (λ (d, is, to, f). f) (rw (to_z-of_z fits-now) at c.dues_past.ensures)

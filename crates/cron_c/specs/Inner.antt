@@ -1,0 +1,2 @@
+pub mod AnyOffset
+pub mod HistoryClocks
