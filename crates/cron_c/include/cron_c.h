@@ -27,7 +27,7 @@ extern "C" {
 #endif
 
 /* The version of this header: 10,000 times its first number, 100 times its second, and its third. */
-#define CRON_C_VERSION 10400
+#define CRON_C_VERSION 10500
 
 /* The version of the archive. Its first number is that of the header, or the structs may differ. */
 uint32_t cron_c_version(void);
@@ -70,7 +70,7 @@ enum {
     CRON_C_BAD_INSTANT = 5, /* The instant is less than the least one, or past the greatest. */
     CRON_C_NOT_AN_ITEM = 6, /* The call takes no such item, and says which it takes. */
     CRON_C_UNTOLD = 7,      /* As CRON_C_REFUSED, but no message can be told; what its buffer holds means nothing. */
-    CRON_C_MORE = 8,        /* More is left than fits. What fits was written, but by cron_c_history_read nothing. */
+    CRON_C_MORE = 8,        /* More is left than fits. What fits was written, where items are listed, and else nothing. */
     CRON_C_NO_MEMORY = 9    /* Out of memory. */
 };
 
@@ -149,6 +149,23 @@ typedef struct cron_c_item {
 uint32_t cron_c_parse(const char *text, size_t text_length,
                       cron_c_schedule *schedule,
                       char *message, size_t message_length, size_t *message_needed);
+
+/*
+ * Reads an expression of a crontab, five fields as `30 9 * * mon-fri` or a nickname as `@daily`, into the
+ * schedules that it means, and writes to `*count` how many they are: two where neither the third nor
+ * the fifth field begins with a star, since then one kind of day suffices, and else one. It fires when
+ * any of them does: give all of them to the calls over several schedules (below). Each is read at
+ * second 0, in all years. `@reboot`, which no clock fires, is read into none: `*count` is 0 with
+ * CRON_C_OK for this word alone. An expression that never fires, as `0 22-2 * * *`, is read as any
+ * other. What Debian's cron and cronie read otherwise than each other is refused.
+ *
+ * CRON_C_OK, CRON_C_REFUSED, CRON_C_NOT_UTF8 or CRON_C_UNTOLD, and the message as by `cron_c_parse`; or
+ * CRON_C_MORE where they are more than `schedules_length`, and nothing is written but their number in
+ * `*count`. Room for two is enough. With CRON_C_REFUSED, CRON_C_NOT_UTF8 and CRON_C_UNTOLD `*count` is 0.
+ */
+uint32_t cron_c_crontab_parse(const char *text, size_t text_length,
+                              cron_c_schedule *schedules, size_t schedules_length, size_t *count,
+                              char *message, size_t message_length, size_t *message_needed);
 
 /*
  * When a clock turns each year. The time is in seconds from the midnight that begins the day, on the
@@ -425,6 +442,52 @@ uint32_t cron_c_history_dues_past(const cron_c_schedule *schedule,
                                   const cron_c_era *eras, size_t eras_length,
                                   const cron_c_item *item, int64_t now,
                                   cron_c_item *items, size_t items_length, size_t *count);
+
+/* A zone without a history, as the one era of it: what an era is initialized with. */
+#define CRON_C_ERA_ALWAYS(zone) {INT64_MIN, zone}
+
+/*
+ * The calls by instants and by due fires over several schedules, which fire as one: an item is one of
+ * any of them over the eras, a match is one of any of them, and each comes once, also where several
+ * have it. Where a clock goes back or forth, and at the seams of eras, all is as with one schedule: in
+ * a fold both items come, each at its instant, what a gap skips is no item, and each match is due once.
+ * So are order and statuses, and what is said of eras that are no history. With one schedule the
+ * answers over a history are those of `cron_c_history_fire_after` and its like. With none nothing fires.
+ *
+ * For a zone give one era, CRON_C_ERA_ALWAYS of it. Each answer, and each item of a list, asks every
+ * schedule once.
+ */
+uint32_t cron_c_union_fire_after(const cron_c_schedule *schedules, size_t schedules_length,
+                                 const cron_c_era *eras, size_t eras_length,
+                                 int64_t instant, cron_c_item *item);
+uint32_t cron_c_union_fire_by(const cron_c_schedule *schedules, size_t schedules_length,
+                              const cron_c_era *eras, size_t eras_length,
+                              int64_t instant, cron_c_item *item);
+uint32_t cron_c_union_fires_between(const cron_c_schedule *schedules, size_t schedules_length,
+                                    const cron_c_era *eras, size_t eras_length,
+                                    int64_t last, int64_t now,
+                                    cron_c_item *items, size_t items_length, size_t *count);
+uint32_t cron_c_union_fires_past(const cron_c_schedule *schedules, size_t schedules_length,
+                                 const cron_c_era *eras, size_t eras_length,
+                                 const cron_c_item *item, int64_t now,
+                                 cron_c_item *items, size_t items_length, size_t *count);
+uint32_t cron_c_union_due_after(const cron_c_schedule *schedules, size_t schedules_length,
+                                const cron_c_era *eras, size_t eras_length,
+                                int64_t instant, cron_c_item *item);
+uint32_t cron_c_union_due_by(const cron_c_schedule *schedules, size_t schedules_length,
+                             const cron_c_era *eras, size_t eras_length,
+                             int64_t instant, cron_c_item *item);
+uint32_t cron_c_union_due_past(const cron_c_schedule *schedules, size_t schedules_length,
+                               const cron_c_era *eras, size_t eras_length,
+                               cron_c_item *item);
+uint32_t cron_c_union_dues_between(const cron_c_schedule *schedules, size_t schedules_length,
+                                   const cron_c_era *eras, size_t eras_length,
+                                   int64_t last, int64_t now,
+                                   cron_c_item *items, size_t items_length, size_t *count);
+uint32_t cron_c_union_dues_past(const cron_c_schedule *schedules, size_t schedules_length,
+                                const cron_c_era *eras, size_t eras_length,
+                                const cron_c_item *item, int64_t now,
+                                cron_c_item *items, size_t items_length, size_t *count);
 
 /*
  * Writes to `item` the first item from the civil second on that a clock in the zone shows one second

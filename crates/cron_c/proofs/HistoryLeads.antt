@@ -17,6 +17,15 @@ leads_alike P Q (x ∷ w) next to from l = (
   leads_alike (λ q. P q × (is_earlier x q ≡ true)) (λ q. Q q × (is_earlier x q ≡ true)) w next (λ q h. (to q h.0, h.1)) (λ q h. (from q h.0, h.1)) l.1,
 )
 
+pub leads_none : (P : Reading → Type 0) (next : Option Reading) → IsEarliest P next → Leads P [] next
+unfolding Leads
+leads_none P next first = first
+
+pub leads_first : (P : Reading → Type 0) (r : Reading) (w : List Reading) (next : Option Reading) → IsEarliest P (Some r)
+    → Leads (λ q. P q × (is_earlier r q ≡ true)) w next → Leads P (r ∷ w) next
+unfolding Leads
+leads_first P r w next first rest = (first, rest)
+
 -- each of them has the property
 pub leads_hold : (P : Reading → Type 0) (w : List Reading) (next : Option Reading) → Leads P w next → (r : Reading) → IsAmong w r → P r
 unfolding Leads

@@ -17,3 +17,5 @@ pub mod ZoneFileLemmas
 mod RulesAlike
 pub mod Dues
 mod HistoryClockLemmas
+mod UnionItems
+mod CrontabLemmas

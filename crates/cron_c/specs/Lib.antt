@@ -11,4 +11,6 @@ pub mod Savings
 pub mod ZoneFiles
 pub mod Dues
 pub mod HistoryClocks
+pub mod Unions
+pub mod Crontabs
 pub mod Inner

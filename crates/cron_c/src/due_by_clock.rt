@@ -49,7 +49,8 @@ pub fn due_by<C: Clock>(
 
 /// Puts the first due fire past that of an item in its place.
 pub fn due_past<C: Clock>(schedule: &CronSchedule, clock: &C, item: &mut CronItem) -> Status
-    ensures { FollowsDue IsFirstDuePast (sets_of schedule.now) item.old item.new (C.offsets clock.now) result }
+    ensures { FollowsDue IsFirstDuePast (sets_of schedule.now)
+        item.old item.new (C.offsets clock.now) result }
 {
     let Some(given) = due_of_item(*item) else {
         return Status::NotAnItem;

@@ -3,6 +3,7 @@
 #![tactic(auto)]
 
 mod buffer;
+mod crontab_call;
 mod due_by_clock;
 mod due_item;
 mod due_text;
@@ -26,10 +27,16 @@ mod schedule;
 mod searching;
 mod status;
 mod text;
+mod union_calls;
+mod union_due_by_clock;
+mod union_due_items;
+mod union_dues;
+mod union_items;
 mod version;
 mod zone;
 mod zone_file;
 
+pub use crontab_call::cron_c_crontab_parse;
 pub use due_text::cron_c_due_format;
 pub use era::CronEra;
 pub use firing::{cron_c_fire_after, cron_c_fire_at, cron_c_fire_by};
@@ -52,6 +59,14 @@ pub use runs::{cron_c_fires_between, cron_c_fires_past};
 pub use schedule::CronSchedule;
 pub use searching::{cron_c_after, cron_c_before, cron_c_next, cron_c_prev};
 pub use text::cron_c_format;
+pub use union_calls::{
+    cron_c_union_fire_after, cron_c_union_fire_by, cron_c_union_fires_between,
+    cron_c_union_fires_past,
+};
+pub use union_dues::{
+    cron_c_union_due_after, cron_c_union_due_by, cron_c_union_due_past, cron_c_union_dues_between,
+    cron_c_union_dues_past,
+};
 pub use version::cron_c_version;
 pub use zone::{CronTurn, CronZone};
 pub use zone_file::cron_c_history_read;

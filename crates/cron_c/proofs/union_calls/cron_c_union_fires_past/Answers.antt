@@ -1,0 +1,7 @@
+use Rattle.std.proofs.Common.{w64, FitsSigned, to_z-of_z, rules}
+use Rattle.cron_c.proofs.union_calls.cron_c_union_fires_past.Goals as goal
+
+pub returns : goal.returns
+returns c =
+    let now : FitsSigned w64 c.args.now = search rules in
+    (c.run_past.result, rw (to_z-of_z now) at c.run_past.ensures, c.code.ensures)

@@ -1,0 +1,8 @@
+use Rattle.std.proofs.Common.{w64, FitsSigned, to_z-of_z, rules}
+use Rattle.cron_c.proofs.union_dues.cron_c_union_dues_between.Goals as goal
+
+pub returns : goal.returns
+returns c =
+    let fits-last : FitsSigned w64 c.args.last = search rules in
+    let fits-now : FitsSigned w64 c.args.now = search rules in
+    (c.dues_between.result, rw (to_z-of_z fits-last, to_z-of_z fits-now) at c.dues_between.ensures, c.code.ensures)

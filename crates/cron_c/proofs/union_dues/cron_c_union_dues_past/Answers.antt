@@ -1,0 +1,7 @@
+use Rattle.std.proofs.Common.{w64, FitsSigned, to_z-of_z, rules}
+use Rattle.cron_c.proofs.union_dues.cron_c_union_dues_past.Goals as goal
+
+pub returns : goal.returns
+returns c =
+    let fits-now : FitsSigned w64 c.args.now = search rules in
+    (c.dues_past.result, rw (to_z-of_z fits-now) at c.dues_past.ensures, c.code.ensures)

@@ -1,0 +1,40 @@
+-- Expressions of a crontab, as schedules.
+use Rattle.std.specs.Prelude.{◌≡◌, ◌<◌, ℕ, List, [], length}
+use Rattle.std.specs.Str.{IsUtf8}
+use Rattle.cron_units.specs.Sets.{Sets}
+use Rattle.cron_crontab.specs.Crontab.{Meaning, Means, Refuses, schedules, reboot}
+use Rattle.cron_crontab.specs.Refusals.{Fault, fault_text}
+use Rattle.cron_c.specs.Arrays.{IsWhole}
+use Rattle.cron_c.specs.Buffers.{laid_over}
+use Rattle.cron_c.specs.Structs.{IsStructOf, sets_of}
+use Rattle.cron_c.specs.declared.schedule.CronSchedule.{CronSchedule}
+use Rattle.cron_c.specs.declared.status.Status.{Status}
+use Rattle.cron_c.specs.declared.status.Status.TheVariants.{Done, Refused, NotUtf8, Untold, More}
+
+-- the schedules of which one must match: none of what runs at the start of the machine alone
+abbrev pub schedules_meant : Meaning → List Sets
+schedules_meant (schedules ss) = ss
+schedules_meant reboot = []
+
+-- the struct says these sets, and each bit of it is told
+abbrev pub IsScheduleOf : Sets → CronSchedule → Type 0
+IsScheduleOf s c = (sets_of c ≡ s) × IsStructOf s c
+
+-- The structs of some sets are in the array, or it is too short.
+abbrev pub WritesSchedules : List Sets → List CronSchedule → List CronSchedule → ℕ → Status → Type 0
+WritesSchedules ss old new count Done = IsWhole IsScheduleOf ss old new count
+WritesSchedules ss old new count More = (length old < length ss) × (new ≡ old) × (count ≡ length ss)
+WritesSchedules ss old new count _ = ⊥
+
+-- The schedules that an expression means are written, or the array is too short for them; or the message that refuses it is laid over a
+-- buffer, and its whole length told.
+abbrev pub ParsesCrontab : List ℕ → List CronSchedule → List CronSchedule → ℕ → List ℕ → List ℕ → ℕ → Status → Type 0
+ParsesCrontab text old new count before after size Refused =
+    IsUtf8 text × (fault : Fault) × Refuses text fault
+    × (new ≡ old) × (count ≡ 0) × (after ≡ laid_over 0 (fault_text fault) before) × (size ≡ length (fault_text fault))
+ParsesCrontab text old new count before after size NotUtf8 = (IsUtf8 text → ⊥) × (new ≡ old) × (count ≡ 0) × (after ≡ before) × (size ≡ 0)
+ParsesCrontab text old new count before after size Untold =
+    IsUtf8 text × (fault : Fault) × Refuses text fault × (new ≡ old) × (count ≡ 0) × (size ≡ 0)
+ParsesCrontab text old new count before after size status =
+    IsUtf8 text × (meaning : Meaning) × Means text meaning
+    × WritesSchedules (schedules_meant meaning) old new count status × (after ≡ before) × (size ≡ 0)

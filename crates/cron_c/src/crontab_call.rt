@@ -1,0 +1,99 @@
+//! An expression of a crontab, read into structs.
+
+ghost use Rattle.std.specs.Prelude.{◌≡◌, MatchOption, length};
+ghost use Rattle.cron_crontab.specs.Refusals.{fault_text};
+ghost use Rattle.cron_crontab.specs.Views.{fault_view};
+ghost use Rattle.cron_c.specs.Buffers.{laid_over};
+ghost use Rattle.cron_c.specs.Calls.{Answers};
+ghost use Rattle.cron_c.specs.Crontabs.{ParsesCrontab, WritesSchedules};
+
+use crate::buffer::Sink;
+use crate::schedule::{CronSchedule, schedule_of};
+use crate::status::Status;
+use cron_crontab::{Expression, Fault, read};
+use cron_units::fields::ScheduleFields;
+use std::fmt::Write;
+
+// Writes the message of a fault to a buffer as far as it fits, and answers its whole length.
+fn tell(fault: Fault<'_>, message: &mut [u8]) -> Option<usize>
+    ensures { MatchOption result (Unit {0})
+        (λ size. (message.new ≡ laid_over 0 (fault_text (fault_view fault.entry)) message.old)
+        × (size ≡ length (fault_text (fault_view fault.entry)))) }
+{
+    let mut sink = Sink {
+        buffer: message,
+        length: 0,
+    };
+    let written = write!(sink, "{fault}");
+    let Sink { buffer, length } = sink;
+    // No effect at run time. The proof reads what the message holds from this use of `buffer`.
+    let _ = &*buffer;
+    match written {
+        Ok(()) => Some(length),
+        Err(_) => None,
+    }
+}
+
+// Writes schedules to the front of an array, where there is room for all of them, and how many they
+// are.
+fn write_schedules(
+    all: &[ScheduleFields],
+    schedules: &mut [CronSchedule],
+    count: &mut usize,
+) -> Status
+    ensures { WritesSchedules all.now schedules.old schedules.new count.new result }
+{
+    *count = all.len();
+    if schedules.len() < all.len() {
+        return Status::More;
+    }
+    for at in 0..all.len() {
+        schedules[at] = schedule_of(&all[at]);
+    }
+    Status::Done
+}
+
+fn parse(
+    text: &[u8],
+    schedules: &mut [CronSchedule],
+    count: &mut usize,
+    message: &mut [u8],
+    message_length: &mut usize,
+) -> Status
+    ensures { ParsesCrontab text.now schedules.old schedules.new count.new
+        message.old message.new message_length.new result }
+{
+    *count = 0;
+    *message_length = 0;
+    let Ok(text) = str::from_utf8(text) else {
+        return Status::NotUtf8;
+    };
+    let fault = match read(text) {
+        Ok(Expression::Fires(all)) => return write_schedules(all.as_slice(), schedules, count),
+        Ok(Expression::Reboot) => return Status::Done,
+        Err(fault) => fault,
+    };
+    match tell(fault, message) {
+        Some(length) => {
+            *message_length = length;
+            Status::Refused
+        }
+        None => Status::Untold,
+    }
+}
+
+/// Reads an expression of a crontab into the schedules that it means, and tells how many they are;
+/// or writes the message that refuses it to a buffer as far as it fits, and its whole length.
+#[unsafe(no_mangle)]
+pub extern "C" fn cron_c_crontab_parse(
+    text: &[u8],
+    schedules: &mut [CronSchedule],
+    count: &mut usize,
+    message: &mut [u8],
+    message_length: &mut usize,
+) -> u32
+    ensures { Answers (ParsesCrontab text.now schedules.old schedules.new count.new
+        message.old message.new message_length.new) result }
+{
+    parse(text, schedules, count, message, message_length).code()
+}
