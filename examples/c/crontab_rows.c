@@ -1,0 +1,156 @@
+/*
+ * Rows of crontabs that `cron_c_crontab_parse` must answer: expressions with what Debian's cron and cronie make of
+ * them, and texts with the message of their refusal. Run it at the top of the repository, where it finds them.
+ */
+#include "edge.h"
+#include "rows.h"
+
+#include <inttypes.h>
+
+#define ROWS "crates/cron_tab_rows/data/"
+
+enum { ROOM = 2, LINE = 1000 };
+
+static cron_c_schedule schedules[ROOM], untouched[ROOM];
+static char message[CRON_C_MESSAGE(LINE)];
+static size_t count, needed;
+
+/* Reads a text that ends at a page which can't be touched. */
+static uint32_t read_text(const char *text, size_t length, size_t room)
+{
+    static unsigned char *end;
+    char *copy = before_edge(&end, length);
+    memcpy(copy, text, length);
+    memset(schedules, 0x5a, sizeof schedules);
+    memcpy(untouched, schedules, sizeof schedules);
+    count = needed = 9;
+    return cron_c_crontab_parse(copy, length, schedules, room, &count, message, sizeof message, &needed);
+}
+
+static int nothing_is_written(void)
+{
+    return memcmp(schedules, untouched, sizeof schedules) == 0;
+}
+
+/* The sets of an expression, bit i for the number i. */
+struct told {
+    uint64_t minutes, hours, days, months, weekdays;
+    int day_star, week_star, reboot;
+};
+
+static struct told told_by(const char *answer)
+{
+    struct told told;
+    CHECK(sscanf(answer, "OK %" SCNx64 " %" SCNx64 " %" SCNx64 " %" SCNx64 " %" SCNx64 " %d %d %d", &told.minutes, &told.hours,
+                 &told.days, &told.months, &told.weekdays, &told.day_star, &told.week_star, &told.reboot) == 8);
+    return told;
+}
+
+static int has_bit(uint64_t bits, int bit)
+{
+    return bits >> bit & 1;
+}
+
+/* Whether one of the schedules matches a day of the month that is this day of the week, from 0 for Sunday. */
+static int matches_day(int day, int weekday)
+{
+    for (size_t at = 0; at < count; at++) {
+        if (has_bit(schedules[at].days_of_month, day - 1) && has_bit(schedules[at].days_of_week, weekday)) {
+            return 1;
+        }
+    }
+    return 0;
+}
+
+static int cron_matches_day(const struct told *told, int day, int weekday)
+{
+    const int month = has_bit(told->days, day), week = has_bit(told->weekdays, weekday);
+    return told->day_star || told->week_star ? month && week : month || week;
+}
+
+/* The schedules have the row's times in all years, and match its days. */
+static void are_as_told(const struct told *told)
+{
+    CHECK(told->reboot ? count == 0 : count > 0);
+    for (size_t at = 0; at < count; at++) {
+        const cron_c_schedule *schedule = schedules + at;
+        CHECK(schedule->seconds == 1 && schedule->minutes == told->minutes && schedule->hours == told->hours);
+        CHECK(schedule->months == told->months >> 1 && schedule->last_day == 0);
+        CHECK(schedule->years_from_1970 == UINT64_MAX && schedule->years_from_2034 == UINT64_MAX && schedule->years_from_2098 == 7);
+    }
+    CHECK(memcmp(schedules + count, untouched + count, (ROOM - count) * sizeof *schedules) == 0);
+    for (int day = 1; count > 0 && day <= 31; day++) {
+        for (int weekday = 0; weekday < 7; weekday++) {
+            CHECK(matches_day(day, weekday) == cron_matches_day(told, day, weekday));
+        }
+    }
+}
+
+/* What both crons make of an expression alike is what it means. Every other one is refused. */
+static void replay_crons(char *line)
+{
+    char *debian = strchr(line, '\t'), *cronie = debian ? strchr(debian + 1, '\t') : NULL;
+    CHECK(debian && cronie);
+    *debian++ = *cronie++ = 0;
+    const size_t length = strlen(line);
+    const uint32_t status = read_text(line, length, ROOM);
+    if (strcmp(debian, cronie) != 0 || strncmp(debian, "OK ", 3) != 0) {
+        CHECK(status == CRON_C_REFUSED && count == 0 && nothing_is_written());
+        CHECK(needed > 0 && needed < CRON_C_MESSAGE(length));
+        return;
+    }
+    const struct told told = told_by(debian);
+    CHECK(status == CRON_C_OK && needed == 0);
+    are_as_told(&told);
+    for (size_t room = 0, whole = count; room < whole; room++) {
+        CHECK(read_text(line, length, room) == CRON_C_MORE && count == whole && needed == 0 && nothing_is_written());
+    }
+}
+
+static void replay_messages(char *line)
+{
+    char *told = strstr(line, " | ");
+    CHECK(told != NULL);
+    CHECK(read_text(line, (size_t)(told - line), ROOM) == CRON_C_REFUSED && count == 0 && nothing_is_written());
+    told += 3;
+    CHECK(needed == strlen(told) && memcmp(message, told, needed) == 0);
+}
+
+/* Replays each line of a file that isn't a comment. */
+static void replay_file(const char *path, void (*replay)(char *line))
+{
+    char line[LINE];
+    FILE *file = fopen(path, "rb");
+    CHECK(file != NULL);
+    while (fgets(line, sizeof line, file)) {
+        char *end = strchr(line, '\n');
+        CHECK(end != NULL);
+        *end = 0;
+        if (strncmp(line, "# ", 2) != 0) {
+            replay(line);
+        }
+    }
+    CHECK(fclose(file) == 0);
+}
+
+/* A message that doesn't fit, none at all, and a text that isn't UTF-8. */
+static void arguments(void)
+{
+    char front[5];
+    memset(front, 'x', sizeof front);
+    CHECK(cron_c_crontab_parse("60 * * * *", 10, schedules, ROOM, &count, front, 4, &needed) == CRON_C_REFUSED);
+    CHECK(needed == 38 && memcmp(front, "minux", 5) == 0);
+    CHECK(cron_c_crontab_parse(CRON_C_TEXT("@reboot"), schedules, 0, &count, CRON_C_NO_TEXT, &needed) == CRON_C_OK && count == 0);
+    CHECK(cron_c_crontab_parse(CRON_C_TEXT("* * * * 8"), schedules, 0, &count, CRON_C_NO_TEXT, &needed) == CRON_C_REFUSED);
+    CHECK(needed > 0 && count == 0);
+    CHECK(read_text("* * * * \xff", 9, ROOM) == CRON_C_NOT_UTF8 && count == 0 && needed == 0 && nothing_is_written());
+}
+
+int main(void)
+{
+    replay_file(ROWS "lines.tsv", replay_crons);
+    replay_file(ROWS "messages.txt", replay_messages);
+    arguments();
+    tell_held("crontabs");
+    return 0;
+}
