@@ -193,7 +193,7 @@ class Answers(unittest.TestCase):
     def test_a_schedule_is_pickled_as_its_text(self):
         schedule = Schedule("0 0 9 * * Mon-Fri")
         pickled = pickle.dumps(schedule)
-        self.assertNotIn(b"_sets", pickled)
+        self.assertNotIn(b"_schedules", pickled)
         for same in (pickle.loads(pickled), copy.copy(schedule), copy.deepcopy(schedule)):
             self.assertEqual((same, same.text), (schedule, schedule.text))
 

@@ -16,4 +16,4 @@ from .errors import CronError, InstantError, TextError, ZoneError
 from .schedule import Schedule
 
 __all__ = ["CronError", "DueFire", "InstantError", "Schedule", "TextError", "ZoneError"]
-__version__ = "1.4.0"
+__version__ = "1.5.0"

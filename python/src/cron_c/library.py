@@ -5,6 +5,7 @@ from __future__ import annotations
 import ctypes
 import pathlib
 import struct
+from functools import partial
 from typing import Any, Callable, FrozenSet, Iterable, Iterator, List, Optional, Tuple
 
 from .errors import CronError, TextError, ZoneError
@@ -54,6 +55,9 @@ Fire = Tuple[int, int]  # an instant in seconds since 1970, and how far the cloc
 # The same of a due fire, and by how many seconds what the clock shows lies past the match.
 Due = Tuple[int, int, int]
 
+# One or more schedules that fire as one.
+Schedules = ctypes.Array[Sets]
+
 # The arguments for eras, and how many they are.
 Eras = Tuple["ctypes.Array[Era]", int]
 
@@ -83,10 +87,10 @@ class History:
         return self._eras, len(self)
 
 
-FIVE_FIELDS = "five fields: a crontab line. Here seconds stand before the minutes, and Sunday is 1."
+FIVE_FIELDS = "five fields: a crontab line, which Schedule.crontab reads. Here seconds stand before the minutes, and Sunday is 1."
 
 # The first version that has every call below, and the first whose structs may be others.
-LEAST_VERSION, OTHER_VERSION = 10_400, 20_000
+LEAST_VERSION, OTHER_VERSION = 10_500, 20_000
 
 
 def _numbers(version: int) -> str:
@@ -109,21 +113,21 @@ def _load() -> ctypes.CDLL:
     size, pointer, instant = ctypes.c_size_t, ctypes.POINTER, ctypes.c_int64
     text: List[Any] = [ctypes.c_char_p, size]
     library.cron_c_parse.argtypes = text + [pointer(Sets)] + text + [pointer(size)]
+    library.cron_c_crontab_parse.argtypes = text + [pointer(Sets), size, pointer(size)] + text + [pointer(size)]
     library.cron_c_zone_parse.argtypes = text + [pointer(Zone)]
-    given: List[Any] = [pointer(Sets), pointer(Era), size]
-    searches = ("history_fire_after", "history_fire_by", "history_fire_at", "history_due_after", "history_due_by")
-    for call in searches:
-        getattr(library, f"cron_c_{call}").argtypes = given + [instant, pointer(Item)]
     page: List[Any] = [instant, pointer(Item), size, pointer(size)]
-    runs = ("history_fires_between", "history_dues_between")
-    for call in runs:
-        getattr(library, f"cron_c_{call}").argtypes = given + [instant] + page
-    runs_past = ("history_fires_past", "history_dues_past")
-    for call in runs_past:
-        getattr(library, f"cron_c_{call}").argtypes = given + [pointer(Item)] + page
+    asked = {
+        **dict.fromkeys(("fire_after", "fire_by", "due_after", "due_by"), [instant, pointer(Item)]),
+        **dict.fromkeys(("fires_between", "dues_between"), [instant] + page),
+        **dict.fromkeys(("fires_past", "dues_past"), [pointer(Item)] + page),
+    }
+    for call, arguments in asked.items():
+        for name, schedules in (("history", [pointer(Sets)]), ("union", [pointer(Sets), size])):
+            getattr(library, f"cron_c_{name}_{call}").argtypes = [*schedules, pointer(Era), size, *arguments]
+            getattr(library, f"cron_c_{name}_{call}").restype = ctypes.c_uint32
     library.cron_c_history_read.argtypes = [ctypes.c_char_p, size, pointer(Era), size, pointer(size)]
     library.cron_c_history_check.argtypes = [pointer(Era), size]
-    for call in ("parse", "zone_parse", "history_read", "history_check", *runs, *runs_past, *searches):
+    for call in ("parse", "crontab_parse", "zone_parse", "history_read", "history_check"):
         getattr(library, f"cron_c_{call}").restype = ctypes.c_uint32
     return library
 
@@ -148,31 +152,53 @@ def _with_note(error: TextError, text: str) -> TextError:
     return error
 
 
-def parse(text: str) -> Sets:
-    """The sets that a text means."""
-    told = text.encode("utf-8", "surrogatepass")
-    sets, needed = Sets(), ctypes.c_size_t()
+def _read(call: Callable[..., int], text: str) -> None:
+    """Calls with a text, and with room for the message that refuses it."""
+    told, needed = text.encode("utf-8", "surrogatepass"), ctypes.c_size_t()
     message = ctypes.create_string_buffer(_message_room(len(told)))
-    status = _LIBRARY.cron_c_parse(told, len(told), sets, message, len(message), needed)
+    status = call(told, message, needed)
     if status == REFUSED:
-        raise _with_note(TextError(message.raw[: needed.value].decode()), text)
+        raise TextError(message.raw[: needed.value].decode())
     if status == NOT_UTF8:
         raise TextError("The text isn't UTF-8.")
     if status != OK:
         raise CronError(f"status {status}")
-    return sets
 
 
-def set_of(sets: Sets, place: Place) -> FrozenSet[int]:
-    """The numbers of the set at a place."""
+def parse(text: str) -> Schedules:
+    """The schedule that a text means."""
+    schedules = (Sets * 1)()
+    try:
+        _read(lambda told, message, needed: _LIBRARY.cron_c_parse(told, len(told), schedules, message, len(message), needed), text)
+    except TextError as error:
+        raise _with_note(error, text)
+    return schedules
+
+
+def parse_crontab(text: str) -> Schedules:
+    """The schedules that an expression of a crontab means: one, or two of which one suffices, or none."""
+    schedules, count = (Sets * 2)(), ctypes.c_size_t()
+    _read(
+        lambda told, message, needed: _LIBRARY.cron_c_crontab_parse(
+            told, len(told), schedules, len(schedules), count, message, len(message), needed
+        ),
+        text,
+    )
+    return (Sets * count.value)(*schedules[: count.value])
+
+
+def set_of(schedules: Schedules, place: Place) -> FrozenSet[int]:
+    """The numbers of the set at a place, in any of the schedules."""
     word, count, first = place
-    bits = sum(sets.words[word + it] << (WORD_BITS * it) for it in range(count))
+    bits = 0
+    for sets in schedules:
+        bits |= sum(sets.words[word + it] << (WORD_BITS * it) for it in range(count))
     return frozenset(first + it for it in range(bits.bit_length()) if bits >> it & 1)
 
 
-def has_last_day(sets: Sets) -> bool:
+def has_last_day(schedules: Schedules) -> bool:
     """Whether the last day of each month is one of the days."""
-    return bool(sets.words[LAST_DAY])
+    return any(sets.words[LAST_DAY] for sets in schedules)
 
 
 def parse_zone(text: bytes) -> Zone:
@@ -219,58 +245,63 @@ def read_history(data: bytes, key: str) -> History:
     return history(eras)
 
 
-def fire_after(sets: Sets, eras: History, instant: int) -> Optional[Fire]:
+def _call(name: str, schedules: Schedules, eras: History) -> Callable[..., int]:
+    """A call over a history: of one schedule, or of others as one."""
+    if len(schedules) == 1:
+        return partial(getattr(_LIBRARY, f"cron_c_history_{name}"), schedules, *eras.all())
+    return partial(getattr(_LIBRARY, f"cron_c_union_{name}"), schedules, len(schedules), *eras.all())
+
+
+def fire_after(schedules: Schedules, eras: History, instant: int) -> Optional[Fire]:
     """Of the fires after this instant the earliest."""
     item = Item()
-    return _found(_LIBRARY.cron_c_history_fire_after(sets, *eras.all(), _within(instant), item), item)
+    return _found(_call("fire_after", schedules, eras)(_within(instant), item), item)
 
 
-def fire_by(sets: Sets, eras: History, instant: int) -> Optional[Fire]:
+def fire_by(schedules: Schedules, eras: History, instant: int) -> Optional[Fire]:
     """Of the fires up to this instant the latest."""
     item = Item()
-    return _found(_LIBRARY.cron_c_history_fire_by(sets, *eras.all(), _within(instant), item), item)
+    return _found(_call("fire_by", schedules, eras)(_within(instant), item), item)
 
 
-def fires_at(sets: Sets, eras: History, instant: int) -> bool:
+def fires_at(schedules: Schedules, eras: History, instant: int) -> bool:
     """Whether there is a fire at this instant."""
-    if instant != _within(instant):
-        return False
-    item = Item()
-    return _found(_LIBRARY.cron_c_history_fire_at(sets, *eras.all(), instant, item), item) is not None
+    found = fire_by(schedules, eras, instant)
+    return found is not None and found[0] == instant
 
 
-def pages(sets: Sets, eras: History, start: int, end: int) -> Iterator[List[Fire]]:
+def pages(schedules: Schedules, eras: History, start: int, end: int) -> Iterator[List[Fire]]:
     """The fires after one instant and up to and with another, in lists."""
-    first, rest = _LIBRARY.cron_c_history_fires_between, _LIBRARY.cron_c_history_fires_past
-    return _pages(first, rest, ITEM, sets, eras, _within(start), end)
+    first, rest = (_call(name, schedules, eras) for name in ("fires_between", "fires_past"))
+    return _pages(first, rest, ITEM, _within(start), end)
 
 
-def due_pages(sets: Sets, eras: History, start: int, end: int) -> Iterator[List[Due]]:
+def due_pages(schedules: Schedules, eras: History, start: int, end: int) -> Iterator[List[Due]]:
     """The due fires after one instant and up to and with another, in lists."""
-    first, rest = _LIBRARY.cron_c_history_dues_between, _LIBRARY.cron_c_history_dues_past
-    return _pages(first, rest, DUE_ITEM, sets, eras, _within(start), end)
+    first, rest = (_call(name, schedules, eras) for name in ("dues_between", "dues_past"))
+    return _pages(first, rest, DUE_ITEM, _within(start), end)
 
 
-def due_pages_past(sets: Sets, eras: History, due: Due, end: int) -> Iterator[List[Due]]:
+def due_pages_past(schedules: Schedules, eras: History, due: Due, end: int) -> Iterator[List[Due]]:
     """The due fires past one and up to and with an instant, in lists."""
-    rest = _LIBRARY.cron_c_history_dues_past
-    return _pages(rest, rest, DUE_ITEM, sets, eras, Item(*due), end)
+    rest = _call("dues_past", schedules, eras)
+    return _pages(rest, rest, DUE_ITEM, Item(*due), end)
 
 
 def _pages(
-    first: Callable[..., int], rest: Callable[..., int], layout: struct.Struct, sets: Sets, eras: History, start: Any, end: int
+    first: Callable[..., int], rest: Callable[..., int], layout: struct.Struct, start: Any, end: int
 ) -> Iterator[List[Any]]:
     """What one call writes from the start on, and then another from the last item of each full page."""
     room, count, last = FIRST_PAGE, ctypes.c_size_t(), _within(end)
     items = (Item * room)()
-    status = first(sets, *eras.all(), start, last, items, room, count)
+    status = first(start, last, items, room, count)
     while status == MORE:
         page = _page(layout, items, room)
         yield page
         noted = Item.from_buffer_copy(items, (room - 1) * ctypes.sizeof(Item))
         if room != PAGE:
             room, items = PAGE, (Item * PAGE)()
-        status = rest(sets, *eras.all(), noted, last, items, room, count)
+        status = rest(noted, last, items, room, count)
     if status != OK:
         raise CronError(f"status {status}")
     yield _page(layout, items, count.value)
@@ -281,12 +312,12 @@ def _page(layout: struct.Struct, items: ctypes.Array[Item], count: int) -> List[
     return list(layout.iter_unpack(bytes(items)[: count * layout.size]))
 
 
-def fires_before(sets: Sets, eras: History, start: int, end: int) -> Iterator[Fire]:
+def fires_before(schedules: Schedules, eras: History, start: int, end: int) -> Iterator[Fire]:
     """The fires up to one instant and from another on, the latest first."""
-    found = fire_by(sets, eras, start)
+    found = fire_by(schedules, eras, start)
     while found is not None and found[0] >= end:
         yield found
-        found = fire_by(sets, eras, found[0] - 1)
+        found = fire_by(schedules, eras, found[0] - 1)
 
 
 def _found_due(status: int, item: Item) -> Optional[Due]:
@@ -294,23 +325,23 @@ def _found_due(status: int, item: Item) -> Optional[Due]:
     return None if found is None else (*found, item.reserved)
 
 
-def due_after(sets: Sets, eras: History, instant: int) -> Optional[Due]:
+def due_after(schedules: Schedules, eras: History, instant: int) -> Optional[Due]:
     """Of the due fires after this instant the first."""
     item = Item()
-    return _found_due(_LIBRARY.cron_c_history_due_after(sets, *eras.all(), _within(instant), item), item)
+    return _found_due(_call("due_after", schedules, eras)(_within(instant), item), item)
 
 
-def due_by(sets: Sets, eras: History, instant: int) -> Optional[Due]:
+def due_by(schedules: Schedules, eras: History, instant: int) -> Optional[Due]:
     """Of the due fires up to this instant the last."""
     item = Item()
-    return _found_due(_LIBRARY.cron_c_history_due_by(sets, *eras.all(), _within(instant), item), item)
+    return _found_due(_call("due_by", schedules, eras)(_within(instant), item), item)
 
 
-def dues_before(sets: Sets, eras: History, start: int, end: int) -> Iterator[Due]:
+def dues_before(schedules: Schedules, eras: History, start: int, end: int) -> Iterator[Due]:
     """The due fires up to one instant and from another on, the last first."""
-    found = due_by(sets, eras, start)
+    found = due_by(schedules, eras, start)
     while found is not None and found[0] >= end:
         instant = found[0]
-        together = [due for page in due_pages(sets, eras, instant - 1, instant) for due in page]
+        together = [due for page in due_pages(schedules, eras, instant - 1, instant) for due in page]
         yield from reversed(together)
-        found = due_by(sets, eras, instant - 1)
+        found = due_by(schedules, eras, instant - 1)

@@ -4,11 +4,11 @@ from __future__ import annotations
 
 from datetime import datetime, tzinfo
 from itertools import chain
-from typing import FrozenSet, Iterator, List, Literal, Optional, Tuple, Type, Union
+from typing import Callable, FrozenSet, Iterator, List, Literal, Optional, Tuple, Union
 
 from . import library
 from .dues import DueFire, all_due, parts_of
-from .errors import InstantError
+from .errors import InstantError, TextError
 from .zones import EPOCH, SECOND, all_shown, eras_of, shown
 
 
@@ -20,6 +20,12 @@ def _is_once(clock_changes: str) -> bool:
     if clock_changes not in ("as_shown", "once"):
         raise ValueError(f"clock_changes is 'as_shown' or 'once', and no {clock_changes!r}")
     return clock_changes == "once"
+
+
+def _checked(text: str) -> str:
+    if not isinstance(text, str):
+        raise TypeError(f"the text is a {type(text).__name__} and no str")
+    return text
 
 
 def _zone_of(moment: datetime) -> tzinfo:
@@ -41,7 +47,8 @@ def _ceiling(moment: datetime) -> int:
 
 
 class Schedule:
-    """The meaning of a text of six fields, or seven with years: `Schedule("0 30 9 * * Mon-Fri")`.
+    """The meaning of a text of six fields, or seven with years: `Schedule("0 30 9 * * Mon-Fri")`. What
+    a crontab has is read by `Schedule.crontab("30 9 * * mon-fri")`.
 
     TextError tells why a text means nothing. The zone is that of the datetime that is given: a
     `ZoneInfo` with a key, a `datetime.timezone`, or another zone that is one offset, at which it is
@@ -55,13 +62,23 @@ class Schedule:
     apart, and begins anew from one of these.
     """
 
-    __slots__ = ("__weakref__", "_sets", "_text")
+    __slots__ = ("__weakref__", "_schedules", "_text", "_is_crontab")
 
     def __init__(self, text: str) -> None:
-        if not isinstance(text, str):
-            raise TypeError(f"the text is a {type(text).__name__} and no str")
-        self._sets = library.parse(text)
-        self._text = text
+        self._schedules = library.parse(_checked(text))
+        self._text, self._is_crontab = text, False
+
+    @classmethod
+    def crontab(cls, text: str) -> Schedule:
+        """The meaning of a crontab's expression: five fields, or a nickname. Where neither the third nor
+        the fifth field begins with a star one kind of day suffices, and `days_of_month` and `days_of_week`
+        are then all days. `@reboot`, which no clock fires, is refused."""
+        schedules = library.parse_crontab(_checked(text))
+        if not schedules:
+            raise TextError("@reboot means the start of the machine, which no clock tells")
+        made = cls.__new__(cls)
+        made._schedules, made._text, made._is_crontab = schedules, text, True
+        return made
 
     @property
     def text(self) -> str:
@@ -71,76 +88,76 @@ class Schedule:
     @property
     def seconds(self) -> FrozenSet[int]:
         """The seconds, 0 to 59."""
-        return library.set_of(self._sets, library.SECONDS)
+        return library.set_of(self._schedules, library.SECONDS)
 
     @property
     def minutes(self) -> FrozenSet[int]:
         """The minutes, 0 to 59."""
-        return library.set_of(self._sets, library.MINUTES)
+        return library.set_of(self._schedules, library.MINUTES)
 
     @property
     def hours(self) -> FrozenSet[int]:
         """The hours, 0 to 23."""
-        return library.set_of(self._sets, library.HOURS)
+        return library.set_of(self._schedules, library.HOURS)
 
     @property
     def days_of_month(self) -> FrozenSet[int]:
         """The days of the month, 1 to 31. `last_day` stands apart."""
-        return library.set_of(self._sets, library.DAYS_OF_MONTH)
+        return library.set_of(self._schedules, library.DAYS_OF_MONTH)
 
     @property
     def last_day(self) -> bool:
         """Whether the last day of each month is one of the days too, as `L` says."""
-        return library.has_last_day(self._sets)
+        return library.has_last_day(self._schedules)
 
     @property
     def months(self) -> FrozenSet[int]:
         """The months, 1 to 12."""
-        return library.set_of(self._sets, library.MONTHS)
+        return library.set_of(self._schedules, library.MONTHS)
 
     @property
     def days_of_week(self) -> FrozenSet[int]:
         """The days of the week, 1 to 7 from Sunday on."""
-        return library.set_of(self._sets, library.DAYS_OF_WEEK)
+        return library.set_of(self._schedules, library.DAYS_OF_WEEK)
 
     @property
     def years(self) -> FrozenSet[int]:
         """The years, 1970 to 2100."""
-        return library.set_of(self._sets, library.YEARS)
+        return library.set_of(self._schedules, library.YEARS)
 
     def __str__(self) -> str:
         return self._text
 
     def __repr__(self) -> str:
-        return f"Schedule({self._text!r})"
+        return f"Schedule.crontab({self._text!r})" if self._is_crontab else f"Schedule({self._text!r})"
 
     def __eq__(self, other: object) -> bool:
         if not isinstance(other, Schedule):
             return NotImplemented
-        return bytes(self._sets) == bytes(other._sets)
+        return bytes(self._schedules) == bytes(other._schedules)
 
     def __hash__(self) -> int:
-        return hash(bytes(self._sets))
+        return hash(bytes(self._schedules))
 
-    def __reduce__(self) -> Tuple[Type[Schedule], Tuple[str]]:
+    def __reduce__(self) -> Tuple[Callable[[str], Schedule], Tuple[str]]:
         # as its text: what the words of the sets mean is the library's affair
-        return type(self), (self._text,)
+        return type(self).crontab if self._is_crontab else type(self), (self._text,)
 
     def matches(self, moment: datetime, *, clock_changes: ClockChanges = "as_shown") -> bool:
         """Whether it fires at this very instant: never where the datetime has a part of a second."""
         eras, instant = eras_of(_zone_of(moment)), _floor(moment)
         if _is_once(clock_changes):
-            found = library.due_by(self._sets, eras, instant)
+            found = library.due_by(self._schedules, eras, instant)
             return instant == _ceiling(moment) and found is not None and found[0] == instant
-        return instant == _ceiling(moment) and library.fires_at(self._sets, eras, instant)
+        return instant == _ceiling(moment) and library.fires_at(self._schedules, eras, instant)
 
     def after(self, moment: datetime, *, clock_changes: ClockChanges = "as_shown") -> Optional[datetime]:
         """When it fires first after a datetime, in its zone; None where it fires no more."""
         zone = _zone_of(moment)
         if _is_once(clock_changes):
-            due = library.due_after(self._sets, eras_of(zone), _floor(moment))
+            due = library.due_after(self._schedules, eras_of(zone), _floor(moment))
             return None if due is None else shown(due[:2], zone)
-        found = library.fire_after(self._sets, eras_of(zone), _floor(moment))
+        found = library.fire_after(self._schedules, eras_of(zone), _floor(moment))
         return None if found is None else shown(found, zone)
 
     def before(self, moment: datetime, *, clock_changes: ClockChanges = "as_shown") -> Optional[datetime]:
@@ -148,9 +165,9 @@ class Schedule:
         datetime itself isn't before it."""
         zone = _zone_of(moment)
         if _is_once(clock_changes):
-            due = library.due_by(self._sets, eras_of(zone), _ceiling(moment) - 1)
+            due = library.due_by(self._schedules, eras_of(zone), _ceiling(moment) - 1)
             return None if due is None else shown(due[:2], zone)
-        found = library.fire_by(self._sets, eras_of(zone), _ceiling(moment) - 1)
+        found = library.fire_by(self._schedules, eras_of(zone), _ceiling(moment) - 1)
         return None if found is None else shown(found, zone)
 
     def between(self, start: datetime, end: datetime, *, clock_changes: ClockChanges = "as_shown") -> List[datetime]:
@@ -171,13 +188,13 @@ class Schedule:
         if reverse:
             first = library.LEAST_INSTANT if end is None else _ceiling(end)
             if once:
-                dues = library.dues_before(self._sets, eras, _ceiling(start) - 1, first)
+                dues = library.dues_before(self._schedules, eras, _ceiling(start) - 1, first)
                 return all_shown((due[:2] for due in dues), zone)
-            return all_shown(library.fires_before(self._sets, eras, _ceiling(start) - 1, first), zone)
+            return all_shown(library.fires_before(self._schedules, eras, _ceiling(start) - 1, first), zone)
         if once:
             return (due.moment for due in self.dues(start, end))
         last = library.GREATEST_INSTANT if end is None else _floor(end)
-        return all_shown(chain.from_iterable(library.pages(self._sets, eras, _floor(start), last)), zone)
+        return all_shown(chain.from_iterable(library.pages(self._schedules, eras, _floor(start), last)), zone)
 
     def dues(self, start: Union[datetime, DueFire], end: Optional[datetime] = None) -> Iterator[DueFire]:
         """Each match once, one after the other: those that come due after a datetime, in its zone, or those
@@ -187,7 +204,7 @@ class Schedule:
             _zone_of(end)
         eras, last = eras_of(zone), library.GREATEST_INSTANT if end is None else _floor(end)
         if isinstance(start, DueFire):
-            told = library.due_pages_past(self._sets, eras, parts_of(start), last)
+            told = library.due_pages_past(self._schedules, eras, parts_of(start), last)
         else:
-            told = library.due_pages(self._sets, eras, _floor(start), last)
+            told = library.due_pages(self._schedules, eras, _floor(start), last)
         return all_due(chain.from_iterable(told), zone)
