@@ -1,0 +1,55 @@
+-- What an expression is: a crontab's, or this library's.
+use Rattle.std.specs.Prelude.{◌≡◌, ℕ, Bool, true, false, nat_le, List, [], ◌∷◌, Option, Some, None, length, if◌then◌else◌}
+use Rattle.cron_units.specs.Sets.{Sets}
+use Rattle.cron_text.specs.Fault.{IsRefusal}
+use Rattle.cron_text.specs.FaultText.{fault_text}
+use Rattle.cron_text.specs.Meaning.{Means, MeansNothing}
+use Rattle.cron_crontab.specs.Crontab as tabs
+use Rattle.cron_crontab.specs.Crontab.{reboot, schedules, words}
+use Rattle.cron_crontab.specs.Refusals.{Fault}
+use Rattle.cron_crontab.specs.Views.{fault_view}
+use Rattle.cron_fires.specs.declared.changes.ClockChanges.{ClockChanges}
+use Rattle.cron_fires.specs.declared.changes.ClockChanges.TheVariants.{AsShown, Once}
+use Rattle.cron_tab_warnings.specs.Clocks.{follows_clock}
+use Rattle.cron_tool.specs.declared.expression.Expression.{Expression}
+use Rattle.cron_tool.specs.declared.expression.Expression.TheVariants.{Crontab, Reboot, Own}
+use Rattle.cron_tool.specs.declared.refusal.Refusal.{Refusal}
+use Rattle.cron_tool.specs.declared.refusal.Refusal.TheVariants as refusals
+
+-- its schedules, of which one suffices
+abbrev pub schedules_of : Expression → List Sets
+schedules_of (Crontab some changes) = some
+schedules_of Reboot = []
+schedules_of (Own one) = one
+
+-- its own rule at clock changes
+abbrev pub own_changes : Expression → ClockChanges
+own_changes (Crontab some changes) = changes
+own_changes Reboot = AsShown
+own_changes (Own one) = AsShown
+
+-- the chosen rule, or its own
+abbrev pub changes_by : Option ClockChanges → Expression → ClockChanges
+changes_by (Some changes) e = changes
+changes_by None e = own_changes e
+
+-- a crontab's expression that follows the clock fires each time that it shows a match, another once for each
+abbrev pub clock_changes : List ℕ → ClockChanges
+clock_changes text = if follows_clock text then AsShown else Once
+
+abbrev pub IsNoCrontabs : List ℕ → Type 0
+IsNoCrontabs text = (fault : Fault) × tabs.Refuses text fault
+
+-- the text is this expression: a crontab's, or else this library's
+abbrev pub IsRead : List ℕ → Expression → Type 0
+IsRead text (Crontab some changes) = tabs.Means text (schedules some) × (changes ≡ clock_changes text)
+IsRead text Reboot = tabs.Means text reboot
+IsRead text (Own one) = IsNoCrontabs text × ((s : Sets) × Means text s × (one ≡ s ∷ []))
+
+abbrev pub has_six_words : List ℕ → Bool
+has_six_words text = nat_le 6 (length (words text))
+
+-- It is neither. What is told is a crontab's fault, or this library's where it has six words or more.
+abbrev pub IsRefused : List ℕ → Refusal → Type 0
+IsRefused text (refusals.Crontab fault) = tabs.Refuses text (fault_view fault) × MeansNothing text × (has_six_words text ≡ false)
+IsRefused text (refusals.Own fault) = IsNoCrontabs text × IsRefusal text (fault_text fault) × (has_six_words text ≡ true)

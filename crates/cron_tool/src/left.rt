@@ -1,0 +1,35 @@
+//! Fires that are left to be listed.
+
+ghost use Rattle.std.specs.Prelude.{List};
+ghost use Rattle.std.specs.Iterator.{YieldsFirst};
+
+use cron_dues::fire::DueFire;
+use cron_moments::moment::Moment;
+use cron_unions::due_run::DueRun;
+use cron_unions::run::Run;
+
+/// Fires that are taken one after another.
+pub(crate) trait Left<F> {
+    // those that are left
+    ghost left: { Self → List F };
+
+    /// Takes the first that is left.
+    fn take_first(&mut self) -> Option<F>
+        ensures { YieldsFirst left self.old result self.new };
+}
+
+impl<'a, const N: usize> Left<Moment> for Run<'a, N> {
+    ghost left = { λ run. run };
+
+    fn take_first(&mut self) -> Option<Moment> {
+        self.next()
+    }
+}
+
+impl<'a> Left<DueFire> for DueRun<'a> {
+    ghost left = { λ run. run };
+
+    fn take_first(&mut self) -> Option<DueFire> {
+        self.next()
+    }
+}
