@@ -1,6 +1,6 @@
 -- Deeds one after another, and turns.
 use Rattle.std.proofs.Common.{◌≡◌, ℕ, ◌+◌, ℤ, Bool, Some, None, List, [], ◌∷◌, ◌++◌, refl, subst, inl, inr, arith}
-use Rattle.std.specs.Prelude.{Option, Result, Ok, Err, ◌*ℤ◌, pos}
+use Rattle.std.specs.Prelude.{Option, Result, Ok, Err, ⊤, ◌*ℤ◌, pos, length}
 use Rattle.jiff_core.specs.declared.Timestamp.{Timestamp}
 use Rattle.cron_agenda.specs.declared.entry.Entry.{Entry}
 use Rattle.cron_agenda.specs.Entries.{ComesFirst, Listed}
@@ -10,7 +10,7 @@ use Rattle.cron_agenda_scheduler.specs.declared.stop.AgendaStop.{AgendaStop}
 use Rattle.cron_agenda_scheduler.specs.declared.picks.Pick.{Pick}
 use Rattle.cron_agenda_scheduler.specs.Inner.Picks.{Picks}
 use Rattle.cron_agenda_scheduler.specs.Late.{IsPicked, Tables}
-use Rattle.cron_agenda_scheduler.specs.Turns.{AreDone, AreTurns, Deed, IsDone, JobCalls, Looks, Passed, Ran, Turn, Turns, all_runs, runs_in}
+use Rattle.cron_agenda_scheduler.specs.Turns.{AreDone, AreTurns, Deed, EndsRun, IsDone, JobCalls, Looks, Passed, Ran, RunsLoop, Turn, Turns, all_runs, runs_in}
 
 pub done_on : {T J F : Type 0} (ts : Tables T) (js : JobCalls T J F) (t : ℤ) (ds : List Deed) (a : Listed T) (j : J) (b : Listed T) (k : J) (d : Deed)
     (c : Listed T) (m : J) → AreDone ts js t ds a j b k → IsDone ts js t d b k c m → AreDone ts js t (ds ++ d ∷ []) a j c m
@@ -74,6 +74,13 @@ pub none_turned : {T C J E F : Type 0} (ts : Tables T) (cs : ClockCalls C E) (js
     (c' : C) (a' : Listed T) (j' : J) → Turns ts cs js most ds c a j (Ok None) c' a' j' → (a.entries ≡ []) × (c' ≡ c) × (a' ≡ a) × (j' ≡ j)
 none_turned ts cs js most ds c a j c' a' j' (inl none) = (none.2, none.3, none.4, none.5)
 none_turned ts cs js most ds c a j c' a' j' (inr turn) = absurd (no_look ts js most ds turn.look a j a' j' turn.looks)
+
+-- a run of the loop that ends behind these turns
+pub loop_ends : {T C J E F : Type 0} {ts : Tables T} {cs : ClockCalls C E} {js : JobCalls T J F} {most : ℕ} {c c' : C} {a a' : Listed T} {j j' : J}
+    {answer : Result ⊤ (AgendaStop E F)} → (deeds : List (List Deed)) (left : ℕ) (d : C) (b : Listed T) (k : J)
+    → AreTurns ts cs js deeds most c a j left d b k → all_runs deeds + left ≡ most → EndsRun ts cs js (length deeds) left d b k answer c' a' j' → RunsLoop ts cs js most c a j answer c' a' j'
+loop_ends deeds left d b k turns count ends =
+    record { deeds = deeds; left = left; clock = d; agenda = b; job = k; are_turns = turns; counted = count; ends = ends }
 
 -- what is picked, with what it is found to be
 pub picked_as : {T : Type 0} (ts : Tables T) (t : ℤ) (a : Listed T) (o : Option Pick) (pick : Pick) (b : Listed T) (run : Bool) → o ≡ Some pick

@@ -2,10 +2,10 @@
 
 ghost use Rattle.std.specs.Prelude.{◌≡◌, MatchOption, length};
 ghost use Rattle.cron_crontab.specs.Refusals.{fault_text};
-ghost use Rattle.cron_crontab.specs.Views.{fault_view};
+ghost use Rattle.cron_crontab.specs.Views.{expression_view, fault_view};
 ghost use Rattle.cron_c.specs.Buffers.{laid_over};
 ghost use Rattle.cron_c.specs.Calls.{Answers};
-ghost use Rattle.cron_c.specs.Crontabs.{ParsesCrontab, WritesSchedules};
+ghost use Rattle.cron_c.specs.Crontabs.{ParsesCrontab, WritesSchedules, schedules_meant};
 
 use crate::buffer::Sink;
 use crate::schedule::{CronSchedule, schedule_of};
@@ -53,6 +53,17 @@ fn write_schedules(
     Status::Done
 }
 
+// The same of the schedules of which one must match: of `@reboot` there are none.
+fn write_meaning(meaning: &Expression, schedules: &mut [CronSchedule], count: &mut usize) -> Status
+    ensures { WritesSchedules (schedules_meant (expression_view meaning.now))
+        schedules.old schedules.new count.new result }
+{
+    match meaning {
+        Expression::Fires(all) => write_schedules(all.as_slice(), schedules, count),
+        Expression::Reboot => write_schedules(&[], schedules, count),
+    }
+}
+
 fn parse(
     text: &[u8],
     schedules: &mut [CronSchedule],
@@ -69,8 +80,7 @@ fn parse(
         return Status::NotUtf8;
     };
     let fault = match read(text) {
-        Ok(Expression::Fires(all)) => return write_schedules(all.as_slice(), schedules, count),
-        Ok(Expression::Reboot) => return Status::Done,
+        Ok(meaning) => return write_meaning(&meaning, schedules, count),
         Err(fault) => fault,
     };
     match tell(fault, message) {

@@ -30,7 +30,8 @@ fn are_told(schedules: &[ScheduleFields], told: &str) -> Result<bool> {
 }
 
 fn answer(text: &str, told: &str) -> Result<&'static str> {
-    let same = match read(text) {
+    let outcome = read(text);
+    let same = match &outcome {
         Ok(Expression::Reboot) => told == "reboot",
         Ok(Expression::Fires(schedules)) => told != "reboot"
             && are_told(schedules.as_slice(), told)?,

@@ -85,11 +85,12 @@ fn read_own<'a>(text: &'a str, fault: Fault<'a>) -> Result<Expression, Refusal<'
 pub fn read(text: &str) -> Result<Expression, Refusal<'_>>
     ensures { MatchResult result (IsRead text.now) (IsRefused text.now) }
 {
-    match read_tab(text) {
+    let outcome = read_tab(text);
+    match &outcome {
         Ok(TabExpression::Fires(schedules)) => {
-            Ok(Expression::Crontab(schedules, clock_changes(text)))
+            Ok(Expression::Crontab(*schedules, clock_changes(text)))
         }
         Ok(TabExpression::Reboot) => Ok(Expression::Reboot),
-        Err(fault) => read_own(text, fault),
+        Err(fault) => read_own(text, *fault),
     }
 }

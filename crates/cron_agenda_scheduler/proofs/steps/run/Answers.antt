@@ -4,32 +4,14 @@ use Rattle.jiff.specs.Words.{plain_zone}
 use Rattle.cron_scheduler.specs.Runs.{clock_calls}
 use Rattle.cron_agenda_scheduler.specs.Late.{tables}
 use Rattle.cron_agenda_scheduler.specs.Turns.{Turns, job_calls}
-use Rattle.cron_agenda_scheduler.proofs.TurnLemmas.{all_more, counted, none_turned, turns_on}
+use Rattle.cron_agenda_scheduler.proofs.TurnLemmas.{all_more, counted, loop_ends, none_turned, turns_on}
 use Rattle.cron_agenda_scheduler.proofs.steps.run.Goals as goal
 
 pub returns-then-left-eq0 : goal.returns-then-left-eq0
-returns-then-left-eq0 g c = record {
-  deeds = c.loop.invariant.0;
-  left = c.loop.left;
-  clock = c.loop.clock;
-  agenda = c.loop.agenda;
-  job = c.loop.job;
-  are_turns = c.loop.invariant.3;
-  counted = c.loop.invariant.2;
-  ends = (refl, refl, refl, inl c.if-left-eq0.true);
-}
+returns-then-left-eq0 g c = loop_ends c.loop.invariant.0 c.loop.left c.loop.clock c.loop.agenda c.loop.job c.loop.invariant.3 c.loop.invariant.2 (refl, refl, refl, inl c.if-left-eq0.true)
 
 pub returns-in-Err : goal.returns-in-Err
-returns-in-Err g c = record {
-  deeds = c.loop.invariant.0;
-  left = c.loop.left;
-  clock = c.loop.clock;
-  agenda = c.loop.agenda;
-  job = c.loop.job;
-  are_turns = c.loop.invariant.3;
-  counted = c.loop.invariant.2;
-  ends = c.in-Err.ensures;
-}
+returns-in-Err g c = loop_ends c.loop.invariant.0 c.loop.left c.loop.clock c.loop.agenda c.loop.job c.loop.invariant.3 c.loop.invariant.2 c.in-Err.ensures
 
 pub returns-in_default : goal.returns-in_default
 returns-in_default g c =
@@ -38,16 +20,7 @@ returns-in_default g c =
     let js = job_calls g.J.AgendaJob.runs g.J.AgendaJob.passes in
     let none = none_turned ts cs js c.loop.left c.in-Ok.ensures.0 c.loop.clock c.loop.agenda c.loop.job c.turn.new.clock c.turn.new.agenda c.turn.new.job
     (subst (λ o. Turns ts cs js c.loop.left c.in-Ok.ensures.0 c.loop.clock c.loop.agenda c.loop.job (Ok o) c.turn.new.clock c.turn.new.agenda c.turn.new.job) c.in_default.is c.in-Ok.ensures.1) in
-    record {
-      deeds = c.loop.invariant.0;
-      left = c.loop.left;
-      clock = c.loop.clock;
-      agenda = c.loop.agenda;
-      job = c.loop.job;
-      are_turns = c.loop.invariant.3;
-      counted = c.loop.invariant.2;
-      ends = (none.1, none.2, none.3, inr (inl none.0));
-    }
+    loop_ends c.loop.invariant.0 c.loop.left c.loop.clock c.loop.agenda c.loop.job c.loop.invariant.3 c.loop.invariant.2 (none.1, none.2, none.3, inr (inl none.0))
 
 pub loop-preserved : goal.loop-preserved
 loop-preserved g c =
@@ -67,13 +40,4 @@ loop-preserved g c =
     )
 
 pub returns : goal.returns
-returns g c = record {
-  deeds = c.loop.invariant.0;
-  left = c.loop.left;
-  clock = c.loop.clock;
-  agenda = c.loop.agenda;
-  job = c.loop.job;
-  are_turns = c.loop.invariant.3;
-  counted = c.loop.invariant.2;
-  ends = (refl, refl, refl, inr (inr (omega (arith, c.loop.invariant.1))));
-}
+returns g c = loop_ends c.loop.invariant.0 c.loop.left c.loop.clock c.loop.agenda c.loop.job c.loop.invariant.3 c.loop.invariant.2 (refl, refl, refl, inr (inr (omega (arith, c.loop.invariant.1))))
