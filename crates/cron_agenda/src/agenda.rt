@@ -17,8 +17,8 @@ use jiff::tz::TimeZone;
 use std::alloc::{AllocError, Global};
 use std::marker::Model;
 
-/// Entries, each with its next fire. Contracts see them in the order in which they were added, and how
-/// many were ever added.
+/// Entries, each with its next fire. Contracts see them in the order in which they were added, and
+/// how many were ever added.
 #[derive(Drop)]
 pub struct Agenda<T> {
     slots: Vec<Slot<T>>,
@@ -127,8 +127,9 @@ impl<T: Timetable + Copy> Agenda<T> {
         Ok(id)
     }
 
-    /// Adds an entry: the fires of a table after an instant, by a rule, in the zone with this number. It
-    /// answers the entry's id, which no other has or had: ids count from 0. An error changes nothing.
+    /// Adds an entry: the fires of a table after an instant, by a rule, in the zone with this
+    /// number. It answers the entry's id, which no other has or had: ids count from 0. An error
+    /// changes nothing.
     pub fn add(
         &mut self,
         table: T,
@@ -150,7 +151,8 @@ impl<T: Timetable + Copy> Agenda<T> {
         self.insert(table, zone, fire)
     }
 
-    /// Adds an entry: the fires of a table past one, by its rule, as one that was noted before a restart.
+    /// Adds an entry: the fires of a table past one, by its rule, as one that was noted before a
+    /// restart.
     pub fn add_past(
         &mut self,
         table: T,
@@ -171,7 +173,8 @@ impl<T: Timetable + Copy> Agenda<T> {
         self.insert(table, zone, later)
     }
 
-    // Drops the slots whose entry is gone, once fewer than half of them have one. It takes no memory.
+    // Drops the slots whose entry is gone, once fewer than half of them have one. It takes no
+    // memory.
     fn compact(&mut self)
         ensures { self.new ≡ self.old }
     {
@@ -214,7 +217,8 @@ impl<T: Timetable + Copy> Agenda<T> {
         self.slots[place].entry()
     }
 
-    /// The entry whose fire comes next: by instant, of those at one instant the one that was added first.
+    /// The entry whose fire comes next: by instant, of those at one instant the one that was added
+    /// first.
     pub fn first(&self) -> Option<Entry<T>>
         ensures { IsFirstEntry self.now.entries result }
     {
@@ -249,9 +253,10 @@ impl<T: Timetable + Copy> Agenda<T> {
         Ok(Some(AgendaFire { id, fire, is_last }))
     }
 
-    /// Takes what fires next, of all entries: by instant, of those at one instant that of the entry that
-    /// was added first. Its entry goes on to its next fire in its zone; one that has none is removed, and
-    /// the fire says so. Nothing is taken where its zone isn't lent. It takes no memory.
+    /// Takes what fires next, of all entries: by instant, of those at one instant that of the entry
+    /// that was added first. Its entry goes on to its next fire in its zone; one that has none is
+    /// removed, and the fire says so. Nothing is taken where its zone isn't lent. It takes no
+    /// memory.
     pub fn next(&mut self, zones: &[TimeZone<'_>]) -> Result<Option<AgendaFire>, ZoneMissing>
         ensures { TakesNext T.schedules (map plain_zone zones.now) self.old result self.new }
     {
@@ -260,7 +265,8 @@ impl<T: Timetable + Copy> Agenda<T> {
         Ok(taken)
     }
 
-    /// The same, if it is due: if its instant is `now` or comes before it. Else no entry's fire is due.
+    /// The same, if it is due: if its instant is `now` or comes before it. Else no entry's fire is
+    /// due.
     pub fn next_due(
         &mut self,
         now: Timestamp,

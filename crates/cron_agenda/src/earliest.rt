@@ -1,5 +1,5 @@
-//! Which of some places comes first, kept as their instants change: a tree in a list, whose place `i`
-//! stands over the places `2i + 1` and `2i + 2`, and has the least key from it down.
+//! Which of some places comes first, kept as their instants change: a tree in a list, whose place
+//! `i` stands over the places `2i + 1` and `2i + 2`, and has the least key from it down.
 ghost use Rattle.std.specs.Prelude.{◌≡◌, ◌≢◌, ℕ, ◌<◌, ◌≤◌, [], ◌∷◌, ◌++◌, length, map, slice_set, OnOk, OnErr};
 ghost use Rattle.cron_agenda.specs.Earliest.{IsFirstPlace};
 ghost use Rattle.cron_agenda.specs.Inner.Slots as inner;

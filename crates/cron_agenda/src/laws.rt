@@ -1,4 +1,5 @@
-//! Laws over the definitions: the functions do nothing, and a caller calls one for what its contract says.
+//! Laws over the definitions: the functions do nothing, and a caller calls one for what its
+//! contract says.
 
 ghost use Rattle.std.specs.Prelude.{List};
 ghost use Rattle.jiff_tz.specs.declared.timezone.TimeZone.{TimeZone};
@@ -6,7 +7,8 @@ ghost use Rattle.cron_agenda.specs.Laws.{AddedPastGoesOn, EntriesAscend, FiresAs
 
 use cron_fires::Timetable;
 
-/// What is taken is the first of all the fires that the entries have left, merged, and leaves the others.
+/// What is taken is the first of all the fires that the entries have left, merged, and leaves the
+/// others.
 pub fn taken_is_the_first<T: Timetable>()
     ensures { TakenIsTheFirst T.schedules }
 {}
@@ -32,8 +34,9 @@ pub fn one_entry_is_its_fires<T: Timetable>()
     ensures { OneEntryIsItsFires T.schedules }
 {}
 
-/// What is taken one after another is a front of the merged fires. What is left is what each entry has behind
-/// the last of its own: so who noted that, and adds the entry past it after a restart, goes on as uncut.
+/// What is taken one after another is a front of the merged fires. What is left is what each entry
+/// has behind the last of its own: so who noted that, and adds the entry past it after a restart,
+/// goes on as uncut.
 pub fn cut_runs<T: Timetable>()
     ensures front { TakenAreTheFront T.schedules }
     ensures rest { TheRestIsBehind T.schedules }

@@ -17,7 +17,8 @@ pub trait AgendaJob<T> {
     // a fire that is passed over: the job before it is told, the fire, and the job after it
     ghost passes: { Self → AgendaFire → Self → Type 0 } = { λ _ _ _. Unit {0} };
 
-    /// Runs the job for a fire, which was taken from the agenda. It may add entries, and remove them.
+    /// Runs the job for a fire, which was taken from the agenda. It may add entries, and remove
+    /// them.
     fn run(&mut self, due: AgendaFire, agenda: &mut Agenda<T>) -> Result<(), Self::Error>
         ensures { runs self.old due agenda.old result self.new agenda.new };
 

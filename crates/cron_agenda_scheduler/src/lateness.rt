@@ -10,7 +10,7 @@ use cron_units::fields::ScheduleFields;
 use jiff::Timestamp;
 use jiff::tz::TimeZone;
 
-/// Which of an entry's fires are run that are due when the clock is looked at. The others are passed over.
+/// Which due fires of an entry are run when the clock is looked at. The others are passed over.
 #[derive(Clone, Copy, Debug, PartialEq, Eq)]
 pub enum Lateness {
     /// Each one.

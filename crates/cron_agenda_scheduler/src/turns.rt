@@ -16,8 +16,8 @@ use cron_scheduler::{AlarmClock, wake_at};
 use jiff::Timestamp;
 use jiff::tz::TimeZone;
 
-// Takes what is due by now, one fire after another, each the first of the agenda as it then is, and runs the
-// job for it or passes it over. It answers how many of so many runs are left.
+// Takes what is due by now, one fire after another, each the first of the agenda as it then is, and
+// runs the job for it or passes it over. It answers how many of so many runs are left.
 fn run_due<T: Timetable + HasLateness + Copy, C: AlarmClock, J: AgendaJob<T>>(
     agenda: &mut Agenda<T>,
     zones: &[TimeZone<'_>],
@@ -26,7 +26,8 @@ fn run_due<T: Timetable + HasLateness + Copy, C: AlarmClock, J: AgendaJob<T>>(
     most: u64,
 ) -> Result<u64, AgendaStop<C::Error, J::Error>>
     ensures { (deeds : List Deed)
-        × RunsDue (tables T.schedules T.lateness (map plain_zone zones.now)) (job_calls J.runs J.passes)
+        × RunsDue (tables T.schedules T.lateness (map plain_zone zones.now))
+        (job_calls J.runs J.passes)
         now.nanosecond most deeds agenda.old job.old result agenda.new job.new }
 {
     let mut left = most;
@@ -53,8 +54,8 @@ fn run_due<T: Timetable + HasLateness + Copy, C: AlarmClock, J: AgendaJob<T>>(
     Ok(left)
 }
 
-/// Waits for what fires next, looks at the clock, and runs what is due then. It answers how many of so many
-/// runs are left, and nothing where there is no entry.
+/// Waits for what fires next, looks at the clock, and runs what is due then. It answers how many of
+/// so many runs are left, and nothing where there is no entry.
 pub(crate) fn turn<T: Timetable + HasLateness + Copy, C: AlarmClock, J: AgendaJob<T>>(
     agenda: &mut Agenda<T>,
     zones: &[TimeZone<'_>],
@@ -63,7 +64,8 @@ pub(crate) fn turn<T: Timetable + HasLateness + Copy, C: AlarmClock, J: AgendaJo
     most: u64,
 ) -> Result<Option<u64>, AgendaStop<C::Error, J::Error>>
     ensures { (deeds : List Deed)
-        × Turns (tables T.schedules T.lateness (map plain_zone zones.now)) (clock_calls C.shows C.waits)
+        × Turns (tables T.schedules T.lateness (map plain_zone zones.now))
+        (clock_calls C.shows C.waits)
         (job_calls J.runs J.passes) most deeds
         clock.old agenda.old job.old result clock.new agenda.new job.new }
 {

@@ -80,8 +80,8 @@ fn read_own<'a>(text: &'a str, fault: Fault<'a>) -> Result<Expression, Refusal<'
 }
 
 /// Reads an expression. A text that both kinds have is a crontab's, by its clock: such are the
-/// nicknames alone. Another text is refused with a crontab's fault where it has fewer than six words,
-/// else with this library's.
+/// nicknames alone. Another text is refused with a crontab's fault where it has fewer than six
+/// words, else with this library's.
 pub fn read(text: &str) -> Result<Expression, Refusal<'_>>
     ensures { MatchResult result (IsRead text.now) (IsRefused text.now) }
 {

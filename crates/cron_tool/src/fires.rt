@@ -190,10 +190,10 @@ fn send_fires<W: Watchable>(
     }
 }
 
-/// Writes a row for each fire that is asked for, in order, and flushes: by the rule that was chosen,
-/// or the expression's own. It takes no memory. Whole rows are handed to the writer together, up to
-/// 4,096 bytes a call, and the last of them before the flush. Once a call fails the writer is not
-/// called again: it holds what it took before. None may have failed before this call.
+/// Writes a row for each fire that is asked for, in order, and flushes: by the rule that was
+/// chosen, or the expression's own. It takes no memory. Whole rows are handed to the writer
+/// together, up to 4,096 bytes a call, and the last of them before the flush. Once a call fails the
+/// writer is not called again: it holds what it took before. None may have failed before this call.
 pub fn list<W: Watchable>(
     expression: &Expression,
     chosen: Option<ClockChanges>,

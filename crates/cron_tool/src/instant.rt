@@ -93,7 +93,8 @@ fn civil_second(text: &str) -> Option<u32>
 
 // A civil time in a zone.
 fn civil(text: &str, zone: &TimeZone<'_>) -> Option<Timestamp>
-    ensures { Tells (IsCivil text.now (plain_zone zone.now)) (option_map (λ t. t.nanosecond) result) }
+    ensures { Tells (IsCivil text.now (plain_zone zone.now))
+        (option_map (λ t. t.nanosecond) result) }
 {
     match civil_second(text) {
         Some(second) => Some(due_of(zone, second).timestamp()),
@@ -102,8 +103,8 @@ fn civil(text: &str, zone: &TimeZone<'_>) -> Option<Timestamp>
 }
 
 /// Reads an instant: `now`, `@SECONDS` since 1970, an instant with an offset as `jiff` reads it, a
-/// fire as it was printed, or a civil time from 1970 to 2100 in the zone. In a fold that is the first
-/// of its two instants, and in a gap the transition.
+/// fire as it was printed, or a civil time from 1970 to 2100 in the zone. In a fold that is the
+/// first of its two instants, and in a gap the transition.
 pub fn instant_of(text: &str, zone: &TimeZone<'_>, now: Timestamp) -> Option<Timestamp>
     ensures { IsInstant text.now (plain_zone zone.now) now.nanosecond
         (option_map (λ t. t.nanosecond) result) }
