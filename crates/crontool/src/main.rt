@@ -40,36 +40,18 @@ fn give_up(rt: &HostRuntime, why: &str, status: Status) -> u8 {
     }
 }
 
-// What a variable holds, if it is set.
-fn variable(rt: &HostRuntime, name: &str) -> Result<Option<String>, VarError> {
-    match env::var(rt, name) {
-        Ok(text) => Ok(Some(text)),
-        Err(VarError::NotPresent) => Ok(None),
-        Err(error) => Err(error),
-    }
-}
-
-// The folder of compiled zone files: that of TZDIR, unless it is empty.
-fn folder_of(variable: &Option<String>) -> &str {
-    match variable {
-        Some(folder) if !folder.is_empty() => folder.as_str(),
-        _ => ZONE_FOLDER,
-    }
-}
-
 // Answers a request with what the machine has.
 fn answer_request(rt: &HostRuntime, request: &Request<'_>) -> u8 {
     let Ok(now) = Timestamp::now(rt) else {
         return give_up(rt, "the clock can't be read", Status::Unreadable);
     };
-    let Ok(tz) = variable(rt, "TZ") else {
-        return give_up(rt, "TZ can't be read", Status::Unreadable);
-    };
-    let Ok(folder) = variable(rt, "TZDIR") else {
-        return give_up(rt, "TZDIR can't be read", Status::Unreadable);
+    let tz = match env::var(rt, "TZ") {
+        Ok(text) => Some(text),
+        Err(VarError::NotPresent) => None,
+        Err(_) => return give_up(rt, "TZ can't be read", Status::Unreadable),
     };
     let places = Places {
-        folder: folder_of(&folder),
+        folder: ZONE_FOLDER,
         tz: tz.as_ref().map(|text| text.as_str()),
         machine: LOCAL_FILE,
     };
