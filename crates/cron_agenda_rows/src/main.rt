@@ -7,8 +7,6 @@
 mod agendas;
 mod runs;
 mod tables;
-#[cfg(test)]
-mod tests;
 
 use anyhow::{Context, Result, ensure};
 use std::fs;
