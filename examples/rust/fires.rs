@@ -1,21 +1,22 @@
 //! What a scheduler asks for: the fires of a job where the clock goes back, and which was the last.
 
-use cron::{Schedule, Zone};
+use chrono::{DateTime, TimeZone, Utc};
+use cron::zone::Zone;
+use cron::Schedule;
 
-fn main() -> Result<(), u32> {
-    let mut now = 1_667_649_600; // 2022-11-05T12:00:00Z
-    let restarted = 1_667_779_200; // 2022-11-07T00:00:00Z
-    let schedule = Schedule::parse("0 30 1 * * *").expect("the text is read");
-    let chicago = Zone::parse("CST6CDT,M3.2.0,M11.1.0").expect("the zone is read");
+fn main() {
+    let mut now: DateTime<Utc> = Utc.with_ymd_and_hms(2022, 11, 5, 12, 0, 0).unwrap();
+    let restarted = Utc.with_ymd_and_hms(2022, 11, 7, 0, 0, 0).unwrap();
+    let schedule: Schedule = "0 30 1 * * *".parse().expect("the text is read");
+    let chicago = Zone::rule("CST6CDT,M3.2.0,M11.1.0").expect("the zone is read");
+    let fires = schedule.fires(&chicago);
     for _ in 0..3 {
-        let Some(item) = schedule.fire_after(&chicago, now)? else {
-            break;
-        };
-        println!("{item}"); // sleep until `item.instant`, and run the job
-        now = item.instant;
+        if let Some(fire) = fires.after(&now) {
+            println!("{fire}"); // sleep until then, and run the job
+            now = fire.into();
+        }
     }
-    if let Some(item) = schedule.fire_by(&chicago, restarted)? {
-        println!("last: {item}");
+    if let Some(fire) = fires.by(&restarted) {
+        println!("last: {fire}");
     }
-    Ok(())
 }

@@ -1,18 +1,16 @@
 //! The first three items of an expression, and why another is refused.
 
-use cron::{Schedule, Zone};
+use chrono::{FixedOffset, TimeZone};
+use cron::Schedule;
 
 fn main() {
-    let start = 1_704_067_200; // 2024-01-01T00:00:00Z
-    let schedule = Schedule::parse("0 0,30 9 * * 2").expect("the text is read");
-    for item in schedule
-        .after(&Zone::UTC, start)
-        .expect("the zone is read")
-        .take(3)
-    {
+    let utc = FixedOffset::east_opt(0).expect("the offset is less than a day");
+    let start = utc.with_ymd_and_hms(2024, 1, 1, 0, 0, 0).unwrap();
+    let schedule: Schedule = "0 0,30 9 * * 2".parse().expect("the text is read");
+    for item in schedule.after(&start).take(3) {
         println!("{item}");
     }
-    if let Err(message) = Schedule::parse("0 0 25 * * *") {
+    if let Err(message) = "0 0 25 * * *".parse::<Schedule>() {
         println!("error: {message}");
     }
 }

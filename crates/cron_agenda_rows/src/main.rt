@@ -1,7 +1,7 @@
-//! Replays the rows of `data/agendas.txt`, steps of an agenda, and of `data/runs.txt`, the loop over one. What
-//! they come to was counted apart, by a scan of seconds for the fires of each entry and a scan of all entries
-//! for what comes next. It prints the rows that differ, and how many rows there are. Where one differs, or
-//! can't be taken apart, it ends with a status other than 0.
+//! Replays the rows of `data/agendas.txt`, steps of an agenda, and of `data/runs.txt`, the loop
+//! over one. What they come to was counted apart, by a scan of seconds for the fires of each entry
+//! and a scan of all entries for what comes next. It prints the rows that differ, and how many rows
+//! there are. Where one differs, or can't be taken apart, it ends with a status other than 0.
 #![tactic(auto)]
 
 mod agendas;

@@ -1,5 +1,6 @@
-//! Rows of the loop over an agenda: zones, entries with their lateness, what the clock shows after each wait,
-//! what the job does, and how often it may be run; then the waits, the deeds and the end that these come to.
+//! Rows of the loop over an agenda: zones, entries with their lateness, what the clock shows after
+//! each wait, what the job does, and how often it may be run; then the waits, the deeds and the end
+//! that these come to.
 
 use crate::tables::{changes_named, schedules_of, zones_named};
 use anyhow::{Context, Error, Result, bail, ensure};
@@ -42,7 +43,8 @@ impl AlarmClock for ScriptedClock<'_> {
     }
 }
 
-/// A job that notes each fire. Its run of some number may fail, and that of another removes an entry.
+/// A job that notes each fire. Its run of some number may fail, and that of another removes an
+/// entry.
 #[derive(Drop)]
 struct ScriptedJob {
     deeds: String,

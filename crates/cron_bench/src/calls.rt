@@ -107,7 +107,8 @@ fn first_fires(schedule: &Schedule, start: Timestamp, zone: &TimeZone<'_>, calls
     ended
 }
 
-/// Calls `next` of a run of due fires so often, begins anew where the run ends, and tells when it last ended.
+/// Calls `next` of a run of due fires so often, begins anew where the run ends, and tells when it
+/// last ended.
 fn due_fires(schedule: &Schedule, start: Timestamp, zone: &TimeZone<'_>, calls: u32) -> u32 {
     let mut run = Dues::after(schedule, start, zone);
     let mut ended = 0;

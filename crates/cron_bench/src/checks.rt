@@ -5,7 +5,7 @@ use crate::rounds::least_cost;
 use anyhow::{Result, bail, ensure};
 use cron_checking::arguments::request_of;
 use cron_checking::check::{Outcome, check};
-use cron_checking::line::Mode;
+use cron_checking::line::Telling;
 use cron_writer::watched::Watched;
 use std::alloc::{AllocError, Global};
 use std::io::Cursor;
@@ -37,39 +37,49 @@ fn varied_file(alloc: Global) -> Result<String, AllocError> {
 }
 
 /// Whether each line of a file is read.
-fn are_read(alloc: Global, mode: &Mode<'_>, file: &str) -> bool {
+fn are_read(alloc: Global, how: &Telling<'_>, file: &str) -> bool {
     let mut room = [0_u8; 64];
     let mut out = Watched::new(Cursor::new(room.as_mut_slice()));
     let mut reader = file.as_bytes();
-    check(alloc, mode, &mut reader, &mut out) == Outcome::AllRead
+    check(alloc, how, &mut reader, &mut out) == Outcome::AllRead
 }
 
 /// Prints the least cost in 15 rounds of a line of a file, each of which is read.
-fn time_check(rt: &HostRuntime, name: &str, mode: &Mode<'_>, file: &str, lines: u32) -> Result<()> {
+fn time_check(
+    rt: &HostRuntime,
+    name: &str,
+    how: &Telling<'_>,
+    file: &str,
+    lines: u32,
+) -> Result<()> {
     let mut all_read = true;
     let cost = least_cost(
         rt,
         15,
         lines,
-        || all_read &= are_read(rt.alloc(), mode, file),
+        || all_read &= are_read(rt.alloc(), how, file),
     )?;
     ensure!(all_read, "{name}: a line is refused");
     println!(rt; "lines | {name} | {cost}")?;
     Ok(())
 }
 
-/// Prints what a line of a file costs that is checked as `cron_check` does without words: of varied
+/// Prints what a line of a file costs that is checked as `crontool check --expressions` does: of varied
 /// ones, and of more and more short ones.
 pub fn run(rt: &HostRuntime) -> Result<()> {
     let words: Vec<String> = Vec::new(rt.alloc());
     let Some(request) = request_of(words.as_slice()) else {
-        bail!("cron_check asks for words");
+        bail!("a check asks for words");
+    };
+    let how = Telling {
+        front: "",
+        mode: request.mode,
     };
     let varied = varied_file(rt.alloc())?;
-    time_check(rt, "checked", &request.mode, varied.as_str(), LINES)?;
+    time_check(rt, "checked", &how, varied.as_str(), LINES)?;
     for (name, count) in SHORT_LINES {
         let short = short_file(rt.alloc(), count)?;
-        time_check(rt, name, &request.mode, short.as_str(), count)?;
+        time_check(rt, name, &how, short.as_str(), count)?;
     }
     Ok(())
 }

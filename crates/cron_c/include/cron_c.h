@@ -454,8 +454,8 @@ uint32_t cron_c_history_dues_past(const cron_c_schedule *schedule,
  * So are order and statuses, and what is said of eras that are no history. With one schedule the
  * answers over a history are those of `cron_c_history_fire_after` and its like. With none nothing fires.
  *
- * For a zone give one era, CRON_C_ERA_ALWAYS of it. Each answer, and each item of a list, asks every
- * schedule once.
+ * For a zone give one era, CRON_C_ERA_ALWAYS of it. An answer asks every schedule once. A list asks each
+ * of them once more than it has items.
  */
 uint32_t cron_c_union_fire_after(const cron_c_schedule *schedules, size_t schedules_length,
                                  const cron_c_era *eras, size_t eras_length,

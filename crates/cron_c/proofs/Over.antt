@@ -1,8 +1,8 @@
 -- Bytes laid over a buffer piece by piece.
 use Rattle.std.proofs.Common.{◌≡◌, ℕ, zero, suc, ◌+◌, ◌≤◌, min, List, [], ◌∷◌, ◌++◌, refl, sym, ap, subst, ◌∙◌, arith, length-append, MutBor}
-use Rattle.std.specs.Prelude.{length, take, drop}
+use Rattle.std.specs.Prelude.{length, take, drop, Option, Some, None, IfSome}
 use Rattle.std.specs.List.{FoldsTo, concat}
-use Rattle.std.specs.Fmt.{WritesInCalls}
+use Rattle.std.specs.Fmt.{WritesInCalls, WritesText}
 use Rattle.cron_c.specs.Buffers.{laid_over, Takes}
 use Rattle.cron_c.specs.declared.buffer.Sink.{Sink}
 
@@ -78,3 +78,14 @@ told begun new back text none is given writes =
     let kept = given (ap (λ (b : MutBor (List ℕ)). b.ghost_name) is ∙ takes.lent) ∙ ap (λ (b : MutBor (List ℕ)). b.now) is in
     let count : new.length ≡ length text = omega (arith, takes.counted, none) in
     (kept ∙ (takes.laid ∙ ap (λ (n : ℕ). laid_over n text begun.buffer.now) none), count)
+
+-- the same of a text that may be unknown
+pub told_if : {after : List ℕ} (begun new : Sink) (back : MutBor (List ℕ)) (text : Option (List ℕ)) → begun.length ≡ 0 → back ≡ new.buffer
+    → (back.ghost_name ≡ begun.buffer.ghost_name → after ≡ back.now) → WritesText Takes begun text new
+    → IfSome text (λ t. (after ≡ laid_over 0 t begun.buffer.now) × (new.length ≡ length t))
+told_if begun new back None none is given writes = tt
+told_if begun new back (Some text) none is given writes = told begun new back text none is given writes
+
+pub untold : (text : Option (List ℕ)) → IfSome text (λ t. Unit {0})
+untold None = tt
+untold (Some text) = tt

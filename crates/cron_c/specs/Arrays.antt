@@ -27,7 +27,7 @@ pub record IsPage {A X : Type 0} (Is : A → X → Type 0) (all : List A) (old n
   pub counted : count ≡ length written
   pub full : count ≡ length old
 
--- they are written l far l they fit, and the status tells whether these are all
+-- they are written as far as they fit, and the status tells whether these are all
 abbrev pub Fills : {A X : Type 0} → (A → X → Type 0) → List A → List X → List X → ℕ → Status → Type 0
 Fills Is all old new count Done = IsWhole Is all old new count
 Fills Is all old new count More = IsPage Is all old new count

@@ -1,9 +1,9 @@
 //! A caller's buffer, which may be too short.
 
-ghost use Rattle.std.specs.Prelude.{◌≡◌};
+ghost use Rattle.std.specs.Prelude.{◌≡◌, IfSome, MatchOption, length};
 ghost use Rattle.cron_c.specs.Buffers.{laid_over};
 
-use std::fmt;
+use std::fmt::{self, Write};
 
 // Writes bytes to the front of a buffer as far as they fit.
 fn put_first(buffer: &mut [u8], bytes: &[u8])
@@ -43,5 +43,22 @@ impl<'a> fmt::Write for Sink<'a> {
         put(self.buffer, self.length, s.as_bytes());
         self.length = length;
         Ok(())
+    }
+}
+
+/// Writes what a message prints to a buffer as far as it fits, and answers its whole length. `None`
+/// where it can't be printed whole.
+pub fn tell<M: fmt::Display>(message: &M, buffer: &mut [u8]) -> Option<usize>
+    ensures { IfSome (M.output message.now) (λ text. MatchOption result (Unit {0})
+        (λ size. (buffer.new ≡ laid_over 0 text buffer.old) × (size ≡ length text))) }
+{
+    let mut sink = Sink { buffer, length: 0 };
+    let written = write!(sink, "{message}");
+    let Sink { buffer, length } = sink;
+    // No effect at run time. The proof reads what the buffer holds from this use of it.
+    let _ = &*buffer;
+    match written {
+        Ok(()) => Some(length),
+        Err(_) => None,
     }
 }

@@ -1,38 +1,14 @@
 //! An expression of a crontab, read into structs.
 
-ghost use Rattle.std.specs.Prelude.{◌≡◌, MatchOption, length};
-ghost use Rattle.cron_crontab.specs.Refusals.{fault_text};
-ghost use Rattle.cron_crontab.specs.Views.{expression_view, fault_view};
-ghost use Rattle.cron_c.specs.Buffers.{laid_over};
+ghost use Rattle.cron_crontab.specs.Views.{expression_view};
 ghost use Rattle.cron_c.specs.Calls.{Answers};
 ghost use Rattle.cron_c.specs.Crontabs.{ParsesCrontab, WritesSchedules, schedules_meant};
 
-use crate::buffer::Sink;
+use crate::buffer::tell;
 use crate::schedule::{CronSchedule, schedule_of};
 use crate::status::Status;
-use cron_crontab::{Expression, Fault, read};
+use cron_crontab::{Expression, read};
 use cron_units::fields::ScheduleFields;
-use std::fmt::Write;
-
-// Writes the message of a fault to a buffer as far as it fits, and answers its whole length.
-fn tell(fault: Fault<'_>, message: &mut [u8]) -> Option<usize>
-    ensures { MatchOption result (Unit {0})
-        (λ size. (message.new ≡ laid_over 0 (fault_text (fault_view fault.entry)) message.old)
-        × (size ≡ length (fault_text (fault_view fault.entry)))) }
-{
-    let mut sink = Sink {
-        buffer: message,
-        length: 0,
-    };
-    let written = write!(sink, "{fault}");
-    let Sink { buffer, length } = sink;
-    // No effect at run time. The proof reads what the message holds from this use of `buffer`.
-    let _ = &*buffer;
-    match written {
-        Ok(()) => Some(length),
-        Err(_) => None,
-    }
-}
 
 // Writes schedules to the front of an array, where there is room for all of them, and how many they
 // are.
@@ -83,7 +59,7 @@ fn parse(
         Ok(meaning) => return write_meaning(&meaning, schedules, count),
         Err(fault) => fault,
     };
-    match tell(fault, message) {
+    match tell(&fault, message) {
         Some(length) => {
             *message_length = length;
             Status::Refused

@@ -1,35 +1,11 @@
 //! A text, read into a struct.
 
-ghost use Rattle.std.specs.Prelude.{◌≡◌, MatchOption, length};
-ghost use Rattle.cron_c.specs.Buffers.{laid_over};
 ghost use Rattle.cron_c.specs.Calls.{Answers, Parses};
-ghost use Rattle.cron_text.specs.FaultText.{fault_text};
 
-use crate::buffer::Sink;
+use crate::buffer::tell;
 use crate::schedule::{CronSchedule, schedule_of};
 use crate::status::Status;
-use cron_text::{Fault, fault_of, no_ordinals, read_into};
-use std::fmt::Write;
-
-// Writes the message of a fault to a buffer as far as it fits, and answers its whole length.
-fn tell(fault: Fault<'_>, message: &mut [u8]) -> Option<usize>
-    ensures { MatchOption result (Unit {0})
-        (λ size. (message.new ≡ laid_over 0 (fault_text fault.entry) message.old)
-        × (size ≡ length (fault_text fault.entry))) }
-{
-    let mut sink = Sink {
-        buffer: message,
-        length: 0,
-    };
-    let written = write!(sink, "{fault}");
-    let Sink { buffer, length } = sink;
-    // No effect at run time. The proof reads what the message holds from this use of `buffer`.
-    let _ = &*buffer;
-    match written {
-        Ok(()) => Some(length),
-        Err(_) => None,
-    }
-}
+use cron_text::{fault_of, no_ordinals, read_into};
 
 fn parse(
     text: &[u8],
@@ -49,7 +25,7 @@ fn parse(
         *schedule = schedule_of(&fields);
         return Status::Done;
     }
-    match tell(fault_of(text), message) {
+    match tell(&fault_of(text), message) {
         Some(length) => {
             *message_length = length;
             Status::Refused

@@ -4,7 +4,7 @@ use Rattle.std.specs.Io.KnownBytes.{Consumes}
 use Rattle.std.proofs.KnownBytes.{Consumes-nil, Consumes-trans}
 use Rattle.cron_checking.specs.Lines.{lines_of, AreEnded, AreWhole, IsReadThrough}
 use Rattle.cron_checking.specs.Reports.{TellsLine, TellsLines}
-use Rattle.cron_checking.specs.declared.line.Mode.{Mode}
+use Rattle.cron_checking.specs.declared.line.Telling.{Telling}
 use Rattle.std.specs.declared.io.Error.{Error}
 use Rattle.cron_writer.specs.Watching.{has_failed}
 use Rattle.cron_writer.specs.declared.gathered.Gathered.{Gathered}
@@ -107,20 +107,20 @@ next_number : (number count : ℕ) → number + suc count ≡ (number + 1) + cou
 next_number number count = omega arith
 
 -- one more line is told
-pub line_told : (mode : Mode) (number : ℕ) (lines : List (List ℕ)) (line report text : List ℕ) (refused bad : Bool)
-    → TellsLines mode number lines report refused
-    → TellsLine mode (number + length lines) line text bad → TellsLines mode number (lines ++ line ∷ []) (report ++ text) (refused || bad)
-line_told mode number [] line report text refused bad (none, fine) h = (
+pub line_told : (how : Telling) (number : ℕ) (lines : List (List ℕ)) (line report text : List ℕ) (refused bad : Bool)
+    → TellsLines how number lines report refused
+    → TellsLine how (number + length lines) line text bad → TellsLines how number (lines ++ line ∷ []) (report ++ text) (refused || bad)
+line_told how number [] line report text refused bad (none, fine) h = (
   text,
   [],
   bad,
   false,
   ap (λ (r : List ℕ). r ++ text) none ∙ sym (append-nil text),
   ap (λ (r : Bool). r || bad) fine ∙ sym (none_or bad),
-  subst (λ (n : ℕ). TellsLine mode n line text bad) (omega arith) h,
+  subst (λ (n : ℕ). TellsLine how n line text bad) (omega arith) h,
   (refl, refl),
 )
-line_told mode number (first ∷ lines) line report text refused bad (here, rest, one, others, e, f, t, more) h = (
+line_told how number (first ∷ lines) line report text refused bad (here, rest, one, others, e, f, t, more) h = (
   here,
   rest ++ text,
   one,
@@ -128,7 +128,7 @@ line_told mode number (first ∷ lines) line report text refused bad (here, rest
   ap (λ (r : List ℕ). r ++ text) e ∙ append_assoc here rest text,
   ap (λ (r : Bool). r || bad) f ∙ or_assoc one others bad,
   t,
-  line_told mode (number + 1) lines line rest text others bad more (subst (λ (n : ℕ). TellsLine mode n line text bad) (next_number number (length lines)) h),
+  line_told how (number + 1) lines line rest text others bad more (subst (λ (n : ℕ). TellsLine how n line text bad) (next_number number (length lines)) h),
 )
 
 -- ---- how the telling ends
@@ -140,9 +140,9 @@ ended_at end given left front piece checked true e h cut none = rw e (h, cut, no
 ended_at end given left front piece checked false e h cut none = rw e (h, cut, none, refl)
 
 -- and nothing but the report was put
-pub ended_puts : (end : Outcome) (refused : Bool) (count : ℕ) (report : List ℕ) → end ≡ end_of refused → report ≡ report ++ stop_line end count
-ended_puts end true count report e = rw e (sym (append-nil report))
-ended_puts end false count report e = rw e (sym (append-nil report))
+pub ended_puts : (front : List ℕ) (end : Outcome) (refused : Bool) (count : ℕ) (report : List ℕ) → end ≡ end_of refused → report ≡ report ++ stop_line front end count
+ended_puts front end true count report e = rw e (sym (append-nil report))
+ended_puts front end false count report e = rw e (sym (append-nil report))
 
 pub ended_unfailed : (end : Outcome) (refused : Bool) (P : Type 0) → end ≡ end_of refused → end ≡ WriteFailed → P
 ended_unfailed end true P e f = absurd (cc)
@@ -150,16 +150,16 @@ ended_unfailed end false P e f = absurd (cc)
 
 -- one line more was told, and a write of it failed; or the check ends at that line
 pub line_stops : {W : Type 0} (contents : W → Option (List ℕ)) (writes : W → List ℕ → Result ℕ Error → W
-    → Type 0) (mode : Mode) (given now left : Option (List ℕ))
+    → Type 0) (how : Telling) (given now left : Option (List ℕ))
     (old mid new : Gathered) (was here is : Watched W) (checked : List (List ℕ)) (report : List ℕ) (refused : Bool) (number : ℕ)
     (line piece put : List ℕ) (end : Outcome)
-    → IsReadSoFar given now checked → TellsLines mode 1 checked report refused → number ≡ 1 + length checked → Puts contents writes old was mid here report
-    → Consumes now left piece → AreWhole now left piece (line ∷ []) → StopsAtLine mode number line end put (has_failed is)
-    → Puts contents writes mid here new is put → TellsAll mode (given, left) contents writes (old, was) (new, is) end
-line_stops contents writes mode given now left old mid new was here is checked report refused number line piece put AllRead r t n p c w h q = absurd h
-line_stops contents writes mode given now left old mid new was here is checked report refused number line piece put SomeRefused r t n p c w h q = absurd h
-line_stops contents writes mode given now left old mid new was here is checked report refused number line piece put Unreadable r t n p c w h q = absurd h
-line_stops contents writes mode given now left old mid new was here is checked report refused number line piece put OutOfMemory r t n p c w h q =
+    → IsReadSoFar given now checked → TellsLines how 1 checked report refused → number ≡ 1 + length checked → Puts contents writes old was mid here report
+    → Consumes now left piece → AreWhole now left piece (line ∷ []) → StopsAtLine how number line end put (has_failed is)
+    → Puts contents writes mid here new is put → TellsAll how (given, left) contents writes (old, was) (new, is) end
+line_stops contents writes how given now left old mid new was here is checked report refused number line piece put AllRead r t n p c w h q = absurd h
+line_stops contents writes how given now left old mid new was here is checked report refused number line piece put SomeRefused r t n p c w h q = absurd h
+line_stops contents writes how given now left old mid new was here is checked report refused number line piece put Unreadable r t n p c w h q = absurd h
+line_stops contents writes how given now left old mid new was here is checked report refused number line piece put OutOfMemory r t n p c w h q =
     record {
       checked = checked;
       front = r.bytes;
@@ -173,7 +173,7 @@ line_stops contents writes mode given now left old mid new was here is checked r
       puts = subst (λ (s : List ℕ). Puts contents writes old was new is (report ++ s)) h (put_on contents writes old mid new was here is report put p q);
       failed = λ f. absurd (cc);
     }
-line_stops contents writes mode given now left old mid new was here is checked report refused number line piece put NotUtf8 r t n p c w h q =
+line_stops contents writes how given now left old mid new was here is checked report refused number line piece put NotUtf8 r t n p c w h q =
     record {
       checked = checked;
       front = r.bytes;
@@ -185,11 +185,11 @@ line_stops contents writes mode given now left old mid new was here is checked r
       ends = (r.cut, line, whole_of given now left r.bytes piece (line ∷ []) r.consumed w, h.0);
       tells = t;
       puts =
-          subst (λ (s : List ℕ). Puts contents writes old was new is (report ++ s)) (h.1 ∙ ap line_not_utf8 (omega arith))
+          subst (λ (s : List ℕ). Puts contents writes old was new is (report ++ s)) (h.1 ∙ ap (line_not_utf8 how.front.now) (omega arith))
           (put_on contents writes old mid new was here is report put p q);
       failed = λ f. absurd (cc);
     }
-line_stops contents writes mode given now left old mid new was here is checked report refused number line piece put WriteFailed r t n p c w
+line_stops contents writes how given now left old mid new was here is checked report refused number line piece put WriteFailed r t n p c w
     (failed, bad, told) q =
     record {
       checked = checked ++ line ∷ [];
@@ -200,7 +200,7 @@ line_stops contents writes mode given now left old mid new was here is checked r
       read = read_whole given now left checked piece r c;
       one_line = no_piece;
       ends = (whole_on given now left checked line piece r w, refl);
-      tells = line_told mode 1 checked line report put refused bad t (subst (λ (k : ℕ). TellsLine mode k line put bad) n told);
+      tells = line_told how 1 checked line report put refused bad t (subst (λ (k : ℕ). TellsLine how k line put bad) n told);
       puts = subst (Puts contents writes old was new is) (sym (append-nil (report ++ put))) (put_on contents writes old mid new was here is report put p q);
       failed = λ f. failed;
     }

@@ -6,10 +6,10 @@ use Rattle.cron_checking.specs.Lines.{lines_of, AreEnded, AreWhole, IsReadThroug
 use Rattle.cron_checking.specs.Reports.{told, TellsLines}
 use Rattle.cron_checking.specs.declared.check.Outcome.{Outcome}
 use Rattle.cron_checking.specs.declared.check.Outcome.TheVariants.{AllRead, SomeRefused, OutOfMemory, WriteFailed, Unreadable, NotUtf8}
-use Rattle.cron_checking.specs.declared.line.Mode.{Mode}
+use Rattle.cron_checking.specs.declared.line.Telling.{Telling}
 
-abbrev pub line_not_utf8 : ℕ → List ℕ
-line_not_utf8 number = told number (codes "not UTF-8")
+abbrev pub line_not_utf8 : List ℕ → ℕ → List ℕ
+line_not_utf8 front number = told front number (codes "not UTF-8")
 
 -- the line that tells why a check ended, where no report tells it
 abbrev pub closing_line : Outcome → List ℕ
@@ -18,9 +18,9 @@ closing_line Unreadable = codes "error: the file can't be read" ++ 10 ∷ []
 closing_line _ = []
 
 -- the last line that a check writes, which ended past so many lines
-abbrev pub last_line : Outcome → ℕ → List ℕ
-last_line NotUtf8 count = line_not_utf8 (count + 1)
-last_line end count = closing_line end
+abbrev pub last_line : List ℕ → Outcome → ℕ → List ℕ
+last_line front NotUtf8 count = line_not_utf8 front (count + 1)
+last_line front end count = closing_line end
 
 -- Where a check ended, of a reader that had `given` and has `left`: the bytes in front are the lines that were checked, none of which is
 -- cut off, and a piece was read behind them.
@@ -39,7 +39,7 @@ Ends end text old new outcome = (outcome ≡ end) × Appends old new text
 
 -- The lines that were read were told in order, and then why the check ended: of a reader that had `given` and has `left`, to a
 -- writer that held `old` and holds `new`.
-pub record Checks (mode : Mode) (given left old new : Option (List ℕ)) (outcome : Outcome) : Type 0 where
+pub record Checks (how : Telling) (given left old new : Option (List ℕ)) (outcome : Outcome) : Type 0 where
   pub checked : List (List ℕ)
   pub front : List ℕ
   pub piece : List ℕ
@@ -49,8 +49,8 @@ pub record Checks (mode : Mode) (given left old new : Option (List ℕ)) (outcom
   pub read : Consumes given left (front ++ piece)
   pub one_line : length (lines_of piece) ≤ 1
   pub ends : EndsAt end given left front piece checked refused
-  pub tells : TellsLines mode 1 checked report refused
-  pub writes : Ends end (report ++ last_line end (length checked)) old new outcome
+  pub tells : TellsLines how 1 checked report refused
+  pub writes : Ends end (report ++ last_line how.front.now end (length checked)) old new outcome
 
 abbrev pub is_write_failure : Outcome → Bool
 is_write_failure WriteFailed = true

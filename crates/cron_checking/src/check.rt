@@ -9,7 +9,7 @@ ghost use Rattle.cron_writer.specs.Calls.{AreWritesFlushed, IsFlushed};
 ghost use Rattle.cron_writer.specs.Watching.{has_failed, writer_of, IsSent};
 ghost use Rattle.cron_checking.specs.declared.check.Outcome.TheVariants.{WriteFailed};
 
-use crate::line::{Mode, tell_line};
+use crate::line::{Telling, tell_line};
 use crate::line_reader::{Given, read_line};
 use crate::output::put;
 use crate::readable::Readable;
@@ -64,17 +64,17 @@ fn end_of(refused: bool) -> Outcome
 
 // Tells of one line, and whether it is refused; or why the check ends at it.
 fn tell_next<W: Watchable>(
-    mode: &Mode<'_>,
+    how: &Telling<'_>,
     number: u64,
     line: &[u8],
     text: &mut String,
     gathered: &mut Gathered,
     out: &mut Watched<W>,
 ) -> Result<bool, Outcome>
-    ensures { (put : List ℕ) × TellsNext mode.now number line.now result put (has_failed out.new)
+    ensures { (put : List ℕ) × TellsNext how.now number line.now result put (has_failed out.new)
         × Puts W.contents W.writes gathered.old out.old gathered.new out.new put }
 {
-    let Ok(told) = tell_line(mode, number, line, text) else {
+    let Ok(told) = tell_line(how, number, line, text) else {
         return Err(Outcome::OutOfMemory);
     };
     put(text.as_bytes(), gathered, out);
@@ -90,12 +90,12 @@ fn tell_next<W: Watchable>(
 // Tells of the lines that a reader gives, one after another, until one can't be told.
 fn tell_lines<R: Readable, W: Watchable>(
     alloc: Global,
-    mode: &Mode<'_>,
+    how: &Telling<'_>,
     reader: &mut R,
     gathered: &mut Gathered,
     out: &mut Watched<W>,
 ) -> Outcome
-    ensures tells { TellsAll mode.now (R.remaining reader.old, R.remaining reader.new)
+    ensures tells { TellsAll how.now (R.remaining reader.old, R.remaining reader.new)
         W.contents W.writes (gathered.old, out.old) (gathered.new, out.new) result }
     ensures reads { AreReads R.reads reader.old reader.new }
 {
@@ -109,7 +109,7 @@ fn tell_lines<R: Readable, W: Watchable>(
             Given::OutOfMemory => return Outcome::OutOfMemory,
             Given::Unreadable => return Outcome::Unreadable,
         };
-        match tell_next(mode, number, line.as_slice(), &mut text, gathered, out) {
+        match tell_next(how, number, line.as_slice(), &mut text, gathered, out) {
             Ok(bad) => refused |= bad,
             Err(end) => return end,
         }
@@ -152,19 +152,19 @@ pub(crate) fn finish<W: Watchable>(out: &mut Watched<W>, end: Outcome) -> Outcom
     end
 }
 
-/// Checks the lines that a reader gives, and writes what the mode tells of them. The lines of the
+/// Checks the lines that a reader gives, and writes what is told of them. The lines of the
 /// report are handed to the writer many at a time, and the rest of them at the end, before the
 /// flush. The reader is called once a line, and not again where it gave none or failed. The memory
 /// of the longest line and of the longest line of the report is kept from line to line. No call of
 /// the writer may have failed before.
 pub fn check<R: Readable, W: Watchable>(
     alloc: Global,
-    mode: &Mode<'_>,
+    how: &Telling<'_>,
     reader: &mut R,
     out: &mut Watched<W>,
 ) -> Outcome
     requires { has_failed out.old ≡ false }
-    ensures checks { Checks mode.now
+    ensures checks { Checks how.now
         (R.remaining reader.old) (R.remaining reader.new)
         (W.contents (writer_of out.old)) (W.contents (writer_of out.new)) result }
     ensures reads { AreReads R.reads reader.old reader.new }
@@ -173,7 +173,7 @@ pub fn check<R: Readable, W: Watchable>(
         (writer_of out.old) (has_failed out.old) (writer_of out.new) (has_failed out.new) }
 {
     let mut gathered = Gathered::new();
-    let end = tell_lines(alloc, mode, reader, &mut gathered, out);
+    let end = tell_lines(alloc, how, reader, &mut gathered, out);
     put(closing_line(end).as_bytes(), &mut gathered, out);
     gathered.send(out);
     finish(out, end)

@@ -6,7 +6,7 @@ pub mod check;
 pub mod laws;
 pub mod line;
 mod line_reader;
-mod output;
+pub mod output;
 pub mod readable;
 pub mod say;
 pub mod short;

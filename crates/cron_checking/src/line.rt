@@ -17,7 +17,7 @@ use jiff::tz::TimeZone;
 use std::alloc::AllocError;
 
 /// What is told of a line besides its fault.
-#[derive(Drop)]
+#[derive(Clone, Copy)]
 pub enum Mode<'a> {
     /// Nothing.
     Faults,
@@ -25,6 +25,15 @@ pub enum Mode<'a> {
     Short,
     /// The first fire after an instant in a zone, or `none`.
     Next(Timestamp, TimeZone<'a>),
+}
+
+/// How lines are told.
+#[derive(Drop)]
+pub struct Telling<'a> {
+    /// What stands in front of each line's number, as a file's name and a colon; or nothing.
+    pub front: &'a str,
+    /// What is told of a line besides its fault.
+    pub mode: Mode<'a>,
 }
 
 // White space alone, or a comment.
@@ -39,55 +48,63 @@ fn is_passed_over(line: &[u8]) -> bool
     true
 }
 
-fn tell_short(number: u64, fields: &ScheduleFields, text: &mut String) -> Result<(), AllocError>
+fn tell_short(
+    front: &str,
+    number: u64,
+    fields: &ScheduleFields,
+    text: &mut String,
+) -> Result<(), AllocError>
     requires { string_bytes text.old ≡ [] }
-    ensures { OnOk result (string_bytes text.new ≡ told number (sets_text fields.now)) }
+    ensures { OnOk result (string_bytes text.new ≡ told front.now number (sets_text fields.now)) }
 {
-    write!(text, "{number}: ")?;
+    write!(text, "{front}{number}: ")?;
     push_sets(text, fields)?;
     write!(text, "\n")
 }
 
 // Tells what a mode tells of an expression that means these sets.
 fn tell_sets(
-    mode: &Mode<'_>,
+    how: &Telling<'_>,
     number: u64,
     fields: &ScheduleFields,
     text: &mut String,
 ) -> Result<(), AllocError>
     requires { string_bytes text.old ≡ [] }
-    ensures { OnOk result (TellsSets mode.now number fields.now (string_bytes text.new)) }
+    ensures { OnOk result (TellsSets how.now.mode how.now.front.now number fields.now
+        (string_bytes text.new)) }
 {
-    match mode {
+    let front = how.front;
+    match &how.mode {
         Mode::Faults => Ok(()),
-        Mode::Short => tell_short(number, fields, text),
+        Mode::Short => tell_short(front, number, fields, text),
         Mode::Next(start, zone) => match first_after(fields, *start, zone) {
-            Some(first) => writeln!(text, "{number}: {first}"),
-            None => writeln!(text, "{number}: none"),
+            Some(first) => writeln!(text, "{front}{number}: {first}"),
+            None => writeln!(text, "{front}{number}: none"),
         },
     }
 }
 
 // Tells of a line of text.
 fn tell_text(
-    mode: &Mode<'_>,
+    how: &Telling<'_>,
     number: u64,
     line: &str,
     text: &mut String,
 ) -> Result<bool, AllocError>
     requires { string_bytes text.old ≡ [] }
-    ensures { IfOk result (TellsText mode.now number line.now (string_bytes text.new)) }
+    ensures { IfOk result (TellsText how.now number line.now (string_bytes text.new)) }
 {
     if is_passed_over(line.as_bytes()) {
         return Ok(false);
     }
     let mut fields = no_ordinals();
     if read_into(line, &mut fields) {
-        tell_sets(mode, number, &fields, text)?;
+        tell_sets(how, number, &fields, text)?;
         return Ok(false);
     }
+    let front = how.front;
     let fault = fault_of(line);
-    writeln!(text, "{number}: {fault}")?;
+    writeln!(text, "{front}{number}: {fault}")?;
     Ok(true)
 }
 
@@ -95,17 +112,18 @@ fn tell_text(
 /// Whether the line is refused is answered, `None` where it isn't UTF-8. The text is laid in memory
 /// whole, since a formatter may fail of itself, and no part of it is to be written then.
 pub(crate) fn tell_line(
-    mode: &Mode<'_>,
+    how: &Telling<'_>,
     number: u64,
     line: &[u8],
     text: &mut String,
 ) -> Result<Option<bool>, AllocError>
-    ensures { IfOk result (TellsBytes mode.now number line.now (string_bytes text.new)) }
+    ensures { IfOk result (TellsBytes how.now number line.now (string_bytes text.new)) }
 {
     text.clear();
     let Ok(line) = str::from_utf8(line) else {
-        writeln!(text, "{number}: not UTF-8")?;
+        let front = how.front;
+        writeln!(text, "{front}{number}: not UTF-8")?;
         return Ok(None);
     };
-    Ok(Some(tell_text(mode, number, line, text)?))
+    Ok(Some(tell_text(how, number, line, text)?))
 }

@@ -8,7 +8,7 @@ use cron_writer::watched::{Watched, send};
 
 /// Puts a text after those before it. One that is longer than what can be gathered is handed on by
 /// itself.
-pub(crate) fn put<W: Watchable>(text: &[u8], gathered: &mut Gathered, out: &mut Watched<W>)
+pub fn put<W: Watchable>(text: &[u8], gathered: &mut Gathered, out: &mut Watched<W>)
     ensures { Puts W.contents W.writes gathered.old out.old gathered.new out.new text.now }
 {
     if text.len() <= ROOM {

@@ -98,9 +98,9 @@ pub(crate) fn push_sets(text: &mut String, fields: &ScheduleFields) -> Result<()
     push_numbers(text, &fields.years)
 }
 
-/// The canonical text of a schedule: seven fields with one space between two. Each is a star, or its
-/// runs of numbers as `0-4,30`, with `L` last among the days of the month. It means the sets of the
-/// schedule, and two schedules have one canonical text exactly if their sets are the same.
+/// The canonical text of a schedule: seven fields with one space between two. Each is a star, or
+/// its runs of numbers as `0-4,30`, with `L` last among the days of the month. It means the sets of
+/// the schedule, and two schedules have one canonical text exactly if their sets are the same.
 /// `AllocError` comes where the allocator refuses memory for the text.
 pub fn canonical_text(alloc: Global, schedule: &Schedule) -> Result<String, AllocError>
     ensures text { IfOk result (λ text. string_bytes text ≡ sets_text schedule.now.sets) }

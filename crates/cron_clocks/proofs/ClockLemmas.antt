@@ -1,5 +1,5 @@
 -- What a clock of a rule shows in a second of UTC, from the transitions of its year.
-use Rattle.std.proofs.Common.{◌≡◌, inl, inr, cond, ℤ, pos, ◌+ℤ◌, ◌-ℤ◌, ◌*ℤ◌, ◌≤ℤ◌, ◌<ℤ◌, int_le, int_lt, to_z, of_z, w32, w64, FitsSigned, Option, Some, None, refl, sym, ap, ◌∙◌, arith}
+use Rattle.std.proofs.Common.{◌≡◌, ℕ, inl, inr, cond, ℤ, pos, ◌+ℤ◌, ◌-ℤ◌, ◌*ℤ◌, ◌≤ℤ◌, ◌<ℤ◌, int_le, int_lt, to_z, of_z, w32, w64, FitsSigned, Option, Some, None, refl, sym, ap, ◌∙◌, arith}
 use Rattle.std.proofs.lemmas.Int.{by_lt_z}
 use Rattle.std.specs.Int.{int_div_euclid}
 use Rattle.std.proofs.lemmas.Int.{ints}
@@ -13,7 +13,8 @@ use Rattle.jiff_tz.specs.declared.timezone.TimeZone.TheVariants.{Posix}
 use Rattle.jiff_tz.specs.PosixRule.{clamp_to, first_nanosecond, in_window, last_nanosecond, match_some, nanos_per_day, rule_day, rule_nanos}
 use Rattle.jiff_tz.specs.Year.{year_of_day, year_of_nanos}
 use Rattle.jiff_tz.specs.Zone.{offset_at}
-use Rattle.cron_clocks.specs.Spans.{AreTransitions, IsAtSecond, IsFarInside, IsTransition, year_end}
+use Rattle.cron_clocks.specs.Clocks.{IsKeptUpTo, IsShown}
+use Rattle.cron_clocks.specs.Spans.{AreTransitions, IsAtSecond, IsFarInside, IsTransition, IsUnparted, year_end}
 use Rattle.cron_clocks.specs.Transitions.{TransitionsAt, year_start}
 use Rattle.cron_clocks.proofs.RuleSeasons.{shows_by}
 use Rattle.cron_clocks.proofs.SpanLemmas.{fits_back}
@@ -106,6 +107,50 @@ shown_among rule d first last start end n some transitions start_far end_far low
     ∙ ap (λ w. cond w d.offset.seconds rule.std_offset.seconds)
     (window_at (start -ℤ rule.std_offset.seconds) (end -ℤ d.offset.seconds) t
     ∙ ap (λ k. in_window (start -ℤ rule.std_offset.seconds, end -ℤ d.offset.seconds) k) e)
+
+-- ---- and up to where
+
+beside : (transition first end n k : ℤ) → IsUnparted first end transition → first ≤ℤ n → n <ℤ end → first ≤ℤ k → k <ℤ end
+    → (int_le transition k ≡ int_le transition n) × (int_lt k transition ≡ int_lt n transition)
+beside transition first end n k (inl before) n_low n_high k_low k_high =
+    let past : transition ≤ℤ k = omega (arith, signed_arith) in
+    let n_past : transition ≤ℤ n = omega (arith, signed_arith) in
+    (le_yes _ _ past ∙ sym (le_yes _ _ n_past), lt_no _ _ past ∙ sym (lt_no _ _ n_past))
+beside transition first end n k (inr late) n_low n_high k_low k_high =
+    let short : k <ℤ transition = omega (arith, signed_arith) in
+    let n_short : n <ℤ transition = omega (arith, signed_arith) in
+    (le_no _ _ short ∙ sym (le_no _ _ n_short), lt_yes _ _ short ∙ sym (lt_yes _ _ n_short))
+
+in_window_alike : (start end first last n k : ℤ) → IsUnparted first last start → IsUnparted first last end → first ≤ℤ n → n <ℤ last
+    → first ≤ℤ k → k <ℤ last → in_window (start, end) k ≡ in_window (start, end) n
+in_window_alike start end first last n k one other n_low n_high k_low k_high =
+    let a = beside start first last n k one n_low n_high k_low k_high in
+    let b = beside end first last n k other n_low n_high k_low k_high in
+    rw (a.0, a.1, b.0, b.1) refl
+
+-- seconds with a number among them that isn't before a transition, or is, are on its side
+pub begins_past : (transition first end n : ℤ) → IsUnparted first end transition → transition ≤ℤ n → n <ℤ end → transition ≤ℤ first
+begins_past transition first end n (inl before) low high = before
+begins_past transition first end n (inr late) low high = absurd (omega (arith, signed_arith))
+
+pub ends_short : (transition first end n : ℤ) → IsUnparted first end transition → first ≤ℤ n → n <ℤ transition → end ≤ℤ transition
+ends_short transition first end n (inl before) low high = absurd (omega (arith, signed_arith))
+ends_short transition first end n (inr late) low high = late
+
+pub kept_among : (rule : TimeZone) (d : Dst) (first last start end n o from to : ℤ) (m : ℕ) → rule.dst ≡ Some d → AreTransitions d first last start end
+    → IsFarInside first last start → IsFarInside first last end → IsShown (Posix rule) n o → first ≤ℤ from → to ≤ℤ last → from ≤ℤ n → n <ℤ to
+    → pos m ≡ to → IsUnparted from to (start -ℤ rule.std_offset.seconds) → IsUnparted from to (end -ℤ d.offset.seconds) → IsKeptUpTo (Posix rule) n m o
+kept_among rule d first last start end n o from to m some transitions start_far end_far shown low high from_by before at one other = record {
+  later = omega (arith, signed_arith);
+  shown = λ k ge less.
+      let short : k <ℤ to = omega (arith, signed_arith) in
+      let window = in_window_alike (start -ℤ rule.std_offset.seconds) (end -ℤ d.offset.seconds) from to n k one other from_by before (omega (arith, signed_arith)) short in
+      let here = shown_among rule d first last start end n some transitions start_far end_far (omega (arith, signed_arith)) (omega (arith, signed_arith))
+      (nanos_of_seconds n) (omega (arith, signed_arith)) in
+      let there = shown_among rule d first last start end k some transitions start_far end_far (omega (arith, signed_arith)) (omega (arith, signed_arith))
+      (nanos_of_seconds k) (omega (arith, signed_arith)) in
+      there ∙ ap (λ w. cond w d.offset.seconds rule.std_offset.seconds) window ∙ sym here ∙ shown (nanos_of_seconds n) (omega (arith, signed_arith));
+}
 
 -- ---- a transition in UTC
 

@@ -6,18 +6,31 @@ ghost use Rattle.jiff_core.specs.Calendar.{IsWithin};
 ghost use Rattle.jiff_tz.specs.Zone.{offset_at};
 ghost use Rattle.jiff_tz.specs.declared.timezone.TimeZone.TheVariants.{Posix};
 ghost use Rattle.cron_moments.specs.Civil.{seconds_in_range};
-ghost use Rattle.cron_clocks.specs.Clocks.{IsKeptUpTo, IsShown};
+ghost use Rattle.cron_clocks.specs.Clocks.{IsKeptUpTo, IsShown, LookupsAgree};
 ghost use Rattle.cron_clocks.specs.Spans.{AreTransitions, IsFarInside};
 ghost use Rattle.cron_clocks.specs.Steady.{IsKnown};
+ghost use Rattle.cron_clocks.specs.Transitions.{TransitionsAreApart};
 
 use crate::offsets::Placed;
-use crate::rule::{Span, Transitions, between_transitions, saving_of, transitions_around};
+use crate::rule::{
+    Span, Transitions, WHOLE, between_transitions, part_twice, saving_of, transitions_around,
+};
 use crate::season::season_at;
 use crate::stretch::{Stretch, rule_stretch, season_stretch};
+use crate::transitions::transitions_apart;
 use cron_moments::civil::{FURTHEST_OFFSET, SECONDS};
 use jiff::Timestamp;
 use jiff::tz::{Offset, TimeZone};
 use jiff_tz::posix;
+
+/// An offset that a clock keeps up to an end, which is a second of UTC and left out.
+#[derive(Clone, Copy)]
+pub struct Kept {
+    /// How far the clock is ahead of UTC.
+    pub offset: Offset,
+    /// In seconds since 1970-01-01T00:00:00Z.
+    pub end: u32,
+}
 
 // Each clock is nearer to UTC, in seconds.
 const FAR: i64 = FURTHEST_OFFSET + 1;
@@ -59,7 +72,10 @@ fn offset_among(
         transitions.end }
     requires low { transitions.year.first ≤ℤ pos second }
     requires high { pos second <ℤ transitions.year.end }
-    ensures { IfSome result (λ o. IsShown (Posix rule) (pos second) o.seconds) }
+    ensures shown { IfSome result (λ o. IsShown (Posix rule) (pos second) o.seconds) }
+    ensures far { IfSome result (λ o.
+        IsFarInside transitions.year.first transitions.year.end transitions.start
+        × IsFarInside transitions.year.first transitions.year.end transitions.end) }
 {
     if !are_far_inside(transitions) {
         return None;
@@ -76,6 +92,37 @@ fn offset_among(
         rule.std_offset
     };
     Some(Offset::from_plain(shown))
+}
+
+// The offset that a clock shows in a second of UTC, and up to where it keeps it in that year, from
+// the transitions of the year.
+fn kept_among(
+    rule: posix::TimeZone,
+    dst: posix::Dst,
+    transitions: Transitions,
+    second: u32,
+) -> Option<Kept>
+    requires range { second < seconds_in_range }
+    requires saving { rule.dst ≡ Some dst }
+    requires transitions { AreTransitions dst
+        transitions.year.first
+        transitions.year.end
+        transitions.start
+        transitions.end }
+    requires low { transitions.year.first ≤ℤ pos second }
+    requires high { pos second <ℤ transitions.year.end }
+    ensures { IfSome result
+        (λ kept. IsKeptUpTo (Posix rule) (pos second) kept.end kept.offset.seconds) }
+{
+    let offset = offset_among(rule, dst, transitions, second)?;
+    let at = i64::from(second);
+    let start = transitions.start - i64::from(rule.std_offset.seconds);
+    let end = transitions.end - i64::from(dst.offset.seconds);
+    let in_year = part_twice(WHOLE, at, transitions.year.first, transitions.year.end);
+    Some(Kept {
+        offset,
+        end: part_twice(in_year, at, start, end).end as u32,
+    })
 }
 
 // The stretch becomes that of a civil second, if this is one of the year of the transitions.
@@ -190,19 +237,47 @@ fn offset_at(zone: &TimeZone<'_>, instant: Timestamp, second: i64, stretch: &mut
     }
 }
 
-/// An offset that a clock keeps up to an end, which is a second of UTC and left out.
-#[derive(Clone, Copy)]
-pub struct Kept {
-    /// How far the clock is ahead of UTC.
-    pub offset: Offset,
-    /// In seconds since 1970-01-01T00:00:00Z.
-    pub end: u32,
+// The same of a rule whose transitions lie apart.
+#[inline(never)]
+fn kept_around(rule: posix::TimeZone, dst: posix::Dst, second: u32) -> Option<Kept>
+    requires range { second < seconds_in_range }
+    requires saving { rule.dst ≡ Some dst }
+    ensures apart { IfSome result (λ kept. TransitionsAreApart dst) }
+    ensures kept { IfSome result
+        (λ kept. IsKeptUpTo (Posix rule) (pos second) kept.end kept.offset.seconds) }
+{
+    if !transitions_apart(dst) {
+        return None;
+    }
+    kept_among(rule, dst, transitions_around(dst, second), second)
 }
 
-/// The offset that a clock in a zone with a rule shows at a second of UTC, and up to where it keeps it, if the
-/// place of the second in its year tells it. That is some days before a transition at the latest.
-pub fn kept_in_season(zone: &TimeZone<'_>, second: i64) -> Option<Kept>
-    ensures { IfSome result
+// The same from the season of the second, or else from the transitions of its year.
+#[inline(always)]
+fn kept_from(rule: posix::TimeZone, dst: posix::Dst, second: u32) -> Option<Kept>
+    requires range { second < seconds_in_range }
+    requires saving { rule.dst ≡ Some dst }
+    ensures apart { IfSome result (λ kept. TransitionsAreApart dst) }
+    ensures kept { IfSome result
+        (λ kept. IsKeptUpTo (Posix rule) (pos second) kept.end kept.offset.seconds) }
+{
+    if let Some(season) = season_at(rule, dst, second) {
+        return Some(Kept {
+            offset: season.offset,
+            end: season.end,
+        });
+    }
+    kept_around(rule, dst, second)
+}
+
+/// The offset that a clock in a zone with a rule shows at a second of UTC, and up to where it keeps
+/// it, as far as the place of the second in its year tells it, or else that year's transitions. That
+/// is up to some days before a transition, up to a transition, or to the end of the year. `None`
+/// outside of the range, and for rules whose transitions lie near each other.
+#[inline(always)]
+pub fn kept_by_rule(zone: &TimeZone<'_>, second: i64) -> Option<Kept>
+    ensures agree { IfSome result (λ kept. LookupsAgree (plain_zone zone.now)) }
+    ensures kept { IfSome result
         (λ kept. IsKeptUpTo (plain_zone zone.now) second kept.end kept.offset.seconds) }
 {
     let jiff_tz::TimeZone::Posix(rule) = zone.to_plain() else {
@@ -212,11 +287,7 @@ pub fn kept_in_season(zone: &TimeZone<'_>, second: i64) -> Option<Kept>
     if second < 0 || second >= SECONDS {
         return None;
     }
-    let season = season_at(rule, dst, second as u32)?;
-    Some(Kept {
-        offset: season.offset,
-        end: season.end,
-    })
+    kept_from(rule, dst, second as u32)
 }
 
 /// The number of the civil second that a clock in the zone shows at an instant. Where the transitions of

@@ -1,6 +1,6 @@
 //! The civil seconds between the transitions of a rule.
 ghost use Rattle.std.specs.Prelude.{◌≡◌, ◌≤◌, ◌<◌, pos, neg_ℤ, ◌+ℤ◌, ◌-ℤ◌, ◌*ℤ◌, ◌≤ℤ◌, ◌<ℤ◌, IsTrue, Some, true};
-ghost use Rattle.jiff_core.specs.Calendar.{IsYear, IsBetween, IsWithin, days_in_year};
+ghost use Rattle.jiff_core.specs.Calendar.{IsYear, IsBetween, IsEpochDay, IsWithin, days_in_year};
 ghost use Rattle.jiff_core.specs.Date.{epoch_day};
 ghost use Rattle.jiff_core.specs.Timestamp.{nanos_of_seconds};
 ghost use Rattle.jiff_tz.specs.PosixDay.{is_rule_day};
@@ -43,56 +43,73 @@ pub(crate) const WHOLE: Span = Span {
 fn new_year(year: i16) -> i32
     requires { IsYear year }
     ensures value { result ≡ Rule.first_day year }
-    ensures bound { IsBetween (neg_ℤ (pos 4_371_587)) (pos 2_932_896) result }
+    ensures bound { IsEpochDay result }
 {
     Date::constrain(year, 1, 1).to_unix_epoch_day()
 }
 
-// The civil seconds of a year.
-fn year_span(year: i16) -> Span
-    requires { IsYear year }
+// The civil seconds of a year, which begins with this day.
+fn year_span(year: i16, new_year: i32) -> Span
+    requires year { IsYear year }
+    requires new_year { new_year ≡ Rule.first_day year }
+    requires bound { IsEpochDay new_year }
     ensures first { result.first ≡ Rule.first_day year *ℤ pos 86_400 }
     ensures end { result.end ≡ (Rule.first_day year +ℤ pos (days_in_year year)) *ℤ pos 86_400 }
     ensures low { IsWithin 400_000_000_000 result.first }
     ensures high { IsWithin 400_000_000_000 result.end }
 {
-    let first = i64::from(new_year(year));
+    let first = i64::from(new_year);
     Span {
         first: first * DAY,
         end: (first + i64::from(days_in_year(year))) * DAY,
     }
 }
 
-// The weekday, from 0 for Sunday.
-fn sunday_zero(date: Date) -> u8
-    ensures value { result ≡ sunday_number (epoch_day date) }
-    ensures bound { result < 7 }
+// The day number of a date, whose year begins with this day.
+fn number_of(date: Date, new_year: i32) -> i32
+    requires { new_year ≡ Rule.first_day date.year }
+    ensures value { result ≡ epoch_day date }
+    ensures bound { IsEpochDay result }
 {
-    date.weekday().to_sunday_zero_offset() as u8
+    new_year + i32::from(date.day_of_year()) - 1
 }
 
-// The day number of the weekday in the week of the month, where week 5 is the last.
-fn day_of_week(year: i16, month: u8, week: u8, weekday: u8) -> i32
+// The weekday of a day, from 0 for Sunday. Day 0 was a Thursday.
+fn sunday_zero(day: i32) -> u8
+    requires { IsEpochDay day }
+    ensures value { result ≡ sunday_number day }
+    ensures bound { result < 7 }
+{
+    (day + 4).rem_euclid(7) as u8
+}
+
+// The day number of the weekday in the week of the month, where week 5 is the last. The year begins
+// with this day.
+fn day_of_week(year: i16, new_year: i32, month: u8, week: u8, weekday: u8) -> i32
     requires year_in { IsYear year }
+    requires new_year { new_year ≡ Rule.first_day year }
     requires month_in { (1 ≤ month) × (month ≤ 12) }
     requires week_in { (1 ≤ week) × (week ≤ 5) }
     requires weekday_in { weekday ≤ 6 }
     ensures { result ≡ weekday_of_month year month week weekday }
 {
     if week == 5 {
-        let last = Date::constrain(year, month, 31);
+        let last = number_of(Date::constrain(year, month, 31), new_year);
         let back = (sunday_zero(last) + 7 - weekday) % 7;
-        last.to_unix_epoch_day() - i32::from(back)
+        last - i32::from(back)
     } else {
-        let first = Date::constrain(year, month, 1);
+        let first = number_of(Date::constrain(year, month, 1), new_year);
         let ahead = (weekday + 7 - sunday_zero(first)) % 7;
-        first.to_unix_epoch_day() + i32::from(ahead) + 7 * (i32::from(week) - 1)
+        first + i32::from(ahead) + 7 * (i32::from(week) - 1)
     }
 }
 
-// The number of the rule's day in the year, and nothing for day 365 of a year that lacks it.
-fn day_in(day: Day, year: i16) -> Option<i32>
+// The number of the rule's day in the year, which begins with this day, and nothing for day 365 of
+// a year that lacks it.
+fn day_in(day: Day, year: i16, new_year: i32) -> Option<i32>
     requires year_in { IsYear year }
+    requires new_year { new_year ≡ Rule.first_day year }
+    requires bound { IsEpochDay new_year }
     requires day_in { is_rule_day day ≡ true }
     ensures { result ≡ rule_day year day }
 {
@@ -103,19 +120,19 @@ fn day_in(day: Day, year: i16) -> Option<i32>
             } else {
                 0
             };
-            Some(new_year(year) + i32::from(number - 1 + leap_day))
+            Some(new_year + i32::from(number - 1 + leap_day))
         }
         Day::JulianZero(number) => {
             if number >= days_in_year(year) {
                 return None;
             }
-            Some(new_year(year) + i32::from(number))
+            Some(new_year + i32::from(number))
         }
         Day::WeekdayOfMonth {
             month,
             week,
             weekday,
-        } => Some(day_of_week(year, month, week, weekday)),
+        } => Some(day_of_week(year, new_year, month, week, weekday)),
     }
 }
 
@@ -147,9 +164,12 @@ fn second_of(day: i32, time: i32) -> i64
     i64::from(day) * DAY + i64::from(time)
 }
 
-// The civil second at which a rule's transition lies in the year, on the clock before it.
-fn transition_in(transition: DayTime, year: i16, span: Span) -> i64
+// The civil second at which a rule's transition lies in the year, which begins with this day, on
+// the clock before the transition.
+fn transition_in(transition: DayTime, year: i16, new_year: i32, span: Span) -> i64
     requires year { IsYear year }
+    requires new_year { new_year ≡ Rule.first_day year }
+    requires bound { IsEpochDay new_year }
     requires first { span.first ≡ Rule.first_day year *ℤ pos 86_400 }
     requires end { span.end ≡ year_end year }
     requires low { IsWithin 400_000_000_000 span.first }
@@ -157,7 +177,7 @@ fn transition_in(transition: DayTime, year: i16, span: Span) -> i64
     ensures transition { IsTransition transition year result }
     ensures bound { IsWithin 400_000_000_000 result }
 {
-    match day_in(transition.date, year) {
+    match day_in(transition.date, year, new_year) {
         Some(day) => clamp_to_span(span, second_of(day, transition.time)),
         None => span.end,
     }
@@ -187,11 +207,12 @@ fn transitions_of(dst: Dst, number: i16) -> Transitions
     ensures first { result.year.first ≡ Rule.first_day number *ℤ pos 86_400 }
     ensures end { result.year.end ≡ year_end number }
 {
-    let year = year_span(number);
+    let first = new_year(number);
+    let year = year_span(number, first);
     Transitions {
         year,
-        start: transition_in(dst.rule.start, number, year),
-        end: transition_in(dst.rule.end, number, year),
+        start: transition_in(dst.rule.start, number, first, year),
+        end: transition_in(dst.rule.end, number, first, year),
     }
 }
 

@@ -11,6 +11,7 @@ ghost use Rattle.cron_moments.specs.Civil.{civil, seconds_in_range};
 ghost use Rattle.cron_clocks.specs.Seasons.{AreInOrder, AreOrdered, IsSeasonBounds, IsSeason, IsYearOf};
 ghost use Rattle.cron_clocks.specs.Spans.{IsNarrowed, IsToldAlike};
 ghost use Rattle.cron_clocks.specs.Steady.{IsToldBy};
+ghost use Rattle.cron_clocks.specs.Transitions.{TransitionsAreApart};
 
 use crate::rule::{Span, SpanOffsets, WHOLE, between_transitions, transitions_around};
 use crate::transitions::{SecondsOfYear, is_week_before, is_week_inside, seconds_of};
@@ -93,7 +94,8 @@ fn season_bounds_among(
 // The bounds of a year's seasons by a rule whose transitions lie apart.
 fn season_bounds_of(rule: TimeZone, dst: Dst) -> Option<SeasonBounds>
     requires { rule.dst ≡ Some dst }
-    ensures { IfSome result
+    ensures apart { IfSome result (λ c. TransitionsAreApart dst) }
+    ensures bounds { IfSome result
         (λ c. IsSeasonBounds rule
         c.outer_end
         c.inner_first
@@ -174,7 +176,8 @@ fn season_among(season_bounds: SeasonBounds, year_start: u32, second: u32) -> Op
 pub(crate) fn season_at(rule: TimeZone, dst: Dst, second: u32) -> Option<Season>
     requires range { second < seconds_in_range }
     requires saving { rule.dst ≡ Some dst }
-    ensures { IfSome result (λ s. IsSeason rule second s.first s.end s.offset) }
+    ensures apart { IfSome result (λ s. TransitionsAreApart dst) }
+    ensures season { IfSome result (λ s. IsSeason rule second s.first s.end s.offset) }
 {
     let season_bounds = season_bounds_of(rule, dst)?;
     season_among(season_bounds, year_start_of(second), second)

@@ -1,30 +1,39 @@
 -- On the way to the due instant of a civil second.
-use Rattle.std.proofs.Common.{◌≡◌, ℕ, ◌<◌, ◌≤◌, false, true, ℤ, pos, ◌+ℤ◌, ◌-ℤ◌, ◌≤ℤ◌, ◌<ℤ◌, unsigned_abs, refl, ap, ◌⊎◌, inl, inr, arith}
+use Rattle.std.proofs.Common.{◌≡◌, ℕ, ◌<◌, ◌≤◌, false, true, ℤ, pos, ◌+ℤ◌, ◌-ℤ◌, ◌≤ℤ◌, ◌<ℤ◌, unsigned_abs, refl, ap, ◌∙◌, ◌⊎◌, inl, inr, arith}
 use Rattle.std.proofs.lemmas.Int.{by_lt_z}
 use Rattle.jiff_core.proofs.SignedLemmas.{signed_arith}
 use Rattle.cron_clocks.proofs.TableLemmas.{same_offset}
 use Rattle.cron_instants.proofs.FireLemmas.{int_le-true, int_le-false}
 use Rattle.cron_dues.specs.Clock.Due.{Clock, IsDueAt, shows, due, due_instant, parts}
 use Rattle.cron_dues.specs.Inner.Steady.{IsKept}
-use Rattle.cron_dues.specs.Inner.Reached.{IsAhead, IsOnTheWay, ends_before, left_until}
+use Rattle.cron_dues.specs.Inner.Reached.{IsAhead, IsOnTheWay, IsUnreachedBefore, ends_before, left_until}
 use Rattle.cron_dues.specs.declared.steady.Steady.{Steady}
 use Rattle.cron_dues.proofs.DueLemmas.{as_natural, clock_near, due_is, due_once}
 
--- it begins before the civil second can be due
-pub way_from : (clock : Clock) (c : ℕ) (from : ℤ) (steady : Steady) → from ≡ pos c -ℤ pos 93_599 → IsKept clock from steady.end steady.offset.seconds
-    → from <ℤ steady.end → IsOnTheWay clock c from steady
-way_from clock c from steady e kept later = record {
-  unreached = λ m less. let near = clock_near clock m in omega (arith, signed_arith, near.1);
-  low = omega (arith, signed_arith);
-  high = omega (arith, signed_arith);
-  kept = kept;
-  later = later;
-}
+-- a clock is nearer to UTC than so many seconds
+pub unreached_early : (clock : Clock) (c : ℕ) (start : ℤ) → start ≡ pos c -ℤ pos 93_599 → IsUnreachedBefore clock c start
+unreached_early clock c start e = λ m less. let near = clock_near clock m in omega (arith, signed_arith, near.1)
 
 pub shown_in : (clock : Clock) (n end o k : ℤ) → IsKept clock n end o → n ≤ℤ k → k <ℤ end → shows clock k ≡ k +ℤ o
 shown_in clock n end o k kept low high = ap (λ (x : ℤ). k +ℤ x) (kept k low high)
 
--- and goes on at the end
+-- where the clock comes to the end before it shows the civil second, that isn't reached before the end
+pub unreached_on : (clock : Clock) (c : ℕ) (from : ℤ) (steady : Steady) → IsUnreachedBefore clock c from → IsKept clock from steady.end steady.offset.seconds
+    → ends_before steady c ≡ true → IsUnreachedBefore clock c steady.end
+unreached_on clock c from steady unreached kept ends =
+    let early = int_le-true (steady.end +ℤ steady.offset.seconds) (pos c) ends in
+    λ m less.
+    by_lt_z m from (unreached m)
+    (λ ge. let shown = shown_in clock from steady.end steady.offset.seconds m kept ge less in omega (arith, signed_arith))
+
+-- nor before the later one of two such instants
+pub unreached_later : (clock : Clock) (c : ℕ) (from : ℤ) (steady : Steady) (start one other : ℤ) → IsAhead clock c from steady → ends_before steady c ≡ true
+    → one ≡ pos c -ℤ pos 93_599 → other ≡ steady.end → (start ≡ one) ⊎ (start ≡ other) → IsUnreachedBefore clock c start
+unreached_later clock c from steady start one other ahead ends early late (inl e) = unreached_early clock c start (e ∙ early)
+unreached_later clock c from steady start one other ahead ends early late (inr e) =
+    λ m less. unreached_on clock c from steady ahead.unreached ahead.kept ends m (omega (arith, signed_arith))
+
+-- the way goes on at the end
 pub way_on : (clock : Clock) (c : ℕ) (from : ℤ) (steady next : Steady) → IsOnTheWay clock c from steady → ends_before steady c ≡ true
     → IsKept clock steady.end next.end next.offset.seconds → steady.end <ℤ next.end → IsOnTheWay clock c steady.end next
 way_on clock c from steady next way ends kept later =
@@ -33,9 +42,7 @@ way_on clock c from steady next way ends kept later =
     let before = way.later in
     let near = steady.offset.in_range in
     record {
-      unreached = λ m less.
-          by_lt_z m from (way.unreached m)
-          (λ ge. let shown = shown_in clock from steady.end steady.offset.seconds m way.kept ge less in omega (arith, signed_arith));
+      unreached = unreached_on clock c from steady way.unreached way.kept ends;
       low = omega (arith, signed_arith);
       high = omega (arith, signed_arith, near.0);
       kept = kept;

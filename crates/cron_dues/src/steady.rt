@@ -10,7 +10,7 @@ ghost use Rattle.cron_dues.specs.Clock.Due.{zone_clock};
 ghost use Rattle.cron_dues.specs.Inner.Steady.{IsKept, IsOneYear, IsShortOf};
 
 use crate::numbers::lesser;
-use cron_clocks::clock::kept_in_season;
+use cron_clocks::clock::kept_by_rule;
 use cron_moments::civil::{SECONDS, SECONDS_PER_DAY};
 use jiff::Timestamp;
 use jiff::tz::{Offset, TimeZone};
@@ -143,7 +143,7 @@ pub(crate) fn steady_in(zone: &TimeZone<'_>, second: i64) -> Steady
     if let Some(offset) = only_offset(zone) {
         return Steady { offset, end: NEVER };
     }
-    match kept_in_season(zone, second) {
+    match kept_by_rule(zone, second) {
         Some(kept) => Steady {
             offset: kept.offset,
             end: i64::from(kept.end),

@@ -1,12 +1,13 @@
 //! When a civil second is due.
-ghost use Rattle.std.specs.Prelude.{◌≡◌, ◌⊎◌, ◌<◌, ◌-ℤ◌, ◌≤ℤ◌, neg_ℤ, pos, false, IfSome};
+ghost use Rattle.std.specs.Prelude.{◌≡◌, ◌⊎◌, ◌<◌, ◌+ℤ◌, ◌-ℤ◌, ◌≤ℤ◌, neg_ℤ, pos, false, IfSome};
 ghost use Rattle.jiff_core.specs.Calendar.{IsBetween};
 ghost use Rattle.cron_moments.specs.Civil.{seconds_in_range};
 ghost use Rattle.cron_dues.specs.Clock.Due.{due};
-ghost use Rattle.cron_dues.specs.Inner.Reached.{IsAhead, ends_before};
+ghost use Rattle.cron_dues.specs.Inner.Reached.{IsAhead, IsUnreachedBefore, ends_before};
 
 use crate::clock::Clock;
 use crate::fire::{DueFire, due_fire};
+use crate::numbers::greater;
 use crate::steady::{DueSpan, Steady};
 use cron_moments::civil::FURTHEST_OFFSET;
 
@@ -43,14 +44,17 @@ fn fire_in<C: Clock>(_clock: &C, second: u32, span: &DueSpan) -> DueFire
     due_fire(second, past, span.steady.offset)
 }
 
-/// The instants among which a civil second is due.
+// The instants among which a civil second is due, which isn't shown before this one.
 #[inline(never)]
-pub(crate) fn span_of<C: Clock>(clock: &C, second: u32) -> DueSpan
-    requires { second < seconds_in_range }
+fn span_from<C: Clock>(clock: &C, second: u32, start: i64) -> DueSpan
+    requires range { second < seconds_in_range }
+    requires unreached { IsUnreachedBefore (C.offsets clock.now) second start }
+    requires low { (pos second -ℤ pos 93_599) ≤ℤ start }
+    requires high { start ≤ℤ (pos second +ℤ pos 93_599) }
     ensures ahead { IsAhead (C.offsets clock.now) second result.from result.steady }
     ensures shown { ends_before result.steady second ≡ false }
 {
-    let mut from = i64::from(second) - FURTHEST_OFFSET;
+    let mut from = start;
     let mut steady = clock.steady_from(from);
     while ends_before(&steady, second) {
         from = steady.end;
@@ -59,7 +63,16 @@ pub(crate) fn span_of<C: Clock>(clock: &C, second: u32) -> DueSpan
     DueSpan { from, steady }
 }
 
-/// The same of a civil second that isn't shown before those of an earlier one.
+/// The instants among which a civil second is due.
+pub(crate) fn span_of<C: Clock>(clock: &C, second: u32) -> DueSpan
+    requires { second < seconds_in_range }
+    ensures ahead { IsAhead (C.offsets clock.now) second result.from result.steady }
+    ensures shown { ends_before result.steady second ≡ false }
+{
+    span_from(clock, second, i64::from(second) - FURTHEST_OFFSET)
+}
+
+// The same of a civil second that isn't shown before those of an earlier one.
 #[inline(always)]
 fn span_past<C: Clock>(clock: &C, second: u32, earlier: DueSpan) -> DueSpan
     requires range { second < seconds_in_range }
@@ -67,10 +80,11 @@ fn span_past<C: Clock>(clock: &C, second: u32, earlier: DueSpan) -> DueSpan
     ensures ahead { IsAhead (C.offsets clock.now) second result.from result.steady }
     ensures shown { ends_before result.steady second ≡ false }
 {
-    if ends_before(&earlier.steady, second) {
-        return span_of(clock, second);
+    if !ends_before(&earlier.steady, second) {
+        return earlier;
     }
-    earlier
+    let start = i64::from(second) - FURTHEST_OFFSET;
+    span_from(clock, second, greater(start, earlier.steady.end))
 }
 
 /// The due fire of a civil second, and the instants among which it is due. Those of an earlier one,

@@ -12,3 +12,4 @@ pub mod TransitionLemmas
 pub mod OffsetRangeLemmas
 pub mod TableOffsetRange
 pub mod OrderedLemmas
+pub mod ShownLemmas

@@ -2,3 +2,4 @@ pub mod Beyond
 pub mod Monotone
 pub mod Left
 pub mod OffsetRange
+pub mod Shown

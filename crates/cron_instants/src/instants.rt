@@ -5,6 +5,7 @@ ghost use Rattle.cron_instants.specs.Instants.{IsFirstAfter, IsFirstPast, IsLast
 use crate::first::first_item;
 use crate::mark::Mark;
 use crate::nearest::nearest_item;
+use crate::shown::first_shown;
 use cron_clocks::clock::shown_at;
 use cron_clocks::stretch::Stretch;
 use cron_moments::moment::{Moment, civil_second};
@@ -17,9 +18,13 @@ use jiff::tz::TimeZone;
 pub fn first_after(fields: &ScheduleFields, now: Timestamp, zone: &TimeZone<'_>) -> Option<Moment>
     ensures { IsFirstAfter fields.now (plain_zone zone.now) now.nanosecond result }
 {
+    let mark = Mark::behind(now);
+    if let Some(first) = first_shown(fields, zone, mark) {
+        return first;
+    }
     let mut stretch = Stretch::empty();
     let shown = shown_at(zone, now, &mut stretch);
-    first_item(fields, zone, Mark::behind(now), shown, &stretch)
+    first_item(fields, zone, mark, shown, &stretch)
 }
 
 /// The earliest fire that is later than this one. `None` where there is none. The one that is

@@ -12,3 +12,4 @@ mod monotone;
 mod nearest;
 mod offset_range;
 pub mod run;
+mod shown;

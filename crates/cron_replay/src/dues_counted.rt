@@ -3,8 +3,8 @@
 //! of them in order.
 //!
 //! The numbers were made as the answers of `dues_between.txt`. São Paulo stands by the rule that it
-//! had in 2018. The last two rows are of fixed times, which Debian's cron, cronie and bcron run once
-//! on each day of the year.
+//! had in 2018. The last two rows are of fixed times, which Debian's cron, cronie and bcron run
+//! once on each day of the year.
 
 use crate::report::{Report, Row, cut};
 use crate::settings::{Setting, case_of, setting_of, start_at};

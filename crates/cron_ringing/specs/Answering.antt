@@ -19,7 +19,7 @@ code_of Rung = 0
 code_of BadArguments = 2
 
 abbrev pub usage_line : List ℕ
-usage_line = codes "usage: cron_alarm EXPRESSION ZONE COUNT [--once]" ++ 10 ∷ []
+usage_line = codes "usage: EXPRESSION ZONE COUNT [--once]" ++ 10 ∷ []
 
 -- what is answered once a request was rung at, and once the usage line was printed
 abbrev pub rung : {E : Type 0} → Result ⊤ (Failure E) → Result Status (Failure E)

@@ -13,7 +13,7 @@ use cron_scheduler::{AlarmClock, Stop};
 use cron_writer::watchable::Watchable;
 use std::alloc::Global;
 
-const USAGE: &str = "usage: cron_alarm EXPRESSION ZONE COUNT [--once]\n";
+const USAGE: &str = "usage: EXPRESSION ZONE COUNT [--once]\n";
 
 /// How an invocation ended in which nothing failed.
 #[derive(Clone, Copy, Debug, PartialEq, Eq)]

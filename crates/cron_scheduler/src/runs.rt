@@ -36,14 +36,15 @@ fn run_due<F: Fire, J: Job<F>>(
 }
 
 impl<F: Fire> Plan<'_, F> {
-    /// Runs the job for the fires of the plan, each once, in order, and none before its instant. It waits for
-    /// the fire that comes next, reads the clock, runs all that is due by then, and again. The job must be
-    /// one that may be called (`can_run`), as a closure without a condition of its own is. Where the clock goes
-    /// back, nothing is run again: what was run is left out for good, and the next fire waits.
+    /// Runs the job for the fires of the plan, each once, in order, and none before its instant. It
+    /// waits for the fire that comes next, reads the clock, runs all that is due by then, and
+    /// again. The job must be one that may be called (`can_run`), as a closure without a condition
+    /// of its own is. Where the clock goes back, nothing is run again: what was run is left out for
+    /// good, and the next fire waits.
     ///
-    /// It ends when all of the fires were run, and where the clock or the job fails. Where the clock
-    /// fails, all was run that was due by the greatest time it had shown. Else it goes on for as long
-    /// as the schedule fires, up to 2^64 - 1 readings of the clock.
+    /// It ends when all of the fires were run, and where the clock or the job fails. Where the
+    /// clock fails, all was run that was due by the greatest time it had shown. Else it goes on for
+    /// as long as the schedule fires, up to 2^64 - 1 readings of the clock.
     pub fn run<C: AlarmClock, J: Job<F>>(
         &self,
         clock: &mut C,

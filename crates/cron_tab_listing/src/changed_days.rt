@@ -1,4 +1,4 @@
-//! The days on which a change of the clock skips a fixed time of an entry, or doubles it.
+//! The days on which a transition skips a fixed time of an entry, or doubles it.
 
 ghost use Rattle.std.specs.Prelude.{◌≡◌, ◌<◌, ◌≤◌, ◌+◌, ◌*◌, ◌↔◌, ◌++◌, ◌∷◌, [], ℕ, IsTrue, OnErr, OnOk, true, vec_capacity, vec_len};
 ghost use Rattle.jiff.specs.Words.{plain_zone};
@@ -27,9 +27,10 @@ use std::alloc::AllocError;
 /// How many days are looked at: two years.
 const DAYS_AHEAD: u32 = 731;
 
-/// A civil day on which a change of the clock skips a fixed time of an entry, or doubles it.
+/// A civil day on which a transition skips a fixed time of an entry, or doubles it.
 #[derive(Clone, Copy, Debug, PartialEq, Eq)]
 pub struct ChangedDay {
+    /// The day, from 1970 to 2100.
     pub date: Date,
     /// The clock passes over a time of it.
     pub skipped: bool,
@@ -230,7 +231,7 @@ fn first_day(zone: &TimeZone<'_>, start: Timestamp) -> u32
     day as u32
 }
 
-/// Puts the days on which a change of the clock skips a fixed time of a line's entry, or doubles
+/// Puts the days on which a transition skips a fixed time of a line's entry, or doubles
 /// it, behind others: of 731 days, from the one that a clock in the zone shows at an instant on, up
 /// to the end of 2100. An entry that follows the clock has none, nor has a line that is no entry.
 /// Where memory runs out, those before one of the days were put there.

@@ -1,4 +1,4 @@
-//! The days on which a change of the clock skips a fixed time of a line, or doubles it.
+//! The days on which a transition skips a fixed time of a line, or doubles it.
 
 use anyhow::{Context, Result};
 use cron_tab_lines::{Crontab, Lines};

@@ -1,8 +1,8 @@
 //! Replays `data/`: crontabs, and the fires of their entries by each rule, over two days around a
-//! change of the clock and over two years; what real crons do where a clock changes; and the days
-//! on which a change skips a fixed time or doubles it. The rows were counted apart, by scans of
-//! minutes. It prints each answer that isn't the one of its row, and how many rows there are. Where
-//! an answer differs, it ends with a status other than 0.
+//! transition and over two years; what real crons do where a clock changes; and the days on which a
+//! transition skips a fixed time or doubles it. The rows were counted apart, by scans of minutes.
+//! It prints each answer that isn't the one of its row, and how many rows there are. Where an
+//! answer differs, it ends with a status other than 0.
 #![tactic(auto)]
 
 mod changes;

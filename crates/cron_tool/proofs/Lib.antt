@@ -1,1 +1,5 @@
 pub mod RowLemmas
+pub mod CheckLemmas
+pub mod StampLemmas
+pub mod LatenessLemmas
+pub mod TabLemmas

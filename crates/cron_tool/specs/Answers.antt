@@ -8,7 +8,7 @@ use Rattle.cron_zones.specs.Opening.{Opens}
 use Rattle.cron_zones.specs.Zones.{IsTimeZone}
 use Rattle.cron_zones.specs.declared.open.Places.{Places}
 use Rattle.cron_zones.specs.declared.zone.Zone.{Zone}
-use Rattle.cron_tool.specs.Expressions.{changes_by, schedules_of, IsRead, IsRefused}
+use Rattle.cron_tool.specs.Expressions.{changes_by, schedules_of, IsReadAs, IsRefusedAs}
 use Rattle.cron_tool.specs.Fires.{rows_by}
 use Rattle.cron_tool.specs.Instants.{IsInstant}
 use Rattle.cron_tool.specs.Statuses.{Ends}
@@ -55,7 +55,7 @@ pub record IsOpened {F : Type 0} (g : Given F) (r : Request) (old : F) (z : Time
 -- What is asked for was listed, by the expression, the zone and the instants that the words tell.
 pub record Lists {F : Type 0} (g : Given F) (r : Request) (old new : F) (was is : Option (List ℕ)) (status : Status) : Type 0 where
   pub expression : Expression
-  pub reads : IsRead r.expression.now expression
+  pub reads : IsReadAs r.quartz r.expression.now expression
   pub zone : TimeZone
   pub opened : IsOpened g r old zone new
   pub asked : Asked
@@ -64,11 +64,11 @@ pub record Lists {F : Type 0} (g : Given F) (r : Request) (old new : F) (was is 
 
 -- Why it can't be: the first of the expression, the zone and the instants that isn't so.
 abbrev pub IsTrouble : {F : Type 0} → Given F → Request → F → F → Trouble → Type 0
-IsTrouble g r old new (trouble.Expression text refusal) = (text.now ≡ r.expression.now) × IsRefused r.expression.now refusal × (new ≡ old)
+IsTrouble g r old new (trouble.Expression text refusal) = (text.now ≡ r.expression.now) × IsRefusedAs r.quartz r.expression.now refusal × (new ≡ old)
 IsTrouble g r old new (trouble.Zone text error) =
-    (text.now ≡ r.zone.now) × ((e : Expression) × IsRead r.expression.now e) × Opens g.reads r.zone.now g.places old (Err error) new
+    (text.now ≡ r.zone.now) × ((e : Expression) × IsReadAs r.quartz r.expression.now e) × Opens g.reads r.zone.now g.places old (Err error) new
 IsTrouble g r old new (trouble.Instant text) =
-    ((e : Expression) × IsRead r.expression.now e) × ((z : TimeZone) × IsOpened g r old z new × IsNoInstant r.which z g.now text.now)
+    ((e : Expression) × IsReadAs r.quartz r.expression.now e) × ((z : TimeZone) × IsOpened g r old z new × IsNoInstant r.which z g.now text.now)
 
 -- The fires were listed, and nothing was complained of; or a complaint was written, and nothing else.
 abbrev pub Answers : {F W C : Type 0} → Given F → Request → (W → Option (List ℕ)) → (C → Option (List ℕ)) → F × W × C → Status → F × W × C → Type 0

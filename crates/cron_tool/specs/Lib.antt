@@ -6,3 +6,16 @@ pub mod Fires
 pub mod Instants
 pub mod Troubles
 pub mod Answers
+pub mod Checks
+pub mod TabRows
+pub mod TabFiles
+pub mod Inner
+pub mod Pairs
+pub mod Subjects
+pub mod Lateness
+pub mod LateAnswers
+pub mod Stamps
+pub mod Notices
+pub mod Pendings
+pub mod DueAnswers
+pub mod DoneAnswers

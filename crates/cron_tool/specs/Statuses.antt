@@ -1,5 +1,5 @@
 -- How a subcommand ends.
-use Rattle.std.specs.Prelude.{◌≡◌, ◌⊎◌, ℕ, Bool, true, false, List, Option}
+use Rattle.std.specs.Prelude.{◌≡◌, ◌⊎◌, ℕ, Bool, true, false, List, Option, nat_lt, if◌then◌else◌}
 use Rattle.std.specs.Io.KnownBytes.{Appends}
 use Rattle.cron_writer.specs.Watching.{IsFrontSent}
 use Rattle.cron_tool.specs.declared.status.Status.{Status}
@@ -12,6 +12,10 @@ code_of No = 1
 code_of WrongWords = 2
 code_of WriteFailed = 3
 code_of Unreadable = 4
+
+-- of two ends the one whose exit status is greater
+abbrev pub worse : Status → Status → Status
+worse a b = if nat_lt (code_of a) (code_of b) then b else a
 
 abbrev pub is_write_failure : Status → Bool
 is_write_failure WriteFailed = true

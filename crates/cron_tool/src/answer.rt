@@ -5,7 +5,7 @@ ghost use Rattle.jiff.specs.Words.{plain_zone};
 ghost use Rattle.cron_writer.specs.Watching.{has_failed, writer_of};
 ghost use Rattle.cron_tool.specs.Answers.{given, Answers, IsAsked, IsNoInstant};
 
-use crate::expression::read;
+use crate::expression::read_as;
 use crate::fires::{Asked, list};
 use crate::instant::instant_of;
 use crate::row::Form;
@@ -34,6 +34,8 @@ pub enum Which<'a> {
 pub struct Request<'a> {
     /// EXPRESSION.
     pub expression: &'a str,
+    /// Whether it is one of Quartz.
+    pub quartz: bool,
     /// ZONE.
     pub zone: &'a str,
     /// Which fires.
@@ -85,7 +87,7 @@ pub fn answer<F: ZoneFiles, W: Watchable, C: Watchable>(
         (λ w. W.contents (writer_of w)) (λ w. C.contents (writer_of w))
         (files.old, out.old, complaints.old) result (files.new, out.new, complaints.new) }
 {
-    let expression = match read(request.expression) {
+    let expression = match read_as(request.quartz, request.expression) {
         Ok(expression) => expression,
         Err(refusal) => {
             return tell(

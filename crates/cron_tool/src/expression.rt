@@ -1,14 +1,16 @@
-//! Expressions: five fields or a nickname are a crontab's, six or seven fields this library's.
+//! Expressions: five fields or a nickname are a crontab's, six or seven fields this library's, or
+//! Quartz's where that is asked for.
 
 ghost use Rattle.std.specs.Prelude.{◌≡◌, ◌≤◌, length, MatchResult};
 ghost use Rattle.cron_crontab.specs.Crontab.{Refuses};
 ghost use Rattle.cron_crontab.specs.Views.{fault_view};
-ghost use Rattle.cron_tool.specs.Expressions.{changes_by, clock_changes, IsRead, IsRefused, schedules_of};
+ghost use Rattle.cron_tool.specs.Expressions.{changes_by, clock_changes, IsRead, IsReadAs, IsRefused, IsRefusedAs, schedules_of};
 
 use crate::refusal::Refusal;
 use crate::words::has_words;
 use cron_crontab::{Expression as TabExpression, Fault, Schedules, read as read_tab};
 use cron_fires::ClockChanges;
+use cron_quartz::{Expression as Union, read as read_quartz};
 use cron_tab_warnings::follows_clock;
 use cron_text::{fault_of, no_ordinals, read_into};
 use cron_units::fields::ScheduleFields;
@@ -25,18 +27,21 @@ pub enum Expression {
     Reboot,
     /// This library's.
     Own([ScheduleFields; 1]),
+    /// Quartz's: up to twelve schedules, of which one suffices.
+    Quartz(Union),
 }
 
 impl Expression {
     /// Its schedules. It fires when any of them does; `@reboot` has none.
     pub fn as_slice(&self) -> &[ScheduleFields]
         ensures list { result.now ≡ schedules_of self.now }
-        ensures few { length result.now ≤ 2 }
+        ensures few { length result.now ≤ 12 }
     {
         match self {
             Expression::Crontab(schedules, _) => schedules.as_slice(),
             Expression::Reboot => &[],
             Expression::Own(one) => one,
+            Expression::Quartz(union) => union.as_slice(),
         }
     }
 
@@ -79,9 +84,9 @@ fn read_own<'a>(text: &'a str, fault: Fault<'a>) -> Result<Expression, Refusal<'
     Err(Refusal::Crontab(fault))
 }
 
-/// Reads an expression. A text that both kinds have is a crontab's, by its clock: such are the
-/// nicknames alone. Another text is refused with a crontab's fault where it has fewer than six
-/// words, else with this library's.
+/// Reads an expression. A text that both kinds have is a crontab's, by its clock, as a nickname is.
+/// A text of neither is refused with a crontab's fault where it has fewer than six words, else with
+/// this library's.
 pub fn read(text: &str) -> Result<Expression, Refusal<'_>>
     ensures { MatchResult result (IsRead text.now) (IsRefused text.now) }
 {
@@ -92,5 +97,18 @@ pub fn read(text: &str) -> Result<Expression, Refusal<'_>>
         }
         Ok(TabExpression::Reboot) => Ok(Expression::Reboot),
         Err(fault) => read_own(text, *fault),
+    }
+}
+
+/// Reads an expression: Quartz's where that is asked for, else one of the other two kinds.
+pub fn read_as(quartz: bool, text: &str) -> Result<Expression, Refusal<'_>>
+    ensures { MatchResult result (IsReadAs quartz text.now) (IsRefusedAs quartz text.now) }
+{
+    if !quartz {
+        return read(text);
+    }
+    match read_quartz(text) {
+        Ok(union) => Ok(Expression::Quartz(union)),
+        Err(fault) => Err(Refusal::Quartz(fault)),
     }
 }

@@ -86,9 +86,9 @@ fn gather_rows<F: Told, L: Left<F>, W: Watchable>(
     }
 }
 
-// Writes the rows of the first fires that are left, at most so many, until a write fails. They are
-// handed on many at a time, and the rest of them at the end.
-fn send_rows<F: Told, L: Left<F>, W: Watchable>(
+/// Writes the rows of the first fires that are left, at most so many, until a write fails. They are
+/// handed on many at a time, and the rest of them at the end.
+pub(crate) fn send_rows<F: Told, L: Left<F>, W: Watchable>(
     left: &mut L,
     most: Option<u64>,
     form: Form,
@@ -115,7 +115,7 @@ fn send_moments<W: Watchable>(
     form: Form,
     out: &mut Watched<W>,
 )
-    requires few { length schedules.now ≤ 2 }
+    requires few { length schedules.now ≤ 12 }
     requires fresh { has_failed out.old ≡ false }
     ensures rows { IsSent
         (W.contents (writer_of out.old)) (W.contents (writer_of out.new)) (has_failed out.new)
@@ -127,11 +127,11 @@ fn send_moments<W: Watchable>(
 {
     match *asked {
         Asked::Next(start, count) => {
-            let mut run: Run<'_, 2> = Run::after(schedules, start, zone);
+            let mut run: Run<'_, 12> = Run::after(schedules, start, zone);
             send_rows(&mut run, Some(count), form, out);
         }
         Asked::Between(start, end) => {
-            let mut run: Run<'_, 2> = Run::between(schedules, start, end, zone);
+            let mut run: Run<'_, 12> = Run::between(schedules, start, end, zone);
             send_rows(&mut run, None, form, out);
         }
     }
@@ -175,7 +175,7 @@ fn send_fires<W: Watchable>(
     form: Form,
     out: &mut Watched<W>,
 )
-    requires few { length schedules.now ≤ 2 }
+    requires few { length schedules.now ≤ 12 }
     requires fresh { has_failed out.old ≡ false }
     ensures rows { IsSent
         (W.contents (writer_of out.old)) (W.contents (writer_of out.new)) (has_failed out.new)

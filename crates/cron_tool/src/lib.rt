@@ -1,14 +1,30 @@
 //! What `crontool` does, over any writer and any zone files: expressions of crontabs and of this
-//! library, instants as a shell writes them, and fires as rows.
+//! library, instants as a shell writes them, fires as rows, and checks of crontabs.
 #![tactic(auto)]
 
 pub mod answer;
+pub mod check;
+pub mod compare;
+pub mod done;
+pub mod due;
 pub mod expression;
 pub mod fires;
 pub mod instant;
+pub mod late;
+pub mod lateness;
 mod left;
+pub mod missed;
+pub mod noted;
+pub mod notice;
+pub mod overlap;
+pub mod pair;
+pub mod pending;
 pub mod refusal;
 pub mod row;
+pub mod stamp;
 pub mod status;
+mod subject;
+pub mod tab_files;
+pub mod tabs;
 pub mod trouble;
 mod words;

@@ -13,6 +13,8 @@ pub enum Refusal<'a> {
     Crontab(cron_crontab::Fault<'a>),
     /// The fault of an expression of this library.
     Own(cron_text::Fault<'a>),
+    /// The fault of an expression of Quartz.
+    Quartz(cron_quartz::Fault<'a>),
 }
 
 impl<'a> fmt::Display for Refusal<'a> {
@@ -25,6 +27,7 @@ impl<'a> fmt::Display for Refusal<'a> {
         match self {
             Refusal::Crontab(fault) => write!(f, "{fault}"),
             Refusal::Own(fault) => write!(f, "{fault}"),
+            Refusal::Quartz(fault) => write!(f, "{fault}"),
         }
     }
 }

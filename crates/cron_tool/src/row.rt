@@ -1,7 +1,8 @@
 //! What is written of a fire, made without memory.
 
-ghost use Rattle.std.specs.Prelude.{◌≡◌, ◌≤◌, ◌+◌, ◌++◌, ◌∷◌, ℕ, ℤ, List, [], codes, length};
+ghost use Rattle.std.specs.Prelude.{◌≡◌, ◌≤◌, ◌+◌, ◌++◌, ◌∷◌, ℕ, ℤ, List, [], codes, length, neg_ℤ, pos};
 ghost use Rattle.std.specs.Fmt.{signed_decimal};
+ghost use Rattle.jiff_core.specs.Calendar.{IsBetween};
 ghost use Rattle.arrayvec.specs.ArrayVec.{array_vec_len};
 ghost use Rattle.cron_tool.specs.Rows.{json_row, row, text_row};
 
@@ -41,7 +42,8 @@ pub trait Told: Copy {
 
     /// Its instant, in seconds since 1970-01-01T00:00:00Z.
     fn second(&self) -> i64
-        ensures { result ≡ second self.now };
+        ensures value { result ≡ second self.now }
+        ensures bound { IsBetween (neg_ℤ (pos 93_599)) (pos 8_590_028_189) result };
 }
 
 impl Told for Moment {

@@ -1,7 +1,7 @@
 //! How a subcommand ends.
 
 ghost use Rattle.std.specs.Prelude.{◌≡◌, ℕ, List, Option, false};
-ghost use Rattle.cron_tool.specs.Statuses.{code_of, Ends, is_write_failure};
+ghost use Rattle.cron_tool.specs.Statuses.{code_of, Ends, is_write_failure, worse};
 ghost use Rattle.cron_writer.specs.Calls.{IsFlushed};
 ghost use Rattle.cron_writer.specs.Watching.{has_failed, writer_of, IsSent};
 
@@ -34,6 +34,17 @@ impl Status {
             Status::WrongWords => 2,
             Status::WriteFailed => 3,
             Status::Unreadable => 4,
+        }
+    }
+
+    /// Of two ends the one whose exit status is greater.
+    pub fn worse(self, other: Status) -> Status
+        ensures { result ≡ worse self other }
+    {
+        if self.code() < other.code() {
+            other
+        } else {
+            self
         }
     }
 }

@@ -8,8 +8,8 @@ ghost use Rattle.std.specs.declared.alloc.Global.{Global};
 use std::alloc::Global;
 use std::io;
 
-/// Files, by their paths. Contracts tell the calls one by one: what one call may do is known to the type
-/// alone, so whatever promises one call reads one file.
+/// Files, by their paths. Contracts tell the calls one by one: what one call may do is known to the
+/// type alone, so whatever promises one call reads one file.
 pub trait ZoneFiles {
     // one call: the files before it, the path, the answer, and the files after it
     ghost reads: { Self → List ℕ → Result (Vec ℕ Global) Error → Self → Type 0 } = { λ _ _ _ _. Unit {0} };

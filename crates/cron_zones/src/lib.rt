@@ -1,5 +1,5 @@
-//! Zones by name: `UTC`, a rule text, a name of the time zone database, or the machine's own zone. Which file
-//! a text names is decided by a definition; the file is read by its caller's own means.
+//! Zones by name: `UTC`, a rule text, a name of the time zone database, or the machine's own zone.
+//! Which file a text names is decided by a definition; the file is read by its caller's own means.
 #![tactic(auto)]
 
 pub mod error;
@@ -8,6 +8,4 @@ pub mod machine;
 pub mod names;
 pub mod open;
 pub mod source;
-#[cfg(test)]
-mod tests;
 pub mod zone;

@@ -15,8 +15,8 @@ pub const LOCAL_FILE: &str = "/etc/localtime";
 /// The longest file that is read. Those of the time zone database have a few kilobytes.
 const MOST_BYTES: u64 = 1 << 20;
 
-/// The files of the machine. A file that is longer than 1 MiB, or no regular file, isn't read: a pipe or a
-/// device might never end.
+/// The files of the machine. A file that is longer than 1 MiB, or no regular file, isn't read: a
+/// pipe or a device might never end.
 #[derive_where(Clone, Copy)]
 pub struct MachineFiles<'a, R>(pub &'a R);
 

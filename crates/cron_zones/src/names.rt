@@ -40,8 +40,8 @@ fn is_right(name: &str) -> bool
     &name.as_bytes()[..front] == b"right/".as_slice()
 }
 
-/// Whether a text is a name, as `America/Chicago`: it can't leave the folder that it is looked for in, nor
-/// name a hidden file, nor one of `right/`, whose seconds are counted otherwise.
+/// Whether a text is a name, as `America/Chicago`: it can't leave the folder that it is looked for
+/// in, nor name a hidden file, nor one of `right/`, whose seconds are counted otherwise.
 pub fn is_zone_name(text: &str) -> bool
     ensures { result ≡ is_zone_name text.now }
 {

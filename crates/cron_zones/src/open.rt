@@ -13,7 +13,8 @@ use jiff_core::Error;
 use std::alloc::{AllocError, Global};
 use std::io::{self, ErrorKind};
 
-/// Where zones are looked for. It is handed in: TZDIR, TZ and the paths of a system are its caller's affair.
+/// Where zones are looked for. It is handed in: TZDIR, TZ and the paths of a system are its
+/// caller's affair.
 #[derive(Clone, Copy)]
 pub struct Places<'a> {
     /// The folder of compiled zone files.

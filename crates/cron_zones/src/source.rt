@@ -82,9 +82,9 @@ fn local_source(tz: Option<&str>) -> Option<Source<'_>>
     }
 }
 
-/// What a text names. `local` is what TZ says, which is handed in: without it the machine's own file, where
-/// it is empty UTC. TZ may begin with a colon, and may name an absolute path behind one. `None` where the
-/// text is none of these.
+/// What a text names. `local` is what TZ says, which is handed in: without it the machine's own
+/// file, where it is empty UTC. TZ may begin with a colon, and may name an absolute path behind
+/// one. `None` where the text is none of these.
 pub fn source_of<'a>(text: &'a str, tz: Option<&'a str>) -> Option<Source<'a>>
     ensures { IsSource text.now (option_map (λ s. s.now) tz.entry) result }
 {

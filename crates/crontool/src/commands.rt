@@ -1,5 +1,6 @@
 //! The subcommands with their words, and what they ask for.
 
+use crate::{alarm, check, compare, done, due, late, list, overlap, run};
 use clap::{Arg, ArgAction, ArgMatches, Command, value_parser};
 use cron_fires::ClockChanges;
 use cron_tool::answer::{Request, Which};
@@ -14,13 +15,13 @@ const AFTER_HELP: &str = "EXPRESSION has five fields, or is a nickname, as in a 
 six or seven fields, of which the first are seconds.\n\
 An instant is ISO with an offset, a fire as it was printed, now, @SECONDS or a civil time in ZONE.";
 
-// A word that must be there.
-fn word<'a>(alloc: Global, name: &'a str, help: &'a str) -> Arg<'a> {
+/// A word that must be there.
+pub(crate) fn word<'a>(alloc: Global, name: &'a str, help: &'a str) -> Arg<'a> {
     Arg::new(alloc, name).required(true).help(help)
 }
 
-// `--NAME VALUE`, or its default.
-fn option<'a>(
+/// `--NAME VALUE`, or its default.
+pub(crate) fn option<'a>(
     alloc: Global,
     name: &'a str,
     value: &'a str,
@@ -34,33 +35,58 @@ fn option<'a>(
         .help(help)
 }
 
-fn flag<'a>(alloc: Global, name: &'a str, help: &'a str) -> Arg<'a> {
+/// `--NAME`.
+pub(crate) fn flag<'a>(alloc: Global, name: &'a str, help: &'a str) -> Arg<'a> {
     Arg::new(alloc, name)
         .long(name)
         .action(ArgAction::SetTrue)
         .help(help)
 }
 
-// What all subcommands that list fires have.
-fn listing<'a>(alloc: Global, command: Command<'a>) -> Result<Command<'a>, AllocError> {
+/// `--NAME VALUE`, which may be left out.
+pub(crate) fn choice<'a>(alloc: Global, name: &'a str, value: &'a str, help: &'a str) -> Arg<'a> {
+    Arg::new(alloc, name)
+        .long(name)
+        .value_name(value)
+        .help(help)
+}
+
+/// A zone and a rule at clock changes, as all subcommands have that tell of fires.
+pub(crate) fn firing<'a>(alloc: Global, command: Command<'a>) -> Result<Command<'a>, AllocError> {
+    let zone = option(
+        alloc,
+        "zone",
+        "ZONE",
+        "local",
+        "UTC, a rule, a name or local",
+    );
     let once = flag(
         alloc,
         "once",
         "Each match once, also where the clock changes",
     )
     .conflicts_with("as-shown")?;
-    command
-        .arg(word(alloc, "EXPRESSION", "A cron expression"))?
-        .arg(option(
-            alloc,
-            "zone",
-            "ZONE",
-            "local",
-            "UTC, a rule, a name or local",
-        ))?
-        .arg(once)?
-        .arg(flag(alloc, "as-shown", "Each time that the clock shows a match"))?
-        .arg(flag(alloc, "json", "An object of JSON for each fire"))
+    command.arg(zone)?.arg(once)?.arg(flag(
+        alloc,
+        "as-shown",
+        "Each time that the clock shows a match",
+    ))
+}
+
+/// Those of which something is done at each fire, so many times at most.
+pub(crate) fn running<'a>(alloc: Global, command: Command<'a>) -> Result<Command<'a>, AllocError> {
+    let count = choice(alloc, "count", "N", "How many runs at most");
+    firing(alloc, command)?.arg(count.value_parser(value_parser!(u64)))
+}
+
+/// What all subcommands that list the fires of an expression have.
+pub(crate) fn listing<'a>(alloc: Global, command: Command<'a>) -> Result<Command<'a>, AllocError> {
+    let command = command.arg(word(alloc, "EXPRESSION", "A cron expression"))?;
+    firing(alloc, command)?.arg(flag(alloc, "json", "An object of JSON for each fire"))
+}
+
+fn quartz<'a>(alloc: Global) -> Arg<'a> {
+    flag(alloc, "quartz", "EXPRESSION is one of Quartz")
 }
 
 fn next_command<'a>(alloc: Global) -> Result<Command<'a>, AllocError> {
@@ -68,13 +94,14 @@ fn next_command<'a>(alloc: Global) -> Result<Command<'a>, AllocError> {
     let command = Command::new(alloc, "next")
         .about("Lists the next fires")
         .arg(count)?;
-    listing(alloc, command)?.arg(option(
+    let after = option(
         alloc,
         "after",
         "START",
         "now",
         "The instant after which they come",
-    ))
+    );
+    listing(alloc, command)?.arg(quartz(alloc))?.arg(after)
 }
 
 fn between_command<'a>(alloc: Global) -> Result<Command<'a>, AllocError> {
@@ -82,7 +109,7 @@ fn between_command<'a>(alloc: Global) -> Result<Command<'a>, AllocError> {
         .about("Lists the fires after START, up to and with END")
         .arg(word(alloc, "START", "An instant"))?
         .arg(word(alloc, "END", "An instant"))?;
-    listing(alloc, command)
+    listing(alloc, command)?.arg(quartz(alloc))
 }
 
 /// The whole command line.
@@ -94,10 +121,20 @@ pub fn command<'a>(alloc: Global) -> Result<Command<'a>, AllocError> {
         .subcommand_required(true)
         .arg_required_else_help(true)
         .subcommand(next_command(alloc)?)?
-        .subcommand(between_command(alloc)?)
+        .subcommand(between_command(alloc)?)?
+        .subcommand(list::command(alloc)?)?
+        .subcommand(late::command(alloc)?)?
+        .subcommand(due::command(alloc)?)?
+        .subcommand(done::command(alloc)?)?
+        .subcommand(check::command(alloc)?)?
+        .subcommand(compare::command(alloc)?)?
+        .subcommand(overlap::command(alloc)?)?
+        .subcommand(run::command(alloc)?)?
+        .subcommand(alarm::command(alloc)?)
 }
 
-fn changes_of(matches: &ArgMatches<'_>) -> Option<ClockChanges> {
+/// The rule at clock changes that was chosen, if one was.
+pub(crate) fn changes_of(matches: &ArgMatches<'_>) -> Option<ClockChanges> {
     if matches.get_flag("once") {
         return Some(ClockChanges::Once);
     }
@@ -105,6 +142,15 @@ fn changes_of(matches: &ArgMatches<'_>) -> Option<ClockChanges> {
         return Some(ClockChanges::AsShown);
     }
     None
+}
+
+/// How fires are written.
+pub(crate) fn form_of(matches: &ArgMatches<'_>) -> Form {
+    if matches.get_flag("json") {
+        Form::Json
+    } else {
+        Form::Text
+    }
 }
 
 fn which_of<'a>(name: &str, matches: &ArgMatches<'a>) -> Option<Which<'a>> {
@@ -117,16 +163,12 @@ fn which_of<'a>(name: &str, matches: &ArgMatches<'a>) -> Option<Which<'a>> {
 
 /// What a subcommand asks for. `None` where a word is missing, which a parse refuses before.
 pub fn request_of<'a>(name: &str, matches: &ArgMatches<'a>) -> Option<Request<'a>> {
-    let form = if matches.get_flag("json") {
-        Form::Json
-    } else {
-        Form::Text
-    };
     Some(Request {
         expression: matches.get_str("EXPRESSION")?,
+        quartz: matches.get_flag("quartz"),
         zone: matches.get_str("zone")?,
         which: which_of(name, matches)?,
         changes: changes_of(matches),
-        form,
+        form: form_of(matches),
     })
 }

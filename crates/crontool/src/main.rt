@@ -1,19 +1,30 @@
-//! `crontool` tells of cron expressions at a shell. Each subcommand is a call of `cron_tool`.
+//! `crontool` tells of cron expressions at a shell. Each subcommand is a call of `cron_tool`, of
+//! `cron_running` where something is waited for, or of `cron_checking` where the lines of a file are
+//! expressions.
 #![tactic(auto)]
 
+mod alarm;
+mod check;
 mod commands;
+mod compare;
+mod done;
+mod due;
+mod late;
+mod list;
+mod machine;
+mod overlap;
+mod pair;
+mod run;
 
-use clap::Error;
+use clap::{ArgMatches, Error};
 use commands::{command, request_of};
 use cron_tool::answer::{Request, answer};
 use cron_tool::status::Status;
 use cron_writer::watched::Watched;
-use cron_zones::machine::{LOCAL_FILE, MachineFiles, ZONE_FOLDER};
-use cron_zones::open::Places;
-use jiff::Timestamp;
-use std::env::{self, VarError};
-use std::io;
+use cron_zones::machine::MachineFiles;
+use machine::{Surroundings, complain};
 use std::process::ExitCode;
+use std::{env, io};
 
 // The arguments, with the program's name before them.
 fn arguments_of(rt: &HostRuntime) -> io::Result<Vec<String>> {
@@ -34,42 +45,47 @@ fn say(rt: &HostRuntime, error: &Error) -> u8 {
 
 // Says why nothing can be done, and answers the exit status.
 fn give_up(rt: &HostRuntime, why: &str, status: Status) -> u8 {
-    match eprintln!(rt; "error: {why}") {
-        Ok(()) => status.code(),
-        Err(_) => Status::WriteFailed.code(),
-    }
+    complain(rt, why, status).code()
 }
 
 // Answers a request with what the machine has.
-fn answer_request(rt: &HostRuntime, request: &Request<'_>) -> u8 {
-    let Ok(now) = Timestamp::now(rt) else {
-        return give_up(rt, "the clock can't be read", Status::Unreadable);
-    };
-    let tz = match env::var(rt, "TZ") {
-        Ok(text) => Some(text),
-        Err(VarError::NotPresent) => None,
-        Err(_) => return give_up(rt, "TZ can't be read", Status::Unreadable),
-    };
-    let places = Places {
-        folder: ZONE_FOLDER,
-        tz: tz.as_ref().map(|text| text.as_str()),
-        machine: LOCAL_FILE,
-    };
+fn answer_request(rt: &HostRuntime, request: &Request<'_>) -> Result<Status, Status> {
+    let around = Surroundings::of(rt)?;
     let mut out = Watched::new(io::writer(rt));
     let mut complaints = Watched::new(rt.stderr());
-    answer(
+    Ok(answer(
         rt.alloc(),
         request,
-        now,
-        &places,
+        around.now,
+        &around.places(),
         &mut MachineFiles(rt),
         &mut out,
         &mut complaints,
-    )
-    .code()
+    ))
 }
 
-fn run(rt: &HostRuntime) -> u8 {
+// Answers a subcommand.
+fn answer_words(rt: &HostRuntime, name: &str, words: &ArgMatches<'_>) -> Status {
+    match name {
+        "list" => list::answer(rt, words),
+        "late" => late::answer(rt, words),
+        "due" => due::answer(rt, words),
+        "done" => done::answer(rt, words),
+        "check" => check::answer(rt, words),
+        "compare" => compare::answer(rt, words),
+        "overlap" => overlap::answer(rt, words),
+        "run" => run::answer(rt, words),
+        "alarm" => alarm::answer(rt, words),
+        _ => match request_of(name, words) {
+            Some(request) => match answer_request(rt, &request) {
+                Ok(status) | Err(status) => status,
+            },
+            None => complain(rt, "a word is missing", Status::WrongWords),
+        },
+    }
+}
+
+fn answer_arguments(rt: &HostRuntime) -> u8 {
     let Ok(arguments) = arguments_of(rt) else {
         return give_up(rt, "an argument is not UTF-8", Status::WrongWords);
     };
@@ -79,10 +95,7 @@ fn run(rt: &HostRuntime) -> u8 {
     };
     match command.try_get_matches_from(arguments.as_slice()) {
         Ok(matches) => match matches.subcommand() {
-            Some((name, words)) => match request_of(name, words) {
-                Some(request) => answer_request(rt, &request),
-                None => give_up(rt, "a word is missing", Status::WrongWords),
-            },
+            Some((name, words)) => answer_words(rt, name, words).code(),
             None => give_up(rt, "a subcommand is missing", Status::WrongWords),
         },
         Err(error) => say(rt, &error),
@@ -90,5 +103,5 @@ fn run(rt: &HostRuntime) -> u8 {
 }
 
 fn main(rt: HostRuntime) -> ExitCode {
-    ExitCode::from(run(&rt))
+    ExitCode::from(answer_arguments(&rt))
 }

@@ -11,9 +11,10 @@
 2022-11-07 01:30:00-06:00
 """
 
+from .agenda import Agenda, AgendaFire
 from .dues import DueFire
 from .errors import CronError, InstantError, TextError, ZoneError
 from .schedule import Schedule
 
-__all__ = ["CronError", "DueFire", "InstantError", "Schedule", "TextError", "ZoneError"]
+__all__ = ["Agenda", "AgendaFire", "CronError", "DueFire", "InstantError", "Schedule", "TextError", "ZoneError"]
 __version__ = "1.5.0"

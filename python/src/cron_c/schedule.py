@@ -28,7 +28,7 @@ def _checked(text: str) -> str:
     return text
 
 
-def _zone_of(moment: datetime) -> tzinfo:
+def zone_of(moment: datetime) -> tzinfo:
     if not isinstance(moment, datetime):
         raise TypeError(f"a datetime with a zone is wanted, and this is a {type(moment).__name__}")
     if moment.tzinfo is None or moment.utcoffset() is None:
@@ -145,7 +145,7 @@ class Schedule:
 
     def matches(self, moment: datetime, *, clock_changes: ClockChanges = "as_shown") -> bool:
         """Whether it fires at this very instant: never where the datetime has a part of a second."""
-        eras, instant = eras_of(_zone_of(moment)), _floor(moment)
+        eras, instant = eras_of(zone_of(moment)), _floor(moment)
         if _is_once(clock_changes):
             found = library.due_by(self._schedules, eras, instant)
             return instant == _ceiling(moment) and found is not None and found[0] == instant
@@ -153,7 +153,7 @@ class Schedule:
 
     def after(self, moment: datetime, *, clock_changes: ClockChanges = "as_shown") -> Optional[datetime]:
         """When it fires first after a datetime, in its zone; None where it fires no more."""
-        zone = _zone_of(moment)
+        zone = zone_of(moment)
         if _is_once(clock_changes):
             due = library.due_after(self._schedules, eras_of(zone), _floor(moment))
             return None if due is None else shown(due[:2], zone)
@@ -163,7 +163,7 @@ class Schedule:
     def before(self, moment: datetime, *, clock_changes: ClockChanges = "as_shown") -> Optional[datetime]:
         """When it fired last before a datetime, in its zone; None where it hasn't fired. A fire at the
         datetime itself isn't before it."""
-        zone = _zone_of(moment)
+        zone = zone_of(moment)
         if _is_once(clock_changes):
             due = library.due_by(self._schedules, eras_of(zone), _ceiling(moment) - 1)
             return None if due is None else shown(due[:2], zone)
@@ -173,7 +173,7 @@ class Schedule:
     def between(self, start: datetime, end: datetime, *, clock_changes: ClockChanges = "as_shown") -> List[datetime]:
         """When it fires after one datetime and up to and with another, in the zone of the first, as a
         list. `fires` tells the same one after the other."""
-        _zone_of(end)
+        zone_of(end)
         return list(self.fires(start, end, clock_changes=clock_changes))
 
     def fires(
@@ -181,9 +181,9 @@ class Schedule:
     ) -> Iterator[datetime]:
         """When it fires after a datetime, in its zone, one after the other: up to and with the end, if
         there is one. Or, reversed, when it fired before it, the latest first, back to and with the end."""
-        zone = _zone_of(start)
+        zone = zone_of(start)
         if end is not None:
-            _zone_of(end)
+            zone_of(end)
         eras, once = eras_of(zone), _is_once(clock_changes)
         if reverse:
             first = library.LEAST_INSTANT if end is None else _ceiling(end)
@@ -199,9 +199,9 @@ class Schedule:
     def dues(self, start: Union[datetime, DueFire], end: Optional[datetime] = None) -> Iterator[DueFire]:
         """Each match once, one after the other: those that come due after a datetime, in its zone, or those
         past a due fire, as a run goes on that was cut after it; up to and with the end, if there is one."""
-        zone = _zone_of(start.moment if isinstance(start, DueFire) else start)
+        zone = zone_of(start.moment if isinstance(start, DueFire) else start)
         if end is not None:
-            _zone_of(end)
+            zone_of(end)
         eras, last = eras_of(zone), library.GREATEST_INSTANT if end is None else _floor(end)
         if isinstance(start, DueFire):
             told = library.due_pages_past(self._schedules, eras, parts_of(start), last)

@@ -3,7 +3,7 @@
 use super::support::{ACCEPTED, is_accepted, tell, tell_early};
 use cron::Schedule;
 use cron_checking::check::{Outcome, check};
-use cron_checking::line::Mode;
+use cron_checking::line::{Mode, Telling};
 use cron_checking::short::canonical_text;
 use cron_writer::watched::Watched;
 use jiff::Timestamp;
@@ -50,11 +50,15 @@ fn past_lines(mut text: &str) -> (usize, &str) {
 
 #[test]
 fn check_of_three_lines(rt: HostRuntime) -> Result<(), Fail> {
-    let mode = Mode::Next("2024-01-01T00:00:00Z".parse::<Timestamp>()?, TimeZone::UTC);
+    let start = "2024-01-01T00:00:00Z".parse::<Timestamp>()?;
+    let how = Telling {
+        front: "",
+        mode: Mode::Next(start, TimeZone::UTC),
+    };
     let mut room = [0_u8; 256];
     let mut reader = FILE.as_bytes();
     let mut out = Watched::new(Cursor::new(room.as_mut_slice()));
-    let end = check(rt.alloc(), &mode, &mut reader, &mut out);
+    let end = check(rt.alloc(), &how, &mut reader, &mut out);
     let (count, rest) = past_lines(str::from_utf8(&room)?.trim_end_matches('\0'));
     if end == Outcome::OutOfMemory {
         assert_eq!(rt; rest, "error: out of memory\n");

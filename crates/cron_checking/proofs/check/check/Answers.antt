@@ -11,18 +11,18 @@ use Rattle.cron_checking.specs.declared.check.Outcome.TheVariants.{AllRead, Some
 use Rattle.cron_checking.proofs.check.check.Goals as goal
 
 -- the last line is what was put of a line at which the check ended, or the closing line
-last_is : (end : Outcome) (count : ℕ) → stop_line end count ++ closing_line end ≡ last_line end count
-last_is AllRead count = refl
-last_is SomeRefused count = refl
-last_is OutOfMemory count = refl
-last_is WriteFailed count = refl
-last_is Unreadable count = refl
-last_is NotUtf8 count = append-nil (last_line NotUtf8 count)
+last_is : (front : List ℕ) (end : Outcome) (count : ℕ) → stop_line front end count ++ closing_line end ≡ last_line front end count
+last_is front AllRead count = refl
+last_is front SomeRefused count = refl
+last_is front OutOfMemory count = refl
+last_is front WriteFailed count = refl
+last_is front Unreadable count = refl
+last_is front NotUtf8 count = append-nil (last_line front NotUtf8 count)
 
 -- so the whole of it ends in the last line
-written : (end outcome : Outcome) (count : ℕ) (report : List ℕ) (old new : Option (List ℕ))
-    → Ends end (report ++ (stop_line end count ++ closing_line end)) old new outcome → Ends end (report ++ last_line end count) old new outcome
-written end outcome count report old new h = subst (λ (t : List ℕ). Ends end (report ++ t) old new outcome) (last_is end count) h
+written : (front : List ℕ) (end outcome : Outcome) (count : ℕ) (report : List ℕ) (old new : Option (List ℕ))
+    → Ends end (report ++ (stop_line front end count ++ closing_line end)) old new outcome → Ends end (report ++ last_line front end count) old new outcome
+written front end outcome count report old new h = subst (λ (t : List ℕ). Ends end (report ++ t) old new outcome) (last_is front end count) h
 
 -- once a call has failed the mark stays
 stays_failed : {W : Type 0} (writes : W → List ℕ → _ → W → Type 0) (old new : W) (was failed : Bool) → AreWrites writes old was new failed
@@ -70,10 +70,10 @@ returns-clause-checks g c =
       ends = told.ends;
       tells = told.tells;
       writes =
-          written end _ (length told.checked) told.report _ _
+          written _ end _ (length told.checked) told.report _ _
           (c.finish.ensures.ends _ _
           (c.send.ensures.sent _ _
-          (closed _ _ _ _ told.report (stop_line end (length told.checked)) (closing_line end) c.as_bytes.result.now
+          (closed _ _ _ _ told.report (stop_line _ end (length told.checked)) (closing_line end) c.as_bytes.result.now
           (c.as_bytes.ensures.value ∙ c.closing_line.ensures)
           (c.put.ensures.gathers _ _ (told.puts.gathers _ [] begun)))));
     }

@@ -4,15 +4,15 @@ use Rattle.std.proofs.KnownBytes.{Consumes-nil}
 use Rattle.cron_checking.specs.Lines.{AreEnded}
 use Rattle.cron_checking.specs.Puts.{Puts}
 use Rattle.cron_checking.specs.Reports.{TellsLine}
-use Rattle.cron_checking.specs.declared.line.Mode.{Mode}
+use Rattle.cron_checking.specs.declared.line.Telling.{Telling}
 use Rattle.cron_checking.specs.declared.line_reader.Given.TheVariants.{Line}
 use Rattle.cron_checking.proofs.Putting.{nothing_put, put_on}
 use Rattle.cron_checking.proofs.ReadLemmas.{line_on, last_read}
 use Rattle.cron_checking.proofs.Telling.{nothing_read, no_piece, line_read, read_on, read_whole, read_through, ended_lines, given_whole, whole_on, line_told, ended_at, ended_puts, ended_unfailed, line_stops}
 use Rattle.cron_checking.proofs.check.tell_lines.Goals as goal
 
-numbered : (mode : Mode) (n k : ℕ) (line text : List ℕ) (bad : Bool) → n ≡ k → TellsLine mode n line text bad → TellsLine mode k line text bad
-numbered mode n k line text bad e h = subst (λ (m : ℕ). TellsLine mode m line text bad) e h
+numbered : (how : Telling) (n k : ℕ) (line text : List ℕ) (bad : Bool) → n ≡ k → TellsLine how n line text bad → TellsLine how k line text bad
+numbered how n k line text bad e h = subst (λ (m : ℕ). TellsLine how m line text bad) e h
 
 counted : (n : ℕ) (checked : List (List ℕ)) (line : List ℕ) → n ≡ 1 + length checked → n + 1 ≡ 1 + length (checked ++ line ∷ [])
 counted n checked line e = omega (arith, length_push checked line)
@@ -35,7 +35,7 @@ returns-in-End-clause-tells g c =
           ended_at _ _ _ read.bytes [] checked _ c.end_of.ensures (read_through _ _ _ _ read.consumed c.in-End.ensures.gives.1)
           (ended_lines read.bytes checked read.cut) refl;
       tells = told;
-      puts = subst (Puts _ _ _ _ _ _) (ended_puts _ _ (length checked) report c.end_of.ensures) puts;
+      puts = subst (Puts _ _ _ _ _ _) (ended_puts _ _ _ (length checked) report c.end_of.ensures) puts;
       failed = ended_unfailed _ _ _ c.end_of.ensures;
     }
 
@@ -118,9 +118,9 @@ returns-then-last-clause-tells g c =
           ended_at _ _ _ (read.bytes ++ piece) [] (checked ++ line ∷ []) _ c.end_of-then-last.ensures
           (read_through _ _ _ _ read.consumed (through c.if-last.true))
           (whole_on _ _ _ checked line piece read (given_whole _ _ piece _ _ _ c.as_slice.ensures.value one more through)).0 refl;
-      tells = line_told _ 1 checked line report put _ _ told (numbered c.args.mode.now _ _ line put c.in-Ok.bad count tells);
+      tells = line_told c.args.how.now 1 checked line report put _ _ told (numbered c.args.how.now _ _ line put c.in-Ok.bad count tells);
       puts =
-          subst (Puts _ _ _ _ _ _) (ended_puts _ _ (length (checked ++ line ∷ [])) (report ++ put) c.end_of-then-last.ensures)
+          subst (Puts _ _ _ _ _ _) (ended_puts _ _ _ (length (checked ++ line ∷ [])) (report ++ put) c.end_of-then-last.ensures)
           (put_on _ _ _ _ _ _ _ _ report put puts put_now);
       failed = ended_unfailed _ _ _ c.end_of-then-last.ensures;
     }
@@ -135,7 +135,7 @@ loop-number-preserved g c =
       report ++ put,
       line_read _ _ _ checked line piece read consumed
           (subst (λ (l : List ℕ). AreEnded piece (l ∷ [])) (sym c.as_slice.ensures.value) (more c.if-last.false)),
-      line_told _ 1 checked line report put _ _ told (numbered c.args.mode.now _ _ line put c.in-Ok.bad count tells),
+      line_told c.args.how.now 1 checked line report put _ _ told (numbered c.args.how.now _ _ line put c.in-Ok.bad count tells),
       counted _ checked line count,
       put_on _ _ _ _ _ _ _ _ report put puts put_now,
       line_on _ _ _ _ _ calls (ap Line c.if-last.false) c.in-Line.ensures.call,

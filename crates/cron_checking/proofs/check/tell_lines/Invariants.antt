@@ -10,7 +10,7 @@ abbrev pub invariant-loop-number : goal.invariant-loop-number
 invariant-loop-number g l =
     (checked : List (List ℕ)) × (report : List ℕ)
     × IsReadSoFar (g.R.Read.remaining l.initial.reader) (g.R.Read.remaining l.reader) checked
-    × TellsLines l.mode 1 checked report l.refused
+    × TellsLines l.how 1 checked report l.refused
     × (l.number ≡ 1 + length checked)
     × Puts g.W.Write.contents g.W.Watchable.writes l.initial.gathered l.initial.out l.gathered l.out report
     × ((lines : List Read) × AreLinesRead g.R.Readable.reads lines l.initial.reader l.reader)

@@ -23,8 +23,12 @@ invariant_of-placed-clause-end_near c =
     rw (in_utc c.args.transitions.end c.args.dst.offset.seconds c.from-3.result near c.args.dst.offset.in_range c.from-3.ensures)
     (stays_near c.args.transitions.end _ _ _ near c.args.dst.offset.in_range c.args.transitions.first_near c.args.transitions.last_near far)
 
-pub returns : goal.returns
-returns c =
+pub returns-clause-far : goal.returns-clause-far
+returns-clause-far c =
+    (c.are_far_inside.ensures.start c.if-not-are_far_inside.false, c.are_far_inside.ensures.end c.if-not-are_far_inside.false)
+
+pub returns-clause-shown : goal.returns-clause-shown
+returns-clause-shown c =
     λ t e.
     let start_far = c.are_far_inside.ensures.start c.if-not-are_far_inside.false in
     let end_far = c.are_far_inside.ensures.end c.if-not-are_far_inside.false in

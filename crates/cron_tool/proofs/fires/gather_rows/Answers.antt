@@ -1,4 +1,4 @@
-use Rattle.std.proofs.Common.{◌≡◌, List, [], ◌++◌, refl, sym, ◌∙◌, subst}
+use Rattle.std.proofs.Common.{◌≡◌, [], ◌++◌, refl, sym, ◌∙◌, subst}
 use Rattle.cron_writer.proofs.Calling.{no_write, writes_on}
 use Rattle.cron_writer.proofs.Gathering.{gathered_part, nothing_gathered}
 use Rattle.cron_writer.specs.Watching.{IsGathered}

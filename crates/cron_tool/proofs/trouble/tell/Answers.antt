@@ -1,4 +1,4 @@
-use Rattle.std.proofs.Common.{◌≡◌, ℕ, List, [], Option, sym, ◌∙◌, inl, inr}
+use Rattle.std.proofs.Common.{◌≡◌, ℕ, List, [], Option, ◌∙◌, inl, inr}
 use Rattle.cron_listing.specs.Output.{complaint}
 use Rattle.cron_writer.proofs.Sending.{nothing_sent}
 use Rattle.cron_tool.specs.Statuses.{Ends}

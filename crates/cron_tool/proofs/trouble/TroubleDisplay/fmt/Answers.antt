@@ -1,4 +1,3 @@
-use Rattle.std.proofs.Common.{rules}
 use Rattle.cron_tool.proofs.trouble.TroubleDisplay.fmt.Goals as goal
 
 pub returns-in-Expression-clause-writes : goal.returns-in-Expression-clause-writes

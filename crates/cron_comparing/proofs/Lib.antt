@@ -1,0 +1,6 @@
+pub mod MemberLemmas
+pub mod LengthLemmas
+pub mod ProductLemmas
+pub mod UnitLemmas
+pub mod CommonLemmas
+pub mod DifferenceLemmas

@@ -1,0 +1,4 @@
+pub mod Lengths
+pub mod Units
+pub mod Common
+pub mod Differences

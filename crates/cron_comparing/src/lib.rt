@@ -1,0 +1,11 @@
+//! Where two unions of schedules match, over the civil seconds of 1970 to 2100. No zone is asked,
+//! and nothing takes memory.
+#![tactic(auto)]
+
+pub mod common;
+pub mod difference;
+mod earlier;
+mod lengths;
+mod members;
+mod products;
+mod units;

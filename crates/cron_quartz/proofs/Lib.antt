@@ -1,0 +1,5 @@
+pub mod NumberLemmas
+pub mod SetLemmas
+pub mod ItemLemmas
+pub mod LetterLemmas
+pub mod FormLemmas

@@ -1,0 +1,83 @@
+-- What Quartz writes in its two fields of days, and the schedules of seven sets that each form is.
+use Rattle.std.specs.Prelude.{ℕ, ◌==◌, ◌&&◌, ◌+◌, ◌-◌, ◌*◌, ◌++◌, Bool, true, not, pos, nat_le, nat_lt, List, [], ◌∷◌, filter, if◌then◌else◌}
+use Rattle.jiff_core.specs.Calendar.{days_in_month, is_leap_year}
+use Rattle.cron_units.specs.Sets.{Sets}
+use Rattle.cron_units.specs.Units.{FieldSet, set_of, unmarked, with_mark}
+use Rattle.cron_units.specs.Units as units
+
+-- Days of the month, or one by its place: `L` and `L-3` count from the last, `15W` is the workday nearest to the 15th, and `LW` and `L-3W`
+-- that nearest to the last and to the third before it. Or days of the week, the last such day of its month, `6L`, or the n-th, `6#3`.
+pub data Days : Type 0 where
+  dates : FieldSet → Days
+  before_last : ℕ → Days
+  nearest_workday : ℕ → Days
+  last_workday : ℕ → Days
+  weekdays : List ℕ → Days
+  last_weekday : ℕ → Days
+  nth_weekday : ℕ → ℕ → Days
+
+-- ---- months by their length
+
+-- the month has this length in a leap year, for the length 29, and else in a common one
+abbrev pub has_length : ℕ → ℕ → Bool
+has_length n m = days_in_month (if n == 29 then pos 2000 else pos 2001) m == n
+
+-- of February the years in which it has this length
+abbrev pub year_fits : ℕ → ℕ → Bool
+year_fits n y = if n == 29 then is_leap_year (pos y) else if n == 28 then not (is_leap_year (pos y)) else true
+
+-- a schedule in months of this length alone
+abbrev pub in_length : ℕ → Sets → Sets
+in_length n s = record s { months = filter (has_length n) s.months; years = filter (year_fits n) s.years }
+
+-- the schedules for months of each length
+abbrev pub by_length : (ℕ → Sets → List Sets) → Sets → List Sets
+by_length form s = ((form 28 (in_length 28 s) ++ form 29 (in_length 29 s)) ++ form 30 (in_length 30 s)) ++ form 31 (in_length 31 s)
+
+-- ---- the days of each form
+
+-- the days of the month from a first to a last one
+abbrev pub from_to : ℕ → ℕ → FieldSet
+from_to first last = unmarked (set_of units.days_of_month (λ d. nat_le first d && nat_le d last))
+
+abbrev pub on_days : FieldSet → List ℕ → Sets → List Sets
+on_days days week s = record s { days_of_month = days; days_of_week = week } ∷ []
+
+-- the day before which so many are left, in a month of this length
+abbrev pub before_end : ℕ → ℕ → Sets → List Sets
+before_end k length s = if nat_lt k length then on_days (from_to (length - k) (length - k)) s.days_of_week s else []
+
+-- such a day of the week among the last seven days
+abbrev pub in_last_week : ℕ → ℕ → Sets → List Sets
+in_last_week w length s = on_days (from_to (length - 6) length) (w ∷ []) s
+
+-- Monday to Friday
+abbrev pub workdays : List ℕ
+workdays = set_of units.days_of_week (λ w. nat_le 2 w && nat_le w 6)
+
+-- the n-th day itself, where it is a workday
+abbrev pub on_day : ℕ → Sets → List Sets
+on_day n s = on_days (from_to n n) workdays s
+
+-- The Monday behind it: the next day, where it is a Sunday. Behind a Saturday only that of the 1st, which has no Friday.
+abbrev pub on_monday : ℕ → ℕ → Sets → List Sets
+on_monday n length s = if n == length then [] else on_days (from_to (n + 1) (if n == 1 then 3 else n + 1)) (2 ∷ []) s
+
+-- The Friday before it: the day before, where it is a Saturday. Before a Sunday only that of the last day, which has no Monday.
+abbrev pub on_friday : ℕ → ℕ → Sets → List Sets
+on_friday n length s = if n == 1 then [] else on_days (from_to (if n == length then n - 2 else n - 1) (n - 1)) (6 ∷ []) s
+
+-- the workday nearest to the n-th, in a month of this length
+abbrev pub near_day : ℕ → ℕ → Sets → List Sets
+near_day n length s =
+    if nat_lt 0 n && nat_le n length then on_day n s ++ (on_monday n length s ++ on_friday n length s) else []
+
+-- the schedules of a form, by one that has all days
+abbrev pub schedules_of : Days → Sets → List Sets
+schedules_of (dates days) s = on_days days s.days_of_week s
+schedules_of (before_last k) s = if k == 0 then on_days (with_mark [] true) s.days_of_week s else by_length (before_end k) s
+schedules_of (nearest_workday n) s = by_length (near_day n) s
+schedules_of (last_workday k) s = by_length (λ length. near_day (length - k) length) s
+schedules_of (weekdays week) s = on_days s.days_of_month week s
+schedules_of (last_weekday w) s = by_length (in_last_week w) s
+schedules_of (nth_weekday w n) s = on_days (from_to (7 * n - 6) (7 * n)) (w ∷ []) s

@@ -1,0 +1,4 @@
+pub mod Runs
+pub mod Workdays
+pub mod Texts
+pub mod Ranges

@@ -1,0 +1,16 @@
+use Rattle.std.proofs.Common.{sym, subst}
+use Rattle.std.proofs.lemmas.List.{drop_more}
+use Rattle.jiff.specs.Words.{plain_zone}
+use Rattle.cron_running.specs.Loading.{AddsTasks, files_tasks, given, state_of}
+use Rattle.cron_running.proofs.LoadLemmas.{adds-append}
+use Rattle.cron_running.proofs.loading.load_files.Goals as goal
+
+pub loop-file-preserved : goal.loop-file-preserved
+loop-file-preserved c = λ after more.
+    let g = given c.args.orders.now (plain_zone c.args.start.now.zone) c.args.start.now.instant.nanosecond in
+    let files = c.args.files.now in
+    let one = c.in_ok-load_file.ensures in
+    c.loop-file.invariant after
+    (subst (λ fs. AddsTasks g (files_tasks c.args.orders.now fs) (state_of c.loop-file.loaded) after)
+    (sym (drop_more files c.loop-file.file-index _ c.loop-file-test.true))
+    (adds-append g _ _ _ _ after one more))

@@ -1,0 +1,4 @@
+pub mod Loading
+pub mod Writing
+pub mod Running
+pub mod Alarms

@@ -1,0 +1,81 @@
+-- The entries of crontabs in an agenda, with what is written of each.
+use Rattle.std.specs.Prelude.{◌≡◌, ◌⊎◌, ◌++◌, ℕ, ℤ, List, [], ◌∷◌, None, Result, Ok, Err, map}
+use Rattle.std.specs.List.{flat_map}
+use Rattle.jiff_tz.specs.declared.timezone.TimeZone.{TimeZone}
+use Rattle.cron_agenda.specs.Entries.{Adds, Listed, listed}
+use Rattle.cron_agenda.specs.Fires.{fires_after}
+use Rattle.cron_agenda.specs.declared.error.AddError.{AddError}
+use Rattle.cron_agenda.specs.declared.error.AddError.TheVariants.{NoFires}
+use Rattle.cron_agenda_scheduler.specs.declared.lateness.Lateness.{Lateness}
+use Rattle.cron_agenda_scheduler.specs.declared.lateness.Timely.{Timely}
+use Rattle.cron_fires.specs.declared.changes.ClockChanges.{ClockChanges}
+use Rattle.cron_tab_lines.specs.Files.{FileLine, file_lines}
+use Rattle.cron_tab_lines.specs.declared.kinds.Crontab.{Crontab}
+use Rattle.cron_tab_listing.specs.Adding.{changes_of}
+use Rattle.cron_tab_listing.specs.Tabs.{IsTab, schedules_in, schedules_of}
+use Rattle.cron_tab_listing.specs.declared.adding.Clock.{Clock}
+use Rattle.cron_tab_listing.specs.declared.tab_entry.TabEntry.{TabEntry}
+use Rattle.cron_tab_tasks.specs.Tasks.{Task, orders_view, tasks_of}
+use Rattle.cron_tab_tasks.specs.Told.{told_lines}
+use Rattle.cron_running.specs.declared.loading.Loaded.{Loaded}
+use Rattle.cron_running.specs.declared.orders.RunOrders.{RunOrders}
+use Rattle.cron_running.specs.declared.orders.TabFile.{TabFile}
+
+-- where, from when on, by which rule and how late entries fire: after the instant `start`, in nanoseconds since 1970
+pub record Given : Type 0 where
+  pub zone : TimeZone
+  pub start : ℤ
+  pub clock : Clock
+  pub lateness : Lateness
+
+abbrev pub given : RunOrders → TimeZone → ℤ → Given
+given o zone start = record { zone = zone; start = start; clock = o.clock; lateness = o.lateness }
+
+-- an agenda, the texts of its entries, each at the id of its entry, and those of the entries of `@reboot`, one after another
+pub record State : Type 0 where
+  pub agenda : Listed (Timely TabEntry)
+  pub texts : List (List ℕ)
+  pub at_reboot : List ℕ
+
+abbrev pub state_of : Loaded → State
+state_of l = record { agenda = l.agenda; texts = map (λ t. t.items) l.texts.items; at_reboot = l.at_reboot.items }
+
+abbrev pub nothing : State
+nothing = record { agenda = listed [] 0; texts = []; at_reboot = [] }
+
+-- as an agenda adds a table's fires by a rule
+abbrev pub AddsTable : Given → ClockChanges → TabEntry → Listed (Timely TabEntry) → Result ℕ AddError → Listed (Timely TabEntry) → Type 0
+AddsTable g changes table =
+    Adds (λ t. schedules_of t.table) (g.zone ∷ []) (record { table = table; lateness = g.lateness }) 0
+    (λ z. fires_after (schedules_of table) z changes g.start)
+
+-- The entry and its text are added; or nothing is, since it never fires again.
+abbrev pub AddsTimed : Given → ClockChanges → TabEntry → List ℕ → State → State → Type 0
+AddsTimed g changes table text old new =
+    ((id : ℕ) × AddsTable g changes table old.agenda (Ok id) new.agenda × (new.texts ≡ old.texts ++ text ∷ []) × (new.at_reboot ≡ old.at_reboot))
+    ⊎ (AddsTable g changes table old.agenda (Err NoFires) new.agenda × (new.texts ≡ old.texts) × (new.at_reboot ≡ old.at_reboot))
+
+abbrev pub task : FileLine → List ℕ → Task
+task line text = record { line = line; text = text }
+
+-- An entry that no clock fires is one of `@reboot`. Others are added.
+abbrev pub AddsTask : Given → Task → State → State → Type 0
+AddsTask g task old new =
+    ((schedules_in task.line.outcome ≡ None) × (new.agenda ≡ old.agenda) × (new.texts ≡ old.texts) × (new.at_reboot ≡ old.at_reboot ++ task.text))
+    ⊎ ((table : TabEntry) × IsTab task.line table × AddsTimed g (changes_of g.clock task.line.bytes) table task.text old new)
+
+-- one after another
+abbrev pub AddsTasks : Given → List Task → State → State → Type 0
+AddsTasks g [] old new = new ≡ old
+AddsTasks g (task ∷ tasks) old new = (between : State) × AddsTask g task old between × AddsTasks g tasks between new
+
+-- those of a crontab, and of several
+abbrev pub file_tasks : RunOrders → TabFile → List Task
+file_tasks o file = tasks_of (orders_view o.tasks) (file_lines o.tasks.kind file.bytes.now)
+
+abbrev pub files_tasks : RunOrders → List TabFile → List Task
+files_tasks o files = flat_map (file_tasks o) files
+
+-- what is told of the lines of several crontabs
+abbrev pub told_files : Crontab → List TabFile → List ℕ
+told_files kind files = flat_map (λ file. told_lines file.name.now (file_lines kind file.bytes.now)) files

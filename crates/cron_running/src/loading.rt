@@ -1,0 +1,167 @@
+//! The entries of crontabs, added to an agenda with what is written of each.
+
+ghost use Rattle.std.specs.Prelude.{◌≡◌, ◌++◌, ◌∷◌, [], OnOk, map};
+ghost use Rattle.jiff.specs.Words.{plain_zone};
+ghost use Rattle.cron_shell.specs.Lines.{variable_view};
+ghost use Rattle.cron_tab_lines.specs.Views.{file_line_view};
+ghost use Rattle.cron_tab_listing.specs.Adding as adding;
+ghost use Rattle.cron_tab_tasks.specs.Tasks as tasks;
+ghost use Rattle.cron_running.specs.Loading.{AddsTask, AddsTasks, AddsTimed, file_tasks, files_tasks, given, nothing, state_of, task};
+
+use crate::orders::{RunOrders, TabFile};
+use cron_agenda::{AddError, Agenda};
+use cron_agenda_scheduler::Timely;
+use cron_shell::Variable;
+use cron_tab_lines::{FileLine, Lines};
+use cron_tab_listing::{TabEntry, changes_of};
+use cron_tab_tasks::{is_zone, push_defaults, push_variable, text_in};
+use jiff::Timestamp;
+use jiff::tz::TimeZone;
+use std::alloc::{AllocError, Global};
+
+/// Entries, with what is written of each.
+#[derive(Drop)]
+pub(crate) struct Loaded {
+    pub(crate) agenda: Agenda<Timely<TabEntry>>,
+    /// The texts of the entries, each at the id of its entry.
+    pub(crate) texts: Vec<Vec<u8>>,
+    /// Those of the entries of `@reboot`, one after another.
+    pub(crate) at_reboot: Vec<u8>,
+}
+
+impl Loaded {
+    /// No entries.
+    pub(crate) fn new(alloc: Global) -> Loaded
+        ensures { state_of result ≡ nothing }
+    {
+        Loaded {
+            agenda: Agenda::new(alloc),
+            texts: Vec::new(alloc),
+            at_reboot: Vec::new(alloc),
+        }
+    }
+}
+
+/// Where and from when on entries fire.
+#[derive(Clone, Copy)]
+pub(crate) struct Start<'a> {
+    pub(crate) zone: TimeZone<'a>,
+    pub(crate) instant: Timestamp,
+}
+
+// Puts a text behind others.
+fn push_text(texts: &mut Vec<Vec<u8>>, text: Vec<u8>) -> Result<(), AllocError>
+    ensures { OnOk result (map (λ t. t.items) texts.new.items
+        ≡ map (λ t. t.items) texts.old.items ++ text.items ∷ []) }
+{
+    texts.push(text)?;
+    Ok(())
+}
+
+// Adds an entry that fires by a table.
+fn add_table(
+    loaded: &mut Loaded,
+    orders: &RunOrders<'_>,
+    table: TabEntry,
+    line: &FileLine<'_>,
+    text: Vec<u8>,
+    start: &Start<'_>,
+) -> Result<(), AllocError>
+    ensures { OnOk result (AddsTimed (given orders.now (plain_zone start.now.zone) start.now.instant.nanosecond)
+        (adding.changes_of orders.now.clock line.now.bytes.now) table text.items
+        (state_of loaded.old) (state_of loaded.new)) }
+{
+    let changes = changes_of(orders.clock, line.bytes);
+    let timely = Timely {
+        table,
+        lateness: orders.lateness,
+    };
+    let zones = [start.zone];
+    match loaded.agenda.add(timely, changes, start.instant, &zones, 0) {
+        Ok(_) => push_text(&mut loaded.texts, text),
+        Err(AddError::NoFires) => Ok(()),
+        Err(_) => Err(AllocError),
+    }
+}
+
+// Adds the entry of a line, with what is written of it.
+fn add_task(
+    loaded: &mut Loaded,
+    orders: &RunOrders<'_>,
+    line: &FileLine<'_>,
+    text: Vec<u8>,
+    start: &Start<'_>,
+) -> Result<(), AllocError>
+    ensures { OnOk result (AddsTask (given orders.now (plain_zone start.now.zone) start.now.instant.nanosecond)
+        (task (file_line_view line.now) text.items)
+        (state_of loaded.old) (state_of loaded.new)) }
+{
+    let Some(table) = TabEntry::of(line) else {
+        loaded.at_reboot.extend_from_slice(text.as_slice())?;
+        return Ok(());
+    };
+    add_table(loaded, orders, table, line, text, start)
+}
+
+// Adds what a line is: a variable, or an entry.
+fn load_line<'a>(
+    loaded: &mut Loaded,
+    variables: &mut Vec<Variable<'a>>,
+    orders: &RunOrders<'_>,
+    line: &FileLine<'a>,
+    start: &Start<'_>,
+    alloc: Global,
+) -> Result<(), AllocError>
+    ensures variables { OnOk result (map variable_view variables.new.items
+        ≡ map variable_view variables.old.items
+        ++ tasks.variables_in (file_line_view line.now).outcome) }
+    ensures adds { OnOk result (AddsTasks (given orders.now (plain_zone start.now.zone) start.now.instant.nanosecond)
+        (tasks.task_in (file_line_view line.now) (tasks.text_in (tasks.orders_view orders.now.tasks)
+        (map variable_view variables.new.items) (file_line_view line.now).outcome))
+        (state_of loaded.old) (state_of loaded.new)) }
+{
+    push_variable(variables, line)?;
+    match text_in(alloc, &orders.tasks, variables.as_slice(), line)? {
+        Some(text) => add_task(loaded, orders, line, text, start),
+        None => Ok(()),
+    }
+}
+
+// Adds the entries of a crontab.
+fn load_file(
+    loaded: &mut Loaded,
+    orders: &RunOrders<'_>,
+    file: &TabFile<'_>,
+    start: &Start<'_>,
+    alloc: Global,
+) -> Result<(), AllocError>
+    ensures { OnOk result (AddsTasks (given orders.now (plain_zone start.now.zone) start.now.instant.nanosecond)
+        (file_tasks orders.now file.now) (state_of loaded.old) (state_of loaded.new)) }
+{
+    let mut variables = Vec::new(alloc);
+    push_defaults(&mut variables)?;
+    for line in Lines::of(orders.tasks.kind, file.bytes) {
+        if is_zone(&line) {
+            return Ok(());
+        }
+        load_line(loaded, &mut variables, orders, &line, start, alloc)?;
+    }
+    Ok(())
+}
+
+/// Adds the entries of crontabs.
+pub(crate) fn load_files(
+    loaded: &mut Loaded,
+    orders: &RunOrders<'_>,
+    files: &[TabFile<'_>],
+    start: &Start<'_>,
+    alloc: Global,
+) -> Result<(), AllocError>
+    ensures { OnOk result (AddsTasks (given orders.now (plain_zone start.now.zone) start.now.instant.nanosecond)
+        (files_tasks orders.now files.now) (state_of loaded.old) (state_of loaded.new)) }
+{
+    for file in files {
+        load_file(loaded, orders, file, start, alloc)?;
+    }
+    Ok(())
+}

@@ -1,0 +1,61 @@
+//! The loop over what was loaded.
+
+ghost use Rattle.jiff.specs.Words.{plain_zone};
+ghost use Rattle.cron_ringing.specs.Printing.{writer_calls};
+ghost use Rattle.cron_scheduler.specs.Runs.{clock_calls};
+ghost use Rattle.std.specs.Prelude.{◌≡◌};
+ghost use Rattle.cron_running.specs.Loading.{state_of};
+ghost use Rattle.cron_running.specs.Running.{RunsLoaded};
+ghost use Rattle.cron_running.specs.Writing.{WritesStart};
+
+use crate::loading::Loaded;
+use crate::orders::RunOrders;
+use crate::writer::TabWriter;
+use cron_agenda_scheduler::{AgendaStop, run};
+use cron_ringing::printer::WriteFailed;
+use cron_scheduler::AlarmClock;
+use cron_writer::watchable::Watchable;
+use jiff::tz::TimeZone;
+
+// Writes what is run at the start.
+fn write_start<W: Watchable>(
+    writer: &mut TabWriter<W>,
+    orders: &RunOrders<'_>,
+    at_reboot: &[u8],
+) -> Result<(), WriteFailed>
+    ensures starts { WritesStart (writer_calls W.writes W.flushes W.contents) orders.now.reboot
+        at_reboot.now writer.old.printer result writer.new.printer }
+    ensures texts { writer.new.texts ≡ writer.old.texts }
+{
+    if orders.reboot {
+        writer.printer.print(at_reboot)
+    } else {
+        Ok(())
+    }
+}
+
+/// Writes what is run at the start, and then runs the entries.
+pub(crate) fn run_loaded<C: AlarmClock, W: Watchable>(
+    loaded: Loaded,
+    orders: &RunOrders<'_>,
+    zone: TimeZone<'_>,
+    clock: &mut C,
+    writer: &mut TabWriter<W>,
+) -> Result<(), AgendaStop<C::Error, WriteFailed>>
+    ensures { RunsLoaded (clock_calls C.shows C.waits)
+        (writer_calls W.writes W.flushes W.contents)
+        orders.now (plain_zone zone.entry) (state_of loaded)
+        (clock.old, writer.old) result (clock.new, writer.new) }
+{
+    let Loaded {
+        mut agenda,
+        texts,
+        at_reboot,
+    } = loaded;
+    writer.texts = texts;
+    let zones = [zone];
+    match write_start(writer, orders, at_reboot.as_slice()) {
+        Ok(()) => run(&mut agenda, &zones, clock, writer, orders.most),
+        Err(error) => Err(AgendaStop::Job(error)),
+    }
+}

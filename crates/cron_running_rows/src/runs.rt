@@ -1,0 +1,69 @@
+//! A crontab on a clock that wakes 70 minutes late, by each lateness.
+
+use crate::late_clock::LateClock;
+use crate::{CHICAGO, NOVEMBER};
+use anyhow::{Result, bail};
+use cron_agenda_scheduler::Lateness;
+use cron_ringing::printer::Printer;
+use cron_running::{RunOrders, TabFile, TabWriter, run_files};
+use cron_tab_lines::Crontab;
+use cron_tab_listing::Clock;
+use cron_tab_tasks::{Form, Orders};
+use cron_writer::watched::Watched;
+use jiff::tz::TimeZone;
+use std::io;
+
+/// Fires each half hour and each hour, and one entry that is refused.
+const TAB: &str =
+    "TO=nobody\n*/30 * * * * half\n60 * * * * never\n0 * * * * hour\n@reboot start%a%b\n";
+
+/// The lateness of each run. The clock shows 05:00Z first, and then 06:40Z and 08:10Z.
+const RUNS: [Lateness; 3] = [Lateness::Each, Lateness::Latest, Lateness::Within(2400)];
+
+fn orders(form: Form, lateness: Lateness, most: u64) -> RunOrders<'static> {
+    RunOrders {
+        tasks: Orders {
+            kind: Crontab::User,
+            form,
+            user: None,
+        },
+        clock: Clock::Own,
+        lateness,
+        reboot: true,
+        most,
+    }
+}
+
+// Runs the crontab, and tells of refused lines on standard output too.
+fn run_one(rt: &HostRuntime, orders: &RunOrders<'_>) -> Result<()> {
+    let files = [TabFile {
+        name: "tab",
+        bytes: TAB.as_bytes(),
+    }];
+    let mut writer = TabWriter::new(rt.alloc(), Watched::new(io::writer(rt)));
+    let mut complaints = Printer {
+        out: Watched::new(io::writer(rt)),
+    };
+    let mut clock = LateClock::new(NOVEMBER);
+    let zone = TimeZone::posix(CHICAGO)?;
+    match run_files(
+        rt.alloc(),
+        orders,
+        &files,
+        zone,
+        &mut clock,
+        &mut writer,
+        &mut complaints,
+    ) {
+        Ok(()) => Ok(()),
+        Err(_) => bail!("the run failed"),
+    }
+}
+
+/// Runs the crontab by each lateness, and then as lines for a shell.
+pub(crate) fn run(rt: &HostRuntime) -> Result<()> {
+    for lateness in RUNS {
+        run_one(rt, &orders(Form::Command, lateness, 4))?;
+    }
+    run_one(rt, &orders(Form::Shell, Lateness::Each, 1))
+}

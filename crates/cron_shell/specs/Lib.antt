@@ -1,0 +1,4 @@
+pub mod Words
+pub mod Quoted
+pub mod Lines
+pub mod Inner

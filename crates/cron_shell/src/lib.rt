@@ -1,0 +1,10 @@
+//! Lines that a POSIX shell runs in the background: a command with its variables, its shell and its
+//! input, in words that the shell takes as they are.
+#![tactic(auto)]
+
+pub mod laws;
+mod lines;
+mod words;
+
+pub use lines::{ShellJob, Variable, push_line};
+pub use words::push_word;

@@ -1,0 +1,12 @@
+//! What is written of a crontab's entries when they fire: their commands, or lines that a shell
+//! runs with the settings above them and their input. And what is told of lines that are refused.
+#![tactic(auto)]
+
+mod orders;
+mod refused;
+mod tasks;
+mod texts;
+
+pub use orders::{Form, Orders};
+pub use refused::push_refusals;
+pub use tasks::{is_zone, push_defaults, push_variable, text_in};

@@ -1,0 +1,115 @@
+//! The entries of crontabs, added to an agenda with where each stands.
+
+ghost use Rattle.std.specs.Prelude.{◌≡◌, IfOk, OnOk, map};
+ghost use Rattle.jiff.specs.Words.{plain_zone};
+ghost use Rattle.cron_tab_lines.specs.Files.{file_lines};
+ghost use Rattle.cron_tab_lines.specs.Views.{file_line_view};
+ghost use Rattle.cron_tab_listing.specs.Adding.{start_of};
+ghost use Rattle.cron_tool.specs.TabFiles.{LoadsLine, LoadsLines, agenda_view, nothing};
+
+use crate::tabs::Source;
+use cron_agenda::Agenda;
+use cron_tab_lines::{Crontab, FileLine, Line, Lines};
+use cron_tab_listing::{Clock, TabEntry, add_line};
+use cron_tab_warnings::{LineWarning, warns_line};
+use jiff::Timestamp;
+use jiff::tz::TimeZone;
+use std::alloc::{AllocError, Global};
+
+/// Entries of crontabs, with where each stands.
+#[derive(Drop)]
+pub struct TabAgenda<'a> {
+    pub agenda: Agenda<TabEntry>,
+    /// Each at the place of its entry's id.
+    pub sources: Vec<Source<'a>>,
+}
+
+/// A crontab.
+#[derive(Clone, Copy)]
+pub struct TabFile<'a> {
+    /// Whose it is.
+    pub kind: Crontab,
+    /// What stands in front of each line's number, as the file's name and a colon; or nothing.
+    pub front: &'a str,
+    pub bytes: &'a [u8],
+}
+
+/// How entries fire, and from when on.
+#[derive(Clone, Copy)]
+pub struct Firing {
+    pub clock: Clock,
+    /// They fire after it.
+    pub start: Timestamp,
+}
+
+impl<'a> TabAgenda<'a> {
+    /// No entries.
+    pub fn new(alloc: Global) -> TabAgenda<'a>
+        ensures { agenda_view result ≡ nothing }
+    {
+        TabAgenda {
+            agenda: Agenda::new(alloc),
+            sources: Vec::new(alloc),
+        }
+    }
+}
+
+// Adds the entry of a line, with its source.
+fn load_line<'a>(
+    tabs: &mut TabAgenda<'a>,
+    front: &'a str,
+    line: &FileLine<'a>,
+    firing: &Firing,
+    zones: &[TimeZone<'_>],
+    zone: usize,
+) -> Result<(), AllocError>
+    ensures { OnOk result (LoadsLine
+        (start_of (map plain_zone zones.now) zone firing.now.clock firing.now.start.nanosecond)
+        front.now (file_line_view line.now) (agenda_view tabs.old) (agenda_view tabs.new)) }
+{
+    let Ok(Line::Entry(entry)) = &line.read else {
+        return Ok(());
+    };
+    let (user, command) = (entry.user, entry.command);
+    match add_line(
+        &mut tabs.agenda,
+        line,
+        firing.clock,
+        firing.start,
+        zones,
+        zone,
+    ) {
+        Ok(Some(_)) => tabs.sources.push(Source {
+            front,
+            user,
+            command,
+        })?,
+        Ok(None) => {}
+        Err(_) => return Err(AllocError),
+    }
+    Ok(())
+}
+
+/// Adds the entries of a crontab: their fires in the zone with this number. It ends at the first
+/// line that sets `CRON_TZ`, since those below it may be of another zone, and answers the line's
+/// number. Lines that are refused are passed over, and entries that never fire again.
+pub fn load_file<'a>(
+    tabs: &mut TabAgenda<'a>,
+    file: &TabFile<'a>,
+    firing: &Firing,
+    zones: &[TimeZone<'_>],
+    zone: usize,
+) -> Result<Option<usize>, AllocError>
+    ensures { IfOk result (λ found. LoadsLines
+        (start_of (map plain_zone zones.now) zone firing.now.clock firing.now.start.nanosecond)
+        file.now.front.now (file_lines file.now.kind file.now.bytes.now)
+        (agenda_view tabs.old) found (agenda_view tabs.new)) }
+{
+    for line in Lines::of(file.kind, file.bytes) {
+        if warns_line(LineWarning::IgnoredZone, &line) {
+            return Ok(Some(line.number));
+        }
+        load_line(tabs, file.front, &line, firing, zones, zone)?;
+    }
+    Ok(None)
+}

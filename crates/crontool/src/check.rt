@@ -1,0 +1,213 @@
+//! `check`: which lines of files are refused, and which may not be meant.
+
+use crate::commands::{flag, option};
+use crate::machine::{Surroundings, complain, open_zone, read_file, say_trouble, say_unread};
+use clap::{Arg, ArgAction, ArgMatches, Command};
+use cron_checking::check::{Outcome, check as check_expressions};
+use cron_checking::line::{Mode, Telling};
+use cron_tab_lines::Crontab;
+use cron_tool::check::{Wanted, check};
+use cron_tool::instant::instant_of;
+use cron_tool::status::Status;
+use cron_tool::trouble::Trouble;
+use cron_writer::watched::Watched;
+use jiff::Timestamp;
+use jiff::tz::TimeZone;
+use std::alloc::{AllocError, Global};
+use std::fs;
+use std::io::{self, BufRead, BufReader, Read};
+
+/// The files of a subcommand, one or more.
+pub(crate) fn files<'a>(alloc: Global) -> Arg<'a> {
+    Arg::new(alloc, "FILE")
+        .required(true)
+        .action(ArgAction::Append)
+        .num_args(1..)
+        .help("A file, or - for standard input")
+}
+
+// The words of a check of expressions.
+fn of_expressions<'a>(alloc: Global, command: Command<'a>) -> Result<Command<'a>, AllocError> {
+    let expressions = flag(
+        alloc,
+        "expressions",
+        "Each line is an expression of this library",
+    )
+    .conflicts_with("system")?
+    .conflicts_with("warn")?;
+    let sets = flag(alloc, "sets", "The sets of each expression, in short form")
+        .requires_arg("expressions")?
+        .conflicts_with("next")?;
+    let next = Arg::new(alloc, "next")
+        .long("next")
+        .value_name("START")
+        .requires_arg("expressions")?
+        .help("The first fire of each expression after an instant");
+    command.arg(expressions)?.arg(sets)?.arg(next)?.arg(option(
+        alloc,
+        "zone",
+        "ZONE",
+        "local",
+        "The zone of --next",
+    ))
+}
+
+/// `check` with its words.
+pub(crate) fn command<'a>(alloc: Global) -> Result<Command<'a>, AllocError> {
+    let command = Command::new(alloc, "check")
+        .about("Tells which lines of crontabs are refused")
+        .arg(files(alloc))?
+        .arg(flag(alloc, "system", "Entries name a user"))?
+        .arg(flag(alloc, "warn", "Tells also what may not be meant"))?;
+    of_expressions(alloc, command)
+}
+
+/// What stands in front of each line's number.
+pub(crate) fn front_of(alloc: Global, file: &str, count: usize) -> Result<String, AllocError> {
+    if count > 1 {
+        format!(in alloc; "{file}:")
+    } else {
+        Ok(String::new(alloc))
+    }
+}
+
+// Checks a crontab.
+fn check_tab(rt: &HostRuntime, wanted: &Wanted<'_>, file: &str) -> Status {
+    let bytes = match read_file(rt, file) {
+        Ok(bytes) => bytes,
+        Err(error) => return say_unread(rt, file, &error),
+    };
+    let mut out = Watched::new(io::writer(rt));
+    match check(rt.alloc(), wanted, bytes.as_slice(), &mut out) {
+        Status::Unreadable => complain(rt, "out of memory", Status::Unreadable),
+        status => status,
+    }
+}
+
+fn status_of(end: Outcome) -> Status {
+    match end {
+        Outcome::AllRead => Status::Done,
+        Outcome::SomeRefused => Status::No,
+        Outcome::WriteFailed => Status::WriteFailed,
+        Outcome::OutOfMemory | Outcome::Unreadable | Outcome::NotUtf8 => Status::Unreadable,
+    }
+}
+
+// Checks the lines of a reader, each of which is an expression.
+fn check_lines<R: Read + Drop>(
+    rt: &HostRuntime,
+    how: &Telling<'_>,
+    file: &str,
+    reader: R,
+) -> Status {
+    let mut reader = match BufReader::new(rt.alloc(), reader) {
+        Ok(reader) => reader,
+        Err(error) => return say_unread(rt, file, &error),
+    };
+    // a folder is opened, and can't be read
+    if let Err(error) = reader.fill_buf() {
+        return say_unread(rt, file, &error);
+    }
+    let mut out = Watched::new(io::writer(rt));
+    status_of(check_expressions(rt.alloc(), how, &mut reader, &mut out))
+}
+
+// Checks a file of expressions.
+fn check_file(rt: &HostRuntime, how: &Telling<'_>, file: &str) -> Status {
+    if file == "-" {
+        return check_lines(rt, how, file, rt.reader());
+    }
+    match fs::open(rt, file) {
+        Ok(opened) => check_lines(rt, how, file, opened),
+        Err(error) => say_unread(rt, file, &error),
+    }
+}
+
+/// What is checked of each file.
+#[derive(Drop)]
+enum Kind<'a> {
+    /// Whose crontab it is, and whether warnings are told.
+    Tab(Crontab, bool),
+    /// The faults of expressions.
+    Faults,
+    /// Their sets too.
+    Sets,
+    /// Their first fires after an instant in a zone too.
+    Next(Timestamp, TimeZone<'a>),
+}
+
+// Checks one of so many files.
+fn check_one(rt: &HostRuntime, kind: &Kind<'_>, file: &str, count: usize) -> Status {
+    let Ok(front) = front_of(rt.alloc(), file, count) else {
+        return complain(rt, "out of memory", Status::Unreadable);
+    };
+    let front = front.as_str();
+    let mode = match kind {
+        Kind::Tab(kind, warn) => {
+            let (kind, warn) = (*kind, *warn);
+            return check_tab(rt, &Wanted { kind, front, warn }, file);
+        }
+        Kind::Faults => Mode::Faults,
+        Kind::Sets => Mode::Short,
+        Kind::Next(start, zone) => Mode::Next(*start, *zone),
+    };
+    check_file(rt, &Telling { front, mode }, file)
+}
+
+// Checks files one after another, also where one can't be read, until a write fails.
+fn check_all(rt: &HostRuntime, kind: &Kind<'_>, files: &[&str]) -> Status {
+    let mut worst = Status::Done;
+    for file in files {
+        let status = check_one(rt, kind, *file, files.len());
+        if status == Status::WriteFailed {
+            return status;
+        }
+        worst = worst.worse(status);
+    }
+    worst
+}
+
+// What is checked where no first fires are asked for.
+fn kind_of<'a>(words: &ArgMatches<'_>) -> Kind<'a> {
+    if words.get_flag("sets") {
+        return Kind::Sets;
+    }
+    if words.get_flag("expressions") {
+        return Kind::Faults;
+    }
+    let kind = if words.get_flag("system") {
+        Crontab::System
+    } else {
+        Crontab::User
+    };
+    Kind::Tab(kind, words.get_flag("warn"))
+}
+
+// Checks files, and tells the first fires of expressions in a zone where START is given.
+fn check_files(
+    rt: &HostRuntime,
+    words: &ArgMatches<'_>,
+    zone: &str,
+    files: &[&str],
+) -> Result<Status, Status> {
+    let Some(start) = words.get_str("next") else {
+        return Ok(check_all(rt, &kind_of(words), files));
+    };
+    let around = Surroundings::of(rt)?;
+    let opened = open_zone(rt, zone, &around)?;
+    let zone = opened.time_zone();
+    match instant_of(start, &zone, around.now) {
+        Some(start) => Ok(check_all(rt, &Kind::Next(start, zone), files)),
+        None => Err(say_trouble(rt, &Trouble::Instant(start))),
+    }
+}
+
+/// Does what the words ask for.
+pub(crate) fn answer(rt: &HostRuntime, words: &ArgMatches<'_>) -> Status {
+    let (Some(files), Some(zone)) = (words.get_strs("FILE"), words.get_str("zone")) else {
+        return complain(rt, "a word is missing", Status::WrongWords);
+    };
+    match check_files(rt, words, zone, files) {
+        Ok(status) | Err(status) => status,
+    }
+}

@@ -1,0 +1,34 @@
+//! The subcommand `done`.
+
+use crate::commands::word;
+use crate::machine::complain;
+use clap::{ArgMatches, Command};
+use cron_notes::machine::MachineStore;
+use cron_tool::done::{self, Request};
+use cron_tool::status::Status;
+use cron_writer::watched::Watched;
+use std::alloc::{AllocError, Global};
+
+/// Its words.
+pub(crate) fn command<'a>(alloc: Global) -> Result<Command<'a>, AllocError> {
+    Command::new(alloc, "done")
+        .about("Notes a fire in a stamp, unless it notes a later one")
+        .arg(word(alloc, "STAMP", "A file"))?
+        .arg(word(alloc, "FIRE", "A fire as it was printed"))
+}
+
+fn request_of<'a>(words: &ArgMatches<'a>) -> Option<Request<'a>> {
+    Some(Request {
+        stamp: words.get_str("STAMP")?,
+        fire: words.get_str("FIRE")?,
+    })
+}
+
+/// Does what the words ask for.
+pub(crate) fn answer(rt: &HostRuntime, words: &ArgMatches<'_>) -> Status {
+    let Some(request) = request_of(words) else {
+        return complain(rt, "a word is missing", Status::WrongWords);
+    };
+    let mut complaints = Watched::new(rt.stderr());
+    done::answer(rt.alloc(), &request, &mut MachineStore(rt), &mut complaints)
+}

@@ -1,0 +1,55 @@
+//! The subcommand `due`.
+
+use crate::commands::{changes_of, flag, form_of, listing, word};
+use crate::machine::{Surroundings, complain};
+use clap::{ArgMatches, Command};
+use cron_tool::due::{self, Request};
+use cron_tool::status::Status;
+use cron_writer::watched::Watched;
+use cron_zones::machine::MachineFiles;
+use std::alloc::{AllocError, Global};
+use std::io;
+
+/// Its words.
+pub(crate) fn command<'a>(alloc: Global) -> Result<Command<'a>, AllocError> {
+    let command = Command::new(alloc, "due")
+        .about("Lists the fires that came due after the one that a stamp notes")
+        .arg(word(alloc, "STAMP", "A file, as `done` writes it"))?;
+    listing(alloc, command)?.arg(flag(alloc, "latest", "The last of them alone"))
+}
+
+fn request_of<'a>(words: &ArgMatches<'a>) -> Option<Request<'a>> {
+    Some(Request {
+        stamp: words.get_str("STAMP")?,
+        expression: words.get_str("EXPRESSION")?,
+        zone: words.get_str("zone")?,
+        latest: words.get_flag("latest"),
+        changes: changes_of(words),
+        form: form_of(words),
+    })
+}
+
+fn answer_request(rt: &HostRuntime, request: &Request<'_>) -> Result<Status, Status> {
+    let around = Surroundings::of(rt)?;
+    let mut out = Watched::new(io::writer(rt));
+    let mut complaints = Watched::new(rt.stderr());
+    Ok(due::answer(
+        rt.alloc(),
+        request,
+        around.now,
+        &around.places(),
+        &mut MachineFiles(rt),
+        &mut out,
+        &mut complaints,
+    ))
+}
+
+/// Does what the words ask for.
+pub(crate) fn answer(rt: &HostRuntime, words: &ArgMatches<'_>) -> Status {
+    match request_of(words) {
+        Some(request) => match answer_request(rt, &request) {
+            Ok(status) | Err(status) => status,
+        },
+        None => complain(rt, "a word is missing", Status::WrongWords),
+    }
+}

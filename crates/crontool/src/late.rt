@@ -1,0 +1,67 @@
+//! The subcommand `late`.
+
+use crate::commands::{changes_of, firing, word};
+use crate::machine::{Surroundings, complain};
+use clap::{Arg, ArgMatches, Command, value_parser};
+use cron_tool::late::{self, Request};
+use cron_tool::status::Status;
+use cron_writer::watched::Watched;
+use cron_zones::machine::MachineFiles;
+use std::alloc::{AllocError, Global};
+use std::io;
+
+/// Its words.
+pub(crate) fn command<'a>(alloc: Global) -> Result<Command<'a>, AllocError> {
+    let last = Arg::new(alloc, "last")
+        .long("last")
+        .value_name("INSTANT")
+        .required(true)
+        .help("The instant of the last run");
+    let grace = Arg::new(alloc, "grace")
+        .long("grace")
+        .value_name("SECONDS")
+        .required(true)
+        .value_parser(value_parser!(u32))
+        .help("How long after a fire its run may be noted");
+    let command = Command::new(alloc, "late")
+        .about("Says whether a fire was missed since the last run, by its status too")
+        .arg(word(alloc, "EXPRESSION", "A cron expression"))?
+        .arg(last)?
+        .arg(grace)?;
+    firing(alloc, command)
+}
+
+fn request_of<'a>(words: &ArgMatches<'a>) -> Option<Request<'a>> {
+    Some(Request {
+        expression: words.get_str("EXPRESSION")?,
+        zone: words.get_str("zone")?,
+        last: words.get_str("last")?,
+        grace: words.get_one::<u32>("grace")?,
+        changes: changes_of(words),
+    })
+}
+
+fn answer_request(rt: &HostRuntime, request: &Request<'_>) -> Result<Status, Status> {
+    let around = Surroundings::of(rt)?;
+    let mut out = Watched::new(io::writer(rt));
+    let mut complaints = Watched::new(rt.stderr());
+    Ok(late::answer(
+        rt.alloc(),
+        request,
+        around.now,
+        &around.places(),
+        &mut MachineFiles(rt),
+        &mut out,
+        &mut complaints,
+    ))
+}
+
+/// Does what the words ask for.
+pub(crate) fn answer(rt: &HostRuntime, words: &ArgMatches<'_>) -> Status {
+    match request_of(words) {
+        Some(request) => match answer_request(rt, &request) {
+            Ok(status) | Err(status) => status,
+        },
+        None => complain(rt, "a word is missing", Status::WrongWords),
+    }
+}

@@ -1,0 +1,236 @@
+//! The subcommand `list`.
+
+use crate::check::{files, front_of};
+use crate::commands::{choice, firing, flag};
+use crate::machine::{Surroundings, complain, open_zone, say_trouble};
+use crate::run::{clock_of, read_all};
+use clap::{ArgMatches, Command, value_parser};
+use cron_tab_lines::Crontab;
+use cron_tab_listing::Clock;
+use cron_tool::check::{Wanted, check};
+use cron_tool::instant::instant_of;
+use cron_tool::status::Status;
+use cron_tool::tab_files::{Firing, TabAgenda, TabFile, load_file};
+use cron_tool::tabs::list;
+use cron_tool::trouble::Trouble;
+use cron_writer::watched::Watched;
+use jiff::Timestamp;
+use jiff::tz::TimeZone;
+use std::alloc::{AllocError, Global};
+use std::io;
+
+const USAGE: &str = "crontool list [OPTIONS] <START> <END> <FILE>...\n       \
+crontool list [OPTIONS] --count <N> [--after <START>] <FILE>...";
+
+/// Its words.
+pub(crate) fn command<'a>(alloc: Global) -> Result<Command<'a>, AllocError> {
+    let count = choice(
+        alloc,
+        "count",
+        "N",
+        "The first N fires, without START and END",
+    );
+    let after = choice(
+        alloc,
+        "after",
+        "START",
+        "After which they come: now if left out",
+    );
+    let command = Command::new(alloc, "list")
+        .about("Lists the fires of the entries of crontabs after START, up to and with END")
+        .override_usage(USAGE)
+        .arg(files(alloc))?
+        .arg(count.value_parser(value_parser!(u64)))?
+        .arg(after.requires_arg("count")?)?
+        .arg(flag(alloc, "system", "Entries name a user"))?;
+    firing(alloc, command)
+}
+
+/// What is asked for, in words.
+#[derive(Clone, Copy)]
+struct Request<'a> {
+    kind: Crontab,
+    clock: Clock,
+    zone: &'a str,
+    start: &'a str,
+    end: Option<&'a str>,
+    most: usize,
+}
+
+// What is asked for, and of which files. `None` where words are missing.
+fn request_of<'a, 'w>(words: &'w ArgMatches<'a>) -> Option<(Request<'a>, &'w [&'a str])> {
+    let given = words.get_strs("FILE")?;
+    let request = Request {
+        kind: if words.get_flag("system") {
+            Crontab::System
+        } else {
+            Crontab::User
+        },
+        clock: clock_of(words),
+        zone: words.get_str("zone")?,
+        start: words.get_str("after").unwrap_or("now"),
+        end: None,
+        most: usize::MAX,
+    };
+    match (words.get_one::<u64>("count"), given) {
+        (Some(count), _) => Some((
+            Request {
+                most: count as usize,
+                ..request
+            },
+            given,
+        )),
+        (None, [start, end, files @ ..]) if !files.is_empty() => Some((
+            Request {
+                start,
+                end: Some(end),
+                ..request
+            },
+            files,
+        )),
+        _ => None,
+    }
+}
+
+// Reads an instant, or says that a text is none.
+fn read_instant(
+    rt: &HostRuntime,
+    text: &str,
+    zone: &TimeZone<'_>,
+    now: Timestamp,
+) -> Result<Timestamp, Status> {
+    match instant_of(text, zone, now) {
+        Some(instant) => Ok(instant),
+        None => Err(say_trouble(rt, &Trouble::Instant(text))),
+    }
+}
+
+fn no_memory(rt: &HostRuntime) -> Status {
+    complain(rt, "out of memory", Status::Unreadable)
+}
+
+// What stands in front of the numbers of each file's lines.
+fn fronts_of(alloc: Global, names: &[&str]) -> Result<Vec<String>, AllocError> {
+    let mut fronts = Vec::new(alloc);
+    for name in names {
+        fronts.push(front_of(alloc, *name, names.len())?)?;
+    }
+    Ok(fronts)
+}
+
+// Tells which lines of a crontab are refused.
+fn tell_refused(rt: &HostRuntime, file: &TabFile<'_>) -> Status {
+    let wanted = Wanted {
+        kind: file.kind,
+        front: file.front,
+        warn: false,
+    };
+    let mut complaints = Watched::new(rt.stderr());
+    match check(rt.alloc(), &wanted, file.bytes, &mut complaints) {
+        Status::Unreadable => no_memory(rt),
+        status => status,
+    }
+}
+
+// Says that the entries below a line are left out.
+fn say_left_out(rt: &HostRuntime, front: &str, line: usize) -> Status {
+    match eprintln!(rt; "{front}{line}: it sets CRON_TZ, and the entries below it are left out") {
+        Ok(()) => Status::No,
+        Err(_) => Status::WriteFailed,
+    }
+}
+
+// Tells which lines of a crontab are refused or left out, and adds the others.
+fn load<'a>(
+    rt: &HostRuntime,
+    tabs: &mut TabAgenda<'a>,
+    file: &TabFile<'a>,
+    firing: &Firing,
+    zones: &[TimeZone<'_>],
+) -> Status {
+    let told = tell_refused(rt, file);
+    match load_file(tabs, file, firing, zones, 0) {
+        Ok(None) => told,
+        Ok(Some(line)) => told.worse(say_left_out(rt, file.front, line)),
+        Err(_) => no_memory(rt),
+    }
+}
+
+// Lists the fires of files that were read, up to and with an instant.
+fn list_read(
+    rt: &HostRuntime,
+    request: &Request<'_>,
+    fronts: &[String],
+    read: &[Vec<u8>],
+    firing: &Firing,
+    end: Timestamp,
+    zone: TimeZone<'_>,
+) -> Status {
+    let zones = [zone];
+    let mut tabs = TabAgenda::new(rt.alloc());
+    let mut told = Status::Done;
+    for (front, bytes) in fronts.iter().zip(read.iter()) {
+        let file = TabFile {
+            kind: request.kind,
+            front: front.as_str(),
+            bytes: bytes.as_slice(),
+        };
+        told = told.worse(load(rt, &mut tabs, &file, firing, &zones));
+    }
+    if told.code() > Status::No.code() {
+        return told;
+    }
+    let mut out = Watched::new(io::writer(rt));
+    let TabAgenda {
+        mut agenda,
+        sources,
+    } = tabs;
+    let sources = sources.as_slice();
+    match list(
+        rt.alloc(),
+        &mut agenda,
+        sources,
+        end,
+        request.most,
+        &zones,
+        &mut out,
+    ) {
+        Status::Unreadable => no_memory(rt),
+        status => told.worse(status),
+    }
+}
+
+// Lists the fires of files.
+fn list_files(rt: &HostRuntime, request: &Request<'_>, names: &[&str]) -> Result<Status, Status> {
+    let read = read_all(rt, names)?;
+    let Ok(fronts) = fronts_of(rt.alloc(), names) else {
+        return Err(no_memory(rt));
+    };
+    let around = Surroundings::of(rt)?;
+    let opened = open_zone(rt, request.zone, &around)?;
+    let zone = opened.time_zone();
+    let firing = Firing {
+        clock: request.clock,
+        start: read_instant(rt, request.start, &zone, around.now)?,
+    };
+    let end = match request.end {
+        Some(end) => read_instant(rt, end, &zone, around.now)?,
+        None => Timestamp::MAX,
+    };
+    let (fronts, read) = (fronts.as_slice(), read.as_slice());
+    Ok(list_read(rt, request, fronts, read, &firing, end, zone))
+}
+
+/// Does what the words ask for.
+pub(crate) fn answer(rt: &HostRuntime, words: &ArgMatches<'_>) -> Status {
+    match request_of(words) {
+        Some((request, names)) => match list_files(rt, &request, names) {
+            Ok(status) | Err(status) => status,
+        },
+        None => complain(
+            rt,
+            "START, END and a FILE are wanted, or --count",
+            Status::WrongWords,
+        ),
+    }
+}

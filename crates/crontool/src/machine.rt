@@ -1,0 +1,101 @@
+//! What subcommands have of the machine: files, the clock and TZ, and what is said where one can't
+//! be read.
+
+use cron_tool::status::Status;
+use cron_tool::trouble::{Trouble, tell};
+use cron_writer::watched::Watched;
+use cron_zones::machine::{LOCAL_FILE, MachineFiles, ZONE_FOLDER};
+use cron_zones::open::{Places, open};
+use cron_zones::zone::Zone;
+use jiff::Timestamp;
+use std::alloc::Global;
+use std::env::{self, VarError};
+use std::fs;
+use std::io::{self, ErrorKind, Read};
+
+/// The longest file that is read whole: 64 MiB. A device might never end.
+const MOST_BYTES: u64 = 1 << 26;
+
+fn read_whole<R: Read + Drop>(alloc: Global, reader: R) -> io::Result<Vec<u8>> {
+    let mut bytes = Vec::new(alloc);
+    let mut reader = reader.take(MOST_BYTES + 1);
+    reader.read_to_end(&mut bytes)?;
+    if bytes.len() as u64 > MOST_BYTES {
+        return Err(io::Error::from(ErrorKind::FileTooLarge));
+    }
+    Ok(bytes)
+}
+
+/// Reads a file whole, or standard input where it is `-`.
+pub(crate) fn read_file(rt: &HostRuntime, path: &str) -> io::Result<Vec<u8>> {
+    if path == "-" {
+        return read_whole(rt.alloc(), rt.reader());
+    }
+    read_whole(rt.alloc(), fs::open(rt, path)?)
+}
+
+/// Says on standard error why something can't be done, and answers how the subcommand ends.
+pub(crate) fn complain(rt: &HostRuntime, why: &str, status: Status) -> Status {
+    match eprintln!(rt; "error: {why}") {
+        Ok(()) => status,
+        Err(_) => Status::WriteFailed,
+    }
+}
+
+/// The same of a file that can't be read.
+pub(crate) fn say_unread(rt: &HostRuntime, file: &str, error: &io::Error) -> Status {
+    match eprintln!(rt; "error: {file}: {error}") {
+        Ok(()) => Status::Unreadable,
+        Err(_) => Status::WriteFailed,
+    }
+}
+
+/// What a subcommand finds around it: what the clock shows, and what TZ says.
+#[derive(Drop)]
+pub(crate) struct Surroundings {
+    pub(crate) now: Timestamp,
+    tz: Option<String>,
+}
+
+impl Surroundings {
+    /// Those of the machine; or how the subcommand ends, once it is said why they can't be had.
+    pub(crate) fn of(rt: &HostRuntime) -> Result<Surroundings, Status> {
+        let Ok(now) = Timestamp::now(rt) else {
+            return Err(complain(rt, "the clock can't be read", Status::Unreadable));
+        };
+        match env::var(rt, "TZ") {
+            Ok(text) => Ok(Surroundings {
+                now,
+                tz: Some(text),
+            }),
+            Err(VarError::NotPresent) => Ok(Surroundings { now, tz: None }),
+            Err(_) => Err(complain(rt, "TZ can't be read", Status::Unreadable)),
+        }
+    }
+
+    /// Where zones are looked for.
+    pub(crate) fn places(&self) -> Places<'_> {
+        Places {
+            folder: ZONE_FOLDER,
+            tz: self.tz.as_ref().map(|text| text.as_str()),
+            machine: LOCAL_FILE,
+        }
+    }
+}
+
+/// Says why something can't be done.
+pub(crate) fn say_trouble(rt: &HostRuntime, trouble: &Trouble<'_>) -> Status {
+    tell(rt.alloc(), trouble, &mut Watched::new(rt.stderr()))
+}
+
+/// Opens a zone; or how the subcommand ends, once it is said why it can't be had.
+pub(crate) fn open_zone<'a>(
+    rt: &HostRuntime,
+    zone: &'a str,
+    around: &'a Surroundings,
+) -> Result<Zone<'a>, Status> {
+    match open(rt.alloc(), zone, &around.places(), &mut MachineFiles(rt)) {
+        Ok(opened) => Ok(opened),
+        Err(error) => Err(say_trouble(rt, &Trouble::Zone(zone, error))),
+    }
+}

@@ -1,0 +1,29 @@
+//! The subcommand `overlap`.
+
+use crate::machine::complain;
+use crate::pair::{pair_command, pair_of};
+use clap::{ArgMatches, Command};
+use cron_tool::overlap::overlap;
+use cron_tool::status::Status;
+use cron_writer::watched::Watched;
+use std::alloc::{AllocError, Global};
+use std::io;
+
+/// Its words.
+pub(crate) fn command<'a>(alloc: Global) -> Result<Command<'a>, AllocError> {
+    pair_command(
+        alloc,
+        "overlap",
+        "Tells the first civil second that two expressions both match",
+    )
+}
+
+/// Does what the words ask for.
+pub(crate) fn answer(rt: &HostRuntime, words: &ArgMatches<'_>) -> Status {
+    let Some(pair) = pair_of(words) else {
+        return complain(rt, "a word is missing", Status::WrongWords);
+    };
+    let mut out = Watched::new(io::writer(rt));
+    let mut complaints = Watched::new(rt.stderr());
+    overlap(rt.alloc(), &pair, &mut out, &mut complaints)
+}

@@ -1,0 +1,184 @@
+//! The subcommand `run`.
+
+use crate::check::files;
+use crate::commands::{changes_of, choice, flag, option, running};
+use crate::machine::{Surroundings, complain, open_zone, read_file, say_unread};
+use clap::{ArgMatches, Command};
+use cron_agenda_scheduler::{AgendaStop, Lateness};
+use cron_ringing::printer::Printer;
+use cron_running::{Failure, RunOrders, TabFile, TabWriter, run_files};
+use cron_scheduler::MachineClock;
+use cron_tab_lines::Crontab;
+use cron_tab_listing::Clock;
+use cron_tab_tasks::{Form, Orders};
+use cron_tool::status::Status;
+use cron_writer::watched::Watched;
+use jiff::tz::TimeZone;
+use std::alloc::{AllocError, Global};
+use std::io;
+
+/// Its words.
+pub(crate) fn command<'a>(alloc: Global) -> Result<Command<'a>, AllocError> {
+    let user = choice(alloc, "user", "NAME", "Only this user's entries").requires_arg("system")?;
+    let late = option(
+        alloc,
+        "late",
+        "RULE",
+        "latest",
+        "Of late fires each, latest or within=SECONDS",
+    );
+    let command = Command::new(alloc, "run")
+        .about("Writes the command of each entry of crontabs when it fires")
+        .arg(files(alloc))?
+        .arg(flag(alloc, "shell", "Lines that a shell runs"))?
+        .arg(flag(alloc, "system", "Entries name a user"))?
+        .arg(user)?
+        .arg(flag(alloc, "reboot", "Run @reboot once at the start"))?
+        .arg(late)?;
+    running(alloc, command)
+}
+
+fn lateness_of(text: &str) -> Option<Lateness> {
+    match text {
+        "each" => Some(Lateness::Each),
+        "latest" => Some(Lateness::Latest),
+        _ => {
+            let seconds = text.strip_prefix("within=")?;
+            Some(Lateness::Within(seconds.parse::<u64>().ok()?))
+        }
+    }
+}
+
+/// The rule at clock changes: the one that was chosen, or of each entry its own.
+pub(crate) fn clock_of(words: &ArgMatches<'_>) -> Clock {
+    match changes_of(words) {
+        Some(changes) => Clock::Chosen(changes),
+        None => Clock::Own,
+    }
+}
+
+// Of which entries something is written, or what is wrong with the words.
+fn tasks_of<'a>(words: &ArgMatches<'a>) -> Result<Orders<'a>, &'static str> {
+    let is_shell = words.get_flag("shell");
+    let is_system = words.get_flag("system");
+    let user = words.get_str("user");
+    if is_shell && is_system && user.is_none() {
+        return Err("--shell runs the entries of one user: --user NAME is missing");
+    }
+    Ok(Orders {
+        kind: if is_system {
+            Crontab::System
+        } else {
+            Crontab::User
+        },
+        form: if is_shell { Form::Shell } else { Form::Command },
+        user: user.map(|name| name.as_bytes()),
+    })
+}
+
+fn orders_of<'a>(words: &ArgMatches<'a>) -> Result<RunOrders<'a>, &'static str> {
+    let Some(lateness) = lateness_of(words.get_str("late").unwrap_or("latest")) else {
+        return Err("--late is each, latest or within=SECONDS");
+    };
+    Ok(RunOrders {
+        tasks: tasks_of(words)?,
+        clock: clock_of(words),
+        lateness,
+        reboot: words.get_flag("reboot"),
+        most: words.get_one::<u64>("count").unwrap_or(u64::MAX),
+    })
+}
+
+/// How a subcommand ends that ran something, once it is said why it ended early.
+pub(crate) fn status_of<E: Drop>(rt: &HostRuntime, ended: Result<(), Failure<E>>) -> Status {
+    match ended {
+        Ok(()) => Status::Done,
+        Err(Failure::OutOfMemory) => complain(rt, "out of memory", Status::Unreadable),
+        Err(Failure::Stopped(AgendaStop::Clock(_))) => {
+            complain(rt, "the clock can't be read", Status::Unreadable)
+        }
+        Err(_) => Status::WriteFailed,
+    }
+}
+
+fn run_in(
+    rt: &HostRuntime,
+    orders: &RunOrders<'_>,
+    files: &[TabFile<'_>],
+    zone: TimeZone<'_>,
+) -> Status {
+    let mut writer = TabWriter::new(rt.alloc(), Watched::new(io::writer(rt)));
+    let mut complaints = Printer {
+        out: Watched::new(rt.stderr()),
+    };
+    let ended = run_files(
+        rt.alloc(),
+        orders,
+        files,
+        zone,
+        &mut MachineClock(rt),
+        &mut writer,
+        &mut complaints,
+    );
+    status_of(rt, ended)
+}
+
+/// Reads the files, or says of the first that can't be read why.
+pub(crate) fn read_all(rt: &HostRuntime, names: &[&str]) -> Result<Vec<Vec<u8>>, Status> {
+    let mut read = Vec::new(rt.alloc());
+    for name in names {
+        let bytes = match read_file(rt, *name) {
+            Ok(bytes) => bytes,
+            Err(error) => return Err(say_unread(rt, *name, &error)),
+        };
+        if read.push(bytes).is_err() {
+            return Err(complain(rt, "out of memory", Status::Unreadable));
+        }
+    }
+    Ok(read)
+}
+
+fn files_of<'a>(
+    alloc: Global,
+    names: &'a [&str],
+    read: &'a [Vec<u8>],
+) -> Result<Vec<TabFile<'a>>, AllocError> {
+    let mut files = Vec::new(alloc);
+    for (name, bytes) in names.iter().zip(read.iter()) {
+        files.push(TabFile {
+            name,
+            bytes: bytes.as_slice(),
+        })?;
+    }
+    Ok(files)
+}
+
+// Runs the entries of files in a zone.
+fn run(
+    rt: &HostRuntime,
+    orders: &RunOrders<'_>,
+    names: &[&str],
+    zone: &str,
+) -> Result<Status, Status> {
+    let read = read_all(rt, names)?;
+    let around = Surroundings::of(rt)?;
+    let opened = open_zone(rt, zone, &around)?;
+    match files_of(rt.alloc(), names, read.as_slice()) {
+        Ok(files) => Ok(run_in(rt, orders, files.as_slice(), opened.time_zone())),
+        Err(_) => Err(complain(rt, "out of memory", Status::Unreadable)),
+    }
+}
+
+/// Does what the words ask for.
+pub(crate) fn answer(rt: &HostRuntime, words: &ArgMatches<'_>) -> Status {
+    let orders = match orders_of(words) {
+        Ok(orders) => orders,
+        Err(why) => return complain(rt, why, Status::WrongWords),
+    };
+    let (Some(names), Some(zone)) = (words.get_strs("FILE"), words.get_str("zone")) else {
+        return complain(rt, "a word is missing", Status::WrongWords);
+    };
+    match run(rt, &orders, names, zone) {
+        Ok(status) | Err(status) => status,
+    }
+}

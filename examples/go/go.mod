@@ -1,3 +1,0 @@
-module example.org/cron
-
-go 1.18
