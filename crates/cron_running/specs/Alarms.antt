@@ -19,7 +19,7 @@ use Rattle.cron_moments.specs.MomentText.{item_line}
 use Rattle.cron_ringing.specs.Printing.{PrintsText, WriterCalls, due_line}
 use Rattle.cron_ringing.specs.declared.printer.WriteFailed.{WriteFailed}
 use Rattle.cron_scheduler.specs.Runs.{ClockCalls}
-use Rattle.cron_running.specs.Running.{ended}
+use Rattle.cron_running.specs.Running.{outcome_of}
 use Rattle.cron_running.specs.declared.alarm.Alarm.{Alarm}
 use Rattle.cron_running.specs.declared.alarm.FireWriter.{FireWriter}
 use Rattle.cron_running.specs.declared.failure.Failure.{Failure}
@@ -54,7 +54,7 @@ RunsLines cs calls a agenda old answer new =
 abbrev pub RingsFrom : {C W E : Type 0} → ClockCalls C E → WriterCalls W → Alarm → Timestamp → C × FireWriter W → Result ⊤ (Failure E) → C × FireWriter W → Type 0
 RingsFrom {E = E} cs calls a start old answer new =
     ((id : ℕ) × (agenda : Listed Union) × AddsAlarm a start (Ok id) agenda
-    × ((stopped : Result ⊤ (AgendaStop E WriteFailed)) × RunsLines cs calls a agenda old stopped new × (answer ≡ ended stopped)))
+    × ((stopped : Result ⊤ (AgendaStop E WriteFailed)) × RunsLines cs calls a agenda old stopped new × (answer ≡ outcome_of stopped)))
     ⊎ ((((agenda : Listed Union) × AddsAlarm a start (Err NoFires) agenda) × (answer ≡ Ok tt) × (new.0 ≡ old.0) × (new.1 ≡ old.1))
     ⊎ ((answer ≡ Err OutOfMemory) × (new.0 ≡ old.0) × (new.1 ≡ old.1)))
 

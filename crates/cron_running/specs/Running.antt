@@ -58,16 +58,16 @@ pub record Begins {C E : Type 0} (cs : ClockCalls C E) (o : RunOrders) (files : 
   pub state : State
   pub adds : AddsTasks (given o zone start.nanosecond) (files_tasks o files) nothing state
 
-abbrev pub ended : {E : Type 0} → Result ⊤ (AgendaStop E WriteFailed) → Result ⊤ (Failure E)
-ended (Ok done) = Ok tt
-ended (Err stop) = Err (Stopped stop)
+abbrev pub outcome_of : {E : Type 0} → Result ⊤ (AgendaStop E WriteFailed) → Result ⊤ (Failure E)
+outcome_of (Ok done) = Ok tt
+outcome_of (Err stop) = Err (Stopped stop)
 
 -- they are run where what was to be told could be written
 abbrev pub EndsBy : {C W E : Type 0} → ClockCalls C E → WriterCalls W → RunOrders → TimeZone → State → Result ⊤ WriteFailed → C × TabWriter W
     → Result ⊤ (Failure E) → C × TabWriter W → Type 0
 EndsBy cs calls o zone s (Err e) old answer new = (answer ≡ Err Untold) × (new.0 ≡ old.0) × (new.1 ≡ old.1)
 EndsBy {E = E} cs calls o zone s (Ok done) old answer new =
-    (stopped : Result ⊤ (AgendaStop E WriteFailed)) × RunsLoaded cs calls o zone s old stopped new × (answer ≡ ended stopped)
+    (stopped : Result ⊤ (AgendaStop E WriteFailed)) × RunsLoaded cs calls o zone s old stopped new × (answer ≡ outcome_of stopped)
 
 -- The entries were added, what is refused was told, and then they were run.
 pub record RunsAll {C W D E : Type 0} (cs : ClockCalls C E) (calls : WriterCalls W) (complaints : WriterCalls D) (o : RunOrders) (files : List TabFile) (zone : TimeZone)

@@ -6,7 +6,7 @@ ghost use Rattle.cron_ringing.specs.Printing.{writer_calls};
 ghost use Rattle.cron_scheduler.specs.Runs.{clock_calls};
 ghost use Rattle.cron_running.specs.Alarms.{RingsAt};
 
-use crate::failure::{Failure, ended};
+use crate::failure::{Failure, outcome_of};
 use cron_agenda::{AddError, Agenda, AgendaFire, EntryFire};
 use cron_agenda_scheduler::{AgendaJob, AgendaStop, run};
 use cron_fires::{ClockChanges, Union};
@@ -78,7 +78,7 @@ pub fn ring_at<C: AlarmClock, W: Watchable>(
         schedules: alarm.schedules,
     };
     match agenda.add(table, alarm.changes, now, &zones, 0) {
-        Ok(_) => ended(run(&mut agenda, &zones, clock, writer, alarm.most)),
+        Ok(_) => outcome_of(run(&mut agenda, &zones, clock, writer, alarm.most)),
         Err(AddError::NoFires) => Ok(()),
         Err(_) => Err(Failure::OutOfMemory),
     }

@@ -1,7 +1,7 @@
 //! Why a run ends early.
 
 ghost use Rattle.std.specs.Prelude.{◌≡◌};
-ghost use Rattle.cron_running.specs.Running.{ended};
+ghost use Rattle.cron_running.specs.Running.{outcome_of};
 
 use cron_agenda_scheduler::AgendaStop;
 use cron_ringing::printer::WriteFailed;
@@ -18,8 +18,10 @@ pub enum Failure<E> {
 }
 
 /// How a run ended, by how its loop did.
-pub(crate) fn ended<E>(stopped: Result<(), AgendaStop<E, WriteFailed>>) -> Result<(), Failure<E>>
-    ensures { result ≡ ended stopped }
+pub(crate) fn outcome_of<E>(
+    stopped: Result<(), AgendaStop<E, WriteFailed>>,
+) -> Result<(), Failure<E>>
+    ensures { result ≡ outcome_of stopped }
 {
     match stopped {
         Ok(()) => Ok(()),

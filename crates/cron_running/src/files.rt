@@ -8,7 +8,7 @@ ghost use Rattle.cron_scheduler.specs.Runs.{clock_calls};
 ghost use Rattle.cron_running.specs.Loading.{AddsTasks, files_tasks, given, nothing, state_of, told_files};
 ghost use Rattle.cron_running.specs.Running.{RunsFiles};
 
-use crate::failure::{Failure, ended};
+use crate::failure::{Failure, outcome_of};
 use crate::loading::{Loaded, Start, load_files};
 use crate::loop_over::run_loaded;
 use crate::orders::{RunOrders, TabFile};
@@ -59,10 +59,10 @@ fn begin(
     Ok(Begun { loaded, told })
 }
 
-/// Tells of the lines that are refused, and then runs the other entries, in a zone, from the time on
-/// that the clock shows first: what is written of an entry is handed on at its fire, and flushed,
-/// before the clock is waited for again. It ends where no entry fires any more, or after so many
-/// runs; else by a failure.
+/// Tells of the lines that are refused, and then runs the other entries, in a zone, from the time
+/// on that the clock shows first: what is written of an entry is handed on at its fire, and
+/// flushed, before the clock is waited for again. It ends where no entry fires any more, or after
+/// so many runs; else by a failure.
 pub fn run_files<C: AlarmClock, W: Watchable, E: Watchable>(
     alloc: Global,
     orders: &RunOrders<'_>,
@@ -87,7 +87,7 @@ pub fn run_files<C: AlarmClock, W: Watchable, E: Watchable>(
     };
     let Begun { loaded, told } = begun;
     match complaints.print(told.as_bytes()) {
-        Ok(()) => ended(run_loaded(loaded, orders, zone, clock, writer)),
+        Ok(()) => outcome_of(run_loaded(loaded, orders, zone, clock, writer)),
         Err(_) => Err(Failure::Untold),
     }
 }

@@ -1,5 +1,5 @@
-//! Runs the entries of crontabs: a loop over their agenda, by any clock, that writes what each entry
-//! asks for at its fire, to any writer.
+//! Runs the entries of crontabs: a loop over their agenda, by any clock, that writes what each
+//! entry asks for at its fire, to any writer.
 #![tactic(auto)]
 
 mod alarm;

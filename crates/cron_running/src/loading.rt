@@ -67,7 +67,8 @@ fn add_table(
     text: Vec<u8>,
     start: &Start<'_>,
 ) -> Result<(), AllocError>
-    ensures { OnOk result (AddsTimed (given orders.now (plain_zone start.now.zone) start.now.instant.nanosecond)
+    ensures { OnOk result (AddsTimed
+        (given orders.now (plain_zone start.now.zone) start.now.instant.nanosecond)
         (adding.changes_of orders.now.clock line.now.bytes.now) table text.items
         (state_of loaded.old) (state_of loaded.new)) }
 {
@@ -92,7 +93,8 @@ fn add_task(
     text: Vec<u8>,
     start: &Start<'_>,
 ) -> Result<(), AllocError>
-    ensures { OnOk result (AddsTask (given orders.now (plain_zone start.now.zone) start.now.instant.nanosecond)
+    ensures { OnOk result (AddsTask
+        (given orders.now (plain_zone start.now.zone) start.now.instant.nanosecond)
         (task (file_line_view line.now) text.items)
         (state_of loaded.old) (state_of loaded.new)) }
 {
@@ -115,7 +117,8 @@ fn load_line<'a>(
     ensures variables { OnOk result (map variable_view variables.new.items
         ≡ map variable_view variables.old.items
         ++ tasks.variables_in (file_line_view line.now).outcome) }
-    ensures adds { OnOk result (AddsTasks (given orders.now (plain_zone start.now.zone) start.now.instant.nanosecond)
+    ensures adds { OnOk result (AddsTasks
+        (given orders.now (plain_zone start.now.zone) start.now.instant.nanosecond)
         (tasks.task_in (file_line_view line.now) (tasks.text_in (tasks.orders_view orders.now.tasks)
         (map variable_view variables.new.items) (file_line_view line.now).outcome))
         (state_of loaded.old) (state_of loaded.new)) }
@@ -135,7 +138,8 @@ fn load_file(
     start: &Start<'_>,
     alloc: Global,
 ) -> Result<(), AllocError>
-    ensures { OnOk result (AddsTasks (given orders.now (plain_zone start.now.zone) start.now.instant.nanosecond)
+    ensures { OnOk result (AddsTasks
+        (given orders.now (plain_zone start.now.zone) start.now.instant.nanosecond)
         (file_tasks orders.now file.now) (state_of loaded.old) (state_of loaded.new)) }
 {
     let mut variables = Vec::new(alloc);
@@ -157,7 +161,8 @@ pub(crate) fn load_files(
     start: &Start<'_>,
     alloc: Global,
 ) -> Result<(), AllocError>
-    ensures { OnOk result (AddsTasks (given orders.now (plain_zone start.now.zone) start.now.instant.nanosecond)
+    ensures { OnOk result (AddsTasks
+        (given orders.now (plain_zone start.now.zone) start.now.instant.nanosecond)
         (files_tasks orders.now files.now) (state_of loaded.old) (state_of loaded.new)) }
 {
     for file in files {

@@ -31,7 +31,8 @@ pub struct ShellJob<'a> {
 // Pushes `NAME=VALUE` as a word.
 fn push_variable(line: &mut Vec<u8>, variable: &Variable<'_>) -> Result<(), AllocError>
     ensures { OnOk result
-        (line.new.items ≡ line.old.items ++ 32 ∷ quoted (assignment (variable_view variable.now))) }
+        (line.new.items ≡ line.old.items
+        ++ 32 ∷ quoted (assignment (variable_view variable.now))) }
 {
     line.extend_from_slice(b" '")?;
     push_bytes(line, variable.name)?;
@@ -43,7 +44,8 @@ fn push_variable(line: &mut Vec<u8>, variable: &Variable<'_>) -> Result<(), Allo
 
 fn push_variables(line: &mut Vec<u8>, variables: &[Variable<'_>]) -> Result<(), AllocError>
     ensures { OnOk result
-        (line.new.items ≡ line.old.items ++ words (map assignment (map variable_view variables.now))) }
+        (line.new.items ≡ line.old.items
+        ++ words (map assignment (map variable_view variables.now))) }
 {
     for variable in variables {
         push_variable(line, variable)?;
@@ -93,7 +95,8 @@ fn push_lines(line: &mut Vec<u8>, text: &[u8]) -> Result<(), AllocError>
 // Pushes what runs the command, with its variables and its shell.
 fn push_command(line: &mut Vec<u8>, job: &ShellJob<'_>) -> Result<(), AllocError>
     ensures { OnOk result
-        (line.new.items ≡ line.old.items ++ (codes "env --" ++ words (arguments (work_of job.now)))) }
+        (line.new.items ≡ line.old.items
+        ++ (codes "env --" ++ words (arguments (work_of job.now)))) }
 {
     line.extend_from_slice(b"env --")?;
     push_variables(line, job.variables)?;
@@ -106,7 +109,8 @@ fn push_command(line: &mut Vec<u8>, job: &ShellJob<'_>) -> Result<(), AllocError
 // Pushes the command, fed with its input.
 fn push_fed(line: &mut Vec<u8>, job: &ShellJob<'_>) -> Result<(), AllocError>
     ensures { OnOk result (line.new.items ≡ line.old.items
-        ++ fed (input_lines job.now.input.now) (codes "env --" ++ words (arguments (work_of job.now)))) }
+        ++ fed (input_lines job.now.input.now)
+        (codes "env --" ++ words (arguments (work_of job.now)))) }
 {
     if job.input.is_empty() {
         push_command(line, job)?;

@@ -12,7 +12,8 @@ use std::alloc::AllocError;
 // Pushes what is told of a line.
 fn push_refusal(told: &mut String, name: &str, line: &FileLine<'_>) -> Result<(), AllocError>
     ensures { OnOk result
-        (string_bytes told.new ≡ string_bytes told.old ++ told_line name.now (file_line_view line.now)) }
+        (string_bytes told.new
+        ≡ string_bytes told.old ++ told_line name.now (file_line_view line.now)) }
 {
     let number = line.number;
     if is_zone(line) {

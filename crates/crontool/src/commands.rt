@@ -113,7 +113,7 @@ fn between_command<'a>(alloc: Global) -> Result<Command<'a>, AllocError> {
 }
 
 /// The whole command line.
-pub fn command<'a>(alloc: Global) -> Result<Command<'a>, AllocError> {
+pub(crate) fn command<'a>(alloc: Global) -> Result<Command<'a>, AllocError> {
     Command::new(alloc, "crontool")
         .version(VERSION)
         .about(ABOUT)
@@ -162,7 +162,7 @@ fn which_of<'a>(name: &str, matches: &ArgMatches<'a>) -> Option<Which<'a>> {
 }
 
 /// What a subcommand asks for. `None` where a word is missing, which a parse refuses before.
-pub fn request_of<'a>(name: &str, matches: &ArgMatches<'a>) -> Option<Request<'a>> {
+pub(crate) fn request_of<'a>(name: &str, matches: &ArgMatches<'a>) -> Option<Request<'a>> {
     Some(Request {
         expression: matches.get_str("EXPRESSION")?,
         quartz: matches.get_flag("quartz"),

@@ -1,6 +1,6 @@
 //! `crontool` tells of cron expressions at a shell. Each subcommand is a call of `cron_tool`, of
-//! `cron_running` where something is waited for, or of `cron_checking` where the lines of a file are
-//! expressions.
+//! `cron_running` where something is waited for, or of `cron_checking` where the lines of a file
+//! are expressions.
 #![tactic(auto)]
 
 mod alarm;
@@ -91,7 +91,7 @@ fn answer_arguments(rt: &HostRuntime) -> u8 {
     };
     let command = match command(rt.alloc()) {
         Ok(command) => command,
-        Err(_) => return give_up(rt, "out of memory", Status::Unreadable),
+        Err(_) => return give_up(rt, "out of memory", Status::WrongWords),
     };
     match command.try_get_matches_from(arguments.as_slice()) {
         Ok(matches) => match matches.subcommand() {

@@ -6,7 +6,7 @@ use cron_tool::pair::Pair;
 use std::alloc::{AllocError, Global};
 
 /// A subcommand of this name.
-pub fn pair_command<'a>(
+pub(crate) fn pair_command<'a>(
     alloc: Global,
     name: &'a str,
     about: &'a str,
@@ -18,7 +18,7 @@ pub fn pair_command<'a>(
 }
 
 /// The two expressions. `None` where a word is missing, which a parse refuses before.
-pub fn pair_of<'a>(words: &ArgMatches<'a>) -> Option<Pair<'a>> {
+pub(crate) fn pair_of<'a>(words: &ArgMatches<'a>) -> Option<Pair<'a>> {
     Some(Pair {
         first: words.get_str("EXPRESSION")?,
         second: words.get_str("OTHER")?,

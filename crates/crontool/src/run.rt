@@ -97,7 +97,10 @@ pub(crate) fn status_of<E: Drop>(rt: &HostRuntime, ended: Result<(), Failure<E>>
         Err(Failure::Stopped(AgendaStop::Clock(_))) => {
             complain(rt, "the clock can't be read", Status::Unreadable)
         }
-        Err(_) => Status::WriteFailed,
+        Err(Failure::Stopped(AgendaStop::Zone(_))) => {
+            complain(rt, "the zone isn't lent", Status::Unreadable)
+        }
+        Err(Failure::Untold | Failure::Stopped(AgendaStop::Job(_))) => Status::WriteFailed,
     }
 }
 

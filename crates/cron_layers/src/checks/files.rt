@@ -7,20 +7,18 @@ use jiff::tz::TimeZone;
 use std::io::{self, BufReader, ErrorKind, Read};
 use std::process::Abort;
 
-// A file is told so, with its faults alone, and the check ends so.
-fn check_faults(rt: &(impl Abort + AllocGlobal), file: &[u8], outcome: Outcome, told: &str) {
+// A file is told so, and the check ends so.
+fn check_told(
+    rt: &(impl Abort + AllocGlobal),
+    how: &Telling<'_>,
+    file: &[u8],
+    outcome: Outcome,
+    told: &str,
+) {
     let count = file.len();
     let mut reader = file;
     let mut out = Watched::new(Vec::new(rt.alloc()));
-    let end = check(
-        rt.alloc(),
-        &Telling {
-            front: "",
-            mode: Mode::Faults,
-        },
-        &mut reader,
-        &mut out,
-    );
+    let end = check(rt.alloc(), how, &mut reader, &mut out);
     assert_eq!(rt; end, outcome, "a file of {count} bytes");
     assert_eq!(rt;
         out.into_inner().as_slice(),
@@ -29,26 +27,22 @@ fn check_faults(rt: &(impl Abort + AllocGlobal), file: &[u8], outcome: Outcome, 
     );
 }
 
-// The same with the sets in short form.
+// With its faults alone.
+fn check_faults(rt: &(impl Abort + AllocGlobal), file: &[u8], outcome: Outcome, told: &str) {
+    let how = Telling {
+        front: "",
+        mode: Mode::Faults,
+    };
+    check_told(rt, &how, file, outcome, told);
+}
+
+// With the sets in short form.
 fn check_sets(rt: &(impl Abort + AllocGlobal), file: &[u8], outcome: Outcome, told: &str) {
-    let count = file.len();
-    let mut reader = file;
-    let mut out = Watched::new(Vec::new(rt.alloc()));
-    let end = check(
-        rt.alloc(),
-        &Telling {
-            front: "",
-            mode: Mode::Short,
-        },
-        &mut reader,
-        &mut out,
-    );
-    assert_eq!(rt; end, outcome, "a file of {count} bytes");
-    assert_eq!(rt;
-        out.into_inner().as_slice(),
-        told.as_bytes(),
-        "a file of {count} bytes"
-    );
+    let how = Telling {
+        front: "",
+        mode: Mode::Short,
+    };
+    check_told(rt, &how, file, outcome, told);
 }
 
 #[test]
@@ -89,21 +83,9 @@ fn the_first_fire_or_none_is_told(rt: HostRuntime) {
         front: "",
         mode: Mode::Next(start, TimeZone::UTC),
     };
-    let file = "0 0 12 L 2 *\n0 0 0 30 2 *\n0 0 0 L 2 Fri\n";
-    let mut reader = file.as_bytes();
-    let mut out = Watched::new(Vec::new(rt.alloc()));
-    let end = check(rt.alloc(), &how, &mut reader, &mut out);
-    assert_eq!(rt; end, Outcome::AllRead);
+    let file = b"0 0 12 L 2 *\n0 0 0 30 2 *\n0 0 0 L 2 Fri\n";
     let told = "1: 2024-02-29 12:00:00 +00:00\n2: none\n3: 2025-02-28 00:00:00 +00:00\n";
-    assert_eq!(rt; out.into_inner().as_slice(), told.as_bytes());
-}
-
-// What stands in front of each line's number.
-fn check_front(rt: &(impl Abort + AllocGlobal), how: &Telling<'_>, file: &[u8], told: &str) {
-    let mut reader = file;
-    let mut out = Watched::new(Vec::new(rt.alloc()));
-    let _end = check(rt.alloc(), how, &mut reader, &mut out);
-    assert_eq!(rt; out.into_inner().as_slice(), told.as_bytes());
+    check_told(&rt, &how, file, Outcome::AllRead, told);
 }
 
 #[test]
@@ -113,18 +95,30 @@ fn a_front_stands_on_each_line(rt: HostRuntime) {
         front: "a:",
         mode: Mode::Faults,
     };
-    check_front(&rt, &faults, b"0\n@daily\n\xff", told);
+    check_told(&rt, &faults, b"0\n@daily\n\xff", Outcome::NotUtf8, told);
     let short = Telling {
         front: "a:",
         mode: Mode::Short,
     };
-    check_front(&rt, &short, b"\n@daily", "a:2: 0 0 0 * * * *\n");
+    check_told(
+        &rt,
+        &short,
+        b"\n@daily",
+        Outcome::AllRead,
+        "a:2: 0 0 0 * * * *\n",
+    );
     let start = "2024-02-01T00:00:00Z".parse().expect(&rt, "an instant");
     let next = Telling {
         front: "a:",
         mode: Mode::Next(start, TimeZone::UTC),
     };
-    check_front(&rt, &next, b"0 0 0 30 2 *\n", "a:1: none\n");
+    check_told(
+        &rt,
+        &next,
+        b"0 0 0 30 2 *\n",
+        Outcome::AllRead,
+        "a:1: none\n",
+    );
 }
 
 #[test]

@@ -15,7 +15,7 @@ returns-in-Ok-add g c =
         c.add.new.self,
         alarm-added c.args.alarm.now c.in-Ok.now (record { schedules = c.args.alarm.now.schedules }) c.new-agenda.result c.add.new.self (Ok c.in-Ok-add.field-0)
             refl c.new-agenda.ensures c.in-Ok-add.ensures,
-        (c.run.result, (c.run.new.agenda, c.run.ensures), c.ended.ensures),
+        (c.run.result, (c.run.new.agenda, c.run.ensures), c.outcome_of.ensures),
       ),
     )
 

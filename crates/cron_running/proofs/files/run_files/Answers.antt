@@ -17,7 +17,7 @@ returns-in-Ok-print g c = inr (record {
   begins = record { start = c.in-Ok.now; looks = c.in-Ok.ensures; state = state_of c.in-Ok-begin.begun.loaded; adds = c.in-Ok-begin.ensures.adds };
   told = Ok tt;
   tells = subst (λ t. PrintsText {E = WriteFailed} (writer_calls g.E.Watchable.writes g.E.Watchable.flushes g.E.Write.contents) c.args.complaints.now t (Ok tt) c.print.new.self) (c.as_bytes.ensures.value ∙ c.in-Ok-begin.ensures.told) c.in-Ok-print.ensures;
-  ends = (c.run_loaded.result, c.run_loaded.ensures, c.ended.ensures);
+  ends = (c.run_loaded.result, c.run_loaded.ensures, c.outcome_of.ensures);
 })
 
 pub returns-in-Err-print : goal.returns-in-Err-print
