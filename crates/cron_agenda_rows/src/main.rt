@@ -8,57 +8,53 @@ mod agendas;
 mod runs;
 mod tables;
 
-use anyhow::{Context, Result, ensure};
-use std::fs;
+use anyhow::{Context, Result};
+use cron_rows::{Replay, Report, Row, replay_files};
 
-const AGENDAS: &str = "agendas.txt";
+/// What the rows of a file hold.
+#[derive(Clone, Copy)]
+enum Kind {
+    /// Steps of an agenda.
+    Agendas,
+    /// The loop over one.
+    Runs,
+}
 
-const RUNS: &str = "runs.txt";
+const FILES: [(Kind, &str); 2] = [(Kind::Agendas, "agendas.txt"), (Kind::Runs, "runs.txt")];
 
 // The first field of a row, and the others.
 fn parted(row: &str) -> Result<(&str, &str)> {
     row.split_once(" | ").context("the row lacks a field")
 }
 
-// Whether a row comes to what was counted.
-fn replay(rt: &HostRuntime, file: &str, line: usize, row: &str) -> Result<bool> {
-    let (names, rest) = parted(row)?;
+fn replay_agenda(report: &mut Report<'_>, row: Row<'_>) -> Result<()> {
+    let (names, rest) = parted(row.text)?;
+    let (steps, wanted) = parted(rest)?;
+    let told = agendas::told(report.alloc(), names, steps)?;
+    report.compare(row, "the steps", wanted, told.as_str())
+}
+
+fn replay_run(report: &mut Report<'_>, row: Row<'_>) -> Result<()> {
+    let (names, rest) = parted(row.text)?;
     let (steps, rest) = parted(rest)?;
-    if file == AGENDAS {
-        let told = agendas::told(rt.alloc(), names, steps)?;
-        return is_same(rt, file, line, told.as_str(), rest);
-    }
     let (shown, rest) = parted(rest)?;
     let (job, rest) = parted(rest)?;
     let (most, wanted) = parted(rest)?;
-    let told = runs::told(rt.alloc(), names, steps, (shown, job, most))?;
-    is_same(rt, file, line, told.as_str(), wanted)
+    let told = runs::told(report.alloc(), names, steps, (shown, job, most))?;
+    report.compare(row, "the run", wanted, told.as_str())
 }
 
-fn is_same(rt: &HostRuntime, file: &str, line: usize, told: &str, wanted: &str) -> Result<bool> {
-    let same = told == wanted;
-    if !same {
-        println!(rt; "{file}, line {line}: expected {wanted:?}, got {told:?}")?;
-    }
-    Ok(same)
-}
-
-fn replay_all(rt: &HostRuntime, file: &str) -> Result<()> {
-    let rows = fs::read_to_string(rt, file).context("a file of rows is wanted")?;
-    let mut count = 0_usize;
-    let mut differences = 0_usize;
-    for row in rows.as_str().lines() {
-        count = count.saturating_add(1);
-        if !replay(rt, file, count, row)? {
-            differences = differences.saturating_add(1);
+impl Replay for Kind {
+    fn replay(&self, report: &mut Report<'_>, row: Row<'_>) -> Result<()> {
+        match self {
+            Kind::Agendas => replay_agenda(report, row),
+            Kind::Runs => replay_run(report, row),
         }
     }
-    println!(rt; "{file}: {count}")?;
-    ensure!(differences == 0, "{differences} answers differ");
-    Ok(())
 }
 
 fn main(rt: HostRuntime) -> Result<()> {
-    replay_all(&rt, AGENDAS)?;
-    replay_all(&rt, RUNS)
+    let mut report = Report::new(&rt);
+    replay_files(&mut report, &FILES)?;
+    report.end()
 }

@@ -5,29 +5,13 @@
 #![tactic(auto)]
 
 mod firsts;
-mod report;
 
-use anyhow::{Context, Result, ensure};
-use report::{Report, Row};
-use std::fs;
-
-const FILE: &str = "firsts.tsv";
+use anyhow::Result;
+use cron_rows::{Report, replay_files};
+use firsts::Firsts;
 
 fn main(rt: HostRuntime) -> Result<()> {
     let mut report = Report::new(&rt);
-    let rows = fs::read_to_string(&rt, FILE).context(FILE)?;
-    let mut line = 0_usize;
-    for text in rows.as_str().lines() {
-        line = line.saturating_add(1);
-        let row = Row {
-            file: FILE,
-            line,
-            text,
-        };
-        firsts::replay(&mut report, row).context(row)?;
-    }
-    println!(rt; "{FILE}: {line}")?;
-    let differences = report.differences();
-    ensure!(differences == 0, "{differences} answers differ");
-    Ok(())
+    replay_files(&mut report, &[(Firsts, "firsts.tsv")])?;
+    report.end()
 }

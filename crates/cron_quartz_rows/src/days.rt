@@ -1,9 +1,9 @@
 //! Forms of days, how many days of 1970 to 2100 each has, and the sum of their numbers, where
 //! 1970-01-01 has the number 0.
 
-use crate::report::{Report, Row};
 use anyhow::{Context, Result};
 use cron_quartz::{Expression, read};
+use cron_rows::{Report, Row};
 use cron_unions::run::Run;
 use jiff::Timestamp;
 use jiff::tz::TimeZone;
@@ -33,9 +33,9 @@ pub(crate) fn replay(report: &mut Report<'_>, row: Row<'_>) -> Result<()> {
         .context("the row lacks an answer")?;
     let outcome = read(text);
     let Ok(expression) = &outcome else {
-        return report.compare(row, told, "refused");
+        return report.compare(row, "days", told, "refused");
     };
     let start = BEFORE_ALL.parse::<Timestamp>()?;
     let got = days(report.alloc(), expression, start)?;
-    report.compare(row, told, got.as_str())
+    report.compare(row, "days", told, got.as_str())
 }

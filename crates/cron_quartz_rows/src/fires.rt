@@ -1,8 +1,8 @@
 //! Expressions, and their first fires in UTC after the start of 2024-01-15, with spaces between.
 
-use crate::report::{Report, Row};
 use anyhow::{Context, Result};
 use cron_quartz::read;
+use cron_rows::{Report, Row};
 use cron_unions::instants::first_after;
 use cron_units::fields::ScheduleFields;
 use jiff::Timestamp;
@@ -43,7 +43,7 @@ pub(crate) fn replay(report: &mut Report<'_>, row: Row<'_>) -> Result<()> {
         .context("the row lacks an answer")?;
     let outcome = read(text);
     let Ok(expression) = &outcome else {
-        return report.compare(row, told, "refused");
+        return report.compare(row, "fires", told, "refused");
     };
     let start = START.parse::<Timestamp>()?;
     let got = fires(
@@ -52,5 +52,5 @@ pub(crate) fn replay(report: &mut Report<'_>, row: Row<'_>) -> Result<()> {
         start,
         told.split(' ').count(),
     )?;
-    report.compare(row, told, got.as_str())
+    report.compare(row, "fires", told, got.as_str())
 }

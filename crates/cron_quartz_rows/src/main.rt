@@ -8,11 +8,9 @@
 mod days;
 mod fires;
 mod messages;
-mod report;
 
-use anyhow::{Context, Result, ensure};
-use report::{Report, Row};
-use std::fs;
+use anyhow::Result;
+use cron_rows::{Replay, Report, Row, replay_files};
 
 /// What the rows of a file hold.
 #[derive(Clone, Copy)]
@@ -34,39 +32,19 @@ const FILES: [(Kind, &str); 4] = [
     (Kind::Messages, "messages.txt"),
 ];
 
-fn replay_row(report: &mut Report<'_>, kind: Kind, row: Row<'_>) -> Result<()> {
-    match kind {
-        Kind::Fires => fires::replay(report, row),
-        Kind::Refused => messages::replay_refused(report, row),
-        Kind::Days => days::replay(report, row),
-        Kind::Messages => messages::replay(report, row),
-    }
-}
-
-// Replays the rows of a file, and prints how many they are. A line that begins with `# ` is none.
-fn replay_file(report: &mut Report<'_>, kind: Kind, file: &str) -> Result<()> {
-    let rt = report.runtime();
-    let rows = fs::read_to_string(rt, file).context(file)?;
-    let mut line = 0_usize;
-    let mut count = 0_usize;
-    for text in rows.as_str().lines() {
-        line = line.saturating_add(1);
-        if !text.starts_with("# ") {
-            count = count.saturating_add(1);
-            let row = Row { file, line, text };
-            replay_row(report, kind, row).context(row)?;
+impl Replay for Kind {
+    fn replay(&self, report: &mut Report<'_>, row: Row<'_>) -> Result<()> {
+        match self {
+            Kind::Fires => fires::replay(report, row),
+            Kind::Refused => messages::replay_refused(report, row),
+            Kind::Days => days::replay(report, row),
+            Kind::Messages => messages::replay(report, row),
         }
     }
-    println!(rt; "{file}: {count}")?;
-    Ok(())
 }
 
 fn main(rt: HostRuntime) -> Result<()> {
     let mut report = Report::new(&rt);
-    for (kind, file) in FILES {
-        replay_file(&mut report, kind, file)?;
-    }
-    let differences = report.differences();
-    ensure!(differences == 0, "{differences} answers differ");
-    Ok(())
+    replay_files(&mut report, &FILES)?;
+    report.end()
 }

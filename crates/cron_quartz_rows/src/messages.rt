@@ -1,8 +1,8 @@
 //! Texts that are refused, and the messages.
 
-use crate::report::{Report, Row};
 use anyhow::{Context, Result};
 use cron_quartz::read;
+use cron_rows::{Report, Row};
 use std::alloc::{AllocError, Global};
 
 fn answer(alloc: Global, text: &str) -> Result<String, AllocError> {
@@ -19,7 +19,7 @@ pub(crate) fn replay(report: &mut Report<'_>, row: Row<'_>) -> Result<()> {
         .split_once(" | ")
         .context("the row lacks an answer")?;
     let got = answer(report.alloc(), text)?;
-    report.compare(row, message, got.as_str())
+    report.compare(row, "its refusal", message, got.as_str())
 }
 
 /// Replays a row that is a text.
@@ -28,5 +28,5 @@ pub(crate) fn replay_refused(report: &mut Report<'_>, row: Row<'_>) -> Result<()
         Ok(_) => "read",
         Err(_) => "refused",
     };
-    report.compare(row, "refused", got)
+    report.compare(row, "its refusal", "refused", got)
 }

@@ -5,11 +5,11 @@
 //! The numbers were made from the zone database of an ordinary system (2025b), of which it was
 //! asked for each second what the clock shows.
 
-use crate::report::{Report, Row, cut};
-use crate::settings::{Setting, case_of, setting_of, start_at};
+use crate::settings::{Setting, case_of, cut, setting_of, start_at};
 use anyhow::Result;
 use cron::schedule::Moment;
 use cron_fires::Fires;
+use cron_rows::{Report, Row};
 use jiff::{SignedDuration, Timestamp};
 
 /// What a sum is multiplied by before a fire is added to it.

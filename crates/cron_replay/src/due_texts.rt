@@ -5,10 +5,10 @@
 //! Python's `datetime` made the texts, and told of those with a byte changed which are texts of due
 //! fires.
 
-use crate::report::{Report, Row};
 use anyhow::{Context, Result};
 use cron_dues::fire::{DueFire, nominal_second};
 use cron_dues::reader::read;
+use cron_rows::{Report, Row};
 use std::alloc::{AllocError, Global};
 
 /// What a fire is, and the text that it prints.

@@ -6,12 +6,12 @@
 //! of the zone database of an ordinary system (2025b). Its last eight rows are of New York in 2024,
 //! where those of fixed times are also what Debian's cron, cronie and bcron do.
 
-use crate::report::{Report, Row, cut};
-use crate::settings::{Case, case_of, start_at, zone_named};
+use crate::settings::{Case, case_of, cut, start_at, zone_named};
 use crate::zone_files::bytes_named;
 use anyhow::Result;
 use cron::Schedule;
 use cron_fires::{DueFire, Dues, first_due_after, first_due_past, last_due_by, missed_dues};
+use cron_rows::{Report, Row};
 use jiff::Timestamp;
 use jiff::tz::{TimeZone, Tzif};
 use std::alloc::{AllocError, Global};

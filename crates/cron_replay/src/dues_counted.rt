@@ -6,10 +6,10 @@
 //! had in 2018. The last two rows are of fixed times, which Debian's cron, cronie and bcron run
 //! once on each day of the year.
 
-use crate::report::{Report, Row, cut};
-use crate::settings::{Setting, case_of, setting_of, start_at};
+use crate::settings::{Setting, case_of, cut, setting_of, start_at};
 use anyhow::Result;
 use cron_fires::{DueFire, Dues};
+use cron_rows::{Report, Row};
 use jiff::Timestamp;
 
 /// What a sum is multiplied by before a number is added to it.

@@ -1,10 +1,10 @@
 //! Fires by instants: the first one after an instant, and the last one by it.
 
-use crate::report::{Report, Row};
 use crate::settings::{case_of, list_answers, setting_of};
 use anyhow::Result;
 use cron::schedule::Moment;
 use cron_fires::{first_fire_after, last_fire_by};
+use cron_rows::{Report, Row};
 
 fn compare_fire(
     report: &mut Report<'_>,

@@ -3,9 +3,10 @@
 
 use crate::characters::text_of_row;
 use crate::readers::READERS;
-use crate::report::{Report, Row, cut};
+use crate::settings::cut;
 use crate::texts::compare_reader;
 use anyhow::Result;
+use cron_rows::{Report, Row};
 use std::alloc::{AllocError, Global};
 
 /// So many times one piece.

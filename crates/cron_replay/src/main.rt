@@ -17,7 +17,6 @@ mod long_texts;
 mod makers;
 mod mutations;
 mod readers;
-mod report;
 mod searches;
 mod settings;
 mod short_texts;
@@ -29,58 +28,36 @@ mod unions;
 mod walks;
 mod zone_files;
 
-use anyhow::{Context, Result, ensure};
+use anyhow::Result;
+use cron_rows::{Replay, Report, Row, replay_files};
 use files::{FILES, Kind};
-use report::{Report, Row};
-use std::fs;
 
-/// Replays one row.
-fn replay_row(report: &mut Report<'_>, kind: Kind, row: Row<'_>) -> Result<()> {
-    match kind {
-        Kind::Texts => texts::replay(report, row),
-        Kind::ShortTexts => short_texts::replay(report, row),
-        Kind::LongTexts => long_texts::replay(report, row),
-        Kind::Walks => walks::replay(report, row),
-        Kind::SearchesAhead => searches::replay_ahead(report, row),
-        Kind::SearchesBack => searches::replay_back(report, row),
-        Kind::FiresAfter => fires::replay_after(report, row),
-        Kind::FiresBy => fires::replay_by(report, row),
-        Kind::FiresBetween => stretches::replay(report, row),
-        Kind::FiresCounted => counted::replay(report, row),
-        Kind::DuesAfter => dues::replay_after(report, row),
-        Kind::DuesBy => dues::replay_by(report, row),
-        Kind::DuesBetween => dues::replay_between(report, row),
-        Kind::DuesCounted => dues_counted::replay(report, row),
-        Kind::DueTexts => due_texts::replay(report, row),
-        Kind::Unions => unions::replay(report, row),
+impl Replay for Kind {
+    fn replay(&self, report: &mut Report<'_>, row: Row<'_>) -> Result<()> {
+        match self {
+            Kind::Texts => texts::replay(report, row),
+            Kind::ShortTexts => short_texts::replay(report, row),
+            Kind::LongTexts => long_texts::replay(report, row),
+            Kind::Walks => walks::replay(report, row),
+            Kind::SearchesAhead => searches::replay_ahead(report, row),
+            Kind::SearchesBack => searches::replay_back(report, row),
+            Kind::FiresAfter => fires::replay_after(report, row),
+            Kind::FiresBy => fires::replay_by(report, row),
+            Kind::FiresBetween => stretches::replay(report, row),
+            Kind::FiresCounted => counted::replay(report, row),
+            Kind::DuesAfter => dues::replay_after(report, row),
+            Kind::DuesBy => dues::replay_by(report, row),
+            Kind::DuesBetween => dues::replay_between(report, row),
+            Kind::DuesCounted => dues_counted::replay(report, row),
+            Kind::DueTexts => due_texts::replay(report, row),
+            Kind::Unions => unions::replay(report, row),
+        }
     }
-}
-
-/// Replays the rows of a file, and prints how many they are.
-fn replay_file(report: &mut Report<'_>, kind: Kind, file: &str) -> Result<()> {
-    let rt = report.runtime();
-    let rows = fs::read_to_string(rt, file).context(file)?;
-    let mut count = 0_usize;
-    for text in rows.as_str().lines() {
-        count = count.saturating_add(1);
-        let row = Row {
-            file,
-            line: count,
-            text,
-        };
-        replay_row(report, kind, row).context(row)?;
-    }
-    println!(rt; "{file}: {count}")?;
-    Ok(())
 }
 
 fn main(rt: HostRuntime) -> Result<()> {
     let mut report = Report::new(&rt);
-    for (kind, file) in FILES {
-        replay_file(&mut report, kind, file)?;
-    }
+    replay_files(&mut report, &FILES)?;
     mutations::replay(&mut report)?;
-    let differences = report.differences();
-    ensure!(differences == 0, "{differences} answers differ");
-    Ok(())
+    report.end()
 }

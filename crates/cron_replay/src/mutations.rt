@@ -3,10 +3,11 @@
 //! sets again.
 
 use crate::characters::text_of_row;
-use crate::report::{Report, Row, cut};
+use crate::settings::cut;
 use crate::texts::compare_readers;
 use anyhow::Result;
 use cron::{Schedule, laws};
+use cron_rows::{Report, Row};
 use std::alloc::{AllocError, Global};
 use std::fs;
 

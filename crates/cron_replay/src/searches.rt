@@ -1,11 +1,11 @@
 //! Single searches, with their counts of dates and of look-ups of readings.
 
-use crate::report::{Report, Row};
 use crate::settings::{Case, case_of, list_answers, zone_named};
 use crate::texts::compare_beginnings;
 use anyhow::Result;
 use cron::Schedule;
 use cron::queries::{Found, Search};
+use cron_rows::{Report, Row};
 use jiff::civil::DateTime;
 use std::alloc::{AllocError, Global};
 

@@ -1,7 +1,6 @@
 //! What walks and searches are made of.
 
-use crate::report::cut;
-use anyhow::Result;
+use anyhow::{Context, Result};
 use cron::Schedule;
 use cron::schedule::Moment;
 use jiff::Timestamp;
@@ -9,6 +8,11 @@ use jiff::civil::DateTime;
 use jiff::tz::{Offset, TimeZone};
 use std::alloc::{AllocError, Global};
 use std::fmt::Write;
+
+/// Splits a text after its first field.
+pub(crate) fn cut(text: &str) -> Result<(&str, &str)> {
+    text.split_once(" | ").context("the row lacks a field")
+}
 
 /// The front of a row: an expression, a zone and a start; and the rest of the row.
 #[derive(Clone, Copy)]

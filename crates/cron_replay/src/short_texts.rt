@@ -11,8 +11,8 @@
 
 use crate::characters::stand_in_for;
 use crate::readers::{READERS, Reader};
-use crate::report::{Report, Row};
 use anyhow::{Context, Result, ensure};
+use cron_rows::{Report, Row};
 use std::alloc::{AllocError, Global};
 
 const ALPHABET: &str = "01235679*?,-/@ \t\r\n\x0b\0JFMASONDTWLjmsaz_.#+\u{e9}";

@@ -6,11 +6,11 @@
 //! of `fires_counted_by_hand.txt` were counted by hand, from the offsets of the rule and the ends
 //! of the range.
 
-use crate::report::{Report, Row, cut};
-use crate::settings::{Setting, case_of, setting_of, start_at};
+use crate::settings::{Setting, case_of, cut, setting_of, start_at};
 use anyhow::Result;
 use cron::schedule::Moment;
 use cron_fires::{Fires, first_fire_after, first_fire_past, missed};
+use cron_rows::{Report, Row};
 use jiff::{SignedDuration, Timestamp};
 use std::alloc::{AllocError, Global};
 use std::fmt::Write;

@@ -18,10 +18,11 @@
 use crate::answers::{kept_text, outcome};
 use crate::characters::text_of_row;
 use crate::readers::{READERS, Reader};
-use crate::report::{Report, Row, cut};
+use crate::settings::cut;
 use anyhow::Result;
 use cron::Schedule;
 use cron::error::Error;
+use cron_rows::{Report, Row};
 use std::alloc::{AllocError, Global};
 
 fn compare_outcome(

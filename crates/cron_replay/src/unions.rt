@@ -1,13 +1,13 @@
 //! Several schedules as one: what is asked, the expressions, a zone, an instant or two, and the
 //! answers. Those were counted apart, second by second, as those of due fires.
 
-use crate::report::{Report, Row, cut};
-use crate::settings::{Case, case_of, zone_named};
+use crate::settings::{Case, case_of, cut, zone_named};
 use crate::zone_files::bytes_named;
 use crate::{union_dues, union_fires};
 use anyhow::{Context, Result, bail};
 use cron::Schedule;
 use cron_fires::fields_of;
+use cron_rows::{Report, Row};
 use cron_units::fields::ScheduleFields;
 use jiff::Timestamp;
 use jiff::tz::{TimeZone, Tzif};

@@ -28,11 +28,11 @@
 //! items, with what an index answers that is moved along these items.
 
 use crate::makers::{MAKERS, Maker};
-use crate::report::{Report, Row, cut};
-use crate::settings::{Case, Setting, case_of, list_answers, setting_of};
+use crate::settings::{Case, Setting, case_of, cut, list_answers, setting_of};
 use crate::texts::compare_beginnings;
 use anyhow::{Result, bail};
 use cron::schedule::Turn;
+use cron_rows::{Report, Row};
 use std::alloc::{AllocError, Global};
 
 /// The call that a character stands for.

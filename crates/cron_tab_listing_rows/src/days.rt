@@ -3,6 +3,7 @@
 use crate::tabs::{Span, fires_of};
 use anyhow::{Context, Result, ensure};
 use cron_fires::ClockChanges;
+use cron_rows::{Report, Row};
 use cron_tab_listing::{Clock, TabFire};
 use std::fs;
 
@@ -14,21 +15,17 @@ const FILES: [(Clock, &str); 3] = [
     (Clock::Chosen(ClockChanges::Once), "chicago_once.txt"),
 ];
 
-// Whether a fire is the one of a row.
-fn replay_fire(rt: &HostRuntime, fire: &TabFire, row: Option<&str>) -> Result<bool> {
+// Compares a fire with the one of a row.
+fn replay_fire(report: &mut Report<'_>, fire: &TabFire, row: Row<'_>) -> Result<()> {
     let line = fire.line;
     let instant = fire.fire.timestamp();
-    let told = format!(in rt.alloc(); "{line} {instant}")?;
-    let wanted = row.unwrap_or("none");
-    let same = told.as_str() == wanted;
-    if !same {
-        println!(rt; "expected {wanted:?}, got {told:?}")?;
-    }
-    Ok(same)
+    let told = format!(in report.alloc(); "{line} {instant}")?;
+    report.compare(row, "the fire", row.text, told.as_str())
 }
 
-// Replays the rows of a file, and answers how many differ.
-fn replay_file(rt: &HostRuntime, clock: Clock, file: &str) -> Result<usize> {
+// Replays the rows of a file.
+fn replay_file(report: &mut Report<'_>, clock: Clock, file: &str) -> Result<()> {
+    let rt = report.runtime();
     let tab = fs::read_to_string(rt, TAB).context(TAB)?;
     let rows = fs::read_to_string(rt, file).context(file)?;
     let span = Span {
@@ -39,23 +36,21 @@ fn replay_file(rt: &HostRuntime, clock: Clock, file: &str) -> Result<usize> {
     };
     let fires = fires_of(rt.alloc(), tab.as_str(), span)?;
     let mut wanted = rows.as_str().lines();
-    let mut differences = 0_usize;
+    let mut line = 0_usize;
     for fire in &fires {
-        if !replay_fire(rt, fire, wanted.next())? {
-            differences = differences.saturating_add(1);
-        }
+        line = line.saturating_add(1);
+        let text = wanted.next().unwrap_or("none");
+        replay_fire(report, fire, Row { file, line, text })?;
     }
     ensure!(wanted.next().is_none(), "fires are lacking");
-    let count = fires.len();
-    println!(rt; "{file}: {count}")?;
-    Ok(differences)
+    println!(rt; "{file}: {line}")?;
+    Ok(())
 }
 
-/// Replays the rows of each rule, and answers how many differ.
-pub(crate) fn replay(rt: &HostRuntime) -> Result<usize> {
-    let mut differences = 0_usize;
+/// Replays the rows of each rule.
+pub(crate) fn replay(report: &mut Report<'_>) -> Result<()> {
     for (clock, file) in FILES {
-        differences = differences.saturating_add(replay_file(rt, clock, file)?);
+        replay_file(report, clock, file)?;
     }
-    Ok(differences)
+    Ok(())
 }

@@ -4,6 +4,7 @@
 use crate::tabs::{Span, fires_of};
 use anyhow::{Context, Result};
 use cron_fires::ClockChanges;
+use cron_rows::{Report, Row};
 use cron_tab_listing::{Clock, TabFire};
 use std::alloc::{AllocError, Global};
 use std::fs;
@@ -61,8 +62,9 @@ fn told(alloc: Global, fires: &[TabFire], line: usize) -> Result<String, AllocEr
     format!(in alloc; "{line} {count} {sum}")
 }
 
-// Replays the rows of a file, and answers how many differ.
-fn replay_file(rt: &HostRuntime, clock: Clock, file: &str) -> Result<usize> {
+// Replays the rows of a file.
+fn replay_file(report: &mut Report<'_>, clock: Clock, file: &str) -> Result<()> {
+    let rt = report.runtime();
     let tab = fs::read_to_string(rt, TAB).context(TAB)?;
     let rows = fs::read_to_string(rt, file).context(file)?;
     let span = Span {
@@ -72,24 +74,21 @@ fn replay_file(rt: &HostRuntime, clock: Clock, file: &str) -> Result<usize> {
         until: "2026-01-15T12:00:00Z",
     };
     let fires = fires_of(rt.alloc(), tab.as_str(), span)?;
-    let (mut count, mut differences) = (0_usize, 0_usize);
-    for row in rows.as_str().lines() {
+    let mut count = 0_usize;
+    for text in rows.as_str().lines() {
         let told = told(rt.alloc(), fires.as_slice(), count)?;
-        if told.as_str() != row {
-            differences = differences.saturating_add(1);
-            println!(rt; "{file}: expected {row:?}, got {told:?}")?;
-        }
         count = count.saturating_add(1);
+        let line = count;
+        report.compare(Row { file, line, text }, "the line", text, told.as_str())?;
     }
     println!(rt; "{file}: {count}")?;
-    Ok(differences)
+    Ok(())
 }
 
-/// Replays the rows of each rule, and answers how many differ.
-pub(crate) fn replay(rt: &HostRuntime) -> Result<usize> {
-    let mut differences = 0_usize;
+/// Replays the rows of each rule.
+pub(crate) fn replay(report: &mut Report<'_>) -> Result<()> {
     for (clock, file) in FILES {
-        differences = differences.saturating_add(replay_file(rt, clock, file)?);
+        replay_file(report, clock, file)?;
     }
-    Ok(differences)
+    Ok(())
 }

@@ -11,8 +11,8 @@ mod days;
 mod digests;
 mod tabs;
 
-use anyhow::{Context, Result, ensure};
-use std::fs;
+use anyhow::{Context, Result};
+use cron_rows::{Replay, Report, Row, replay_files};
 
 /// What the rows of a file hold.
 #[derive(Clone, Copy)]
@@ -25,46 +25,22 @@ enum Kind {
 
 const FILES: [(Kind, &str); 2] = [(Kind::Crons, "crons.tsv"), (Kind::Changes, "changes.tsv")];
 
-// What is told of a row's line.
-fn answer_of(rt: &HostRuntime, kind: Kind, row: &str) -> Result<String> {
-    match kind {
-        Kind::Crons => crons::answer_of(rt.alloc(), row),
-        Kind::Changes => changes::answer_of(rt.alloc(), row),
+impl Replay for Kind {
+    // What a row wants stands behind its last tab.
+    fn replay(&self, report: &mut Report<'_>, row: Row<'_>) -> Result<()> {
+        let (_, wanted) = row.text.rsplit_once('\t').context("an answer is lacking")?;
+        let got = match self {
+            Kind::Crons => crons::answer_of(report.alloc(), row.text)?,
+            Kind::Changes => changes::answer_of(report.alloc(), row.text)?,
+        };
+        report.compare(row, "the line", wanted, got.as_str())
     }
-}
-
-// Replays a row, whose answer stands behind its last tab, and tells whether it differs.
-fn differs(rt: &HostRuntime, kind: Kind, row: &str) -> Result<bool> {
-    let (_, wanted) = row.rsplit_once('\t').context("the row lacks an answer")?;
-    let got = answer_of(rt, kind, row)?;
-    let differs = got.as_str() != wanted;
-    if differs {
-        println!(rt; "{row}: got {got:?}")?;
-    }
-    Ok(differs)
-}
-
-// Replays the rows of a file, and answers how many differ. A line that begins with `# ` is none.
-fn replay(rt: &HostRuntime, kind: Kind, file: &str) -> Result<usize> {
-    let rows = fs::read_to_string(rt, file).context(file)?;
-    let (mut count, mut differences) = (0_usize, 0_usize);
-    for row in rows.as_str().lines() {
-        if !row.starts_with("# ") {
-            count = count.saturating_add(1);
-            let differs = differs(rt, kind, row)?;
-            differences = differences.saturating_add(usize::from(differs));
-        }
-    }
-    println!(rt; "{file}: {count}")?;
-    Ok(differences)
 }
 
 fn main(rt: HostRuntime) -> Result<()> {
-    let mut differences = days::replay(&rt)?;
-    differences = differences.saturating_add(digests::replay(&rt)?);
-    for (kind, file) in FILES {
-        differences = differences.saturating_add(replay(&rt, kind, file)?);
-    }
-    ensure!(differences == 0, "{differences} answers differ");
-    Ok(())
+    let mut report = Report::new(&rt);
+    days::replay(&mut report)?;
+    digests::replay(&mut report)?;
+    replay_files(&mut report, &FILES)?;
+    report.end()
 }

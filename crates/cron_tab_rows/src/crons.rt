@@ -6,9 +6,9 @@
 //! What both make of an expression alike is what it means. Every other one must be refused.
 
 use crate::masks::{Days, bits_of, bits_read};
-use crate::report::{Report, Row};
 use anyhow::{Context, Result, ensure};
 use cron_crontab::{Expression, read};
+use cron_rows::{Report, Row};
 use cron_units::fields::ScheduleFields;
 use cron_units::time_unit::{Years, whole};
 
@@ -124,5 +124,5 @@ pub(crate) fn replay(report: &mut Report<'_>, row: Row<'_>) -> Result<()> {
     let (debian, cronie) = rest.split_once('\t').context("the row lacks an answer")?;
     ensure!(!cronie.contains('\t'), "the row has an answer too many");
     let (expected, got) = answer(text, debian, cronie)?;
-    report.compare(row, expected, got)
+    report.compare(row, "both crons", expected, got)
 }

@@ -1,8 +1,8 @@
 //! Files, and what each of their lines is, by number. What a row can't hold is written as a mark.
 
-use crate::report::{Report, Row};
 use anyhow::{Context, Result, ensure};
 use cron_crontab::Expression;
+use cron_rows::{Report, Row};
 use cron_tab_lines::{Crontab, Entry, Line, Lines, Refusal, Unescaped};
 use std::alloc::{AllocError, Global};
 
@@ -119,5 +119,5 @@ pub(crate) fn replay(report: &mut Report<'_>, row: Row<'_>) -> Result<()> {
         written.as_slice() == file.as_bytes(),
         "the lines are not the file"
     );
-    report.compare(row, expected.as_str(), got.as_str())
+    report.compare(row, "lines", expected.as_str(), got.as_str())
 }

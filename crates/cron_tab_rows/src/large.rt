@@ -2,8 +2,8 @@
 //! many of their lines are of each kind.
 
 use crate::files::{kind_of, without_marks};
-use crate::report::{Report, Row};
 use anyhow::{Context, Result, ensure};
+use cron_rows::{Report, Row};
 use cron_tab_lines::{Crontab, Line, Lines};
 use std::alloc::{AllocError, Global};
 
@@ -102,5 +102,5 @@ pub(crate) fn replay(report: &mut Report<'_>, row: Row<'_>) -> Result<()> {
     let got = format!(in alloc;
         "{blank} blank, {comment} comments, {setting} settings, {zone} zones, {entry} entries, {refused} refused, {longest} bytes"
     )?;
-    report.compare(row, expected, got.as_str())
+    report.compare(row, "lines", expected, got.as_str())
 }

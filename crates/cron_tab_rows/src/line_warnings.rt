@@ -1,8 +1,8 @@
 //! Files, and the warnings of their lines, by number.
 
 use crate::files::{kind_of, without_marks};
-use crate::report::{Report, Row};
 use anyhow::{Context, Result};
+use cron_rows::{Report, Row};
 use cron_tab_lines::{Crontab, FileLine, Line, Lines};
 use cron_tab_warnings::{LINE_WARNINGS, WARNINGS, text_of, warns, warns_line};
 use std::alloc::{AllocError, Global};
@@ -56,5 +56,5 @@ pub(crate) fn replay(report: &mut Report<'_>, row: Row<'_>) -> Result<()> {
     let alloc = report.alloc();
     let file = without_marks(alloc, file)?;
     let got = told(alloc, kind_of(kind), file.as_bytes())?;
-    report.compare(row, expected, got.as_str())
+    report.compare(row, "warnings", expected, got.as_str())
 }

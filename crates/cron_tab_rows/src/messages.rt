@@ -1,8 +1,8 @@
 //! Texts, and the messages of their refusals.
 
-use crate::report::{Report, Row};
 use anyhow::{Context, Result};
 use cron_crontab::read;
+use cron_rows::{Report, Row};
 use std::alloc::{AllocError, Global};
 
 fn answer(alloc: Global, text: &str) -> Result<String, AllocError> {
@@ -19,5 +19,5 @@ pub(crate) fn replay(report: &mut Report<'_>, row: Row<'_>) -> Result<()> {
         .split_once(" | ")
         .context("the row lacks an answer")?;
     let got = answer(report.alloc(), text)?;
-    report.compare(row, message, got.as_str())
+    report.compare(row, "its refusal", message, got.as_str())
 }

@@ -1,8 +1,8 @@
 //! Expressions, and the schedules that they are, as one or two cron expressions of six fields.
 
-use crate::report::{Report, Row};
 use anyhow::{Context, Result, ensure};
 use cron_crontab::{Expression, read};
+use cron_rows::{Report, Row};
 use cron_text::{no_ordinals, read_into};
 use cron_units::fields::ScheduleFields;
 
@@ -47,5 +47,5 @@ pub(crate) fn replay(report: &mut Report<'_>, row: Row<'_>) -> Result<()> {
         .split_once(" | ")
         .context("the row lacks an answer")?;
     let got = answer(text, told)?;
-    report.compare(row, "as told", got)
+    report.compare(row, "schedules", "as told", got)
 }

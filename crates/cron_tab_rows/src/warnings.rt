@@ -2,9 +2,9 @@
 //! their warnings. A small program of another language made them from the raw text, and counted the
 //! calendar day by day.
 
-use crate::report::{Report, Row};
 use anyhow::{Context, Error, Result, anyhow};
 use cron_crontab::{Expression, next_word, read};
+use cron_rows::{Report, Row};
 use cron_tab_warnings::{WARNINGS, follows_clock, warns};
 use std::alloc::{AllocError, Global};
 
@@ -46,8 +46,8 @@ pub(crate) fn replay(report: &mut Report<'_>, row: Row<'_>) -> Result<()> {
     } else {
         "fixed"
     };
-    report.compare(row, clock, follows)?;
+    report.compare(row, "its clock", clock, follows)?;
     let expression = expression_of(line)?;
     let got = warnings_told(report.alloc(), line, &expression)?;
-    report.compare(row, expected, got.as_str())
+    report.compare(row, "warnings", expected, got.as_str())
 }
