@@ -64,8 +64,8 @@ fn time_check(
     Ok(())
 }
 
-/// Prints what a line of a file costs that is checked as `crontool check --expressions` does: of varied
-/// ones, and of more and more short ones.
+/// Prints what a line of a file costs that is checked as `crontool check --expressions` does: of
+/// varied ones, and of more and more short ones.
 pub fn run(rt: &HostRuntime) -> Result<()> {
     let words: Vec<String> = Vec::new(rt.alloc());
     let Some(request) = request_of(words.as_slice()) else {

@@ -2,10 +2,12 @@
 //!
 //! - `cron_bench run`: a parse, and a call of a walk;
 //! - `cron_bench growth`: parses of longer and longer lists;
-//! - `cron_bench lines`: each of 100,000 varied lines, and of lines as `crontool check --expressions` checks them;
+//! - `cron_bench lines`: each of 100,000 varied lines, and of lines as `crontool check
+//!   --expressions` checks them;
 //! - `cron_bench turn FILE`: runs and first fires around a transition of the zone in a file;
 //! - `cron_bench unions`: a fire of two schedules as one;
-//! - `cron_bench tabs`: expressions, lines and entries of crontabs.
+//! - `cron_bench tabs`: expressions, lines and entries of crontabs;
+//! - `cron_bench quartz`: a fire of a form of Quartz.
 //!
 //! `cron_bench print` prints the varied lines. With no word it prints nothing. At other words, and
 //! where a text, a zone or a file is refused, it ends with an error and the status 1.
@@ -15,6 +17,7 @@ mod calls;
 mod checks;
 mod lines;
 mod parses;
+mod quartz;
 mod rounds;
 mod tabs;
 mod turns;
@@ -43,7 +46,10 @@ fn run(rt: &HostRuntime, words: &[String]) -> Result<()> {
         ("turn", [path]) => turns::run(rt, path.as_str()),
         ("unions", []) => unions::run(rt),
         ("tabs", []) => tabs::run(rt),
-        _ => bail!("usage: cron_bench [run | growth | lines | print | turn FILE | unions | tabs]"),
+        ("quartz", []) => quartz::run(rt),
+        _ => bail!(
+            "usage: cron_bench [run | growth | lines | print | turn FILE | unions | tabs | quartz]"
+        ),
     }
 }
 
