@@ -117,6 +117,7 @@ fn count_fires(
     add_lines(
         &mut agenda,
         Lines::of(Crontab::User, file),
+        &[],
         Clock::Own,
         start,
         zones,

@@ -5,4 +5,5 @@ pub mod Entries
 pub mod Lines
 pub mod Files
 pub mod Views
+pub mod Zones
 pub mod Inner

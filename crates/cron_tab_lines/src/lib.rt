@@ -10,9 +10,11 @@ mod lines;
 mod percent;
 mod refusals;
 mod settings;
+mod zones;
 
 pub use files::{FileLine, Lines};
 pub use kinds::{Crontab, Entry, Line, Setting};
 pub use lines::read_line;
 pub use percent::Unescaped;
 pub use refusals::Refusal;
+pub use zones::{NamedZone, names_no_zone, zone_below};

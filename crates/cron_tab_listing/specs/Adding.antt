@@ -3,8 +3,9 @@ use Rattle.std.specs.Prelude.{◌≡◌, ◌⊎◌, ℕ, ℤ, true, false, List,
 use Rattle.std.specs.Str.Lossy.{utf8_valid_len}
 use Rattle.jiff_tz.specs.declared.timezone.TimeZone.{TimeZone}
 use Rattle.cron_tab_lines.specs.Files.{FileLine}
+use Rattle.cron_tab_lines.specs.Zones.{zone_below}
+use Rattle.cron_tab_lines.specs.declared.zones.NamedZone.{NamedZone}
 use Rattle.cron_tab_warnings.specs.Clocks.{follows_clock}
-use Rattle.cron_tab_warnings.specs.Files.{is_zone}
 use Rattle.cron_agenda.specs.Entries.{Adds, Listed}
 use Rattle.cron_agenda.specs.Fires.{fires_after}
 use Rattle.cron_agenda.specs.declared.error.AddError.{AddError}
@@ -54,17 +55,24 @@ AddsLine s line old answer new =
     ((schedules_in line.outcome ≡ None) × (answer ≡ Ok None) × (new ≡ old))
     ⊎ ((table : TabEntry) × IsTab line table × AddsEntry s (changes_of s.clock line.bytes) table old answer new)
 
--- at this line it ends, since it sets `CRON_TZ`, or its entry can't be added
-abbrev pub EndsAt : Start → FileLine → Listed TabEntry → LineError → Listed TabEntry → Type 0
-EndsAt s line old (ZoneLine number) new = (number ≡ line.number) × (is_zone line.outcome ≡ true) × (new ≡ old)
-EndsAt s line old (NotAdded number why) new = (number ≡ line.number) × AddsLine s line old (Err why) new
+-- as below a line, by the zone that it names
+abbrev pub start_below : Start → ℕ → Start
+start_below s zone = start_of s.zones zone s.clock s.t
 
--- Lines are added one after another. None of them sets `CRON_TZ`; or it ends at one of them, and those in front of it were added.
-abbrev pub AddsLines : Start → List FileLine → Listed TabEntry → Result ⊤ LineError → Listed TabEntry → Type 0
-AddsLines s [] old (Ok done) new = new ≡ old
-AddsLines s [] old (Err error) new = ⊥
-AddsLines s (line ∷ lines) old (Ok done) new =
-    (answer : Option ℕ) × (between : Listed TabEntry) × (is_zone line.outcome ≡ false) × AddsLine s line old (Ok answer) between × AddsLines s lines between (Ok done) new
-AddsLines s (line ∷ lines) old (Err error) new =
-    EndsAt s line old error new
-    ⊎ ((answer : Option ℕ) × (between : Listed TabEntry) × (is_zone line.outcome ≡ false) × AddsLine s line old (Ok answer) between × AddsLines s lines between (Err error) new)
+-- at this line it ends, since it names no zone, or its entry can't be added
+abbrev pub EndsAt : Start → List NamedZone → FileLine → Listed TabEntry → LineError → Listed TabEntry → Type 0
+EndsAt s names line old (ZoneLine number) new = (number ≡ line.number) × (zone_below names (Some s.zone) line.outcome ≡ None) × (new ≡ old)
+EndsAt s names line old (NotAdded number why) new = (number ≡ line.number) × AddsLine s line old (Err why) new
+
+-- Lines are added one after another, each in the zone of the last `CRON_TZ` above it. All are; or it ends at one of them, and those in front
+-- of it were added.
+abbrev pub AddsLines : Start → List NamedZone → List FileLine → Listed TabEntry → Result ⊤ LineError → Listed TabEntry → Type 0
+AddsLines s names [] old (Ok done) new = new ≡ old
+AddsLines s names [] old (Err error) new = ⊥
+AddsLines s names (line ∷ lines) old (Ok done) new =
+    (zone : ℕ) × (answer : Option ℕ) × (between : Listed TabEntry) × (zone_below names (Some s.zone) line.outcome ≡ Some zone)
+    × AddsLine s line old (Ok answer) between × AddsLines (start_below s zone) names lines between (Ok done) new
+AddsLines s names (line ∷ lines) old (Err error) new =
+    EndsAt s names line old error new
+    ⊎ ((zone : ℕ) × (answer : Option ℕ) × (between : Listed TabEntry) × (zone_below names (Some s.zone) line.outcome ≡ Some zone)
+    × AddsLine s line old (Ok answer) between × AddsLines (start_below s zone) names lines between (Err error) new)

@@ -9,7 +9,7 @@ use Rattle.cron_tab_listing.specs.declared.error.ListError.TheVariants.{Zone, Ou
 
 abbrev pub line_error_text : LineError → List ℕ
 line_error_text (ZoneLine number) =
-    codes "line " ++ (decimal number ++ codes ": it sets CRON_TZ, and the entries below it may be of another zone")
+    codes "line " ++ (decimal number ++ codes ": CRON_TZ is none of the zones")
 line_error_text (NotAdded number why) = codes "line " ++ (decimal number ++ (codes ": " ++ add_error_text why))
 
 abbrev pub list_error_text : ListError → List ℕ

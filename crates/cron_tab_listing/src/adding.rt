@@ -9,8 +9,8 @@ use crate::error::LineError;
 use crate::tab_entry::TabEntry;
 use cron_agenda::{AddError, Agenda};
 use cron_fires::ClockChanges;
-use cron_tab_lines::{FileLine, Lines};
-use cron_tab_warnings::{LineWarning, follows_clock, text_of, warns_line};
+use cron_tab_lines::{FileLine, Lines, NamedZone, zone_below};
+use cron_tab_warnings::{follows_clock, text_of};
 use jiff::Timestamp;
 use jiff::tz::TimeZone;
 
@@ -66,27 +66,30 @@ pub fn add_line(
 }
 
 /// Adds the entries of a file's lines, in the order of the lines: their fires after an instant, in
-/// the zone with this number. Lines that are refused, settings and comments are passed over. It
-/// ends at the first line that sets `CRON_TZ`, or whose entry can't be added; those above it are
-/// added then.
+/// the zone with this number, or below a line that sets `CRON_TZ` in the one that it names. Lines
+/// that are refused, settings and comments are passed over. It ends at the first line whose
+/// `CRON_TZ` is none of the names, or whose entry can't be added; those above it are added then.
 pub fn add_lines(
     agenda: &mut Agenda<TabEntry>,
     lines: Lines<'_>,
+    names: &[NamedZone<'_>],
     clock: Clock,
     start: Timestamp,
     zones: &[TimeZone<'_>],
     zone: usize,
 ) -> Result<(), LineError>
     ensures { AddsLines (start_of (map plain_zone zones.now) zone clock start.nanosecond)
-        lines.entry agenda.old result agenda.new }
+        names.now lines.entry agenda.old result agenda.new }
 {
+    let mut here = zone;
     for line in lines {
-        if warns_line(LineWarning::IgnoredZone, &line) {
+        let Some(below) = zone_below(names, Some(here), &line) else {
             return Err(LineError::ZoneLine(line.number));
-        }
-        if let Err(error) = add_line(agenda, &line, clock, start, zones, zone) {
+        };
+        if let Err(error) = add_line(agenda, &line, clock, start, zones, here) {
             return Err(LineError::NotAdded(line.number, error));
         }
+        here = below;
     }
     Ok(())
 }

@@ -7,7 +7,7 @@ use std::fmt;
 /// Why the lines of a file weren't all added, with the number of the line, from 1 on.
 #[derive(Clone, Copy, Debug, PartialEq, Eq)]
 pub enum LineError {
-    /// It sets `CRON_TZ`: the entries below it may be of another zone.
+    /// It sets `CRON_TZ` to none of the names that were handed in.
     ZoneLine(usize),
     /// Its entry can't be added.
     NotAdded(usize, AddError),
@@ -21,12 +21,7 @@ impl fmt::Display for LineError {
 
     fn fmt<W: fmt::Write>(&self, f: &mut fmt::Formatter<W>) -> fmt::Result {
         match self {
-            LineError::ZoneLine(line) => {
-                write!(
-                    f,
-                    "line {line}: it sets CRON_TZ, and the entries below it may be of another zone"
-                )
-            }
+            LineError::ZoneLine(line) => { write!(f, "line {line}: CRON_TZ is none of the zones") }
             LineError::NotAdded(line, error) => write!(f, "line {line}: {error}"),
         }
     }

@@ -45,7 +45,7 @@ pub(crate) fn fires_of(alloc: Global, tab: &str, span: Span<'_>) -> Result<Vec<T
     let until = span.until.parse::<Timestamp>()?;
     let mut agenda = Agenda::new(alloc);
     let lines = Lines::of(Crontab::User, tab.as_bytes());
-    add_lines(&mut agenda, lines, span.clock, start, &zones, 0)?;
+    add_lines(&mut agenda, lines, &[], span.clock, start, &zones, 0)?;
     let mut fires = Vec::new(alloc);
     list_pages(&mut fires, &mut agenda, until, &zones)?;
     Ok(fires)

@@ -11,5 +11,5 @@ use Rattle.cron_tab_listing.proofs.adding.add_lines.Given as goal
 abbrev pub invariant-loop-line : goal.invariant-loop-line
 invariant-loop-line l =
     (answer : Result ⊤ LineError) (after : Listed TabEntry)
-    → AddsLines (start_of (map plain_zone l.zones) l.zone l.clock l.start.nanosecond) l.line-iterator l.agenda answer after
-    → AddsLines (start_of (map plain_zone l.zones) l.zone l.clock l.start.nanosecond) l.fn.lines l.initial.agenda answer after
+    → AddsLines (start_of (map plain_zone l.zones) l.here l.clock l.start.nanosecond) l.names l.line-iterator l.agenda answer after
+    → AddsLines (start_of (map plain_zone l.zones) l.zone l.clock l.start.nanosecond) l.names l.fn.lines l.initial.agenda answer after
