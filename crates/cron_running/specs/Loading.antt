@@ -11,6 +11,7 @@ use Rattle.cron_agenda_scheduler.specs.declared.lateness.Timely.{Timely}
 use Rattle.cron_fires.specs.declared.changes.ClockChanges.{ClockChanges}
 use Rattle.cron_tab_lines.specs.Files.{FileLine, file_lines}
 use Rattle.cron_tab_lines.specs.declared.kinds.Crontab.{Crontab}
+use Rattle.cron_tab_lines.specs.declared.zones.NamedZone.{NamedZone}
 use Rattle.cron_tab_listing.specs.Adding.{changes_of}
 use Rattle.cron_tab_listing.specs.Tabs.{IsTab, schedules_in, schedules_of}
 use Rattle.cron_tab_listing.specs.declared.adding.Clock.{Clock}
@@ -23,13 +24,13 @@ use Rattle.cron_running.specs.declared.orders.TabFile.{TabFile}
 
 -- where, from when on, by which rule and how late entries fire: after the instant `start`, in nanoseconds since 1970
 pub record Given : Type 0 where
-  pub zone : TimeZone
+  pub zones : List TimeZone
   pub start : ℤ
   pub clock : Clock
   pub lateness : Lateness
 
-abbrev pub given : RunOrders → TimeZone → ℤ → Given
-given o zone start = record { zone = zone; start = start; clock = o.clock; lateness = o.lateness }
+abbrev pub given : RunOrders → List TimeZone → ℤ → Given
+given o zones start = record { zones = zones; start = start; clock = o.clock; lateness = o.lateness }
 
 -- an agenda, the texts of its entries, each at the id of its entry, and those of the entries of `@reboot`, one after another
 pub record State : Type 0 where
@@ -44,25 +45,25 @@ abbrev pub nothing : State
 nothing = record { agenda = listed [] 0; texts = []; at_reboot = [] }
 
 -- as an agenda adds a table's fires by a rule
-abbrev pub AddsTable : Given → ClockChanges → TabEntry → Listed (Timely TabEntry) → Result ℕ AddError → Listed (Timely TabEntry) → Type 0
-AddsTable g changes table =
-    Adds (λ t. schedules_of t.table) (g.zone ∷ []) (record { table = table; lateness = g.lateness }) 0
+abbrev pub AddsTable : Given → ℕ → ClockChanges → TabEntry → Listed (Timely TabEntry) → Result ℕ AddError → Listed (Timely TabEntry) → Type 0
+AddsTable g zone changes table =
+    Adds (λ t. schedules_of t.table) g.zones (record { table = table; lateness = g.lateness }) zone
     (λ z. fires_after (schedules_of table) z changes g.start)
 
 -- The entry and its text are added; or nothing is, since it never fires again.
-abbrev pub AddsTimed : Given → ClockChanges → TabEntry → List ℕ → State → State → Type 0
-AddsTimed g changes table text old new =
-    ((id : ℕ) × AddsTable g changes table old.agenda (Ok id) new.agenda × (new.texts ≡ old.texts ++ text ∷ []) × (new.at_reboot ≡ old.at_reboot))
-    ⊎ (AddsTable g changes table old.agenda (Err NoFires) new.agenda × (new.texts ≡ old.texts) × (new.at_reboot ≡ old.at_reboot))
+abbrev pub AddsTimed : Given → ℕ → ClockChanges → TabEntry → List ℕ → State → State → Type 0
+AddsTimed g zone changes table text old new =
+    ((id : ℕ) × AddsTable g zone changes table old.agenda (Ok id) new.agenda × (new.texts ≡ old.texts ++ text ∷ []) × (new.at_reboot ≡ old.at_reboot))
+    ⊎ (AddsTable g zone changes table old.agenda (Err NoFires) new.agenda × (new.texts ≡ old.texts) × (new.at_reboot ≡ old.at_reboot))
 
-abbrev pub task : FileLine → List ℕ → Task
-task line text = record { line = line; text = text }
+abbrev pub task : FileLine → ℕ → List ℕ → Task
+task line zone text = record { line = line; zone = zone; text = text }
 
 -- An entry that no clock fires is one of `@reboot`. Others are added.
 abbrev pub AddsTask : Given → Task → State → State → Type 0
 AddsTask g task old new =
     ((schedules_in task.line.outcome ≡ None) × (new.agenda ≡ old.agenda) × (new.texts ≡ old.texts) × (new.at_reboot ≡ old.at_reboot ++ task.text))
-    ⊎ ((table : TabEntry) × IsTab task.line table × AddsTimed g (changes_of g.clock task.line.bytes) table task.text old new)
+    ⊎ ((table : TabEntry) × IsTab task.line table × AddsTimed g task.zone (changes_of g.clock task.line.bytes) table task.text old new)
 
 -- one after another
 abbrev pub AddsTasks : Given → List Task → State → State → Type 0
@@ -77,5 +78,5 @@ abbrev pub files_tasks : RunOrders → List TabFile → List Task
 files_tasks o files = flat_map (file_tasks o) files
 
 -- what is told of the lines of several crontabs
-abbrev pub told_files : Crontab → List TabFile → List ℕ
-told_files kind files = flat_map (λ file. told_lines file.name.now (file_lines kind file.bytes.now)) files
+abbrev pub told_files : Crontab → List NamedZone → List TabFile → List ℕ
+told_files kind names files = flat_map (λ file. told_lines file.name.now names (file_lines kind file.bytes.now)) files

@@ -24,59 +24,59 @@ use Rattle.cron_running.specs.declared.writer.TabWriter.{TabWriter}
 
 -- ---- the loop
 
-abbrev pub tab_tables : TimeZone → Tables (Timely TabEntry)
-tab_tables zone = tables (λ t. schedules_of t.table) (λ t. t.lateness) (zone ∷ [])
+abbrev pub tab_tables : List TimeZone → Tables (Timely TabEntry)
+tab_tables zones = tables (λ t. schedules_of t.table) (λ t. t.lateness) zones
 
 -- The loop over an agenda is run, in which each run writes the text of its entry, and what is passed over changes nothing.
-abbrev pub RunsTexts : {C W E : Type 0} → ClockCalls C E → WriterCalls W → TimeZone → ℕ → C → Listed (Timely TabEntry) → TabWriter W
+abbrev pub RunsTexts : {C W E : Type 0} → ClockCalls C E → WriterCalls W → List TimeZone → ℕ → C → Listed (Timely TabEntry) → TabWriter W
     → Result ⊤ (AgendaStop E WriteFailed) → C → TabWriter W → Type 0
-RunsTexts cs calls zone most c agenda writer answer c' writer' =
+RunsTexts cs calls zones most c agenda writer answer c' writer' =
     (left : Listed (Timely TabEntry))
-    × RunsLoop (tab_tables zone) cs (job_calls (WritesText calls) (λ old f new. new ≡ old)) most c agenda writer answer c' left writer'
+    × RunsLoop (tab_tables zones) cs (job_calls (WritesText calls) (λ old f new. new ≡ old)) most c agenda writer answer c' left writer'
 
 -- and then, if no write has failed, the loop is run
-abbrev pub GoesOn : {C W E : Type 0} → ClockCalls C E → WriterCalls W → TimeZone → ℕ → Listed (Timely TabEntry) → Result ⊤ WriteFailed → C × TabWriter W
+abbrev pub GoesOn : {C W E : Type 0} → ClockCalls C E → WriterCalls W → List TimeZone → ℕ → Listed (Timely TabEntry) → Result ⊤ WriteFailed → C × TabWriter W
     → Result ⊤ (AgendaStop E WriteFailed) → C × TabWriter W → Type 0
-GoesOn cs calls zone most agenda (Err e) old answer new = (answer ≡ Err (Job e)) × (new.0 ≡ old.0) × (new.1 ≡ old.1)
-GoesOn cs calls zone most agenda (Ok done) old answer new = RunsTexts cs calls zone most old.0 agenda old.1 answer new.0 new.1
+GoesOn cs calls zones most agenda (Err e) old answer new = (answer ≡ Err (Job e)) × (new.0 ≡ old.0) × (new.1 ≡ old.1)
+GoesOn cs calls zones most agenda (Ok done) old answer new = RunsTexts cs calls zones most old.0 agenda old.1 answer new.0 new.1
 
 -- What was loaded is run: the writer has its texts, what is run at the start is written, and the loop goes on.
-pub record RunsLoaded {C W E : Type 0} (cs : ClockCalls C E) (calls : WriterCalls W) (o : RunOrders) (zone : TimeZone) (s : State) (old : C × TabWriter W)
+pub record RunsLoaded {C W E : Type 0} (cs : ClockCalls C E) (calls : WriterCalls W) (o : RunOrders) (zones : List TimeZone) (s : State) (old : C × TabWriter W)
     (answer : Result ⊤ (AgendaStop E WriteFailed)) (new : C × TabWriter W) : Type 0 where
   pub started : Result ⊤ WriteFailed
   pub writer : TabWriter W
   pub texts : map (λ t. t.items) writer.texts.items ≡ s.texts
   pub starts : WritesStart calls o.reboot s.at_reboot old.1.printer started writer.printer
-  pub goes_on : GoesOn cs calls zone o.most s.agenda started (old.0, writer) answer new
+  pub goes_on : GoesOn cs calls zones o.most s.agenda started (old.0, writer) answer new
 
 -- ---- the whole
 
 -- the clock was looked at, and the entries of the crontabs were added, which fire after what it showed
-pub record Begins {C E : Type 0} (cs : ClockCalls C E) (o : RunOrders) (files : List TabFile) (zone : TimeZone) (old new : C) : Type 0 where
+pub record Begins {C E : Type 0} (cs : ClockCalls C E) (o : RunOrders) (files : List TabFile) (zones : List TimeZone) (old new : C) : Type 0 where
   pub start : Timestamp
   pub looks : cs.shows old (Ok start) new
   pub state : State
-  pub adds : AddsTasks (given o zone start.nanosecond) (files_tasks o files) nothing state
+  pub adds : AddsTasks (given o zones start.nanosecond) (files_tasks o files) nothing state
 
 abbrev pub outcome_of : {E : Type 0} → Result ⊤ (AgendaStop E WriteFailed) → Result ⊤ (Failure E)
 outcome_of (Ok done) = Ok tt
 outcome_of (Err stop) = Err (Stopped stop)
 
 -- they are run where what was to be told could be written
-abbrev pub EndsBy : {C W E : Type 0} → ClockCalls C E → WriterCalls W → RunOrders → TimeZone → State → Result ⊤ WriteFailed → C × TabWriter W
+abbrev pub EndsBy : {C W E : Type 0} → ClockCalls C E → WriterCalls W → RunOrders → List TimeZone → State → Result ⊤ WriteFailed → C × TabWriter W
     → Result ⊤ (Failure E) → C × TabWriter W → Type 0
-EndsBy cs calls o zone s (Err e) old answer new = (answer ≡ Err Untold) × (new.0 ≡ old.0) × (new.1 ≡ old.1)
-EndsBy {E = E} cs calls o zone s (Ok done) old answer new =
-    (stopped : Result ⊤ (AgendaStop E WriteFailed)) × RunsLoaded cs calls o zone s old stopped new × (answer ≡ outcome_of stopped)
+EndsBy cs calls o zones s (Err e) old answer new = (answer ≡ Err Untold) × (new.0 ≡ old.0) × (new.1 ≡ old.1)
+EndsBy {E = E} cs calls o zones s (Ok done) old answer new =
+    (stopped : Result ⊤ (AgendaStop E WriteFailed)) × RunsLoaded cs calls o zones s old stopped new × (answer ≡ outcome_of stopped)
 
 -- The entries were added, what is refused was told, and then they were run.
-pub record RunsAll {C W D E : Type 0} (cs : ClockCalls C E) (calls : WriterCalls W) (complaints : WriterCalls D) (o : RunOrders) (files : List TabFile) (zone : TimeZone)
+pub record RunsAll {C W D E : Type 0} (cs : ClockCalls C E) (calls : WriterCalls W) (complaints : WriterCalls D) (o : RunOrders) (files : List TabFile) (zones : List TimeZone)
     (old : C × TabWriter W × Printer D) (answer : Result ⊤ (Failure E)) (new : C × TabWriter W × Printer D) : Type 0 where
   pub looked : C
-  pub begins : Begins cs o files zone old.0 looked
+  pub begins : Begins cs o files zones old.0 looked
   pub told : Result ⊤ WriteFailed
-  pub tells : PrintsText complaints old.2 (told_files o.tasks.kind files) told new.2
-  pub ends : EndsBy cs calls o zone begins.state told (looked, old.1) answer (new.0, new.1)
+  pub tells : PrintsText complaints old.2 (told_files o.tasks.kind o.tasks.names.now files) told new.2
+  pub ends : EndsBy cs calls o zones begins.state told (looked, old.1) answer (new.0, new.1)
 
 -- the clock couldn't be read, or memory ran out after a look at it ..
 abbrev pub unstarted : {E : Type 0} → Result Timestamp E → Result ⊤ (Failure E)
@@ -90,5 +90,5 @@ IsUnstarted {E = E} cs old answer new =
 
 abbrev pub RunsFiles : {C W D E : Type 0} → ClockCalls C E → WriterCalls W → WriterCalls D → RunOrders → List TabFile → TimeZone
     → C × TabWriter W × Printer D → Result ⊤ (Failure E) → C × TabWriter W × Printer D → Type 0
-RunsFiles cs calls complaints o files zone old answer new =
-    IsUnstarted cs old answer new ⊎ RunsAll cs calls complaints o files zone old answer new
+RunsFiles cs calls complaints o files zones old answer new =
+    IsUnstarted cs old answer new ⊎ RunsAll cs calls complaints o files zones old answer new

@@ -1,6 +1,6 @@
 //! Runs crontabs.
 
-ghost use Rattle.std.specs.Prelude.{◌≡◌, IfOk};
+ghost use Rattle.std.specs.Prelude.{◌≡◌, IfOk, map};
 ghost use Rattle.std.specs.String.{string_bytes};
 ghost use Rattle.jiff.specs.Words.{plain_zone};
 ghost use Rattle.cron_ringing.specs.Printing.{writer_calls};
@@ -16,19 +16,25 @@ use crate::writer::TabWriter;
 use cron_agenda_scheduler::AgendaStop;
 use cron_ringing::printer::Printer;
 use cron_scheduler::AlarmClock;
-use cron_tab_lines::{Crontab, Lines};
-use cron_tab_tasks::push_refusals;
+use cron_tab_lines::Lines;
+use cron_tab_tasks::{Orders, push_refusals};
 use cron_writer::watchable::Watchable;
 use jiff::tz::TimeZone;
 use std::alloc::{AllocError, Global};
 
 // What is told of the lines that are refused.
-fn refusals_of(alloc: Global, kind: Crontab, files: &[TabFile<'_>]) -> Result<String, AllocError>
-    ensures { IfOk result (λ told. string_bytes told ≡ told_files kind files.now) }
+fn refusals_of(
+    alloc: Global,
+    tasks: &Orders<'_>,
+    files: &[TabFile<'_>],
+) -> Result<String, AllocError>
+    ensures { IfOk result (λ told. string_bytes told
+        ≡ told_files tasks.now.kind tasks.now.names.now files.now) }
 {
     let mut told = String::new(alloc);
     for file in files {
-        push_refusals(&mut told, file.name, Lines::of(kind, file.bytes))?;
+        let lines = Lines::of(tasks.kind, file.bytes);
+        push_refusals(&mut told, file.name, tasks.names, lines)?;
     }
     Ok(told)
 }
@@ -45,49 +51,53 @@ fn begin(
     alloc: Global,
     orders: &RunOrders<'_>,
     files: &[TabFile<'_>],
-    start: &Start<'_>,
+    start: &Start<'_, '_>,
 ) -> Result<Begun, AllocError>
     ensures adds { IfOk result (λ b. AddsTasks
-        (given orders.now (plain_zone start.now.zone) start.now.instant.nanosecond)
+        (given orders.now (map plain_zone start.now.zones.now) start.now.instant.nanosecond)
         (files_tasks orders.now files.now) nothing (state_of b.loaded)) }
     ensures told { IfOk result (λ b. string_bytes b.told
-        ≡ told_files orders.now.tasks.kind files.now) }
+        ≡ told_files orders.now.tasks.kind orders.now.tasks.names.now files.now) }
 {
     let mut loaded = Loaded::new(alloc);
     load_files(&mut loaded, orders, files, start, alloc)?;
-    let told = refusals_of(alloc, orders.tasks.kind, files)?;
+    let told = refusals_of(alloc, &orders.tasks, files)?;
     Ok(Begun { loaded, told })
 }
 
-/// Tells of the lines that are refused, and then runs the other entries, in a zone, from the time
-/// on that the clock shows first: what is written of an entry is handed on at its fire, and
+/// Tells of the lines that are refused, and then runs the other entries, in the first of the zones,
+/// or below a line that sets `CRON_TZ` in the one that it names, from the time on that the clock
+/// shows first: what is written of an entry is handed on at its fire, and
 /// flushed, before the clock is waited for again. It ends where no entry fires any more, or after
 /// so many runs; else by a failure.
 pub fn run_files<C: AlarmClock, W: Watchable, E: Watchable>(
     alloc: Global,
     orders: &RunOrders<'_>,
     files: &[TabFile<'_>],
-    zone: TimeZone<'_>,
+    zones: &[TimeZone<'_>],
     clock: &mut C,
     writer: &mut TabWriter<W>,
     complaints: &mut Printer<E>,
 ) -> Result<(), Failure<C::Error>>
     ensures { RunsFiles (clock_calls C.shows C.waits)
         (writer_calls W.writes W.flushes W.contents) (writer_calls E.writes E.flushes E.contents)
-        orders.now files.now (plain_zone zone.entry)
+        orders.now files.now (map plain_zone zones.now)
         (clock.old, writer.old, complaints.old) result (clock.new, writer.new, complaints.new) }
 {
     let now = match clock.now() {
         Ok(now) => now,
         Err(error) => return Err(Failure::Stopped(AgendaStop::Clock(error))),
     };
-    let start = Start { zone, instant: now };
+    let start = Start {
+        zones,
+        instant: now,
+    };
     let Ok(begun) = begin(alloc, orders, files, &start) else {
         return Err(Failure::OutOfMemory);
     };
     let Begun { loaded, told } = begun;
     match complaints.print(told.as_bytes()) {
-        Ok(()) => outcome_of(run_loaded(loaded, orders, zone, clock, writer)),
+        Ok(()) => outcome_of(run_loaded(loaded, orders, zones, clock, writer)),
         Err(_) => Err(Failure::Untold),
     }
 }

@@ -12,9 +12,9 @@ use crate::orders::{RunOrders, TabFile};
 use cron_agenda::{AddError, Agenda};
 use cron_agenda_scheduler::Timely;
 use cron_shell::Variable;
-use cron_tab_lines::{FileLine, Lines};
+use cron_tab_lines::{FileLine, Lines, zone_below};
 use cron_tab_listing::{TabEntry, changes_of};
-use cron_tab_tasks::{is_zone, push_defaults, push_variable, text_in};
+use cron_tab_tasks::{push_defaults, push_variable, text_in};
 use jiff::Timestamp;
 use jiff::tz::TimeZone;
 use std::alloc::{AllocError, Global};
@@ -44,8 +44,8 @@ impl Loaded {
 
 /// Where and from when on entries fire.
 #[derive(Clone, Copy)]
-pub(crate) struct Start<'a> {
-    pub(crate) zone: TimeZone<'a>,
+pub(crate) struct Start<'s, 'z> {
+    pub(crate) zones: &'s [TimeZone<'z>],
     pub(crate) instant: Timestamp,
 }
 
@@ -65,11 +65,12 @@ fn add_table(
     table: TabEntry,
     line: &FileLine<'_>,
     text: Vec<u8>,
-    start: &Start<'_>,
+    start: &Start<'_, '_>,
+    zone: usize,
 ) -> Result<(), AllocError>
     ensures { OnOk result (AddsTimed
-        (given orders.now (plain_zone start.now.zone) start.now.instant.nanosecond)
-        (adding.changes_of orders.now.clock line.now.bytes.now) table text.items
+        (given orders.now (map plain_zone start.now.zones.now) start.now.instant.nanosecond)
+        zone (adding.changes_of orders.now.clock line.now.bytes.now) table text.items
         (state_of loaded.old) (state_of loaded.new)) }
 {
     let changes = changes_of(orders.clock, line.bytes);
@@ -77,8 +78,10 @@ fn add_table(
         table,
         lateness: orders.lateness,
     };
-    let zones = [start.zone];
-    match loaded.agenda.add(timely, changes, start.instant, &zones, 0) {
+    match loaded
+        .agenda
+        .add(timely, changes, start.instant, start.zones, zone)
+    {
         Ok(_) => push_text(&mut loaded.texts, text),
         Err(AddError::NoFires) => Ok(()),
         Err(_) => Err(AllocError),
@@ -91,18 +94,19 @@ fn add_task(
     orders: &RunOrders<'_>,
     line: &FileLine<'_>,
     text: Vec<u8>,
-    start: &Start<'_>,
+    start: &Start<'_, '_>,
+    zone: usize,
 ) -> Result<(), AllocError>
     ensures { OnOk result (AddsTask
-        (given orders.now (plain_zone start.now.zone) start.now.instant.nanosecond)
-        (task (file_line_view line.now) text.items)
+        (given orders.now (map plain_zone start.now.zones.now) start.now.instant.nanosecond)
+        (task (file_line_view line.now) zone text.items)
         (state_of loaded.old) (state_of loaded.new)) }
 {
     let Some(table) = TabEntry::of(line) else {
         loaded.at_reboot.extend_from_slice(text.as_slice())?;
         return Ok(());
     };
-    add_table(loaded, orders, table, line, text, start)
+    add_table(loaded, orders, table, line, text, start, zone)
 }
 
 // Adds what a line is: a variable, or an entry.
@@ -111,22 +115,24 @@ fn load_line<'a>(
     variables: &mut Vec<Variable<'a>>,
     orders: &RunOrders<'_>,
     line: &FileLine<'a>,
-    start: &Start<'_>,
+    start: &Start<'_, '_>,
+    here: Option<usize>,
     alloc: Global,
 ) -> Result<(), AllocError>
     ensures variables { OnOk result (map variable_view variables.new.items
         ≡ map variable_view variables.old.items
         ++ tasks.variables_in (file_line_view line.now).outcome) }
     ensures adds { OnOk result (AddsTasks
-        (given orders.now (plain_zone start.now.zone) start.now.instant.nanosecond)
-        (tasks.task_in (file_line_view line.now) (tasks.text_in (tasks.orders_view orders.now.tasks)
+        (given orders.now (map plain_zone start.now.zones.now) start.now.instant.nanosecond)
+        (tasks.task_in (file_line_view line.now) here (tasks.text_in (tasks.orders_view orders.now.tasks)
         (map variable_view variables.new.items) (file_line_view line.now).outcome))
         (state_of loaded.old) (state_of loaded.new)) }
 {
     push_variable(variables, line)?;
-    match text_in(alloc, &orders.tasks, variables.as_slice(), line)? {
-        Some(text) => add_task(loaded, orders, line, text, start),
-        None => Ok(()),
+    let text = text_in(alloc, &orders.tasks, variables.as_slice(), line)?;
+    match (here, text) {
+        (Some(zone), Some(text)) => add_task(loaded, orders, line, text, start, zone),
+        _ => Ok(()),
     }
 }
 
@@ -135,20 +141,19 @@ fn load_file(
     loaded: &mut Loaded,
     orders: &RunOrders<'_>,
     file: &TabFile<'_>,
-    start: &Start<'_>,
+    start: &Start<'_, '_>,
     alloc: Global,
 ) -> Result<(), AllocError>
     ensures { OnOk result (AddsTasks
-        (given orders.now (plain_zone start.now.zone) start.now.instant.nanosecond)
+        (given orders.now (map plain_zone start.now.zones.now) start.now.instant.nanosecond)
         (file_tasks orders.now file.now) (state_of loaded.old) (state_of loaded.new)) }
 {
     let mut variables = Vec::new(alloc);
     push_defaults(&mut variables)?;
+    let mut here = Some(0);
     for line in Lines::of(orders.tasks.kind, file.bytes) {
-        if is_zone(&line) {
-            return Ok(());
-        }
-        load_line(loaded, &mut variables, orders, &line, start, alloc)?;
+        load_line(loaded, &mut variables, orders, &line, start, here, alloc)?;
+        here = zone_below(orders.tasks.names, here, &line);
     }
     Ok(())
 }
@@ -158,11 +163,11 @@ pub(crate) fn load_files(
     loaded: &mut Loaded,
     orders: &RunOrders<'_>,
     files: &[TabFile<'_>],
-    start: &Start<'_>,
+    start: &Start<'_, '_>,
     alloc: Global,
 ) -> Result<(), AllocError>
     ensures { OnOk result (AddsTasks
-        (given orders.now (plain_zone start.now.zone) start.now.instant.nanosecond)
+        (given orders.now (map plain_zone start.now.zones.now) start.now.instant.nanosecond)
         (files_tasks orders.now files.now) (state_of loaded.old) (state_of loaded.new)) }
 {
     for file in files {

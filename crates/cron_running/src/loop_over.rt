@@ -3,7 +3,7 @@
 ghost use Rattle.jiff.specs.Words.{plain_zone};
 ghost use Rattle.cron_ringing.specs.Printing.{writer_calls};
 ghost use Rattle.cron_scheduler.specs.Runs.{clock_calls};
-ghost use Rattle.std.specs.Prelude.{◌≡◌};
+ghost use Rattle.std.specs.Prelude.{◌≡◌, map};
 ghost use Rattle.cron_running.specs.Loading.{state_of};
 ghost use Rattle.cron_running.specs.Running.{RunsLoaded};
 ghost use Rattle.cron_running.specs.Writing.{WritesStart};
@@ -38,13 +38,13 @@ fn write_start<W: Watchable>(
 pub(crate) fn run_loaded<C: AlarmClock, W: Watchable>(
     loaded: Loaded,
     orders: &RunOrders<'_>,
-    zone: TimeZone<'_>,
+    zones: &[TimeZone<'_>],
     clock: &mut C,
     writer: &mut TabWriter<W>,
 ) -> Result<(), AgendaStop<C::Error, WriteFailed>>
     ensures { RunsLoaded (clock_calls C.shows C.waits)
         (writer_calls W.writes W.flushes W.contents)
-        orders.now (plain_zone zone.entry) (state_of loaded)
+        orders.now (map plain_zone zones.now) (state_of loaded)
         (clock.old, writer.old) result (clock.new, writer.new) }
 {
     let Loaded {
@@ -53,9 +53,8 @@ pub(crate) fn run_loaded<C: AlarmClock, W: Watchable>(
         at_reboot,
     } = loaded;
     writer.texts = texts;
-    let zones = [zone];
     match write_start(writer, orders, at_reboot.as_slice()) {
-        Ok(()) => run(&mut agenda, &zones, clock, writer, orders.most),
+        Ok(()) => run(&mut agenda, zones, clock, writer, orders.most),
         Err(error) => Err(AgendaStop::Job(error)),
     }
 }

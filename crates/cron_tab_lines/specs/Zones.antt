@@ -1,5 +1,5 @@
 -- In which zone entries fire: that of the last `CRON_TZ` above them.
-use Rattle.std.specs.Prelude.{ℕ, Bool, false, List, [], ◌∷◌, Option, Some, None, Result, Ok, if◌then◌else◌}
+use Rattle.std.specs.Prelude.{ℕ, Bool, false, List, [], ◌∷◌, Option, Some, None, Result, Ok, codes, if◌then◌else◌}
 use Rattle.std.specs.Option.{is_none}
 use Rattle.std.specs.Str.{bytes_eq}
 use Rattle.cron_tab_lines.specs.Lines.{Meaning, zone}
@@ -20,3 +20,7 @@ zone_below names above _ = above
 abbrev pub names_no_zone : List NamedZone → Result Meaning Refusal → Bool
 names_no_zone names (Ok (zone value)) = is_none (zone_named names value)
 names_no_zone names _ = false
+
+-- what is told of such a line
+abbrev pub no_zone_text : List ℕ
+no_zone_text = codes "CRON_TZ names no zone, and the entries below it are left out"

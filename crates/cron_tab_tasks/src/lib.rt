@@ -9,4 +9,4 @@ mod texts;
 
 pub use orders::{Form, Orders};
 pub use refused::push_refusals;
-pub use tasks::{is_zone, push_defaults, push_variable, text_in};
+pub use tasks::{push_defaults, push_variable, text_in};

@@ -4,7 +4,7 @@ ghost use Rattle.std.specs.Prelude.{◌≡◌};
 ghost use Rattle.cron_tab_lines.specs.Views.{entry_view, bytes_view};
 ghost use Rattle.cron_tab_tasks.specs.Tasks.{is_wanted};
 
-use cron_tab_lines::{Crontab, Entry};
+use cron_tab_lines::{Crontab, Entry, NamedZone};
 
 /// How an entry is written.
 #[derive(Clone, Copy, Debug, PartialEq, Eq)]
@@ -24,6 +24,8 @@ pub struct Orders<'a> {
     pub form: Form,
     /// Whose entries are taken; all if not given. Those of users' own crontabs name nobody.
     pub user: Option<&'a [u8]>,
+    /// The zones that `CRON_TZ` may name.
+    pub names: &'a [NamedZone<'a>],
 }
 
 /// Whether an entry is taken.

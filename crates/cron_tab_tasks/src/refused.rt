@@ -5,40 +5,44 @@ ghost use Rattle.std.specs.String.{string_bytes};
 ghost use Rattle.cron_tab_lines.specs.Views.{file_line_view};
 ghost use Rattle.cron_tab_tasks.specs.Told.{told_line, told_lines};
 
-use crate::tasks::is_zone;
-use cron_tab_lines::{FileLine, Lines};
+use cron_tab_lines::{FileLine, Lines, NamedZone, names_no_zone};
 use std::alloc::AllocError;
 
 // Pushes what is told of a line.
-fn push_refusal(told: &mut String, name: &str, line: &FileLine<'_>) -> Result<(), AllocError>
+fn push_refusal(
+    told: &mut String,
+    name: &str,
+    names: &[NamedZone<'_>],
+    line: &FileLine<'_>,
+) -> Result<(), AllocError>
     ensures { OnOk result
         (string_bytes told.new
-        ≡ string_bytes told.old ++ told_line name.now (file_line_view line.now)) }
+        ≡ string_bytes told.old ++ told_line name.now names.now (file_line_view line.now)) }
 {
     let number = line.number;
-    if is_zone(line) {
-        return write!(
-            told,
-            "{name}:{number}: it sets CRON_TZ, and the entries below it are left out\n"
-        );
-    }
     match &line.read {
+        Ok(_) if names_no_zone(names, line) => write!(
+            told,
+            "{name}:{number}: CRON_TZ names no zone, and the entries below it are left out\n"
+        ),
         Ok(_) => Ok(()),
         Err(refusal) => write!(told, "{name}:{number}: {refusal}\n"),
     }
 }
 
-/// Pushes a line for each line of a file that is refused, and for the first one that sets
-/// `CRON_TZ`, which is the last that is looked at.
-pub fn push_refusals(told: &mut String, name: &str, lines: Lines<'_>) -> Result<(), AllocError>
-    ensures { OnOk result
-        (string_bytes told.new ≡ string_bytes told.old ++ told_lines name.now lines.entry) }
+/// Pushes a line for each line of a file that is refused, and for each one whose `CRON_TZ` is none
+/// of these names.
+pub fn push_refusals(
+    told: &mut String,
+    name: &str,
+    names: &[NamedZone<'_>],
+    lines: Lines<'_>,
+) -> Result<(), AllocError>
+    ensures { OnOk result (string_bytes told.new
+        ≡ string_bytes told.old ++ told_lines name.now names.now lines.entry) }
 {
     for line in lines {
-        push_refusal(told, name, &line)?;
-        if is_zone(&line) {
-            return Ok(());
-        }
+        push_refusal(told, name, names, &line)?;
     }
     Ok(())
 }

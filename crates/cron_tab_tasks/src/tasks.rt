@@ -3,20 +3,13 @@
 ghost use Rattle.std.specs.Prelude.{◌≡◌, ◌++◌, IfOk, OnOk, map, option_map};
 ghost use Rattle.cron_shell.specs.Lines.{variable_view};
 ghost use Rattle.cron_tab_lines.specs.Views.{file_line_view};
-ghost use Rattle.cron_tab_tasks.specs.Tasks.{defaults, is_zone, orders_view, text_in, variables_in};
+ghost use Rattle.cron_tab_tasks.specs.Tasks.{defaults, orders_view, text_in, variables_in};
 
 use crate::orders::{Orders, is_wanted};
 use crate::texts::{SHELL, text_of};
 use cron_shell::Variable;
 use cron_tab_lines::{FileLine, Line};
 use std::alloc::{AllocError, Global};
-
-/// Whether a line sets `CRON_TZ`: those below it may be of another zone.
-pub fn is_zone(line: &FileLine<'_>) -> bool
-    ensures { result ≡ is_zone (file_line_view line.now).outcome }
-{
-    matches!(&line.read, Ok(Line::Zone(_)))
-}
 
 /// Pushes the variables that a file's entries have without a setting.
 pub fn push_defaults<'a>(variables: &mut Vec<Variable<'a>>) -> Result<(), AllocError>

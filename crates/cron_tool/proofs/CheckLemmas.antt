@@ -13,6 +13,7 @@ use Rattle.cron_tab_lines.specs.declared.kinds.Entry.{Entry}
 use Rattle.cron_tab_lines.specs.declared.kinds.Line.{Line}
 use Rattle.cron_tab_lines.specs.declared.kinds.Line.TheVariants.{Entry as Read}
 use Rattle.cron_tab_lines.specs.declared.refusals.Refusal.{Refusal}
+use Rattle.cron_tab_lines.specs.declared.zones.NamedZone.{NamedZone}
 use Rattle.cron_tool.specs.Checks.{any_refused, refuses, EndsAs, TellsIfWanted, TellsLine, TellsLines, TellsOfEntry, TellsOfFields, TellsOfLine, TellsThose}
 use Rattle.cron_tool.specs.Inner.Checks.{AppendsTold, end_of}
 use Rattle.cron_tool.specs.Statuses.{Ends, is_write_failure}
@@ -121,15 +122,17 @@ or_none : (a : Bool) → (a || false) ≡ a
 or_none true = refl
 or_none false = refl
 
-any_on : (checked : List FileLine) (line : FileLine) → any_refused (checked ++ line ∷ []) ≡ (any_refused checked || refuses line.outcome)
-any_on [] line = or_none (refuses line.outcome)
-any_on (first ∷ checked) line =
-    ap (λ (b : Bool). refuses first.outcome || b) (any_on checked line) ∙ sym (or_assoc (refuses first.outcome) (any_refused checked) (refuses line.outcome))
+any_on : (names : List NamedZone) (checked : List FileLine) (line : FileLine)
+    → any_refused names (checked ++ line ∷ []) ≡ (any_refused names checked || refuses names line.outcome)
+any_on names [] line = or_none (refuses names line.outcome)
+any_on names (first ∷ checked) line =
+    ap (λ (b : Bool). refuses names first.outcome || b) (any_on names checked line)
+    ∙ sym (or_assoc (refuses names first.outcome) (any_refused names checked) (refuses names line.outcome))
 
 -- and so whether one is refused
-pub refused_on : (checked : List FileLine) (line : FileLine) (refused bad : Bool) → refused ≡ any_refused checked → bad ≡ refuses line.outcome
-    → (refused || bad) ≡ any_refused (checked ++ line ∷ [])
-refused_on checked line refused bad e f = rw (e, f) (sym (any_on checked line))
+pub refused_on : (names : List NamedZone) (checked : List FileLine) (line : FileLine) (refused bad : Bool) → refused ≡ any_refused names checked
+    → bad ≡ refuses names line.outcome → (refused || bad) ≡ any_refused names (checked ++ line ∷ [])
+refused_on names checked line refused bad e f = rw (e, f) (sym (any_on names checked line))
 
 -- ---- the end
 
@@ -154,16 +157,16 @@ unfailed writes flushes old mid new true now failed p q e =
 pub if_ok : {A E : Type 0} (answer : Result A E) (x : A) (P : A → Type 0) → answer ≡ Ok x → IfOk answer P → P x
 if_ok answer x P is h = rw is at h
 
-pub ends_as : (answer : Result Bool AllocError) (end status : Status) (lines left : List FileLine) (report : List ℕ) (old new : Option (List ℕ))
+pub ends_as : (names : List NamedZone) (answer : Result Bool AllocError) (end status : Status) (lines left : List FileLine) (report : List ℕ) (old new : Option (List ℕ))
     → end ≡ end_of answer → Ends end report old new status
-    → (is_write_failure status ≡ false → (refused : Bool) → answer ≡ Ok refused → (left ≡ []) × (refused ≡ any_refused lines))
-    → EndsAs status lines left report old new
-ends_as answer end status lines left report old new e (inr (f, front)) whole = rw f front
-ends_as (Ok true) end status lines left report old new e (inl (s, all)) whole =
+    → (is_write_failure status ≡ false → (refused : Bool) → answer ≡ Ok refused → (left ≡ []) × (refused ≡ any_refused names lines))
+    → EndsAs status names lines left report old new
+ends_as names answer end status lines left report old new e (inr (f, front)) whole = rw f front
+ends_as names (Ok true) end status lines left report old new e (inl (s, all)) whole =
     let is : status ≡ No = s ∙ e in
     let (none, some) = whole (ap is_write_failure is) true refl in rw is (none, sym some, all)
-ends_as (Ok false) end status lines left report old new e (inl (s, all)) whole =
+ends_as names (Ok false) end status lines left report old new e (inl (s, all)) whole =
     let is : status ≡ Done = s ∙ e in
     let (none, some) = whole (ap is_write_failure is) false refl in rw is (none, sym some, all)
-ends_as (Err why) end status lines left report old new e (inl (s, all)) whole =
+ends_as names (Err why) end status lines left report old new e (inl (s, all)) whole =
     let is : status ≡ Unreadable = s ∙ e in rw is all

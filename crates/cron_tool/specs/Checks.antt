@@ -9,6 +9,8 @@ use Rattle.cron_checking.specs.Reports.{told}
 use Rattle.cron_tab_lines.specs.Files.{FileLine}
 use Rattle.cron_tab_lines.specs.Lines.{Meaning, entry}
 use Rattle.cron_tab_lines.specs.Refusals.{Refusal, refusal_text}
+use Rattle.cron_tab_lines.specs.Zones.{names_no_zone, no_zone_text}
+use Rattle.cron_tab_lines.specs.declared.zones.NamedZone.{NamedZone}
 use Rattle.cron_tab_warnings.specs.Files.{warns_line}
 use Rattle.cron_tab_warnings.specs.Messages.{line_warning_text, warning_text}
 use Rattle.cron_tab_warnings.specs.Warnings.{Warns}
@@ -18,18 +20,24 @@ use Rattle.cron_tool.specs.declared.check.Wanted.{Wanted}
 use Rattle.cron_tool.specs.declared.status.Status.{Status}
 use Rattle.cron_tool.specs.declared.status.Status.TheVariants.{Done, No, WrongWords, WriteFailed, Unreadable}
 
-abbrev pub refuses : Result Meaning Refusal → Bool
-refuses (Ok meaning) = false
-refuses (Err refusal) = true
+-- a line is refused, or names no zone
+abbrev pub refuses : List NamedZone → Result Meaning Refusal → Bool
+refuses names (Ok meaning) = names_no_zone names (Ok meaning)
+refuses names (Err refusal) = true
 
 -- some line is refused
-abbrev pub any_refused : List FileLine → Bool
-any_refused lines = list_any (λ line. refuses line.outcome) lines
+abbrev pub any_refused : List NamedZone → List FileLine → Bool
+any_refused names lines = list_any (λ line. refuses names line.outcome) lines
+
+-- what is told of a line that is read, by whether it names no zone
+abbrev pub zone_line : List ℕ → ℕ → Bool → List ℕ
+zone_line front number false = []
+zone_line front number true = told front number no_zone_text
 
 -- why a line is refused, with its number; nothing of another
-abbrev pub refusal_line : List ℕ → ℕ → Result Meaning Refusal → List ℕ
-refusal_line front number (Ok meaning) = []
-refusal_line front number (Err refusal) = told front number (refusal_text refusal)
+abbrev pub refusal_line : List ℕ → List NamedZone → ℕ → Result Meaning Refusal → List ℕ
+refusal_line front names number (Ok meaning) = zone_line front number (names_no_zone names (Ok meaning))
+refusal_line front names number (Err refusal) = told front number (refusal_text refusal)
 
 abbrev pub warning_line : List ℕ → ℕ → List ℕ → List ℕ
 warning_line front number text = told front number (codes "warning: " ++ text)
@@ -71,7 +79,7 @@ TellsIfWanted false front line text = text ≡ []
 -- What is told of a line: why it is refused, and then its warnings where they are wanted.
 abbrev pub TellsLine : Wanted → FileLine → List ℕ → Type 0
 TellsLine w line text =
-    (warnings : List ℕ) × (text ≡ refusal_line w.front.now line.number line.outcome ++ warnings) × TellsIfWanted w.warn w.front.now line warnings
+    (warnings : List ℕ) × (text ≡ refusal_line w.front.now w.names.now line.number line.outcome ++ warnings) × TellsIfWanted w.warn w.front.now line warnings
 
 -- of lines, one after another
 abbrev pub TellsLines : Wanted → List FileLine → List ℕ → Type 0
@@ -80,12 +88,12 @@ TellsLines w (line ∷ lines) text =
     (here : List ℕ) × (rest : List ℕ) × (text ≡ here ++ rest) × TellsLine w line here × TellsLines w lines rest
 
 -- How a check ends, which left these of the lines. Each was told, and some are refused or none is; or a write failed; or memory ran out.
-abbrev pub EndsAs : Status → List FileLine → List FileLine → List ℕ → Option (List ℕ) → Option (List ℕ) → Type 0
-EndsAs Done lines left report old new = (left ≡ []) × (any_refused lines ≡ false) × Appends old new report
-EndsAs No lines left report old new = (left ≡ []) × (any_refused lines ≡ true) × Appends old new report
-EndsAs WrongWords lines left report old new = ⊥
-EndsAs WriteFailed lines left report old new = IsFrontSent old new report
-EndsAs Unreadable lines left report old new = Appends old new report
+abbrev pub EndsAs : Status → List NamedZone → List FileLine → List FileLine → List ℕ → Option (List ℕ) → Option (List ℕ) → Type 0
+EndsAs Done names lines left report old new = (left ≡ []) × (any_refused names lines ≡ false) × Appends old new report
+EndsAs No names lines left report old new = (left ≡ []) × (any_refused names lines ≡ true) × Appends old new report
+EndsAs WrongWords names lines left report old new = ⊥
+EndsAs WriteFailed names lines left report old new = IsFrontSent old new report
+EndsAs Unreadable names lines left report old new = Appends old new report
 
 -- The lines, or those in front of some that are left, were told in order, to a writer that held `old` and holds `new`.
 pub record Checks (w : Wanted) (lines : List FileLine) (old new : Option (List ℕ)) (status : Status) : Type 0 where
@@ -94,4 +102,4 @@ pub record Checks (w : Wanted) (lines : List FileLine) (old new : Option (List �
   pub cut : lines ≡ checked ++ left
   pub report : List ℕ
   pub tells : TellsLines w checked report
-  pub ends : EndsAs status lines left report old new
+  pub ends : EndsAs status w.names.now lines left report old new

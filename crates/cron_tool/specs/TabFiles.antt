@@ -1,14 +1,18 @@
 -- The entries of crontabs in an agenda, with where each stands.
-use Rattle.std.specs.Prelude.{◌≡◌, ◌⊎◌, ◌++◌, ℕ, true, false, List, [], ◌∷◌, Option, Some, None, Ok}
+use Rattle.std.specs.Prelude.{◌≡◌, ◌++◌, ℕ, ℤ, List, [], ◌∷◌, Option, Some, None, Ok}
+use Rattle.jiff_tz.specs.declared.timezone.TimeZone.{TimeZone}
 use Rattle.cron_agenda.specs.Entries.{Listed, listed}
 use Rattle.cron_tab_lines.specs.Entries.{Entry}
 use Rattle.cron_tab_lines.specs.Files.{FileLine}
 use Rattle.cron_tab_lines.specs.Lines.{entry}
 use Rattle.cron_tab_lines.specs.Views.{bytes_view}
-use Rattle.cron_tab_listing.specs.Adding.{AddsLine, Start}
+use Rattle.cron_tab_lines.specs.Zones.{zone_below}
+use Rattle.cron_tab_lines.specs.declared.zones.NamedZone.{NamedZone}
+use Rattle.cron_tab_listing.specs.Adding.{AddsLine, Start, start_of}
+use Rattle.cron_tab_listing.specs.declared.adding.Clock.{Clock}
 use Rattle.cron_tab_listing.specs.declared.tab_entry.TabEntry.{TabEntry}
-use Rattle.cron_tab_warnings.specs.Files.{is_zone}
 use Rattle.cron_tool.specs.declared.tabs.Source.{Source}
+use Rattle.cron_tool.specs.declared.tab_files.Firing.{Firing}
 use Rattle.cron_tool.specs.declared.tab_files.TabAgenda as code
 
 -- an agenda, and the source of each of its entries at the place of its id
@@ -36,9 +40,24 @@ abbrev pub LoadsLine : Start → List ℕ → FileLine → TabAgenda → TabAgen
 LoadsLine s front line old new =
     (answer : Option ℕ) × AddsLine s line old.agenda (Ok answer) new.agenda × AddsSource front line answer old.sources new.sources
 
--- The entries of lines are added, up to the first line that sets `CRON_TZ`, whose number is found where there is one.
-abbrev pub LoadsLines : Start → List ℕ → List FileLine → TabAgenda → Option ℕ → TabAgenda → Type 0
-LoadsLines s front [] old found new = (found ≡ None) × (new ≡ old)
-LoadsLines s front (line ∷ lines) old found new =
-    ((is_zone line.outcome ≡ true) × (found ≡ Some line.number) × (new ≡ old))
-    ⊎ ((between : TabAgenda) × (is_zone line.outcome ≡ false) × LoadsLine s front line old between × LoadsLines s front lines between found new)
+-- where, from when on and by which rule entries fire
+pub record Given : Type 0 where
+  pub zones : List TimeZone
+  pub names : List NamedZone
+  pub clock : Clock
+  pub t : ℤ
+
+abbrev pub given : List TimeZone → Firing → Given
+given zones f = record { zones = zones; names = f.names.now; clock = f.clock; t = f.start.nanosecond }
+
+-- it is added in the zone with this number; or it has no zone, and is left out
+abbrev pub LoadsIn : Given → Option ℕ → List ℕ → FileLine → TabAgenda → TabAgenda → Type 0
+LoadsIn g None front line old new = new ≡ old
+LoadsIn g (Some zone) front line old new = LoadsLine (start_of g.zones zone g.clock g.t) front line old new
+
+-- The entries of lines are added, each in the zone of the last `CRON_TZ` above it.
+abbrev pub LoadsLines : Given → Option ℕ → List ℕ → List FileLine → TabAgenda → TabAgenda → Type 0
+LoadsLines g here front [] old new = new ≡ old
+LoadsLines g here front (line ∷ lines) old new =
+    (between : TabAgenda) × LoadsIn g here front line old between
+    × LoadsLines g (zone_below g.names here line.outcome) front lines between new

@@ -7,7 +7,8 @@ ghost use Rattle.std.specs.String.{string_bytes};
 ghost use Rattle.cron_crontab.specs.Views.{expression_view};
 ghost use Rattle.cron_tab_lines.specs.Files.{file_lines};
 ghost use Rattle.cron_tab_lines.specs.Views.{file_line_view};
-ghost use Rattle.cron_tool.specs.Checks.{Checks, TellsIfWanted, TellsLine, TellsOfEntry, TellsOfFields, TellsOfLine, refusal_line, refuses};
+ghost use Rattle.cron_tool.specs.Checks.{Checks, TellsIfWanted, TellsLine, TellsOfEntry, TellsOfFields, TellsOfLine, refusal_line, refuses, zone_line};
+ghost use Rattle.cron_tab_lines.specs.Zones.{names_no_zone};
 ghost use Rattle.cron_tool.specs.Inner.Checks.{AppendsTold, TellsFront, end_of};
 ghost use Rattle.cron_tool.specs.Statuses.{is_write_failure};
 ghost use Rattle.cron_writer.specs.Calls.{AreWritesFlushed};
@@ -16,7 +17,7 @@ ghost use Rattle.cron_writer.specs.Watching.{has_failed, writer_of};
 use crate::status::{Status, finish};
 use cron_checking::output::put;
 use cron_crontab::Expression;
-use cron_tab_lines::{Crontab, FileLine, Line, Lines};
+use cron_tab_lines::{Crontab, FileLine, Line, Lines, NamedZone, names_no_zone};
 use cron_tab_warnings::{LINE_WARNINGS, WARNINGS, text_of, warns, warns_line};
 use cron_writer::gathered::Gathered;
 use cron_writer::watchable::Watchable;
@@ -32,18 +33,48 @@ pub struct Wanted<'a> {
     pub front: &'a str,
     /// Whether warnings are told too.
     pub warn: bool,
+    /// The zones that `CRON_TZ` may name.
+    pub names: &'a [NamedZone<'a>],
+}
+
+// Tells that a line names no zone, where it doesn't, and answers whether it is so.
+fn tell_zone(
+    wanted: &Wanted<'_>,
+    line: &FileLine<'_>,
+    text: &mut String,
+) -> Result<bool, AllocError>
+    ensures refused { IfOk result (λ refused. refused
+        ≡ names_no_zone wanted.now.names.now (file_line_view line.now).outcome) }
+    ensures told { OnOk result (string_bytes text.new
+        ≡ string_bytes text.old ++ zone_line wanted.now.front.now line.now.number
+        (names_no_zone wanted.now.names.now (file_line_view line.now).outcome)) }
+{
+    let (front, number) = (wanted.front, line.number);
+    let refused = names_no_zone(wanted.names, line);
+    if refused {
+        writeln!(
+            text,
+            "{front}{number}: CRON_TZ names no zone, and the entries below it are left out"
+        )?;
+    }
+    Ok(refused)
 }
 
 // Tells why a line is refused, and answers whether it is.
-fn tell_refusal(front: &str, line: &FileLine<'_>, text: &mut String) -> Result<bool, AllocError>
-    ensures refused { IfOk result (λ refused. refused ≡ refuses (file_line_view line.now).outcome) }
+fn tell_refusal(
+    wanted: &Wanted<'_>,
+    line: &FileLine<'_>,
+    text: &mut String,
+) -> Result<bool, AllocError>
+    ensures refused { IfOk result (λ refused. refused
+        ≡ refuses wanted.now.names.now (file_line_view line.now).outcome) }
     ensures told { OnOk result (string_bytes text.new
-        ≡ string_bytes text.old
-        ++ refusal_line front.now line.now.number (file_line_view line.now).outcome) }
+        ≡ string_bytes text.old ++ refusal_line wanted.now.front.now wanted.now.names.now
+        line.now.number (file_line_view line.now).outcome) }
 {
-    let number = line.number;
+    let (front, number) = (wanted.front, line.number);
     match &line.read {
-        Ok(_) => Ok(false),
+        Ok(_) => tell_zone(wanted, line, text),
         Err(refusal) => {
             writeln!(text, "{front}{number}: {refusal}")?;
             Ok(true)
@@ -131,12 +162,13 @@ fn tell_line(
     line: &FileLine<'_>,
     text: &mut String,
 ) -> Result<bool, AllocError>
-    ensures refused { IfOk result (λ refused. refused ≡ refuses (file_line_view line.now).outcome) }
+    ensures refused { IfOk result (λ refused. refused
+        ≡ refuses wanted.now.names.now (file_line_view line.now).outcome) }
     ensures told { OnOk result
         (TellsLine wanted.now (file_line_view line.now) (string_bytes text.new)) }
 {
     text.clear();
-    let refused = tell_refusal(wanted.front, line, text)?;
+    let refused = tell_refusal(wanted, line, text)?;
     tell_if_wanted(wanted, line, text)?;
     Ok(refused)
 }

@@ -1,17 +1,16 @@
 //! The entries of crontabs, added to an agenda with where each stands.
 
-ghost use Rattle.std.specs.Prelude.{◌≡◌, IfOk, OnOk, map};
+ghost use Rattle.std.specs.Prelude.{◌≡◌, OnOk, Some, map};
 ghost use Rattle.jiff.specs.Words.{plain_zone};
 ghost use Rattle.cron_tab_lines.specs.Files.{file_lines};
 ghost use Rattle.cron_tab_lines.specs.Views.{file_line_view};
 ghost use Rattle.cron_tab_listing.specs.Adding.{start_of};
-ghost use Rattle.cron_tool.specs.TabFiles.{LoadsLine, LoadsLines, agenda_view, nothing};
+ghost use Rattle.cron_tool.specs.TabFiles.{LoadsIn, LoadsLine, LoadsLines, agenda_view, given, nothing};
 
 use crate::tabs::Source;
 use cron_agenda::Agenda;
-use cron_tab_lines::{Crontab, FileLine, Line, Lines};
+use cron_tab_lines::{Crontab, FileLine, Line, Lines, NamedZone, zone_below};
 use cron_tab_listing::{Clock, TabEntry, add_line};
-use cron_tab_warnings::{LineWarning, warns_line};
 use jiff::Timestamp;
 use jiff::tz::TimeZone;
 use std::alloc::{AllocError, Global};
@@ -36,10 +35,12 @@ pub struct TabFile<'a> {
 
 /// How entries fire, and from when on.
 #[derive(Clone, Copy)]
-pub struct Firing {
+pub struct Firing<'a> {
     pub clock: Clock,
     /// They fire after it.
     pub start: Timestamp,
+    /// The zones that `CRON_TZ` may name.
+    pub names: &'a [NamedZone<'a>],
 }
 
 impl<'a> TabAgenda<'a> {
@@ -59,7 +60,7 @@ fn load_line<'a>(
     tabs: &mut TabAgenda<'a>,
     front: &'a str,
     line: &FileLine<'a>,
-    firing: &Firing,
+    firing: &Firing<'_>,
     zones: &[TimeZone<'_>],
     zone: usize,
 ) -> Result<(), AllocError>
@@ -90,26 +91,41 @@ fn load_line<'a>(
     Ok(())
 }
 
-/// Adds the entries of a crontab: their fires in the zone with this number. It ends at the first
-/// line that sets `CRON_TZ`, since those below it may be of another zone, and answers the line's
-/// number. Lines that are refused are passed over, and entries that never fire again.
+// Adds the entry of a line in the zone with this number. Without a zone it is left out.
+fn load_in<'a>(
+    tabs: &mut TabAgenda<'a>,
+    front: &'a str,
+    line: &FileLine<'a>,
+    firing: &Firing<'_>,
+    zones: &[TimeZone<'_>],
+    here: Option<usize>,
+) -> Result<(), AllocError>
+    ensures { OnOk result (LoadsIn (given (map plain_zone zones.now) firing.now) here
+        front.now (file_line_view line.now) (agenda_view tabs.old) (agenda_view tabs.new)) }
+{
+    match here {
+        Some(zone) => load_line(tabs, front, line, firing, zones, zone),
+        None => Ok(()),
+    }
+}
+
+/// Adds the entries of a crontab: their fires in the first of the zones, or below a line that sets
+/// `CRON_TZ` in the one that it names. Where that is none of the names, the entries below it are
+/// left out. Lines that are refused are passed over, and entries that never fire again.
 pub fn load_file<'a>(
     tabs: &mut TabAgenda<'a>,
     file: &TabFile<'a>,
-    firing: &Firing,
+    firing: &Firing<'_>,
     zones: &[TimeZone<'_>],
-    zone: usize,
-) -> Result<Option<usize>, AllocError>
-    ensures { IfOk result (λ found. LoadsLines
-        (start_of (map plain_zone zones.now) zone firing.now.clock firing.now.start.nanosecond)
+) -> Result<(), AllocError>
+    ensures { OnOk result (LoadsLines (given (map plain_zone zones.now) firing.now) (Some 0)
         file.now.front.now (file_lines file.now.kind file.now.bytes.now)
-        (agenda_view tabs.old) found (agenda_view tabs.new)) }
+        (agenda_view tabs.old) (agenda_view tabs.new)) }
 {
+    let mut here = Some(0);
     for line in Lines::of(file.kind, file.bytes) {
-        if warns_line(LineWarning::IgnoredZone, &line) {
-            return Ok(Some(line.number));
-        }
-        load_line(tabs, file.front, &line, firing, zones, zone)?;
+        load_in(tabs, file.front, &line, firing, zones, here)?;
+        here = zone_below(firing.names, here, &line);
     }
-    Ok(None)
+    Ok(())
 }

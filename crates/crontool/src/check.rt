@@ -2,6 +2,7 @@
 
 use crate::commands::{flag, option};
 use crate::machine::{Surroundings, complain, open_zone, read_file, say_trouble, say_unread};
+use crate::zones::{TabZones, no_memory};
 use clap::{Arg, ArgAction, ArgMatches, Command};
 use cron_checking::check::{Outcome, check as check_expressions};
 use cron_checking::line::{Mode, Telling};
@@ -71,16 +72,34 @@ pub(crate) fn front_of(alloc: Global, file: &str, count: usize) -> Result<String
     }
 }
 
-// Checks a crontab.
-fn check_tab(rt: &HostRuntime, wanted: &Wanted<'_>, file: &str) -> Status {
+// Checks a crontab, and opens the zones that it names.
+fn check_tab(
+    rt: &HostRuntime,
+    kind: Crontab,
+    warn: bool,
+    front: &str,
+    file: &str,
+) -> Result<Status, Status> {
     let bytes = match read_file(rt, file) {
         Ok(bytes) => bytes,
-        Err(error) => return say_unread(rt, file, &error),
+        Err(error) => return Err(say_unread(rt, file, &error)),
+    };
+    let around = Surroundings::of(rt)?;
+    let mut zones = TabZones::new(rt.alloc());
+    zones.open(rt, kind, bytes.as_slice(), &around)?;
+    let Ok(names) = zones.names(rt.alloc()) else {
+        return Err(no_memory(rt));
+    };
+    let wanted = Wanted {
+        kind,
+        front,
+        warn,
+        names: names.as_slice(),
     };
     let mut out = Watched::new(io::writer(rt));
-    match check(rt.alloc(), wanted, bytes.as_slice(), &mut out) {
-        Status::Unreadable => complain(rt, "out of memory", Status::Unreadable),
-        status => status,
+    match check(rt.alloc(), &wanted, bytes.as_slice(), &mut out) {
+        Status::Unreadable => Err(no_memory(rt)),
+        status => Ok(status),
     }
 }
 
@@ -139,13 +158,14 @@ enum Kind<'a> {
 // Checks one of so many files.
 fn check_one(rt: &HostRuntime, kind: &Kind<'_>, file: &str, count: usize) -> Status {
     let Ok(front) = front_of(rt.alloc(), file, count) else {
-        return complain(rt, "out of memory", Status::Unreadable);
+        return no_memory(rt);
     };
     let front = front.as_str();
     let mode = match kind {
         Kind::Tab(kind, warn) => {
-            let (kind, warn) = (*kind, *warn);
-            return check_tab(rt, &Wanted { kind, front, warn }, file);
+            return match check_tab(rt, *kind, *warn, front, file) {
+                Ok(status) | Err(status) => status,
+            };
         }
         Kind::Faults => Mode::Faults,
         Kind::Sets => Mode::Short,

@@ -4,8 +4,9 @@ use crate::check::{files, front_of};
 use crate::commands::{choice, firing, flag};
 use crate::machine::{Surroundings, complain, open_zone, say_trouble};
 use crate::run::{clock_of, read_all};
+use crate::zones::{TabZones, no_memory};
 use clap::{ArgMatches, Command, value_parser};
-use cron_tab_lines::Crontab;
+use cron_tab_lines::{Crontab, NamedZone};
 use cron_tab_listing::Clock;
 use cron_tool::check::{Wanted, check};
 use cron_tool::instant::instant_of;
@@ -105,10 +106,6 @@ fn read_instant(
     }
 }
 
-fn no_memory(rt: &HostRuntime) -> Status {
-    complain(rt, "out of memory", Status::Unreadable)
-}
-
 // What stands in front of the numbers of each file's lines.
 fn fronts_of(alloc: Global, names: &[&str]) -> Result<Vec<String>, AllocError> {
     let mut fronts = Vec::new(alloc);
@@ -119,11 +116,12 @@ fn fronts_of(alloc: Global, names: &[&str]) -> Result<Vec<String>, AllocError> {
 }
 
 // Tells which lines of a crontab are refused.
-fn tell_refused(rt: &HostRuntime, file: &TabFile<'_>) -> Status {
+fn tell_refused(rt: &HostRuntime, file: &TabFile<'_>, names: &[NamedZone<'_>]) -> Status {
     let wanted = Wanted {
         kind: file.kind,
         front: file.front,
         warn: false,
+        names,
     };
     let mut complaints = Watched::new(rt.stderr());
     match check(rt.alloc(), &wanted, file.bytes, &mut complaints) {
@@ -132,54 +130,29 @@ fn tell_refused(rt: &HostRuntime, file: &TabFile<'_>) -> Status {
     }
 }
 
-// Says that the entries below a line are left out.
-fn say_left_out(rt: &HostRuntime, front: &str, line: usize) -> Status {
-    match eprintln!(rt; "{front}{line}: it sets CRON_TZ, and the entries below it are left out") {
-        Ok(()) => Status::No,
-        Err(_) => Status::WriteFailed,
-    }
-}
-
-// Tells which lines of a crontab are refused or left out, and adds the others.
+// Tells which lines of a crontab are refused, and adds the others.
 fn load<'a>(
     rt: &HostRuntime,
     tabs: &mut TabAgenda<'a>,
     file: &TabFile<'a>,
-    firing: &Firing,
+    firing: &Firing<'_>,
     zones: &[TimeZone<'_>],
 ) -> Status {
-    let told = tell_refused(rt, file);
-    match load_file(tabs, file, firing, zones, 0) {
-        Ok(None) => told,
-        Ok(Some(line)) => told.worse(say_left_out(rt, file.front, line)),
+    let told = tell_refused(rt, file, firing.names);
+    match load_file(tabs, file, firing, zones) {
+        Ok(()) => told,
         Err(_) => no_memory(rt),
     }
 }
 
-// Lists the fires of files that were read, up to and with an instant.
-fn list_read(
+// Lists the fires of entries.
+fn list_loaded(
     rt: &HostRuntime,
     request: &Request<'_>,
-    fronts: &[String],
-    read: &[Vec<u8>],
-    firing: &Firing,
+    tabs: TabAgenda<'_>,
     end: Timestamp,
-    zone: TimeZone<'_>,
+    zones: &[TimeZone<'_>],
 ) -> Status {
-    let zones = [zone];
-    let mut tabs = TabAgenda::new(rt.alloc());
-    let mut told = Status::Done;
-    for (front, bytes) in fronts.iter().zip(read.iter()) {
-        let file = TabFile {
-            kind: request.kind,
-            front: front.as_str(),
-            bytes: bytes.as_slice(),
-        };
-        told = told.worse(load(rt, &mut tabs, &file, firing, &zones));
-    }
-    if told.code() > Status::No.code() {
-        return told;
-    }
     let mut out = Watched::new(io::writer(rt));
     let TabAgenda {
         mut agenda,
@@ -192,12 +165,78 @@ fn list_read(
         sources,
         end,
         request.most,
-        &zones,
+        zones,
         &mut out,
     ) {
         Status::Unreadable => no_memory(rt),
-        status => told.worse(status),
+        status => status,
     }
+}
+
+// Lists the fires of crontabs up to and with an instant.
+fn list_tabs(
+    rt: &HostRuntime,
+    request: &Request<'_>,
+    files: &[TabFile<'_>],
+    firing: &Firing<'_>,
+    end: Timestamp,
+    zones: &[TimeZone<'_>],
+) -> Status {
+    let mut tabs = TabAgenda::new(rt.alloc());
+    let mut told = Status::Done;
+    for file in files {
+        told = told.worse(load(rt, &mut tabs, file, firing, zones));
+    }
+    if told.code() > Status::No.code() {
+        return told;
+    }
+    told.worse(list_loaded(rt, request, tabs, end, zones))
+}
+
+// Lists the fires of crontabs in a zone, or in those that `CRON_TZ` names.
+fn list_zoned(
+    rt: &HostRuntime,
+    request: &Request<'_>,
+    files: &[TabFile<'_>],
+    zone: TimeZone<'_>,
+    around: &Surroundings,
+) -> Result<Status, Status> {
+    let start = read_instant(rt, request.start, &zone, around.now)?;
+    let end = match request.end {
+        Some(end) => read_instant(rt, end, &zone, around.now)?,
+        None => Timestamp::MAX,
+    };
+    let mut opened = TabZones::new(rt.alloc());
+    for file in files {
+        opened.open(rt, file.kind, file.bytes, around)?;
+    }
+    let (Ok(names), Ok(zones)) = (opened.names(rt.alloc()), opened.behind(rt.alloc(), zone)) else {
+        return Err(no_memory(rt));
+    };
+    let firing = Firing {
+        clock: request.clock,
+        start,
+        names: names.as_slice(),
+    };
+    Ok(list_tabs(rt, request, files, &firing, end, zones.as_slice()))
+}
+
+// The crontabs, each with what stands in front of its lines' numbers.
+fn tabs_of<'a>(
+    alloc: Global,
+    kind: Crontab,
+    fronts: &'a [String],
+    read: &'a [Vec<u8>],
+) -> Result<Vec<TabFile<'a>>, AllocError> {
+    let mut files = Vec::new(alloc);
+    for (front, bytes) in fronts.iter().zip(read.iter()) {
+        files.push(TabFile {
+            kind,
+            front: front.as_str(),
+            bytes: bytes.as_slice(),
+        })?;
+    }
+    Ok(files)
 }
 
 // Lists the fires of files.
@@ -208,17 +247,10 @@ fn list_files(rt: &HostRuntime, request: &Request<'_>, names: &[&str]) -> Result
     };
     let around = Surroundings::of(rt)?;
     let opened = open_zone(rt, request.zone, &around)?;
-    let zone = opened.time_zone();
-    let firing = Firing {
-        clock: request.clock,
-        start: read_instant(rt, request.start, &zone, around.now)?,
-    };
-    let end = match request.end {
-        Some(end) => read_instant(rt, end, &zone, around.now)?,
-        None => Timestamp::MAX,
-    };
-    let (fronts, read) = (fronts.as_slice(), read.as_slice());
-    Ok(list_read(rt, request, fronts, read, &firing, end, zone))
+    match tabs_of(rt.alloc(), request.kind, fronts.as_slice(), read.as_slice()) {
+        Ok(files) => list_zoned(rt, request, files.as_slice(), opened.time_zone(), &around),
+        Err(_) => Err(no_memory(rt)),
+    }
 }
 
 /// Does what the words ask for.

@@ -50,11 +50,25 @@ pub(crate) fn say_unread(rt: &HostRuntime, file: &str, error: &io::Error) -> Sta
     }
 }
 
-/// What a subcommand finds around it: what the clock shows, and what TZ says.
+/// What a subcommand finds around it: what the clock shows, and what TZ and TZDIR say.
 #[derive(Drop)]
 pub(crate) struct Surroundings {
     pub(crate) now: Timestamp,
     tz: Option<String>,
+    folder: Option<String>,
+}
+
+// What a variable says, if it is set; or how the subcommand ends, once it is said that it can't be
+// read.
+fn variable(rt: &HostRuntime, name: &str) -> Result<Option<String>, Status> {
+    match env::var(rt, name) {
+        Ok(text) => Ok(Some(text)),
+        Err(VarError::NotPresent) => Ok(None),
+        Err(_) => match eprintln!(rt; "error: {name} can't be read") {
+            Ok(()) => Err(Status::Unreadable),
+            Err(_) => Err(Status::WriteFailed),
+        },
+    }
 }
 
 impl Surroundings {
@@ -63,20 +77,20 @@ impl Surroundings {
         let Ok(now) = Timestamp::now(rt) else {
             return Err(complain(rt, "the clock can't be read", Status::Unreadable));
         };
-        match env::var(rt, "TZ") {
-            Ok(text) => Ok(Surroundings {
-                now,
-                tz: Some(text),
-            }),
-            Err(VarError::NotPresent) => Ok(Surroundings { now, tz: None }),
-            Err(_) => Err(complain(rt, "TZ can't be read", Status::Unreadable)),
-        }
+        Ok(Surroundings {
+            now,
+            tz: variable(rt, "TZ")?,
+            folder: variable(rt, "TZDIR")?,
+        })
     }
 
     /// Where zones are looked for.
     pub(crate) fn places(&self) -> Places<'_> {
         Places {
-            folder: ZONE_FOLDER,
+            folder: match &self.folder {
+                Some(folder) => folder.as_str(),
+                None => ZONE_FOLDER,
+            },
             tz: self.tz.as_ref().map(|text| text.as_str()),
             machine: LOCAL_FILE,
         }

@@ -15,6 +15,7 @@ mod machine;
 mod overlap;
 mod pair;
 mod run;
+mod zones;
 
 use clap::{ArgMatches, Error};
 use commands::{command, request_of};

@@ -3,6 +3,7 @@
 use crate::check::files;
 use crate::commands::{changes_of, choice, flag, option, running};
 use crate::machine::{Surroundings, complain, open_zone, read_file, say_unread};
+use crate::zones::{TabZones, no_memory};
 use clap::{ArgMatches, Command};
 use cron_agenda_scheduler::{AgendaStop, Lateness};
 use cron_ringing::printer::Printer;
@@ -73,6 +74,7 @@ fn tasks_of<'a>(words: &ArgMatches<'a>) -> Result<Orders<'a>, &'static str> {
         },
         form: if is_shell { Form::Shell } else { Form::Command },
         user: user.map(|name| name.as_bytes()),
+        names: &[],
     })
 }
 
@@ -93,7 +95,7 @@ fn orders_of<'a>(words: &ArgMatches<'a>) -> Result<RunOrders<'a>, &'static str> 
 pub(crate) fn status_of<E: Drop>(rt: &HostRuntime, ended: Result<(), Failure<E>>) -> Status {
     match ended {
         Ok(()) => Status::Done,
-        Err(Failure::OutOfMemory) => complain(rt, "out of memory", Status::Unreadable),
+        Err(Failure::OutOfMemory) => no_memory(rt),
         Err(Failure::Stopped(AgendaStop::Clock(_))) => {
             complain(rt, "the clock can't be read", Status::Unreadable)
         }
@@ -108,7 +110,7 @@ fn run_in(
     rt: &HostRuntime,
     orders: &RunOrders<'_>,
     files: &[TabFile<'_>],
-    zone: TimeZone<'_>,
+    zones: &[TimeZone<'_>],
 ) -> Status {
     let mut writer = TabWriter::new(rt.alloc(), Watched::new(io::writer(rt)));
     let mut complaints = Printer {
@@ -118,7 +120,7 @@ fn run_in(
         rt.alloc(),
         orders,
         files,
-        zone,
+        zones,
         &mut MachineClock(rt),
         &mut writer,
         &mut complaints,
@@ -135,7 +137,7 @@ pub(crate) fn read_all(rt: &HostRuntime, names: &[&str]) -> Result<Vec<Vec<u8>>,
             Err(error) => return Err(say_unread(rt, *name, &error)),
         };
         if read.push(bytes).is_err() {
-            return Err(complain(rt, "out of memory", Status::Unreadable));
+            return Err(no_memory(rt));
         }
     }
     Ok(read)
@@ -156,7 +158,30 @@ fn files_of<'a>(
     Ok(files)
 }
 
-// Runs the entries of files in a zone.
+// Runs the entries of files, in a zone or in those that `CRON_TZ` names.
+fn run_zoned(
+    rt: &HostRuntime,
+    orders: &RunOrders<'_>,
+    files: &[TabFile<'_>],
+    zone: TimeZone<'_>,
+    around: &Surroundings,
+) -> Result<Status, Status> {
+    let mut opened = TabZones::new(rt.alloc());
+    for file in files {
+        opened.open(rt, orders.tasks.kind, file.bytes, around)?;
+    }
+    let (Ok(names), Ok(zones)) = (opened.names(rt.alloc()), opened.behind(rt.alloc(), zone)) else {
+        return Err(no_memory(rt));
+    };
+    let tasks = Orders {
+        names: names.as_slice(),
+        ..orders.tasks
+    };
+    let orders = RunOrders { tasks, ..*orders };
+    Ok(run_in(rt, &orders, files, zones.as_slice()))
+}
+
+// Runs the entries of files.
 fn run(
     rt: &HostRuntime,
     orders: &RunOrders<'_>,
@@ -167,8 +192,8 @@ fn run(
     let around = Surroundings::of(rt)?;
     let opened = open_zone(rt, zone, &around)?;
     match files_of(rt.alloc(), names, read.as_slice()) {
-        Ok(files) => Ok(run_in(rt, orders, files.as_slice(), opened.time_zone())),
-        Err(_) => Err(complain(rt, "out of memory", Status::Unreadable)),
+        Ok(files) => run_zoned(rt, orders, files.as_slice(), opened.time_zone(), &around),
+        Err(_) => Err(no_memory(rt)),
     }
 }
 

@@ -31,4 +31,4 @@ pub record TellsFront {W : Type 0} (w : Wanted) (lines : List FileLine) (content
   pub report : List ℕ
   pub tells : TellsLines w checked report
   pub puts : Puts contents writes old.0 old.1 new.0 new.1 report
-  pub whole : IfOk answer (λ refused. has_failed new.1 ≡ false → (left ≡ []) × (refused ≡ any_refused lines))
+  pub whole : IfOk answer (λ refused. has_failed new.1 ≡ false → (left ≡ []) × (refused ≡ any_refused w.names.now lines))

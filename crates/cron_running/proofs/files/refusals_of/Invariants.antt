@@ -4,4 +4,4 @@ use Rattle.cron_running.specs.Loading.{told_files}
 use Rattle.cron_running.proofs.files.refusals_of.Given as goal
 
 abbrev pub invariant-loop-file : goal.invariant-loop-file
-invariant-loop-file l = string_bytes l.told ≡ told_files l.kind (take l.file-index l.files)
+invariant-loop-file l = string_bytes l.told ≡ told_files l.tasks.kind l.tasks.names.now (take l.file-index l.files)

@@ -9,6 +9,6 @@ use Rattle.cron_running.proofs.loading.load_file.Given as goal
 abbrev pub invariant-loop-line : goal.invariant-loop-line
 invariant-loop-line l =
     (after : State)
-    → AddsTasks (given l.orders (plain_zone l.start.zone) l.start.instant.nanosecond)
-    (tasks_below (orders_view l.orders.tasks) (map variable_view l.variables.items) l.line-iterator) (state_of l.loaded) after
-    → AddsTasks (given l.orders (plain_zone l.start.zone) l.start.instant.nanosecond) (file_tasks l.orders l.file) (state_of l.initial.loaded) after
+    → AddsTasks (given l.orders (map plain_zone l.start.zones.now) l.start.instant.nanosecond)
+    (tasks_below (orders_view l.orders.tasks) l.here (map variable_view l.variables.items) l.line-iterator) (state_of l.loaded) after
+    → AddsTasks (given l.orders (map plain_zone l.start.zones.now) l.start.instant.nanosecond) (file_tasks l.orders l.file) (state_of l.initial.loaded) after

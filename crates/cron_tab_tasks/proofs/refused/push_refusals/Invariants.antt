@@ -5,4 +5,4 @@ use Rattle.cron_tab_tasks.proofs.refused.push_refusals.Given as goal
 
 -- what is told, with what is to be told of the lines that are left
 abbrev pub invariant-loop-line : goal.invariant-loop-line
-invariant-loop-line l = string_bytes l.told ++ told_lines l.name l.line-iterator ≡ string_bytes l.initial.told ++ told_lines l.name l.fn.lines
+invariant-loop-line l = string_bytes l.told ++ told_lines l.name l.names l.line-iterator ≡ string_bytes l.initial.told ++ told_lines l.name l.names l.fn.lines

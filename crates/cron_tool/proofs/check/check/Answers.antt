@@ -27,7 +27,7 @@ returns-clause-checks g c =
       report = told.report;
       tells = told.tells;
       ends =
-          ends_as c.tell_lines.result c.end_of-end.result c.finish.result c.of-lines.result told.left told.report _ _ c.end_of-end.ensures
+          ends_as c.args.wanted.now.names.now c.tell_lines.result c.end_of-end.result c.finish.result c.of-lines.result told.left told.report _ _ c.end_of-end.ensures
           (c.finish.ensures.ends _ _ (c.send.ensures.sent _ _ (told.puts.gathers _ [] begun)))
           (λ fine refused is.
           if_ok c.tell_lines.result refused _ is told.whole

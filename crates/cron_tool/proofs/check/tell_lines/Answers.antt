@@ -30,6 +30,6 @@ loop-line-preserved g c =
       report ++ c.as_bytes.result.now,
       cut_on _ checked _ _ line cut c.in-Some.ensures.steps,
       line_told c.args.wanted.now checked line report c.as_bytes.result.now told (subst (TellsLine c.args.wanted.now line) (sym c.as_bytes.ensures.value) c.in_ok-bad.ensures.told),
-      refused_on checked line _ _ some c.in_ok-bad.ensures.refused,
+      refused_on c.args.wanted.now.names.now checked line _ _ some c.in_ok-bad.ensures.refused,
       put_on _ _ _ _ _ _ _ _ report _ puts c.put.ensures,
     )

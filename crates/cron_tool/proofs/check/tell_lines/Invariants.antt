@@ -8,5 +8,5 @@ use Rattle.cron_tool.proofs.check.tell_lines.Given as goal
 abbrev pub invariant-loop-line : goal.invariant-loop-line
 invariant-loop-line g l =
     (checked : List FileLine) × (report : List ℕ) × (l.fn.lines ≡ checked ++ l.line-iterator) × TellsLines l.wanted checked report
-    × (l.refused ≡ any_refused checked)
+    × (l.refused ≡ any_refused l.wanted.names.now checked)
     × Puts g.W.Write.contents g.W.Watchable.writes l.initial.gathered l.initial.out l.gathered l.out report

@@ -1,0 +1,108 @@
+//! The zones that `CRON_TZ` names in crontabs.
+
+use crate::machine::{Surroundings, complain};
+use cron_tab_lines::{Crontab, Line, Lines, NamedZone};
+use cron_tool::status::Status;
+use cron_zones::error::ZoneError;
+use cron_zones::machine::MachineFiles;
+use cron_zones::open::open;
+use cron_zones::zone::Zone;
+use jiff::tz::TimeZone;
+use std::alloc::{AllocError, Global};
+
+/// A zone, under the name that `CRON_TZ` has.
+#[derive(Drop)]
+struct Opened<'a> {
+    name: &'a [u8],
+    zone: Zone<'a>,
+}
+
+/// Says that memory ran out, and answers how the subcommand ends.
+pub(crate) fn no_memory(rt: &HostRuntime) -> Status {
+    complain(rt, "out of memory", Status::Unreadable)
+}
+
+/// The zones that `CRON_TZ` names in crontabs, each opened once.
+#[derive(Drop)]
+pub(crate) struct TabZones<'a> {
+    opened: Vec<Opened<'a>>,
+}
+
+impl<'a> TabZones<'a> {
+    /// None are open.
+    pub(crate) fn new(alloc: Global) -> TabZones<'a> {
+        TabZones {
+            opened: Vec::new(alloc),
+        }
+    }
+
+    fn has(&self, name: &[u8]) -> bool {
+        self.opened.iter().any(|opened| opened.name == name)
+    }
+
+    // Opens a zone. What names none is passed over, `local` too, which is no name of a zone.
+    fn open_one(
+        &mut self,
+        rt: &HostRuntime,
+        name: &'a [u8],
+        around: &'a Surroundings,
+    ) -> Result<(), Status> {
+        let Ok(text) = str::from_utf8(name) else {
+            return Ok(());
+        };
+        if text == "local" || self.has(name) {
+            return Ok(());
+        }
+        match open(rt.alloc(), text, &around.places(), &mut MachineFiles(rt)) {
+            Ok(zone) => match self.opened.push(Opened { name, zone }) {
+                Ok(()) => Ok(()),
+                Err(_) => Err(no_memory(rt)),
+            },
+            Err(ZoneError::OutOfMemory) => Err(no_memory(rt)),
+            Err(_) => Ok(()),
+        }
+    }
+
+    /// Opens the zones that a crontab names.
+    pub(crate) fn open(
+        &mut self,
+        rt: &HostRuntime,
+        kind: Crontab,
+        file: &'a [u8],
+        around: &'a Surroundings,
+    ) -> Result<(), Status> {
+        for line in Lines::of(kind, file) {
+            if let Ok(Line::Zone(name)) = line.read {
+                self.open_one(rt, name, around)?;
+            }
+        }
+        Ok(())
+    }
+
+    /// Their names: the first stands for zone 1.
+    pub(crate) fn names(&self, alloc: Global) -> Result<Vec<NamedZone<'a>>, AllocError> {
+        let mut names = Vec::new(alloc);
+        for opened in &self.opened {
+            let zone = names.len() + 1;
+            names.push(NamedZone {
+                name: opened.name,
+                zone,
+            })?;
+        }
+        Ok(names)
+    }
+
+    /// A zone, which is zone 0, and they behind it.
+    pub(crate) fn behind<'z>(
+        &'z self,
+        alloc: Global,
+        first: TimeZone<'z>,
+    ) -> Result<Vec<TimeZone<'z>>, AllocError> {
+        let mut zones = Vec::new(alloc);
+        zones.push(first)?;
+        for opened in &self.opened {
+            zones.push(opened.zone.time_zone())?;
+        }
+        Ok(zones)
+    }
+}
