@@ -13,4 +13,5 @@ pub mod Dues
 pub mod HistoryClocks
 pub mod Unions
 pub mod Crontabs
+pub mod CrontabLines
 pub mod Inner

@@ -29,8 +29,12 @@ fn write_schedules(
     Status::Done
 }
 
-// The same of the schedules of which one must match: of `@reboot` there are none.
-fn write_meaning(meaning: &Expression, schedules: &mut [CronSchedule], count: &mut usize) -> Status
+/// Writes the schedules of which one must match, and how many they are: of `@reboot` there are none.
+pub(crate) fn write_meaning(
+    meaning: &Expression,
+    schedules: &mut [CronSchedule],
+    count: &mut usize,
+) -> Status
     ensures { WritesSchedules (schedules_meant (expression_view meaning.now))
         schedules.old schedules.new count.new result }
 {

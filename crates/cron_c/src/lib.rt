@@ -16,6 +16,7 @@ mod history_clock;
 mod history_dues;
 mod history_runs;
 mod item;
+mod line_call;
 mod listing;
 mod named;
 mod parse_call;
@@ -49,6 +50,7 @@ pub use history_dues::{
     cron_c_history_dues_between, cron_c_history_dues_past,
 };
 pub use item::CronItem;
+pub use line_call::cron_c_crontab_line_parse;
 pub use listing::{cron_c_list_after, cron_c_list_before, cron_c_list_next, cron_c_list_prev};
 pub use named::cron_c_zone_parse;
 pub use parse_call::cron_c_parse;

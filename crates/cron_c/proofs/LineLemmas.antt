@@ -1,0 +1,35 @@
+-- What is said of the line of a crontab that is written.
+use Rattle.std.proofs.Common.{ℕ, List, refl}
+use Rattle.cron_tab_lines.specs.Lines.{IsLine, Meaning, blank, comment, setting, zone, entry}
+use Rattle.cron_tab_lines.specs.declared.kinds.Crontab.{Crontab}
+use Rattle.cron_c.specs.CrontabLines.{ParsesLine, WritesLine}
+use Rattle.cron_c.specs.declared.schedule.CronSchedule.{CronSchedule}
+use Rattle.cron_c.specs.declared.status.Status.{Status}
+use Rattle.cron_c.specs.declared.status.Status.TheVariants.{Done, NoItem, Refused, NotUtf8, BadZone, BadInstant, NotAnItem, Untold, More, NoMemory}
+
+never_refused : (m : Meaning) (old new : List CronSchedule) (count : ℕ) → WritesLine m old new count Refused → ⊥
+never_refused blank old new count w = w
+never_refused comment old new count w = w
+never_refused (setting name value) old new count w = w
+never_refused (zone value) old new count w = w
+never_refused (entry e) old new count w = w
+
+never_untold : (m : Meaning) (old new : List CronSchedule) (count : ℕ) → WritesLine m old new count Untold → ⊥
+never_untold blank old new count w = w
+never_untold comment old new count w = w
+never_untold (setting name value) old new count w = w
+never_untold (zone value) old new count w = w
+never_untold (entry e) old new count w = w
+
+pub line_says : (kind : Crontab) (line : List ℕ) (m : Meaning) (old new : List CronSchedule) (count : ℕ) (before : List ℕ) (status : Status)
+    → IsLine kind line m → WritesLine m old new count status → ParsesLine kind line old new count before before 0 status
+line_says kind line m old new count before Refused is w = absurd (never_refused m old new count w)
+line_says kind line m old new count before Untold is w = absurd (never_untold m old new count w)
+line_says kind line m old new count before Done is w = (m, is, w, refl, refl)
+line_says kind line m old new count before More is w = (m, is, w, refl, refl)
+line_says kind line m old new count before NoItem is w = (m, is, w, refl, refl)
+line_says kind line m old new count before NotUtf8 is w = (m, is, w, refl, refl)
+line_says kind line m old new count before BadZone is w = (m, is, w, refl, refl)
+line_says kind line m old new count before BadInstant is w = (m, is, w, refl, refl)
+line_says kind line m old new count before NotAnItem is w = (m, is, w, refl, refl)
+line_says kind line m old new count before NoMemory is w = (m, is, w, refl, refl)

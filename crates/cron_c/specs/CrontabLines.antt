@@ -1,0 +1,32 @@
+-- Lines of a crontab, as schedules.
+use Rattle.std.specs.Prelude.{◌≡◌, ℕ, List, length}
+use Rattle.cron_tab_lines.specs.Lines.{IsLine, IsRefused, Meaning, entry}
+use Rattle.cron_tab_lines.specs.Refusals.{Refusal, refusal_text}
+use Rattle.cron_tab_lines.specs.declared.kinds.Crontab.{Crontab}
+use Rattle.cron_tab_lines.specs.declared.kinds.Crontab.TheVariants.{User, System}
+use Rattle.cron_c.specs.Buffers.{laid_over}
+use Rattle.cron_c.specs.Crontabs.{WritesSchedules, schedules_meant}
+use Rattle.cron_c.specs.declared.schedule.CronSchedule.{CronSchedule}
+use Rattle.cron_c.specs.declared.status.Status.{Status}
+use Rattle.cron_c.specs.declared.status.Status.TheVariants.{NoItem, Refused, Untold}
+
+-- whose crontab a number says: with 0 a user's own, else the system's
+abbrev pub kind_of : ℕ → Crontab
+kind_of 0 = User
+kind_of _ = System
+
+-- The schedules of an entry are written, or the array is too short for them; of what is no entry there are none.
+abbrev pub WritesLine : Meaning → List CronSchedule → List CronSchedule → ℕ → Status → Type 0
+WritesLine (entry e) old new count status = WritesSchedules (schedules_meant e.meaning) old new count status
+WritesLine _ old new count NoItem = (new ≡ old) × (count ≡ 0)
+WritesLine _ old new count _ = ⊥
+
+-- What the line is was written; or the message that refuses it is laid over a buffer, and its whole length told.
+abbrev pub ParsesLine : Crontab → List ℕ → List CronSchedule → List CronSchedule → ℕ → List ℕ → List ℕ → ℕ → Status → Type 0
+ParsesLine kind line old new count before after size Refused =
+    (refusal : Refusal) × IsRefused kind line refusal
+    × (new ≡ old) × (count ≡ 0) × (after ≡ laid_over 0 (refusal_text refusal) before) × (size ≡ length (refusal_text refusal))
+ParsesLine kind line old new count before after size Untold =
+    (refusal : Refusal) × IsRefused kind line refusal × (new ≡ old) × (count ≡ 0) × (size ≡ 0)
+ParsesLine kind line old new count before after size status =
+    (meaning : Meaning) × IsLine kind line meaning × WritesLine meaning old new count status × (after ≡ before) × (size ≡ 0)
