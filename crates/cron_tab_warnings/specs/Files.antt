@@ -1,13 +1,12 @@
 -- What of a file's line another cron reads otherwise.
-use Rattle.std.specs.Prelude.{ℕ, ◌+◌, ◌-◌, ◌==◌, ◌&&◌, Bool, not, true, false, nat_eq, nat_le, List, [], ◌∷◌, Option, Some, None, Result, Ok, length, slice_index}
-use Rattle.std.specs.List.{ends_with}
-use Rattle.std.specs.Option.{is_some}
+use Rattle.std.specs.Prelude.{ℕ, ◌+◌, ◌-◌, ◌==◌, ◌&&◌, ◌||◌, Bool, not, true, false, nat_le, List, [], ◌∷◌, Contains, Option, Some, None, Result, Ok, length, slice_index}
+use Rattle.cron_tab_lines.specs.Bytes.{first, is_quote, is_white}
 use Rattle.cron_tab_lines.specs.Entries.{Entry}
 use Rattle.cron_tab_lines.specs.Files.{FileLine}
-use Rattle.cron_tab_lines.specs.Lines.{Meaning, zone, entry}
+use Rattle.cron_tab_lines.specs.Lines.{Meaning, blank, comment, setting, zone, entry}
 use Rattle.cron_tab_lines.specs.Refusals.{Refusal}
 use Rattle.cron_tab_warnings.specs.declared.files.LineWarning.{LineWarning}
-use Rattle.cron_tab_warnings.specs.declared.files.LineWarning.TheVariants.{IgnoredZone, LongCommand, ReturnAtEnd, TwoBackslashes, ManyLines, NoLineFeed}
+use Rattle.cron_tab_warnings.specs.declared.files.LineWarning.TheVariants.{IgnoredZone, LongCommand, ReturnAtEnd, TwoBackslashes, DashInFront, ShortenedValue, LongSetting, ManyLines, NoLineFeed}
 
 -- the bytes of a command, and of its input with the `%` in front
 abbrev pub input_len : Option (List ℕ) → ℕ
@@ -21,11 +20,6 @@ abbrev pub is_zone : Result Meaning Refusal → Bool
 is_zone (Ok (zone value)) = true
 is_zone _ = false
 
--- Debian's cron refuses commands of 999 bytes or more
-abbrev pub is_long : Result Meaning Refusal → Bool
-is_long (Ok (entry e)) = nat_le 999 (task_len e)
-is_long _ = false
-
 abbrev pub last_byte : List ℕ → ℕ
 last_byte bytes = slice_index bytes (length bytes - 1)
 
@@ -38,23 +32,55 @@ end_of command (Some input) = input
 abbrev pub keeps_return : Entry → Bool
 keeps_return e = last_byte (end_of e.command e.input) == 13
 
-abbrev pub ends_in_return : Result Meaning Refusal → Bool
-ends_in_return (Ok (entry e)) = keeps_return e
-ends_in_return _ = false
+-- two backslashes stand one behind the other, the first perhaps as this byte in front of the text
+abbrev pub has_two_backslashes : ℕ → List ℕ → Bool
+has_two_backslashes before [] = false
+has_two_backslashes before (c ∷ cs) = (before == 92 && c == 92) || has_two_backslashes c cs
 
--- two backslashes are the last bytes of its command, which a `%` ends
-abbrev pub has_two_backslashes : Entry → Bool
-has_two_backslashes e = is_some e.input && ends_with nat_eq e.command (92 ∷ 92 ∷ [])
+abbrev pub has_dash : List ℕ → Bool
+has_dash command = first command == 45
 
-abbrev pub loses_backslash : Result Meaning Refusal → Bool
-loses_backslash (Ok (entry e)) = has_two_backslashes e
-loses_backslash _ = false
+-- The warning is due of an entry. Debian's cron refuses commands of 999 bytes or more.
+abbrev pub warns_entry : LineWarning → Entry → Bool
+warns_entry LongCommand e = nat_le 999 (task_len e)
+warns_entry ReturnAtEnd e = keeps_return e
+warns_entry TwoBackslashes e = has_two_backslashes 0 e.command
+warns_entry DashInFront e = has_dash e.command
+warns_entry _ e = false
+
+abbrev pub entry_warns : LineWarning → Result Meaning Refusal → Bool
+entry_warns w (Ok (entry e)) = warns_entry w e
+entry_warns w _ = false
+
+-- a quotation mark stands first and last
+abbrev pub is_wrapped : List ℕ → Bool
+is_wrapped value = nat_le 2 (length value) && (is_quote (first value) && last_byte value == first value)
+
+-- a setting whose value, which was quoted, has white space at its end or quotation marks around it
+abbrev pub loses_ends : Result Meaning Refusal → Bool
+loses_ends (Ok (setting name value)) = is_white (last_byte value) || is_wrapped value
+loses_ends _ = false
+
+-- a setting of 998 bytes or more without the `=`, of which Debian's cron keeps 998 with it
+abbrev pub is_cut : Result Meaning Refusal → Bool
+is_cut (Ok (setting name value)) = nat_le 998 (length name + length value)
+is_cut _ = false
+
+-- neither blank nor a comment
+abbrev pub has_content : Result Meaning Refusal → Bool
+has_content (Ok blank) = false
+has_content (Ok comment) = false
+has_content _ = true
 
 -- the warning is due of a line; where a file has more than 10,000 lines, of the first line past them
 abbrev pub warns_line : LineWarning → FileLine → Bool
 warns_line IgnoredZone line = is_zone line.outcome
-warns_line LongCommand line = is_long line.outcome
-warns_line ReturnAtEnd line = ends_in_return line.outcome
-warns_line TwoBackslashes line = loses_backslash line.outcome
+warns_line ShortenedValue line = loses_ends line.outcome
+warns_line LongSetting line = is_cut line.outcome
 warns_line ManyLines line = line.number == 10_001
-warns_line NoLineFeed line = not (last_byte line.bytes == 10)
+warns_line NoLineFeed line = not (last_byte line.bytes == 10) && has_content line.outcome
+warns_line w line = entry_warns w line.outcome
+
+-- each warning stands in a list
+abbrev pub AllStandIn : List LineWarning → Type 0
+AllStandIn all = (w : LineWarning) → Contains all w

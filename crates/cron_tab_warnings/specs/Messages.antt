@@ -4,7 +4,7 @@ use Rattle.cron_crontab.specs.Fields.{title}
 use Rattle.cron_crontab.specs.declared.field.Field.{Field}
 use Rattle.cron_crontab.specs.declared.field.Field.TheVariants.{Minute, Hour, DayOfMonth, Month, DayOfWeek}
 use Rattle.cron_tab_warnings.specs.declared.files.LineWarning.{LineWarning}
-use Rattle.cron_tab_warnings.specs.declared.files.LineWarning.TheVariants.{IgnoredZone, LongCommand, ReturnAtEnd, TwoBackslashes, ManyLines, NoLineFeed}
+use Rattle.cron_tab_warnings.specs.declared.files.LineWarning.TheVariants.{IgnoredZone, LongCommand, ReturnAtEnd, TwoBackslashes, DashInFront, ShortenedValue, LongSetting, ManyLines, NoLineFeed}
 use Rattle.cron_tab_warnings.specs.declared.warnings.Warning.{Warning}
 use Rattle.cron_tab_warnings.specs.declared.warnings.Warning.TheVariants.{NeverFires, Backward, StepPastEnd, UnevenStep, StarStep, LeftOutDays, SixFields, SevenFields}
 
@@ -30,6 +30,9 @@ abbrev pub line_warning_text : LineWarning → List ℕ
 line_warning_text IgnoredZone = codes "Debian's cron ignores CRON_TZ"
 line_warning_text LongCommand = codes "Debian's cron refuses a command of 999 bytes or more"
 line_warning_text ReturnAtEnd = codes "a carriage return stays at the end of the command or of its input"
-line_warning_text TwoBackslashes = codes "of two backslashes in front of a % Debian's cron leaves one"
+line_warning_text TwoBackslashes = codes "of two backslashes in a command Debian's cron leaves one"
+line_warning_text DashInFront = codes "cronie takes a - in front of a command as an option"
+line_warning_text ShortenedValue = codes "Debian's cron takes white space or a second pair of quotation marks from the value"
+line_warning_text LongSetting = codes "Debian's cron cuts a setting off after 998 bytes"
 line_warning_text ManyLines = codes "Debian's cron refuses a file of more than 10000 lines"
-line_warning_text NoLineFeed = codes "Debian's cron refuses a file whose last line has no line feed"
+line_warning_text NoLineFeed = codes "no line feed ends the last line: Debian's cron refuses the file, and cronie the line"

@@ -1,13 +1,17 @@
 //! Lines of files that another cron reads otherwise, or refuses.
 
-ghost use Rattle.std.specs.Prelude.{◌≡◌, ◌==◌, ◌<◌, nat_le};
+ghost use Rattle.std.specs.Prelude.{◌≡◌, ◌==◌, ◌<◌, ◌+◌, nat_le, length};
+ghost use Rattle.cron_tab_lines.specs.Bytes.{is_white};
 ghost use Rattle.cron_tab_lines.specs.Views.{file_line_view, outcome_view, entry_view};
-ghost use Rattle.cron_tab_warnings.specs.Files.{ends_in_return, has_two_backslashes, is_long, is_zone, keeps_return, last_byte, loses_backslash, task_len, warns_line};
+ghost use Rattle.cron_tab_warnings.specs.Files.{entry_warns, has_content, has_dash, has_two_backslashes, is_cut, is_wrapped, is_zone, keeps_return, last_byte, loses_ends, task_len, warns_entry, warns_line, AllStandIn};
 
-use cron_tab_lines::{Entry, FileLine, Line, Refusal};
+use cron_tab_lines::{Entry, FileLine, Line, Refusal, Setting};
 
 /// How many bytes of a command Debian's cron refuses.
 const LONG: usize = 999;
+
+/// How many bytes of a name and a value it cuts.
+const LONG_SETTING: usize = 998;
 
 /// A warning of a file's line.
 #[derive(Clone, Copy, Debug, PartialEq, Eq)]
@@ -20,21 +24,32 @@ pub enum LineWarning {
     /// Its command, or the input behind a percent sign, ends in a carriage return, which stands in
     /// front of the line feed of another system and stays.
     ReturnAtEnd,
-    /// Two backslashes stand in front of the percent sign that ends its command. Debian's cron
-    /// makes one of them.
+    /// Two backslashes stand one behind the other in its command. Debian's cron makes one of them.
     TwoBackslashes,
+    /// Its command begins with `-`, which cronie takes as an option.
+    DashInFront,
+    /// Its value is quoted, and ends in white space or has a second pair of quotation marks around
+    /// it. Debian's cron takes those away.
+    ShortenedValue,
+    /// Its name and its value have 998 bytes or more without the `=`: Debian's cron cuts the end
+    /// off.
+    LongSetting,
     /// It is the first past 10,000 lines: Debian's cron refuses the file.
     ManyLines,
-    /// It is the last, and no line feed ends it: Debian's cron refuses the file.
+    /// It is the last, isn't blank and no comment, and no line feed ends it: Debian's cron refuses
+    /// the file, and cronie passes over the line.
     NoLineFeed,
 }
 
 /// All warnings of a file's line.
-pub const LINE_WARNINGS: [LineWarning; 6] = [
+pub const LINE_WARNINGS: [LineWarning; 9] = [
     LineWarning::IgnoredZone,
     LineWarning::LongCommand,
     LineWarning::ReturnAtEnd,
     LineWarning::TwoBackslashes,
+    LineWarning::DashInFront,
+    LineWarning::ShortenedValue,
+    LineWarning::LongSetting,
     LineWarning::ManyLines,
     LineWarning::NoLineFeed,
 ];
@@ -53,15 +68,6 @@ fn is_zone(read: &Result<Line<'_>, Refusal<'_>>) -> bool
     ensures { result ≡ is_zone (outcome_view read.now) }
 {
     matches!(read, Ok(Line::Zone(_)))
-}
-
-fn is_long(read: &Result<Line<'_>, Refusal<'_>>) -> bool
-    ensures { result ≡ is_long (outcome_view read.now) }
-{
-    match read {
-        Ok(Line::Entry(entry)) => is_long_task(entry),
-        _ => false,
-    }
 }
 
 fn ends_in(bytes: &[u8], byte: u8) -> bool
@@ -83,30 +89,104 @@ fn keeps_return(entry: &Entry<'_>) -> bool
     }
 }
 
-fn has_two_backslashes(entry: &Entry<'_>) -> bool
-    ensures { result ≡ has_two_backslashes (entry_view entry.now) }
+fn has_two_backslashes(command: &[u8]) -> bool
+    ensures { result ≡ has_two_backslashes 0 command.now }
 {
-    match entry.input {
-        Some(_) => entry.command.ends_with(b"\\\\".as_slice()),
+    let mut before = 0;
+    for byte in command {
+        if before == b'\\' && *byte == b'\\' {
+            return true;
+        }
+        before = *byte;
+    }
+    false
+}
+
+fn has_dash(command: &[u8]) -> bool
+    ensures { result ≡ has_dash command.now }
+{
+    match command.first() {
+        Some(byte) => *byte == b'-',
         None => false,
     }
 }
 
-fn ends_in_return(read: &Result<Line<'_>, Refusal<'_>>) -> bool
-    ensures { result ≡ ends_in_return (outcome_view read.now) }
+/// Tells whether a warning of entries is due of one.
+fn warns_entry(warning: LineWarning, entry: &Entry<'_>) -> bool
+    ensures { result ≡ warns_entry warning (entry_view entry.now) }
 {
-    match read {
-        Ok(Line::Entry(entry)) => keeps_return(entry),
+    match warning {
+        LineWarning::LongCommand => is_long_task(entry),
+        LineWarning::ReturnAtEnd => keeps_return(entry),
+        LineWarning::TwoBackslashes => has_two_backslashes(entry.command),
+        LineWarning::DashInFront => has_dash(entry.command),
         _ => false,
     }
 }
 
-fn loses_backslash(read: &Result<Line<'_>, Refusal<'_>>) -> bool
-    ensures { result ≡ loses_backslash (outcome_view read.now) }
+/// Tells whether it is due of an entry that was read.
+fn entry_warns(warning: LineWarning, read: &Result<Line<'_>, Refusal<'_>>) -> bool
+    ensures { result ≡ entry_warns warning (outcome_view read.now) }
 {
     match read {
-        Ok(Line::Entry(entry)) => has_two_backslashes(entry),
+        Ok(Line::Entry(entry)) => warns_entry(warning, entry),
         _ => false,
+    }
+}
+
+fn ends_white(value: &[u8]) -> bool
+    ensures { result ≡ is_white (last_byte value.now) }
+{
+    match value.last() {
+        Some(byte) => *byte == b' ' || (9 <= *byte && *byte <= 13),
+        None => false,
+    }
+}
+
+/// Tells whether a pair of quotation marks stands around a value.
+fn is_wrapped(value: &[u8]) -> bool
+    ensures { result ≡ is_wrapped value.now }
+{
+    if value.len() < 2 {
+        return false;
+    }
+    let first = value[0];
+    (first == b'\'' || first == b'"') && value[value.len() - 1] == first
+}
+
+/// Tells whether a name and a value have 998 bytes or more.
+fn is_long_setting(setting: &Setting<'_>) -> bool
+    ensures { result ≡ nat_le LONG_SETTING (length setting.now.name.now + length setting.now.value.now) }
+{
+    setting.value.len() >= LONG_SETTING.saturating_sub(setting.name.len())
+}
+
+fn is_cut(read: &Result<Line<'_>, Refusal<'_>>) -> bool
+    ensures { result ≡ is_cut (outcome_view read.now) }
+{
+    match read {
+        Ok(Line::Setting(setting)) => is_long_setting(setting),
+        _ => false,
+    }
+}
+
+fn loses_ends(read: &Result<Line<'_>, Refusal<'_>>) -> bool
+    ensures { result ≡ loses_ends (outcome_view read.now) }
+{
+    match read {
+        Ok(Line::Setting(setting)) => ends_white(setting.value) || is_wrapped(setting.value),
+        _ => false,
+    }
+}
+
+/// Tells whether a line isn't blank, and no comment.
+fn has_content(read: &Result<Line<'_>, Refusal<'_>>) -> bool
+    ensures { result ≡ has_content (outcome_view read.now) }
+{
+    match read {
+        Ok(Line::Blank) => false,
+        Ok(Line::Comment) => false,
+        _ => true,
     }
 }
 
@@ -116,10 +196,15 @@ pub fn warns_line(warning: LineWarning, line: &FileLine<'_>) -> bool
 {
     match warning {
         LineWarning::IgnoredZone => is_zone(&line.read),
-        LineWarning::LongCommand => is_long(&line.read),
-        LineWarning::ReturnAtEnd => ends_in_return(&line.read),
-        LineWarning::TwoBackslashes => loses_backslash(&line.read),
+        LineWarning::ShortenedValue => loses_ends(&line.read),
+        LineWarning::LongSetting => is_cut(&line.read),
         LineWarning::ManyLines => line.number == 10_001,
-        LineWarning::NoLineFeed => !ends_in(line.bytes, b'\n'),
+        LineWarning::NoLineFeed => !ends_in(line.bytes, b'\n') && has_content(&line.read),
+        _ => entry_warns(warning, &line.read),
     }
 }
+
+/// Each warning of a file's line stands in `LINE_WARNINGS`.
+pub fn all_line_warnings_are_listed()
+    ensures { AllStandIn LINE_WARNINGS }
+{}

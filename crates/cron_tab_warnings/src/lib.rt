@@ -12,7 +12,7 @@ mod warnings;
 mod words;
 
 pub use clocks::follows_clock;
-pub use files::{LINE_WARNINGS, LineWarning, warns_line};
+pub use files::{LINE_WARNINGS, LineWarning, all_line_warnings_are_listed, warns_line};
 pub use fires::{never_runs, never_runs_by_fields};
 pub use texts::text_of;
 pub use warnings::{WARNINGS, Warning, all_are_listed, warns};

@@ -29,12 +29,15 @@ fn line_warning_text(warning: LineWarning) -> &'static str
         LineWarning::ReturnAtEnd => {
             "a carriage return stays at the end of the command or of its input"
         }
-        LineWarning::TwoBackslashes => {
-            "of two backslashes in front of a % Debian's cron leaves one"
+        LineWarning::TwoBackslashes => "of two backslashes in a command Debian's cron leaves one",
+        LineWarning::DashInFront => "cronie takes a - in front of a command as an option",
+        LineWarning::ShortenedValue => {
+            "Debian's cron takes white space or a second pair of quotation marks from the value"
         }
+        LineWarning::LongSetting => "Debian's cron cuts a setting off after 998 bytes",
         LineWarning::ManyLines => "Debian's cron refuses a file of more than 10000 lines",
         LineWarning::NoLineFeed => {
-            "Debian's cron refuses a file whose last line has no line feed"
+            "no line feed ends the last line: Debian's cron refuses the file, and cronie the line"
         }
     }
 }
