@@ -19,3 +19,4 @@ pub mod Dues
 mod HistoryClockLemmas
 mod UnionItems
 mod CrontabLemmas
+mod OneSchedule

@@ -12,5 +12,6 @@ pub mod ZoneFiles
 pub mod Dues
 pub mod HistoryClocks
 pub mod Unions
+pub mod UnionLaws
 pub mod Crontabs
 pub mod Inner

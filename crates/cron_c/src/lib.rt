@@ -16,6 +16,7 @@ mod history_clock;
 mod history_dues;
 mod history_runs;
 mod item;
+pub mod laws;
 mod listing;
 mod named;
 mod parse_call;
