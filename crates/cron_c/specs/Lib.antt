@@ -14,4 +14,5 @@ pub mod HistoryClocks
 pub mod Unions
 pub mod UnionLaws
 pub mod Crontabs
+pub mod Canonical
 pub mod Inner
