@@ -4,6 +4,7 @@ import (
 	"bufio"
 	"errors"
 	"os"
+	"reflect"
 	"strconv"
 	"strings"
 	"testing"
@@ -252,7 +253,10 @@ func TestRowsOfTexts(t *testing.T) {
 	for _, it := range []struct {
 		path string
 		read func(string) (*cron.Schedule, error)
-	}{{replayed + "texts_faults.txt", cron.Parse}, {crontabs + "messages.txt", cron.ParseCrontab}} {
+	}{
+		{replayed + "texts_faults.txt", cron.Parse}, {replayed + "texts_names_days_of_week.txt", cron.Parse},
+		{replayed + "texts_names_first_half_year.txt", cron.Parse}, {crontabs + "messages.txt", cron.ParseCrontab},
+	} {
 		for _, row := range rows(t, it.path, " | ") {
 			if len(row) != 2 {
 				continue
@@ -260,7 +264,7 @@ func TestRowsOfTexts(t *testing.T) {
 			var refusal *cron.TextError
 			schedule, err := it.read(row[0])
 			if same, none := it.read(row[1]); none == nil {
-				if err != nil || !schedule.Equal(same) {
+				if err != nil || !schedule.Equal(same) || !reflect.DeepEqual(schedule.Canonical(), row[1:]) {
 					t.Errorf("%q isn't %q: %v", row[0], row[1], err)
 				}
 			} else if !errors.As(err, &refusal) || refusal.Message != row[1] {

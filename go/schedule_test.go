@@ -98,6 +98,9 @@ func TestTheTextIsKept(t *testing.T) {
 		nightly.IsCrontab() || !crontab.IsCrontab() {
 		t.Error("the text is another one")
 	}
+	if told := crontab.Canonical(); !reflect.DeepEqual(told, []string{"0 0 0 13 * * *", "0 0 0 * * 6 *"}) {
+		t.Errorf("the canonical texts are %q", told)
+	}
 	if !nightly.Equal(same) || nightly.Equal(crontab) || nightly.Equal(same.Under(cron.Once)) {
 		t.Error("what is equal is told otherwise")
 	}

@@ -11,6 +11,17 @@ func bytesOf(list []sets) []byte {
 	return unsafe.Slice((*byte)(unsafe.Pointer(start(list))), size*len(list))
 }
 
+// Canonical returns the canonical text of the schedule, or of a crontab's expression that means two
+// schedules both: seven fields, each a star or its runs of numbers as `0-4,30`, with `L` last among
+// the days of the month. Parse reads each back to the same sets.
+func (schedule *Schedule) Canonical() []string {
+	var texts []string
+	for i := range schedule.sets {
+		texts = append(texts, canonicalText(&schedule.sets[i]))
+	}
+	return texts
+}
+
 // numbers returns the members of a set, whose words of 64 bits go from a number on.
 func (schedule *Schedule) numbers(first int, words func(*sets) []uint64) []int {
 	var all [3]uint64

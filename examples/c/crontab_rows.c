@@ -116,23 +116,6 @@ static void replay_messages(char *line)
     CHECK(needed == strlen(told) && memcmp(message, told, needed) == 0);
 }
 
-/* Replays each line of a file that isn't a comment. */
-static void replay_file(const char *path, void (*replay)(char *line))
-{
-    char line[LINE];
-    FILE *file = fopen(path, "rb");
-    CHECK(file != NULL);
-    while (fgets(line, sizeof line, file)) {
-        char *end = strchr(line, '\n');
-        CHECK(end != NULL);
-        *end = 0;
-        if (strncmp(line, "# ", 2) != 0) {
-            replay(line);
-        }
-    }
-    CHECK(fclose(file) == 0);
-}
-
 /* A message that doesn't fit, none at all, and a text that isn't UTF-8. */
 static void arguments(void)
 {

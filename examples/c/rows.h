@@ -27,6 +27,23 @@ static inline void tell_held(const char *rows)
     printf("examples: %d rows of %s hold\n", held, rows);
 }
 
+/* Replays each line of a file that isn't a comment. */
+static inline void replay_file(const char *path, void (*replay)(char *line))
+{
+    char line[4000];
+    FILE *file = fopen(path, "rb");
+    CHECK(file != NULL);
+    while (fgets(line, sizeof line, file)) {
+        char *end = strchr(line, '\n');
+        CHECK(end != NULL);
+        *end = 0;
+        if (strncmp(line, "# ", 2) != 0) {
+            replay(line);
+        }
+    }
+    CHECK(fclose(file) == 0);
+}
+
 #define CHICAGO "CST6CDT,M3.2.0,M11.1.0"
 
 /* The zone of a text, or one of no kind. */

@@ -42,6 +42,11 @@ class Answers(unittest.TestCase):
         self.assertEqual(schedule.minutes, frozenset(range(0, 60, 5)))
         self.assertEqual((schedule.seconds, schedule.days_of_week), (frozenset({0}), frozenset({2, 3, 4, 5, 6})))
 
+    def test_a_canonical_text_for_each_of_its_schedules(self):
+        self.assertEqual(Schedule.crontab("30 9 * * mon-fri").canonical, ("0 30 9 * * 2-6 *",))
+        by_date, by_day = Schedule.crontab("0 0 13 * fri").canonical
+        self.assertEqual({by_date, by_day}, {"0 0 0 13 * * *", "0 0 0 * * 6 *"})
+
     def test_one_kind_of_day_suffices(self):
         # about the fold of 2026-11-01, a Sunday, and the gap of 2026-03-08, the second Sunday
         schedule = Schedule.crontab("*/30 1,2 1,8 * sun")

@@ -52,6 +52,24 @@ def chicago(*parts, fold=0):
     return datetime(*parts, tzinfo=CHICAGO, fold=fold)
 
 
+UNITS = ((0, 59), (0, 59), (0, 23), (1, 31), (1, 12), (1, 7), (1970, 2100))
+
+
+def read_field(field, least, greatest):
+    """The numbers of a field of a canonical text, and whether `L` is among them."""
+    if field == "*":
+        return set(range(least, greatest + 1)), False
+    numbers, last = set(), -2
+    for run in field.split(","):
+        if run == "L":
+            return numbers, True
+        first, end = ((least, greatest) if run == "*" else (int(run.split("-")[0]), int(run.split("-")[-1])))
+        assert last + 1 < first <= end, f"{field} has runs that touch"
+        numbers.update(range(first, end + 1))
+        last = end
+    return numbers, False
+
+
 class Answers(unittest.TestCase):
     def test_a_fold_has_both_readings(self):
         schedule = Schedule("0 30 1 * * *")
@@ -155,6 +173,21 @@ class Answers(unittest.TestCase):
         self.assertEqual([(min(it), max(it), len(it)) for it in sets], [(0, 59, 60), (0, 59, 60), (0, 23, 24), (1, 31, 31)])
         sets = (schedule.months, schedule.days_of_week, schedule.years)
         self.assertEqual([(min(it), max(it), len(it)) for it in sets], [(1, 12, 12), (1, 7, 7), (1970, 2100, 131)])
+
+    def test_a_canonical_text_has_the_sets(self):
+        texts = (
+            "* * * * * *", "@yearly", "0/15 1,2 3,5-7 L jan,MAR-apr SUN 2018", "* * * 1-31,L 1-12 ? 1970-2100", "0 0 0 1,L * *",
+            "59,0,58,1 0-58 */2 2-31/3 1-11 2-7 1971-2100/7", "*/7 5/9 1-23/2 */4 */5 Mon,Wed,Fri 2033-2034,2097-2099",
+        )
+        for text in texts:
+            schedule = Schedule(text)
+            (canonical,) = schedule.canonical
+            sets = (schedule.seconds, schedule.minutes, schedule.hours, schedule.days_of_month)
+            sets += (schedule.months, schedule.days_of_week, schedule.years)
+            fields = [read_field(field, *unit) for field, unit in zip(canonical.split(" "), UNITS, strict=True)]
+            self.assertEqual([frozenset(numbers) for numbers, _ in fields], list(sets), text)
+            self.assertEqual([last for _, last in fields], [False] * 3 + [schedule.last_day] + [False] * 3, text)
+            self.assertEqual((Schedule(canonical), Schedule(canonical).canonical), (schedule, (canonical,)))
 
     def test_a_schedule_is_its_text_and_can_be_referred_to_weakly(self):
         schedule = Schedule("@daily")

@@ -27,7 +27,7 @@ extern "C" {
 #endif
 
 /* The version of this header: 10,000 times its first number, 100 times its second, and its third. */
-#define CRON_C_VERSION 10500
+#define CRON_C_VERSION 10600
 
 /* The version of the archive. Its first number is that of the header, or the structs may differ. */
 uint32_t cron_c_version(void);
@@ -52,9 +52,13 @@ static inline char *cron_c_no_text(void)
 #define CRON_C_LEAST_INSTANT INT64_C(-377705023201)
 #define CRON_C_GREATEST_INSTANT INT64_C(253402207200)
 
-/* The bytes that hold the text of any item, of any due fire, and the message that refuses a text of so many bytes. */
+/*
+ * The bytes that hold the text of any item, of any due fire, and of any schedule, and the message that refuses a
+ * text of so many bytes.
+ */
 #define CRON_C_ITEM_TEXT 29
 #define CRON_C_DUE_TEXT 53
+#define CRON_C_SCHEDULE_TEXT 1245
 #define CRON_C_MESSAGE(text_length) (2 * (text_length) + 100)
 
 /*
@@ -68,7 +72,7 @@ enum {
     CRON_C_NOT_UTF8 = 3,    /* The text isn't UTF-8. */
     CRON_C_BAD_ZONE = 4,    /* The text names no zone, or the numbers, the bytes or the eras are of none. */
     CRON_C_BAD_INSTANT = 5, /* The instant is less than the least one, or past the greatest. */
-    CRON_C_NOT_AN_ITEM = 6, /* The call takes no such item, and says which it takes. */
+    CRON_C_NOT_AN_ITEM = 6, /* The call takes no such item or schedule, and says which it takes. */
     CRON_C_UNTOLD = 7,      /* As CRON_C_REFUSED, but no message can be told; what its buffer holds means nothing. */
     CRON_C_MORE = 8,        /* More is left than fits. What fits was written, where items are listed, and else nothing. */
     CRON_C_NO_MEMORY = 9    /* Out of memory. */
@@ -84,7 +88,7 @@ static inline const char *cron_c_status_text(uint32_t status)
     case CRON_C_NOT_UTF8: return "the text isn't UTF-8";
     case CRON_C_BAD_ZONE: return "there is no such zone";
     case CRON_C_BAD_INSTANT: return "the instant is out of range";
-    case CRON_C_NOT_AN_ITEM: return "the item is none that the call takes";
+    case CRON_C_NOT_AN_ITEM: return "the item or the schedule is none that the call takes";
     case CRON_C_UNTOLD: return "the text means nothing, and no message can be told";
     case CRON_C_MORE: return "more is left than fits";
     case CRON_C_NO_MEMORY: return "out of memory";
@@ -578,6 +582,19 @@ uint32_t cron_c_format(const cron_c_item *item,
  */
 uint32_t cron_c_due_format(const cron_c_item *item,
                            char *text, size_t text_length, size_t *text_needed);
+
+/*
+ * Writes the canonical text of a schedule to `text`, as far as it fits, and its whole length to
+ * `*text_needed`, at most CRON_C_SCHEDULE_TEXT: seven fields with one space between two, each a star or
+ * its runs of numbers as `0-4,30`, with `L` last among the days of the month. `cron_c_parse` reads it
+ * back to the same sets, and two schedules have one canonical text exactly where their sets are the
+ * same. Of a crontab's expression that means two schedules each has its own.
+ *
+ * CRON_C_OK; or CRON_C_NOT_AN_ITEM where a unit has no ordinal, so that no text means the schedule,
+ * and `*text_needed` is then 0.
+ */
+uint32_t cron_c_canonical(const cron_c_schedule *schedule,
+                          char *text, size_t text_length, size_t *text_needed);
 
 #ifdef __cplusplus
 }

@@ -1,5 +1,5 @@
 -- Readings that come one after the other, as a list of all that have a property begins with them.
-use Rattle.std.proofs.Common.{◌≡◌, ◌+◌, true, List, [], ◌∷◌, ◌++◌, Option, Some, None, ◌⊎◌, inl, inr, sym, ap, subst, ◌∙◌}
+use Rattle.std.proofs.Common.{◌≡◌, true, List, [], ◌∷◌, ◌++◌, Option, Some, None, ◌⊎◌, inl, inr, sym, ap, subst, ◌∙◌}
 use Rattle.cron_moments.specs.Readings.{Reading}
 use Rattle.cron_instants.specs.Instants.{IsAmong, IsEarliest}
 use Rattle.cron_instants.specs.Order.{is_earlier}

@@ -19,4 +19,5 @@ pub mod Dues
 mod HistoryClockLemmas
 mod UnionItems
 mod CrontabLemmas
+mod OneSchedule
 pub mod LineLemmas

@@ -1,7 +1,7 @@
 -- Items of several schedules as one: the nearest of all, and lists that go on from one to the next.
 use Rattle.std.proofs.Common.{◌≡◌, ℕ, ◌+◌, ◌<◌, ◌≤◌, ℤ, pos, ◌*ℤ◌, ◌≤ℤ◌, Bool, true, false, cond, List, [], ◌∷◌, ◌++◌, Option, Some, None, ◌⊎◌, inl, inr, refl, sym, ap, subst, ◌∙◌, length, take, get_or, arith, append_assoc, length-append, slice_set}
 use Rattle.std.specs.Int.{int_div_euclid}
-use Rattle.std.specs.Prelude.{Any, IfSome, int_lt}
+use Rattle.std.specs.Prelude.{IfSome, int_lt}
 use Rattle.std.proofs.lemmas.List.{append-nil, get_or-map, length-map, take_all, take_more}
 use Rattle.std.proofs.lemmas.Int.{ints}
 use Rattle.jiff_core.proofs.SignedLemmas.{signed_arith}

@@ -12,6 +12,8 @@ pub mod ZoneFiles
 pub mod Dues
 pub mod HistoryClocks
 pub mod Unions
+pub mod UnionLaws
 pub mod Crontabs
+pub mod Canonical
 pub mod CrontabLines
 pub mod Inner

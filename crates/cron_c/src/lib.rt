@@ -3,6 +3,7 @@
 #![tactic(auto)]
 
 mod buffer;
+mod canonical_call;
 mod crontab_call;
 mod due_by_clock;
 mod due_item;
@@ -16,6 +17,7 @@ mod history_clock;
 mod history_dues;
 mod history_runs;
 mod item;
+pub mod laws;
 mod line_call;
 mod listing;
 mod named;
@@ -37,6 +39,7 @@ mod version;
 mod zone;
 mod zone_file;
 
+pub use canonical_call::cron_c_canonical;
 pub use crontab_call::cron_c_crontab_parse;
 pub use due_text::cron_c_due_format;
 pub use era::CronEra;

@@ -61,6 +61,9 @@ Schedules = ctypes.Array[Sets]
 # The arguments for eras, and how many they are.
 Eras = Tuple["ctypes.Array[Era]", int]
 
+# The bytes that hold the canonical text of any schedule, as `CRON_C_SCHEDULE_TEXT` has it.
+SCHEDULE_TEXT = 1245
+
 # An item as its bytes stand in an array, and how many a first and a later page of fires have room for.
 ITEM = struct.Struct("=qi4x")
 DUE_ITEM = struct.Struct("=qiI")
@@ -90,7 +93,7 @@ class History:
 FIVE_FIELDS = "five fields: a crontab line, which Schedule.crontab reads. Here seconds stand before the minutes, and Sunday is 1."
 
 # The first version that has every call below, and the first whose structs may be others.
-LEAST_VERSION, OTHER_VERSION = 10_500, 20_000
+LEAST_VERSION, OTHER_VERSION = 10_600, 20_000
 
 
 def _numbers(version: int) -> str:
@@ -114,6 +117,7 @@ def _load() -> ctypes.CDLL:
     text: List[Any] = [ctypes.c_char_p, size]
     library.cron_c_parse.argtypes = text + [pointer(Sets)] + text + [pointer(size)]
     library.cron_c_crontab_parse.argtypes = text + [pointer(Sets), size, pointer(size)] + text + [pointer(size)]
+    library.cron_c_canonical.argtypes = [pointer(Sets)] + text + [pointer(size)]
     library.cron_c_zone_parse.argtypes = text + [pointer(Zone)]
     page: List[Any] = [instant, pointer(Item), size, pointer(size)]
     asked = {
@@ -127,7 +131,7 @@ def _load() -> ctypes.CDLL:
             getattr(library, f"cron_c_{name}_{call}").restype = ctypes.c_uint32
     library.cron_c_history_read.argtypes = [ctypes.c_char_p, size, pointer(Era), size, pointer(size)]
     library.cron_c_history_check.argtypes = [pointer(Era), size]
-    for call in ("parse", "crontab_parse", "zone_parse", "history_read", "history_check"):
+    for call in ("parse", "crontab_parse", "canonical", "zone_parse", "history_read", "history_check"):
         getattr(library, f"cron_c_{call}").restype = ctypes.c_uint32
     return library
 
@@ -185,6 +189,15 @@ def parse_crontab(text: str) -> Schedules:
         text,
     )
     return (Sets * count.value)(*schedules[: count.value])
+
+
+def canonical(sets: Sets) -> str:
+    """The canonical text of one schedule."""
+    text, needed = ctypes.create_string_buffer(SCHEDULE_TEXT), ctypes.c_size_t()
+    status = _LIBRARY.cron_c_canonical(sets, text, len(text), needed)
+    if status != OK:
+        raise CronError(f"status {status}")
+    return text.raw[: needed.value].decode()
 
 
 def set_of(schedules: Schedules, place: Place) -> FrozenSet[int]:

@@ -86,6 +86,12 @@ class Schedule:
         return self._text
 
     @property
+    def canonical(self) -> Tuple[str, ...]:
+        """Its canonical text, or of a crontab's expression that means two schedules both: seven fields, each
+        a star or its runs of numbers. Equal schedules have the same ones, and `Schedule` reads each back."""
+        return tuple(library.canonical(sets) for sets in self._schedules)
+
+    @property
     def seconds(self) -> FrozenSet[int]:
         """The seconds, 0 to 59."""
         return library.set_of(self._schedules, library.SECONDS)

@@ -1,4 +1,4 @@
-use Rattle.std.proofs.Common.{rules, ◌≡◌, ◌*ℤ◌, ◌+ℤ◌, pos, refl, ap, FitsSigned, w64, to_z-of_z}
+use Rattle.std.proofs.Common.{rules, ◌≡◌, ◌+ℤ◌, pos, refl, ap, FitsSigned, w64, to_z-of_z}
 use Rattle.cron_dues.proofs.RunLemmas.{left-past_by}
 use Rattle.cron_unions.specs.Unions.{seconds_of_any}
 use Rattle.cron_unions.specs.Inner.Nearest.{is_match_any}

@@ -1,8 +1,8 @@
-use Rattle.std.proofs.Common.{rules, ◌≡◌, ◌<◌, ◌+ℤ◌, ◌∷◌, pos, length, subst, sym, ap, ◌∙◌, arith, FitsSigned, w64, to_z-of_z}
-use Rattle.cron_c.specs.Arrays.{IsPage, IsWhole}
+use Rattle.std.proofs.Common.{rules, ◌≡◌, ◌<◌, ◌+ℤ◌, pos, length, subst, sym, ◌∙◌, arith, FitsSigned, w64, to_z-of_z}
+use Rattle.cron_c.specs.Arrays.{IsPage}
 use Rattle.cron_c.specs.Dues.{IsDueItem}
 use Rattle.cron_c.specs.Unions.{dues_left, sets_of_all}
-use Rattle.cron_c.proofs.Arrays.{running_begins, running_ends, running_goes_on, running_is_full}
+use Rattle.cron_c.proofs.Arrays.{running_begins, running_goes_on, running_is_full}
 use Rattle.cron_c.proofs.union_due_items.fill.Goals as goal
 
 pub loop-at-init : goal.loop-at-init

@@ -1,0 +1,11 @@
+//! Laws over the definitions: the functions do nothing, and a caller calls one for what its
+//! contract says.
+
+ghost use Rattle.cron_c.specs.UnionLaws.{OneFiresAsItsUnion, OneIsDueAsItsUnion};
+
+/// One schedule is its own union: the calls over several schedules answer of one alone what those
+/// over one schedule answer in the same eras, by instants and by due fires.
+pub fn one_is_its_union()
+    ensures fires { OneFiresAsItsUnion }
+    ensures dues { OneIsDueAsItsUnion }
+{}

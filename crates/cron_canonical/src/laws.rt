@@ -1,0 +1,14 @@
+//! Laws over the definitions: the functions do nothing, and a caller calls one for what its
+//! contract says.
+
+ghost use Rattle.cron_canonical.specs.Short.{ShortFormsMean, ShortFormsDiffer};
+
+/// The short form of sets means them.
+pub fn short_forms_mean()
+    ensures { ShortFormsMean }
+{}
+
+/// Sets with one short form are the same.
+pub fn short_forms_differ()
+    ensures { ShortFormsDiffer }
+{}

@@ -1,0 +1,9 @@
+//! The canonical text of seven sets, made without memory.
+#![tactic(auto)]
+
+mod filled;
+pub mod laws;
+mod numbers;
+mod text;
+
+pub use text::{Text, canonical_text, text_of};
