@@ -2,8 +2,3 @@ pub mod LineLemmas
 pub mod Telling
 pub mod Putting
 pub mod ReadLemmas
-pub mod RunLemmas
-pub mod DayLemmas
-pub mod ShortTokens
-pub mod ShortSets
-pub mod ShortMeaning

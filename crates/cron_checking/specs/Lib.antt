@@ -1,4 +1,3 @@
-pub mod Short
 pub mod Lines
 pub mod Reports
 pub mod Reading

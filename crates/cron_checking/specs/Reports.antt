@@ -9,7 +9,7 @@ use Rattle.cron_text.specs.Meaning.{Means}
 use Rattle.cron_text.specs.Fault.{IsRefusal}
 use Rattle.cron_instants.specs.Instants.{IsFirstAfter}
 use Rattle.cron_checking.specs.Lines.{is_passed_over}
-use Rattle.cron_checking.specs.Short.{sets_text}
+use Rattle.cron_canonical.specs.Short.{sets_text}
 use Rattle.cron_checking.specs.declared.line.Mode.{Mode}
 use Rattle.cron_checking.specs.declared.line.Mode.TheVariants.{Faults, Short, Next}
 use Rattle.cron_checking.specs.declared.line.Telling.{Telling}

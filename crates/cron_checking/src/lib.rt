@@ -3,7 +3,6 @@
 
 pub mod arguments;
 pub mod check;
-pub mod laws;
 pub mod line;
 mod line_reader;
 pub mod output;

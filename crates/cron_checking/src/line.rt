@@ -5,7 +5,7 @@ ghost use Rattle.std.specs.String.{string_bytes};
 ghost use Rattle.cron_checking.specs.Inner.{TellsBytes};
 ghost use Rattle.cron_checking.specs.Lines.{is_passed_over};
 ghost use Rattle.cron_checking.specs.Reports.{TellsSets, TellsText, told};
-ghost use Rattle.cron_checking.specs.Short.{sets_text};
+ghost use Rattle.cron_canonical.specs.Short.{sets_text};
 
 use crate::short::push_sets;
 use cron_instants::instants::first_after;

@@ -2,8 +2,8 @@ use Rattle.std.proofs.Common.{◌≡◌, ◌++◌, ◌∙◌, [], List, ℕ, sym
 use Rattle.cron_units.specs.Sets.{Sets}
 use Rattle.cron_text.specs.Meaning.{Means}
 use Rattle.cron_text.proofs.FilledLemmas.{means_sets}
-use Rattle.cron_checking.specs.Short.{sets_text}
-use Rattle.cron_checking.proofs.ShortMeaning.{short_forms_mean}
+use Rattle.cron_canonical.specs.Short.{sets_text}
+use Rattle.cron_canonical.proofs.ShortMeaning.{short_forms_mean}
 use Rattle.cron_checking.proofs.short.canonical_text.Goals as goal
 
 -- the short form of what a source means, pushed to nothing
