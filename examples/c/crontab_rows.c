@@ -1,6 +1,7 @@
 /*
- * Rows of crontabs that `cron_c_crontab_parse` must answer: expressions with what Debian's cron and cronie make of
- * them, and texts with the message of their refusal. Run it at the top of the repository, where it finds them.
+ * Rows of crontabs that `cron_c_crontab_parse` and `cron_c_crontab_line_parse` must answer: expressions with what
+ * Debian's cron and cronie make of them, texts with the message of their refusal, and lines with what they are. Run it
+ * at the top of the repository, where it finds them.
  */
 #include "edge.h"
 #include "rows.h"
@@ -86,6 +87,65 @@ static void are_as_told(const struct told *told)
     }
 }
 
+/* Reads a line that ends at a page which can't be touched. */
+static uint32_t read_line(const char *line, size_t length, uint32_t is_system)
+{
+    static unsigned char *end;
+    char *copy = before_edge(&end, length);
+    memcpy(copy, line, length);
+    memset(schedules, 0x5a, sizeof schedules);
+    count = needed = 9;
+    return cron_c_crontab_line_parse(copy, length, is_system, schedules, ROOM, &count, message, sizeof message, &needed);
+}
+
+/* The expression that was read is the same in a line of a user's crontab and of the system's. */
+static void same_in_a_line(const char *expression)
+{
+    static const char *const behind[] = { " c", " root c" };
+    cron_c_schedule read[ROOM];
+    const size_t whole = count;
+    memcpy(read, schedules, sizeof read);
+    for (uint32_t is_system = 0; is_system < 2; is_system++) {
+        char line[LINE];
+        const int length = snprintf(line, sizeof line, "%s%s", expression, behind[is_system]);
+        CHECK(read_line(line, (size_t)length, is_system) == CRON_C_OK && count == whole && needed == 0);
+        CHECK(memcmp(schedules, read, sizeof read) == 0);
+    }
+}
+
+/* Puts the bytes that a row names in place, and leaves out the line feed at the end. Returns their number. */
+static size_t named_bytes(char *text)
+{
+    char *to = text;
+    for (const char *from = text; *from && strcmp(from, "<L>") != 0; to++) {
+        const char *at = strncmp(from, "<T>", 3) == 0 ? "\t" : strncmp(from, "<R>", 3) == 0 ? "\r" : strncmp(from, "<0>", 3) == 0 ? "" : NULL;
+        *to = at ? *at : *from;
+        from += at ? 3 : 1;
+    }
+    return (size_t)(to - text);
+}
+
+/* What a file of one line has. */
+static void replay_line(char *row)
+{
+    char *text = strchr(row, '\t'), *told = text ? strchr(text + 1, '\t') : NULL;
+    CHECK(text && told);
+    *text++ = *told++ = 0;
+    const char *feed = strstr(text, "<L>");
+    if (!*told || strstr(text, "<BOM>") || (feed && feed[3])) {
+        return;
+    }
+    const uint32_t status = read_line(text, named_bytes(text), strcmp(row, "system") == 0);
+    told += 2;
+    if (strncmp(told, "refused ", 8) == 0) {
+        CHECK(status == CRON_C_REFUSED && count == 0 && needed == strlen(told + 8) && memcmp(message, told + 8, needed) == 0);
+    } else if (strncmp(told, "entry ", 6) == 0) {
+        CHECK(status == CRON_C_OK && needed == 0 && count == (told[6] == 'r' ? 0 : told[6] == 'o' ? 1 : 2));
+    } else {
+        CHECK(status == CRON_C_NO_ITEM && count == 0 && needed == 0);
+    }
+}
+
 /* What both crons make of an expression alike is what it means. Every other one is refused. */
 static void replay_crons(char *line)
 {
@@ -102,6 +162,7 @@ static void replay_crons(char *line)
     const struct told told = told_by(debian);
     CHECK(status == CRON_C_OK && needed == 0);
     are_as_told(&told);
+    same_in_a_line(line);
     for (size_t room = 0, whole = count; room < whole; room++) {
         CHECK(read_text(line, length, room) == CRON_C_MORE && count == whole && needed == 0 && nothing_is_written());
     }
@@ -133,6 +194,7 @@ int main(void)
 {
     replay_file(ROWS "lines.tsv", replay_crons);
     replay_file(ROWS "messages.txt", replay_messages);
+    replay_file(ROWS "files.tsv", replay_line);
     arguments();
     tell_held("crontabs");
     return 0;

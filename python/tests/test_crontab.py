@@ -92,6 +92,17 @@ class Answers(unittest.TestCase):
     def test_an_expression_that_never_fires(self):
         self.assertIsNone(Schedule.crontab("0 22-2 * * *").after(chicago(2026, 1, 1)))
 
+    def test_lines(self):
+        schedule = Schedule.crontab_line("  30 9\t* * mon-fri  /bin/backup --all%its input")
+        self.assertEqual((schedule, schedule.text), (Schedule.crontab("30 9 * * mon-fri"), "30 9 * * mon-fri"))
+        self.assertEqual(Schedule.crontab_line("@daily root backup", system=True), Schedule.crontab("@daily"))
+        for line in ("", " \t", "# 30 9 * * * backup", "MAILTO=a@b.example", "CRON_TZ=UTC"):
+            self.assertIsNone(Schedule.crontab_line(line))
+        with self.assertRaisesRegex(TextError, "^no command stands behind the fields$"):
+            Schedule.crontab_line("* * * * *")
+        with self.assertRaisesRegex(TextError, "no user"):
+            Schedule.crontab_line("* * * * *", system=True)
+
     def test_it_is_pickled_as_its_text(self):
         schedule = Schedule.crontab("0 0 13 * fri")
         self.assertEqual(repr(schedule), "Schedule.crontab('0 0 13 * fri')")

@@ -172,6 +172,19 @@ uint32_t cron_c_crontab_parse(const char *text, size_t text_length,
                               char *message, size_t message_length, size_t *message_needed);
 
 /*
+ * Reads a line of a crontab, without its line feed, into the schedules of its entry, as
+ * `cron_c_crontab_parse` reads an expression. With `is_system` 0 the crontab is a user's own; with any
+ * other number its entries name a user behind the fields. Any bytes but NUL may stand in a command.
+ *
+ * CRON_C_OK, CRON_C_REFUSED, CRON_C_UNTOLD or CRON_C_MORE, with `*count` and the message as by
+ * `cron_c_crontab_parse`; or CRON_C_NO_ITEM where the line is blank, a comment or a setting, with
+ * `*count` 0.
+ */
+uint32_t cron_c_crontab_line_parse(const char *line, size_t line_length, uint32_t is_system,
+                                   cron_c_schedule *schedules, size_t schedules_length, size_t *count,
+                                   char *message, size_t message_length, size_t *message_needed);
+
+/*
  * When a clock turns each year. The time is in seconds from the midnight that begins the day, on the
  * clock as it is before the turn, -604,799 to 604,799.
  *

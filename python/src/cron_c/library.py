@@ -117,6 +117,9 @@ def _load() -> ctypes.CDLL:
     text: List[Any] = [ctypes.c_char_p, size]
     library.cron_c_parse.argtypes = text + [pointer(Sets)] + text + [pointer(size)]
     library.cron_c_crontab_parse.argtypes = text + [pointer(Sets), size, pointer(size)] + text + [pointer(size)]
+    library.cron_c_crontab_line_parse.argtypes = (
+        text + [ctypes.c_uint32, pointer(Sets), size, pointer(size)] + text + [pointer(size)]
+    )
     library.cron_c_canonical.argtypes = [pointer(Sets)] + text + [pointer(size)]
     library.cron_c_zone_parse.argtypes = text + [pointer(Zone)]
     page: List[Any] = [instant, pointer(Item), size, pointer(size)]
@@ -131,7 +134,7 @@ def _load() -> ctypes.CDLL:
             getattr(library, f"cron_c_{name}_{call}").restype = ctypes.c_uint32
     library.cron_c_history_read.argtypes = [ctypes.c_char_p, size, pointer(Era), size, pointer(size)]
     library.cron_c_history_check.argtypes = [pointer(Era), size]
-    for call in ("parse", "crontab_parse", "canonical", "zone_parse", "history_read", "history_check"):
+    for call in ("parse", "crontab_parse", "crontab_line_parse", "canonical", "zone_parse", "history_read", "history_check"):
         getattr(library, f"cron_c_{call}").restype = ctypes.c_uint32
     return library
 
@@ -156,8 +159,8 @@ def _with_note(error: TextError, text: str) -> TextError:
     return error
 
 
-def _read(call: Callable[..., int], text: str) -> None:
-    """Calls with a text, and with room for the message that refuses it."""
+def _read(call: Callable[..., int], text: str) -> bool:
+    """Calls with a text, and with room for the message that refuses it. Returns whether it has a meaning that fires."""
     told, needed = text.encode("utf-8", "surrogatepass"), ctypes.c_size_t()
     message = ctypes.create_string_buffer(_message_room(len(told)))
     status = call(told, message, needed)
@@ -165,8 +168,9 @@ def _read(call: Callable[..., int], text: str) -> None:
         raise TextError(message.raw[: needed.value].decode())
     if status == NOT_UTF8:
         raise TextError("The text isn't UTF-8.")
-    if status != OK:
+    if status not in (OK, NO_ITEM):
         raise CronError(f"status {status}")
+    return status == OK
 
 
 def parse(text: str) -> Schedules:
@@ -189,6 +193,18 @@ def parse_crontab(text: str) -> Schedules:
         text,
     )
     return (Sets * count.value)(*schedules[: count.value])
+
+
+def parse_crontab_line(line: str, is_system: bool) -> Optional[Schedules]:
+    """The schedules of a crontab's line; None where it is no entry."""
+    schedules, count = (Sets * 2)(), ctypes.c_size_t()
+    is_entry = _read(
+        lambda told, message, needed: _LIBRARY.cron_c_crontab_line_parse(
+            told, len(told), is_system, schedules, len(schedules), count, message, len(message), needed
+        ),
+        line,
+    )
+    return (Sets * count.value)(*schedules[: count.value]) if is_entry else None
 
 
 def canonical(sets: Sets) -> str:

@@ -2,6 +2,7 @@
 
 from __future__ import annotations
 
+import re
 from datetime import datetime, tzinfo
 from itertools import chain
 from typing import Callable, FrozenSet, Iterator, List, Literal, Optional, Tuple, Union
@@ -73,7 +74,20 @@ class Schedule:
         """The meaning of a crontab's expression: five fields, or a nickname. Where neither the third nor
         the fifth field begins with a star one kind of day suffices, and `days_of_month` and `days_of_week`
         are then all days. `@reboot`, which no clock fires, is refused."""
-        schedules = library.parse_crontab(_checked(text))
+        return cls._of_crontab(text, library.parse_crontab(_checked(text)))
+
+    @classmethod
+    def crontab_line(cls, line: str, *, system: bool = False) -> Optional[Schedule]:
+        """The meaning of a crontab's line, without its line feed; in a system crontab its entries name a
+        user. None where it is blank, a comment or a setting. Its text is the expression in front."""
+        schedules = library.parse_crontab_line(_checked(line), system)
+        if schedules is None:
+            return None
+        words = re.split("[ \t]+", line.strip(" \t"), maxsplit=5)
+        return cls._of_crontab(words[0] if words[0].startswith("@") else " ".join(words[:5]), schedules)
+
+    @classmethod
+    def _of_crontab(cls, text: str, schedules: library.Schedules) -> Schedule:
         if not schedules:
             raise TextError("@reboot means the start of the machine, which no clock tells")
         made = cls.__new__(cls)
