@@ -1,5 +1,5 @@
 -- Lines of a crontab, as schedules.
-use Rattle.std.specs.Prelude.{◌≡◌, ℕ, List, length}
+use Rattle.std.specs.Prelude.{◌≡◌, ◌==◌, ℕ, List, length, if◌then◌else◌}
 use Rattle.cron_tab_lines.specs.Lines.{IsLine, IsRefused, Meaning, entry}
 use Rattle.cron_tab_lines.specs.Refusals.{Refusal, refusal_text}
 use Rattle.cron_tab_lines.specs.declared.kinds.Crontab.{Crontab}
@@ -12,8 +12,7 @@ use Rattle.cron_c.specs.declared.status.Status.TheVariants.{NoItem, Refused, Unt
 
 -- whose crontab a number says: with 0 a user's own, else the system's
 abbrev pub kind_of : ℕ → Crontab
-kind_of 0 = User
-kind_of _ = System
+kind_of n = if n == 0 then User else System
 
 -- The schedules of an entry are written, or the array is too short for them; of what is no entry there are none.
 abbrev pub WritesLine : Meaning → List CronSchedule → List CronSchedule → ℕ → Status → Type 0

@@ -14,9 +14,10 @@ use cron_tab_lines::{Crontab, Line, read_line};
 fn kind_of(is_system: u32) -> Crontab
     ensures { result ≡ kind_of is_system }
 {
-    match is_system {
-        0 => Crontab::User,
-        _ => Crontab::System,
+    if is_system == 0 {
+        Crontab::User
+    } else {
+        Crontab::System
     }
 }
 
