@@ -1,5 +1,5 @@
 -- Lines and warnings that were told so far.
-use Rattle.std.proofs.Common.{◌≡◌, ◌<◌, ◌≤◌, ◌+◌, ◌++◌, ◌||◌, ◌⊎◌, ℕ, suc, Bool, true, false, Option, Result, Ok, Err, List, [], ◌∷◌, drop, drop-cons, drop_of_length-le, add-one, get_or, length, inl, inr, refl, sym, ap, ◌∙◌, subst, append_assoc, append-nil, arith}
+use Rattle.std.proofs.Common.{◌≡◌, ◌<◌, ◌≤◌, ◌+◌, ◌++◌, ◌||◌, ℕ, Bool, true, false, Option, Result, Ok, Err, List, [], ◌∷◌, drop, drop-cons, drop_of_length-le, add-one, get_or, length, inl, inr, refl, sym, ap, ◌∙◌, subst, append_assoc, append-nil}
 use Rattle.std.specs.Prelude.{⊤, take, IfOk}
 use Rattle.std.specs.Str.Lossy.{utf8_valid_len}
 use Rattle.std.specs.declared.alloc.AllocError.{AllocError}
@@ -19,7 +19,7 @@ use Rattle.cron_tool.specs.Inner.Checks.{AppendsTold, end_of}
 use Rattle.cron_tool.specs.Statuses.{Ends, is_write_failure}
 use Rattle.cron_tool.specs.declared.check.Wanted.{Wanted}
 use Rattle.cron_tool.specs.declared.status.Status.{Status}
-use Rattle.cron_tool.specs.declared.status.Status.TheVariants.{Done, No, WrongWords, WriteFailed, Unreadable}
+use Rattle.cron_tool.specs.declared.status.Status.TheVariants.{Done, No, Unreadable}
 
 -- ---- those of a list
 

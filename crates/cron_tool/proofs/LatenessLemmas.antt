@@ -1,6 +1,6 @@
 -- The first fire that was missed.
-use Rattle.std.proofs.Common.{◌≡◌, List, ℕ, ◌≤◌, ℤ, pos, ◌+ℤ◌, ◌*ℤ◌, ◌≤ℤ◌, ◌<ℤ◌, int_lt, Bool, true, false, cond, Option, Some, None, ◌⊎◌, inl, inr, refl, sym, ap, ◌∙◌, arith}
-use Rattle.std.specs.Prelude.{int_le, MatchOption}
+use Rattle.std.proofs.Common.{◌≡◌, List, ℕ, ◌≤◌, ℤ, pos, ◌+ℤ◌, ◌≤ℤ◌, ◌<ℤ◌, int_lt, Bool, true, false, cond, Option, Some, None, refl, ap, ◌∙◌, arith}
+use Rattle.std.specs.Prelude.{int_le}
 use Rattle.std.proofs.lemmas.Int.{ints}
 use Rattle.jiff_core.proofs.SignedLemmas.{signed_arith}
 use Rattle.jiff_tz.specs.declared.timezone.TimeZone.{TimeZone}
@@ -12,8 +12,7 @@ use Rattle.cron_unions.specs.UnionDues.{IsDueOfAny, IsFirstDueAfterAny}
 use Rattle.cron_unions.specs.Unions.{seconds_of_any}
 use Rattle.cron_unions.specs.Inner.Nearest.{is_match_any}
 use Rattle.cron_unions.proofs.UnionLemmas.{any-matches}
-use Rattle.cron_tool.specs.Lateness.{IsFirstAfter, IsFirstMissed, IsMissed, missed_at, missed_of, nanos}
-use Rattle.cron_tool.specs.declared.missed.Missed.{Missed}
+use Rattle.cron_tool.specs.Lateness.{IsFirstAfter, IsFirstMissed, missed_at, missed_of, nanos}
 
 lt_of : (a b : ℤ) → int_lt a b ≡ true → a <ℤ b
 lt_of a b h = grind (arith, ints)

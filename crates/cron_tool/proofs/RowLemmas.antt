@@ -3,7 +3,7 @@ use Rattle.std.proofs.Common.{◌≡◌, ℕ, zero, suc, ◌-◌, Option, Some, 
 use Rattle.std.specs.Prelude.{ℤ, map, Result}
 use Rattle.std.specs.declared.io.Error.{Error}
 use Rattle.std.proofs.lemmas.List.{map-append}
-use Rattle.cron_writer.specs.Calls.{AreGathered, Gathers}
+use Rattle.cron_writer.specs.Calls.{Gathers}
 use Rattle.cron_writer.specs.Watching.{has_failed}
 use Rattle.cron_writer.specs.declared.watched.Watched.{Watched}
 use Rattle.cron_writer.proofs.Gathering.{gathered_on}

@@ -11,7 +11,7 @@ use Rattle.cron_zones.specs.declared.zone.Zone.{Zone}
 use Rattle.cron_tool.specs.Expressions.{changes_by, schedules_of, IsReadAs, IsRefusedAs}
 use Rattle.cron_tool.specs.Fires.{rows_by}
 use Rattle.cron_tool.specs.Instants.{IsInstant}
-use Rattle.cron_tool.specs.Statuses.{Ends}
+use Rattle.cron_tool.specs.Statuses.{Ends, Reporting}
 use Rattle.cron_tool.specs.Troubles.{IsTold}
 use Rattle.cron_tool.specs.declared.answer.Request.{Request}
 use Rattle.cron_tool.specs.declared.answer.Which.{Which}
@@ -71,7 +71,7 @@ IsTrouble g r old new (trouble.Instant text) =
     ((e : Expression) × IsReadAs r.quartz r.expression.now e) × ((z : TimeZone) × IsOpened g r old z new × IsNoInstant r.which z g.now text.now)
 
 -- The fires were listed, and nothing was complained of; or a complaint was written, and nothing else.
-abbrev pub Answers : {F W C : Type 0} → Given F → Request → (W → Option (List ℕ)) → (C → Option (List ℕ)) → F × W × C → Status → F × W × C → Type 0
-Answers g r contents complaints old status new =
-    (Lists g r old.0 new.0 (contents old.1) (contents new.1) status × (new.2 ≡ old.2))
-    ⊎ ((t : Trouble) × IsTrouble g r old.0 new.0 t × IsTold t (complaints old.2) (complaints new.2) status × (new.1 ≡ old.1))
+abbrev pub Answers : {F W C : Type 0} → Given F → Request → Reporting W → Reporting C → F × W × C → Status → F × W × C → Type 0
+Answers g r out complaints old status new =
+    (out (Lists g r old.0 new.0) old.1 status new.1 × (new.2 ≡ old.2))
+    ⊎ ((t : Trouble) × IsTrouble g r old.0 new.0 t × complaints (IsTold t) old.2 status new.2 × (new.1 ≡ old.1))

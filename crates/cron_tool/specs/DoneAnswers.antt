@@ -10,6 +10,7 @@ use Rattle.cron_notes.specs.Changes.{Change}
 use Rattle.cron_notes.specs.Replacing.{Replaces}
 use Rattle.cron_tool.specs.Notices.{IsSaid}
 use Rattle.cron_tool.specs.Stamps.{ReadsStamp, stamp_text}
+use Rattle.cron_tool.specs.Statuses.{Reporting}
 use Rattle.cron_tool.specs.declared.done.Request.{Request}
 use Rattle.cron_tool.specs.declared.noted.Noted.{Noted}
 use Rattle.cron_tool.specs.declared.noted.Noted.TheVariants.{Fire, Nothing, Broken, Unread}
@@ -30,18 +31,18 @@ objection d Broken = Some notices.Broken
 objection d Unread = Some notices.Unread
 
 -- The file at the path was replaced by the stamp of the fire; where that failed it was said.
-abbrev pub Notes : {S C : Type 0} → (S → Change → Result ⊤ Error → S → Type 0) → (C → Option (List ℕ)) → List ℕ → Due → S × C → Status → S × C → Type 0
+abbrev pub Notes : {S C : Type 0} → (S → Change → Result ⊤ Error → S → Type 0) → Reporting C → List ℕ → Due → S × C → Status → S × C → Type 0
 Notes does complaints path d old status new =
     (answer : Result ⊤ Error) × Replaces does path (stamp_text d) old.0 answer new.0
     × MatchResult answer (λ done. (status ≡ Done) × (new.1 ≡ old.1))
-    (λ e. (status ≡ WriteFailed) × ((said : Status) × IsSaid notices.Unwritten path (complaints old.1) (complaints new.1) said))
+    (λ e. (status ≡ WriteFailed) × ((said : Status) × complaints (IsSaid notices.Unwritten path) old.1 said new.1))
 
 -- The word is no fire; or it is one, the stamp was read, and the fire was noted unless something stands against it.
 abbrev pub AnswersDone : {S C : Type 0} → (S → List ℕ → Result (Vec ℕ Global) Error → S → Type 0) → (S → Change → Result ⊤ Error → S → Type 0)
-    → (C → Option (List ℕ)) → Request → S × C → Status → S × C → Type 0
+    → Reporting C → Request → S × C → Status → S × C → Type 0
 AnswersDone {S} reads does complaints r old status new =
-    (((d : Due) → HasText r.fire.now d → ⊥) × IsSaid notices.NoFire r.fire.now (complaints old.1) (complaints new.1) status × (new.0 ≡ old.0))
+    (((d : Due) → HasText r.fire.now d → ⊥) × complaints (IsSaid notices.NoFire r.fire.now) old.1 status new.1 × (new.0 ≡ old.0))
     ⊎ ((d : Due) × HasText r.fire.now d
     × ((noted : Noted) × (read : S) × ReadsStamp reads r.stamp.now old.0 noted read
     × MatchOption (objection d noted) (Notes does complaints r.stamp.now d (read, old.1) status new)
-    (λ notice. IsSaid notice r.stamp.now (complaints old.1) (complaints new.1) status × (new.0 ≡ read))))
+    (λ notice. complaints (IsSaid notice r.stamp.now) old.1 status new.1 × (new.0 ≡ read))))

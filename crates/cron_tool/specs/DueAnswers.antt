@@ -1,5 +1,5 @@
 -- What the words of `due` are answered.
-use Rattle.std.specs.Prelude.{◌≡◌, ◌⊎◌, ◌*ℤ◌, ℕ, ℤ, pos, int_lt, Bool, true, false, List, Option, Result, Ok, Err, MatchResult, if◌then◌else◌}
+use Rattle.std.specs.Prelude.{◌≡◌, ◌⊎◌, ◌*ℤ◌, ℕ, ℤ, pos, int_lt, Bool, List, Result, Ok, Err, MatchResult, if◌then◌else◌}
 use Rattle.std.specs.declared.alloc.Global.{Global}
 use Rattle.std.specs.declared.io.Error.{Error}
 use Rattle.std.specs.declared.vec.Vec.{Vec}
@@ -10,6 +10,7 @@ use Rattle.cron_tool.specs.Expressions.{changes_by, schedules_of}
 use Rattle.cron_tool.specs.Notices.{IsSaid}
 use Rattle.cron_tool.specs.Pendings.{ListsPending}
 use Rattle.cron_tool.specs.Stamps.{ReadsStamp}
+use Rattle.cron_tool.specs.Statuses.{Reporting}
 use Rattle.cron_tool.specs.Subjects.{IsBegun, IsNoSubject}
 use Rattle.cron_tool.specs.Troubles.{IsTold}
 use Rattle.cron_tool.specs.declared.due.Finding.{Finding}
@@ -41,24 +42,24 @@ or_last Done = Ok Last
 or_last status = Err status
 
 -- which fires are listed then, or how the subcommand ends; and what was said of the stamp at this path
-abbrev pub ComesTo : {C : Type 0} → (C → Option (List ℕ)) → List ℕ → Finding → C → Result Pending Status → C → Type 0
+abbrev pub ComesTo : {C : Type 0} → Reporting C → List ℕ → Finding → C → Result Pending Status → C → Type 0
 ComesTo complaints path (findings.List pending) old result new = (result ≡ Ok pending) × (new ≡ old)
 ComesTo complaints path (findings.Anew notice) old result new =
-    (said : Status) × IsSaid notice path (complaints old) (complaints new) said × (result ≡ or_last said)
+    (said : Status) × complaints (IsSaid notice path) old said new × (result ≡ or_last said)
 ComesTo complaints path (findings.Refuse notice) old result new =
-    (said : Status) × IsSaid notice path (complaints old) (complaints new) said × (result ≡ Err said)
+    (said : Status) × complaints (IsSaid notice path) old said new × (result ≡ Err said)
 
 -- the stamp was read, once
 abbrev pub FindsPending :
-    {F C : Type 0} → (F → List ℕ → Result (Vec ℕ Global) Error → F → Type 0) → ℤ → Request → (C → Option (List ℕ)) → F × C → Result Pending Status
-    → F × C → Type 0
+    {F C : Type 0} → (F → List ℕ → Result (Vec ℕ Global) Error → F → Type 0) → ℤ → Request → Reporting C → F × C → Result Pending Status → F × C
+    → Type 0
 FindsPending reads now r complaints old result new =
     (noted : Noted) × ReadsStamp reads r.stamp.now old.0 noted new.0
     × ComesTo complaints r.stamp.now (finding_of now r.latest noted) old.1 result new.1
 
 -- By the expression, the zone and the stamp the pending fires were listed, or none was.
-pub record ListsDue {F W C : Type 0} (g : Given F) (r : Request) (contents : W → Option (List ℕ)) (complaints : C → Option (List ℕ))
-    (old : F × W × C) (status : Status) (new : F × W × C) : Type 0 where
+pub record ListsDue {F W C : Type 0} (g : Given F) (r : Request) (out : Reporting W) (complaints : Reporting C) (old : F × W × C) (status : Status)
+    (new : F × W × C) : Type 0 where
   pub expression : Expression
   pub zone : TimeZone
   pub opened : F
@@ -67,12 +68,12 @@ pub record ListsDue {F W C : Type 0} (g : Given F) (r : Request) (contents : W �
   pub finds : FindsPending g.reads g.now r complaints (opened, old.2) found (new.0, new.2)
   pub lists :
       MatchResult found
-      (λ pending. ListsPending (changes_by r.changes expression) r.form (schedules_of expression) zone g.now pending (contents old.1) (contents new.1) status)
+      (λ pending. out (ListsPending (changes_by r.changes expression) r.form (schedules_of expression) zone g.now pending) old.1 status new.1)
       (λ ended. (status ≡ ended) × (new.1 ≡ old.1))
 
 -- So it was; or the expression is none, or the zone can't be had, and that alone was told.
-abbrev pub AnswersDue : {F W C : Type 0} → Given F → Request → (W → Option (List ℕ)) → (C → Option (List ℕ)) → F × W × C → Status → F × W × C → Type 0
-AnswersDue g r contents complaints old status new =
-    ListsDue g r contents complaints old status new
-    ⊎ ((t : Trouble) × IsNoSubject g.reads g.places r.expression.now r.zone.now old.0 t new.0 × IsTold t (complaints old.2) (complaints new.2) status
+abbrev pub AnswersDue : {F W C : Type 0} → Given F → Request → Reporting W → Reporting C → F × W × C → Status → F × W × C → Type 0
+AnswersDue g r out complaints old status new =
+    ListsDue g r out complaints old status new
+    ⊎ ((t : Trouble) × IsNoSubject g.reads g.places r.expression.now r.zone.now old.0 t new.0 × complaints (IsTold t) old.2 status new.2
     × (new.1 ≡ old.1))

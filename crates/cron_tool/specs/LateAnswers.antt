@@ -5,6 +5,7 @@ use Rattle.cron_tool.specs.Answers.{Given}
 use Rattle.cron_tool.specs.Expressions.{changes_by, schedules_of}
 use Rattle.cron_tool.specs.Instants.{IsInstant}
 use Rattle.cron_tool.specs.Lateness.{SaysWhetherBy}
+use Rattle.cron_tool.specs.Statuses.{Reporting}
 use Rattle.cron_tool.specs.Subjects.{IsBegun, IsNoSubject}
 use Rattle.cron_tool.specs.Troubles.{IsTold}
 use Rattle.cron_tool.specs.declared.expression.Expression.{Expression}
@@ -29,7 +30,7 @@ IsLateTrouble g r old new (trouble.Instant word) =
 IsLateTrouble g r old new other = IsNoSubject g.reads g.places r.expression.now r.zone.now old other new
 
 -- The sentence was written, and nothing was complained of; or a complaint was written, and nothing else.
-abbrev pub AnswersLate : {F W C : Type 0} → Given F → Request → (W → Option (List ℕ)) → (C → Option (List ℕ)) → F × W × C → Status → F × W × C → Type 0
-AnswersLate g r contents complaints old status new =
-    (SaysWhen g r old.0 new.0 (contents old.1) (contents new.1) status × (new.2 ≡ old.2))
-    ⊎ ((t : Trouble) × IsLateTrouble g r old.0 new.0 t × IsTold t (complaints old.2) (complaints new.2) status × (new.1 ≡ old.1))
+abbrev pub AnswersLate : {F W C : Type 0} → Given F → Request → Reporting W → Reporting C → F × W × C → Status → F × W × C → Type 0
+AnswersLate g r out complaints old status new =
+    (out (SaysWhen g r old.0 new.0) old.1 status new.1 × (new.2 ≡ old.2))
+    ⊎ ((t : Trouble) × IsLateTrouble g r old.0 new.0 t × complaints (IsTold t) old.2 status new.2 × (new.1 ≡ old.1))

@@ -1,5 +1,5 @@
 -- What is said of stamps.
-use Rattle.std.specs.Prelude.{◌≡◌, ◌⊎◌, ◌++◌, ℕ, List, Option, codes}
+use Rattle.std.specs.Prelude.{◌⊎◌, ◌++◌, ℕ, List, Option, codes}
 use Rattle.cron_listing.specs.Output.{complaint}
 use Rattle.cron_tool.specs.Statuses.{Ends}
 use Rattle.cron_tool.specs.declared.notice.Notice.{Notice}

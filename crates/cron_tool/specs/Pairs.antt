@@ -7,7 +7,7 @@ use Rattle.cron_unions.specs.Unions.{matches_any}
 use Rattle.cron_comparing.specs.Comparisons.{IsFirstCommon, IsFirstDifference}
 use Rattle.cron_listing.specs.Output.{complaint}
 use Rattle.cron_tool.specs.Expressions.{schedules_of, IsRead, IsRefused}
-use Rattle.cron_tool.specs.Statuses.{Ends}
+use Rattle.cron_tool.specs.Statuses.{Ending, Ends, Reporting}
 use Rattle.cron_tool.specs.Troubles.{IsTold}
 use Rattle.cron_tool.specs.declared.expression.Expression.{Expression}
 use Rattle.cron_tool.specs.declared.pair.Both.{Both}
@@ -42,9 +42,9 @@ difference_text ss None = []
 difference_text ss (Some c) = iso_datetime_text (civil c) ++ side_text (matches_any ss (civil c))
 
 -- there is no difference, or there is one
-abbrev pub compared : Option ℕ → Status
-compared None = Done
-compared (Some c) = No
+abbrev pub difference_status : Option ℕ → Status
+difference_status None = Done
+difference_status (Some c) = No
 
 -- the line of the first civil second that both match, or nothing
 abbrev pub common_text : Option ℕ → List ℕ
@@ -52,9 +52,9 @@ common_text None = []
 common_text (Some c) = iso_datetime_text (civil c) ++ codes "\n"
 
 -- there is one, or there is none
-abbrev pub overlapped : Option ℕ → Status
-overlapped None = No
-overlapped (Some c) = Done
+abbrev pub common_status : Option ℕ → Status
+common_status None = No
+common_status (Some c) = Done
 
 -- the first difference of the two expressions was told
 pub record IsCompared (p : Pair) (was is : Option (List ℕ)) (status : Status) : Type 0 where
@@ -62,7 +62,7 @@ pub record IsCompared (p : Pair) (was is : Option (List ℕ)) (status : Status) 
   pub read : AreRead p both
   pub found : Option ℕ
   pub first : IsFirstDifference (schedules_of both.first) (schedules_of both.second) found
-  pub ends : Ends (compared found) (difference_text (schedules_of both.first) found) was is status
+  pub ends : Ends (difference_status found) (difference_text (schedules_of both.first) found) was is status
 
 -- the first civil second that the two expressions both match was told
 pub record IsOverlapped (p : Pair) (was is : Option (List ℕ)) (status : Status) : Type 0 where
@@ -70,18 +70,18 @@ pub record IsOverlapped (p : Pair) (was is : Option (List ℕ)) (status : Status
   pub read : AreRead p both
   pub found : Option ℕ
   pub first : IsFirstCommon (schedules_of both.first) (schedules_of both.second) found
-  pub ends : Ends (overlapped found) (common_text found) was is status
+  pub ends : Ends (common_status found) (common_text found) was is status
 
--- It was told, and nothing was complained of; or one is no expression, or memory ran out, and that was complained of.
-abbrev pub TellsOfPair : {W C : Type 0} → (Option (List ℕ) → Option (List ℕ) → Status → Type 0) → Pair → (W → Option (List ℕ)) → (C → Option (List ℕ))
-    → W × C → Status → W × C → Type 0
-TellsOfPair Told p contents complaints old status new =
-    (Told (contents old.0) (contents new.0) status × (new.1 ≡ old.1))
-    ⊎ (((t : Trouble) × IsNoPair p t × IsTold t (complaints old.1) (complaints new.1) status × (new.0 ≡ old.0))
-    ⊎ (Ends Unreadable (complaint no_memory) (complaints old.1) (complaints new.1) status × (new.0 ≡ old.0)))
+-- It was told, and nothing was complained of; or one is no expression, or memory ran out, and that was complained of. The one writer or the
+-- other was written to, and flushed.
+abbrev pub TellsOfPair : {W C : Type 0} → Ending → Pair → Reporting W → Reporting C → W × C → Status → W × C → Type 0
+TellsOfPair Told p out complaints old status new =
+    (out Told old.0 status new.0 × (new.1 ≡ old.1))
+    ⊎ (((t : Trouble) × IsNoPair p t × complaints (IsTold t) old.1 status new.1 × (new.0 ≡ old.0))
+    ⊎ (complaints (Ends Unreadable (complaint no_memory)) old.1 status new.1 × (new.0 ≡ old.0)))
 
-abbrev pub Compares : {W C : Type 0} → Pair → (W → Option (List ℕ)) → (C → Option (List ℕ)) → W × C → Status → W × C → Type 0
+abbrev pub Compares : {W C : Type 0} → Pair → Reporting W → Reporting C → W × C → Status → W × C → Type 0
 Compares p = TellsOfPair (IsCompared p) p
 
-abbrev pub Overlaps : {W C : Type 0} → Pair → (W → Option (List ℕ)) → (C → Option (List ℕ)) → W × C → Status → W × C → Type 0
+abbrev pub Overlaps : {W C : Type 0} → Pair → Reporting W → Reporting C → W × C → Status → W × C → Type 0
 Overlaps p = TellsOfPair (IsOverlapped p) p

@@ -1,5 +1,5 @@
 -- The fires that are pending: they came due, and no stamp says that they are done.
-use Rattle.std.specs.Prelude.{◌≡◌, ℕ, ℤ, pos, ◌*ℤ◌, int_le, Bool, true, false, List, [], ◌∷◌, Option, MatchOption, if◌then◌else◌}
+use Rattle.std.specs.Prelude.{◌≡◌, ℕ, ℤ, true, List, [], ◌∷◌, Option, MatchOption}
 use Rattle.std.specs.Option.{option_to_list}
 use Rattle.jiff_tz.specs.declared.timezone.TimeZone.{TimeZone}
 use Rattle.cron_units.specs.Sets.{Sets}

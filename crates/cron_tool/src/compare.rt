@@ -1,10 +1,10 @@
 //! What the words of `compare` are answered.
 
-ghost use Rattle.std.specs.Prelude.{◌≡◌, false, IfOk};
+ghost use Rattle.std.specs.Prelude.{◌≡◌, ◌||◌, false, IfOk};
 ghost use Rattle.std.specs.String.{string_bytes};
-ghost use Rattle.cron_writer.specs.Watching.{has_failed, writer_of};
-ghost use Rattle.cron_tool.specs.Pairs.{Compares, compared, difference_text};
-ghost use Rattle.cron_tool.specs.Statuses.{is_write_failure};
+ghost use Rattle.cron_writer.specs.Watching.{has_failed};
+ghost use Rattle.cron_tool.specs.Pairs.{Compares, difference_status, difference_text};
+ghost use Rattle.cron_tool.specs.Statuses.{is_write_failure, Reports};
 
 use crate::pair::{Pair, matches_second, read_both, send_text, tell_no_memory};
 use crate::status::Status;
@@ -17,8 +17,8 @@ use cron_writer::watched::Watched;
 use std::alloc::{AllocError, Global};
 
 // How the subcommand ends: whether there is no difference.
-fn compared(found: Option<u32>) -> Status
-    ensures status { result ≡ compared found }
+fn difference_status(found: Option<u32>) -> Status
+    ensures status { result ≡ difference_status found }
     ensures done { is_write_failure result ≡ false }
 {
     match found {
@@ -57,9 +57,10 @@ pub fn compare<W: Watchable, C: Watchable>(
 ) -> Status
     requires out { has_failed out.old ≡ false }
     requires complaints { has_failed complaints.old ≡ false }
-    ensures { Compares pair.now
-        (λ w. W.contents (writer_of w)) (λ w. C.contents (writer_of w))
+    ensures tells { Compares pair.now
+        (Reports W.contents W.writes W.flushes) (Reports C.contents C.writes C.flushes)
         (out.old, complaints.old) result (out.new, complaints.new) }
+    ensures mark { (has_failed out.new || has_failed complaints.new) ≡ is_write_failure result }
 {
     let both = match read_both(pair) {
         Ok(both) => both,
@@ -68,7 +69,7 @@ pub fn compare<W: Watchable, C: Watchable>(
     let union = both.first.as_slice();
     let found = first_difference(union, both.second.as_slice());
     match difference_text(alloc, union, found) {
-        Ok(text) => send_text(text.as_str(), compared(found), out),
+        Ok(text) => send_text(text.as_str(), difference_status(found), out),
         Err(_) => tell_no_memory(complaints),
     }
 }

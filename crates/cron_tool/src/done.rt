@@ -1,8 +1,10 @@
 //! What the words of `done` are answered.
 
-ghost use Rattle.std.specs.Prelude.{◌≡◌, false};
-ghost use Rattle.cron_writer.specs.Watching.{has_failed, writer_of};
+ghost use Rattle.std.specs.Prelude.{◌≡◌, false, true};
+ghost use Rattle.cron_writer.specs.Watching.{has_failed};
 ghost use Rattle.cron_tool.specs.DoneAnswers.{AnswersDone, Notes, is_before, objection};
+ghost use Rattle.cron_tool.specs.Statuses.{Reports};
+ghost use Rattle.cron_tool.specs.declared.status.Status.TheVariants.{WriteFailed};
 
 use crate::noted::{Noted, noted_at};
 use crate::notice::{Notice, say};
@@ -56,8 +58,9 @@ fn note<S: Store, C: Watchable>(
     complaints: &mut Watched<C>,
 ) -> Status
     requires { has_failed complaints.old ≡ false }
-    ensures { Notes S.does (λ w. C.contents (writer_of w)) path.now fire.now
+    ensures notes { Notes S.does (Reports C.contents C.writes C.flushes) path.now fire.now
         (store.old, complaints.old) result (store.new, complaints.new) }
+    ensures mark { has_failed complaints.new ≡ true → result ≡ WriteFailed }
 {
     match replace(alloc, path, stamp_of(fire).as_slice(), store) {
         Ok(()) => Status::Done,
@@ -79,8 +82,9 @@ pub fn answer<S: Store, C: Watchable>(
     complaints: &mut Watched<C>,
 ) -> Status
     requires { has_failed complaints.old ≡ false }
-    ensures { AnswersDone S.reads S.does (λ w. C.contents (writer_of w)) request.now
+    ensures answers { AnswersDone S.reads S.does (Reports C.contents C.writes C.flushes) request.now
         (store.old, complaints.old) result (store.new, complaints.new) }
+    ensures mark { has_failed complaints.new ≡ true → result ≡ WriteFailed }
 {
     let Ok(fire) = reader::read(request.fire) else {
         return say(alloc, Notice::NoFire, request.fire, complaints);

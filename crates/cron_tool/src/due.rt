@@ -1,9 +1,10 @@
 //! What the words of `due` are answered.
 
-ghost use Rattle.std.specs.Prelude.{◌≡◌, false};
-ghost use Rattle.cron_writer.specs.Watching.{has_failed, writer_of};
+ghost use Rattle.std.specs.Prelude.{◌≡◌, ◌||◌, false, MatchResult};
+ghost use Rattle.cron_writer.specs.Watching.{has_failed};
 ghost use Rattle.cron_tool.specs.Answers.{given};
 ghost use Rattle.cron_tool.specs.DueAnswers.{AnswersDue, FindsPending, finding_of, or_last};
+ghost use Rattle.cron_tool.specs.Statuses.{is_write_failure, Reports};
 
 use crate::noted::{Noted, noted_at};
 use crate::notice::{Notice, say};
@@ -80,8 +81,11 @@ fn pending_of<F: ZoneFiles, C: Watchable>(
     complaints: &mut Watched<C>,
 ) -> Result<Pending, Status>
     requires { has_failed complaints.old ≡ false }
-    ensures { FindsPending F.reads now.nanosecond request.now (λ w. C.contents (writer_of w))
+    ensures finds { FindsPending F.reads now.nanosecond request.now
+        (Reports C.contents C.writes C.flushes)
         (files.old, complaints.old) result (files.new, complaints.new) }
+    ensures mark { MatchResult result (λ _. has_failed complaints.new ≡ false)
+        (λ ended. has_failed complaints.new ≡ is_write_failure ended) }
 {
     let noted = noted_at(alloc, request.stamp, files);
     match finding_of(now, request.latest, &noted) {
@@ -105,9 +109,10 @@ pub fn answer<F: ZoneFiles, W: Watchable, C: Watchable>(
 ) -> Status
     requires out { has_failed out.old ≡ false }
     requires complaints { has_failed complaints.old ≡ false }
-    ensures { AnswersDue (given F.reads places.now now.nanosecond) request.now
-        (λ w. W.contents (writer_of w)) (λ w. C.contents (writer_of w))
+    ensures answers { AnswersDue (given F.reads places.now now.nanosecond) request.now
+        (Reports W.contents W.writes W.flushes) (Reports C.contents C.writes C.flushes)
         (files.old, out.old, complaints.old) result (files.new, out.new, complaints.new) }
+    ensures mark { (has_failed out.new || has_failed complaints.new) ≡ is_write_failure result }
 {
     let subject = match subject_of(alloc, request.expression, request.zone, places, files) {
         Ok(subject) => subject,

@@ -1,9 +1,10 @@
 //! What the words of `late` are answered.
 
-ghost use Rattle.std.specs.Prelude.{◌≡◌, false};
-ghost use Rattle.cron_writer.specs.Watching.{has_failed, writer_of};
+ghost use Rattle.std.specs.Prelude.{◌≡◌, ◌||◌, false};
+ghost use Rattle.cron_writer.specs.Watching.{has_failed};
 ghost use Rattle.cron_tool.specs.Answers.{given};
 ghost use Rattle.cron_tool.specs.LateAnswers.{AnswersLate};
+ghost use Rattle.cron_tool.specs.Statuses.{is_write_failure, Reports};
 
 use crate::instant::instant_of;
 use crate::lateness::{LastRun, say_whether};
@@ -46,9 +47,10 @@ pub fn answer<F: ZoneFiles, W: Watchable, C: Watchable>(
 ) -> Status
     requires out { has_failed out.old ≡ false }
     requires complaints { has_failed complaints.old ≡ false }
-    ensures { AnswersLate (given F.reads places.now now.nanosecond) request.now
-        (λ w. W.contents (writer_of w)) (λ w. C.contents (writer_of w))
+    ensures answers { AnswersLate (given F.reads places.now now.nanosecond) request.now
+        (Reports W.contents W.writes W.flushes) (Reports C.contents C.writes C.flushes)
         (files.old, out.old, complaints.old) result (files.new, out.new, complaints.new) }
+    ensures mark { (has_failed out.new || has_failed complaints.new) ≡ is_write_failure result }
 {
     let subject = match subject_of(alloc, request.expression, request.zone, places, files) {
         Ok(subject) => subject,

@@ -1,10 +1,10 @@
 //! What the words of `overlap` are answered.
 
-ghost use Rattle.std.specs.Prelude.{◌≡◌, false, IfOk};
+ghost use Rattle.std.specs.Prelude.{◌≡◌, ◌||◌, false, IfOk};
 ghost use Rattle.std.specs.String.{string_bytes};
-ghost use Rattle.cron_writer.specs.Watching.{has_failed, writer_of};
-ghost use Rattle.cron_tool.specs.Pairs.{Overlaps, common_text, overlapped};
-ghost use Rattle.cron_tool.specs.Statuses.{is_write_failure};
+ghost use Rattle.cron_writer.specs.Watching.{has_failed};
+ghost use Rattle.cron_tool.specs.Pairs.{Overlaps, common_status, common_text};
+ghost use Rattle.cron_tool.specs.Statuses.{is_write_failure, Reports};
 
 use crate::pair::{Pair, read_both, send_text, tell_no_memory};
 use crate::status::Status;
@@ -16,8 +16,8 @@ use cron_writer::watched::Watched;
 use std::alloc::{AllocError, Global};
 
 // How the subcommand ends: whether there is one that both match.
-fn overlapped(found: Option<u32>) -> Status
-    ensures status { result ≡ overlapped found }
+fn common_status(found: Option<u32>) -> Status
+    ensures status { result ≡ common_status found }
     ensures done { is_write_failure result ≡ false }
 {
     match found {
@@ -47,9 +47,10 @@ pub fn overlap<W: Watchable, C: Watchable>(
 ) -> Status
     requires out { has_failed out.old ≡ false }
     requires complaints { has_failed complaints.old ≡ false }
-    ensures { Overlaps pair.now
-        (λ w. W.contents (writer_of w)) (λ w. C.contents (writer_of w))
+    ensures tells { Overlaps pair.now
+        (Reports W.contents W.writes W.flushes) (Reports C.contents C.writes C.flushes)
         (out.old, complaints.old) result (out.new, complaints.new) }
+    ensures mark { (has_failed out.new || has_failed complaints.new) ≡ is_write_failure result }
 {
     let both = match read_both(pair) {
         Ok(both) => both,
@@ -57,7 +58,7 @@ pub fn overlap<W: Watchable, C: Watchable>(
     };
     let found = first_common(both.first.as_slice(), both.second.as_slice());
     match common_text(alloc, found) {
-        Ok(text) => send_text(text.as_str(), overlapped(found), out),
+        Ok(text) => send_text(text.as_str(), common_status(found), out),
         Err(_) => tell_no_memory(complaints),
     }
 }

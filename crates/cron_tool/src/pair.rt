@@ -4,6 +4,7 @@ ghost use Rattle.std.specs.Prelude.{◌≡◌, false, MatchResult};
 ghost use Rattle.cron_listing.specs.Output.{complaint};
 ghost use Rattle.cron_moments.specs.Civil.{civil};
 ghost use Rattle.cron_unions.specs.Unions.{matches_any};
+ghost use Rattle.cron_writer.specs.Calls.{AreWritesFlushed};
 ghost use Rattle.cron_writer.specs.Watching.{has_failed, writer_of};
 ghost use Rattle.cron_tool.specs.Pairs.{AreRead, IsNoPair, no_memory};
 ghost use Rattle.cron_tool.specs.Statuses.{Ends, is_write_failure};
@@ -60,8 +61,11 @@ pub(crate) fn matches_second(union: &[ScheduleFields], second: u32) -> bool
 pub(crate) fn send_text<W: Watchable>(text: &str, done: Status, out: &mut Watched<W>) -> Status
     requires out { has_failed out.old ≡ false }
     requires done { is_write_failure done ≡ false }
-    ensures { Ends done text.now
+    ensures ends { Ends done text.now
         (W.contents (writer_of out.old)) (W.contents (writer_of out.new)) result }
+    ensures mark { has_failed out.new ≡ is_write_failure result }
+    ensures calls { AreWritesFlushed W.writes W.flushes
+        (writer_of out.old) (has_failed out.old) (writer_of out.new) (has_failed out.new) }
 {
     send(out, text.as_bytes());
     finish(out, done)
@@ -70,8 +74,11 @@ pub(crate) fn send_text<W: Watchable>(text: &str, done: Status, out: &mut Watche
 /// Says that memory ran out, and flushes. No call of the writer may have failed before.
 pub(crate) fn tell_no_memory<W: Watchable>(out: &mut Watched<W>) -> Status
     requires { has_failed out.old ≡ false }
-    ensures { Ends Unreadable (complaint no_memory)
+    ensures ends { Ends Unreadable (complaint no_memory)
         (W.contents (writer_of out.old)) (W.contents (writer_of out.new)) result }
+    ensures mark { has_failed out.new ≡ is_write_failure result }
+    ensures calls { AreWritesFlushed W.writes W.flushes
+        (writer_of out.old) (has_failed out.old) (writer_of out.new) (has_failed out.new) }
 {
     send_text("error: out of memory\n", Status::Unreadable, out)
 }

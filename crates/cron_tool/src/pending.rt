@@ -13,9 +13,11 @@ ghost use Rattle.cron_moments.specs.MomentText.{moment_text};
 ghost use Rattle.cron_moments.specs.Readings as moments;
 ghost use Rattle.cron_unions.specs.FirstOfAny.{IsItemOfAny};
 ghost use Rattle.cron_unions.specs.UnionDues.{IsDueOfAny};
+ghost use Rattle.cron_writer.specs.Calls.{AreWritesFlushed};
 ghost use Rattle.cron_writer.specs.Watching.{has_failed, writer_of};
 ghost use Rattle.cron_tool.specs.Expressions.{changes_by, schedules_of};
 ghost use Rattle.cron_tool.specs.Pendings.{IsHead, ListsFires, ListsPending};
+ghost use Rattle.cron_tool.specs.Statuses.{is_write_failure};
 ghost use Rattle.cron_fires.specs.declared.changes.ClockChanges.TheVariants.{AsShown, Once};
 
 use crate::expression::Expression;
@@ -57,8 +59,11 @@ fn shown_of(fire: &DueFire) -> Moment
 // Lists one fire, or none.
 fn list_one<F: Told, W: Watchable>(fire: Option<F>, form: Form, out: &mut Watched<W>) -> Status
     requires { has_failed out.old ≡ false }
-    ensures { ListsFires form F.text F.second (option_to_list fire)
+    ensures lists { ListsFires form F.text F.second (option_to_list fire)
         (W.contents (writer_of out.old)) (W.contents (writer_of out.new)) result }
+    ensures mark { has_failed out.new ≡ is_write_failure result }
+    ensures calls { AreWritesFlushed W.writes W.flushes
+        (writer_of out.old) (has_failed out.old) (writer_of out.new) (has_failed out.new) }
 {
     match &fire {
         Some(fire) => {
@@ -78,8 +83,11 @@ fn list_left<F: Told, L: Left<F>, W: Watchable>(
 ) -> Status
     requires head { IsHead first (L.left left.old) }
     requires fresh { has_failed out.old ≡ false }
-    ensures { ListsFires form F.text F.second (L.left left.old)
+    ensures lists { ListsFires form F.text F.second (L.left left.old)
         (W.contents (writer_of out.old)) (W.contents (writer_of out.new)) result }
+    ensures mark { has_failed out.new ≡ is_write_failure result }
+    ensures calls { AreWritesFlushed W.writes W.flushes
+        (writer_of out.old) (has_failed out.old) (writer_of out.new) (has_failed out.new) }
 {
     let done = match first {
         Some(_) => Status::Done,
@@ -136,9 +144,12 @@ fn list_moments<W: Watchable>(
 ) -> Status
     requires few { length schedules.now ≤ 12 }
     requires fresh { has_failed out.old ≡ false }
-    ensures { ListsPending AsShown form schedules.now (plain_zone zone.now)
+    ensures lists { ListsPending AsShown form schedules.now (plain_zone zone.now)
         now.nanosecond pending.now
         (W.contents (writer_of out.old)) (W.contents (writer_of out.new)) result }
+    ensures mark { has_failed out.new ≡ is_write_failure result }
+    ensures calls { AreWritesFlushed W.writes W.flushes
+        (writer_of out.old) (has_failed out.old) (writer_of out.new) (has_failed out.new) }
 {
     match pending {
         Pending::Last => list_one(instants::last_by(schedules, now, zone), form, out),
@@ -166,9 +177,12 @@ fn list_dues<W: Watchable>(
     out: &mut Watched<W>,
 ) -> Status
     requires { has_failed out.old ≡ false }
-    ensures { ListsPending Once form schedules.now (plain_zone zone.now)
+    ensures lists { ListsPending Once form schedules.now (plain_zone zone.now)
         now.nanosecond pending.now
         (W.contents (writer_of out.old)) (W.contents (writer_of out.new)) result }
+    ensures mark { has_failed out.new ≡ is_write_failure result }
+    ensures calls { AreWritesFlushed W.writes W.flushes
+        (writer_of out.old) (has_failed out.old) (writer_of out.new) (has_failed out.new) }
 {
     match pending {
         Pending::Last => list_one(dues::last_by(schedules, now, zone), form, out),
@@ -195,9 +209,12 @@ pub fn list_pending<W: Watchable>(
     out: &mut Watched<W>,
 ) -> Status
     requires { has_failed out.old ≡ false }
-    ensures { ListsPending (changes_by chosen expression.now) form
+    ensures lists { ListsPending (changes_by chosen expression.now) form
         (schedules_of expression.now) (plain_zone zone.now) now.nanosecond pending.now
         (W.contents (writer_of out.old)) (W.contents (writer_of out.new)) result }
+    ensures mark { has_failed out.new ≡ is_write_failure result }
+    ensures calls { AreWritesFlushed W.writes W.flushes
+        (writer_of out.old) (has_failed out.old) (writer_of out.new) (has_failed out.new) }
 {
     let schedules = expression.as_slice();
     match expression.changes(chosen) {

@@ -3,36 +3,40 @@ use Rattle.jiff.specs.Words.{plain_zone}
 use Rattle.cron_tool.specs.declared.trouble.Trouble.TheVariants as trouble
 use Rattle.cron_tool.proofs.answer.answer.Goals as goal
 
-pub returns-in-Err : goal.returns-in-Err
-returns-in-Err g c =
-    inr (trouble.Expression c.args.request.now.expression c.in-Err.refusal, (refl, c.in-Err.ensures, refl), c.tell.ensures.told, refl)
+pub returns-in-Err-clause-answers : goal.returns-in-Err-clause-answers
+returns-in-Err-clause-answers g c =
+    inr (trouble.Expression c.args.request.now.expression c.in-Err.refusal, (refl, c.in-Err.ensures, refl), (c.tell.ensures.told, c.tell.ensures.mark, c.tell.ensures.calls), refl)
 
-pub returns-in-Err-open : goal.returns-in-Err-open
-returns-in-Err-open g c =
+pub returns-in-Err-open-clause-answers : goal.returns-in-Err-open-clause-answers
+returns-in-Err-open-clause-answers g c =
     inr (
       trouble.Zone c.args.request.now.zone c.in-Err-open.error,
       (refl, (c.in-Ok.expression, c.in-Ok.ensures), c.in-Err-open.ensures),
-      c.tell-in-Err-open.ensures.told,
+      (c.tell-in-Err-open.ensures.told, c.tell-in-Err-open.ensures.mark, c.tell-in-Err-open.ensures.calls),
       refl,
     )
 
-pub returns-in-Ok-asked_of : goal.returns-in-Ok-asked_of
-returns-in-Ok-asked_of g c =
+pub returns-in-Ok-asked_of-clause-answers : goal.returns-in-Ok-asked_of-clause-answers
+returns-in-Ok-asked_of-clause-answers g c =
     inl (
-      record {
-        expression = c.in-Ok.expression;
-        reads = c.in-Ok.ensures;
-        zone = plain_zone c.time_zone-zone.result;
-        opened = record { zone = c.in-Ok-open.opened; opened = c.in-Ok-open.ensures; is_time_zone = c.time_zone-zone.ensures };
-        asked = c.in-Ok-asked_of.asked;
-        asks = c.in-Ok-asked_of.ensures;
-        listed = c.list.ensures.lists;
-      },
+      (
+        record {
+          expression = c.in-Ok.expression;
+          reads = c.in-Ok.ensures;
+          zone = plain_zone c.time_zone-zone.result;
+          opened = record { zone = c.in-Ok-open.opened; opened = c.in-Ok-open.ensures; is_time_zone = c.time_zone-zone.ensures };
+          asked = c.in-Ok-asked_of.asked;
+          asks = c.in-Ok-asked_of.ensures;
+          listed = c.list.ensures.lists;
+        },
+        c.list.ensures.mark,
+        c.list.ensures.calls,
+      ),
       refl,
     )
 
-pub returns : goal.returns
-returns g c =
+pub returns-clause-answers : goal.returns-clause-answers
+returns-clause-answers g c =
     inr (
       trouble.Instant c.in-Err-asked_of.word,
       (
@@ -43,6 +47,6 @@ returns g c =
           c.in-Err-asked_of.ensures,
         ),
       ),
-      c.tell-in-Err-asked_of.ensures.told,
+      (c.tell-in-Err-asked_of.ensures.told, c.tell-in-Err-asked_of.ensures.mark, c.tell-in-Err-asked_of.ensures.calls),
       refl,
     )

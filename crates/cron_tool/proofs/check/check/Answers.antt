@@ -1,4 +1,4 @@
-use Rattle.std.proofs.Common.{◌≡◌, ℕ, List, [], sym, ◌∙◌, subst}
+use Rattle.std.proofs.Common.{ℕ, List, [], sym, ◌∙◌, subst}
 use Rattle.cron_writer.specs.Watching.{has_failed, writer_of, IsGathered}
 use Rattle.cron_writer.proofs.Calling.{handed_on, writes_on}
 use Rattle.cron_writer.proofs.Gathering.{nothing_gathered}

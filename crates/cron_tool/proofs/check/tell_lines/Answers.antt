@@ -1,7 +1,5 @@
-use Rattle.std.proofs.Common.{◌≡◌, ◌++◌, ◌∷◌, [], List, refl, sym, ap, ◌∙◌, subst, append_assoc}
-use Rattle.cron_checking.specs.Puts.{Puts}
-use Rattle.cron_checking.proofs.Putting.{nothing_put, put_on}
-use Rattle.cron_tab_lines.specs.Files.{FileLine}
+use Rattle.std.proofs.Common.{◌++◌, ◌∷◌, [], sym, ◌∙◌, subst}
+use Rattle.cron_checking.proofs.Putting.{put_on}
 use Rattle.cron_tab_lines.specs.Views.{file_line_view}
 use Rattle.cron_writer.proofs.Sending.{both_ways}
 use Rattle.cron_tool.specs.Checks.{TellsLine}

@@ -1,4 +1,4 @@
-use Rattle.std.proofs.Common.{◌≡◌, true, ap, sym, ◌∙◌}
+use Rattle.std.proofs.Common.{ap, ◌∙◌}
 use Rattle.cron_writer.proofs.Sending.{both_ways}
 use Rattle.std.specs.String.{string_bytes}
 use Rattle.cron_crontab.specs.Views.{expression_view}

@@ -1,4 +1,3 @@
-use Rattle.std.proofs.Common.{◌≡◌, true}
 use Rattle.std.specs.String.{string_bytes}
 use Rattle.cron_crontab.specs.Views.{expression_view}
 use Rattle.cron_tab_warnings.specs.Messages.{warning_text}

@@ -3,8 +3,8 @@ use Rattle.jiff.specs.Words.{plain_zone}
 use Rattle.cron_tool.specs.declared.trouble.Trouble.TheVariants as trouble
 use Rattle.cron_tool.proofs.late.answer.Goals as goal
 
-pub returns-in_default : goal.returns-in_default
-returns-in_default g c =
+pub returns-in_default-clause-answers : goal.returns-in_default-clause-answers
+returns-in_default-clause-answers g c =
     inr (
       trouble.Instant c.args.request.now.last,
       (
@@ -16,6 +16,6 @@ returns-in_default g c =
           c.in_default.ensures,
         ),
       ),
-      c.tell-in_default.ensures.told,
+      (c.tell-in_default.ensures.told, c.tell-in_default.ensures.mark, c.tell-in_default.ensures.calls),
       refl,
     )

@@ -1,4 +1,3 @@
-use Rattle.std.proofs.Common.{sym}
 use Rattle.jiff.specs.Words.{plain_zone}
 use Rattle.cron_dues.specs.Due as dues
 use Rattle.cron_moments.specs.Readings as moments

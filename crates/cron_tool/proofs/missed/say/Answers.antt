@@ -1,4 +1,4 @@
-use Rattle.std.proofs.Common.{[], sym, ◌∙◌}
+use Rattle.std.proofs.Common.{[], ◌∙◌}
 use Rattle.cron_writer.proofs.Sending.{nothing_sent}
 use Rattle.cron_tool.proofs.missed.say.Goals as goal
 
