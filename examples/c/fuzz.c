@@ -253,11 +253,26 @@ static void walks(const cron_c_schedule *schedule, const cron_c_zone *zone, int6
     LAW(cron_c_next(schedule, zone, &item) != CRON_C_BAD_ZONE);
 }
 
+/* A text is read into schedules, or refused, by the readers of crontabs and of Quartz. */
+static void several(const char *text, size_t length, char *message, size_t room)
+{
+    static unsigned char *end;
+    cron_c_schedule *schedules = before_edge(&end, CRON_C_QUARTZ_SCHEDULES * sizeof *schedules);
+    size_t needed = 7, count = 99;
+    uint32_t status = cron_c_crontab_parse(text, length, schedules + CRON_C_QUARTZ_SCHEDULES - 2, 2, &count, message, room, &needed);
+    LAW(status == CRON_C_OK ? count <= 2 : count == 0 && (status == CRON_C_REFUSED || status == CRON_C_NOT_UTF8));
+    LAW((needed > 0) == (status == CRON_C_REFUSED) && needed < CRON_C_MESSAGE(length));
+    status = cron_c_quartz_parse(text, length, schedules, CRON_C_QUARTZ_SCHEDULES, &count, message, room, &needed);
+    LAW(status == CRON_C_OK ? count > 0 && count <= CRON_C_QUARTZ_SCHEDULES : count == 0 && (status == CRON_C_REFUSED || status == CRON_C_NOT_UTF8));
+    LAW((needed > 0) == (status == CRON_C_REFUSED) && needed < CRON_C_MESSAGE(length));
+}
+
 /* Random bytes, or a text with a byte changed, are read without a byte past their end. */
 static void texts(void)
 {
-    static const char letters[] = "0123456789*?,-/ LMonJanuary@dailySat\xff";
-    const char *good = "0 30 9,12,15 1,15,L May-Aug Mon,Wed,Fri 2018/2";
+    static const char letters[] = "0123456789*?,-/ LMonJanuary@dailySatW#\xff";
+    static const char *const goods[] = {"0 30 9,12,15 1,15,L May-Aug Mon,Wed,Fri 2018/2", "0 30 9 L-3W May-Aug ? 2018", "30 9-12/2 13 * fri"};
+    const char *good = goods[chance(3)];
     const size_t length = chance(60), room = chance(90);
     static unsigned char *text_end, *message_end;
     char *text = before_edge(&text_end, length), *message = before_edge(&message_end, room);
@@ -273,6 +288,7 @@ static void texts(void)
     LAW((needed > 0) == (status == CRON_C_REFUSED) && needed < CRON_C_MESSAGE(length));
     status = cron_c_zone_parse(text, length, &zone);
     LAW(status == CRON_C_OK || status == CRON_C_BAD_ZONE);
+    several(text, length, message, room);
 }
 
 /* The bytes of a zone file with some of them changed are eras, or refused. */

@@ -33,6 +33,12 @@ impl Crontab {
         &self.source
     }
 
+    /// Returns the canonical text of each schedule that the expression means, as
+    /// [`Schedule`](crate::Schedule) reads them: one, or two of which one suffices, or none.
+    pub fn canonical(&self) -> Vec<String> {
+        self.schedules.iter().map(ffi::canonical).collect()
+    }
+
     pub(crate) fn schedules(&self) -> &[Sets] {
         &self.schedules
     }

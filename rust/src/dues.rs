@@ -19,6 +19,7 @@ use crate::crontab::Crontab;
 use crate::ffi::{self, Era, Item, Sets};
 use crate::fires::moment_of;
 use crate::schedule::Schedule;
+use crate::unions::Union;
 use crate::zone::Zone;
 use chrono::{DateTime, Duration, FixedOffset, NaiveDateTime, TimeZone, Utc};
 use std::iter;
@@ -32,8 +33,8 @@ pub struct Due {
     pub nominal: NaiveDateTime,
 }
 
-/// The due fires of a schedule or a crontab's expression in a zone. A part of a second of an
-/// instant is cut.
+/// The due fires of a schedule, a crontab's expression or a union in a zone. A part of a second of
+/// an instant is cut.
 #[derive(Clone, Copy, Debug)]
 pub struct Dues<'a> {
     schedules: &'a [Sets],
@@ -51,6 +52,16 @@ impl Schedule {
 }
 
 impl Crontab {
+    /// Returns the due fires in a zone.
+    pub fn dues<'a>(&'a self, zone: &'a Zone) -> Dues<'a> {
+        Dues {
+            schedules: self.schedules(),
+            eras: zone.eras(),
+        }
+    }
+}
+
+impl Union {
     /// Returns the due fires in a zone.
     pub fn dues<'a>(&'a self, zone: &'a Zone) -> Dues<'a> {
         Dues {

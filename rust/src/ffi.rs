@@ -19,6 +19,9 @@ const NO_MEMORY: u32 = 9;
 const LEAST_INSTANT: i64 = -377_705_023_201;
 const GREATEST_INSTANT: i64 = 253_402_207_200;
 
+/// The bytes that hold the canonical text of any schedule, as `CRON_C_SCHEDULE_TEXT` has it.
+const SCHEDULE_TEXT: usize = 1245;
+
 /// The civil seconds of the years 1970 to 2100, which alone can match.
 pub(crate) const CIVIL_SECONDS: Range<i64> = 0..4_133_980_800;
 
@@ -141,6 +144,12 @@ extern "C" {
         message_length: usize,
         message_needed: *mut usize,
     ) -> u32;
+    fn cron_c_canonical(
+        schedule: *const Sets,
+        text: *mut u8,
+        text_length: usize,
+        text_needed: *mut usize,
+    ) -> u32;
     fn cron_c_zone_parse(text: *const u8, text_length: usize, zone: *mut Rule) -> u32;
     fn cron_c_history_read(
         bytes: *const u8,
@@ -224,8 +233,8 @@ fn expect_version() {
     // SAFETY: the call takes no pointer.
     let version = unsafe { cron_c_version() };
     assert!(
-        (10_500..20_000).contains(&version),
-        "libcron_c.a has version {version}, and this package is for 10500 up to 19999"
+        (10_600..20_000).contains(&version),
+        "libcron_c.a has version {version}, and this package is for 10600 up to 19999"
     );
 }
 
@@ -281,6 +290,17 @@ pub(crate) fn parse_crontab(text: &str) -> Result<Vec<Sets>, Error> {
         }
     })?;
     Ok(sets[..count].to_vec())
+}
+
+/// Returns the canonical text of sets that a text means.
+pub(crate) fn canonical(sets: &Sets) -> String {
+    let mut text = vec![0; SCHEDULE_TEXT];
+    let mut needed = 0;
+    // SAFETY: as at the head of this file.
+    let status = unsafe { cron_c_canonical(sets, text.as_mut_ptr(), text.len(), &mut needed) };
+    assert_eq!(status, OK, "these sets were read of a text");
+    text.truncate(needed);
+    String::from_utf8(text).expect("a canonical text is ASCII")
 }
 
 /// Calls a reader of texts, and where it refuses the text once more, with room for the message.

@@ -19,12 +19,13 @@
 use crate::crontab::Crontab;
 use crate::ffi::{self, Era, Item, Sets};
 use crate::schedule::Schedule;
+use crate::unions::Union;
 use crate::zone::Zone;
 use chrono::{DateTime, FixedOffset, TimeZone};
 use std::iter;
 
-/// The fires of a schedule or a crontab's expression in a zone. A part of a second of an instant is
-/// cut.
+/// The fires of a schedule, a crontab's expression or a union in a zone. A part of a second of an
+/// instant is cut.
 #[derive(Clone, Copy, Debug)]
 pub struct Fires<'a> {
     schedules: &'a [Sets],
@@ -42,6 +43,16 @@ impl Schedule {
 }
 
 impl Crontab {
+    /// Returns the fires in a zone.
+    pub fn fires<'a>(&'a self, zone: &'a Zone) -> Fires<'a> {
+        Fires {
+            schedules: self.schedules(),
+            eras: zone.eras(),
+        }
+    }
+}
+
+impl Union {
     /// Returns the fires in a zone.
     pub fn fires<'a>(&'a self, zone: &'a Zone) -> Fires<'a> {
         Fires {

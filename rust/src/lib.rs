@@ -24,6 +24,7 @@
 //! ```
 //! use chrono::{TimeZone, Utc};
 //! use cron::crontab::Crontab;
+//! use cron::unions::Union;
 //! use cron::zone::Zone;
 //! use cron::Schedule;
 //!
@@ -38,18 +39,19 @@
 //! assert_eq!(fires.between(&last, &now).count(), 2); // what was missed
 //! let _ = schedule.dues(&chicago).after(&now); // each match once
 //! let _ = "30 9 * * mon-fri".parse::<Crontab>()?.fires(&chicago).after(&now); // five fields
+//! let _ = [&schedule, &schedule].into_iter().collect::<Union>().fires(&chicago); // several as one
 //! # Ok::<(), Box<dyn std::error::Error>>(())
 //! ```
 //!
 //! Texts, sets, messages, civil matches, fires and due fires are those of the proved library. That
 //! walks ask a zone rightly, and that structs are laid out as in C, is tested. See [`fires`],
-//! [`dues`], [`crontab`] and [`zone`]. With the feature `serde` a schedule is the string of its
+//! [`dues`], [`crontab`], [`unions`] and [`zone`]. With the feature `serde` a schedule is the string of its
 //! text.
 //!
 //! # Panics
 //!
 //! Reading a text or a zone panics where the archive that was linked isn't of a version that this
-//! package knows (1.5.0 or later, before 2.0.0). Nothing else panics.
+//! package knows (1.6.0 or later, before 2.0.0). Nothing else panics.
 #![deny(unsafe_code)]
 #![deny(rust_2018_idioms)]
 #![warn(missing_docs)]
@@ -64,6 +66,7 @@ mod schedule;
 #[cfg(feature = "serde")]
 mod serde_support;
 mod time_unit;
+pub mod unions;
 mod walk;
 pub mod zone;
 

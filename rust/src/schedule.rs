@@ -136,6 +136,19 @@ impl Schedule {
     pub fn source(&self) -> &str {
         &self.source
     }
+
+    /// Returns the canonical text: seven fields, each a star or its runs of numbers as `0-4,30`, with
+    /// `L` last among the days of the month. It means the same sets, and two schedules have one
+    /// canonical text exactly where [`timeunitspec_eq`](Schedule::timeunitspec_eq) is true.
+    ///
+    /// ```
+    /// let schedule: cron::Schedule = "0 */30 9 ? Jan-Mar Mon-Fri".parse()?;
+    /// assert_eq!(schedule.canonical(), "0 0,30 9 * 1-3 2-6 *");
+    /// # Ok::<(), cron::error::Error>(())
+    /// ```
+    pub fn canonical(&self) -> String {
+        ffi::canonical(&self.sets)
+    }
 }
 
 fn now_in<Z: TimeZone>(zone: &Z) -> DateTime<Z> {

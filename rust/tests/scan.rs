@@ -1,10 +1,15 @@
-//! Walks against a scan: each civil second of some days, whether it lies in the sets, and how the
-//! zone reads it.
+//! Walks and unions against a scan: each civil second of some days, or each instant, whether what
+//! the clock shows lies in the sets, and how the zone reads it.
 
 use chrono::{
-    DateTime, Datelike, Duration, LocalResult, NaiveDate, NaiveDateTime, TimeZone, Timelike,
+    DateTime, Datelike, Duration, FixedOffset, LocalResult, NaiveDate, NaiveDateTime, Offset,
+    TimeZone, Timelike,
 };
 use chrono_tz::Tz;
+use cron::crontab::Crontab;
+use cron::dues::Due;
+use cron::unions::Union;
+use cron::zone::Zone;
 use cron::{Schedule, TimeUnitSpec};
 use std::str::FromStr;
 
@@ -38,7 +43,7 @@ impl Numbers {
         match self.below(4) {
             0 => "*".to_string(),
             1 => self.below(greatest).to_string(),
-            2 => format!("*/{}", 1 + self.below(greatest)),
+            2 => format!("*/{}", 1 + self.below(greatest - 1)),
             _ => format!("{},{}", self.below(greatest), self.below(greatest)),
         }
     }
@@ -149,4 +154,127 @@ fn turn_about(
         assert_eq!(answer.as_ref(), Some(&items[next]), "{schedule}");
         at = Some(next);
     }
+}
+
+/// Places with the rules that they had in these years, and a day of a transition there.
+const RULES: [(&str, &str, (i32, u32, u32)); 5] = [
+    ("America/Chicago", "CST6CDT,M3.2.0,M11.1.0", (2022, 11, 6)),
+    ("America/Chicago", "CST6CDT,M3.2.0,M11.1.0", (2022, 3, 13)),
+    ("Europe/London", "GMT0BST,M3.5.0/1,M10.5.0", (2019, 10, 27)),
+    (
+        "Australia/Lord_Howe",
+        "<+1030>-10:30<+11>-11,M10.1.0,M4.1.0",
+        (2019, 4, 7),
+    ),
+    (
+        "Australia/Lord_Howe",
+        "<+1030>-10:30<+11>-11,M10.1.0,M4.1.0",
+        (2019, 10, 6),
+    ),
+];
+
+/// What a union is made of: schedules, and a crontab's minute, hour, day and day of the week, from 0
+/// for Sunday, of which one kind of day suffices.
+struct Parts {
+    schedules: Vec<Schedule>,
+    crontab: [u32; 4],
+}
+
+impl Parts {
+    fn random(numbers: &mut Numbers, day: u32) -> Parts {
+        let schedules = (0..2).map(|_| Schedule::from_str(&numbers.text()).unwrap());
+        Parts {
+            schedules: schedules.collect(),
+            crontab: [
+                numbers.below(60) as u32,
+                numbers.below(4) as u32,
+                day,
+                numbers.below(7) as u32,
+            ],
+        }
+    }
+
+    fn union(&self) -> Union {
+        let [minute, hour, day, weekday] = self.crontab;
+        let text = format!("{minute},59 {hour} {day} * {weekday}");
+        let mut union: Union = self.schedules.iter().collect();
+        union.extend([&Crontab::from_str(&text).unwrap()]);
+        union
+    }
+
+    fn has(&self, clock: &NaiveDateTime) -> bool {
+        let [minute, hour, day, weekday] = self.crontab;
+        self.schedules.iter().any(|it| is_in_sets(it, clock))
+            || clock.second() == 0
+                && (clock.minute() == minute || clock.minute() == 59)
+                && clock.hour() == hour
+                && (clock.day() == day || clock.weekday().num_days_from_sunday() == weekday)
+    }
+}
+
+/// Returns the fires and the due fires after one instant and up to another, by looking at each
+/// instant. The clock shows no second twice just before the first one.
+fn scan_instants(
+    parts: &Parts,
+    zone: Tz,
+    start: i64,
+    end: i64,
+) -> (Vec<DateTime<FixedOffset>>, Vec<Due>) {
+    let (mut fires, mut dues) = (Vec::new(), Vec::new());
+    let shown = |instant: i64| {
+        let moment = zone.timestamp_opt(instant, 0).unwrap();
+        moment.with_timezone(&moment.offset().fix())
+    };
+    let mut latest = shown(start).naive_local();
+    for instant in start + 1..=end {
+        let moment = shown(instant);
+        if parts.has(&moment.naive_local()) {
+            fires.push(moment);
+        }
+        while latest < moment.naive_local() {
+            latest += Duration::seconds(1);
+            if parts.has(&latest) {
+                dues.push(Due {
+                    moment,
+                    nominal: latest,
+                });
+            }
+        }
+    }
+    (fires, dues)
+}
+
+#[test]
+fn unions_are_the_scan_by_both_rules() {
+    let mut numbers = Numbers(28_112_026);
+    let mut seen = 0;
+    for (place, rule, (year, month, day)) in RULES {
+        let (tz, zone) = (Tz::from_str(place).unwrap(), Zone::rule(rule).unwrap());
+        let date = NaiveDate::from_ymd_opt(year, month, day).unwrap();
+        let noon = tz.from_local_datetime(&date.and_hms_opt(12, 0, 0).unwrap());
+        let end = noon.single().unwrap();
+        let start = end - Duration::hours(20);
+        for _ in 0..4 {
+            let parts = Parts::random(&mut numbers, day);
+            let union = parts.union();
+            let (fires, dues) = scan_instants(&parts, tz, start.timestamp(), end.timestamp());
+            seen += fires.len() + dues.len();
+            let (by_instants, once) = (union.fires(&zone), union.dues(&zone));
+            let told = by_instants.between(&start, &end).map(|it| it.to_rfc3339());
+            assert!(told.eq(fires.iter().map(|it| it.to_rfc3339())));
+            assert!(once.between(&start, &end).eq(dues.iter().copied()));
+            assert_eq!(by_instants.after(&start).as_ref(), fires.first());
+            assert_eq!(by_instants.by(&end).as_ref(), fires.last());
+            assert_eq!(once.after(&start).as_ref(), dues.first());
+            assert_eq!(once.by(&end).as_ref(), dues.last());
+        }
+    }
+    assert!(seen > 1_000, "{seen} fires");
+}
+
+#[test]
+fn union_of_no_schedules_never_fires() {
+    let (start, zone) = (DateTime::<chrono::Utc>::MIN_UTC, Zone::utc());
+    assert_eq!(Union::new().fires(&zone).after(&start), None);
+    assert_eq!(Union::new().dues(&zone).after(&start), None);
 }

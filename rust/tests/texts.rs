@@ -69,6 +69,7 @@ fn texts_mean_what_their_rows_say() {
                         assert_eq!(schedule.source(), text);
                         assert_eq!(schedule.to_string(), text);
                         let meaning = meaning_of(&schedule);
+                        assert_eq!(schedule.canonical(), meaning, "{row}");
                         assert_eq!(String::from(schedule), text);
                         meaning
                     }

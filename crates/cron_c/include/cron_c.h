@@ -171,6 +171,19 @@ uint32_t cron_c_crontab_parse(const char *text, size_t text_length,
                               cron_c_schedule *schedules, size_t schedules_length, size_t *count,
                               char *message, size_t message_length, size_t *message_needed);
 
+/* As many schedules as an expression of Quartz may be. */
+#define CRON_C_QUARTZ_SCHEDULES 12
+
+/*
+ * Reads an expression of Quartz alike: six fields or seven with years, as `0 0 12 L-3 * ?` or
+ * `0 0 12 ? * 6#3`. Seconds come first, Sunday is 1, and `?` stands for exactly one kind of day. Its
+ * forms of days are several schedules, up to three for each length of a month, of which some may never
+ * fire. What Quartz reads and doesn't heed is refused, as `MON-FRI/2`, and so is what it refuses.
+ */
+uint32_t cron_c_quartz_parse(const char *text, size_t text_length,
+                             cron_c_schedule *schedules, size_t schedules_length, size_t *count,
+                             char *message, size_t message_length, size_t *message_needed);
+
 /*
  * Reads a line of a crontab, without its line feed, into the schedules of its entry, as
  * `cron_c_crontab_parse` reads an expression. With `is_system` 0 the crontab is a user's own; with any

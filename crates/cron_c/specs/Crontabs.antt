@@ -1,9 +1,11 @@
--- Expressions of a crontab, as schedules.
+-- Expressions of crontabs and of Quartz, as schedules.
 use Rattle.std.specs.Prelude.{◌≡◌, ◌<◌, ℕ, List, [], length}
 use Rattle.std.specs.Str.{IsUtf8}
 use Rattle.cron_units.specs.Sets.{Sets}
 use Rattle.cron_crontab.specs.Crontab.{Meaning, Means, Refuses, schedules, reboot}
-use Rattle.cron_crontab.specs.Refusals.{Fault, fault_text}
+use Rattle.cron_crontab.specs.Refusals.{fault_text}
+use Rattle.cron_quartz.specs.Quartz as quartz
+use Rattle.cron_quartz.specs.Refusals as quartz_refusals
 use Rattle.cron_c.specs.Arrays.{IsWhole}
 use Rattle.cron_c.specs.Buffers.{laid_over}
 use Rattle.cron_c.specs.Structs.{IsStructOf, sets_of}
@@ -28,13 +30,23 @@ WritesSchedules ss old new count _ = ⊥
 
 -- The schedules that an expression means are written, or the array is too short for them; or the message that refuses it is laid over a
 -- buffer, and its whole length told.
+abbrev pub ParsesAs : {Meant Fault : Type 0} → (List ℕ → Meant → Type 0) → (Meant → List Sets) → (List ℕ → Fault → Type 0) → (Fault → List ℕ)
+    → List ℕ → List CronSchedule → List CronSchedule → ℕ → List ℕ → List ℕ → ℕ → Status → Type 0
+ParsesAs {Meant} {Fault} IsMeant schedules_of IsRefused text_of text old new count before after size Refused =
+    IsUtf8 text × (fault : Fault) × IsRefused text fault
+    × (new ≡ old) × (count ≡ 0) × (after ≡ laid_over 0 (text_of fault) before) × (size ≡ length (text_of fault))
+ParsesAs IsMeant schedules_of IsRefused text_of text old new count before after size NotUtf8 =
+    (IsUtf8 text → ⊥) × (new ≡ old) × (count ≡ 0) × (after ≡ before) × (size ≡ 0)
+ParsesAs {Meant} {Fault} IsMeant schedules_of IsRefused text_of text old new count before after size Untold =
+    IsUtf8 text × (fault : Fault) × IsRefused text fault × (new ≡ old) × (count ≡ 0) × (size ≡ 0)
+ParsesAs {Meant} {Fault} IsMeant schedules_of IsRefused text_of text old new count before after size status =
+    IsUtf8 text × (meaning : Meant) × IsMeant text meaning
+    × WritesSchedules (schedules_of meaning) old new count status × (after ≡ before) × (size ≡ 0)
+
+-- an expression of a crontab
 abbrev pub ParsesCrontab : List ℕ → List CronSchedule → List CronSchedule → ℕ → List ℕ → List ℕ → ℕ → Status → Type 0
-ParsesCrontab text old new count before after size Refused =
-    IsUtf8 text × (fault : Fault) × Refuses text fault
-    × (new ≡ old) × (count ≡ 0) × (after ≡ laid_over 0 (fault_text fault) before) × (size ≡ length (fault_text fault))
-ParsesCrontab text old new count before after size NotUtf8 = (IsUtf8 text → ⊥) × (new ≡ old) × (count ≡ 0) × (after ≡ before) × (size ≡ 0)
-ParsesCrontab text old new count before after size Untold =
-    IsUtf8 text × (fault : Fault) × Refuses text fault × (new ≡ old) × (count ≡ 0) × (size ≡ 0)
-ParsesCrontab text old new count before after size status =
-    IsUtf8 text × (meaning : Meaning) × Means text meaning
-    × WritesSchedules (schedules_meant meaning) old new count status × (after ≡ before) × (size ≡ 0)
+ParsesCrontab = ParsesAs Means schedules_meant Refuses fault_text
+
+-- an expression of Quartz
+abbrev pub ParsesQuartz : List ℕ → List CronSchedule → List CronSchedule → ℕ → List ℕ → List ℕ → ℕ → Status → Type 0
+ParsesQuartz = ParsesAs quartz.Means (λ (ss : List Sets). ss) quartz.Refuses quartz_refusals.fault_text

@@ -10,9 +10,9 @@ use crate::status::Status;
 use cron_crontab::{Expression, read};
 use cron_units::fields::ScheduleFields;
 
-// Writes schedules to the front of an array, where there is room for all of them, and how many they
-// are.
-fn write_schedules(
+/// Writes schedules to the front of an array, where there is room for all of them, and how many they
+/// are.
+pub(crate) fn write_schedules(
     all: &[ScheduleFields],
     schedules: &mut [CronSchedule],
     count: &mut usize,

@@ -23,6 +23,7 @@ mod listing;
 mod named;
 mod parse_call;
 mod places;
+mod quartz_call;
 mod rule_dues;
 mod runs;
 mod savings;
@@ -57,6 +58,7 @@ pub use line_call::cron_c_crontab_line_parse;
 pub use listing::{cron_c_list_after, cron_c_list_before, cron_c_list_next, cron_c_list_prev};
 pub use named::cron_c_zone_parse;
 pub use parse_call::cron_c_parse;
+pub use quartz_call::cron_c_quartz_parse;
 pub use rule_dues::{
     cron_c_due_after, cron_c_due_by, cron_c_due_past, cron_c_dues_between, cron_c_dues_past,
 };

@@ -10,7 +10,7 @@ from typing import Any, Callable, FrozenSet, Iterable, Iterator, List, Optional,
 
 from .errors import CronError, TextError, ZoneError
 
-OK, NO_ITEM, REFUSED, NOT_UTF8, BAD_ZONE, MORE, NO_MEMORY = 0, 1, 2, 3, 4, 8, 9
+OK, NO_ITEM, REFUSED, NOT_UTF8, BAD_ZONE, NOT_AN_ITEM, MORE, NO_MEMORY = 0, 1, 2, 3, 4, 6, 8, 9
 LEAST_INSTANT, GREATEST_INSTANT = -377705023201, 253402207200
 
 
@@ -64,6 +64,9 @@ Eras = Tuple["ctypes.Array[Era]", int]
 # The bytes that hold the canonical text of any schedule, as `CRON_C_SCHEDULE_TEXT` has it.
 SCHEDULE_TEXT = 1245
 
+# As many schedules as an expression of Quartz may be, as `CRON_C_QUARTZ_SCHEDULES` has it.
+QUARTZ_SCHEDULES = 12
+
 # An item as its bytes stand in an array, and how many a first and a later page of fires have room for.
 ITEM = struct.Struct("=qi4x")
 DUE_ITEM = struct.Struct("=qiI")
@@ -116,7 +119,8 @@ def _load() -> ctypes.CDLL:
     size, pointer, instant = ctypes.c_size_t, ctypes.POINTER, ctypes.c_int64
     text: List[Any] = [ctypes.c_char_p, size]
     library.cron_c_parse.argtypes = text + [pointer(Sets)] + text + [pointer(size)]
-    library.cron_c_crontab_parse.argtypes = text + [pointer(Sets), size, pointer(size)] + text + [pointer(size)]
+    for call in ("crontab_parse", "quartz_parse"):
+        getattr(library, f"cron_c_{call}").argtypes = text + [pointer(Sets), size, pointer(size)] + text + [pointer(size)]
     library.cron_c_crontab_line_parse.argtypes = (
         text + [ctypes.c_uint32, pointer(Sets), size, pointer(size)] + text + [pointer(size)]
     )
@@ -134,7 +138,9 @@ def _load() -> ctypes.CDLL:
             getattr(library, f"cron_c_{name}_{call}").restype = ctypes.c_uint32
     library.cron_c_history_read.argtypes = [ctypes.c_char_p, size, pointer(Era), size, pointer(size)]
     library.cron_c_history_check.argtypes = [pointer(Era), size]
-    for call in ("parse", "crontab_parse", "crontab_line_parse", "canonical", "zone_parse", "history_read", "history_check"):
+    for reader in ("parse", "crontab_parse", "crontab_line_parse", "quartz_parse", "zone_parse"):
+        getattr(library, f"cron_c_{reader}").restype = ctypes.c_uint32
+    for call in ("canonical", "history_read", "history_check"):
         getattr(library, f"cron_c_{call}").restype = ctypes.c_uint32
     return library
 
@@ -183,16 +189,21 @@ def parse(text: str) -> Schedules:
     return schedules
 
 
-def parse_crontab(text: str) -> Schedules:
-    """The schedules that an expression of a crontab means: one, or two of which one suffices, or none."""
-    schedules, count = (Sets * 2)(), ctypes.c_size_t()
-    _read(
-        lambda told, message, needed: _LIBRARY.cron_c_crontab_parse(
-            told, len(told), schedules, len(schedules), count, message, len(message), needed
-        ),
-        text,
-    )
+def _parse_several(call: Callable[..., int], most: int, text: str) -> Schedules:
+    """The schedules that an expression means, of which one suffices."""
+    schedules, count = (Sets * most)(), ctypes.c_size_t()
+    _read(lambda told, message, needed: call(told, len(told), schedules, most, count, message, len(message), needed), text)
     return (Sets * count.value)(*schedules[: count.value])
+
+
+def parse_crontab(text: str) -> Schedules:
+    """The schedules that an expression of a crontab means: one, or two, or none."""
+    return _parse_several(_LIBRARY.cron_c_crontab_parse, 2, text)
+
+
+def parse_quartz(text: str) -> Schedules:
+    """The schedules that an expression of Quartz means, of which some may never fire."""
+    return _parse_several(_LIBRARY.cron_c_quartz_parse, QUARTZ_SCHEDULES, text)
 
 
 def parse_crontab_line(line: str, is_system: bool) -> Optional[Schedules]:
@@ -207,10 +218,12 @@ def parse_crontab_line(line: str, is_system: bool) -> Optional[Schedules]:
     return (Sets * count.value)(*schedules[: count.value]) if is_entry else None
 
 
-def canonical(sets: Sets) -> str:
-    """The canonical text of one schedule."""
+def canonical(sets: Sets) -> Optional[str]:
+    """The canonical text of one schedule; None where it never fires, since a set is empty."""
     text, needed = ctypes.create_string_buffer(SCHEDULE_TEXT), ctypes.c_size_t()
     status = _LIBRARY.cron_c_canonical(sets, text, len(text), needed)
+    if status == NOT_AN_ITEM:
+        return None
     if status != OK:
         raise CronError(f"status {status}")
     return text.raw[: needed.value].decode()

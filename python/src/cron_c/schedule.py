@@ -49,7 +49,8 @@ def _ceiling(moment: datetime) -> int:
 
 class Schedule:
     """The meaning of a text of six fields, or seven with years: `Schedule("0 30 9 * * Mon-Fri")`. What
-    a crontab has is read by `Schedule.crontab("30 9 * * mon-fri")`.
+    a crontab has is read by `Schedule.crontab("30 9 * * mon-fri")`, and what Quartz has by
+    `Schedule.quartz("0 0 12 L-3 * ?")`.
 
     TextError tells why a text means nothing. The zone is that of the datetime that is given: a
     `ZoneInfo` with a key, a `datetime.timezone`, or another zone that is one offset, at which it is
@@ -63,11 +64,17 @@ class Schedule:
     apart, and begins anew from one of these.
     """
 
-    __slots__ = ("__weakref__", "_schedules", "_text", "_is_crontab")
+    __slots__ = ("__weakref__", "_schedules", "_text", "_kind")
 
     def __init__(self, text: str) -> None:
         self._schedules = library.parse(_checked(text))
-        self._text, self._is_crontab = text, False
+        self._text, self._kind = text, ""
+
+    @classmethod
+    def _of(cls, schedules: library.Schedules, text: str, kind: str) -> Schedule:
+        made = cls.__new__(cls)
+        made._schedules, made._text, made._kind = schedules, text, kind
+        return made
 
     @classmethod
     def crontab(cls, text: str) -> Schedule:
@@ -90,9 +97,13 @@ class Schedule:
     def _of_crontab(cls, text: str, schedules: library.Schedules) -> Schedule:
         if not schedules:
             raise TextError("@reboot means the start of the machine, which no clock tells")
-        made = cls.__new__(cls)
-        made._schedules, made._text, made._is_crontab = schedules, text, True
-        return made
+        return cls._of(schedules, text, "crontab")
+
+    @classmethod
+    def quartz(cls, text: str) -> Schedule:
+        """The meaning of an expression of Quartz: six fields, or seven with years, of which exactly one kind
+        of day is `?`. Sets are those of any of the schedules that its form of days is."""
+        return cls._of(library.parse_quartz(_checked(text)), text, "quartz")
 
     @property
     def text(self) -> str:
@@ -101,9 +112,9 @@ class Schedule:
 
     @property
     def canonical(self) -> Tuple[str, ...]:
-        """Its canonical text, or of a crontab's expression that means two schedules both: seven fields, each
-        a star or its runs of numbers. Equal schedules have the same ones, and `Schedule` reads each back."""
-        return tuple(library.canonical(sets) for sets in self._schedules)
+        """Its canonical text: seven fields, each a star or its runs of numbers. Where one of several schedules
+        suffices, those of all that can fire. Equal schedules have the same ones, and `Schedule` reads each back."""
+        return tuple(text for text in map(library.canonical, self._schedules) if text is not None)
 
     @property
     def seconds(self) -> FrozenSet[int]:
@@ -149,7 +160,7 @@ class Schedule:
         return self._text
 
     def __repr__(self) -> str:
-        return f"Schedule.crontab({self._text!r})" if self._is_crontab else f"Schedule({self._text!r})"
+        return f"Schedule{'.' if self._kind else ''}{self._kind}({self._text!r})"
 
     def __eq__(self, other: object) -> bool:
         if not isinstance(other, Schedule):
@@ -161,7 +172,7 @@ class Schedule:
 
     def __reduce__(self) -> Tuple[Callable[[str], Schedule], Tuple[str]]:
         # as its text: what the words of the sets mean is the library's affair
-        return type(self).crontab if self._is_crontab else type(self), (self._text,)
+        return getattr(type(self), self._kind) if self._kind else type(self), (self._text,)
 
     def matches(self, moment: datetime, *, clock_changes: ClockChanges = "as_shown") -> bool:
         """Whether it fires at this very instant: never where the datetime has a part of a second."""

@@ -1,0 +1,25 @@
+use Rattle.std.proofs.Common.{List, ℕ, refl, subst}
+use Rattle.cron_units.specs.Sets.{Sets}
+use Rattle.cron_quartz.specs.Quartz.{Means, Refuses}
+use Rattle.cron_quartz.specs.Refusals.{fault_text}
+use Rattle.cron_quartz.specs.Views.{fault_view}
+use Rattle.cron_c.specs.Crontabs.{WritesSchedules}
+use Rattle.cron_c.proofs.CrontabLemmas.{written_says}
+use Rattle.cron_c.proofs.quartz_call.parse.Goals as goal
+
+pub returns-in-Ok-read : goal.returns-in-Ok-read
+returns-in-Ok-read c =
+    let meaning = c.in-Ok-read.meaning in
+    let old = c.args.schedules.now in
+    let new = c.write_schedules.new.schedules in
+    let count = c.write_schedules.new.count in
+    let status = c.write_schedules.result in
+    let means = subst (λ (t : List ℕ). Means t meaning) c.in-Ok.ensures.cases.0 c.in-Ok-read.ensures in
+    let written = subst (λ (ss : List Sets). WritesSchedules ss old new count status) c.as_slice.ensures.list c.write_schedules.ensures in
+    written_says Means (λ (ss : List Sets). ss) Refuses fault_text c.args.text.now meaning old new count c.args.message.now status
+    c.in-Ok.ensures.cases.1 means written
+
+pub returns-in-None : goal.returns-in-None
+returns-in-None c =
+    let refuses = subst (λ (t : List ℕ). Refuses t (fault_view c.in-Err.fault)) c.in-Ok.ensures.cases.0 c.in-Err.ensures in
+    (c.in-Ok.ensures.cases.1, fault_view c.in-Err.fault, refuses, refl, refl, refl)

@@ -1,0 +1,54 @@
+//! An expression of Quartz, read into structs.
+
+ghost use Rattle.cron_c.specs.Calls.{Answers};
+ghost use Rattle.cron_c.specs.Crontabs.{ParsesQuartz};
+
+use crate::buffer::tell;
+use crate::crontab_call::write_schedules;
+use crate::schedule::CronSchedule;
+use crate::status::Status;
+use cron_quartz::read;
+
+fn parse(
+    text: &[u8],
+    schedules: &mut [CronSchedule],
+    count: &mut usize,
+    message: &mut [u8],
+    message_length: &mut usize,
+) -> Status
+    ensures { ParsesQuartz text.now schedules.old schedules.new count.new
+        message.old message.new message_length.new result }
+{
+    *count = 0;
+    *message_length = 0;
+    let Ok(text) = str::from_utf8(text) else {
+        return Status::NotUtf8;
+    };
+    let fault = match read(text) {
+        Ok(meaning) => return write_schedules(meaning.as_slice(), schedules, count),
+        Err(fault) => fault,
+    };
+    match tell(&fault, message) {
+        Some(length) => {
+            *message_length = length;
+            Status::Refused
+        }
+        None => Status::Untold,
+    }
+}
+
+/// Reads an expression of Quartz into the schedules that it means, and tells how many they are; or
+/// writes the message that refuses it to a buffer as far as it fits, and its whole length.
+#[unsafe(no_mangle)]
+pub extern "C" fn cron_c_quartz_parse(
+    text: &[u8],
+    schedules: &mut [CronSchedule],
+    count: &mut usize,
+    message: &mut [u8],
+    message_length: &mut usize,
+) -> u32
+    ensures { Answers (ParsesQuartz text.now schedules.old schedules.new count.new
+        message.old message.new message_length.new) result }
+{
+    parse(text, schedules, count, message, message_length).code()
+}
