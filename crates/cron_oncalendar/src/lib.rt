@@ -1,0 +1,4 @@
+//! Lines of systemd's `OnCalendar` for unions of schedules.
+#![tactic(auto)]
+
+mod components;
