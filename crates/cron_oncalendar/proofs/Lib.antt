@@ -1,1 +1,3 @@
 pub mod RangeLemmas
+pub mod PartLemmas
+pub mod ComponentLemmas
