@@ -11,7 +11,7 @@ use Rattle.std.specs.Fmt.{decimal}
 use Rattle.std.specs.List.{AllByRecursion, join_with_byte, list_all, list_any}
 use Rattle.std.specs.Str.{bytes_eq}
 use Rattle.std.specs.Str.Parse.{AllDigits, IsNumeral, digits_value}
-use Rattle.cron_units.specs.Units.{TimeUnit, IsSet, contains, set_of, whole}
+use Rattle.cron_units.specs.Units.{TimeUnit, IsSet, contains, days_of_week, set_of, whole}
 use Rattle.cron_units.proofs.SetLemmas.{contains_after, contains_before, contains_set, length_set, whole_is_all}
 use Rattle.cron_oncalendar.specs.Calendars.{Component, any, ranges, admits, component_of, number_of, parts, range_of, ranges_in, ranges_of, weekday_named}
 use Rattle.cron_oncalendar.specs.Inner.Pieces.{level, is_listable, is_under, IsComponent}
@@ -23,7 +23,7 @@ use Rattle.cron_oncalendar.proofs.PartLemmas.{both_true, first_part, joined_part
 -- ---- words
 
 -- a word is read as its number
-pub record IsRead (word : List ℕ → Option ℕ) (w : Words) (n : ℕ) : Type 0 where
+record IsRead (word : List ℕ → Option ℕ) (w : Words) (n : ℕ) : Type 0 where
   read : word (word_text w n) ≡ Some n
   under : is_under 1 (word_text w n) ≡ true
 
@@ -135,9 +135,9 @@ length_texts w [] = refl
 length_texts w (r ∷ rs) = ap suc (length_texts w rs)
 
 -- the text of ranges is read as these ranges
-record AreReadBack (word : List ℕ → Option ℕ) (piece : List ℕ) (rs : List (ℕ × ℕ)) : Type 0 where
-  under : is_under 3 piece ≡ true
-  read : ranges_in word piece ≡ Some (ranges rs)
+pub record AreReadBack (word : List ℕ → Option ℕ) (piece : List ℕ) (rs : List (ℕ × ℕ)) : Type 0 where
+  pub under : is_under 3 piece ≡ true
+  pub read : ranges_in word piece ≡ Some (ranges rs)
 
 ranges_read : (word : List ℕ → Option ℕ) (w : Words) (xs piece : List ℕ) → AreRead word w xs → length xs ≤ 240 → (h : AreRangesText w xs piece)
     → AreReadBack word piece h.ranges
@@ -178,6 +178,13 @@ listable u h =
       short = leb-true (u.greatest + 1 - u.least) 240 two.1;
       small = ltb-true u.greatest 4294967296 front.1;
     }
+
+-- the text of days of the week
+pub weekdays_read : (xs piece : List ℕ) → IsSet days_of_week xs → (h : AreRangesText Weekdays xs piece) → AreReadBack weekday_named piece h.ranges
+weekdays_read xs piece set h =
+    ranges_read weekday_named Weekdays xs piece
+    (λ n c. let within = member_within days_of_week xs n (omega arith) set c in weekday_read n within.0 within.1)
+    (omega (arith, length_set days_of_week xs set)) h
 
 pub star_component : (u : TimeUnit) (xs : List ℕ) → xs ≡ whole u → IsComponent u xs (codes "*")
 unfolding level

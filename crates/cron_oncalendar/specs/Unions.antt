@@ -1,10 +1,15 @@
 -- The lines of a union of schedules.
 use Rattle.std.specs.Prelude.{◌≡◌, ℕ, ◌<◌, Bool, false, List, [], ◌∷◌, ◌++◌, IsSome}
 use Rattle.std.specs.List.{AllByRecursion, list_any}
+use Rattle.jiff_core.specs.declared.civil.datetime.DateTime.{DateTime}
 use Rattle.cron_moments.specs.Civil.{civil, seconds_in_range}
 use Rattle.cron_units.specs.Sets.{Sets}
 use Rattle.cron_time.specs.Matches.{matches}
 use Rattle.cron_oncalendar.specs.Calendars.{parts, calendar_of, line_matches}
+
+-- a civil datetime matches one of them
+abbrev pub matches_any : List Sets → DateTime → Bool
+matches_any ss dt = list_any (λ s. matches s dt) ss
 
 -- Lines of which each has its line feed. systemd reads each of them, and a civil second of the range matches one of them exactly if
 -- it matches one of the schedules.
@@ -13,8 +18,8 @@ pub record SaysUnion (ss : List Sets) (text : List ℕ) : Type 0 where
   pub some : lines ≡ [] → ⊥
   pub ended : parts 10 text ≡ lines ++ [] ∷ []
   pub read : AllByRecursion (λ line. IsSome (calendar_of line)) lines
-  pub same : (c : ℕ) → c < seconds_in_range → list_any (line_matches (civil c)) lines ≡ list_any (λ s. matches s (civil c)) ss
+  pub same : (c : ℕ) → c < seconds_in_range → list_any (line_matches (civil c)) lines ≡ matches_any ss (civil c)
 
 -- no civil second of the range matches one of the schedules
 abbrev pub IsNever : List Sets → Type 0
-IsNever ss = (c : ℕ) → c < seconds_in_range → list_any (λ s. matches s (civil c)) ss ≡ false
+IsNever ss = (c : ℕ) → c < seconds_in_range → matches_any ss (civil c) ≡ false

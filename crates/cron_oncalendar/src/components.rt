@@ -1,10 +1,14 @@
 //! The numbers of a set, as a component of a line.
 
-ghost use Rattle.std.specs.Prelude.{◌≡◌, ◌==◌, ◌+◌, ◌++◌, ◌∷◌, [], OnOk};
+ghost use Rattle.std.specs.Prelude.{◌≡◌, ◌≤◌, ◌==◌, ◌+◌, ◌%◌, ◌++◌, ◌∷◌, [], ℕ, true, OnOk};
 ghost use Rattle.std.specs.String.{string_bytes};
+ghost use Rattle.cron_units.specs.Units.{contains};
+ghost use Rattle.cron_oncalendar.specs.Inner.Pieces.{is_listable, AreWeekdays, IsComponent};
 ghost use Rattle.cron_oncalendar.specs.Inner.Written.{word_text, weekday_text, range_text, Pushes, AreRangesText};
 
-use cron_units::time_unit::{Ordinal, OrdinalIter};
+use cron_bits::words::Words as Bits;
+use cron_units::time_unit::layout::{bits, from_bits};
+use cron_units::time_unit::{DaysOfWeek, Ordinal, OrdinalIter, TimeUnitField, TimeUnitSpec};
 use std::alloc::AllocError;
 
 /// How a number is written.
@@ -86,4 +90,52 @@ fn push_ranges(
         last = ordinal;
     }
     push_range(text, words, first, last)
+}
+
+/// Pushes a component: a star for all numbers of the unit, else their ranges.
+pub(crate) fn push_component<T: TimeUnitSpec>(text: &mut String, set: &T) -> Result<(), AllocError>
+    requires unit { is_listable T.time_unit ≡ true }
+    requires filled { T.ordinals set.now ≡ [] → ⊥ }
+    ensures { OnOk result (Pushes (IsComponent T.time_unit (T.ordinals set.now))
+        (string_bytes text.old) (string_bytes text.new)) }
+{
+    if set.is_all() {
+        return write!(text, "*");
+    }
+    let mut ordinals = set.iter();
+    match ordinals.next() {
+        Some(start) => push_ranges(text, Words::Numbers, start, ordinals),
+        None => Ok(()),
+    }
+}
+
+// The days of the week, of which Monday is 1 and Sunday is 7.
+fn from_monday(days: &DaysOfWeek) -> DaysOfWeek
+    ensures { (n : ℕ) → 1 ≤ n → n ≤ 7 → contains result n ≡ contains days.now (n % 7 + 1) }
+{
+    let word = bits(days);
+    if word.contains(0) {
+        from_bits((word >> 1).with(6))
+    } else {
+        from_bits(word >> 1)
+    }
+}
+
+/// Pushes the days of the week and a space, or nothing for all of them.
+pub(crate) fn push_weekdays(text: &mut String, days: &DaysOfWeek) -> Result<(), AllocError>
+    requires filled { days.now ≡ [] → ⊥ }
+    ensures { OnOk result (Pushes (AreWeekdays days.now)
+        (string_bytes text.old) (string_bytes text.new)) }
+{
+    if days.is_all() {
+        return Ok(());
+    }
+    days.state_facts();
+    let numbers = from_monday(days);
+    let mut ordinals = numbers.iter();
+    let Some(start) = ordinals.next() else {
+        return Ok(());
+    };
+    push_ranges(text, Words::Weekdays, start, ordinals)?;
+    write!(text, " ")
 }

@@ -2,3 +2,4 @@
 #![tactic(auto)]
 
 mod components;
+pub mod lines;
