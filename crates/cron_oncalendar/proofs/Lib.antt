@@ -4,3 +4,4 @@ pub mod ComponentLemmas
 pub mod PushLemmas
 pub mod WeekdayLemmas
 pub mod LineLemmas
+pub mod UnionLemmas

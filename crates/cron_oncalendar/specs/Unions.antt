@@ -1,15 +1,10 @@
 -- The lines of a union of schedules.
 use Rattle.std.specs.Prelude.{◌≡◌, ℕ, ◌<◌, Bool, false, List, [], ◌∷◌, ◌++◌, IsSome}
 use Rattle.std.specs.List.{AllByRecursion, list_any}
-use Rattle.jiff_core.specs.declared.civil.datetime.DateTime.{DateTime}
 use Rattle.cron_moments.specs.Civil.{civil, seconds_in_range}
 use Rattle.cron_units.specs.Sets.{Sets}
-use Rattle.cron_time.specs.Matches.{matches}
+use Rattle.cron_unions.specs.Unions.{matches_any}
 use Rattle.cron_oncalendar.specs.Calendars.{parts, calendar_of, line_matches}
-
--- a civil datetime matches one of them
-abbrev pub matches_any : List Sets → DateTime → Bool
-matches_any ss dt = list_any (λ s. matches s dt) ss
 
 -- Lines of which each has its line feed. systemd reads each of them, and a civil second of the range matches one of them exactly if
 -- it matches one of the schedules.

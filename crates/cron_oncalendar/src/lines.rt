@@ -2,11 +2,11 @@
 
 ghost use Rattle.std.specs.Prelude.{◌≡◌, ◌<◌, [], true, false, ℕ, OnOk, IfOk, MatchOption};
 ghost use Rattle.std.specs.String.{string_bytes};
-ghost use Rattle.jiff_core.specs.declared.civil.datetime.DateTime.{DateTime};
 ghost use Rattle.cron_time.specs.Matches.{matches};
-ghost use Rattle.cron_oncalendar.specs.Inner.Pieces.{AreDates, AreTimes, AreLines, IsWhole, matches_by, matches_last};
+ghost use Rattle.cron_unions.specs.Unions.{matches_any};
+ghost use Rattle.cron_oncalendar.specs.Inner.Pieces.{AreDates, AreTimes, AreLines, IsWhole, lacks_numbers, matches_by, matches_last};
 ghost use Rattle.cron_oncalendar.specs.Inner.Written.{Pushes};
-ghost use Rattle.cron_oncalendar.specs.Unions.{IsNever, SaysUnion, matches_any};
+ghost use Rattle.cron_oncalendar.specs.Unions.{IsNever, SaysUnion};
 
 use crate::components::{push_component, push_weekdays};
 use cron_units::fields::ScheduleFields;
@@ -82,8 +82,7 @@ fn push_last(text: &mut String, fields: &ScheduleFields) -> Result<(), AllocErro
 
 // Whether a set is empty besides the days of the month.
 fn lacks_numbers(fields: &ScheduleFields) -> bool
-    ensures whole { result ≡ false → IsWhole fields.now }
-    ensures lacking { result ≡ true → (dt : DateTime) → matches fields.now dt ≡ false }
+    ensures { result ≡ lacks_numbers fields.now }
 {
     fields.seconds.count() == 0
         || fields.minutes.count() == 0

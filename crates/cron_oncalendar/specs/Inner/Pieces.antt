@@ -1,5 +1,5 @@
 -- What the pieces of a line say, as they are pushed.
-use Rattle.std.specs.Prelude.{◌≡◌, ◌≤◌, ◌+◌, ◌-◌, ◌%◌, ◌==◌, ℕ, pos, Bool, true, false, ◌&&◌, List, [], ◌∷◌, ◌++◌, Option, Some, IsSome, nat_le, nat_lt, if◌then◌else◌}
+use Rattle.std.specs.Prelude.{◌≡◌, ◌≤◌, ◌+◌, ◌-◌, ◌%◌, ◌==◌, ℕ, pos, Bool, true, false, ◌&&◌, ◌||◌, List, [], ◌∷◌, ◌++◌, Option, Some, IsSome, length, nat_le, nat_lt, if◌then◌else◌}
 use Rattle.std.specs.List.{AllByRecursion, flat_map, list_all, list_any}
 use Rattle.jiff_core.specs.Calendar.{days_in_month}
 use Rattle.jiff_core.specs.declared.civil.date.Date.{Date}
@@ -48,6 +48,11 @@ pub record IsWhole (s : Sets) : Type 0 where
   pub months : s.months ≡ [] → ⊥
   pub days_of_week : s.days_of_week ≡ [] → ⊥
   pub years : s.years ≡ [] → ⊥
+
+-- one of them has none
+abbrev pub lacks_numbers : Sets → Bool
+lacks_numbers s =
+    length s.seconds == 0 || length s.minutes == 0 || length s.hours == 0 || length s.months == 0 || length s.days_of_week == 0 || length s.years == 0
 
 -- the date's year is one of 1970 to 2100
 pub record IsInYears (d : Date) : Type 0 where
