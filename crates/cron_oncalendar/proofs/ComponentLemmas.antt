@@ -1,21 +1,19 @@
 -- Components that were written, as they are read.
-use Rattle.std.proofs.Common.{◌≡◌, ◌≢◌, ◌==◌, ◌+◌, ◌-◌, ◌≤◌, ◌<◌, ◌^◌, ℕ, zero, suc, Bool, true, false, ◌||◌, ◌&&◌, nat_eq, nat_le, nat_lt, Option, Some, None, List, [], ◌∷◌, ◌++◌, length, map, refl, sym, ap, ◌∙◌, subst, append_assoc, append-nil, inl, inr, codes, arith}
-use Rattle.std.proofs.lemmas.Bool.{and_parts, cases_lt, cases_eq, eq-eqb, eqb-true, false≢true, le-leb, leb-true, lt-ltb, ltb-true, ne_eqb}
-use Rattle.std.proofs.lemmas.Bool.Decides.{nat_tests}
+use Rattle.std.proofs.Common.{◌≡◌, ◌==◌, ◌+◌, ◌-◌, ◌≤◌, ◌<◌, ℕ, suc, Bool, true, false, ◌&&◌, nat_le, nat_lt, Option, Some, None, List, [], ◌∷◌, length, map, refl, sym, ap, ◌∙◌, subst, inl, inr, codes, arith}
+use Rattle.std.proofs.lemmas.Bool.{and_parts, cases_lt, cases_eq, eqb-true, false≢true, le-leb, leb-true, lt-ltb, ltb-true, ne_eqb}
 use Rattle.std.proofs.lemmas.Fmt.{decimal_is_IsNumeral}
-use Rattle.std.proofs.lemmas.List.{length-append, map-append}
 use Rattle.std.proofs.lemmas.Slice.Eq.{bytes_eq-Decides}
 use Rattle.std.proofs.lemmas.Str.Parse.{digit_from_value}
 use Rattle.std.specs.Char.{is_ascii_digit}
 use Rattle.std.specs.Fmt.{decimal}
-use Rattle.std.specs.List.{AllByRecursion, join_with_byte, list_all, list_any}
+use Rattle.std.specs.List.{AllByRecursion, list_all}
 use Rattle.std.specs.Str.{bytes_eq}
 use Rattle.std.specs.Str.Parse.{AllDigits, IsNumeral, digits_value}
 use Rattle.cron_units.specs.Units.{TimeUnit, IsSet, contains, days_of_week, set_of, whole}
 use Rattle.cron_units.proofs.SetLemmas.{contains_after, contains_before, contains_set, length_set, whole_is_all}
-use Rattle.cron_oncalendar.specs.Calendars.{Component, any, ranges, admits, component_of, number_of, parts, range_of, ranges_in, ranges_of, weekday_named}
+use Rattle.cron_oncalendar.specs.Calendars.{any, ranges, number_of, parts, range_of, ranges_in, ranges_of, weekday_named}
 use Rattle.cron_oncalendar.specs.Inner.Pieces.{level, is_listable, is_under, IsComponent}
-use Rattle.cron_oncalendar.specs.Inner.Written.{number_text, weekday_text, word_text, range_text, ranges_text, IsRangeOf, AreRangesOf, AreRangesText}
+use Rattle.cron_oncalendar.specs.Inner.Written.{word_text, range_text, IsRangeOf, AreRangesText}
 use Rattle.cron_oncalendar.specs.declared.components.Words.{Words}
 use Rattle.cron_oncalendar.specs.declared.components.Words.TheVariants.{Numbers, Weekdays}
 use Rattle.cron_oncalendar.proofs.PartLemmas.{both_true, first_part, joined_parts, joined_under, one_part, under_append, under_more}
@@ -30,8 +28,15 @@ record IsRead (word : List ℕ → Option ℕ) (w : Words) (n : ℕ) : Type 0 wh
 digit_under : (c : ℕ) → 48 ≤ c → c ≤ 57 → nat_lt (level c) 1 ≡ true
 unfolding level
 digit_under c l g =
-    rw (ne_eqb c 46 (λ e. omega arith), ne_eqb c 44 (λ e. omega arith), ne_eqb c 58 (λ e. omega arith), ne_eqb c 126 (λ e. omega arith),
-    ne_eqb c 45 (λ e. omega arith), ne_eqb c 32 (λ e. omega arith), ne_eqb c 10 (λ e. omega arith)) refl
+    rw (
+      ne_eqb c 46 (λ e. omega arith),
+      ne_eqb c 44 (λ e. omega arith),
+      ne_eqb c 58 (λ e. omega arith),
+      ne_eqb c 126 (λ e. omega arith),
+      ne_eqb c 45 (λ e. omega arith),
+      ne_eqb c 32 (λ e. omega arith),
+      ne_eqb c 10 (λ e. omega arith),
+    ) refl
 
 digits_under : (ds : List ℕ) → AllDigits 10 ds → is_under 1 ds ≡ true
 digits_under [] a = refl
@@ -104,10 +109,15 @@ read_range word w r a b l = by_test (r.0 == r.1) refl where
       )
   by_test false e =
       rw e (
-        rw (first_part 46 1 (word_text w r.0) (46 ∷ word_text w r.1) (omega arith) a.under, one_part 46 1 (word_text w r.1) (omega arith) b.under,
-        a.read, b.read, le-leb r.0 r.1 l) refl,
+        rw (
+          first_part 46 1 (word_text w r.0) (46 ∷ word_text w r.1) (omega arith) a.under,
+          one_part 46 1 (word_text w r.1) (omega arith) b.under,
+          a.read,
+          b.read,
+          le-leb r.0 r.1 l,
+        ) refl,
         under_append 2 (word_text w r.0) (46 ∷ 46 ∷ word_text w r.1) (under_more 1 2 (word_text w r.0) (omega arith) a.under)
-        (under_more 1 2 (word_text w r.1) (omega arith) b.under),
+            (under_more 1 2 (word_text w r.1) (omega arith) b.under),
       )
 
 -- the words of numbers are read

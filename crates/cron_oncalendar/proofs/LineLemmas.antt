@@ -1,21 +1,18 @@
 -- Lines that were written, as they are read.
-use Rattle.std.proofs.Common.{◌≡◌, ◌==◌, ◌+◌, ◌-◌, ◌≤◌, ◌<◌, ◌%◌, ℕ, ℤ, pos, Bool, true, false, ◌||◌, ◌&&◌, nat_eq, nat_le, nat_lt, Some, IsSome, List, [], ◌∷◌, ◌++◌, refl, sym, ap, ◌∙◌, subst, append_assoc, append-nil, codes, arith}
+use Rattle.std.proofs.Common.{◌≡◌, ◌+◌, ◌-◌, ◌≤◌, ◌<◌, ℕ, Bool, true, false, ◌||◌, ◌&&◌, nat_eq, nat_le, Some, List, [], ◌∷◌, ◌++◌, refl, sym, ap, ◌∙◌, append_assoc, append-nil, codes, arith}
 use Rattle.std.proofs.Math.Bool.{and_comm, or-false}
-use Rattle.std.proofs.lemmas.Bool.{cases_eq, eq-eqb, le-leb, leb-false, lt-ltb, ne_eqb}
+use Rattle.std.proofs.lemmas.Bool.{lt-ltb}
 use Rattle.std.proofs.lemmas.Bool.Decides.{nat_tests}
-use Rattle.std.specs.List.{AllByRecursion, flat_map, list_any}
 use Rattle.jiff_core.specs.Calendar.{days_in_month}
-use Rattle.jiff_core.specs.Date.{epoch_day, weekday_of}
+use Rattle.jiff_core.specs.Date.{epoch_day}
 use Rattle.jiff_core.specs.declared.civil.date.Date.{Date}
-use Rattle.jiff_core.specs.declared.civil.datetime.DateTime.{DateTime}
-use Rattle.jiff_core.specs.declared.civil.time.Time.{Time}
 use Rattle.jiff_core.proofs.CalendarLemmas.{days_in_month_bounds, weekday_number_bound}
 use Rattle.cron_units.specs.Sets.{Sets}
 use Rattle.cron_units.specs.Units.{contains, whole}
 use Rattle.cron_units.specs.Units as units
-use Rattle.cron_time.specs.Matches.{contains_year, matches, matches_time}
-use Rattle.cron_oncalendar.specs.Calendars.{Component, Dates, Times, Calendar, ranges, admits, admits_year, calendar_of, calendar_matches, component_of, counted_weekday, dates_match, dates_of, line_matches, parts, times_match, times_of}
-use Rattle.cron_oncalendar.specs.Inner.Pieces.{level, is_under, is_date, is_day, matches_by, IsComponent, IsInYears, AreDates, AreLines, AreTimes, AreWeekdays, IsLine}
+use Rattle.cron_time.specs.Matches.{contains_year}
+use Rattle.cron_oncalendar.specs.Calendars.{Component, Calendar, ranges, admits, admits_year, calendar_of, calendar_matches, counted_weekday, parts}
+use Rattle.cron_oncalendar.specs.Inner.Pieces.{level, is_under, matches_by, IsComponent, IsInYears, AreDates, AreLines, AreTimes, AreWeekdays}
 use Rattle.cron_oncalendar.proofs.PartLemmas.{first_part, one_part, under_append, under_more}
 
 -- ---- dates and times of day
@@ -33,8 +30,8 @@ three_under : (k c : ℕ) (p q r : List ℕ) → 3 ≤ k → level c < k → is_
 three_under k c p q r l m a b d =
     under_append k p (c ∷ (q ++ c ∷ r)) (under_more 3 k p l a)
     (behind (q ++ c ∷ r) (under_append k q (c ∷ r) (under_more 3 k q l b) (behind r (under_more 3 k r l d)))) where
-  behind : (t : List ℕ) → is_under k t ≡ true → is_under k (c ∷ t) ≡ true
-  behind t e = rw (lt-ltb (level c) k m) e
+      behind : (t : List ℕ) → is_under k t ≡ true → is_under k (c ∷ t) ≡ true
+      behind t e = rw (lt-ltb (level c) k m) e
 
 three_parts : (c : ℕ) (p q r : List ℕ) → 3 ≤ level c → is_under 3 p ≡ true → is_under 3 q ≡ true → is_under 3 r ≡ true
     → parts c (p ++ c ∷ (q ++ c ∷ r)) ≡ p ∷ q ∷ r ∷ []

@@ -1,15 +1,14 @@
 -- Days of the week from Monday on.
-use Rattle.std.proofs.Common.{◌≡◌, ◌+◌, ◌-◌, ◌≤◌, ◌<◌, ◌/◌, ◌%◌, ℕ, zero, suc, Bool, true, false, ◌||◌, nat_eq, nat_lt, Some, List, [], ◌∷◌, ◌++◌, refl, sym, ap, ◌∙◌, subst, append_assoc, inl, inr, arith}
+use Rattle.std.proofs.Common.{◌≡◌, ◌+◌, ◌-◌, ◌≤◌, ◌<◌, ◌/◌, ◌%◌, ℕ, suc, true, false, ◌||◌, nat_eq, List, [], ◌∷◌, ◌++◌, refl, sym, ap, ◌∙◌, append_assoc, inl, inr, arith}
 use Rattle.std.proofs.Math.Bool.{or-false, or-true}
-use Rattle.std.proofs.lemmas.Bool.{cases_eq, cases_lt, eq-eqb, false≢true, lt-ltb, ne_eqb}
+use Rattle.std.proofs.lemmas.Bool.{cases_eq, lt-ltb, ne_eqb}
 use Rattle.std.proofs.lemmas.Nat.Bits.{bit_at-suc}
 use Rattle.std.proofs.Math.Nat.{mod-eq_of_lt}
-use Rattle.std.specs.Int.{bit_at}
 use Rattle.cron_bits.specs.Words.{has_bit}
 use Rattle.cron_units.specs.Units.{IsSet, contains, days_of_week, set_of, whole}
 use Rattle.cron_units.proofs.SetLemmas.{contains_after, contains_set, filter_none, set_same, whole_is_all}
-use Rattle.cron_oncalendar.specs.Calendars.{Component, any, ranges, calendar_in, parts}
-use Rattle.cron_oncalendar.specs.Inner.Pieces.{level, is_under, AreWeekdays}
+use Rattle.cron_oncalendar.specs.Calendars.{any, ranges}
+use Rattle.cron_oncalendar.specs.Inner.Pieces.{level, AreWeekdays}
 use Rattle.cron_oncalendar.specs.Inner.Written.{AreRangesText}
 use Rattle.cron_oncalendar.specs.declared.components.Words.TheVariants.{Weekdays}
 use Rattle.cron_oncalendar.proofs.PartLemmas.{first_part, under_append, under_more}

@@ -1,5 +1,5 @@
 -- The lines of a union of schedules.
-use Rattle.std.specs.Prelude.{◌≡◌, ℕ, ◌<◌, Bool, false, List, [], ◌∷◌, ◌++◌, IsSome}
+use Rattle.std.specs.Prelude.{◌≡◌, ℕ, ◌<◌, false, List, [], ◌∷◌, ◌++◌, IsSome}
 use Rattle.std.specs.List.{AllByRecursion, list_any}
 use Rattle.cron_moments.specs.Civil.{civil, seconds_in_range}
 use Rattle.cron_units.specs.Sets.{Sets}

@@ -1,6 +1,5 @@
-use Rattle.std.proofs.Common.{◌≡◌, ◌∷◌, [], List, ℕ, sym, subst, ◌∙◌, rules}
-use Rattle.cron_oncalendar.specs.Inner.Pieces.{IsComponent}
-use Rattle.cron_oncalendar.specs.Inner.Written.{AreRangesText, Pushes}
+use Rattle.std.proofs.Common.{◌∷◌, [], List, ℕ, sym, subst, ◌∙◌, rules}
+use Rattle.cron_oncalendar.specs.Inner.Written.{AreRangesText}
 use Rattle.cron_oncalendar.specs.declared.components.Words.TheVariants.{Numbers}
 use Rattle.cron_oncalendar.proofs.ComponentLemmas.{star_component, ranges_component}
 use Rattle.cron_oncalendar.proofs.PushLemmas.{piece_pushed}

@@ -1,4 +1,4 @@
-use Rattle.std.proofs.Common.{sym, ap, ◌∙◌, ◌∷◌, List, ℕ, subst}
+use Rattle.std.proofs.Common.{sym, ◌∙◌, ◌∷◌, List, ℕ, subst}
 use Rattle.std.specs.String.{string_bytes}
 use Rattle.cron_oncalendar.specs.Inner.Written.{AreRangesText, Pushes}
 use Rattle.cron_oncalendar.proofs.RangeLemmas.{opened, goes_on, begins, ranges_end, if_ok}

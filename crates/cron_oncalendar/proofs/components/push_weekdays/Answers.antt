@@ -1,4 +1,4 @@
-use Rattle.std.proofs.Common.{◌≡◌, ◌∷◌, ◌++◌, [], List, ℕ, sym, subst, ◌∙◌, ap, rules}
+use Rattle.std.proofs.Common.{◌∷◌, ◌++◌, [], List, ℕ, sym, subst, ◌∙◌, rules}
 use Rattle.cron_oncalendar.specs.Inner.Written.{AreRangesText}
 use Rattle.cron_oncalendar.specs.declared.components.Words.TheVariants.{Weekdays}
 use Rattle.cron_oncalendar.proofs.PushLemmas.{nothing_pushed, pushed_on}

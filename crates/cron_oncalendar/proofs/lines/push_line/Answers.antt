@@ -1,8 +1,6 @@
-use Rattle.std.proofs.Common.{◌∷◌, ◌++◌, [], List, ℕ, subst}
-use Rattle.std.specs.String.{string_bytes}
+use Rattle.std.proofs.Common.{◌∷◌, ◌++◌, [], subst}
 use Rattle.cron_units.specs.Sets.{Sets}
-use Rattle.cron_units.specs.Units.{FieldSet}
-use Rattle.cron_oncalendar.specs.Inner.Pieces.{AreDates, AreTimes, AreWeekdays}
+use Rattle.cron_oncalendar.specs.Inner.Pieces.{AreWeekdays}
 use Rattle.cron_oncalendar.proofs.LineLemmas.{one_line}
 use Rattle.cron_oncalendar.proofs.PushLemmas.{pushed_on}
 use Rattle.cron_oncalendar.proofs.RangeLemmas.{if_ok}

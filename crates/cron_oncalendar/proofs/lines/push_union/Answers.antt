@@ -1,6 +1,5 @@
 use Rattle.std.proofs.Common.{arith}
-use Rattle.cron_oncalendar.proofs.PushLemmas.{nothing_pushed}
-use Rattle.cron_oncalendar.proofs.UnionLemmas.{all_taken, no_lines, one_more}
+use Rattle.cron_oncalendar.proofs.UnionLemmas.{all_taken, one_more}
 use Rattle.cron_oncalendar.proofs.lines.push_union.Goals as goal
 
 pub loop-fields-preserved : goal.loop-fields-preserved
