@@ -14,14 +14,14 @@ use Rattle.cron_units.proofs.SetLemmas.{contains_after, contains_before, contain
 use Rattle.cron_oncalendar.specs.Calendars.{any, ranges, number_of, parts, range_of, ranges_in, ranges_of, weekday_named}
 use Rattle.cron_oncalendar.specs.Inner.Pieces.{level, is_listable, is_under, IsComponent}
 use Rattle.cron_oncalendar.specs.Inner.Written.{word_text, range_text, IsRangeOf, AreRangesText}
-use Rattle.cron_oncalendar.specs.declared.components.Words.{Words}
-use Rattle.cron_oncalendar.specs.declared.components.Words.TheVariants.{Numbers, Weekdays}
+use Rattle.cron_oncalendar.specs.declared.components.Spelling.{Spelling}
+use Rattle.cron_oncalendar.specs.declared.components.Spelling.TheVariants.{Digits, Names}
 use Rattle.cron_oncalendar.proofs.PartLemmas.{both_true, first_part, joined_parts, joined_under, one_part, under_append, under_more}
 
 -- ---- words
 
 -- a word is read as its number
-record IsRead (word : List ℕ → Option ℕ) (w : Words) (n : ℕ) : Type 0 where
+record IsRead (word : List ℕ → Option ℕ) (w : Spelling) (n : ℕ) : Type 0 where
   read : word (word_text w n) ≡ Some n
   under : is_under 1 (word_text w n) ≡ true
 
@@ -56,12 +56,12 @@ digits_read least most n ds some a e l g =
 digit_zero : AllDigits 10 (48 ∷ [])
 digit_zero = (omega arith, tt)
 
-number_read : (least most n : ℕ) → least ≤ n → n ≤ most → n < 4294967296 → IsRead (number_of least most) Numbers n
+number_read : (least most n : ℕ) → least ≤ n → n ≤ most → n < 4294967296 → IsRead (number_of least most) Digits n
 number_read least most n l g small = by_test (nat_lt n 10) refl where
   numeral : IsNumeral 10 (decimal n) × (digits_value 10 (decimal n) ≡ n)
   numeral = decimal_is_IsNumeral n (omega arith)
 
-  by_test : (short : Bool) → nat_lt n 10 ≡ short → IsRead (number_of least most) Numbers n
+  by_test : (short : Bool) → nat_lt n 10 ≡ short → IsRead (number_of least most) Digits n
   by_test true e =
       record {
         read = rw e (digits_read least most n (48 ∷ decimal n) (omega arith) (omega arith, numeral.0.1) numeral.1 l g);
@@ -80,7 +80,7 @@ this_or_later P n k here later l = elim (cases_eq n k) [
 ]
 
 abbrev IsWeekday : ℕ → Type 0
-IsWeekday n = IsRead weekday_named Weekdays n
+IsWeekday n = IsRead weekday_named Names n
 
 weekday_read : (n : ℕ) → 1 ≤ n → n ≤ 7 → IsWeekday n
 unfolding level
@@ -96,7 +96,7 @@ weekday_read n l g =
 
 -- ---- ranges
 
-read_range : (word : List ℕ → Option ℕ) (w : Words) (r : ℕ × ℕ) → IsRead word w r.0 → IsRead word w r.1 → r.0 ≤ r.1
+read_range : (word : List ℕ → Option ℕ) (w : Spelling) (r : ℕ × ℕ) → IsRead word w r.0 → IsRead word w r.1 → r.0 ≤ r.1
     → (range_of word (parts 46 (range_text w r)) ≡ Some r) × (is_under 2 (range_text w r) ≡ true)
 unfolding level
 read_range word w r a b l = by_test (r.0 == r.1) refl where
@@ -121,26 +121,26 @@ read_range word w r a b l = by_test (r.0 == r.1) refl where
       )
 
 -- the words of numbers are read
-abbrev AreRead : (List ℕ → Option ℕ) → Words → List ℕ → Type 0
+abbrev AreRead : (List ℕ → Option ℕ) → Spelling → List ℕ → Type 0
 AreRead word w xs = (n : ℕ) → contains xs n ≡ true → IsRead word w n
 
-texts_under : (word : List ℕ → Option ℕ) (w : Words) (xs : List ℕ) (rs : List (ℕ × ℕ)) → AreRead word w xs → AllByRecursion (IsRangeOf xs) rs
+texts_under : (word : List ℕ → Option ℕ) (w : Spelling) (xs : List ℕ) (rs : List (ℕ × ℕ)) → AreRead word w xs → AllByRecursion (IsRangeOf xs) rs
     → AllByRecursion (λ text. is_under 2 text ≡ true) (map (range_text w) rs)
 texts_under word w xs [] read a = tt
 texts_under word w xs (r ∷ rs) read a =
     ((read_range word w r (read r.0 a.0.first) (read r.1 a.0.last) a.0.ordered).1, texts_under word w xs rs read a.1)
 
-each_read : (word : List ℕ → Option ℕ) (w : Words) (xs : List ℕ) (rs : List (ℕ × ℕ)) → AreRead word w xs → AllByRecursion (IsRangeOf xs) rs
+each_read : (word : List ℕ → Option ℕ) (w : Spelling) (xs : List ℕ) (rs : List (ℕ × ℕ)) → AreRead word w xs → AllByRecursion (IsRangeOf xs) rs
     → ranges_of word (map (range_text w) rs) ≡ Some rs
 each_read word w xs [] read a = refl
 each_read word w xs (r ∷ rs) read a =
     rw ((read_range word w r (read r.0 a.0.first) (read r.1 a.0.last) a.0.ordered).0, each_read word w xs rs read a.1) refl
 
-no_texts : (w : Words) (rs : List (ℕ × ℕ)) → (rs ≡ [] → ⊥) → map (range_text w) rs ≡ [] → ⊥
+no_texts : (w : Spelling) (rs : List (ℕ × ℕ)) → (rs ≡ [] → ⊥) → map (range_text w) rs ≡ [] → ⊥
 no_texts w [] some e = some refl
 no_texts w (r ∷ rs) some e = absurd (cc)
 
-length_texts : (w : Words) (rs : List (ℕ × ℕ)) → length (map (range_text w) rs) ≡ length rs
+length_texts : (w : Spelling) (rs : List (ℕ × ℕ)) → length (map (range_text w) rs) ≡ length rs
 length_texts w [] = refl
 length_texts w (r ∷ rs) = ap suc (length_texts w rs)
 
@@ -149,7 +149,7 @@ pub record AreReadBack (word : List ℕ → Option ℕ) (piece : List ℕ) (rs :
   pub under : is_under 3 piece ≡ true
   pub read : ranges_in word piece ≡ Some (ranges rs)
 
-ranges_read : (word : List ℕ → Option ℕ) (w : Words) (xs piece : List ℕ) → AreRead word w xs → length xs ≤ 240 → (h : AreRangesText w xs piece)
+ranges_read : (word : List ℕ → Option ℕ) (w : Spelling) (xs piece : List ℕ) → AreRead word w xs → length xs ≤ 240 → (h : AreRangesText w xs piece)
     → AreReadBack word piece h.ranges
 unfolding level
 ranges_read word w xs piece read short h =
@@ -190,9 +190,9 @@ listable u h =
     }
 
 -- the text of days of the week
-pub weekdays_read : (xs piece : List ℕ) → IsSet days_of_week xs → (h : AreRangesText Weekdays xs piece) → AreReadBack weekday_named piece h.ranges
+pub weekdays_read : (xs piece : List ℕ) → IsSet days_of_week xs → (h : AreRangesText Names xs piece) → AreReadBack weekday_named piece h.ranges
 weekdays_read xs piece set h =
-    ranges_read weekday_named Weekdays xs piece
+    ranges_read weekday_named Names xs piece
     (λ n c. let within = member_within days_of_week xs n (omega arith) set c in weekday_read n within.0 within.1)
     (omega (arith, length_set days_of_week xs set)) h
 
@@ -214,10 +214,10 @@ not_star least most piece rs h = by_test (bytes_eq piece (codes "*")) refl where
       absurd (cc)
   by_test false e = e
 
-pub ranges_component : (u : TimeUnit) (xs piece : List ℕ) → is_listable u ≡ true → IsSet u xs → AreRangesText Numbers xs piece → IsComponent u xs piece
+pub ranges_component : (u : TimeUnit) (xs piece : List ℕ) → is_listable u ≡ true → IsSet u xs → AreRangesText Digits xs piece → IsComponent u xs piece
 ranges_component u xs piece fits set h =
     let can = listable u fits in
-    let read = λ (most : ℕ) (l : u.greatest ≤ most). ranges_read (number_of u.least most) Numbers xs piece
+    let read = λ (most : ℕ) (l : u.greatest ≤ most). ranges_read (number_of u.least most) Digits xs piece
     (λ n c. let within = member_within u xs n can.ordered set c in number_read u.least most n within.0 (omega (arith, within.1, l)) (omega (arith, within.1, can.small)))
     (omega (arith, length_set u xs set, can.short)) h in
     let own = read u.greatest (omega arith) in

@@ -1,7 +1,7 @@
 -- Ranges of ascending numbers, as a loop finds them.
-use Rattle.std.proofs.Common.{◌≡◌, ◌==◌, ◌+◌, ◌≤◌, ℕ, Bool, true, false, ◌||◌, ◌&&◌, nat_eq, nat_le, List, [], ◌∷◌, ◌++◌, length, refl, sym, ap, ◌∙◌, append_assoc, append-nil, Result, Ok, Err, OnOk, arith}
+use Rattle.std.proofs.Common.{◌≡◌, ◌+◌, ◌≤◌, ℕ, Bool, true, false, ◌||◌, ◌&&◌, nat_eq, nat_le, List, [], ◌∷◌, ◌++◌, length, refl, sym, ap, ◌∙◌, append_assoc, append-nil, Result, Ok, Err, OnOk, arith}
 use Rattle.std.proofs.Math.Bool.{or_assoc}
-use Rattle.std.proofs.lemmas.Bool.{eq-eqb, eqb-true}
+use Rattle.std.proofs.lemmas.Bool.{eq-eqb}
 use Rattle.std.proofs.lemmas.Bool.Decides.{nat_tests}
 use Rattle.std.proofs.lemmas.List.{flat_map_more, length-append}
 use Rattle.std.proofs.lemmas.List.Folds.{list_any-append}
@@ -9,17 +9,17 @@ use Rattle.std.specs.List.{AllByRecursion, flat_map, list_any}
 use Rattle.cron_units.specs.Units.{contains}
 use Rattle.cron_oncalendar.specs.Calendars.{lies_in}
 use Rattle.cron_oncalendar.specs.Inner.Written.{range_text, ranges_text, IsRangeOf, AreRangesText, Pushes}
-use Rattle.cron_oncalendar.specs.declared.components.Words.{Words}
+use Rattle.cron_oncalendar.specs.declared.components.Spelling.{Spelling}
 
 pub if_ok : {A E : Type 0} (r : Result A E) (P Q : Type 0) → (P → Q) → OnOk r P → OnOk r Q
 if_ok (Ok x) P Q f p = f p
 if_ok (Err e) P Q f p = tt
 
-abbrev closed_text : Words → ℕ × ℕ → List ℕ
+abbrev closed_text : Spelling → ℕ × ℕ → List ℕ
 closed_text w r = range_text w r ++ 44 ∷ []
 
 -- ranges that were pushed, each with its comma, and one that may go on
-pub record AreOpen (w : Words) (before text : List ℕ) (first last : ℕ) (all rest : List ℕ) : Type 0 where
+pub record AreOpen (w : Spelling) (before text : List ℕ) (first last : ℕ) (all rest : List ℕ) : Type 0 where
   closed : List (ℕ × ℕ)
   pushed : text ≡ before ++ flat_map (closed_text w) closed
   each : AllByRecursion (IsRangeOf all) closed
@@ -40,7 +40,7 @@ or_later false b e = e
 or_first : (a b : Bool) → a ≡ true → (a || b) ≡ true
 or_first a b e = rw e refl
 
-pub opened : (w : Words) (text : List ℕ) (start : ℕ) (rest : List ℕ) → AreOpen w text text start start (start ∷ rest) rest
+pub opened : (w : Spelling) (text : List ℕ) (start : ℕ) (rest : List ℕ) → AreOpen w text text start start (start ∷ rest) rest
 opened w text start rest =
     let one : contains (start ∷ rest) start ≡ true = rw (eq-eqb start start refl) refl in
     record {
@@ -53,17 +53,16 @@ opened w text start rest =
     }
 
 -- the number that comes next is one of all
-next_is : (w : Words) (before text : List ℕ) (first last n : ℕ) (all old rest : List ℕ) → old ≡ n ∷ rest → AreOpen w before text first last all old
+next_is : (w : Spelling) (before text : List ℕ) (first last n : ℕ) (all old rest : List ℕ) → old ≡ n ∷ rest → AreOpen w before text first last all old
     → contains all n ≡ true
 next_is w before text first last n all old rest is h =
     sym (h.same n) ∙ or_later (list_any (lies_in n) h.closed) _
     (or_later (lies_in n (first, last)) _ (ap (λ (xs : List ℕ). contains xs n) is ∙ or_first (nat_eq n n) _ (eq-eqb n n refl)))
 
 -- the range goes on
-pub goes_on : (w : Words) (before text : List ℕ) (first last n : ℕ) (all old rest : List ℕ) → (last + 1 == n) ≡ true → old ≡ n ∷ rest
+pub goes_on : (w : Spelling) (before text : List ℕ) (first last n : ℕ) (all old rest : List ℕ) → last + 1 ≡ n → old ≡ n ∷ rest
     → AreOpen w before text first last all old → AreOpen w before text first n all rest
-goes_on w before text first last n all old rest next is h =
-    let e : last + 1 ≡ n = eqb-true (last + 1) n next in
+goes_on w before text first last n all old rest e is h =
     record {
       closed = h.closed;
       pushed = h.pushed;
@@ -89,7 +88,7 @@ has_more x (s ∷ rs) r b =
     ∙ (ap (λ (c : Bool). lies_in x s || c) (has_more x rs r b) ∙ sym (or_assoc (lies_in x s) (list_any (lies_in x) rs) (lies_in x r || b)))
 
 -- the range is closed, and another begins
-pub begins : (w : Words) (before text comma now : List ℕ) (first last n : ℕ) (all old rest : List ℕ) → old ≡ n ∷ rest
+pub begins : (w : Spelling) (before text comma now : List ℕ) (first last n : ℕ) (all old rest : List ℕ) → old ≡ n ∷ rest
     → comma ≡ text ++ range_text w (first, last) → now ≡ comma ++ 44 ∷ []
     → AreOpen w before text first last all old → AreOpen w before now n n all rest
 begins w before text comma now first last n all old rest is e f h =
@@ -108,7 +107,7 @@ begins w before text comma now first last n all old rest is e f h =
       few = omega (arith, h.few, ap (λ (xs : List ℕ). length xs) is, length-append h.closed ((first, last) ∷ []));
     }
 
-joined : (w : Words) (rs : List (ℕ × ℕ)) (r : ℕ × ℕ) → ranges_text w (rs ++ r ∷ []) ≡ flat_map (closed_text w) rs ++ range_text w r
+joined : (w : Spelling) (rs : List (ℕ × ℕ)) (r : ℕ × ℕ) → ranges_text w (rs ++ r ∷ []) ≡ flat_map (closed_text w) rs ++ range_text w r
 joined w [] r = refl
 joined w (s ∷ []) r =
     sym (append_assoc (range_text w s) (44 ∷ []) (range_text w r)) ∙ ap (λ (t : List ℕ). t ++ range_text w r) (sym (append-nil (closed_text w s)))
@@ -122,7 +121,7 @@ some_more [] r e = absurd (cc)
 some_more (s ∷ rs) r e = absurd (cc)
 
 -- the last range is closed
-pub ranges_end : (w : Words) (before text new : List ℕ) (first last : ℕ) (all rest : List ℕ) → rest ≡ [] → AreOpen w before text first last all rest
+pub ranges_end : (w : Spelling) (before text new : List ℕ) (first last : ℕ) (all rest : List ℕ) → rest ≡ [] → AreOpen w before text first last all rest
     → new ≡ text ++ range_text w (first, last) → Pushes (AreRangesText w all) before new
 ranges_end w before text new first last all rest none h e =
     let rs = h.closed ++ (first, last) ∷ [] in

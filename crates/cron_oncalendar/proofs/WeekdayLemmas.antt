@@ -10,7 +10,7 @@ use Rattle.cron_units.proofs.SetLemmas.{contains_after, contains_set, filter_non
 use Rattle.cron_oncalendar.specs.Calendars.{any, ranges}
 use Rattle.cron_oncalendar.specs.Inner.Pieces.{level, AreWeekdays}
 use Rattle.cron_oncalendar.specs.Inner.Written.{AreRangesText}
-use Rattle.cron_oncalendar.specs.declared.components.Words.TheVariants.{Weekdays}
+use Rattle.cron_oncalendar.specs.declared.components.Spelling.TheVariants.{Names}
 use Rattle.cron_oncalendar.proofs.PartLemmas.{first_part, under_append, under_more}
 use Rattle.cron_oncalendar.proofs.ComponentLemmas.{weekdays_read}
 
@@ -68,7 +68,7 @@ all_weekdays days e =
 
 -- other days are ranges and a space
 pub some_weekdays : (days xs piece : List ℕ) → IsSet days_of_week xs → ((n : ℕ) → 1 ≤ n → n ≤ 7 → contains xs n ≡ contains days (n % 7 + 1))
-    → AreRangesText Weekdays xs piece → AreWeekdays days (piece ++ 32 ∷ [])
+    → AreRangesText Names xs piece → AreWeekdays days (piece ++ 32 ∷ [])
 unfolding level
 some_weekdays days xs piece set turned h =
     let back = weekdays_read xs piece set h in

@@ -6,18 +6,18 @@ ghost use Rattle.cron_units.specs.Units.{contains};
 ghost use Rattle.cron_oncalendar.specs.Inner.Pieces.{is_listable, AreWeekdays, IsComponent};
 ghost use Rattle.cron_oncalendar.specs.Inner.Written.{word_text, weekday_text, range_text, Pushes, AreRangesText};
 
-use cron_bits::words::Words as Bits;
+use cron_bits::words::Words;
 use cron_units::time_unit::layout::{bits, from_bits};
 use cron_units::time_unit::{DaysOfWeek, Ordinal, OrdinalIter, TimeUnitField, TimeUnitSpec};
 use std::alloc::AllocError;
 
 /// How a number is written.
 #[derive(Clone, Copy)]
-pub(crate) enum Words {
+pub(crate) enum Spelling {
     /// By two digits at least.
-    Numbers,
+    Digits,
     /// By a name, from 1 for Monday on.
-    Weekdays,
+    Names,
 }
 
 // The name of a day of the week, from 1 for Monday on.
@@ -35,32 +35,32 @@ fn name_of(weekday: Ordinal) -> &'static str
     }
 }
 
-fn push_word(text: &mut String, words: Words, number: Ordinal) -> Result<(), AllocError>
+fn push_word(text: &mut String, spelling: Spelling, number: Ordinal) -> Result<(), AllocError>
     ensures { OnOk result
-        (string_bytes text.new ≡ string_bytes text.old ++ word_text words number) }
+        (string_bytes text.new ≡ string_bytes text.old ++ word_text spelling number) }
 {
-    match words {
-        Words::Weekdays => text.push_str(name_of(number)),
-        Words::Numbers if number < 10 => write!(text, "0{number}"),
-        Words::Numbers => write!(text, "{number}"),
+    match spelling {
+        Spelling::Names => text.push_str(name_of(number)),
+        Spelling::Digits if number < 10 => write!(text, "0{number}"),
+        Spelling::Digits => write!(text, "{number}"),
     }
 }
 
 fn push_range(
     text: &mut String,
-    words: Words,
+    spelling: Spelling,
     first: Ordinal,
     last: Ordinal,
 ) -> Result<(), AllocError>
     ensures { OnOk result
-        (string_bytes text.new ≡ string_bytes text.old ++ range_text words (first, last)) }
+        (string_bytes text.new ≡ string_bytes text.old ++ range_text spelling (first, last)) }
 {
-    push_word(text, words, first)?;
+    push_word(text, spelling, first)?;
     if first == last {
         return Ok(());
     }
     text.push_str("..")?;
-    push_word(text, words, last)
+    push_word(text, spelling, last)
 }
 
 // Whether a number comes directly after another.
@@ -73,23 +73,23 @@ fn is_next(last: Ordinal, ordinal: Ordinal) -> bool
 // Pushes the ranges of a start and of the ordinals after it.
 fn push_ranges(
     text: &mut String,
-    words: Words,
+    spelling: Spelling,
     start: Ordinal,
     ordinals: OrdinalIter<'_>,
 ) -> Result<(), AllocError>
-    ensures { OnOk result (Pushes (AreRangesText words (start ∷ ordinals.entry))
+    ensures { OnOk result (Pushes (AreRangesText spelling (start ∷ ordinals.entry))
         (string_bytes text.old) (string_bytes text.new)) }
 {
     let (mut first, mut last) = (start, start);
     for ordinal in ordinals {
         if !is_next(last, ordinal) {
-            push_range(text, words, first, last)?;
+            push_range(text, spelling, first, last)?;
             text.push_str(",")?;
             first = ordinal;
         }
         last = ordinal;
     }
-    push_range(text, words, first, last)
+    push_range(text, spelling, first, last)
 }
 
 /// Pushes a component: a star for all numbers of the unit, else their ranges.
@@ -104,7 +104,7 @@ pub(crate) fn push_component<T: TimeUnitSpec>(text: &mut String, set: &T) -> Res
     }
     let mut ordinals = set.iter();
     match ordinals.next() {
-        Some(start) => push_ranges(text, Words::Numbers, start, ordinals),
+        Some(start) => push_ranges(text, Spelling::Digits, start, ordinals),
         None => Ok(()),
     }
 }
@@ -136,6 +136,6 @@ pub(crate) fn push_weekdays(text: &mut String, days: &DaysOfWeek) -> Result<(), 
     let Some(start) = ordinals.next() else {
         return Ok(());
     };
-    push_ranges(text, Words::Weekdays, start, ordinals)?;
+    push_ranges(text, Spelling::Names, start, ordinals)?;
     write!(text, " ")
 }

@@ -45,7 +45,8 @@ pub(crate) fn replay_crontab(report: &mut Report<'_>, row: Row<'_>) -> Result<()
         .text
         .split_once('\t')
         .context("the row lacks its lines")?;
-    let Ok(Expression::Fires(schedules)) = read(text) else {
+    let outcome = read(text);
+    let Ok(Expression::Fires(schedules)) = &outcome else {
         bail!("no expression");
     };
     let got = lines(report.alloc(), schedules.as_slice())?;

@@ -1,6 +1,6 @@
 use Rattle.std.proofs.Common.{◌∷◌, [], List, ℕ, sym, subst, ◌∙◌, rules}
 use Rattle.cron_oncalendar.specs.Inner.Written.{AreRangesText}
-use Rattle.cron_oncalendar.specs.declared.components.Words.TheVariants.{Numbers}
+use Rattle.cron_oncalendar.specs.declared.components.Spelling.TheVariants.{Digits}
 use Rattle.cron_oncalendar.proofs.ComponentLemmas.{star_component, ranges_component}
 use Rattle.cron_oncalendar.proofs.PushLemmas.{piece_pushed}
 use Rattle.cron_oncalendar.proofs.RangeLemmas.{if_ok}
@@ -17,5 +17,5 @@ returns-in-Some g c =
     let same = sym c.in-Some.ensures.steps ∙ c.iter-ordinals.ensures.members in
     if_ok c.push_ranges.result _ _
     (λ h. piece_pushed _ _ _ _ (λ piece r. ranges_component _ _ piece c.requires.unit c.iter-ordinals.ensures.set
-    (subst (λ (xs : List ℕ). AreRangesText Numbers xs piece) same r)) h)
+    (subst (λ (xs : List ℕ). AreRangesText Digits xs piece) same r)) h)
     c.push_ranges.ensures

@@ -6,4 +6,4 @@ use Rattle.cron_oncalendar.proofs.components.push_ranges.Given as goal
 
 abbrev pub invariant-loop-ordinal : goal.invariant-loop-ordinal
 invariant-loop-ordinal l =
-    AreOpen l.words (string_bytes l.initial.text) (string_bytes l.text) l.first l.last (l.start ∷ l.initial.ordinal-iterator) l.ordinal-iterator
+    AreOpen l.spelling (string_bytes l.initial.text) (string_bytes l.text) l.first l.last (l.start ∷ l.initial.ordinal-iterator) l.ordinal-iterator

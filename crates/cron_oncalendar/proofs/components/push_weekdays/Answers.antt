@@ -1,6 +1,6 @@
 use Rattle.std.proofs.Common.{◌∷◌, ◌++◌, [], List, ℕ, sym, subst, ◌∙◌, rules}
 use Rattle.cron_oncalendar.specs.Inner.Written.{AreRangesText}
-use Rattle.cron_oncalendar.specs.declared.components.Words.TheVariants.{Weekdays}
+use Rattle.cron_oncalendar.specs.declared.components.Spelling.TheVariants.{Names}
 use Rattle.cron_oncalendar.proofs.PushLemmas.{nothing_pushed, pushed_on}
 use Rattle.cron_oncalendar.proofs.RangeLemmas.{if_ok}
 use Rattle.cron_oncalendar.proofs.WeekdayLemmas.{all_weekdays, none_turned, some_weekdays}
@@ -23,5 +23,5 @@ returns c =
       piece = ranges.piece ++ 32 ∷ [];
       pushed = pushed_on _ _ _ ranges.piece (32 ∷ []) ranges.pushed e;
       is = some_weekdays c.args.days.now _ ranges.piece c.iter-ordinals.ensures.set c.from_monday-numbers.ensures
-          (subst (λ (xs : List ℕ). AreRangesText Weekdays xs ranges.piece) same ranges.is);
+          (subst (λ (xs : List ℕ). AreRangesText Names xs ranges.piece) same ranges.is);
     }) c.write.ensures.bytes
