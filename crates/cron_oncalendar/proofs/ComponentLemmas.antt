@@ -1,6 +1,6 @@
 -- Components that were written, as they are read.
-use Rattle.std.proofs.Common.{◌≡◌, ◌==◌, ◌+◌, ◌-◌, ◌≤◌, ◌<◌, ℕ, suc, Bool, true, false, ◌&&◌, nat_le, nat_lt, Option, Some, None, List, [], ◌∷◌, length, map, refl, sym, ap, ◌∙◌, subst, inl, inr, codes, arith}
-use Rattle.std.proofs.lemmas.Bool.{and_parts, cases_lt, cases_eq, eqb-true, false≢true, le-leb, leb-true, lt-ltb, ltb-true, ne_eqb}
+use Rattle.std.proofs.Common.{◌≡◌, ◌≢◌, ◌==◌, ◌+◌, ◌-◌, ◌≤◌, ◌<◌, ℕ, suc, Bool, true, false, ◌&&◌, nat_le, nat_lt, Option, Some, None, List, [], ◌∷◌, length, map, refl, sym, ap, ◌∙◌, subst, inl, inr, codes, arith}
+use Rattle.std.proofs.lemmas.Bool.{and_parts, cases_lt, cases_eq, eqb-false, eqb-true, false≢true, le-leb, leb-true, lt-ltb, ltb-true, ne_eqb}
 use Rattle.std.proofs.lemmas.Fmt.{decimal_is_IsNumeral}
 use Rattle.std.proofs.lemmas.Slice.Eq.{bytes_eq-Decides}
 use Rattle.std.proofs.lemmas.Str.Parse.{digit_from_value}
@@ -104,17 +104,18 @@ read_range word w r a b l = by_test (r.0 == r.1) refl where
   by_test true e =
       let one : r.0 ≡ r.1 = eqb-true r.0 r.1 e in
       rw e (
-        rw (one_part 46 1 (word_text w r.0) (omega arith) a.under, a.read, le-leb r.0 r.0 (omega arith)) (ap (λ (k : ℕ). Some (r.0, k)) one),
+        rw (one_part 46 1 (word_text w r.0) (omega arith) a.under, a.read) (ap (λ (k : ℕ). Some (r.0, k)) one),
         under_more 1 2 (word_text w r.0) (omega arith) a.under,
       )
   by_test false e =
+      let apart : r.0 ≢ r.1 = eqb-false r.0 r.1 e in
       rw e (
         rw (
           first_part 46 1 (word_text w r.0) (46 ∷ word_text w r.1) (omega arith) a.under,
           one_part 46 1 (word_text w r.1) (omega arith) b.under,
           a.read,
           b.read,
-          le-leb r.0 r.1 l,
+          lt-ltb r.0 r.1 (omega (arith, apart, l)),
         ) refl,
         under_append 2 (word_text w r.0) (46 ∷ 46 ∷ word_text w r.1) (under_more 1 2 (word_text w r.0) (omega arith) a.under)
             (under_more 1 2 (word_text w r.1) (omega arith) b.under),

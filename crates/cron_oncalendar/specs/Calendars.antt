@@ -1,4 +1,4 @@
--- What systemd reads of a line of OnCalendar, and the civil datetimes that match it.
+-- What systemd 252 reads of a line of OnCalendar, and the civil datetimes that match it. It reads more forms of lines than these.
 use Rattle.std.specs.Prelude.{ℕ, ℤ, pos, negsuc, ◌+◌, ◌-◌, Bool, true, false, ◌&&◌, List, [], ◌∷◌, Option, Some, None, codes, length, nat_eq, nat_le, nat_lt, if◌then◌else◌}
 use Rattle.std.specs.Char.{is_ascii_digit}
 use Rattle.std.specs.List.{list_all, list_any, slice_split}
@@ -84,12 +84,12 @@ weekday_named =
     named_in ((codes "Mon", 1) ∷ (codes "Tue", 2) ∷ (codes "Wed", 3) ∷ (codes "Thu", 4) ∷ (codes "Fri", 5) ∷ (codes "Sat", 6) ∷ (codes "Sun", 7) ∷ [])
 
 abbrev pub range_between : Option ℕ → Option ℕ → Option (ℕ × ℕ)
-range_between (Some first) (Some last) = if nat_le first last then Some (first, last) else None
+range_between (Some first) (Some last) = if nat_lt first last then Some (first, last) else None
 range_between _ _ = None
 
--- what stands between dots: a word alone, or the first and the last with two dots between
+-- what stands between dots: a word alone, or a first and a later last with two dots between
 abbrev pub range_of : (List ℕ → Option ℕ) → List (List ℕ) → Option (ℕ × ℕ)
-range_of word (only ∷ []) = range_between (word only) (word only)
+range_of word (only ∷ []) = option_map (λ n. (n, n)) (word only)
 range_of word (first ∷ [] ∷ last ∷ []) = range_between (word first) (word last)
 range_of word _ = None
 
@@ -114,9 +114,10 @@ abbrev pub dates_by : Bool → Option Component → Option Component → Option 
 dates_by back (Some ys) (Some ms) (Some ds) = Some (record { years = ys; months = ms; from_end = back; days = ds })
 dates_by back _ _ _ = None
 
--- a month and a day that counts back from the month's end; no month is sure to have more than 28
+-- a month, and one day that counts back from the month's end; no month is sure to have more than 28
 abbrev pub back_from_end : List ℕ → List (List ℕ) → Option Dates
-back_from_end year (month ∷ day ∷ []) = dates_by true (component_of 1970 2199 year) (component_of 1 12 month) (component_of 1 28 day)
+back_from_end year (month ∷ day ∷ []) =
+    dates_by true (component_of 1970 2199 year) (component_of 1 12 month) (option_map (λ n. ranges ((n, n) ∷ [])) (number_of 1 28 day))
 back_from_end year _ = None
 
 -- what stands between hyphens; a tilde may stand for the second one
