@@ -1,5 +1,5 @@
 -- Ranges of ascending numbers, as a loop finds them.
-use Rattle.std.proofs.Common.{◌≡◌, ◌+◌, ◌≤◌, ℕ, Bool, true, false, ◌||◌, ◌&&◌, nat_eq, nat_le, List, [], ◌∷◌, ◌++◌, length, refl, sym, ap, ◌∙◌, append_assoc, append-nil, Result, Ok, Err, OnOk, arith}
+use Rattle.std.proofs.Common.{◌≡◌, ◌+◌, ◌≤◌, ℕ, Bool, true, false, ◌||◌, ◌&&◌, nat_eq, nat_le, List, [], ◌∷◌, ◌++◌, length, refl, sym, ap, ◌∙◌, append_assoc, append-nil, arith}
 use Rattle.std.proofs.Math.Bool.{or_assoc}
 use Rattle.std.proofs.lemmas.Bool.{eq-eqb}
 use Rattle.std.proofs.lemmas.Bool.Decides.{nat_tests}
@@ -10,10 +10,6 @@ use Rattle.cron_units.specs.Units.{contains}
 use Rattle.cron_oncalendar.specs.Calendars.{lies_in}
 use Rattle.cron_oncalendar.specs.Inner.Written.{range_text, ranges_text, IsRangeOf, AreRangesText, Pushes}
 use Rattle.cron_oncalendar.specs.declared.components.Spelling.{Spelling}
-
-pub if_ok : {A E : Type 0} (r : Result A E) (P Q : Type 0) → (P → Q) → OnOk r P → OnOk r Q
-if_ok (Ok x) P Q f p = f p
-if_ok (Err e) P Q f p = tt
 
 abbrev closed_text : Spelling → ℕ × ℕ → List ℕ
 closed_text w r = range_text w r ++ 44 ∷ []

@@ -2,8 +2,7 @@ use Rattle.std.proofs.Common.{◌∷◌, [], List, ℕ, sym, subst, ◌∙◌, r
 use Rattle.cron_oncalendar.specs.Inner.Written.{AreRangesText}
 use Rattle.cron_oncalendar.specs.declared.components.Spelling.TheVariants.{Digits}
 use Rattle.cron_oncalendar.proofs.ComponentLemmas.{star_component, ranges_component}
-use Rattle.cron_oncalendar.proofs.PushLemmas.{piece_pushed}
-use Rattle.cron_oncalendar.proofs.RangeLemmas.{if_ok}
+use Rattle.cron_oncalendar.proofs.PushLemmas.{if_ok, piece_pushed}
 use Rattle.cron_oncalendar.proofs.components.push_component.Goals as goal
 
 pub returns-then-is_all : goal.returns-then-is_all

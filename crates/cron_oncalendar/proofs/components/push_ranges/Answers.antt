@@ -2,7 +2,8 @@ use Rattle.std.proofs.Common.{sym, ◌∙◌, ◌∷◌, List, ℕ, subst}
 use Rattle.std.proofs.lemmas.Bool.{eqb-true}
 use Rattle.std.specs.String.{string_bytes}
 use Rattle.cron_oncalendar.specs.Inner.Written.{AreRangesText, Pushes}
-use Rattle.cron_oncalendar.proofs.RangeLemmas.{opened, goes_on, begins, ranges_end, if_ok}
+use Rattle.cron_oncalendar.proofs.RangeLemmas.{opened, goes_on, begins, ranges_end}
+use Rattle.cron_oncalendar.proofs.PushLemmas.{if_ok}
 use Rattle.cron_oncalendar.proofs.components.push_ranges.Goals as goal
 
 pub loop-ordinal-init : goal.loop-ordinal-init

@@ -1,8 +1,7 @@
 use Rattle.std.proofs.Common.{◌∷◌, ◌++◌, [], List, ℕ, sym, subst, ◌∙◌, rules}
 use Rattle.cron_oncalendar.specs.Inner.Written.{AreRangesText}
 use Rattle.cron_oncalendar.specs.declared.components.Spelling.TheVariants.{Names}
-use Rattle.cron_oncalendar.proofs.PushLemmas.{nothing_pushed, pushed_on}
-use Rattle.cron_oncalendar.proofs.RangeLemmas.{if_ok}
+use Rattle.cron_oncalendar.proofs.PushLemmas.{if_ok, nothing_pushed, pushed_on}
 use Rattle.cron_oncalendar.proofs.WeekdayLemmas.{all_weekdays, none_turned, some_weekdays}
 use Rattle.cron_oncalendar.proofs.components.push_weekdays.Goals as goal
 

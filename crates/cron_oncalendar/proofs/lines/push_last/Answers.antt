@@ -1,7 +1,6 @@
 use Rattle.std.proofs.Common.{◌∙◌, ap, sym}
 use Rattle.cron_units.specs.Sets.{Sets}
-use Rattle.cron_oncalendar.proofs.PushLemmas.{nothing_pushed, piece_pushed}
-use Rattle.cron_oncalendar.proofs.RangeLemmas.{if_ok}
+use Rattle.cron_oncalendar.proofs.PushLemmas.{if_ok, nothing_pushed, piece_pushed}
 use Rattle.cron_oncalendar.proofs.UnionLemmas.{marked, no_lines, same_lines, unmarked}
 use Rattle.cron_oncalendar.proofs.lines.push_last.Goals as goal
 

@@ -2,8 +2,7 @@ use Rattle.std.proofs.Common.{◌∷◌, ◌++◌, [], subst}
 use Rattle.cron_units.specs.Sets.{Sets}
 use Rattle.cron_oncalendar.specs.Inner.Pieces.{AreWeekdays}
 use Rattle.cron_oncalendar.proofs.LineLemmas.{one_line}
-use Rattle.cron_oncalendar.proofs.PushLemmas.{pushed_on}
-use Rattle.cron_oncalendar.proofs.RangeLemmas.{if_ok}
+use Rattle.cron_oncalendar.proofs.PushLemmas.{if_ok, pushed_on}
 use Rattle.cron_oncalendar.proofs.lines.push_line.Goals as goal
 
 pub returns : goal.returns

@@ -1,6 +1,5 @@
 use Rattle.std.proofs.Common.{◌∙◌, sym}
-use Rattle.cron_oncalendar.proofs.PushLemmas.{nothing_pushed}
-use Rattle.cron_oncalendar.proofs.RangeLemmas.{if_ok}
+use Rattle.cron_oncalendar.proofs.PushLemmas.{if_ok, nothing_pushed}
 use Rattle.cron_oncalendar.proofs.UnionLemmas.{lines_pushed, no_lines, none_matched, two_lines, whole_from}
 use Rattle.cron_oncalendar.proofs.lines.push_lines.Goals as goal
 
