@@ -89,7 +89,7 @@ turned : (w d t x y z : Bool) → w ≡ x → d ≡ y → t ≡ z → ((w && d) 
 turned w d t x y z e f g = rw (e, f, g) (ap (λ (b : Bool). b && z) (and_comm x y))
 
 pub one_line : (s : Sets) (last_day : Bool) (ws ds ts : List ℕ) → AreWeekdays s.days_of_week ws → AreDates s last_day ds → AreTimes s ts
-    → AreLines (matches_by s last_day) (ws ++ (ds ++ 32 ∷ (ts ++ 10 ∷ [])))
+    → AreLines 1 (matches_by s last_day) (ws ++ (ds ++ 32 ∷ (ts ++ 10 ∷ [])))
 unfolding level calendar_of
 one_line s last_day ws ds ts w d t =
     let rest = ds ++ 32 ∷ ts in
@@ -102,6 +102,7 @@ one_line s last_day ws ds ts w d t =
     let read : calendar_of line ≡ Some says = w.read rest ds ts cut ∙ rw (d.read, t.read) refl in
     record {
       lines = line ∷ [];
+      few = omega arith;
       ended = sym (append-nil (line ++ 10 ∷ []) ∙ (append_assoc ws rest (10 ∷ []) ∙ ap (λ (p : List ℕ). ws ++ p) (append_assoc ds (32 ∷ ts) (10 ∷ []))));
       each = (record { under = under; read = rw read refl }, tt);
       same = λ dt h.

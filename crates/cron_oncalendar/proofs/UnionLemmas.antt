@@ -1,9 +1,9 @@
 -- The lines of schedules, one after another.
-use Rattle.std.proofs.Common.{◌≡◌, ◌+◌, ◌≤◌, ◌<◌, ◌⊎◌, ℕ, ℤ, pos, negsuc, ◌<ℤ◌, ◌≤ℤ◌, ◌/◌, IsSome, Bool, true, false, ◌||◌, ◌&&◌, nat_eq, List, [], ◌∷◌, ◌++◌, length, take, take_all, get_or, refl, sym, ap, ◌∙◌, subst, append_assoc, inl, inr, arith, rules, unsigned_abs}
+use Rattle.std.proofs.Common.{◌≡◌, ◌+◌, ◌*◌, ◌<◌, ◌⊎◌, ℕ, ℤ, pos, negsuc, ◌<ℤ◌, ◌≤ℤ◌, ◌/◌, IsSome, Bool, true, false, ◌||◌, ◌&&◌, nat_eq, List, [], ◌∷◌, ◌++◌, length, take, take_all, get_or, refl, sym, ap, ◌∙◌, subst, append_assoc, inl, inr, arith, rules, unsigned_abs}
 use Rattle.std.proofs.Math.Bool.{and-false}
 use Rattle.std.proofs.lemmas.Bool.{eq-eqb, eqb-true, false≢true}
 use Rattle.std.proofs.lemmas.Int.{by_lt_z}
-use Rattle.std.proofs.lemmas.List.{nil_from_length}
+use Rattle.std.proofs.lemmas.List.{length-append, nil_from_length}
 use Rattle.std.proofs.lemmas.List.Folds.{list_any-append, list_any_more}
 use Rattle.std.proofs.lemmas.Grind.{flat_map-append}
 use Rattle.std.specs.List.{AllByRecursion, flat_map, list_any}
@@ -34,11 +34,12 @@ use Rattle.cron_oncalendar.proofs.PushLemmas.{pushed_on}
 ended_line : List ℕ → List ℕ
 ended_line line = line ++ 10 ∷ []
 
-pub no_lines : (test : DateTime → Bool) → ((dt : DateTime) → test dt ≡ false) → AreLines test []
-no_lines test none = record { lines = []; ended = refl; each = tt; same = λ dt h. sym (none dt) }
+pub no_lines : (most : ℕ) (test : DateTime → Bool) → ((dt : DateTime) → test dt ≡ false) → AreLines most test []
+no_lines most test none = record { lines = []; few = omega arith; ended = refl; each = tt; same = λ dt h. sym (none dt) }
 
-pub same_lines : (test other : DateTime → Bool) (piece : List ℕ) → ((dt : DateTime) → test dt ≡ other dt) → AreLines test piece → AreLines other piece
-same_lines test other piece e h = record { lines = h.lines; ended = h.ended; each = h.each; same = λ dt y. h.same dt y ∙ e dt }
+pub same_lines : (most : ℕ) (test other : DateTime → Bool) (piece : List ℕ) → ((dt : DateTime) → test dt ≡ other dt) → AreLines most test piece
+    → AreLines most other piece
+same_lines most test other piece e h = record { lines = h.lines; few = h.few; ended = h.ended; each = h.each; same = λ dt y. h.same dt y ∙ e dt }
 
 each_append : (P : List ℕ → Type 0) (xs ys : List (List ℕ)) → AllByRecursion P xs → AllByRecursion P ys → AllByRecursion P (xs ++ ys)
 each_append P [] ys a b = b
@@ -48,23 +49,24 @@ either : (a b x y : Bool) → a ≡ x → b ≡ y → (a || b) ≡ (x || y)
 either a b x y e f = rw (e, f) refl
 
 -- lines, and then more
-lines_on : (test other both : DateTime → Bool) (p q : List ℕ) → ((dt : DateTime) → (test dt || other dt) ≡ both dt) → AreLines test p → AreLines other q
-    → AreLines both (p ++ q)
-lines_on test other both p q e a b =
+lines_on : (m n : ℕ) (test other both : DateTime → Bool) (p q : List ℕ) → ((dt : DateTime) → (test dt || other dt) ≡ both dt) → AreLines m test p
+    → AreLines n other q → AreLines (m + n) both (p ++ q)
+lines_on m n test other both p q e a b =
     record {
       lines = a.lines ++ b.lines;
+      few = omega (arith, length-append a.lines b.lines, a.few, b.few);
       ended = rw (a.ended, b.ended) (sym (flat_map-append (λ (line : List ℕ). line ++ 10 ∷ []) a.lines b.lines));
       each = each_append IsLine a.lines b.lines a.each b.each;
       same = λ dt y. list_any-append (line_matches dt) a.lines b.lines ∙ (either _ _ _ _ (a.same dt y) (b.same dt y) ∙ e dt);
     }
 
-pub lines_pushed : (test other both : DateTime → Bool) (old mid new : List ℕ) → ((dt : DateTime) → (test dt || other dt) ≡ both dt)
-    → Pushes (AreLines test) old mid → Pushes (AreLines other) mid new → Pushes (AreLines both) old new
-lines_pushed test other both old mid new e a b =
+pub lines_pushed : (m n : ℕ) (test other both : DateTime → Bool) (old mid new : List ℕ) → ((dt : DateTime) → (test dt || other dt) ≡ both dt)
+    → Pushes (AreLines m test) old mid → Pushes (AreLines n other) mid new → Pushes (AreLines (m + n) both) old new
+lines_pushed m n test other both old mid new e a b =
     record {
       piece = a.piece ++ b.piece;
       pushed = pushed_on old mid new a.piece b.piece a.pushed b.pushed;
-      is = lines_on test other both a.piece b.piece e a.is b.is;
+      is = lines_on m n test other both a.piece b.piece e a.is b.is;
     }
 
 -- ---- a schedule
@@ -156,15 +158,18 @@ none_matched s e dt =
 -- ---- a union
 
 pub one_more : (ss : List Sets) (i : ℕ) (old mid new : List ℕ) (s : Sets) → i < length ss → s ≡ get_or ss i s
-    → Pushes (AreLines (matches_any (take i ss))) old mid → Pushes (AreLines (matches s)) mid new
-    → Pushes (AreLines (matches_any (take (i + 1) ss))) old new
+    → Pushes (AreLines (2 * i) (matches_any (take i ss))) old mid → Pushes (AreLines 2 (matches s)) mid new
+    → Pushes (AreLines (2 * (i + 1)) (matches_any (take (i + 1) ss))) old new
 one_more ss i old mid new s less is a b =
-    lines_pushed _ _ _ old mid new
-    (λ dt. sym (list_any_more (λ (t : Sets). matches t dt) ss i s less ∙ ap (λ (t : Sets). matches_any (take i ss) dt || matches t dt) (sym is))) a b
+    let twice : 2 * i + 2 ≡ 2 * (i + 1) = omega arith in
+    subst (λ (most : ℕ). Pushes (AreLines most (matches_any (take (i + 1) ss))) old new) twice (lines_pushed _ _ _ _ _ old mid new
+    (λ dt. sym (list_any_more (λ (t : Sets). matches t dt) ss i s less ∙ ap (λ (t : Sets). matches_any (take i ss) dt || matches t dt) (sym is))) a b)
 
-pub all_taken : (ss : List Sets) (i : ℕ) (old new : List ℕ) → length ss ≤ i → Pushes (AreLines (matches_any (take i ss))) old new
-    → Pushes (AreLines (matches_any ss)) old new
-all_taken ss i old new g h = subst (λ (ts : List Sets). Pushes (AreLines (matches_any ts)) old new) (take_all i ss g) h
+pub all_taken : (ss : List Sets) (i : ℕ) (old new : List ℕ) → i ≡ length ss → Pushes (AreLines (2 * i) (matches_any (take i ss))) old new
+    → Pushes (AreLines (2 * length ss) (matches_any ss)) old new
+all_taken ss i old new e h =
+    subst (λ (ts : List Sets). Pushes (AreLines (2 * length ss) (matches_any ts)) old new) (take_all (length ss) ss (omega arith))
+    (subst (λ (k : ℕ). Pushes (AreLines (2 * k) (matches_any (take k ss))) old new) e h)
 
 -- ---- the years of the range
 
@@ -225,18 +230,19 @@ pub isnt_empty : (text : List ℕ) (len : ℕ) → len ≡ length text → nat_e
 isnt_empty text len e some none = false≢true (sym some ∙ eq-eqb len 0 (e ∙ ap (λ (t : List ℕ). length t) none))
 
 -- lines were pushed to an empty text
-pub says_union : (ss : List Sets) (old new : List ℕ) → old ≡ [] → (new ≡ [] → ⊥) → Pushes (AreLines (matches_any ss)) old new → SaysUnion ss new
+pub says_union : (ss : List Sets) (old new : List ℕ) → old ≡ [] → (new ≡ [] → ⊥) → Pushes (AreLines (2 * length ss) (matches_any ss)) old new → SaysUnion ss new
 says_union ss old new e some h =
     let is : new ≡ flat_map (λ line. line ++ 10 ∷ []) h.is.lines = h.pushed ∙ (ap (λ (t : List ℕ). t ++ h.piece) e ∙ h.is.ended) in
     record {
       lines = h.is.lines;
       some = λ none. some (is ∙ ap (λ (ls : List (List ℕ)). flat_map (λ line. line ++ 10 ∷ []) ls) none);
+      few = h.is.few;
       ended = ap (parts 10) is ∙ ended_parts h.is.lines h.is.each;
       read = each_read h.is.lines h.is.each;
       same = λ c less. h.is.same (civil c) (civil_in_years c less);
     }
 
-pub says_never : (ss : List Sets) (old new : List ℕ) → old ≡ [] → new ≡ [] → Pushes (AreLines (matches_any ss)) old new → IsNever ss
+pub says_never : (ss : List Sets) (old new : List ℕ) → old ≡ [] → new ≡ [] → Pushes (AreLines (2 * length ss) (matches_any ss)) old new → IsNever ss
 says_never ss old new e none h c less =
     let bytes = sym (h.pushed ∙ (ap (λ (t : List ℕ). t ++ h.piece) e ∙ h.is.ended)) ∙ none in
     sym (h.is.same (civil c) (civil_in_years c less)) ∙ ap (λ (ls : List (List ℕ)). list_any (line_matches (civil c)) ls) (no_bytes h.is.lines bytes)

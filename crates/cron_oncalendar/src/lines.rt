@@ -1,6 +1,6 @@
 //! The lines of schedules, and of their unions.
 
-ghost use Rattle.std.specs.Prelude.{◌≡◌, ◌<◌, [], true, false, ℕ, OnOk, IfOk, MatchOption};
+ghost use Rattle.std.specs.Prelude.{◌≡◌, ◌<◌, ◌*◌, [], true, false, ℕ, OnOk, IfOk, MatchOption, length};
 ghost use Rattle.std.specs.String.{string_bytes};
 ghost use Rattle.cron_time.specs.Matches.{matches};
 ghost use Rattle.cron_unions.specs.Unions.{matches_any};
@@ -46,7 +46,7 @@ fn push_time(text: &mut String, fields: &ScheduleFields) -> Result<(), AllocErro
 fn push_line(text: &mut String, fields: &ScheduleFields, last_day: bool) -> Result<(), AllocError>
     requires whole { IsWhole fields.now }
     requires numbered { last_day ≡ false → fields.now.days_of_month.ordinals ≡ [] → ⊥ }
-    ensures { OnOk result (Pushes (AreLines (matches_by fields.now last_day))
+    ensures { OnOk result (Pushes (AreLines 1 (matches_by fields.now last_day))
         (string_bytes text.old) (string_bytes text.new)) }
 {
     push_weekdays(text, &fields.days_of_week)?;
@@ -59,7 +59,7 @@ fn push_line(text: &mut String, fields: &ScheduleFields, last_day: bool) -> Resu
 // Pushes the line of the days by number, if there are any.
 fn push_numbered(text: &mut String, fields: &ScheduleFields) -> Result<(), AllocError>
     requires whole { IsWhole fields.now }
-    ensures { OnOk result (Pushes (AreLines (matches_by fields.now false))
+    ensures { OnOk result (Pushes (AreLines 1 (matches_by fields.now false))
         (string_bytes text.old) (string_bytes text.new)) }
 {
     if fields.days_of_month.count() == 0 {
@@ -71,7 +71,7 @@ fn push_numbered(text: &mut String, fields: &ScheduleFields) -> Result<(), Alloc
 // Pushes the line of the last day of the month, if it is marked.
 fn push_last(text: &mut String, fields: &ScheduleFields) -> Result<(), AllocError>
     requires whole { IsWhole fields.now }
-    ensures { OnOk result (Pushes (AreLines (matches_last fields.now))
+    ensures { OnOk result (Pushes (AreLines 1 (matches_last fields.now))
         (string_bytes text.old) (string_bytes text.new)) }
 {
     if !fields.days_of_month.last_day() {
@@ -94,7 +94,7 @@ fn lacks_numbers(fields: &ScheduleFields) -> bool
 
 // Pushes the lines of a schedule, of which there are none where a set is empty.
 fn push_lines(text: &mut String, fields: &ScheduleFields) -> Result<(), AllocError>
-    ensures { OnOk result (Pushes (AreLines (matches fields.now))
+    ensures { OnOk result (Pushes (AreLines 2 (matches fields.now))
         (string_bytes text.old) (string_bytes text.new)) }
 {
     if lacks_numbers(fields) {
@@ -105,7 +105,7 @@ fn push_lines(text: &mut String, fields: &ScheduleFields) -> Result<(), AllocErr
 }
 
 fn push_union(text: &mut String, schedules: &[ScheduleFields]) -> Result<(), AllocError>
-    ensures { OnOk result (Pushes (AreLines (matches_any schedules.now))
+    ensures { OnOk result (Pushes (AreLines (2 * length schedules.now) (matches_any schedules.now))
         (string_bytes text.old) (string_bytes text.new)) }
 {
     for fields in schedules {
@@ -114,11 +114,11 @@ fn push_union(text: &mut String, schedules: &[ScheduleFields]) -> Result<(), All
     Ok(())
 }
 
-/// Lines of systemd's `OnCalendar`, for a unit of timers: what matches one of them from 1970 to
-/// 2100 is what matches one of the schedules. A schedule has a line, and one more where the last
-/// day of the month is marked beside numbers. A star among the years means those after 2100 too.
-/// `None` says that each schedule has a set without members, or that there is no schedule: systemd
-/// has no line for that. `AllocError` comes where the allocator refuses memory for the text.
+/// The lines of systemd's `OnCalendar` for a union: from 1970 to 2100 they match just what it does.
+/// A schedule has one line, or two where the last day of the month is marked beside numbers. A star
+/// among the years means those after 2100 too. `None` says that each schedule has an empty set, or
+/// that there is no schedule: systemd has no line for that. `AllocError` comes where the allocator
+/// refuses memory for the text.
 pub fn calendar_lines(
     alloc: Global,
     schedules: &[ScheduleFields],

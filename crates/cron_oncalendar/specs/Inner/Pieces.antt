@@ -97,9 +97,10 @@ pub record IsLine (line : List ℕ) : Type 0 where
   pub under : is_under 6 line ≡ true
   pub read : IsSome (calendar_of line)
 
--- lines, each with its line feed, that say the datetimes at which a test is true
-pub record AreLines (test : DateTime → Bool) (piece : List ℕ) : Type 0 where
+-- so many lines at most, each with its line feed, that say the datetimes at which a test is true
+pub record AreLines (most : ℕ) (test : DateTime → Bool) (piece : List ℕ) : Type 0 where
   pub lines : List (List ℕ)
+  pub few : length lines ≤ most
   pub ended : piece ≡ flat_map (λ line. line ++ 10 ∷ []) lines
   pub each : AllByRecursion IsLine lines
   pub same : (dt : DateTime) → IsInYears dt.date → list_any (line_matches dt) lines ≡ test dt
