@@ -1,0 +1,3 @@
+pub mod Calendars
+pub mod Unions
+pub mod Inner

@@ -1,0 +1,5 @@
+//! Lines of systemd's `OnCalendar` for unions of schedules.
+#![tactic(auto)]
+
+mod components;
+pub mod lines;
