@@ -11,6 +11,7 @@ pub mod TabRows
 pub mod TabFiles
 pub mod Inner
 pub mod Pairs
+pub mod Calendars
 pub mod Subjects
 pub mod Lateness
 pub mod LateAnswers

@@ -16,6 +16,7 @@ mod left;
 pub mod missed;
 pub mod noted;
 pub mod notice;
+pub mod oncalendar;
 pub mod overlap;
 pub mod pair;
 pub mod pending;

@@ -1,6 +1,6 @@
 //! The subcommands with their words, and what they ask for.
 
-use crate::{alarm, check, compare, done, due, late, list, overlap, run};
+use crate::{alarm, check, compare, done, due, late, list, oncalendar, overlap, run};
 use clap::{Arg, ArgAction, ArgMatches, Command, value_parser};
 use cron_fires::ClockChanges;
 use cron_tool::answer::{Request, Which};
@@ -85,7 +85,8 @@ pub(crate) fn listing<'a>(alloc: Global, command: Command<'a>) -> Result<Command
     firing(alloc, command)?.arg(flag(alloc, "json", "An object of JSON for each fire"))
 }
 
-fn quartz<'a>(alloc: Global) -> Arg<'a> {
+/// `--quartz`.
+pub(crate) fn quartz<'a>(alloc: Global) -> Arg<'a> {
     flag(alloc, "quartz", "EXPRESSION is one of Quartz")
 }
 
@@ -129,6 +130,7 @@ pub(crate) fn command<'a>(alloc: Global) -> Result<Command<'a>, AllocError> {
         .subcommand(check::command(alloc)?)?
         .subcommand(compare::command(alloc)?)?
         .subcommand(overlap::command(alloc)?)?
+        .subcommand(oncalendar::command(alloc)?)?
         .subcommand(run::command(alloc)?)?
         .subcommand(alarm::command(alloc)?)
 }

@@ -12,6 +12,7 @@ mod due;
 mod late;
 mod list;
 mod machine;
+mod oncalendar;
 mod overlap;
 mod pair;
 mod run;
@@ -75,6 +76,7 @@ fn answer_words(rt: &HostRuntime, name: &str, words: &ArgMatches<'_>) -> Status 
         "check" => check::answer(rt, words),
         "compare" => compare::answer(rt, words),
         "overlap" => overlap::answer(rt, words),
+        "oncalendar" => oncalendar::answer(rt, words),
         "run" => run::answer(rt, words),
         "alarm" => alarm::answer(rt, words),
         _ => match request_of(name, words) {

@@ -1,0 +1,60 @@
+//! What the words of `oncalendar` are answered.
+
+ghost use Rattle.std.specs.Prelude.{◌≡◌, ◌||◌, false};
+ghost use Rattle.cron_listing.specs.Output.{complaint};
+ghost use Rattle.cron_writer.specs.Calls.{AreWritesFlushed};
+ghost use Rattle.cron_writer.specs.Watching.{has_failed, writer_of};
+ghost use Rattle.cron_tool.specs.Calendars.{AnswersCalendar, never_text};
+ghost use Rattle.cron_tool.specs.Statuses.{Ends, is_write_failure, Reports};
+ghost use Rattle.cron_tool.specs.declared.status.Status.TheVariants.{No};
+
+use crate::expression::read_as;
+use crate::pair::{send_text, tell_no_memory};
+use crate::status::Status;
+use crate::trouble::{Trouble, tell};
+use cron_oncalendar::lines::calendar_lines;
+use cron_writer::watchable::Watchable;
+use cron_writer::watched::Watched;
+use std::alloc::Global;
+
+// Says that an expression never fires, and flushes. No call of the writer may have failed before.
+fn tell_never<W: Watchable>(out: &mut Watched<W>) -> Status
+    requires { has_failed out.old ≡ false }
+    ensures ends { Ends No (complaint never_text)
+        (W.contents (writer_of out.old)) (W.contents (writer_of out.new)) result }
+    ensures mark { has_failed out.new ≡ is_write_failure result }
+    ensures calls { AreWritesFlushed W.writes W.flushes
+        (writer_of out.old) (has_failed out.old) (writer_of out.new) (has_failed out.new) }
+{
+    let never = "error: it never fires, and OnCalendar has no line for that\n";
+    send_text(never, Status::No, out)
+}
+
+/// Writes lines of systemd's `OnCalendar` that say an expression, of Quartz where that is asked for:
+/// they match the same civil seconds from 1970 to 2100. The status is `No` where a set of each of
+/// its schedules is empty, since systemd has no line for that. No call of the writers may have
+/// failed before.
+pub fn write_calendar<W: Watchable, C: Watchable>(
+    alloc: Global,
+    quartz: bool,
+    text: &str,
+    out: &mut Watched<W>,
+    complaints: &mut Watched<C>,
+) -> Status
+    requires out { has_failed out.old ≡ false }
+    requires complaints { has_failed complaints.old ≡ false }
+    ensures answers { AnswersCalendar quartz text.now
+        (Reports W.contents W.writes W.flushes) (Reports C.contents C.writes C.flushes)
+        (out.old, complaints.old) result (out.new, complaints.new) }
+    ensures mark { (has_failed out.new || has_failed complaints.new) ≡ is_write_failure result }
+{
+    let expression = match read_as(quartz, text) {
+        Ok(expression) => expression,
+        Err(refusal) => return tell(alloc, &Trouble::Expression(text, refusal), complaints),
+    };
+    match calendar_lines(alloc, expression.as_slice()) {
+        Ok(Some(lines)) => send_text(lines.as_str(), Status::Done, out),
+        Ok(None) => tell_never(complaints),
+        Err(_) => tell_no_memory(complaints),
+    }
+}
