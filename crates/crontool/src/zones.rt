@@ -5,7 +5,7 @@ use cron_tab_lines::{Crontab, Line, Lines, NamedZone};
 use cron_tool::status::Status;
 use cron_zones::error::ZoneError;
 use cron_zones::machine::MachineFiles;
-use cron_zones::open::open;
+use cron_zones::open::{Places, open};
 use cron_zones::zone::Zone;
 use jiff::tz::TimeZone;
 use std::alloc::{AllocError, Global};
@@ -40,7 +40,7 @@ impl<'a> TabZones<'a> {
         self.opened.iter().any(|opened| opened.name == name)
     }
 
-    // Opens a zone. What names none is passed over, `local` too, which is no name of a zone.
+    // Opens a zone, whose name is read as TZ is. What names none is passed over.
     fn open_one(
         &mut self,
         rt: &HostRuntime,
@@ -50,10 +50,14 @@ impl<'a> TabZones<'a> {
         let Ok(text) = str::from_utf8(name) else {
             return Ok(());
         };
-        if text == "local" || self.has(name) {
+        if self.has(name) {
             return Ok(());
         }
-        match open(rt.alloc(), text, &around.places(), &mut MachineFiles(rt)) {
+        let places = Places {
+            tz: Some(text),
+            ..around.places()
+        };
+        match open(rt.alloc(), "local", &places, &mut MachineFiles(rt)) {
             Ok(zone) => match self.opened.push(Opened { name, zone }) {
                 Ok(()) => Ok(()),
                 Err(_) => Err(no_memory(rt)),
