@@ -20,3 +20,4 @@ mod HistoryClockLemmas
 mod UnionItems
 mod CrontabLemmas
 mod OneSchedule
+mod CanonicalLemmas
