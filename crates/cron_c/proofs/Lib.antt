@@ -21,3 +21,4 @@ mod UnionItems
 mod CrontabLemmas
 mod OneSchedule
 pub mod LineLemmas
+mod CanonicalLemmas

@@ -1,6 +1,7 @@
 //! Laws over the definitions: the functions do nothing, and a caller calls one for what its
 //! contract says.
 
+ghost use Rattle.cron_c.specs.Canonical.{CanonicalIsReadBack};
 ghost use Rattle.cron_c.specs.UnionLaws.{OneFiresAsItsUnion, OneIsDueAsItsUnion};
 
 /// One schedule is its own union: the calls over several schedules answer of one alone what those
@@ -8,4 +9,9 @@ ghost use Rattle.cron_c.specs.UnionLaws.{OneFiresAsItsUnion, OneIsDueAsItsUnion}
 pub fn one_is_its_union()
     ensures fires { OneFiresAsItsUnion }
     ensures dues { OneIsDueAsItsUnion }
+{}
+
+/// The canonical text that was written of a schedule is read back to the same sets.
+pub fn canonical_is_read_back()
+    ensures { CanonicalIsReadBack }
 {}

@@ -3,4 +3,5 @@ mod DayLemmas
 mod RoomLemmas
 pub mod ShortTokens
 pub mod ShortSets
+mod ShortAscii
 pub mod ShortMeaning

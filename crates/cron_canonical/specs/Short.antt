@@ -1,7 +1,7 @@
 -- The short form of sets: a canonical text that means them.
 use Rattle.std.specs.Prelude.{◌≡◌, ◌==◌, ◌+◌, ◌-◌, ◌*◌, ℕ, List, [], ◌∷◌, ◌++◌, map, codes, nat_lt, if◌then◌else◌}
 use Rattle.std.specs.Fmt.{decimal}
-use Rattle.std.specs.Str.{bytes_eq}
+use Rattle.std.specs.Str.{IsAscii, bytes_eq}
 use Rattle.std.specs.List.{flat_map}
 use Rattle.cron_units.specs.Sets.{Sets, AreSets}
 use Rattle.cron_units.specs.Units.{TimeUnit, FieldSet, whole}
@@ -83,3 +83,7 @@ ShortFormsMean = (s : Sets) → AreSets s → Means (sets_text s) s
 -- sets with one short form are the same
 abbrev pub ShortFormsDiffer : Type 0
 ShortFormsDiffer = (s t : Sets) → AreSets s → AreSets t → sets_text s ≡ sets_text t → s ≡ t
+
+-- the short form of sets is ASCII
+abbrev pub ShortFormsAreAscii : Type 0
+ShortFormsAreAscii = (s : Sets) → AreSets s → IsAscii (sets_text s)

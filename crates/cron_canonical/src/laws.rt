@@ -1,7 +1,7 @@
 //! Laws over the definitions: the functions do nothing, and a caller calls one for what its
 //! contract says.
 
-ghost use Rattle.cron_canonical.specs.Short.{ShortFormsMean, ShortFormsDiffer};
+ghost use Rattle.cron_canonical.specs.Short.{ShortFormsAreAscii, ShortFormsMean, ShortFormsDiffer};
 
 /// The short form of sets means them.
 pub fn short_forms_mean()
@@ -11,4 +11,9 @@ pub fn short_forms_mean()
 /// Sets with one short form are the same.
 pub fn short_forms_differ()
     ensures { ShortFormsDiffer }
+{}
+
+/// The short form of sets is ASCII.
+pub fn short_forms_are_ascii()
+    ensures { ShortFormsAreAscii }
 {}
