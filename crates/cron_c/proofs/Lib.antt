@@ -18,6 +18,6 @@ mod RulesAlike
 pub mod Dues
 mod HistoryClockLemmas
 mod UnionItems
-mod CrontabLemmas
+mod ReadingLemmas
 mod OneSchedule
 mod CanonicalLemmas
