@@ -18,7 +18,7 @@ mod RulesAlike
 pub mod Dues
 mod HistoryClockLemmas
 mod UnionItems
-mod CrontabLemmas
+mod ReadingLemmas
 mod OneSchedule
 pub mod LineLemmas
 mod CanonicalLemmas

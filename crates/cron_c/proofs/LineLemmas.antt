@@ -1,7 +1,9 @@
 -- What is said of the line of a crontab that is written.
 use Rattle.std.proofs.Common.{ℕ, List, refl}
-use Rattle.cron_tab_lines.specs.Lines.{IsLine, Meaning, blank, comment, setting, zone, entry}
+use Rattle.cron_tab_lines.specs.Lines.{IsLine, IsRefused, Meaning, blank, comment, setting, zone, entry}
 use Rattle.cron_tab_lines.specs.declared.kinds.Crontab.{Crontab}
+use Rattle.cron_tab_lines.specs.Refusals.{Refusal, refusal_text}
+use Rattle.cron_c.specs.Buffers.{TellsRefusal}
 use Rattle.cron_c.specs.CrontabLines.{ParsesLine, WritesLine}
 use Rattle.cron_c.specs.declared.schedule.CronSchedule.{CronSchedule}
 use Rattle.cron_c.specs.declared.status.Status.{Status}
@@ -33,3 +35,16 @@ line_says kind line m old new count before BadZone is w = (m, is, w, refl, refl)
 line_says kind line m old new count before BadInstant is w = (m, is, w, refl, refl)
 line_says kind line m old new count before NotAnItem is w = (m, is, w, refl, refl)
 line_says kind line m old new count before NoMemory is w = (m, is, w, refl, refl)
+
+pub refusal_says : (kind : Crontab) (line : List ℕ) (r : Refusal) (old : List CronSchedule) (before after : List ℕ) (size : ℕ) (status : Status)
+    → IsRefused kind line r → TellsRefusal (refusal_text r) before after size status → ParsesLine kind line old old 0 before after size status
+refusal_says kind line r old before after size Refused is told = (r, is, refl, refl, told)
+refusal_says kind line r old before after size Untold is told = (r, is, refl, refl, told)
+refusal_says kind line r old before after size Done is told = absurd told
+refusal_says kind line r old before after size More is told = absurd told
+refusal_says kind line r old before after size NoItem is told = absurd told
+refusal_says kind line r old before after size NotUtf8 is told = absurd told
+refusal_says kind line r old before after size BadZone is told = absurd told
+refusal_says kind line r old before after size BadInstant is told = absurd told
+refusal_says kind line r old before after size NotAnItem is told = absurd told
+refusal_says kind line r old before after size NoMemory is told = absurd told

@@ -1,6 +1,8 @@
 -- What is written into a buffer that may be too short.
 use Rattle.std.specs.Prelude.{◌≡◌, ℕ, zero, suc, ◌+◌, List, [], ◌∷◌, length}
 use Rattle.cron_c.specs.declared.buffer.Sink.{Sink}
+use Rattle.cron_c.specs.declared.status.Status.{Status}
+use Rattle.cron_c.specs.declared.status.Status.TheVariants.{Refused, Untold}
 
 -- a buffer after bytes were laid over it from a place on, as far as they fit
 unfoldable pub laid_over : ℕ → List ℕ → List ℕ → List ℕ
@@ -14,3 +16,9 @@ pub record Takes (old : Sink) (text : List ℕ) (new : Sink) : Type 0 where
   pub counted : new.length ≡ old.length + length text
   pub laid : new.buffer.now ≡ laid_over old.length text old.buffer.now
   pub lent : new.buffer.ghost_name ≡ old.buffer.ghost_name
+
+-- The message that refuses a text is laid over a buffer, and its whole length told; or it can't be told.
+abbrev pub TellsRefusal : List ℕ → List ℕ → List ℕ → ℕ → Status → Type 0
+TellsRefusal told before after size Refused = (after ≡ laid_over 0 told before) × (size ≡ length told)
+TellsRefusal told before after size Untold = size ≡ 0
+TellsRefusal told before after size _ = ⊥

@@ -1,8 +1,9 @@
 //! A caller's buffer, which may be too short.
 
 ghost use Rattle.std.specs.Prelude.{◌≡◌, IfSome, MatchOption, length};
-ghost use Rattle.cron_c.specs.Buffers.{laid_over};
+ghost use Rattle.cron_c.specs.Buffers.{TellsRefusal, laid_over};
 
+use crate::status::Status;
 use std::fmt::{self, Write};
 
 // Writes bytes to the front of a buffer as far as they fit.
@@ -60,5 +61,20 @@ pub fn tell<M: fmt::Display>(message: &M, buffer: &mut [u8]) -> Option<usize>
     match written {
         Ok(()) => Some(length),
         Err(_) => None,
+    }
+}
+
+/// Writes the message that refuses a text to a buffer as far as it fits, and its whole length.
+pub fn refuse<M: fmt::Display>(fault: &M, message: &mut [u8], message_length: &mut usize) -> Status
+    ensures { IfSome (M.output fault.now)
+        (λ told. TellsRefusal told message.old message.new message_length.new result) }
+{
+    *message_length = 0;
+    match tell(fault, message) {
+        Some(length) => {
+            *message_length = length;
+            Status::Refused
+        }
+        None => Status::Untold,
     }
 }

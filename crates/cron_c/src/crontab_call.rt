@@ -4,7 +4,7 @@ ghost use Rattle.cron_crontab.specs.Views.{expression_view};
 ghost use Rattle.cron_c.specs.Calls.{Answers};
 ghost use Rattle.cron_c.specs.Crontabs.{ParsesCrontab, WritesSchedules, schedules_meant};
 
-use crate::buffer::tell;
+use crate::buffer::refuse;
 use crate::schedule::{CronSchedule, schedule_of};
 use crate::status::Status;
 use cron_crontab::{Expression, read};
@@ -63,13 +63,7 @@ fn parse(
         Ok(meaning) => return write_meaning(&meaning, schedules, count),
         Err(fault) => fault,
     };
-    match tell(&fault, message) {
-        Some(length) => {
-            *message_length = length;
-            Status::Refused
-        }
-        None => Status::Untold,
-    }
+    refuse(&fault, message, message_length)
 }
 
 /// Reads an expression of a crontab into the schedules that it means, and tells how many they are;

@@ -5,7 +5,7 @@ ghost use Rattle.cron_tab_lines.specs.Views.{line_view};
 ghost use Rattle.cron_c.specs.Calls.{Answers};
 ghost use Rattle.cron_c.specs.CrontabLines.{ParsesLine, WritesLine, kind_of};
 
-use crate::buffer::tell;
+use crate::buffer::refuse;
 use crate::crontab_call::write_meaning;
 use crate::schedule::CronSchedule;
 use crate::status::Status;
@@ -49,13 +49,7 @@ fn parse(
         Ok(read) => return write_line(&read, schedules, count),
         Err(refusal) => refusal,
     };
-    match tell(&refusal, message) {
-        Some(length) => {
-            *message_length = length;
-            Status::Refused
-        }
-        None => Status::Untold,
-    }
+    refuse(&refusal, message, message_length)
 }
 
 /// Reads a line of a crontab, without its line feed, into the schedules of its entry, and tells how

@@ -2,7 +2,7 @@
 
 ghost use Rattle.cron_c.specs.Calls.{Answers, Parses};
 
-use crate::buffer::tell;
+use crate::buffer::refuse;
 use crate::schedule::{CronSchedule, schedule_of};
 use crate::status::Status;
 use cron_text::{fault_of, no_ordinals, read_into};
@@ -25,13 +25,7 @@ fn parse(
         *schedule = schedule_of(&fields);
         return Status::Done;
     }
-    match tell(&fault_of(text), message) {
-        Some(length) => {
-            *message_length = length;
-            Status::Refused
-        }
-        None => Status::Untold,
-    }
+    refuse(&fault_of(text), message, message_length)
 }
 
 /// Reads a text into a schedule; or writes the message that refuses it to a buffer as far as it

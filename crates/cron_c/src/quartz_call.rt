@@ -3,7 +3,7 @@
 ghost use Rattle.cron_c.specs.Calls.{Answers};
 ghost use Rattle.cron_c.specs.Crontabs.{ParsesQuartz};
 
-use crate::buffer::tell;
+use crate::buffer::refuse;
 use crate::crontab_call::write_schedules;
 use crate::schedule::CronSchedule;
 use crate::status::Status;
@@ -28,13 +28,7 @@ fn parse(
         Ok(meaning) => return write_schedules(meaning.as_slice(), schedules, count),
         Err(fault) => fault,
     };
-    match tell(&fault, message) {
-        Some(length) => {
-            *message_length = length;
-            Status::Refused
-        }
-        None => Status::Untold,
-    }
+    refuse(&fault, message, message_length)
 }
 
 /// Reads an expression of Quartz into the schedules that it means, and tells how many they are; or

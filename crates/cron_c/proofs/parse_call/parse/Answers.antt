@@ -1,7 +1,10 @@
 use Rattle.std.proofs.Common.{ℕ, List, refl, sym, subst, rules}
 use Rattle.cron_units.specs.Sets.{Sets}
+use Rattle.cron_text.specs.Fault.{IsRefusal}
+use Rattle.cron_text.specs.FaultText.{fault_text}
 use Rattle.cron_text.specs.Meaning.{Means}
 use Rattle.cron_c.specs.Structs.{IsStructOf}
+use Rattle.cron_c.proofs.ReadingLemmas.{refused_says}
 use Rattle.cron_c.proofs.parse_call.parse.Goals as goal
 
 pub fault_of-requires : goal.fault_of-requires
@@ -17,8 +20,9 @@ returns-then-read_into c =
 pub returns-in_default : goal.returns-in_default
 returns-in_default c = search rules
 
-pub returns-in-Some : goal.returns-in-Some
-returns-in-Some c = search rules
-
-pub returns-in-None : goal.returns-in-None
-returns-in-None c = search rules
+pub returns : goal.returns
+returns c =
+    let told = fault_text c.fault_of.result in
+    let refusal = subst (λ (t : List ℕ). IsRefusal t told) c.in-Ok.ensures.cases.0 c.fault_of.ensures in
+    refused_says c.args.text.now told c.args.schedule.now c.args.message.now c.refuse.new.message c.refuse.new.message_length c.refuse.result
+    c.in-Ok.ensures.cases.1 refusal c.refuse.ensures

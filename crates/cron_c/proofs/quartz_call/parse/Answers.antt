@@ -1,10 +1,10 @@
-use Rattle.std.proofs.Common.{List, ℕ, refl, subst}
+use Rattle.std.proofs.Common.{List, ℕ, subst}
 use Rattle.cron_units.specs.Sets.{Sets}
 use Rattle.cron_quartz.specs.Quartz.{Means, Refuses}
 use Rattle.cron_quartz.specs.Refusals.{fault_text}
 use Rattle.cron_quartz.specs.Views.{fault_view}
 use Rattle.cron_c.specs.Crontabs.{WritesSchedules}
-use Rattle.cron_c.proofs.CrontabLemmas.{written_says}
+use Rattle.cron_c.proofs.ReadingLemmas.{fault_says, written_says}
 use Rattle.cron_c.proofs.quartz_call.parse.Goals as goal
 
 pub returns-in-Ok-read : goal.returns-in-Ok-read
@@ -19,7 +19,9 @@ returns-in-Ok-read c =
     written_says Means (λ (ss : List Sets). ss) Refuses fault_text c.args.text.now meaning old new count c.args.message.now status
     c.in-Ok.ensures.cases.1 means written
 
-pub returns-in-None : goal.returns-in-None
-returns-in-None c =
-    let refuses = subst (λ (t : List ℕ). Refuses t (fault_view c.in-Err.fault)) c.in-Ok.ensures.cases.0 c.in-Err.ensures in
-    (c.in-Ok.ensures.cases.1, fault_view c.in-Err.fault, refuses, refl, refl, refl)
+pub returns : goal.returns
+returns c =
+    let fault = fault_view c.in-Err.fault in
+    let refuses = subst (λ (t : List ℕ). Refuses t fault) c.in-Ok.ensures.cases.0 c.in-Err.ensures in
+    fault_says Means (λ (ss : List Sets). ss) Refuses fault_text c.args.text.now fault c.args.schedules.now c.args.message.now c.refuse.new.message
+    c.refuse.new.message_length c.refuse.result c.in-Ok.ensures.cases.1 refuses c.refuse.ensures
