@@ -7,7 +7,7 @@ use Rattle.cron_c.specs.Buffers.{TellsRefusal}
 use Rattle.cron_c.specs.CrontabLines.{ParsesLine, WritesLine}
 use Rattle.cron_c.specs.declared.schedule.CronSchedule.{CronSchedule}
 use Rattle.cron_c.specs.declared.status.Status.{Status}
-use Rattle.cron_c.specs.declared.status.Status.TheVariants.{Done, NoItem, Refused, NotUtf8, BadZone, BadInstant, NotAnItem, Untold, More, NoMemory}
+use Rattle.cron_c.specs.declared.status.Status.TheVariants.{Refused, Untold}
 
 never_refused : (m : Meaning) (old new : List CronSchedule) (count : ℕ) → WritesLine m old new count Refused → ⊥
 never_refused blank old new count w = w
@@ -27,24 +27,10 @@ pub line_says : (kind : Crontab) (line : List ℕ) (m : Meaning) (old new : List
     → IsLine kind line m → WritesLine m old new count status → ParsesLine kind line old new count before before 0 status
 line_says kind line m old new count before Refused is w = absurd (never_refused m old new count w)
 line_says kind line m old new count before Untold is w = absurd (never_untold m old new count w)
-line_says kind line m old new count before Done is w = (m, is, w, refl, refl)
-line_says kind line m old new count before More is w = (m, is, w, refl, refl)
-line_says kind line m old new count before NoItem is w = (m, is, w, refl, refl)
-line_says kind line m old new count before NotUtf8 is w = (m, is, w, refl, refl)
-line_says kind line m old new count before BadZone is w = (m, is, w, refl, refl)
-line_says kind line m old new count before BadInstant is w = (m, is, w, refl, refl)
-line_says kind line m old new count before NotAnItem is w = (m, is, w, refl, refl)
-line_says kind line m old new count before NoMemory is w = (m, is, w, refl, refl)
+line_says kind line m old new count before status is w = (m, is, w, refl, refl)
 
 pub refusal_says : (kind : Crontab) (line : List ℕ) (r : Refusal) (old : List CronSchedule) (before after : List ℕ) (size : ℕ) (status : Status)
     → IsRefused kind line r → TellsRefusal (refusal_text r) before after size status → ParsesLine kind line old old 0 before after size status
-refusal_says kind line r old before after size Refused is told = (r, is, refl, refl, told)
+refusal_says kind line r old before after size Refused is told = (r, is, refl, refl, told.0, told.1)
 refusal_says kind line r old before after size Untold is told = (r, is, refl, refl, told)
-refusal_says kind line r old before after size Done is told = absurd told
-refusal_says kind line r old before after size More is told = absurd told
-refusal_says kind line r old before after size NoItem is told = absurd told
-refusal_says kind line r old before after size NotUtf8 is told = absurd told
-refusal_says kind line r old before after size BadZone is told = absurd told
-refusal_says kind line r old before after size BadInstant is told = absurd told
-refusal_says kind line r old before after size NotAnItem is told = absurd told
-refusal_says kind line r old before after size NoMemory is told = absurd told
+refusal_says kind line r old before after size status is told = absurd told
