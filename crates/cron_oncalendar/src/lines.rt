@@ -59,7 +59,8 @@ fn push_line(text: &mut String, fields: &ScheduleFields, last_day: bool) -> Resu
 // Pushes the line of the days by number, if there are any.
 fn push_numbered(text: &mut String, fields: &ScheduleFields) -> Result<(), AllocError>
     requires whole { IsWhole fields.now }
-    ensures { OnOk result (Pushes (AreLines (numbered_lines fields.now) (matches_by fields.now false))
+    ensures { OnOk result (Pushes
+        (AreLines (numbered_lines fields.now) (matches_by fields.now false))
         (string_bytes text.old) (string_bytes text.new)) }
 {
     if fields.days_of_month.count() == 0 {
@@ -105,7 +106,8 @@ fn push_lines(text: &mut String, fields: &ScheduleFields) -> Result<(), AllocErr
 }
 
 fn push_union(text: &mut String, schedules: &[ScheduleFields]) -> Result<(), AllocError>
-    ensures { OnOk result (Pushes (AreLines (sum_by line_count schedules.now) (matches_any schedules.now))
+    ensures { OnOk result (Pushes
+        (AreLines (sum_by line_count schedules.now) (matches_any schedules.now))
         (string_bytes text.old) (string_bytes text.new)) }
 {
     for fields in schedules {
