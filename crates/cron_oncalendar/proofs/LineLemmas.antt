@@ -102,7 +102,7 @@ one_line s last_day ws ds ts w d t =
     let read : calendar_of line ≡ Some says = w.read rest ds ts cut ∙ rw (d.read, t.read) refl in
     record {
       lines = line ∷ [];
-      few = omega arith;
+      counted = refl;
       ended = sym (append-nil (line ++ 10 ∷ []) ∙ (append_assoc ws rest (10 ∷ []) ∙ ap (λ (p : List ℕ). ws ++ p) (append_assoc ds (32 ∷ ts) (10 ∷ []))));
       each = (record { under = under; read = rw read refl }, tt);
       same = λ dt h.

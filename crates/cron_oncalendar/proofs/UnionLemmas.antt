@@ -1,10 +1,11 @@
 -- The lines of schedules, one after another.
-use Rattle.std.proofs.Common.{◌≡◌, ◌+◌, ◌*◌, ◌<◌, ◌⊎◌, ℕ, ℤ, pos, negsuc, ◌<ℤ◌, ◌≤ℤ◌, ◌/◌, IsSome, Bool, true, false, ◌||◌, ◌&&◌, nat_eq, List, [], ◌∷◌, ◌++◌, length, take, take_all, get_or, refl, sym, ap, ◌∙◌, subst, append_assoc, inl, inr, arith, rules, unsigned_abs}
+use Rattle.std.proofs.Common.{◌≡◌, ◌+◌, ◌≤◌, ◌<◌, ◌⊎◌, ℕ, ℤ, pos, negsuc, ◌<ℤ◌, ◌≤ℤ◌, ◌/◌, IsSome, Bool, true, false, ◌||◌, ◌&&◌, nat_eq, List, [], ◌∷◌, ◌++◌, length, cond, sum_by, take, take_all, get_or, refl, sym, ap, ◌∙◌, subst, append_assoc, inl, inr, arith, rules, unsigned_abs}
 use Rattle.std.proofs.Math.Bool.{and-false}
-use Rattle.std.proofs.lemmas.Bool.{eq-eqb, eqb-true, false≢true}
+use Rattle.std.proofs.lemmas.Bool.{eq-eqb, eqb-true, false≢true, ne_eqb}
 use Rattle.std.proofs.lemmas.Int.{by_lt_z}
 use Rattle.std.proofs.lemmas.List.{length-append, nil_from_length}
 use Rattle.std.proofs.lemmas.List.Folds.{list_any-append, list_any_more}
+use Rattle.std.proofs.lemmas.List.Sums.{sum_by_more}
 use Rattle.std.proofs.lemmas.Grind.{flat_map-append}
 use Rattle.std.specs.List.{AllByRecursion, flat_map, list_any}
 use Rattle.jiff_core.specs.Calendar.{day_count, days_from_civil, days_in_month, days_of_months, days_of_years}
@@ -23,8 +24,8 @@ use Rattle.cron_units.specs.Units.{FieldSet, contains}
 use Rattle.cron_time.specs.Matches.{contains_year, has_day, matches, matches_time}
 use Rattle.cron_unions.specs.Unions.{matches_any}
 use Rattle.cron_oncalendar.specs.Calendars.{calendar_of, line_matches, parts}
-use Rattle.cron_oncalendar.specs.Unions.{IsNever, SaysUnion}
-use Rattle.cron_oncalendar.specs.Inner.Pieces.{level, is_day, lacks_numbers, matches_by, matches_last, AreLines, IsInYears, IsLine, IsWhole}
+use Rattle.cron_oncalendar.specs.Unions.{IsNever, SaysUnion, lacks_numbers, last_lines, line_count, numbered_lines}
+use Rattle.cron_oncalendar.specs.Inner.Pieces.{level, is_day, matches_by, matches_last, AreLines, IsInYears, IsLine, IsWhole}
 use Rattle.cron_oncalendar.specs.Inner.Written.{Pushes}
 use Rattle.cron_oncalendar.proofs.PartLemmas.{first_part}
 use Rattle.cron_oncalendar.proofs.PushLemmas.{pushed_on}
@@ -34,12 +35,13 @@ use Rattle.cron_oncalendar.proofs.PushLemmas.{pushed_on}
 ended_line : List ℕ → List ℕ
 ended_line line = line ++ 10 ∷ []
 
-pub no_lines : (most : ℕ) (test : DateTime → Bool) → ((dt : DateTime) → test dt ≡ false) → AreLines most test []
-no_lines most test none = record { lines = []; few = omega arith; ended = refl; each = tt; same = λ dt h. sym (none dt) }
+pub no_lines : (number : ℕ) (test : DateTime → Bool) → number ≡ 0 → ((dt : DateTime) → test dt ≡ false) → AreLines number test []
+no_lines number test e none = record { lines = []; counted = sym e; ended = refl; each = tt; same = λ dt h. sym (none dt) }
 
-pub same_lines : (most : ℕ) (test other : DateTime → Bool) (piece : List ℕ) → ((dt : DateTime) → test dt ≡ other dt) → AreLines most test piece
-    → AreLines most other piece
-same_lines most test other piece e h = record { lines = h.lines; few = h.few; ended = h.ended; each = h.each; same = λ dt y. h.same dt y ∙ e dt }
+pub same_lines : (m n : ℕ) (test other : DateTime → Bool) (piece : List ℕ) → m ≡ n → ((dt : DateTime) → test dt ≡ other dt) → AreLines m test piece
+    → AreLines n other piece
+same_lines m n test other piece c e h =
+    record { lines = h.lines; counted = h.counted ∙ c; ended = h.ended; each = h.each; same = λ dt y. h.same dt y ∙ e dt }
 
 each_append : (P : List ℕ → Type 0) (xs ys : List (List ℕ)) → AllByRecursion P xs → AllByRecursion P ys → AllByRecursion P (xs ++ ys)
 each_append P [] ys a b = b
@@ -54,19 +56,20 @@ lines_on : (m n : ℕ) (test other both : DateTime → Bool) (p q : List ℕ) �
 lines_on m n test other both p q e a b =
     record {
       lines = a.lines ++ b.lines;
-      few = omega (arith, length-append a.lines b.lines, a.few, b.few);
+      counted = omega (arith, length-append a.lines b.lines, a.counted, b.counted);
       ended = rw (a.ended, b.ended) (sym (flat_map-append (λ (line : List ℕ). line ++ 10 ∷ []) a.lines b.lines));
       each = each_append IsLine a.lines b.lines a.each b.each;
       same = λ dt y. list_any-append (line_matches dt) a.lines b.lines ∙ (either _ _ _ _ (a.same dt y) (b.same dt y) ∙ e dt);
     }
 
-pub lines_pushed : (m n : ℕ) (test other both : DateTime → Bool) (old mid new : List ℕ) → ((dt : DateTime) → (test dt || other dt) ≡ both dt)
-    → Pushes (AreLines m test) old mid → Pushes (AreLines n other) mid new → Pushes (AreLines (m + n) both) old new
-lines_pushed m n test other both old mid new e a b =
+pub lines_pushed : (m n number : ℕ) (test other both : DateTime → Bool) (old mid new : List ℕ) → m + n ≡ number
+    → ((dt : DateTime) → (test dt || other dt) ≡ both dt) → Pushes (AreLines m test) old mid → Pushes (AreLines n other) mid new
+    → Pushes (AreLines number both) old new
+lines_pushed m n number test other both old mid new c e a b =
     record {
       piece = a.piece ++ b.piece;
       pushed = pushed_on old mid new a.piece b.piece a.pushed b.pushed;
-      is = lines_on m n test other both a.piece b.piece e a.is b.is;
+      is = subst (λ (k : ℕ). AreLines k both (a.piece ++ b.piece)) c (lines_on m n test other both a.piece b.piece e a.is b.is);
     }
 
 -- ---- a schedule
@@ -74,10 +77,25 @@ lines_pushed m n test other both old mid new e a b =
 all_false : (a b c d : Bool) → b ≡ false → (((a && b) && c) && d) ≡ false
 all_false a b c d e = rw (e, and-false a) refl
 
-pub none_numbered : (s : Sets) (days : FieldSet) (count : ℕ) → days ≡ s.days_of_month → count ≡ length days.ordinals → count ≡ 0 → (dt : DateTime) → matches_by s false dt ≡ false
-none_numbered s days count is e z dt =
-    let none : s.days_of_month.ordinals ≡ [] = ap (λ (set : FieldSet). set.ordinals) (sym is) ∙ nil_from_length days.ordinals (sym e ∙ z) in
-    all_false _ _ _ _ (ap (λ (xs : List ℕ). contains xs dt.date.day) none)
+-- days of the month without numbers
+pub none_numbered : (s : Sets) (days : FieldSet) (count : ℕ) → days ≡ s.days_of_month → count ≡ length days.ordinals → count ≡ 0
+    → s.days_of_month.ordinals ≡ []
+none_numbered s days count is e z = ap (λ (set : FieldSet). set.ordinals) (sym is) ∙ nil_from_length days.ordinals (sym e ∙ z)
+
+pub unnumbered : (s : Sets) → s.days_of_month.ordinals ≡ [] → (dt : DateTime) → matches_by s false dt ≡ false
+unnumbered s none dt = all_false _ _ _ _ (ap (λ (xs : List ℕ). contains xs dt.date.day) none)
+
+pub no_numbered_line : (s : Sets) → s.days_of_month.ordinals ≡ [] → numbered_lines s ≡ 0
+no_numbered_line s none = rw none refl
+
+pub one_numbered_line : (s : Sets) (days : FieldSet) (count : ℕ) → days ≡ s.days_of_month → count ≡ length days.ordinals → (count ≡ 0 → ⊥)
+    → 1 ≡ numbered_lines s
+one_numbered_line s days count is e some =
+    let same : length s.days_of_month.ordinals ≡ count = ap (λ (set : FieldSet). length set.ordinals) (sym is) ∙ sym e in
+    rw (same, ne_eqb count 0 some) refl
+
+pub last_line : (s : Sets) (mark : Bool) → s.days_of_month.last_day ≡ mark → cond mark 1 0 ≡ last_lines s
+last_line s mark e = rw e refl
 
 pub unmarked : (s : Sets) → s.days_of_month.last_day ≡ false → (dt : DateTime) → matches_last s dt ≡ false
 unmarked s e dt = rw e refl
@@ -95,6 +113,12 @@ unfolding matches
 two_lines s dt =
     in_two (contains_year s.years dt.date.year && contains s.months dt.date.month) (is_day s false dt.date) s.days_of_month.last_day (is_day s true dt.date)
     (contains s.days_of_week (weekday_number dt.date)) (matches_time s dt.time)
+
+pub no_line : (s : Sets) → lacks_numbers s ≡ true → line_count s ≡ 0
+no_line s e = rw e refl
+
+pub both_lines : (s : Sets) → lacks_numbers s ≡ false → numbered_lines s + last_lines s ≡ line_count s
+both_lines s e = rw e refl
 
 or_parts : (a b : Bool) → (a || b) ≡ false → (a ≡ false) × (b ≡ false)
 or_parts true b e = absurd (false≢true (sym e))
@@ -158,18 +182,17 @@ none_matched s e dt =
 -- ---- a union
 
 pub one_more : (ss : List Sets) (i : ℕ) (old mid new : List ℕ) (s : Sets) → i < length ss → s ≡ get_or ss i s
-    → Pushes (AreLines (2 * i) (matches_any (take i ss))) old mid → Pushes (AreLines 2 (matches s)) mid new
-    → Pushes (AreLines (2 * (i + 1)) (matches_any (take (i + 1) ss))) old new
+    → Pushes (AreLines (sum_by line_count (take i ss)) (matches_any (take i ss))) old mid → Pushes (AreLines (line_count s) (matches s)) mid new
+    → Pushes (AreLines (sum_by line_count (take (i + 1) ss)) (matches_any (take (i + 1) ss))) old new
 one_more ss i old mid new s less is a b =
-    let twice : 2 * i + 2 ≡ 2 * (i + 1) = omega arith in
-    subst (λ (most : ℕ). Pushes (AreLines most (matches_any (take (i + 1) ss))) old new) twice (lines_pushed _ _ _ _ _ old mid new
-    (λ dt. sym (list_any_more (λ (t : Sets). matches t dt) ss i s less ∙ ap (λ (t : Sets). matches_any (take i ss) dt || matches t dt) (sym is))) a b)
+    lines_pushed _ _ _ _ _ _ old mid new
+    (sym (sum_by_more line_count ss i s less ∙ ap (λ (t : Sets). sum_by line_count (take i ss) + line_count t) (sym is)))
+    (λ dt. sym (list_any_more (λ (t : Sets). matches t dt) ss i s less ∙ ap (λ (t : Sets). matches_any (take i ss) dt || matches t dt) (sym is))) a b
 
-pub all_taken : (ss : List Sets) (i : ℕ) (old new : List ℕ) → i ≡ length ss → Pushes (AreLines (2 * i) (matches_any (take i ss))) old new
-    → Pushes (AreLines (2 * length ss) (matches_any ss)) old new
-all_taken ss i old new e h =
-    subst (λ (ts : List Sets). Pushes (AreLines (2 * length ss) (matches_any ts)) old new) (take_all (length ss) ss (omega arith))
-    (subst (λ (k : ℕ). Pushes (AreLines (2 * k) (matches_any (take k ss))) old new) e h)
+pub all_taken : (ss : List Sets) (i : ℕ) (old new : List ℕ) → length ss ≤ i
+    → Pushes (AreLines (sum_by line_count (take i ss)) (matches_any (take i ss))) old new
+    → Pushes (AreLines (sum_by line_count ss) (matches_any ss)) old new
+all_taken ss i old new g h = subst (λ (ts : List Sets). Pushes (AreLines (sum_by line_count ts) (matches_any ts)) old new) (take_all i ss g) h
 
 -- ---- the years of the range
 
@@ -230,19 +253,22 @@ pub isnt_empty : (text : List ℕ) (len : ℕ) → len ≡ length text → nat_e
 isnt_empty text len e some none = false≢true (sym some ∙ eq-eqb len 0 (e ∙ ap (λ (t : List ℕ). length t) none))
 
 -- lines were pushed to an empty text
-pub says_union : (ss : List Sets) (old new : List ℕ) → old ≡ [] → (new ≡ [] → ⊥) → Pushes (AreLines (2 * length ss) (matches_any ss)) old new → SaysUnion ss new
+pub says_union : (ss : List Sets) (old new : List ℕ) → old ≡ [] → (new ≡ [] → ⊥) → Pushes (AreLines (sum_by line_count ss) (matches_any ss)) old new → SaysUnion ss new
 says_union ss old new e some h =
     let is : new ≡ flat_map (λ line. line ++ 10 ∷ []) h.is.lines = h.pushed ∙ (ap (λ (t : List ℕ). t ++ h.piece) e ∙ h.is.ended) in
     record {
       lines = h.is.lines;
       some = λ none. some (is ∙ ap (λ (ls : List (List ℕ)). flat_map (λ line. line ++ 10 ∷ []) ls) none);
-      few = h.is.few;
+      counted = h.is.counted;
       ended = ap (parts 10) is ∙ ended_parts h.is.lines h.is.each;
       read = each_read h.is.lines h.is.each;
       same = λ c less. h.is.same (civil c) (civil_in_years c less);
     }
 
-pub says_never : (ss : List Sets) (old new : List ℕ) → old ≡ [] → new ≡ [] → Pushes (AreLines (2 * length ss) (matches_any ss)) old new → IsNever ss
-says_never ss old new e none h c less =
-    let bytes = sym (h.pushed ∙ (ap (λ (t : List ℕ). t ++ h.piece) e ∙ h.is.ended)) ∙ none in
-    sym (h.is.same (civil c) (civil_in_years c less)) ∙ ap (λ (ls : List (List ℕ)). list_any (line_matches (civil c)) ls) (no_bytes h.is.lines bytes)
+pub says_never : (ss : List Sets) (old new : List ℕ) → old ≡ [] → new ≡ [] → Pushes (AreLines (sum_by line_count ss) (matches_any ss)) old new → IsNever ss
+says_never ss old new e none h =
+    let lines : h.is.lines ≡ [] = no_bytes h.is.lines (sym (h.pushed ∙ (ap (λ (t : List ℕ). t ++ h.piece) e ∙ h.is.ended)) ∙ none) in
+    record {
+      counted = sym h.is.counted ∙ ap (λ (ls : List (List ℕ)). length ls) lines;
+      same = λ c less. sym (h.is.same (civil c) (civil_in_years c less)) ∙ ap (λ (ls : List (List ℕ)). list_any (line_matches (civil c)) ls) lines;
+    }

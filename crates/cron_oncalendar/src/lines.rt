@@ -1,12 +1,12 @@
 //! The lines of schedules, and of their unions.
 
-ghost use Rattle.std.specs.Prelude.{◌≡◌, ◌<◌, ◌*◌, [], true, false, ℕ, OnOk, IfOk, MatchOption, length};
+ghost use Rattle.std.specs.Prelude.{◌≡◌, [], true, false, ℕ, OnOk, IfOk, MatchOption, sum_by};
 ghost use Rattle.std.specs.String.{string_bytes};
 ghost use Rattle.cron_time.specs.Matches.{matches};
 ghost use Rattle.cron_unions.specs.Unions.{matches_any};
-ghost use Rattle.cron_oncalendar.specs.Inner.Pieces.{AreDates, AreTimes, AreLines, IsWhole, lacks_numbers, matches_by, matches_last};
+ghost use Rattle.cron_oncalendar.specs.Inner.Pieces.{AreDates, AreTimes, AreLines, IsWhole, matches_by, matches_last};
 ghost use Rattle.cron_oncalendar.specs.Inner.Written.{Pushes};
-ghost use Rattle.cron_oncalendar.specs.Unions.{IsNever, SaysUnion};
+ghost use Rattle.cron_oncalendar.specs.Unions.{IsNever, SaysUnion, lacks_numbers, last_lines, line_count, numbered_lines};
 
 use crate::components::{push_component, push_weekdays};
 use cron_units::fields::ScheduleFields;
@@ -59,7 +59,8 @@ fn push_line(text: &mut String, fields: &ScheduleFields, last_day: bool) -> Resu
 // Pushes the line of the days by number, if there are any.
 fn push_numbered(text: &mut String, fields: &ScheduleFields) -> Result<(), AllocError>
     requires whole { IsWhole fields.now }
-    ensures { OnOk result (Pushes (AreLines 1 (matches_by fields.now false))
+    ensures { OnOk result (Pushes
+        (AreLines (numbered_lines fields.now) (matches_by fields.now false))
         (string_bytes text.old) (string_bytes text.new)) }
 {
     if fields.days_of_month.count() == 0 {
@@ -71,7 +72,7 @@ fn push_numbered(text: &mut String, fields: &ScheduleFields) -> Result<(), Alloc
 // Pushes the line of the last day of the month, if it is marked.
 fn push_last(text: &mut String, fields: &ScheduleFields) -> Result<(), AllocError>
     requires whole { IsWhole fields.now }
-    ensures { OnOk result (Pushes (AreLines 1 (matches_last fields.now))
+    ensures { OnOk result (Pushes (AreLines (last_lines fields.now) (matches_last fields.now))
         (string_bytes text.old) (string_bytes text.new)) }
 {
     if !fields.days_of_month.last_day() {
@@ -94,7 +95,7 @@ fn lacks_numbers(fields: &ScheduleFields) -> bool
 
 // Pushes the lines of a schedule, of which there are none where a set is empty.
 fn push_lines(text: &mut String, fields: &ScheduleFields) -> Result<(), AllocError>
-    ensures { OnOk result (Pushes (AreLines 2 (matches fields.now))
+    ensures { OnOk result (Pushes (AreLines (line_count fields.now) (matches fields.now))
         (string_bytes text.old) (string_bytes text.new)) }
 {
     if lacks_numbers(fields) {
@@ -105,7 +106,8 @@ fn push_lines(text: &mut String, fields: &ScheduleFields) -> Result<(), AllocErr
 }
 
 fn push_union(text: &mut String, schedules: &[ScheduleFields]) -> Result<(), AllocError>
-    ensures { OnOk result (Pushes (AreLines (2 * length schedules.now) (matches_any schedules.now))
+    ensures { OnOk result (Pushes
+        (AreLines (sum_by line_count schedules.now) (matches_any schedules.now))
         (string_bytes text.old) (string_bytes text.new)) }
 {
     for fields in schedules {
@@ -115,10 +117,9 @@ fn push_union(text: &mut String, schedules: &[ScheduleFields]) -> Result<(), All
 }
 
 /// The lines of systemd's `OnCalendar` for a union: from 1970 to 2100 they match just what it does.
-/// A schedule has one line, or two where the last day of the month is marked beside numbers. A star
-/// among the years means those after 2100 too. `None` says that each schedule has an empty set, or
-/// that there is no schedule: systemd has no line for that. `AllocError` comes where the allocator
-/// refuses memory for the text.
+/// A schedule has one line, or two where the last day of the month is marked beside numbers, and
+/// none where a set is empty. A star among the years means those after 2100 too. `None` says that
+/// there is no line. `AllocError` comes where the allocator refuses memory for the text.
 pub fn calendar_lines(
     alloc: Global,
     schedules: &[ScheduleFields],

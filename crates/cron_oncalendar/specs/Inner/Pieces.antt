@@ -1,5 +1,5 @@
 -- What the pieces of a line say, as they are pushed.
-use Rattle.std.specs.Prelude.{◌≡◌, ◌≤◌, ◌+◌, ◌-◌, ◌%◌, ◌==◌, ℕ, pos, Bool, true, false, ◌&&◌, ◌||◌, List, [], ◌∷◌, ◌++◌, Some, IsSome, length, nat_le, nat_lt, if◌then◌else◌}
+use Rattle.std.specs.Prelude.{◌≡◌, ◌≤◌, ◌+◌, ◌-◌, ◌%◌, ◌==◌, ℕ, pos, Bool, true, false, ◌&&◌, List, [], ◌∷◌, ◌++◌, Some, IsSome, length, nat_le, nat_lt, if◌then◌else◌}
 use Rattle.std.specs.List.{AllByRecursion, flat_map, list_all, list_any}
 use Rattle.jiff_core.specs.Calendar.{days_in_month}
 use Rattle.jiff_core.specs.declared.civil.date.Date.{Date}
@@ -49,11 +49,6 @@ pub record IsWhole (s : Sets) : Type 0 where
   pub days_of_week : s.days_of_week ≡ [] → ⊥
   pub years : s.years ≡ [] → ⊥
 
--- one of them has none
-abbrev pub lacks_numbers : Sets → Bool
-lacks_numbers s =
-    length s.seconds == 0 || length s.minutes == 0 || length s.hours == 0 || length s.months == 0 || length s.days_of_week == 0 || length s.years == 0
-
 -- the date's year is one of 1970 to 2100
 pub record IsInYears (d : Date) : Type 0 where
   pub number : ℕ
@@ -97,10 +92,10 @@ pub record IsLine (line : List ℕ) : Type 0 where
   pub under : is_under 6 line ≡ true
   pub read : IsSome (calendar_of line)
 
--- so many lines at most, each with its line feed, that say the datetimes at which a test is true
-pub record AreLines (most : ℕ) (test : DateTime → Bool) (piece : List ℕ) : Type 0 where
+-- so many lines, each with its line feed, that say the datetimes at which a test is true
+pub record AreLines (number : ℕ) (test : DateTime → Bool) (piece : List ℕ) : Type 0 where
   pub lines : List (List ℕ)
-  pub few : length lines ≤ most
+  pub counted : length lines ≡ number
   pub ended : piece ≡ flat_map (λ line. line ++ 10 ∷ []) lines
   pub each : AllByRecursion IsLine lines
   pub same : (dt : DateTime) → IsInYears dt.date → list_any (line_matches dt) lines ≡ test dt

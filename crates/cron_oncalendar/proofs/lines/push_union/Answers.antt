@@ -4,7 +4,7 @@ use Rattle.cron_oncalendar.proofs.UnionLemmas.{all_taken, no_lines, one_more}
 use Rattle.cron_oncalendar.proofs.lines.push_union.Goals as goal
 
 pub loop-fields-init : goal.loop-fields-init
-loop-fields-init c = nothing_pushed _ _ (no_lines _ _ (λ dt. refl))
+loop-fields-init c = nothing_pushed _ _ (no_lines _ _ refl (λ dt. refl))
 
 pub loop-fields-preserved : goal.loop-fields-preserved
 loop-fields-preserved c =
