@@ -1,14 +1,15 @@
 //! What the words of `oncalendar` are answered.
 
-ghost use Rattle.std.specs.Prelude.{◌≡◌, ◌||◌, false};
+ghost use Rattle.std.specs.Prelude.{◌≡◌, ◌||◌, false, MatchResult};
 ghost use Rattle.cron_listing.specs.Output.{complaint};
 ghost use Rattle.cron_writer.specs.Calls.{AreWritesFlushed};
 ghost use Rattle.cron_writer.specs.Watching.{has_failed, writer_of};
-ghost use Rattle.cron_tool.specs.Calendars.{AnswersCalendar, never_text};
+ghost use Rattle.cron_tool.specs.Calendars.{AnswersCalendar, IsNoExpression, never_text};
+ghost use Rattle.cron_tool.specs.Expressions.{IsReadAs};
 ghost use Rattle.cron_tool.specs.Statuses.{Ends, is_write_failure, Reports};
 ghost use Rattle.cron_tool.specs.declared.status.Status.TheVariants.{No};
 
-use crate::expression::read_as;
+use crate::expression::{Expression, read_as};
 use crate::pair::{send_text, tell_no_memory};
 use crate::status::Status;
 use crate::trouble::{Trouble, tell};
@@ -16,6 +17,16 @@ use cron_oncalendar::lines::calendar_lines;
 use cron_writer::watchable::Watchable;
 use cron_writer::watched::Watched;
 use std::alloc::Global;
+
+// Reads an expression, or tells why the text is none.
+fn read_words(quartz: bool, text: &str) -> Result<Expression, Trouble<'_>>
+    ensures { MatchResult result (IsReadAs quartz text.now) (IsNoExpression quartz text.now) }
+{
+    match read_as(quartz, text) {
+        Ok(expression) => Ok(expression),
+        Err(refusal) => Err(Trouble::Expression(text, refusal)),
+    }
+}
 
 // Says that an expression never fires, and flushes. No call of the writer may have failed before.
 fn tell_never<W: Watchable>(out: &mut Watched<W>) -> Status
@@ -48,9 +59,9 @@ pub fn write_calendar<W: Watchable, C: Watchable>(
         (out.old, complaints.old) result (out.new, complaints.new) }
     ensures mark { (has_failed out.new || has_failed complaints.new) ≡ is_write_failure result }
 {
-    let expression = match read_as(quartz, text) {
+    let expression = match read_words(quartz, text) {
         Ok(expression) => expression,
-        Err(refusal) => return tell(alloc, &Trouble::Expression(text, refusal), complaints),
+        Err(trouble) => return tell(alloc, &trouble, complaints),
     };
     match calendar_lines(alloc, expression.as_slice()) {
         Ok(Some(lines)) => send_text(lines.as_str(), Status::Done, out),
