@@ -1,5 +1,5 @@
 -- What it is to run crontabs.
-use Rattle.std.specs.Prelude.{◌≡◌, ◌⊎◌, ℕ, List, [], ◌∷◌, Result, Ok, Err, ⊤, map}
+use Rattle.std.specs.Prelude.{◌≡◌, ◌⊎◌, ℕ, List, Result, Ok, Err, ⊤, map}
 use Rattle.jiff_core.specs.declared.Timestamp.{Timestamp}
 use Rattle.jiff_tz.specs.declared.timezone.TimeZone.{TimeZone}
 use Rattle.cron_agenda.specs.Entries.{Listed}
@@ -88,7 +88,7 @@ abbrev pub IsUnstarted : {C W D E : Type 0} → ClockCalls C E → C × TabWrite
 IsUnstarted {E = E} cs old answer new =
     (look : Result Timestamp E) × cs.shows old.0 look new.0 × (answer ≡ unstarted look) × (new.1 ≡ old.1) × (new.2 ≡ old.2)
 
-abbrev pub RunsFiles : {C W D E : Type 0} → ClockCalls C E → WriterCalls W → WriterCalls D → RunOrders → List TabFile → TimeZone
+abbrev pub RunsFiles : {C W D E : Type 0} → ClockCalls C E → WriterCalls W → WriterCalls D → RunOrders → List TabFile → List TimeZone
     → C × TabWriter W × Printer D → Result ⊤ (Failure E) → C × TabWriter W × Printer D → Type 0
 RunsFiles cs calls complaints o files zones old answer new =
     IsUnstarted cs old answer new ⊎ RunsAll cs calls complaints o files zones old answer new

@@ -1,5 +1,5 @@
 -- The days on which a zone's clock passes over a fixed time of an entry, or shows it twice.
-use Rattle.std.specs.Prelude.{◌≡◌, ◌<◌, ◌≤◌, ◌+◌, ◌*◌, ◌||◌, ◌↔◌, ◌++◌, ℕ, ℤ, pos, negsuc, ◌+ℤ◌, min, true, IsTrue, List, [], ◌∷◌, length, take, Option, Some, None, Result, Ok, Err, ⊤}
+use Rattle.std.specs.Prelude.{◌≡◌, ◌<◌, ◌≤◌, ◌+◌, ◌*◌, ◌||◌, ◌↔◌, ◌++◌, ℕ, ℤ, pos, negsuc, ◌+ℤ◌, min, true, IsTrue, List, [], ◌∷◌, length, Option, Some, Result, Ok, Err, ⊤}
 use Rattle.std.specs.Int.{int_div_euclid}
 use Rattle.jiff_tz.specs.declared.timezone.TimeZone.{TimeZone}
 use Rattle.jiff_tz.specs.Zone.{offset_at}
@@ -8,7 +8,7 @@ use Rattle.cron_moments.specs.Civil.{civil, days_in_range}
 use Rattle.cron_moments.specs.Readings.{readings}
 use Rattle.cron_unions.specs.Unions.{matches_any}
 use Rattle.cron_fires.specs.declared.changes.ClockChanges.{ClockChanges}
-use Rattle.cron_fires.specs.declared.changes.ClockChanges.TheVariants.{AsShown, Once}
+use Rattle.cron_fires.specs.declared.changes.ClockChanges.TheVariants.{Once}
 use Rattle.cron_tab_lines.specs.Files.{FileLine}
 use Rattle.cron_tab_listing.specs.Adding.{changes_of}
 use Rattle.cron_tab_listing.specs.Tabs.{schedules_in}

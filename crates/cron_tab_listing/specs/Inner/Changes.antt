@@ -1,5 +1,5 @@
 -- Whether civil seconds are skipped or doubled, as the search finds it.
-use Rattle.std.specs.Prelude.{◌≡◌, ◌<◌, ◌≤◌, ◌↔◌, ℕ, IsTrue, List, Option, MatchOption}
+use Rattle.std.specs.Prelude.{◌<◌, ◌≤◌, ◌↔◌, ℕ, IsTrue, List, Option, MatchOption}
 use Rattle.jiff_tz.specs.declared.timezone.TimeZone.{TimeZone}
 use Rattle.cron_units.specs.Sets.{Sets}
 use Rattle.cron_tab_listing.specs.ChangedDays.{HasSecond, IsChangedDay, IsDoubledAt, IsSkippedAt, IsUnchanged}
