@@ -50,7 +50,7 @@ impl<'a> TabZones<'a> {
         let Ok(text) = str::from_utf8(name) else {
             return Ok(());
         };
-        if self.has(name) {
+        if name.is_empty() || self.has(name) {
             return Ok(());
         }
         let places = Places {
@@ -83,11 +83,12 @@ impl<'a> TabZones<'a> {
         Ok(())
     }
 
-    /// Their names: the first stands for zone 1.
+    /// Their names: the first stands for zone 1. An empty text stands for zone 0, as in cronie.
     pub(crate) fn names(&self, alloc: Global) -> Result<Vec<NamedZone<'a>>, AllocError> {
         let mut names = Vec::new(alloc);
+        names.push(NamedZone { name: b"", zone: 0 })?;
         for opened in &self.opened {
-            let zone = names.len() + 1;
+            let zone = names.len();
             names.push(NamedZone {
                 name: opened.name,
                 zone,
