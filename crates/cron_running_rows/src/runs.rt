@@ -6,7 +6,7 @@ use anyhow::{Result, bail};
 use cron_agenda_scheduler::Lateness;
 use cron_ringing::printer::Printer;
 use cron_running::{RunOrders, TabFile, TabWriter, run_files};
-use cron_tab_lines::Crontab;
+use cron_tab_lines::{Crontab, NamedZone};
 use cron_tab_listing::Clock;
 use cron_tab_tasks::{Form, Orders};
 use cron_writer::watched::Watched;
@@ -17,6 +17,16 @@ use std::io;
 const TAB: &str =
     "TO=nobody\n*/30 * * * * half\n60 * * * * never\n0 * * * * hour\n@reboot start%a%b\n";
 
+/// An entry in each of the two zones, and one below a name that is none. Chicago's comes at 06:00Z.
+const ZONED: &str = "0 1 * * * chicago\nCRON_TZ=UTC\n30 5 * * * utc\n\
+                     CRON_TZ=Mars/Phobos\n* * * * * never\n";
+
+/// The zones that `CRON_TZ` may name.
+const NAMES: [NamedZone<'static>; 1] = [NamedZone {
+    name: b"UTC",
+    zone: 1,
+}];
+
 /// The lateness of each run. The clock shows 05:00Z first, and then 06:40Z and 08:10Z.
 const RUNS: [Lateness; 3] = [Lateness::Each, Lateness::Latest, Lateness::Within(2400)];
 
@@ -26,6 +36,7 @@ fn orders(form: Form, lateness: Lateness, most: u64) -> RunOrders<'static> {
             kind: Crontab::User,
             form,
             user: None,
+            names: &NAMES,
         },
         clock: Clock::Own,
         lateness,
@@ -34,23 +45,23 @@ fn orders(form: Form, lateness: Lateness, most: u64) -> RunOrders<'static> {
     }
 }
 
-// Runs the crontab, and tells of refused lines on standard output too.
-fn run_one(rt: &HostRuntime, orders: &RunOrders<'_>) -> Result<()> {
+// Runs a crontab, and tells of refused lines on standard output too.
+fn run_one(rt: &HostRuntime, tab: &str, orders: &RunOrders<'_>) -> Result<()> {
     let files = [TabFile {
         name: "tab",
-        bytes: TAB.as_bytes(),
+        bytes: tab.as_bytes(),
     }];
     let mut writer = TabWriter::new(rt.alloc(), Watched::new(io::writer(rt)));
     let mut complaints = Printer {
         out: Watched::new(io::writer(rt)),
     };
     let mut clock = LateClock::new(NOVEMBER);
-    let zone = TimeZone::posix(CHICAGO)?;
+    let zones = [TimeZone::posix(CHICAGO)?, TimeZone::UTC];
     match run_files(
         rt.alloc(),
         orders,
         &files,
-        zone,
+        &zones,
         &mut clock,
         &mut writer,
         &mut complaints,
@@ -60,10 +71,11 @@ fn run_one(rt: &HostRuntime, orders: &RunOrders<'_>) -> Result<()> {
     }
 }
 
-/// Runs the crontab by each lateness, and then as lines for a shell.
+/// Runs a crontab by each lateness, then as lines for a shell, and then one of two zones.
 pub(crate) fn run(rt: &HostRuntime) -> Result<()> {
     for lateness in RUNS {
-        run_one(rt, &orders(Form::Command, lateness, 4))?;
+        run_one(rt, TAB, &orders(Form::Command, lateness, 4))?;
     }
-    run_one(rt, &orders(Form::Shell, Lateness::Each, 1))
+    run_one(rt, TAB, &orders(Form::Shell, Lateness::Each, 1))?;
+    run_one(rt, ZONED, &orders(Form::Command, Lateness::Each, 2))
 }
