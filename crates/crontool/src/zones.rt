@@ -1,7 +1,7 @@
 //! The zones that `CRON_TZ` names in crontabs.
 
 use crate::machine::{Surroundings, complain};
-use cron_tab_lines::{Crontab, Line, Lines, NamedZone};
+use cron_tab_lines::{Crontab, Line, NamedZone, read_line};
 use cron_tool::status::Status;
 use cron_zones::error::ZoneError;
 use cron_zones::machine::MachineFiles;
@@ -20,6 +20,16 @@ struct Opened<'a> {
 /// Says that memory ran out, and answers how the subcommand ends.
 pub(crate) fn no_memory(rt: &HostRuntime) -> Status {
     complain(rt, "out of memory", Status::Unreadable)
+}
+
+// Whether a line may set `CRON_TZ`, by its first byte that isn't blank. Other lines needn't be read.
+fn begins_as_name(line: &[u8]) -> bool {
+    for byte in line {
+        if *byte != b' ' && *byte != b'\t' {
+            return matches!(*byte, b'C' | b'"' | b'\'');
+        }
+    }
+    false
 }
 
 /// The zones that `CRON_TZ` names in crontabs, each opened once.
@@ -75,8 +85,10 @@ impl<'a> TabZones<'a> {
         file: &'a [u8],
         around: &'a Surroundings,
     ) -> Result<(), Status> {
-        for line in Lines::of(kind, file) {
-            if let Ok(Line::Zone(name)) = line.read {
+        for line in file.split(|byte| *byte == b'\n') {
+            if begins_as_name(line)
+                && let Ok(Line::Zone(name)) = read_line(kind, line)
+            {
                 self.open_one(rt, name, around)?;
             }
         }
