@@ -24,6 +24,10 @@ def loaded():
 
 
 rt = loaded()
+# Whether the kit keeps on the machine what its `rt ci` proved and refused. An older one does all anew in each run.
+KEEPS = hasattr(rt, "Kept")
+# Over statements a check was seen to take at most so much of the memory that is planned for it.
+OVER = 0.55
 
 
 def top():
@@ -46,6 +50,20 @@ def with_libraries(crates):
     for crate in crates:
         found += [it for it in [*crate.below(), crate] if it not in found]
     return found
+
+
+def note_of(crate):
+    """Returns the file that tells of which files `rt ci` built a library that it left in out/."""
+    return f"{os.path.dirname(crate.rlib)}/stamp_of_ci"
+
+
+def note_libraries():
+    """Notes which libraries in out/ a run of `rt ci` left there just now, where the kit keeps none: other commands stamp theirs."""
+    for crate in [] if KEEPS else crates_of(top()):
+        folder = os.path.dirname(crate.rlib)
+        if crate.makes_rlib() and os.path.isdir(crate.rlib) and not os.path.isfile(f"{folder}/stamp"):
+            with open(note_of(crate), "w", encoding="utf-8") as it:
+                it.write(crate.stamp())
 
 
 def link_from_ci(kept, crate, room):
@@ -71,8 +89,11 @@ def link_from_ci(kept, crate, room):
 def libraries_of_ci(crates):
     """While this lasts, checks of these crates read the libraries below them as `rt ci` built them of these files, if it keeps
     all of these on this machine. Gives whether it does."""
-    rt.Crate.allowed = rt.handles_of(top())
     libraries = with_libraries([it for crate in crates for it in crate.below()])
+    if not KEEPS:
+        yield all(rt.rtlib.text_of(note_of(it)) == it.stamp() for it in libraries)
+        return
+    rt.Crate.allowed = rt.handles_of(top())
     kept, own = rt.Kept(libraries), [it.rlib for it in libraries]
     with tempfile.TemporaryDirectory(prefix=f"rt-copy-{os.getpid()}-") as room:
         are_kept = kept.at is not None and all(link_from_ci(kept, it, room) for it in libraries)
@@ -114,15 +135,15 @@ def proofs_of(crates, builds):
     for crate in crates:
         waits = [(it.name, "proof") for it in crate.below()] if builds else []
         call = lambda given, jobs, it=crate, waits=waits: work(it, waits, given, jobs)
-        # over statements a check was seen to take at most 0.55 of what is planned for it
-        needs = rt.need(crate) * (1 if builds else rt.OVER)
+        needs = rt.need(crate) * (1 if builds else OVER)
         tasks[crate.name, "proof"] = (waits, crate.count(rb"\n"), needs, call)
     return tasks
 
 
 @functools.cache
 def share_work():
-    rt.share_work(True)
+    if KEEPS:
+        rt.share_work(True)
 
 
 # The folders of the crates that this process holds.
@@ -161,3 +182,7 @@ def prove(crates, others=()):
             return build(crates, others)
         hold(crates)
         return side_by_side(crates, False, others)
+
+
+if __name__ == "__main__":
+    note_libraries()
