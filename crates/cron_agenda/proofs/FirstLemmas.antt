@@ -9,8 +9,8 @@ use Rattle.cron_instants.proofs.OrderLemmas.{before-less, before-shared, before-
 use Rattle.cron_agenda.specs.declared.entry.Entry.{Entry}
 use Rattle.cron_agenda.specs.declared.fire.EntryFire.{EntryFire}
 use Rattle.cron_agenda.specs.declared.slots.Slot.{Slot}
-use Rattle.cron_agenda.specs.Earliest.{HasAt}
-use Rattle.cron_agenda.specs.Earliest as tree
+use Rattle.cron_earliest.specs.Places.{HasAt}
+use Rattle.cron_earliest.specs.Places as tree
 use Rattle.jiff_tz.specs.declared.timezone.TimeZone.{TimeZone}
 use Rattle.cron_units.specs.Sets.{Sets}
 use Rattle.cron_fires.specs.Rules.{IsFirstOf}

@@ -1,4 +1,3 @@
-pub mod TreeLemmas
 pub mod ListLemmas
 pub mod SlotLemmas
 pub mod FirstLemmas

@@ -1,4 +1,3 @@
-pub mod Earliest
 pub mod Fires
 pub mod Entries
 pub mod Merged

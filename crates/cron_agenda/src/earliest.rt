@@ -1,20 +1,14 @@
 //! Which of some places comes first, kept as their instants change: a tree in a list, whose place
 //! `i` stands over the places `2i + 1` and `2i + 2`, and has the least key from it down.
 ghost use Rattle.std.specs.Prelude.{◌≡◌, ◌≢◌, ℕ, ◌<◌, ◌≤◌, [], ◌∷◌, ◌++◌, length, map, slice_set, OnOk, OnErr};
-ghost use Rattle.cron_agenda.specs.Earliest.{IsFirstPlace};
+ghost use Rattle.cron_earliest.specs.Places.{IsFirstPlace};
 ghost use Rattle.cron_agenda.specs.Inner.Slots as inner;
-ghost use Rattle.cron_agenda.specs.Inner.Tree as tree;
+ghost use Rattle.cron_earliest.specs.Tree as tree;
 
 use crate::slots::Slot;
+use cron_earliest::{Key, lesser};
 use std::alloc::{AllocError, Global};
 use std::marker::Model;
-
-/// The instant of a place, in seconds.
-#[derive(Clone, Copy)]
-pub(crate) struct Key {
-    pub instant: i64,
-    pub place: usize,
-}
 
 /// Places, each with an instant or none.
 #[derive(Drop)]
@@ -25,39 +19,13 @@ pub(crate) struct Earliest {
 
 impl Model for Earliest {
     ghost use Rattle.std.specs.Prelude.{List, Option, ℤ};
-    ghost use Rattle.cron_agenda.specs.Inner.Tree.{IsTree};
+    ghost use Rattle.cron_earliest.specs.Tree.{IsTree};
 
     ghost Value = { List (Option ℤ) };
 
     ghost view = { λ e. e.own.items };
 
     ghost invariant = { λ e. IsTree e.own.items e.best.items };
-}
-
-// Whether a key comes before another.
-#[inline(always)]
-fn is_less(key: &Key, other: &Key) -> bool
-    ensures { result ≡ tree.is_less key.now other.now }
-{
-    if key.instant == other.instant {
-        key.place < other.place
-    } else {
-        key.instant < other.instant
-    }
-}
-
-// The lesser of two keys.
-#[inline(always)]
-fn lesser(one: Option<Key>, other: Option<Key>) -> Option<Key>
-    ensures { result ≡ tree.lesser one other }
-{
-    let Some(key) = one else {
-        return other;
-    };
-    let Some(next) = other else {
-        return one;
-    };
-    if is_less(&next, &key) { other } else { one }
 }
 
 // The key of a place's own instant.

@@ -1,3 +1,4 @@
 pub mod LateLemmas
 pub mod TurnLemmas
 pub mod LawLemmas
+pub mod RunLemmas

@@ -1,5 +1,5 @@
 -- What the loop over an agenda does: turn after turn, each a wait, a look at the clock, and all that is due then.
-use Rattle.std.specs.Prelude.{◌≡◌, ◌⊎◌, ◌+◌, ◌-◌, ◌^◌, ◌<◌, ◌*ℤ◌, ℕ, ℤ, pos, Bool, true, false, Option, Some, None, List, [], ◌∷◌, Result, Ok, Err, ⊤, length, map}
+use Rattle.std.specs.Prelude.{◌≡◌, ◌⊎◌, ◌+◌, ◌-◌, ◌^◌, ◌<◌, ◌*ℤ◌, ℕ, ℤ, pos, Bool, true, false, Option, Some, None, List, [], ◌∷◌, ◌++◌, Result, Ok, Err, ⊤, length, map}
 use Rattle.std.specs.Option.{is_some}
 use Rattle.jiff_core.specs.declared.Timestamp.{Timestamp}
 use Rattle.cron_agenda.specs.declared.entry.Entry.{Entry}
@@ -109,6 +109,11 @@ abbrev pub AreTurns : {T C J E F : Type 0} → Tables T → ClockCalls C E → J
 AreTurns ts cs js [] most c a j left c' a' j' = (left ≡ most) × (c' ≡ c) × (a' ≡ a) × (j' ≡ j)
 AreTurns {T} {C} {J} ts cs js (ds ∷ dss) most c a j left c' a' j' =
     (rest : ℕ) × (d : C) × (b : Listed T) × (k : J) × Turns ts cs js most ds c a j (Ok (Some rest)) d b k × AreTurns ts cs js dss rest d b k left c' a' j'
+
+-- the fires that were taken in all of them, in order
+abbrev pub all_taken : List (List Deed) → List AgendaFire
+all_taken [] = []
+all_taken (ds ∷ dss) = taken ds ++ all_taken dss
 
 -- how often the job was run in all of them
 abbrev pub all_runs : List (List Deed) → ℕ
