@@ -15,9 +15,8 @@ use crate::offsets::Placed;
 use crate::rule::{
     Span, Transitions, WHOLE, between_transitions, part_twice, saving_of, transitions_around,
 };
-use crate::season::season_at;
+use crate::season::{season_at, season_if_apart};
 use crate::stretch::{Stretch, rule_stretch, season_stretch};
-use crate::transitions::transitions_apart;
 use cron_moments::civil::{FURTHEST_OFFSET, SECONDS};
 use jiff::Timestamp;
 use jiff::tz::{Offset, TimeZone};
@@ -237,18 +236,14 @@ fn offset_at(zone: &TimeZone<'_>, instant: Timestamp, second: i64, stretch: &mut
     }
 }
 
-// The same of a rule whose transitions lie apart.
+// The same from the transitions of the year of the second.
 #[inline(never)]
 fn kept_around(rule: posix::TimeZone, dst: posix::Dst, second: u32) -> Option<Kept>
     requires range { second < seconds_in_range }
     requires saving { rule.dst ≡ Some dst }
-    ensures apart { IfSome result (λ kept. TransitionsAreApart dst) }
-    ensures kept { IfSome result
+    ensures { IfSome result
         (λ kept. IsKeptUpTo (Posix rule) (pos second) kept.end kept.offset.seconds) }
 {
-    if !transitions_apart(dst) {
-        return None;
-    }
     kept_among(rule, dst, transitions_around(dst, second), second)
 }
 
@@ -261,13 +256,13 @@ fn kept_from(rule: posix::TimeZone, dst: posix::Dst, second: u32) -> Option<Kept
     ensures kept { IfSome result
         (λ kept. IsKeptUpTo (Posix rule) (pos second) kept.end kept.offset.seconds) }
 {
-    if let Some(season) = season_at(rule, dst, second) {
-        return Some(Kept {
-            offset: season.offset,
-            end: season.end,
-        });
-    }
-    kept_around(rule, dst, second)
+    let Some(season) = season_if_apart(rule, dst, second)? else {
+        return kept_around(rule, dst, second);
+    };
+    Some(Kept {
+        offset: season.offset,
+        end: season.end,
+    })
 }
 
 /// The offset that a clock in a zone with a rule shows at a second of UTC, and up to where it keeps
@@ -288,6 +283,22 @@ pub fn kept_by_rule(zone: &TimeZone<'_>, second: i64) -> Option<Kept>
         return None;
     }
     kept_from(rule, dst, second as u32)
+}
+
+/// The same from the transitions of the year alone, also where they lie near each other. Near a
+/// transition this is the shorter way.
+pub fn kept_by_transitions(zone: &TimeZone<'_>, second: i64) -> Option<Kept>
+    ensures { IfSome result
+        (λ kept. IsKeptUpTo (plain_zone zone.now) second kept.end kept.offset.seconds) }
+{
+    let jiff_tz::TimeZone::Posix(rule) = zone.to_plain() else {
+        return None;
+    };
+    let dst = rule.dst?;
+    if second < 0 || second >= SECONDS {
+        return None;
+    }
+    kept_around(rule, dst, second as u32)
 }
 
 /// The number of the civil second that a clock in the zone shows at an instant. Where the transitions of

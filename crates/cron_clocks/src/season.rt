@@ -172,15 +172,26 @@ fn season_among(season_bounds: SeasonBounds, year_start: u32, second: u32) -> Op
     Some(Season { first, end, offset })
 }
 
-/// The season of a second of UTC, or of a civil second, if the place in its year tells it.
+/// The season of a second of UTC, or of a civil second, if the place in its year tells it. `None`
+/// where the transitions of the rule lie near each other.
+pub(crate) fn season_if_apart(rule: TimeZone, dst: Dst, second: u32) -> Option<Option<Season>>
+    requires range { second < seconds_in_range }
+    requires saving { rule.dst ≡ Some dst }
+    ensures apart { IfSome result (λ found. TransitionsAreApart dst) }
+    ensures season { IfSome result
+        (λ found. IfSome found (λ s. IsSeason rule second s.first s.end s.offset)) }
+{
+    let season_bounds = season_bounds_of(rule, dst)?;
+    Some(season_among(season_bounds, year_start_of(second), second))
+}
+
+/// The same season, if there is one.
 pub(crate) fn season_at(rule: TimeZone, dst: Dst, second: u32) -> Option<Season>
     requires range { second < seconds_in_range }
     requires saving { rule.dst ≡ Some dst }
-    ensures apart { IfSome result (λ s. TransitionsAreApart dst) }
-    ensures season { IfSome result (λ s. IsSeason rule second s.first s.end s.offset) }
+    ensures { IfSome result (λ s. IsSeason rule second s.first s.end s.offset) }
 {
-    let season_bounds = season_bounds_of(rule, dst)?;
-    season_among(season_bounds, year_start_of(second), second)
+    season_if_apart(rule, dst, second)?
 }
 
 /// What a rule tells of a civil second.

@@ -1,5 +1,5 @@
 -- On the way to the due instant of a civil second.
-use Rattle.std.proofs.Common.{◌≡◌, ℕ, ◌<◌, ◌≤◌, false, true, ℤ, pos, ◌+ℤ◌, ◌-ℤ◌, ◌≤ℤ◌, ◌<ℤ◌, unsigned_abs, refl, ap, ◌∙◌, ◌⊎◌, inl, inr, arith}
+use Rattle.std.proofs.Common.{◌≡◌, ℕ, ◌<◌, ◌≤◌, false, true, ℤ, pos, ◌+ℤ◌, ◌-ℤ◌, ◌≤ℤ◌, ◌<ℤ◌, unsigned_abs, refl, ap, ◌⊎◌, inl, inr, arith}
 use Rattle.std.proofs.lemmas.Int.{by_lt_z}
 use Rattle.jiff_core.proofs.SignedLemmas.{signed_arith}
 use Rattle.cron_clocks.proofs.TableLemmas.{same_offset}
@@ -26,12 +26,12 @@ unreached_on clock c from steady unreached kept ends =
     by_lt_z m from (unreached m)
     (λ ge. let shown = shown_in clock from steady.end steady.offset.seconds m kept ge less in omega (arith, signed_arith))
 
--- nor before the later one of two such instants
-pub unreached_later : (clock : Clock) (c : ℕ) (from : ℤ) (steady : Steady) (start one other : ℤ) → IsAhead clock c from steady → ends_before steady c ≡ true
-    → one ≡ pos c -ℤ pos 93_599 → other ≡ steady.end → (start ≡ one) ⊎ (start ≡ other) → IsUnreachedBefore clock c start
-unreached_later clock c from steady start one other ahead ends early late (inl e) = unreached_early clock c start (e ∙ early)
-unreached_later clock c from steady start one other ahead ends early late (inr e) =
-    λ m less. unreached_on clock c from steady ahead.unreached ahead.kept ends m (omega (arith, signed_arith))
+-- that end is near the civil second, or before it
+pub end_near : (c : ℕ) (steady : Steady) → ends_before steady c ≡ true → steady.end ≤ℤ (pos c +ℤ pos 93_599)
+end_near c steady ends =
+    let early = int_le-true (steady.end +ℤ steady.offset.seconds) (pos c) ends in
+    let near = steady.offset.in_range in
+    omega (arith, signed_arith, near.0)
 
 -- the way goes on at the end
 pub way_on : (clock : Clock) (c : ℕ) (from : ℤ) (steady next : Steady) → IsOnTheWay clock c from steady → ends_before steady c ≡ true

@@ -4,7 +4,7 @@ ghost use Rattle.jiff_core.specs.Calendar.{IsBetween};
 ghost use Rattle.cron_dues.specs.Clock.Due as due;
 ghost use Rattle.cron_dues.specs.Inner.Steady.{IsKept};
 
-use crate::steady::{Steady, steady_in};
+use crate::steady::{Steady, steady_in, steady_near_transition};
 use jiff::tz::TimeZone;
 
 /// A clock. Contracts see how far it is ahead of UTC at each whole second since
@@ -19,6 +19,15 @@ pub trait Clock {
         requires { IsBetween (neg_ℤ (pos 1_000_000)) (pos 8_000_000_000) second }
         ensures kept { IsKept (offsets self.now) second result.end result.offset.seconds }
         ensures later { second <ℤ result.end };
+
+    /// The same, asked at the end of what was told before, where a transition may lie.
+    fn steady_past(&self, second: i64) -> Steady
+        requires { IsBetween (neg_ℤ (pos 1_000_000)) (pos 8_000_000_000) second }
+        ensures kept { IsKept (offsets self.now) second result.end result.offset.seconds }
+        ensures later { second <ℤ result.end }
+    {
+        self.steady_from(second)
+    }
 }
 
 impl<'z> Clock for TimeZone<'z> {
@@ -29,5 +38,10 @@ impl<'z> Clock for TimeZone<'z> {
     #[inline(always)]
     fn steady_from(&self, second: i64) -> Steady {
         steady_in(self, second)
+    }
+
+    #[inline(always)]
+    fn steady_past(&self, second: i64) -> Steady {
+        steady_near_transition(self, second)
     }
 }

@@ -20,6 +20,7 @@ pub(crate) struct Reach {
 }
 
 // The greatest second that a clock has shown up to a second of UTC.
+#[inline(always)]
 fn greatest_by<C: Clock>(clock: &C, second: i64) -> Reach
     requires { IsBetween (neg_ℤ (pos 200_000)) (pos 5_000_000_000) second }
     ensures greatest { IsGreatestBy (C.offsets clock.now) second result.second }
@@ -32,7 +33,7 @@ fn greatest_by<C: Clock>(clock: &C, second: i64) -> Reach
     while steady.end <= second {
         greatest = greater(greatest, steady.shown(steady.end - 1));
         from = steady.end;
-        steady = clock.steady_from(from);
+        steady = clock.steady_past(from);
     }
     Reach {
         second: greater(greatest, steady.shown(second)),
@@ -41,6 +42,7 @@ fn greatest_by<C: Clock>(clock: &C, second: i64) -> Reach
 }
 
 /// How far a clock has come by an instant.
+#[inline(always)]
 pub(crate) fn reach_by<C: Clock>(clock: &C, now: Timestamp) -> Reach
     ensures reached { IsReachedBy (C.offsets clock.now)
         (int_div_euclid now.nanosecond (pos 1_000_000_000)) result.second }

@@ -10,7 +10,7 @@ ghost use Rattle.cron_dues.specs.Clock.Due.{zone_clock};
 ghost use Rattle.cron_dues.specs.Inner.Steady.{IsKept, IsOneYear, IsShortOf};
 
 use crate::numbers::lesser;
-use cron_clocks::clock::kept_by_rule;
+use cron_clocks::clock::{Kept, kept_by_rule, kept_by_transitions};
 use cron_moments::civil::{SECONDS, SECONDS_PER_DAY};
 use jiff::Timestamp;
 use jiff::tz::{Offset, TimeZone};
@@ -134,6 +134,18 @@ fn only_offset(zone: &TimeZone<'_>) -> Option<Offset>
     }
 }
 
+// What a clock keeps, as numbers that may be negative.
+#[inline(always)]
+fn steady_of(kept: Kept) -> Steady
+    ensures offset { result.offset ≡ kept.offset }
+    ensures end { result.end ≡ pos kept.end }
+{
+    Steady {
+        offset: kept.offset,
+        end: i64::from(kept.end),
+    }
+}
+
 /// The offset that a clock in a zone shows at a second of UTC, and up to where it keeps it.
 pub(crate) fn steady_in(zone: &TimeZone<'_>, second: i64) -> Steady
     requires { IsBetween (neg_ℤ (pos 1_000_000)) (pos 8_000_000_000) second }
@@ -144,10 +156,20 @@ pub(crate) fn steady_in(zone: &TimeZone<'_>, second: i64) -> Steady
         return Steady { offset, end: NEVER };
     }
     match kept_by_rule(zone, second) {
-        Some(kept) => Steady {
-            offset: kept.offset,
-            end: i64::from(kept.end),
-        },
+        Some(kept) => steady_of(kept),
         None => steady_up_to_transition(zone, second),
+    }
+}
+
+/// The same of a second near which a transition lies.
+#[inline(never)]
+pub(crate) fn steady_near_transition(zone: &TimeZone<'_>, second: i64) -> Steady
+    requires { IsBetween (neg_ℤ (pos 1_000_000)) (pos 8_000_000_000) second }
+    ensures kept { IsKept (zone_clock zone.now) second result.end result.offset.seconds }
+    ensures later { second <ℤ result.end }
+{
+    match kept_by_transitions(zone, second) {
+        Some(kept) => steady_of(kept),
+        None => steady_in(zone, second),
     }
 }

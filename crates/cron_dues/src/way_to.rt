@@ -7,7 +7,6 @@ ghost use Rattle.cron_dues.specs.Inner.Reached.{IsAhead, IsUnreachedBefore, ends
 
 use crate::clock::Clock;
 use crate::fire::{DueFire, due_fire};
-use crate::numbers::greater;
 use crate::steady::{DueSpan, Steady};
 use cron_moments::civil::FURTHEST_OFFSET;
 
@@ -58,7 +57,7 @@ fn span_from<C: Clock>(clock: &C, second: u32, start: i64) -> DueSpan
     let mut steady = clock.steady_from(from);
     while ends_before(&steady, second) {
         from = steady.end;
-        steady = clock.steady_from(from);
+        steady = clock.steady_past(from);
     }
     DueSpan { from, steady }
 }
@@ -72,6 +71,23 @@ pub(crate) fn span_of<C: Clock>(clock: &C, second: u32) -> DueSpan
     span_from(clock, second, i64::from(second) - FURTHEST_OFFSET)
 }
 
+// The same from the end of what was told before, where a transition may lie.
+#[inline(never)]
+fn span_behind<C: Clock>(clock: &C, second: u32, from: i64) -> DueSpan
+    requires range { second < seconds_in_range }
+    requires unreached { IsUnreachedBefore (C.offsets clock.now) second from }
+    requires low { (pos second -ℤ pos 93_599) ≤ℤ from }
+    requires high { from ≤ℤ (pos second +ℤ pos 93_599) }
+    ensures ahead { IsAhead (C.offsets clock.now) second result.from result.steady }
+    ensures shown { ends_before result.steady second ≡ false }
+{
+    let steady = clock.steady_past(from);
+    if ends_before(&steady, second) {
+        return span_from(clock, second, steady.end);
+    }
+    DueSpan { from, steady }
+}
+
 // The same of a civil second that isn't shown before those of an earlier one.
 #[inline(always)]
 fn span_past<C: Clock>(clock: &C, second: u32, earlier: DueSpan) -> DueSpan
@@ -83,8 +99,11 @@ fn span_past<C: Clock>(clock: &C, second: u32, earlier: DueSpan) -> DueSpan
     if !ends_before(&earlier.steady, second) {
         return earlier;
     }
-    let start = i64::from(second) - FURTHEST_OFFSET;
-    span_from(clock, second, greater(start, earlier.steady.end))
+    let from = earlier.steady.end;
+    if from < i64::from(second) - FURTHEST_OFFSET {
+        return span_of(clock, second);
+    }
+    span_behind(clock, second, from)
 }
 
 /// The due fire of a civil second, and the instants among which it is due. Those of an earlier one,

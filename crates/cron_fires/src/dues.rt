@@ -20,8 +20,7 @@ use std::marker::Model;
 pub fn first_due_after(schedule: &Schedule, now: Timestamp, zone: &TimeZone<'_>) -> Option<DueFire>
     ensures { IsFirstDueAfter schedule.now.sets (plain_zone zone.now) now.nanosecond result }
 {
-    let fields = fields_of(schedule);
-    dues::first_after(&fields, now, zone)
+    dues::first_after(schedule.fields(), now, zone)
 }
 
 /// The next due fire after this one, whose nominal time alone counts. `None` where nothing is due
@@ -29,8 +28,7 @@ pub fn first_due_after(schedule: &Schedule, now: Timestamp, zone: &TimeZone<'_>)
 pub fn first_due_past(schedule: &Schedule, fire: &DueFire, zone: &TimeZone<'_>) -> Option<DueFire>
     ensures { IsFirstDuePast schedule.now.sets (plain_zone zone.now) fire.now result }
 {
-    let fields = fields_of(schedule);
-    dues::first_past(&fields, fire, zone)
+    dues::first_past(schedule.fields(), fire, zone)
 }
 
 /// The last due fire whose instant is `now` or comes before it. `None` where nothing has been due
@@ -38,8 +36,7 @@ pub fn first_due_past(schedule: &Schedule, fire: &DueFire, zone: &TimeZone<'_>) 
 pub fn last_due_by(schedule: &Schedule, now: Timestamp, zone: &TimeZone<'_>) -> Option<DueFire>
     ensures { IsLastDueBy schedule.now.sets (plain_zone zone.now) now.nanosecond result }
 {
-    let fields = fields_of(schedule);
-    dues::last_by(&fields, now, zone)
+    dues::last_by(schedule.fields(), now, zone)
 }
 
 /// Due fires of a schedule in a zone, in order: each match once, at the first instant at which the

@@ -38,20 +38,12 @@ pub use fire::Fire;
 pub use runs::{Fires, missed};
 pub use timetables::{Timetable, Union};
 
-/// The seven sets of a schedule, for functions that take sets in place of a schedule.
+/// A copy of the seven sets of a schedule, for functions that keep sets.
 #[inline(always)]
 pub fn fields_of(schedule: &Schedule) -> ScheduleFields
     ensures { result ≡ schedule.now.sets }
 {
-    ScheduleFields {
-        seconds: *schedule.seconds(),
-        minutes: *schedule.minutes(),
-        hours: *schedule.hours(),
-        days_of_month: *schedule.days_of_month(),
-        months: *schedule.months(),
-        days_of_week: *schedule.days_of_week(),
-        years: *schedule.years(),
-    }
+    *schedule.fields()
 }
 
 /// The first fire after an instant, also in a fold. `None` where the schedule fires no more. A loop
@@ -60,8 +52,7 @@ pub fn fields_of(schedule: &Schedule) -> ScheduleFields
 pub fn first_fire_after(schedule: &Schedule, now: Timestamp, zone: &TimeZone<'_>) -> Option<Moment>
     ensures { IsFirstAfter schedule.now.sets (plain_zone zone.now) now.nanosecond result }
 {
-    let fields = fields_of(schedule);
-    instants::first_after(&fields, now, zone)
+    instants::first_after(schedule.fields(), now, zone)
 }
 
 /// The next fire after this one. Where two share an instant, the one with the lesser civil second
@@ -70,8 +61,7 @@ pub fn first_fire_after(schedule: &Schedule, now: Timestamp, zone: &TimeZone<'_>
 pub fn first_fire_past(schedule: &Schedule, fire: &Moment, zone: &TimeZone<'_>) -> Option<Moment>
     ensures { IsFirstPast schedule.now.sets (plain_zone zone.now) fire.now result }
 {
-    let fields = fields_of(schedule);
-    instants::first_past(&fields, fire, zone)
+    instants::first_past(schedule.fields(), fire, zone)
 }
 
 /// The last fire whose instant is `now` or comes before it. Where two share an instant, the one
@@ -79,6 +69,5 @@ pub fn first_fire_past(schedule: &Schedule, fire: &Moment, zone: &TimeZone<'_>) 
 pub fn last_fire_by(schedule: &Schedule, now: Timestamp, zone: &TimeZone<'_>) -> Option<Moment>
     ensures { IsLastBy schedule.now.sets (plain_zone zone.now) now.nanosecond result }
 {
-    let fields = fields_of(schedule);
-    instants::last_by(&fields, now, zone)
+    instants::last_by(schedule.fields(), now, zone)
 }

@@ -5,7 +5,6 @@ ghost use Rattle.cron_units.specs.Sets.{Sets};
 ghost use Rattle.cron_unions.specs.FirstOfAny.{IsFirstAfterAny, IsFirstPastAny, IsLastByAny};
 ghost use Rattle.cron_unions.specs.UnionDues.{IsFirstDueAfterAny, IsFirstDuePastAny, IsLastDueByAny};
 
-use crate::fields_of;
 use cron::Schedule;
 use cron::schedule::Moment;
 use cron_dues::dues as single_dues;
@@ -60,27 +59,27 @@ impl Timetable for Schedule {
     ghost schedules = { λ s. s.sets ∷ [] };
 
     fn first_after(&self, now: Timestamp, zone: &TimeZone<'_>) -> Option<Moment> {
-        fields_of(self).first_after(now, zone)
+        self.fields().first_after(now, zone)
     }
 
     fn first_past(&self, fire: &Moment, zone: &TimeZone<'_>) -> Option<Moment> {
-        fields_of(self).first_past(fire, zone)
+        self.fields().first_past(fire, zone)
     }
 
     fn last_by(&self, now: Timestamp, zone: &TimeZone<'_>) -> Option<Moment> {
-        fields_of(self).last_by(now, zone)
+        self.fields().last_by(now, zone)
     }
 
     fn first_due_after(&self, now: Timestamp, zone: &TimeZone<'_>) -> Option<DueFire> {
-        fields_of(self).first_due_after(now, zone)
+        self.fields().first_due_after(now, zone)
     }
 
     fn first_due_past(&self, fire: &DueFire, zone: &TimeZone<'_>) -> Option<DueFire> {
-        fields_of(self).first_due_past(fire, zone)
+        self.fields().first_due_past(fire, zone)
     }
 
     fn last_due_by(&self, now: Timestamp, zone: &TimeZone<'_>) -> Option<DueFire> {
-        fields_of(self).last_due_by(now, zone)
+        self.fields().last_due_by(now, zone)
     }
 }
 

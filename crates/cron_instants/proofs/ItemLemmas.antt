@@ -14,7 +14,7 @@ use Rattle.cron_time.specs.Search.{items_of}
 use Rattle.cron_time.proofs.JoinedLemmas.{Owner, owner}
 use Rattle.cron_time.proofs.PlaceLemmas.{nothing_in_nil}
 use Rattle.cron_time.proofs.TimelineLemmas.{before, item_in, items_of-second, timeline-joined}
-use Rattle.cron_instants.specs.Instants.{IsItem, IsAfter, IsBy, IsFirstAfter, IsFirstPast, IsLastBy}
+use Rattle.cron_instants.specs.Instants.{IsItem, IsAfter, IsBy, IsFirstAfter, IsFirstPast, IsLastBefore, IsLastBy}
 use Rattle.cron_instants.specs.Order.{is_earlier}
 use Rattle.cron_instants.specs.Inner.Beyond.{beyond, IsBest, IsBeyond, Stands}
 use Rattle.cron_instants.proofs.BestLemmas.{best_of_more}
@@ -108,3 +108,10 @@ last_by s z t i best is found =
     best_of_more Back (IsBeyond Back s z i 4_294_967_295) (λ r. IsItem s z r × IsBy t r) best found
     (λ r m. (item_of s z r m.0, beyond_by t i r is m.1))
     (λ r m. let there = stands_of s z r m.0 in inl (there, by_beyond t i r is (match_in_range s r.second there.matching) m.1))
+
+pub last_before : (s : Sets) (z : TimeZone) (item : Reading) (best : Option Reading) → IsBest Back (IsBeyond Back s z (instant item) item.second) best
+    → IsLastBefore s z item best
+last_before s z item best found =
+    best_of_more Back (IsBeyond Back s z (instant item) item.second) (λ r. IsItem s z r × (is_earlier r item ≡ true)) best found
+    (λ r m. (item_of s z r m.0, m.1))
+    (λ r m. inl (stands_of s z r m.0, m.1))

@@ -43,3 +43,7 @@ IsFirstPast s z item = IsEarliest (λ r. IsItem s z r × (is_earlier item r ≡ 
 -- of the items whose instant is t or comes before it the latest
 abbrev pub IsLastBy : Sets → TimeZone → ℤ → Option Reading → Type 0
 IsLastBy s z t = IsLatest (λ r. IsItem s z r × IsBy t r)
+
+-- of the items that are earlier than a given one the latest
+abbrev pub IsLastBefore : Sets → TimeZone → Reading → Option Reading → Type 0
+IsLastBefore s z item = IsLatest (λ r. IsItem s z r × (is_earlier r item ≡ true))

@@ -89,6 +89,7 @@ fn item_past(
 
 /// The nearest item ahead of a mark, at which a clock may show this civil second. The stretch is
 /// one that is known.
+#[inline(always)]
 pub(crate) fn first_item(
     fields: &ScheduleFields,
     zone: &TimeZone<'_>,

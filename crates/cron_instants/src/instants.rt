@@ -1,6 +1,6 @@
 //! Fires of seven sets in a zone, by their instants. None of these calls takes memory.
 ghost use Rattle.jiff.specs.Words.{plain_zone};
-ghost use Rattle.cron_instants.specs.Instants.{IsFirstAfter, IsFirstPast, IsLastBy};
+ghost use Rattle.cron_instants.specs.Instants.{IsFirstAfter, IsFirstPast, IsLastBefore, IsLastBy};
 
 use crate::first::first_item;
 use crate::mark::Mark;
@@ -41,4 +41,12 @@ pub fn last_by(fields: &ScheduleFields, now: Timestamp, zone: &TimeZone<'_>) -> 
     ensures { IsLastBy fields.now (plain_zone zone.now) now.nanosecond result }
 {
     nearest_item(fields, zone, Way::Back, Mark::behind(now))
+}
+
+/// The latest fire that is earlier than this one. `None` where there is none. The one that is
+/// handed in may be no fire of the timeline.
+pub fn last_before(fields: &ScheduleFields, fire: &Moment, zone: &TimeZone<'_>) -> Option<Moment>
+    ensures { IsLastBefore fields.now (plain_zone zone.now) fire.now result }
+{
+    nearest_item(fields, zone, Way::Back, Mark::of(fire))
 }

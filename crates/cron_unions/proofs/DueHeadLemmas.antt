@@ -1,5 +1,5 @@
 -- The nearest match of each of several schedules, from one number on and from a later one.
-use Rattle.std.proofs.Common.{◌≡◌, ℕ, ◌+◌, ◌-◌, ◌<◌, ◌≤◌, Bool, true, false, ◌||◌, ◌&&◌, nat_lt, ℤ, pos, ◌+ℤ◌, ◌≤ℤ◌, ◌<ℤ◌, List, [], ◌∷◌, ◌++◌, Option, Some, None, refl, sym, ap, ◌∙◌, subst, length, length-append, take, drop, get_or, slice_set, arith}
+use Rattle.std.proofs.Common.{◌≡◌, ℕ, ◌+◌, ◌-◌, ◌<◌, ◌≤◌, Bool, true, false, ◌||◌, ◌&&◌, nat_lt, ℤ, pos, ◌+ℤ◌, ◌≤ℤ◌, List, [], ◌∷◌, ◌++◌, Option, Some, None, refl, sym, ap, ◌∙◌, subst, length, length-append, take, drop, get_or, slice_set, arith}
 use Rattle.std.specs.Prelude.{slice_get, Any, IfSome}
 use Rattle.std.proofs.lemmas.List.{take-append-drop, take_all, length-drop, length-set, get_or-set_other, get_or-set_same}
 use Rattle.std.proofs.lemmas.List.Folds.{list_any-append}
@@ -16,7 +16,7 @@ use Rattle.cron_unions.specs.Unions.{matches_any}
 use Rattle.cron_unions.specs.Inner.DueHeads.{AreHeads, IsHead}
 use Rattle.cron_unions.specs.Inner.Nearest.{is_match_any, nearer_second}
 use Rattle.cron_unions.specs.declared.due_heads.Head.{Head}
-use Rattle.cron_unions.proofs.NearestLemmas.{nearest-of_both, nearest-none, nearest-step}
+use Rattle.cron_unions.proofs.NearestLemmas.{nearest-of_both, nearest-step}
 use Rattle.cron_unions.proofs.UnionLemmas.{match-of_any}
 
 -- ---- the heads are made

@@ -8,3 +8,4 @@ pub mod MergeLemmas
 pub mod HeadLemmas
 pub mod PartLemmas
 pub mod DueHeadLemmas
+pub mod BackLemmas

@@ -22,3 +22,7 @@ IsFirstPastAny ss z item = IsEarliest (λ r. IsItemOfAny ss z r × (is_earlier i
 -- of the items whose instant is t or comes before it the latest
 abbrev pub IsLastByAny : List Sets → TimeZone → ℤ → Option Reading → Type 0
 IsLastByAny ss z t = IsLatest (λ r. IsItemOfAny ss z r × IsBy t r)
+
+-- of the items that are earlier than a given one the latest
+abbrev pub IsLastBeforeAny : List Sets → TimeZone → Reading → Option Reading → Type 0
+IsLastBeforeAny ss z item = IsLatest (λ r. IsItemOfAny ss z r × (is_earlier r item ≡ true))

@@ -2,3 +2,4 @@ pub mod Nearest
 pub mod DueHeads
 pub mod Merges
 pub mod Parts
+pub mod Backs

@@ -1,5 +1,5 @@
 -- The due fires of several schedules in a zone: each civil second that matches one of them once.
-use Rattle.std.specs.Prelude.{◌≡◌, ℕ, ℤ, true, List, Option, Some, filter, map, slice_get}
+use Rattle.std.specs.Prelude.{◌≡◌, ℕ, ℤ, true, List, Option, Some, filter, map, reverse, slice_get}
 use Rattle.jiff_tz.specs.declared.timezone.TimeZone.{TimeZone}
 use Rattle.cron_units.specs.Sets.{Sets}
 use Rattle.cron_dues.specs.Due.{Due, due}
@@ -25,6 +25,10 @@ dues_any_between ss z last now = filter (is_due_by now) (dues_any_after ss z las
 -- those past a due fire and up to and with an instant
 abbrev pub dues_any_past_by : List Sets → TimeZone → Due → ℤ → List Due
 dues_any_past_by ss z fire now = filter (is_due_by now) (dues_any_past ss z fire)
+
+-- those whose instant is t or comes before it, the last one first
+abbrev pub dues_any_back : List Sets → TimeZone → ℤ → List Due
+dues_any_back ss z t = reverse (filter (is_due_by t) (dues_any ss z))
 
 -- it is one of the due fires
 abbrev pub IsDueOfAny : List Sets → TimeZone → Due → Type 0

@@ -1,5 +1,5 @@
 -- The civil seconds that match one of several schedules, their items in a zone, and when these fire.
-use Rattle.std.specs.Prelude.{ℕ, ℤ, Bool, List, filter}
+use Rattle.std.specs.Prelude.{ℕ, ℤ, Bool, List, filter, reverse}
 use Rattle.std.specs.List.{flat_map, list_any}
 use Rattle.jiff_core.specs.declared.civil.datetime.DateTime.{DateTime}
 use Rattle.jiff_tz.specs.declared.timezone.TimeZone.{TimeZone}
@@ -42,3 +42,7 @@ fires_any_between ss z last now = filter (is_by now) (fires_any_after ss z last)
 -- those later than a reading and up to and with an instant
 abbrev pub fires_any_past_by : List Sets → TimeZone → Reading → ℤ → List Reading
 fires_any_past_by ss z item now = filter (is_by now) (fires_any_past ss z item)
+
+-- those whose instant is t or comes before it, the latest first
+abbrev pub fires_any_back : List Sets → TimeZone → ℤ → List Reading
+fires_any_back ss z t = reverse (filter (is_by t) (fires_any ss z))

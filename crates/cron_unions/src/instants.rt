@@ -1,7 +1,7 @@
 //! Fires of several schedules as one in a zone, by their instants. None of these calls takes
 //! memory.
 ghost use Rattle.jiff.specs.Words.{plain_zone};
-ghost use Rattle.cron_unions.specs.FirstOfAny.{IsFirstAfterAny, IsFirstPastAny, IsLastByAny};
+ghost use Rattle.cron_unions.specs.FirstOfAny.{IsFirstAfterAny, IsFirstPastAny, IsLastBeforeAny, IsLastByAny};
 
 use cron_instants::instants;
 use cron_instants::item::nearer;
@@ -51,6 +51,22 @@ pub fn last_by(schedules: &[ScheduleFields], now: Timestamp, zone: &TimeZone<'_>
     let mut last = None;
     for fields in schedules {
         last = nearer(Way::Back, &last, instants::last_by(fields, now, zone));
+    }
+    last
+}
+
+/// The latest fire of any of the schedules that is earlier than this one. `None` where there is
+/// none. The one that is handed in may be no fire of them.
+pub fn last_before(
+    schedules: &[ScheduleFields],
+    fire: &Moment,
+    zone: &TimeZone<'_>,
+) -> Option<Moment>
+    ensures { IsLastBeforeAny schedules.now (plain_zone zone.now) fire.now result }
+{
+    let mut last = None;
+    for fields in schedules {
+        last = nearer(Way::Back, &last, instants::last_before(fields, fire, zone));
     }
     last
 }

@@ -2,6 +2,8 @@
 //! fire, by both rules at clock changes.
 #![tactic(auto)]
 
+pub mod back_due_run;
+pub mod back_run;
 mod branch;
 mod due_heads;
 pub mod due_run;

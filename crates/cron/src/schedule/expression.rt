@@ -42,7 +42,9 @@ impl Schedule {
         Schedule { source, fields }
     }
 
-    pub(crate) fn fields(&self) -> &ScheduleFields
+    /// The seven sets, for functions that take sets in place of a schedule.
+    #[inline(always)]
+    pub fn fields(&self) -> &ScheduleFields
         ensures { result.now ≡ self.now.sets }
     {
         &self.fields

@@ -1,4 +1,4 @@
-use Rattle.std.proofs.Common.{rules, ◌≡◌, pos, ◌+ℤ◌, FitsSigned, w64, to_z-of_z, refl, arith}
+use Rattle.std.proofs.Common.{rules, pos, ◌+ℤ◌, FitsSigned, w64, to_z-of_z, refl, arith}
 use Rattle.std.proofs.lemmas.Int.{by_lt_z}
 use Rattle.jiff_core.proofs.SignedLemmas.{signed_arith}
 use Rattle.cron_instants.proofs.FireLemmas.{int_le-false}

@@ -1,4 +1,4 @@
-use Rattle.std.proofs.Common.{rules, ◌≡◌, FitsSigned, w64, to_z-of_z}
+use Rattle.std.proofs.Common.{rules, FitsSigned, w64, to_z-of_z}
 use Rattle.cron_dues.proofs.AheadLemmas.{next_is}
 use Rattle.cron_dues.proofs.ahead.next_due.Goals as goal
 

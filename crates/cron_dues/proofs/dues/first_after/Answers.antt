@@ -1,4 +1,4 @@
-use Rattle.std.proofs.Common.{rules, ◌≡◌, ◌+ℤ◌, pos, FitsSigned, w64, to_z-of_z, None, Some, arith}
+use Rattle.std.proofs.Common.{rules, ◌+ℤ◌, pos, FitsSigned, w64, to_z-of_z, None, Some, arith}
 use Rattle.jiff_core.proofs.SignedLemmas.{signed_arith}
 use Rattle.cron_units.specs.declared.way.Way.TheVariants.{Ahead}
 use Rattle.cron_time.specs.Matches.{is_match}

@@ -28,9 +28,9 @@ loop-steady-preserved g c =
     let more = c.greater-greatest.ensures in
     let other = rw (to_z-of_z fits-shown, value) at more.other in
     let either = rw (to_z-of_z fits-shown, value) at more.either in
-    let there = c.steady_from-steady-in-loop-steady.ensures in
+    let there = c.steady_past-steady.ensures in
     rw (to_z-of_z fits-end, to_z-of_z fits-more) (gather_on (g.C.Clock.offsets c.args.clock.now) _ _ _ c.greater-greatest.result c.loop-steady.steady
-    c.steady_from-steady-in-loop-steady.result c.loop-steady.invariant le more.one other either
+    c.steady_past-steady.result c.loop-steady.invariant le more.one other either
     (rw (to_z-of_z fits-end) at there.kept) (rw (to_z-of_z fits-end) at there.later))
 
 pub returns-clause-greatest : goal.returns-clause-greatest

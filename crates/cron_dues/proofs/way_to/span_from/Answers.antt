@@ -1,5 +1,4 @@
-use Rattle.std.proofs.Common.{rules, FitsSigned, w64, to_z-of_z, arith, sym, ◌∙◌}
-use Rattle.jiff_core.proofs.SignedLemmas.{signed_casts}
+use Rattle.std.proofs.Common.{rules, FitsSigned, w64, to_z-of_z, sym, ◌∙◌}
 use Rattle.cron_dues.proofs.WayLemmas.{way_ahead, way_on}
 use Rattle.cron_dues.proofs.way_to.span_from.Goals as goal
 
@@ -18,8 +17,8 @@ loop-from-init g c =
 pub loop-from-preserved : goal.loop-from-preserved
 loop-from-preserved g c =
     let fits : FitsSigned w64 c.loop-from.steady.end = search rules in
-    let there = c.steady_from-steady-in-loop-from.ensures in
-    rw (to_z-of_z fits) (way_on (g.C.Clock.offsets c.args.clock.now) c.args.second _ c.loop-from.steady c.steady_from-steady-in-loop-from.result
+    let there = c.steady_past-steady.ensures in
+    rw (to_z-of_z fits) (way_on (g.C.Clock.offsets c.args.clock.now) c.args.second _ c.loop-from.steady c.steady_past-steady.result
     c.loop-from.invariant (sym c.ends_before.ensures ∙ c.loop-from-test.true) (rw (to_z-of_z fits) at there.kept) (rw (to_z-of_z fits) at there.later))
 
 pub returns-clause-ahead : goal.returns-clause-ahead

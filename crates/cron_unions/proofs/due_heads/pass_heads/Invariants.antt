@@ -1,4 +1,3 @@
-use Rattle.std.proofs.Common.{◌≡◌, length}
 use Rattle.cron_unions.proofs.DueHeadLemmas.{ArePassing}
 use Rattle.cron_unions.proofs.due_heads.pass_heads.Given as goal
 
