@@ -1,0 +1,4 @@
+pub mod GridLemmas
+pub mod WeekdayLemmas
+pub mod ChangeLemmas
+pub mod RowLemmas

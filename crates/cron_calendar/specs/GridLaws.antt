@@ -1,0 +1,23 @@
+-- What holds of the grid of every month of the range.
+use Rattle.std.specs.Prelude.{◌≡◌, ◌↔◌, ◌≤◌, ◌<◌, ℕ, ◌+◌, ◌-◌, ◌%◌, Some}
+use Rattle.cron_moments.specs.Calendar.{day_number, first_month, length_of, months_end, weekday_number}
+use Rattle.cron_moments.specs.CivilDates.{date_numbered}
+use Rattle.cron_calendar.specs.Grids.{day_at, lead}
+
+-- a day of the month stands at one place, and no other day does
+abbrev pub DaysStandOnce : Type 0
+DaysStandOnce =
+    (month day place : ℕ)
+    → 1 ≤ day
+    → day ≤ length_of month
+    → (day_at month place ≡ Some day) ↔ (place ≡ lead month + (day - 1))
+
+-- whose column is that of its day of the week: Monday is 0, and Sunday is 6
+abbrev pub DaysStandUnderTheirWeekdays : Type 0
+DaysStandUnderTheirWeekdays =
+    (month day : ℕ)
+    → first_month ≤ month
+    → month < months_end
+    → 1 ≤ day
+    → day ≤ length_of month
+    → (lead month + (day - 1)) % 7 ≡ (weekday_number (date_numbered (day_number month day)).0 + 5) % 7

@@ -1,0 +1,93 @@
+//! The cells of a grid: five columns, with a number on the right.
+ghost use Rattle.std.specs.Prelude.{◌≡◌, ◌++◌, ◌<◌, OnOk};
+ghost use Rattle.cron_calendar.specs.Cells.{count_cell, day_cell, digit_from, fires_cell, four_columns, number_cell, three_columns};
+
+use std::alloc::AllocError;
+
+// A digit, or a space where the number is too small for it.
+fn digit_from(least: u32, number: u32, digit: u32) -> u8
+    requires { digit < 10 }
+    ensures { result ≡ digit_from least number digit }
+{
+    if number < least {
+        b' '
+    } else {
+        b'0' + digit as u8
+    }
+}
+
+// A number below 10,000, on the right of four columns.
+pub(crate) fn four_columns(number: u32) -> [u8; 4]
+    ensures { result ≡ four_columns number }
+{
+    [
+        digit_from(1000, number, number / 1000 % 10),
+        digit_from(100, number, number / 100 % 10),
+        digit_from(10, number, number / 10 % 10),
+        b'0' + (number % 10) as u8,
+    ]
+}
+
+// A number below 1,000, on the right of three columns.
+fn three_columns(number: u32) -> [u8; 3]
+    ensures { result ≡ three_columns number }
+{
+    [
+        digit_from(100, number, number / 100 % 10),
+        digit_from(10, number, number / 10 % 10),
+        b'0' + (number % 10) as u8,
+    ]
+}
+
+/// Pushes the cell of a day of the month, or an empty one.
+pub(crate) fn push_day(page: &mut Vec<u8>, day: Option<u32>) -> Result<(), AllocError>
+    ensures { OnOk result (page.new.items ≡ page.old.items ++ day_cell day) }
+{
+    let Some(day) = day else {
+        return page.extend_from_slice(b"     ");
+    };
+    page.push(b' ')?;
+    page.extend_from_slice(&four_columns(day))
+}
+
+// Pushes a number, from 10,000 on its thousands.
+fn push_number(page: &mut Vec<u8>, number: u32) -> Result<(), AllocError>
+    ensures { OnOk result (page.new.items ≡ page.old.items ++ number_cell number) }
+{
+    page.push(b' ')?;
+    if number < 10_000 {
+        return page.extend_from_slice(&four_columns(number));
+    }
+    page.extend_from_slice(&three_columns(number / 1000))?;
+    page.push(b'k')?;
+    Ok(())
+}
+
+// Pushes a number of fires, which is a point where it is none.
+fn push_fires(page: &mut Vec<u8>, colour: bool, number: u32) -> Result<(), AllocError>
+    ensures { OnOk result (page.new.items ≡ page.old.items ++ fires_cell colour number) }
+{
+    if number == 0 {
+        return page.extend_from_slice(b"    .");
+    }
+    if !colour {
+        return push_number(page, number);
+    }
+    page.extend_from_slice(b"\x1b[32m")?;
+    push_number(page, number)?;
+    page.extend_from_slice(b"\x1b[0m")
+}
+
+/// Pushes the cell of a number of fires, or an empty one.
+pub(crate) fn push_count(
+    page: &mut Vec<u8>,
+    colour: bool,
+    count: Option<u32>,
+) -> Result<(), AllocError>
+    ensures { OnOk result (page.new.items ≡ page.old.items ++ count_cell colour count) }
+{
+    match count {
+        Some(number) => push_fires(page, colour, number),
+        None => page.extend_from_slice(b"     "),
+    }
+}

@@ -1,0 +1,85 @@
+//! Pieces of a page.
+ghost use Rattle.std.specs.Prelude.{◌≡◌, ◌+◌, ◌%◌, ◌++◌, ◌<◌, ◌≤◌, unsigned_abs, OnOk};
+ghost use Rattle.std.specs.Fmt.{decimal};
+ghost use Rattle.cron_calendar.specs.Html.{day_text};
+
+use cron_moments::calendar::KnownMonth;
+use itoa::Buffer;
+use jiff::civil::Date;
+use std::alloc::AllocError;
+
+/// Pushes a text as it is.
+pub(super) fn push_text(page: &mut Vec<u8>, text: &str) -> Result<(), AllocError>
+    ensures { OnOk result (page.new.items ≡ page.old.items ++ text.now) }
+{
+    page.extend_from_slice(text.as_bytes())
+}
+
+/// Pushes a number.
+pub(super) fn push_number(page: &mut Vec<u8>, number: u32) -> Result<(), AllocError>
+    ensures { OnOk result (page.new.items ≡ page.old.items ++ decimal number) }
+{
+    let mut buffer = Buffer::new();
+    push_text(page, buffer.format(number))
+}
+
+// The last digit of a number.
+fn digit(number: u32) -> u8
+    ensures { result ≡ 48 + number % 10 }
+{
+    b'0' + (number % 10) as u8
+}
+
+// The year of a date, without its sign.
+fn year_of(date: Date) -> u32
+    ensures { result ≡ unsigned_abs date.year }
+{
+    u32::from(date.year().unsigned_abs())
+}
+
+// A date, as `2024-02-29`.
+fn date_text(date: Date) -> [u8; 10]
+    ensures { result ≡ day_text date }
+{
+    let (year, month, day) = (year_of(date), date.month() as u32, date.day() as u32);
+    [
+        digit(year / 100 / 10),
+        digit(year / 100),
+        digit(year / 10),
+        digit(year),
+        b'-',
+        digit(month / 10),
+        digit(month),
+        b'-',
+        digit(day / 10),
+        digit(day),
+    ]
+}
+
+/// Pushes a date.
+pub(super) fn push_date(page: &mut Vec<u8>, date: Date) -> Result<(), AllocError>
+    ensures { OnOk result (page.new.items ≡ page.old.items ++ day_text date) }
+{
+    page.extend_from_slice(&date_text(date))
+}
+
+/// The days of the year before a month, which is numbered from January of the year 0.
+pub(super) fn days_before(month: u32) -> u32
+    requires { (23_640 ≤ month) × (month < 25_212) }
+{
+    let first = KnownMonth::of_number(month / 12 * 12).first_day();
+    KnownMonth::of_number(month)
+        .first_day()
+        .saturating_sub(first)
+}
+
+/// Of a number of fires how much it is beside the greatest: 0 to 4.
+pub(super) fn level_of(count: u32, most: u32) -> u32
+    ensures { result ≤ 4 }
+{
+    if count == 0 || most == 0 {
+        return 0;
+    }
+    let part = u64::from(count.min(most) - 1) * 4 / u64::from(most);
+    1 + part.min(3) as u32
+}

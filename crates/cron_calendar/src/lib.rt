@@ -1,0 +1,12 @@
+//! Calendars of months: how many fires each day has, under its day of the week.
+#![tactic(auto)]
+
+mod cells;
+pub mod changes;
+pub mod grid;
+pub mod html;
+pub mod laws;
+mod lines;
+pub mod months;
+pub mod pages;
+pub mod plans;

@@ -1,0 +1,3 @@
+pub mod BelowLemmas
+pub mod FirstLemmas
+pub mod OrderLemmas

@@ -1,0 +1,3 @@
+pub mod Collisions
+pub mod Laws
+pub mod Inner

@@ -1,0 +1,15 @@
+//! Whether seconds ascend.
+ghost use Rattle.std.specs.Prelude.{◌↔◌, IsTrue};
+ghost use Rattle.cron_collisions.specs.Collisions.{Ascends};
+
+/// Whether none of these seconds is less than one in front of it.
+pub fn ascends(seconds: &[i64]) -> bool
+    ensures { IsTrue result ↔ Ascends seconds.now }
+{
+    for place in 1..seconds.len() {
+        if seconds[place] < seconds[place - 1] {
+            return false;
+        }
+    }
+    true
+}

@@ -1,0 +1,9 @@
+pub mod TotalLemmas
+pub mod TimeLemmas
+pub mod HourLemmas
+pub mod DayLemmas
+pub mod CountLemmas
+pub mod PartLemmas
+pub mod ListLemmas
+pub mod LawLemmas
+pub mod ProductLemmas

@@ -1,0 +1,48 @@
+-- Times of day, in seconds after midnight, of which schedules have some.
+use Rattle.std.specs.Prelude.{◌≡◌, ℕ, ◌<◌, ◌+◌, ◌*◌, ◌/◌, ◌%◌, Bool, ◌&&◌, nat_le, nat_lt, List, length}
+use Rattle.std.specs.List.{list_any}
+use Rattle.jiff_tz.specs.declared.timezone.TimeZone.{TimeZone}
+use Rattle.cron_bits.specs.Words.{has_bit}
+use Rattle.cron_units.specs.Sets.{Sets}
+use Rattle.cron_units.specs.Units.{contains}
+use Rattle.cron_moments.specs.Civil.{civil}
+use Rattle.cron_moments.specs.Readings.{readings}
+use Rattle.cron_unions.specs.Unions.{matches_any}
+use Rattle.cron_counting.specs.declared.times.Times.{Times}
+use Rattle.cron_counting.specs.declared.span.Span.{Span}
+use Rattle.cron_counting.specs.Inner.Totals.{only_if}
+
+-- its sets have an hour and a second, and a minute too
+abbrev pub has_second : ℕ → ℕ → Times → Bool
+has_second h s x = has_bit x.hours h && has_bit x.seconds s
+
+abbrev pub has_minute : ℕ → ℕ → ℕ → Times → Bool
+has_minute h m s x = has_second h s x && has_bit x.minutes m
+
+-- one of them has a time of day
+unfoldable pub fits_any : List Times → ℕ → Bool
+fits_any xs t = list_any (has_minute (t / 3600) (t % 3600 / 60) (t % 60)) xs
+
+-- a schedule has it
+abbrev pub has_time : Sets → ℕ → Bool
+has_time s t = (contains s.hours (t / 3600) && contains s.seconds (t % 60)) && contains s.minutes (t % 3600 / 60)
+
+-- it lies in the span
+abbrev pub is_within : Span → ℕ → Bool
+is_within span t = nat_le span.first t && nat_lt t span.end
+
+-- it does, and one of them has it
+abbrev pub fits_in : List Times → Span → ℕ → Bool
+fits_in xs span t = is_within span t && fits_any xs t
+
+-- how many readings a time of a day has, if one of them has that time in the span
+abbrev pub readings_in : List Times → TimeZone → ℕ → Span → ℕ → ℕ
+readings_in xs z day span t = only_if (fits_in xs span t) (length (readings z (day * 86_400 + t)))
+
+-- one of them has a time of a day exactly where one of the schedules matches that civil second
+abbrev pub IsGathered : List Sets → ℕ → List Times → Type 0
+IsGathered ss day xs = (t : ℕ) → t < 86_400 → fits_any xs t ≡ matches_any ss (civil (day * 86_400 + t))
+
+-- the span of an hour
+abbrev pub hour_span : ℕ → Span
+hour_span hour = record { first = hour * 3600; end = hour * 3600 + 3600 }

@@ -1,0 +1,107 @@
+//! How many fires lie on each civil day of a stretch, and in each civil hour.
+ghost use Rattle.std.specs.Prelude.{◌≡◌, ◌+◌, ◌*◌, ◌<◌, ◌≤◌, ◌++◌, IfOk, OnOk, map};
+ghost use Rattle.std.specs.List.{range_with_len};
+ghost use Rattle.jiff.specs.Words.{plain_zone};
+ghost use Rattle.cron_clocks.specs.Steady.{IsKnown};
+ghost use Rattle.cron_moments.specs.Civil.{days_in_range};
+ghost use Rattle.cron_counting.specs.Counts.{counts_by_day, counts_by_hour};
+ghost use Rattle.cron_counting.specs.Inner.Times.{hour_span, readings_in, IsGathered};
+ghost use Rattle.cron_counting.specs.Inner.Totals.{total};
+
+use crate::day::count_readings;
+use crate::span::{HOUR, Span};
+use crate::times::{Times, gather};
+use cron_clocks::stretch::Stretch;
+use cron_moments::civil::{SECONDS_PER_DAY, civil_of};
+use cron_units::fields::ScheduleFields;
+use jiff::tz::TimeZone;
+use std::alloc::{AllocError, Global};
+
+/// All times of a day.
+const DAY: Span = Span {
+    first: 0,
+    end: SECONDS_PER_DAY,
+};
+
+// Gathers the times of the schedules that have a day.
+fn gather_day(
+    schedules: &[ScheduleFields],
+    day: u32,
+    times: &mut Vec<Times>,
+) -> Result<(), AllocError>
+    requires { day < days_in_range }
+    ensures { OnOk result (IsGathered schedules.now day times.new.items) }
+{
+    gather(schedules, civil_of(day * SECONDS_PER_DAY).date(), times)
+}
+
+/// How many fires the schedules have as one on each of so many civil days, from the one with this
+/// number on, counted from 1970-01-01, in a zone: each reading of a matching civil second is a
+/// fire, and is one of the day that its clock shows.
+pub fn fires_by_day(
+    alloc: Global,
+    schedules: &[ScheduleFields],
+    first: u32,
+    days: u32,
+    zone: &TimeZone<'_>,
+) -> Result<Vec<u32>, AllocError>
+    requires { first + days ≤ days_in_range }
+    ensures { IfOk result (λ counts. counts.items
+        ≡ counts_by_day schedules.now (plain_zone zone.now) first days) }
+{
+    let mut counts = Vec::new(alloc);
+    let mut times = Vec::new(alloc);
+    let mut stretch = Stretch::empty();
+    for day in first..first + days {
+        gather_day(schedules, day, &mut times)?;
+        counts.push(count_readings(times.as_slice(), day, DAY, zone, &mut stretch))?;
+    }
+    Ok(counts)
+}
+
+// Adds how many readings the times have in each hour of a day.
+fn push_hours(
+    times: &[Times],
+    day: u32,
+    zone: &TimeZone<'_>,
+    stretch: &mut Stretch,
+    counts: &mut Vec<u32>,
+) -> Result<(), AllocError>
+    requires day { day < days_in_range }
+    requires known { IsKnown (plain_zone zone.now) stretch.old }
+    ensures known { IsKnown (plain_zone zone.now) stretch.new }
+    ensures counts { OnOk result (counts.new.items ≡ counts.old.items
+        ++ map (λ hour. total (readings_in times.now (plain_zone zone.now) day (hour_span hour)) 86_400)
+        (range_with_len 0 24)) }
+{
+    for hour in 0..24 {
+        let span = Span {
+            first: hour * HOUR,
+            end: hour * HOUR + HOUR,
+        };
+        counts.push(count_readings(times, day, span, zone, stretch))?;
+    }
+    Ok(())
+}
+
+/// The same in each of their hours: 24 for a day, also where its clock skips or repeats some.
+pub fn fires_by_hour(
+    alloc: Global,
+    schedules: &[ScheduleFields],
+    first: u32,
+    days: u32,
+    zone: &TimeZone<'_>,
+) -> Result<Vec<u32>, AllocError>
+    requires { first + days ≤ days_in_range }
+    ensures { IfOk result (λ counts. counts.items
+        ≡ counts_by_hour schedules.now (plain_zone zone.now) (first * 24) (days * 24)) }
+{
+    let mut counts = Vec::new(alloc);
+    let mut times = Vec::new(alloc);
+    let mut stretch = Stretch::empty();
+    for day in first..first + days {
+        gather_day(schedules, day, &mut times)?;
+        push_hours(times.as_slice(), day, zone, &mut stretch, &mut counts)?;
+    }
+    Ok(counts)
+}

@@ -1,0 +1,10 @@
+pub mod ListLemmas
+pub mod PushLemmas
+pub mod NumberLemmas
+pub mod NameLemmas
+pub mod ListsApart
+pub mod TimesApart
+pub mod ClocksApart
+pub mod DatesApart
+pub mod PhrasesApart
+pub mod SentencesApart

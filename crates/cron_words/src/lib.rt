@@ -1,0 +1,10 @@
+//! One English sentence for a union of schedules.
+#![tactic(auto)]
+
+mod days;
+mod items;
+pub mod laws;
+mod lists;
+pub mod sentence;
+mod times;
+pub mod waits;
