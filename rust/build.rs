@@ -6,7 +6,7 @@ use std::path::{Path, PathBuf};
 use std::process::Command;
 
 /// The versions whose structs and calls are those of `src/ffi.rs`.
-const VERSIONS: &str = "cron_c >= 1.6.0 cron_c < 2.0.0";
+const VERSIONS: &str = "cron_c >= 1.7.0 cron_c < 2.0.0";
 
 const ARCHIVE: &str = "libcron_c.a";
 

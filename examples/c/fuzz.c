@@ -224,6 +224,80 @@ static void eras_in_any_order(const cron_c_schedule *schedule, int64_t last)
     }
 }
 
+enum { KINDS = 3 };
+
+/* An entry with its next fire after an instant, or none, or one of any numbers. */
+static cron_c_entry some_entry(const cron_c_schedule *schedules, const cron_c_era *eras, int64_t instant)
+{
+    cron_c_entry entry = {chance(KINDS + 1), 0, chance(2), 1, {instant, 0, 0}, 1 + (uint32_t)chance(2), 0, (int64_t)chance(9), chance(9)};
+    entry.schedules_length = chance(KINDS + 1 - entry.schedules_from);
+    if (chance(12) == 0) {
+        entry.eras_length = chance(4);
+        entry.schedules_length += chance(2);
+        entry.rule = (uint32_t)chance(5);
+        return entry;
+    }
+    const uint32_t status = (entry.rule == CRON_C_ONCE ? cron_c_union_due_after : cron_c_union_fire_after)(
+        schedules + entry.schedules_from, entry.schedules_length, eras + entry.eras_from, 1, instant, &entry.next);
+    if (status != CRON_C_OK) {
+        entry.rule = CRON_C_NO_ENTRY;
+    }
+    return entry;
+}
+
+/* Whether a call over the entry's own schedules and eras tells that this is its next fire past an item; with none it has ended. */
+static int goes_on(const cron_c_schedule *schedules, const cron_c_era *eras, const cron_c_entry *entry, uint32_t rule, const cron_c_item *item)
+{
+    cron_c_item next = *item;
+    size_t count = 0;
+    const uint32_t status = (rule == CRON_C_ONCE ? cron_c_union_dues_past : cron_c_union_fires_past)(
+        schedules + entry->schedules_from, entry->schedules_length, eras + entry->eras_from, entry->eras_length, item,
+        CRON_C_GREATEST_INSTANT, &next, 1, &count);
+    return status <= CRON_C_MORE && (count == 1 ? entry->rule == rule : entry->rule == CRON_C_NO_ENTRY) && is_same(&next, &entry->next);
+}
+
+/* What an agenda takes is what a scan through all entries finds, while entries come and go. */
+static void agendas(const cron_c_zone *zone, int64_t instant)
+{
+    static unsigned char *schedules_end, *eras_end, *entries_end;
+    const size_t length = 1 + chance(9);
+    cron_c_schedule *schedules = before_edge(&schedules_end, KINDS * sizeof *schedules);
+    cron_c_era *eras = before_edge(&eras_end, 2 * sizeof *eras);
+    cron_c_entry *entries = before_edge(&entries_end, length * sizeof *entries);
+    for (size_t kind = 0; kind < KINDS; kind++) {
+        schedules[kind] = some_schedule();
+    }
+    eras[0] = (cron_c_era){INT64_MIN, *zone};
+    eras[1] = (cron_c_era){INT64_MIN, some_zone()};
+    memset(entries, 0, length * sizeof *entries);
+    LAW(cron_c_agenda_begin(entries, length) == CRON_C_OK);
+    for (int step = 0; step < 40; step++) {
+        size_t first = length, place = 99;
+        if (chance(3) == 0) {
+            const cron_c_entry entry = some_entry(schedules, eras, instant + (int64_t)chance(100000));
+            LAW(cron_c_agenda_put(entries, length, chance(length), &entry) == CRON_C_OK);
+        }
+        for (size_t at = 0; at < length; at++) {
+            if (entries[at].rule != CRON_C_NO_ENTRY && (first == length || entries[at].next.instant < entries[first].next.instant)) {
+                first = at;
+            }
+        }
+        cron_c_entry before = first < length ? entries[first] : entries[0];
+        cron_c_item item = before.next;
+        LAW(cron_c_agenda_instant(entries) == (first < length ? before.next.instant : INT64_MAX));
+        const uint32_t status = cron_c_agenda_next(schedules, KINDS, eras, 2, entries, length, cron_c_agenda_instant(entries), &place, &item);
+        if (first == length) {
+            LAW(status == CRON_C_NO_ITEM && place == 99);
+        } else if (status == CRON_C_OK) {
+            LAW(place == first && is_same(&item, &before.next) && goes_on(schedules, eras, entries + first, before.rule, &item));
+        } else {
+            LAW((status == CRON_C_BAD_ZONE || status == CRON_C_NOT_AN_ITEM) && place == first && memcmp(&before, entries + first, sizeof before) == 0);
+            before.rule = CRON_C_NO_ENTRY;
+            LAW(cron_c_agenda_put(entries, length, place, &before) == CRON_C_OK);
+        }
+    }
+}
+
 /* A walk goes back where it came from, and lists are walks. */
 static void walks(const cron_c_schedule *schedule, const cron_c_zone *zone, int64_t instant)
 {
@@ -288,6 +362,11 @@ static void texts(void)
     LAW((needed > 0) == (status == CRON_C_REFUSED) && needed < CRON_C_MESSAGE(length));
     status = cron_c_zone_parse(text, length, &zone);
     LAW(status == CRON_C_OK || status == CRON_C_BAD_ZONE);
+    const uint32_t read = status;
+    uint32_t place = 9;
+    status = cron_c_zone_source(text, length, text, length, (uint32_t)chance(2), &zone, &place, message, room, &needed);
+    LAW(status == CRON_C_OK ? place <= CRON_C_ZONE_IN_FOLDER : place == 9 && (status == CRON_C_BAD_ZONE || status == CRON_C_NOT_UTF8));
+    LAW((read == CRON_C_OK) == (place == CRON_C_ZONE_STATED) && needed == (place == CRON_C_ZONE_IN_FOLDER ? length : 0));
     several(text, length, message, room);
 }
 
@@ -351,6 +430,7 @@ int main(int count, char **words)
         walks(&schedule, &zone, instant);
         histories(&schedule, &zone, instant);
         eras_in_any_order(&schedule, instant);
+        agendas(&zone, instant);
     }
     printf("examples: %lu random cases keep the laws\n", cases);
     return 0;

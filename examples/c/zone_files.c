@@ -1,12 +1,17 @@
 /*
- * The zone of a compiled zone file: its bytes become eras, over which a scheduler asks for its fires. The
- * argument is the path of a file, as /usr/share/zoneinfo/America/Chicago; without one it is Asia/Pyongyang,
- * whose clock went back half an hour in 2015, and ahead again in 2018.
+ * The zone of a name: the bytes of its file become eras, over which a scheduler asks for its fires. The
+ * argument is `UTC`, a rule, a name as America/Chicago, or `local`, which is what TZ says; without one it
+ * is Asia/Pyongyang, whose clock went back half an hour in 2015, and ahead again in 2018.
  */
 #include "cron_c.h"
 #include "pyongyang.h"
 
+#include <errno.h>
 #include <stdio.h>
+#include <stdlib.h>
+#include <string.h>
+
+static const char FOLDER[] = "/usr/share/zoneinfo/", MACHINE[] = "/etc/localtime";
 
 static uint8_t bytes[65536];
 static cron_c_era eras[CRON_C_ERAS];
@@ -21,17 +26,56 @@ static void print(const cron_c_item *item)
     }
 }
 
-/* The bytes of a file; none where it can't be read, or is longer than any zone file. */
-static size_t read_file(const char *path)
+/* Reads the eras that the file at a path has. */
+static uint32_t read_file(const char *path, size_t *count)
 {
+    errno = 0;
     FILE *file = fopen(path, "rb");
     if (file == NULL) {
-        return 0;
+        return CRON_C_BAD_ZONE;
     }
     const size_t length = fread(bytes, 1, sizeof bytes, file);
-    const int whole = fgetc(file) == EOF && !ferror(file);
+    const int whole = fgetc(file) == EOF && !ferror(file); /* no zone file is longer */
     fclose(file);
-    return whole ? length : 0;
+    return whole ? cron_c_history_read(bytes, length, eras, CRON_C_ERAS, count) : CRON_C_BAD_ZONE;
+}
+
+/* One era, which is always that of the zone. */
+static uint32_t always(cron_c_zone zone, size_t *count)
+{
+    eras[0] = (cron_c_era)CRON_C_ERA_ALWAYS(zone);
+    *count = 1;
+    return CRON_C_OK;
+}
+
+/* The machine's own zone, UTC where it has no file. */
+static uint32_t of_machine(size_t *count)
+{
+    const uint32_t status = read_file(MACHINE, count);
+    return status != CRON_C_OK && errno == ENOENT ? always((cron_c_zone)CRON_C_ZONE_UTC, count) : status;
+}
+
+/* Reads the eras of the zone that a text names. */
+static uint32_t read_zone(const char *text, size_t *count)
+{
+    char path[sizeof FOLDER + 4096];
+    char *name = path + sizeof FOLDER - 1;
+    const char *tz = getenv("TZ");
+    cron_c_zone zone;
+    uint32_t place;
+    size_t needed;
+    const uint32_t status = cron_c_zone_source(text, strlen(text), tz ? tz : "", tz ? strlen(tz) : 0, tz != NULL,
+                                               &zone, &place, name, 4096, &needed);
+    if (status != CRON_C_OK || needed > 4096) {
+        return CRON_C_BAD_ZONE;
+    }
+    name[needed] = 0;
+    switch (place) {
+    case CRON_C_ZONE_STATED: return always(zone, count);
+    case CRON_C_ZONE_IN_FOLDER: return read_file(memcpy(path, FOLDER, sizeof FOLDER - 1), count);
+    case CRON_C_ZONE_AT_PATH: return read_file(name, count);
+    default: return of_machine(count);
+    }
 }
 
 /* Prints the first fires after an instant. */
@@ -54,15 +98,14 @@ static int fires(const cron_c_schedule *schedule, size_t count, int64_t now, int
 
 int main(int words, char **word)
 {
-    const uint8_t *held = words > 1 ? bytes : PYONGYANG;
-    const size_t length = words > 1 ? read_file(word[1]) : sizeof PYONGYANG;
     cron_c_schedule schedule;
     size_t needed, count;
 
     if (cron_c_parse(CRON_C_TEXT("0 45 23 * * *"), &schedule, CRON_C_NO_TEXT, &needed) != CRON_C_OK) {
         return 1;
     }
-    const uint32_t status = cron_c_history_read(held, length, eras, CRON_C_ERAS, &count);
+    const uint32_t status = words > 1 ? read_zone(word[1], &count)
+                                      : cron_c_history_read(PYONGYANG, sizeof PYONGYANG, eras, CRON_C_ERAS, &count);
     if (status != CRON_C_OK) {
         printf("%s\n", cron_c_status_text(status));
         return 1;

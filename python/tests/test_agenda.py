@@ -52,6 +52,46 @@ class Order(unittest.TestCase):
             self.assertEqual([(it.moment.timestamp(), it.id) for it in taken(agenda, end)], sorted(wanted))
 
 
+LORD_HOWE, HALF_HOUR = ZoneInfo("Australia/Lord_Howe"), timedelta(minutes=30)
+
+
+def scanned(hours, minutes, zone, changes, start, end):
+    """The instants of a schedule of half hours after one and up to and with another, as `zoneinfo` tells what a clock shows."""
+    found = []
+    reached = datetime.fromtimestamp(start.timestamp(), zone).replace(tzinfo=None)
+    for at in range(int(start.timestamp()) + 1800, int(end.timestamp()) + 1, 1800):
+        shown = datetime.fromtimestamp(at, zone).replace(tzinfo=None)
+        times = [shown]
+        if changes == "once":  # each half hour that the clock hasn't shown or passed over yet
+            times = [reached + HALF_HOUR * it for it in range(1, (shown - reached) // HALF_HOUR + 1)]
+            reached = max(reached, shown)
+        found += [at for it in times if it.hour in hours and it.minute in minutes]
+    return found
+
+
+class Scans(unittest.TestCase):
+    def test_it_is_what_a_scan_of_all_half_hours_finds(self):
+        draw = random.Random(20261128)
+        for _ in range(30):
+            start = datetime.fromtimestamp(1_640_995_200 + 3600 * draw.randrange(8000), CHICAGO)
+            end, agenda, wanted, removed = start + timedelta(days=30), Agenda(), [], {}
+            for _ in range(6):
+                zone, changes = draw.choice([CHICAGO, APIA, LORD_HOWE]), draw.choice(["as_shown", "once"])
+                hours, minutes = draw.sample(range(24), 3), draw.choice([[0], [30], [0, 30]])
+                text = f"0 {','.join(map(str, minutes))} {','.join(map(str, hours))} * * *"
+                entry = agenda.add(Schedule(text), start.astimezone(zone), clock_changes=changes)
+                told = scanned(hours, minutes, zone, changes, start, end)
+                removed[entry] = draw.choice([len(told), draw.randrange(1, len(told))])
+                wanted += [(at, entry) for at in told[: removed[entry]]]
+            found = []
+            while (fire := agenda.next_due(end)) is not None:
+                found.append((fire.moment.timestamp(), fire.id))
+                removed[fire.id] -= 1
+                if removed[fire.id] == 0:
+                    agenda.remove(fire.id)
+            self.assertEqual(found, sorted(wanted))
+
+
 class Entries(unittest.TestCase):
     def test_a_removed_entry_fires_no_more_and_its_id_is_not_used_again(self):
         agenda, start = Agenda(), datetime(2022, 1, 1, tzinfo=CHICAGO)

@@ -151,6 +151,18 @@ extern "C" {
         text_needed: *mut usize,
     ) -> u32;
     fn cron_c_zone_parse(text: *const u8, text_length: usize, zone: *mut Rule) -> u32;
+    fn cron_c_zone_source(
+        text: *const u8,
+        text_length: usize,
+        tz: *const u8,
+        tz_length: usize,
+        tz_is_set: u32,
+        zone: *mut Rule,
+        place: *mut u32,
+        path: *mut u8,
+        path_length: usize,
+        path_needed: *mut usize,
+    ) -> u32;
     fn cron_c_history_read(
         bytes: *const u8,
         bytes_length: usize,
@@ -233,8 +245,8 @@ fn expect_version() {
     // SAFETY: the call takes no pointer.
     let version = unsafe { cron_c_version() };
     assert!(
-        (10_600..20_000).contains(&version),
-        "libcron_c.a has version {version}, and this package is for 10600 up to 19999"
+        (10_700..20_000).contains(&version),
+        "libcron_c.a has version {version}, and this package is for 10700 up to 19999"
     );
 }
 
@@ -328,6 +340,49 @@ pub(crate) fn parse_rule(text: &str) -> Option<Rule> {
     // SAFETY: as at the head of this file.
     let status = unsafe { cron_c_zone_parse(text.as_ptr(), text.len(), &mut rule) };
     (status == OK).then_some(rule)
+}
+
+/// Where the zone of a text is found.
+pub(crate) enum Source {
+    Stated(Rule),
+    InFolder(String),
+    AtPath(String),
+    OfMachine,
+}
+
+/// Tells where the zone of a text is found; `tz` is what the variable TZ holds, if it is set.
+pub(crate) fn zone_source(text: &str, tz: Option<&str>) -> Option<Source> {
+    expect_version();
+    let told = tz.unwrap_or_default();
+    let (mut rule, mut place, mut needed) = (UTC, 0, 0);
+    // A name or a path is no longer than the text that has it.
+    let mut path = vec![0; text.len().max(told.len())];
+    // SAFETY: as at the head of this file.
+    let status = unsafe {
+        cron_c_zone_source(
+            text.as_ptr(),
+            text.len(),
+            told.as_ptr(),
+            told.len(),
+            tz.is_some().into(),
+            &mut rule,
+            &mut place,
+            path.as_mut_ptr(),
+            path.len(),
+            &mut needed,
+        )
+    };
+    if status != OK {
+        return None;
+    }
+    path.truncate(needed);
+    let path = String::from_utf8(path).expect("it is a part of a text");
+    Some(match place {
+        0 => Source::Stated(rule),
+        1 => Source::InFolder(path),
+        2 => Source::AtPath(path),
+        _ => Source::OfMachine,
+    })
 }
 
 /// Why the bytes of a zone's file give no eras.
@@ -505,6 +560,28 @@ mod tests {
         assert_eq!(size_of::<Rule>(), 16 * 4);
         assert_eq!(size_of::<Era>(), 8 + 16 * 4);
         assert_eq!(size_of::<Item>(), 16);
+    }
+
+    #[test]
+    fn sources_are_those_of_the_text_or_of_tz() {
+        let found = |text, tz| match zone_source(text, tz) {
+            None => "none".to_string(),
+            Some(Source::Stated(rule)) => format!("stated {}", rule.offset),
+            Some(Source::InFolder(name)) => format!("name {name}"),
+            Some(Source::AtPath(path)) => format!("path {path}"),
+            Some(Source::OfMachine) => "machine".to_string(),
+        };
+        assert_eq!(found("IST-5:30", Some("UTC")), "stated 19800");
+        assert_eq!(found("America/Chicago", None), "name America/Chicago");
+        assert_eq!(found("../passwd", None), "none");
+        assert_eq!(found("local", None), "machine");
+        assert_eq!(found("local", Some("")), "stated 0");
+        assert_eq!(
+            found("local", Some(":/etc/localtime")),
+            "path /etc/localtime"
+        );
+        assert_eq!(found("local", Some("Asia/Tokyo")), "name Asia/Tokyo");
+        assert_eq!(found("local", Some("\u{fffd}")), "none");
     }
 
     #[test]

@@ -29,7 +29,7 @@
 //! use cron::Schedule;
 //!
 //! let schedule: Schedule = "0 30 1 * * *".parse()?;
-//! let chicago = Zone::rule("CST6CDT,M3.2.0,M11.1.0")?; // or Zone::history(&fs::read(..)?)?
+//! let chicago = Zone::rule("CST6CDT,M3.2.0,M11.1.0")?; // or Zone::open("America/Chicago")?
 //! let last = Utc.with_ymd_and_hms(2022, 11, 5, 0, 0, 0).unwrap();
 //! let now = Utc.with_ymd_and_hms(2022, 11, 6, 7, 0, 0).unwrap();
 //! let fires = schedule.fires(&chicago);
@@ -51,7 +51,7 @@
 //! # Panics
 //!
 //! Reading a text or a zone panics where the archive that was linked isn't of a version that this
-//! package knows (1.6.0 or later, before 2.0.0). Nothing else panics.
+//! package knows (1.7.0 or later, before 2.0.0). Nothing else panics.
 #![deny(unsafe_code)]
 #![deny(rust_2018_idioms)]
 #![warn(missing_docs)]

@@ -1,9 +1,13 @@
 //! Zones that the library reads itself: a rule as POSIX has it, or a zone file with its history.
 
-use crate::ffi::{self, Era, NoHistory, Rule};
+use crate::ffi::{self, Era, NoHistory, Rule, Source};
 use chrono::FixedOffset;
+use std::env;
 use std::error;
 use std::fmt;
+use std::fs;
+use std::io::ErrorKind;
+use std::path::{Path, PathBuf};
 
 /// A zone, and since when the clock had which offset. Read it once and keep it.
 #[derive(Clone, Debug, PartialEq, Eq)]
@@ -33,6 +37,30 @@ impl Zone {
             Err(NoHistory::OutOfMemory) => Err(ZoneError::OutOfMemory),
             Err(NoHistory::Refused) => Err(ZoneError::Refused),
         }
+    }
+
+    /// Opens the zone of a text: `UTC`, a rule, a name of the time zone database, as
+    /// `America/Chicago`, or `local`, which is what the variable TZ says, and where it isn't set the
+    /// machine's own zone. One file is read at most, of a name that below the folder which TZDIR
+    /// names, or else `/usr/share/zoneinfo`. No name leaves that folder.
+    pub fn open(text: &str) -> Result<Zone, ZoneError> {
+        let tz = env::var_os("TZ").map(|it| it.to_string_lossy().into_owned());
+        match ffi::zone_source(text, tz.as_deref()).ok_or(ZoneError::Refused)? {
+            Source::Stated(rule) => Zone::of_eras(vec![Era::always(rule)]),
+            Source::InFolder(name) => {
+                let folder = env::var_os("TZDIR").unwrap_or_else(|| "/usr/share/zoneinfo".into());
+                Zone::of_file(&PathBuf::from(folder).join(name))
+            }
+            Source::AtPath(path) => Zone::of_file(path.as_ref()),
+            Source::OfMachine => match fs::read("/etc/localtime") {
+                Err(error) if error.kind() == ErrorKind::NotFound => Ok(Zone::utc()),
+                read => Zone::history(&read.map_err(|_| ZoneError::Unread)?),
+            },
+        }
+    }
+
+    fn of_file(path: &Path) -> Result<Zone, ZoneError> {
+        Zone::history(&fs::read(path).map_err(|_| ZoneError::Unread)?)
     }
 
     pub(crate) fn eras(&self) -> &[Era] {
@@ -69,6 +97,8 @@ fn has_chrono_offsets(rule: &Rule) -> bool {
 pub enum ZoneError {
     /// The text says no zone, or the bytes are none that the library takes.
     Refused,
+    /// The file that has the zone can't be read.
+    Unread,
     /// An offset is 24 hours or more, which `chrono` holds none of.
     OffsetOfADay,
     /// There is no memory for what the bytes say.
@@ -79,6 +109,7 @@ impl fmt::Display for ZoneError {
     fn fmt(&self, f: &mut fmt::Formatter<'_>) -> fmt::Result {
         f.write_str(match self {
             ZoneError::Refused => "there is no such zone",
+            ZoneError::Unread => "the zone's file can't be read",
             ZoneError::OffsetOfADay => "an offset of the zone is 24 hours or more",
             ZoneError::OutOfMemory => "out of memory",
         })

@@ -242,3 +242,17 @@ fn zones_are_refused_where_they_are_none() {
     assert_eq!(Zone::history(b""), Err(ZoneError::Refused));
     assert_eq!(Zone::rule("UTC"), Ok(Zone::utc()));
 }
+
+#[test]
+fn zones_are_opened_by_what_names_them() {
+    assert_eq!(Zone::open("UTC"), Ok(Zone::utc()));
+    let chicago = "CST6CDT,M3.2.0,M11.1.0";
+    assert_eq!(Zone::open(chicago), Zone::rule(chicago));
+    for text in ["", "../etc/passwd", "right/UTC", "no zone"] {
+        assert_eq!(Zone::open(text), Err(ZoneError::Refused), "{text}");
+    }
+    assert_eq!(Zone::open("No/Such_Place"), Err(ZoneError::Unread));
+    if let Ok(bytes) = std::fs::read("/usr/share/zoneinfo/America/Chicago") {
+        assert_eq!(Zone::open("America/Chicago"), Zone::history(&bytes));
+    }
+}

@@ -27,7 +27,7 @@ extern "C" {
 #endif
 
 /* The version of this header: 10,000 times its first number, 100 times its second, and its third. */
-#define CRON_C_VERSION 10600
+#define CRON_C_VERSION 10700
 
 /* The version of the archive. Its first number is that of the header, or the structs may differ. */
 uint32_t cron_c_version(void);
@@ -251,6 +251,35 @@ typedef struct cron_c_zone {
  * CRON_C_OK or CRON_C_BAD_ZONE.
  */
 uint32_t cron_c_zone_parse(const char *text, size_t text_length, cron_c_zone *zone);
+
+/* Where the zone of a text is found. */
+enum {
+    CRON_C_ZONE_STATED = 0,     /* In the text: `zone` was written. */
+    CRON_C_ZONE_IN_FOLDER = 1,  /* In the file of this name below the folder of zone files, as /usr/share/zoneinfo. */
+    CRON_C_ZONE_AT_PATH = 2,    /* In the file at this absolute path. */
+    CRON_C_ZONE_OF_MACHINE = 3  /* In the machine's own file, /etc/localtime. Where there is none the zone is UTC. */
+};
+
+/*
+ * Tells in `*place` where the zone of a text is found. `UTC` and the rules that `cron_c_zone_parse` reads
+ * are written to `zone`. Any other name, as `America/Chicago`, is that of a file. `local` is what the
+ * variable TZ says, which is given as `tz`, with a `tz_is_set` other than 0; with 0 it isn't set, and the
+ * zone is the machine's own. An empty TZ is UTC. It may begin with a colon, behind which an absolute path
+ * may stand. The name or the path is written to `path`, as far as it fits, and its length, which is no
+ * greater than that of the text or of TZ, to `*path_needed`; 0 where no file is named. Read that file
+ * alone, and give its bytes to `cron_c_history_read`.
+ *
+ * A name has letters, digits and `+-_./`. No piece between its slashes is empty or begins with a dot, and
+ * it isn't below `right/`: so it can't leave the folder. A text that is both, as `EST5`, is the rule.
+ *
+ * CRON_C_OK; CRON_C_BAD_ZONE where the text, or for `local` what TZ holds, names no zone; or
+ * CRON_C_NOT_UTF8 where the text isn't UTF-8, or a TZ that is set isn't. With the last two `*place` is as
+ * it was, and `*path_needed` 0.
+ */
+uint32_t cron_c_zone_source(const char *text, size_t text_length,
+                            const char *tz, size_t tz_length, uint32_t tz_is_set,
+                            cron_c_zone *zone, uint32_t *place,
+                            char *path, size_t path_length, size_t *path_needed);
 
 /*
  * Which call to use:
@@ -518,6 +547,76 @@ uint32_t cron_c_union_dues_past(const cron_c_schedule *schedules, size_t schedul
                                 const cron_c_era *eras, size_t eras_length,
                                 const cron_c_item *item, int64_t now,
                                 cron_c_item *items, size_t items_length, size_t *count);
+
+/* The rule of an entry where a clock changes. */
+enum {
+    CRON_C_NO_ENTRY = 0, /* There is no entry. */
+    CRON_C_AS_SHOWN = 1, /* As `cron_c_union_fire_after`: a repeated time fires twice, a skipped one never. */
+    CRON_C_ONCE = 2      /* As `cron_c_union_due_after`: each match fires once. */
+};
+
+/*
+ * An entry of an agenda, an array of many: what fires by some schedules and some eras. Those of all entries
+ * stand in two arrays, and an entry has so many of each, from a place on. So entries may share them.
+ * `next` is the fire that comes next: let `cron_c_union_fire_after` or `cron_c_union_due_after` write it,
+ * by the rule; after a restart list one item past the one that was noted. What `reserved` holds means
+ * nothing yet: give 0. The last two numbers are the library's own. Memory of zeros has no entries.
+ */
+typedef struct cron_c_entry {
+    size_t schedules_from;
+    size_t schedules_length;
+    size_t eras_from;
+    size_t eras_length;
+    cron_c_item next;
+    uint32_t rule;
+    uint32_t reserved;
+    int64_t soonest_instant;
+    size_t soonest_place;
+} cron_c_entry;
+
+/* When the first of an agenda's entries fires, which has at least a place: INT64_MAX where none is left. */
+static inline int64_t cron_c_agenda_instant(const cron_c_entry *entries)
+{
+    return entries[0].soonest_instant;
+}
+
+/*
+ * Makes an agenda of an array: gives the last two numbers of each entry. Call it once, and again for a
+ * longer array, in time that grows with the array. The other calls take about log2(n) steps.
+ *
+ * CRON_C_OK.
+ */
+uint32_t cron_c_agenda_begin(cron_c_entry *entries, size_t entries_length);
+
+/*
+ * Puts an entry at a place of an agenda, in the stead of what stands there: a new one where there is
+ * none, another next fire, or, with the rule CRON_C_NO_ENTRY, none. What its last two numbers are
+ * doesn't matter.
+ *
+ * CRON_C_OK; or CRON_C_NOT_AN_ITEM where the array has no such place.
+ */
+uint32_t cron_c_agenda_put(cron_c_entry *entries, size_t entries_length,
+                           size_t place, const cron_c_entry *entry);
+
+/*
+ * Takes what fires next of all entries, if its instant is `now` or comes before it: writes the entry's
+ * place to `*place` and the fire to `item`, and has the entry go on to its next fire. One that has none
+ * gets the rule CRON_C_NO_ENTRY. Fires come by instant, those of one instant by place, and those of one
+ * entry by what the clock shows.
+ *
+ * CRON_C_OK; or CRON_C_NO_ITEM where no entry is due. Where the entry that comes first can't go on nothing
+ * is taken, and `*place` tells which it is: CRON_C_BAD_ZONE where its eras are no history, as the calls
+ * by its rule tell; CRON_C_NOT_AN_ITEM where it has schedules or eras past the end of the arrays, another
+ * rule, or a `next` that the rule doesn't take. Put another entry there, or none.
+ *
+ * Give an agenda: what `cron_c_agenda_begin` made, and only these calls have written to. Of another array
+ * any entry may be taken, whether it is due or not; or none, and then CRON_C_NOT_AN_ITEM may come with a
+ * place that the array hasn't. Nothing else is written, and the call returns.
+ */
+uint32_t cron_c_agenda_next(const cron_c_schedule *schedules, size_t schedules_length,
+                            const cron_c_era *eras, size_t eras_length,
+                            cron_c_entry *entries, size_t entries_length,
+                            int64_t now, size_t *place, cron_c_item *item);
 
 /*
  * Writes to `item` the first item from the civil second on that a clock in the zone shows one second

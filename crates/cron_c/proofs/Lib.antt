@@ -22,3 +22,6 @@ mod ReadingLemmas
 mod OneSchedule
 pub mod LineLemmas
 mod CanonicalLemmas
+pub mod AgendaLemmas
+mod AgendaOrder
+mod AgendaRest

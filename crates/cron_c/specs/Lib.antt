@@ -9,9 +9,12 @@ pub mod Zones
 pub mod Histories
 pub mod Savings
 pub mod ZoneFiles
+pub mod ZoneSources
 pub mod Dues
 pub mod HistoryClocks
 pub mod Unions
+pub mod Agendas
+pub mod AgendaLaws
 pub mod UnionLaws
 pub mod Crontabs
 pub mod Canonical

@@ -2,12 +2,15 @@
 //! buffers that the caller owns. `include/cron_c.h` says what the language of the boundary can't.
 #![tactic(auto)]
 
+mod agenda;
+mod agenda_tree;
 mod buffer;
 mod canonical_call;
 mod crontab_call;
 mod due_by_clock;
 mod due_item;
 mod due_text;
+mod entry;
 mod era;
 mod era_table;
 mod firing;
@@ -39,10 +42,13 @@ mod union_items;
 mod version;
 mod zone;
 mod zone_file;
+mod zone_source;
 
+pub use agenda::{cron_c_agenda_begin, cron_c_agenda_next, cron_c_agenda_put};
 pub use canonical_call::cron_c_canonical;
 pub use crontab_call::cron_c_crontab_parse;
 pub use due_text::cron_c_due_format;
+pub use entry::CronEntry;
 pub use era::CronEra;
 pub use firing::{cron_c_fire_after, cron_c_fire_at, cron_c_fire_by};
 pub use history_calls::{
@@ -77,3 +83,4 @@ pub use union_dues::{
 pub use version::cron_c_version;
 pub use zone::{CronTurn, CronZone};
 pub use zone_file::cron_c_history_read;
+pub use zone_source::cron_c_zone_source;

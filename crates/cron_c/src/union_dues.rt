@@ -41,7 +41,8 @@ fn due_by(schedules: &[CronSchedule], eras: &[CronEra], second: i64, item: &mut 
     union_due_by_clock::due_by(schedules, &clock, second, item)
 }
 
-fn due_past(schedules: &[CronSchedule], eras: &[CronEra], item: &mut CronItem) -> Status
+/// Puts the first due fire past that of an item in its place.
+pub fn due_past(schedules: &[CronSchedule], eras: &[CronEra], item: &mut CronItem) -> Status
     ensures { InHistory eras.now
         (FollowsDue IsFirstDueOfAnyPast (sets_of_all schedules.now) item.old item.new)
         (item.new ≡ item.old) result }

@@ -7,7 +7,7 @@ ghost use Rattle.cron_c.specs.Statuses.{version_number};
 /// The first changes with what callers of an earlier one rely on.
 #[unsafe(no_mangle)]
 pub extern "C" fn cron_c_version() -> u32
-    ensures { result ≡ version_number 1 6 0 }
+    ensures { result ≡ version_number 1 7 0 }
 {
-    10_600
+    10_700
 }

@@ -17,4 +17,4 @@ from .errors import CronError, InstantError, TextError, ZoneError
 from .schedule import Schedule
 
 __all__ = ["Agenda", "AgendaFire", "CronError", "DueFire", "InstantError", "Schedule", "TextError", "ZoneError"]
-__version__ = "1.6.0"
+__version__ = "1.7.0"
