@@ -1,2 +1,3 @@
 pub mod LoadLemmas
 pub mod AlarmLemmas
+pub mod LawLemmas

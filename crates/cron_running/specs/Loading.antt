@@ -1,5 +1,5 @@
 -- The entries of crontabs in an agenda, with what is written of each.
-use Rattle.std.specs.Prelude.{◌≡◌, ◌⊎◌, ◌++◌, ℕ, ℤ, List, [], ◌∷◌, None, Result, Ok, Err, map}
+use Rattle.std.specs.Prelude.{◌≡◌, ◌⊎◌, ◌++◌, ℕ, ℤ, List, [], ◌∷◌, None, Result, Ok, Err, if◌then◌else◌, map}
 use Rattle.std.specs.List.{flat_map}
 use Rattle.jiff_tz.specs.declared.timezone.TimeZone.{TimeZone}
 use Rattle.cron_agenda.specs.Entries.{Adds, Listed, listed}
@@ -18,43 +18,54 @@ use Rattle.cron_tab_listing.specs.declared.adding.Clock.{Clock}
 use Rattle.cron_tab_listing.specs.declared.tab_entry.TabEntry.{TabEntry}
 use Rattle.cron_tab_tasks.specs.Tasks.{Task, orders_view, tasks_of}
 use Rattle.cron_tab_tasks.specs.Told.{told_lines}
+use Rattle.cron_running.specs.Noted.{Noted, entry_of, is_noted}
 use Rattle.cron_running.specs.declared.loading.Loaded.{Loaded}
 use Rattle.cron_running.specs.declared.orders.RunOrders.{RunOrders}
 use Rattle.cron_running.specs.declared.orders.TabFile.{TabFile}
 
--- where, from when on, by which rule and how late entries fire: after the instant `start`, in nanoseconds since 1970
+-- where, from when on, by which rule and how late entries fire: after the instant `start`, in nanoseconds since 1970, or where they are noted
+-- after the instant up to which they were run
 pub record Given : Type 0 where
   pub zones : List TimeZone
+  pub names : List NamedZone
   pub start : ℤ
+  pub noted : Noted
   pub clock : Clock
   pub lateness : Lateness
 
-abbrev pub given : RunOrders → List TimeZone → ℤ → Given
-given o zones start = record { zones = zones; start = start; clock = o.clock; lateness = o.lateness }
+abbrev pub given : RunOrders → List TimeZone → ℤ → Noted → Given
+given o zones start noted =
+    record { zones = zones; names = o.tasks.names.now; start = start; noted = noted; clock = o.clock; lateness = o.lateness }
 
--- an agenda, the texts of its entries, each at the id of its entry, and those of the entries of `@reboot`, one after another
+-- an agenda, the texts of its entries, each at the id of its entry, and those of the entries of `@reboot`, one after another; and what each
+-- of all these is known by
 pub record State : Type 0 where
+  pub known : List (List ℕ)
   pub agenda : Listed (Timely TabEntry)
   pub texts : List (List ℕ)
   pub at_reboot : List ℕ
 
 abbrev pub state_of : Loaded → State
-state_of l = record { agenda = l.agenda; texts = map (λ t. t.items) l.texts.items; at_reboot = l.at_reboot.items }
+state_of l = record { known = map (λ e. e.items) l.known.items; agenda = l.agenda; texts = map (λ t. t.items) l.texts.items; at_reboot = l.at_reboot.items }
 
 abbrev pub nothing : State
-nothing = record { agenda = listed [] 0; texts = []; at_reboot = [] }
+nothing = record { known = []; agenda = listed [] 0; texts = []; at_reboot = [] }
 
--- as an agenda adds a table's fires by a rule
-abbrev pub AddsTable : Given → ℕ → ClockChanges → TabEntry → Listed (Timely TabEntry) → Result ℕ AddError → Listed (Timely TabEntry) → Type 0
-AddsTable g zone changes table =
+-- from when on an entry fires behind others, in nanoseconds since 1970
+abbrev pub start_of : Given → List (List ℕ) → List ℕ → ℤ
+start_of g before entry = if is_noted g.noted.entries before entry then g.noted.until else g.start
+
+-- as an agenda adds a table's fires by a rule, after an instant
+abbrev pub AddsTable : Given → ℤ → ℕ → ClockChanges → TabEntry → Listed (Timely TabEntry) → Result ℕ AddError → Listed (Timely TabEntry) → Type 0
+AddsTable g start zone changes table =
     Adds (λ t. schedules_of t.table) g.zones (record { table = table; lateness = g.lateness }) zone
-    (λ z. fires_after (schedules_of table) z changes g.start)
+    (λ z. fires_after (schedules_of table) z changes start)
 
 -- The entry and its text are added; or nothing is, since it never fires again.
-abbrev pub AddsTimed : Given → ℕ → ClockChanges → TabEntry → List ℕ → State → State → Type 0
-AddsTimed g zone changes table text old new =
-    ((id : ℕ) × AddsTable g zone changes table old.agenda (Ok id) new.agenda × (new.texts ≡ old.texts ++ text ∷ []) × (new.at_reboot ≡ old.at_reboot))
-    ⊎ (AddsTable g zone changes table old.agenda (Err NoFires) new.agenda × (new.texts ≡ old.texts) × (new.at_reboot ≡ old.at_reboot))
+abbrev pub AddsTimed : Given → ℤ → ℕ → ClockChanges → TabEntry → List ℕ → State → State → Type 0
+AddsTimed g start zone changes table text old new =
+    ((id : ℕ) × AddsTable g start zone changes table old.agenda (Ok id) new.agenda × (new.texts ≡ old.texts ++ text ∷ []) × (new.at_reboot ≡ old.at_reboot))
+    ⊎ (AddsTable g start zone changes table old.agenda (Err NoFires) new.agenda × (new.texts ≡ old.texts) × (new.at_reboot ≡ old.at_reboot))
 
 abbrev pub task : FileLine → ℕ → List ℕ → Task
 task line zone text = record { line = line; zone = zone; text = text }
@@ -62,8 +73,9 @@ task line zone text = record { line = line; zone = zone; text = text }
 -- An entry that no clock fires is one of `@reboot`. Others are added.
 abbrev pub AddsTask : Given → Task → State → State → Type 0
 AddsTask g task old new =
-    ((schedules_in task.line.outcome ≡ None) × (new.agenda ≡ old.agenda) × (new.texts ≡ old.texts) × (new.at_reboot ≡ old.at_reboot ++ task.text))
-    ⊎ ((table : TabEntry) × IsTab task.line table × AddsTimed g task.zone (changes_of g.clock task.line.bytes) table task.text old new)
+    (new.known ≡ old.known ++ entry_of g.names task ∷ [])
+    × (((schedules_in task.line.outcome ≡ None) × (new.agenda ≡ old.agenda) × (new.texts ≡ old.texts) × (new.at_reboot ≡ old.at_reboot ++ task.text))
+    ⊎ ((table : TabEntry) × IsTab task.line table × AddsTimed g (start_of g old.known (entry_of g.names task)) task.zone (changes_of g.clock task.line.bytes) table task.text old new))
 
 -- one after another
 abbrev pub AddsTasks : Given → List Task → State → State → Type 0

@@ -6,16 +6,18 @@ ghost use Rattle.jiff.specs.Words.{plain_zone};
 ghost use Rattle.cron_ringing.specs.Printing.{writer_calls};
 ghost use Rattle.cron_scheduler.specs.Runs.{clock_calls};
 ghost use Rattle.cron_running.specs.Loading.{AddsTasks, files_tasks, given, nothing, state_of, told_files};
+ghost use Rattle.cron_running.specs.Noted.{noted_view};
 ghost use Rattle.cron_running.specs.Running.{RunsFiles};
 
 use crate::failure::{Failure, outcome_of};
 use crate::loading::{Loaded, Start, load_files};
 use crate::loop_over::run_loaded;
+use crate::noted::{Noted, later};
 use crate::orders::{RunOrders, TabFile};
+use crate::run_clock::EntryClock;
 use crate::writer::TabWriter;
 use cron_agenda_scheduler::AgendaStop;
 use cron_ringing::printer::Printer;
-use cron_scheduler::AlarmClock;
 use cron_tab_lines::Lines;
 use cron_tab_tasks::{Orders, push_refusals};
 use cron_writer::watchable::Watchable;
@@ -54,7 +56,8 @@ fn begin(
     start: &Start<'_, '_>,
 ) -> Result<Begun, AllocError>
     ensures adds { IfOk result (λ b. AddsTasks
-        (given orders.now (map plain_zone start.now.zones.now) start.now.instant.nanosecond)
+        (given orders.now (map plain_zone start.now.zones.now) start.now.instant.nanosecond
+        (noted_view start.now.noted.now))
         (files_tasks orders.now files.now) nothing (state_of b.loaded)) }
     ensures told { IfOk result (λ b. string_bytes b.told
         ≡ told_files orders.now.tasks.kind orders.now.tasks.names.now files.now) }
@@ -66,22 +69,24 @@ fn begin(
 }
 
 /// Tells of the lines that are refused, and then runs the other entries, in the first of the zones,
-/// or below a line that sets `CRON_TZ` in the one that it names, from the time on that the clock
-/// shows first: what is written of an entry is handed on at its fire, and
-/// flushed, before the clock is waited for again. It ends where no entry fires any more, or after
-/// so many runs; else by a failure.
-pub fn run_files<C: AlarmClock, W: Watchable, E: Watchable>(
+/// or below a line that sets `CRON_TZ` in the one that it names. An entry that is noted fires after
+/// the instant noted, and every other after the later of that and the time that the clock shows
+/// first. What is written of an entry is handed on at its fire, and flushed, before the clock is
+/// waited for again. It ends where no entry fires any more, or after so many runs; else by a
+/// failure.
+pub fn run_files<C: EntryClock, W: Watchable, E: Watchable>(
     alloc: Global,
     orders: &RunOrders<'_>,
     files: &[TabFile<'_>],
     zones: &[TimeZone<'_>],
+    noted: &Noted,
     clock: &mut C,
     writer: &mut TabWriter<W>,
     complaints: &mut Printer<E>,
 ) -> Result<(), Failure<C::Error>>
-    ensures { RunsFiles (clock_calls C.shows C.waits)
+    ensures { RunsFiles (clock_calls C.shows C.waits) C.begins
         (writer_calls W.writes W.flushes W.contents) (writer_calls E.writes E.flushes E.contents)
-        orders.now files.now (map plain_zone zones.now)
+        orders.now files.now (map plain_zone zones.now) (noted_view noted.now)
         (clock.old, writer.old, complaints.old) result (clock.new, writer.new, complaints.new) }
 {
     let now = match clock.now() {
@@ -90,14 +95,15 @@ pub fn run_files<C: AlarmClock, W: Watchable, E: Watchable>(
     };
     let start = Start {
         zones,
-        instant: now,
+        instant: later(now, noted.until),
+        noted,
     };
     let Ok(begun) = begin(alloc, orders, files, &start) else {
         return Err(Failure::OutOfMemory);
     };
     let Begun { loaded, told } = begun;
     match complaints.print(told.as_bytes()) {
-        Ok(()) => outcome_of(run_loaded(loaded, orders, zones, clock, writer)),
+        Ok(()) => outcome_of(run_loaded(loaded, orders, &start, clock, writer)),
         Err(_) => Err(Failure::Untold),
     }
 }

@@ -5,13 +5,20 @@
 mod alarm;
 mod failure;
 mod files;
+pub mod laws;
 mod loading;
 mod loop_over;
+mod noted;
+mod noted_run;
 mod orders;
+mod run_clock;
 mod writer;
 
 pub use alarm::{Alarm, FireWriter, ring_at};
 pub use failure::Failure;
 pub use files::run_files;
+pub use noted::{Noted, read_note};
+pub use noted_run::run_noted;
 pub use orders::{RunOrders, TabFile};
+pub use run_clock::{Changing, EntryClock, Interruption, Notebook, RunClock};
 pub use writer::TabWriter;

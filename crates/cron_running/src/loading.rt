@@ -1,13 +1,15 @@
 //! The entries of crontabs, added to an agenda with what is written of each.
 
-ghost use Rattle.std.specs.Prelude.{◌≡◌, ◌++◌, ◌∷◌, [], OnOk, map};
+ghost use Rattle.std.specs.Prelude.{◌≡◌, ◌++◌, ◌∷◌, [], OnOk, if◌then◌else◌, map};
 ghost use Rattle.jiff.specs.Words.{plain_zone};
 ghost use Rattle.cron_shell.specs.Lines.{variable_view};
 ghost use Rattle.cron_tab_lines.specs.Views.{file_line_view};
 ghost use Rattle.cron_tab_listing.specs.Adding as adding;
 ghost use Rattle.cron_tab_tasks.specs.Tasks as tasks;
+ghost use Rattle.cron_running.specs.Noted.{is_noted, noted_view};
 ghost use Rattle.cron_running.specs.Loading.{AddsTask, AddsTasks, AddsTimed, file_tasks, files_tasks, given, nothing, state_of, task};
 
+use crate::noted::{Noted, entry_of};
 use crate::orders::{RunOrders, TabFile};
 use cron_agenda::{AddError, Agenda};
 use cron_agenda_scheduler::Timely;
@@ -22,6 +24,8 @@ use std::alloc::{AllocError, Global};
 /// Entries, with what is written of each.
 #[derive(Drop)]
 pub(crate) struct Loaded {
+    /// What each entry is known by.
+    pub(crate) known: Vec<Vec<u8>>,
     pub(crate) agenda: Agenda<Timely<TabEntry>>,
     /// The texts of the entries, each at the id of its entry.
     pub(crate) texts: Vec<Vec<u8>>,
@@ -35,6 +39,7 @@ impl Loaded {
         ensures { state_of result ≡ nothing }
     {
         Loaded {
+            known: Vec::new(alloc),
             agenda: Agenda::new(alloc),
             texts: Vec::new(alloc),
             at_reboot: Vec::new(alloc),
@@ -47,6 +52,7 @@ impl Loaded {
 pub(crate) struct Start<'s, 'z> {
     pub(crate) zones: &'s [TimeZone<'z>],
     pub(crate) instant: Timestamp,
+    pub(crate) noted: &'s Noted,
 }
 
 // Puts a text behind others.
@@ -58,7 +64,20 @@ fn push_text(texts: &mut Vec<Vec<u8>>, text: Vec<u8>) -> Result<(), AllocError>
     Ok(())
 }
 
-// Adds an entry that fires by a table.
+// From when on an entry fires: after what is noted of it, or after the run's start.
+fn start_of(start: &Start<'_, '_>, before: &[Vec<u8>], entry: &[u8]) -> Timestamp
+    ensures { result.nanosecond
+        ≡ if is_noted (noted_view start.now.noted.now).entries (map (λ e. e.items) before.now) entry.now
+        then start.now.noted.now.until.nanosecond else start.now.instant.nanosecond }
+{
+    if start.noted.has(before, entry) {
+        start.noted.until
+    } else {
+        start.instant
+    }
+}
+
+// Adds an entry that fires by a table, after an instant.
 fn add_table(
     loaded: &mut Loaded,
     orders: &RunOrders<'_>,
@@ -66,11 +85,13 @@ fn add_table(
     line: &FileLine<'_>,
     text: Vec<u8>,
     start: &Start<'_, '_>,
+    after: Timestamp,
     zone: usize,
 ) -> Result<(), AllocError>
-    ensures { OnOk result (AddsTimed
-        (given orders.now (map plain_zone start.now.zones.now) start.now.instant.nanosecond)
-        zone (adding.changes_of orders.now.clock line.now.bytes.now) table text.items
+    ensures { OnOk result ((loaded.new.known ≡ loaded.old.known) × AddsTimed
+        (given orders.now (map plain_zone start.now.zones.now) start.now.instant.nanosecond
+        (noted_view start.now.noted.now))
+        after.nanosecond zone (adding.changes_of orders.now.clock line.now.bytes.now) table text.items
         (state_of loaded.old) (state_of loaded.new)) }
 {
     let changes = changes_of(orders.clock, line.bytes);
@@ -78,10 +99,7 @@ fn add_table(
         table,
         lateness: orders.lateness,
     };
-    match loaded
-        .agenda
-        .add(timely, changes, start.instant, start.zones, zone)
-    {
+    match loaded.agenda.add(timely, changes, after, start.zones, zone) {
         Ok(_) => push_text(&mut loaded.texts, text),
         Err(AddError::NoFires) => Ok(()),
         Err(_) => Err(AllocError),
@@ -96,17 +114,24 @@ fn add_task(
     text: Vec<u8>,
     start: &Start<'_, '_>,
     zone: usize,
+    alloc: Global,
 ) -> Result<(), AllocError>
     ensures { OnOk result (AddsTask
-        (given orders.now (map plain_zone start.now.zones.now) start.now.instant.nanosecond)
+        (given orders.now (map plain_zone start.now.zones.now) start.now.instant.nanosecond
+        (noted_view start.now.noted.now))
         (task (file_line_view line.now) zone text.items)
         (state_of loaded.old) (state_of loaded.new)) }
 {
+    let entry = entry_of(alloc, orders.tasks.names, zone, line.bytes)?;
+    let before = loaded.known.as_slice();
+    let bytes = entry.as_slice();
+    let after = start_of(start, before, bytes);
+    push_text(&mut loaded.known, entry)?;
     let Some(table) = TabEntry::of(line) else {
         loaded.at_reboot.extend_from_slice(text.as_slice())?;
         return Ok(());
     };
-    add_table(loaded, orders, table, line, text, start, zone)
+    add_table(loaded, orders, table, line, text, start, after, zone)
 }
 
 // Adds what a line is: a variable, or an entry.
@@ -123,7 +148,8 @@ fn load_line<'a>(
         ≡ map variable_view variables.old.items
         ++ tasks.variables_in (file_line_view line.now).outcome) }
     ensures adds { OnOk result (AddsTasks
-        (given orders.now (map plain_zone start.now.zones.now) start.now.instant.nanosecond)
+        (given orders.now (map plain_zone start.now.zones.now) start.now.instant.nanosecond
+        (noted_view start.now.noted.now))
         (tasks.task_in (file_line_view line.now) here (tasks.text_in (tasks.orders_view orders.now.tasks)
         (map variable_view variables.new.items) (file_line_view line.now).outcome))
         (state_of loaded.old) (state_of loaded.new)) }
@@ -131,7 +157,7 @@ fn load_line<'a>(
     push_variable(variables, line)?;
     let text = text_in(alloc, &orders.tasks, variables.as_slice(), line)?;
     match (here, text) {
-        (Some(zone), Some(text)) => add_task(loaded, orders, line, text, start, zone),
+        (Some(zone), Some(text)) => add_task(loaded, orders, line, text, start, zone, alloc),
         _ => Ok(()),
     }
 }
@@ -145,7 +171,8 @@ fn load_file(
     alloc: Global,
 ) -> Result<(), AllocError>
     ensures { OnOk result (AddsTasks
-        (given orders.now (map plain_zone start.now.zones.now) start.now.instant.nanosecond)
+        (given orders.now (map plain_zone start.now.zones.now) start.now.instant.nanosecond
+        (noted_view start.now.noted.now))
         (file_tasks orders.now file.now) (state_of loaded.old) (state_of loaded.new)) }
 {
     let mut variables = Vec::new(alloc);
@@ -167,7 +194,8 @@ pub(crate) fn load_files(
     alloc: Global,
 ) -> Result<(), AllocError>
     ensures { OnOk result (AddsTasks
-        (given orders.now (map plain_zone start.now.zones.now) start.now.instant.nanosecond)
+        (given orders.now (map plain_zone start.now.zones.now) start.now.instant.nanosecond
+        (noted_view start.now.noted.now))
         (files_tasks orders.now files.now) (state_of loaded.old) (state_of loaded.new)) }
 {
     for file in files {

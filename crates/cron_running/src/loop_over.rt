@@ -8,14 +8,13 @@ ghost use Rattle.cron_running.specs.Loading.{state_of};
 ghost use Rattle.cron_running.specs.Running.{RunsLoaded};
 ghost use Rattle.cron_running.specs.Writing.{WritesStart};
 
-use crate::loading::Loaded;
+use crate::loading::{Loaded, Start};
 use crate::orders::RunOrders;
+use crate::run_clock::EntryClock;
 use crate::writer::TabWriter;
 use cron_agenda_scheduler::{AgendaStop, run};
 use cron_ringing::printer::WriteFailed;
-use cron_scheduler::AlarmClock;
 use cron_writer::watchable::Watchable;
-use jiff::tz::TimeZone;
 
 // Writes what is run at the start.
 fn write_start<W: Watchable>(
@@ -34,27 +33,29 @@ fn write_start<W: Watchable>(
     }
 }
 
-/// Writes what is run at the start, and then runs the entries.
-pub(crate) fn run_loaded<C: AlarmClock, W: Watchable>(
+/// Tells the clock which entries there are, writes what is run at the start, and then runs the entries.
+pub(crate) fn run_loaded<C: EntryClock, W: Watchable>(
     loaded: Loaded,
     orders: &RunOrders<'_>,
-    zones: &[TimeZone<'_>],
+    start: &Start<'_, '_>,
     clock: &mut C,
     writer: &mut TabWriter<W>,
 ) -> Result<(), AgendaStop<C::Error, WriteFailed>>
-    ensures { RunsLoaded (clock_calls C.shows C.waits)
+    ensures { RunsLoaded (clock_calls C.shows C.waits) C.begins
         (writer_calls W.writes W.flushes W.contents)
-        orders.now (map plain_zone zones.now) (state_of loaded)
+        orders.now (map plain_zone start.now.zones.now) start.now.instant (state_of loaded)
         (clock.old, writer.old) result (clock.new, writer.new) }
 {
     let Loaded {
+        known,
         mut agenda,
         texts,
         at_reboot,
     } = loaded;
     writer.texts = texts;
+    clock.begin(start.instant, known);
     match write_start(writer, orders, at_reboot.as_slice()) {
-        Ok(()) => run(&mut agenda, zones, clock, writer, orders.most),
+        Ok(()) => run(&mut agenda, start.zones, clock, writer, orders.most),
         Err(error) => Err(AgendaStop::Job(error)),
     }
 }

@@ -8,7 +8,10 @@ use Rattle.cron_writer.specs.Calls.{AreWrites, IsFlushed}
 use Rattle.cron_writer.proofs.Sending.{both_ways}
 use Rattle.cron_crontab.specs.Views.{expression_view}
 use Rattle.cron_tab_lines.specs.Files.{FileLine}
-use Rattle.cron_tab_lines.specs.Views.{outcome_view}
+use Rattle.cron_tab_lines.specs.Entries as entries
+use Rattle.cron_tab_lines.specs.Lines.{Meaning, entry}
+use Rattle.cron_tab_lines.specs.Refusals as refusals
+use Rattle.cron_tab_lines.specs.Views.{entry_view, outcome_view}
 use Rattle.cron_tab_lines.specs.declared.kinds.Entry.{Entry}
 use Rattle.cron_tab_lines.specs.declared.kinds.Line.{Line}
 use Rattle.cron_tab_lines.specs.declared.kinds.Line.TheVariants.{Entry as Read}
@@ -77,12 +80,17 @@ pub told_to_end : {A : Type 0} (has : A → Type 0) (line : A → List ℕ) (all
     → IsToldSoFar has line all i old now → AppendsTold (TellsThose has line all) old now
 told_to_end has line all i old now end h = (h.so_far, h.appended, told_all has line all i h.so_far end h.tells)
 
+-- an entry's meaning is told, whatever shows that the line is one
+of_meaning : (front : List ℕ) (number : ℕ) (view : Result Meaning refusals.Refusal) (e : entries.Entry) (text old new : List ℕ) → view ≡ Ok (entry e)
+    → AppendsTold (TellsOfFields front number text e.meaning) old new → AppendsTold (TellsOfEntry front number view text) old new
+of_meaning front number view e text old new is h = subst (λ v. AppendsTold (TellsOfEntry front number v text) old new) (sym is) h
+
 -- a line's entry has an expression
 pub of_entry : (front : List ℕ) (number : ℕ) (read : Result Line Refusal) (e : Entry) (fields text old new : List ℕ)
     → read ≡ Ok (Read e) → fields ≡ text → AppendsTold (TellsOfFields front number fields (expression_view e.expression)) old new
     → AppendsTold (TellsOfEntry front number (outcome_view read) text) old new
 of_entry front number read e fields text old new is same h =
-    subst (λ (r : Result Line Refusal). AppendsTold (TellsOfEntry front number (outcome_view r) text) old new) (sym is)
+    of_meaning front number (outcome_view read) (entry_view e) text old new (ap outcome_view is)
     (subst (λ (f : List ℕ). AppendsTold (TellsOfFields front number f (expression_view e.expression)) old new) same h)
 
 -- both kinds of warnings were told

@@ -3,3 +3,5 @@ pub mod CheckLemmas
 pub mod StampLemmas
 pub mod LatenessLemmas
 pub mod TabLemmas
+pub mod BackLemmas
+pub mod TallyLemmas

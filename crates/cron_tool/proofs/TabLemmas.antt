@@ -1,6 +1,11 @@
 -- Rows of fires that were written so far.
 use Rattle.std.proofs.Common.{◌≡◌, ◌++◌, ℕ, ℤ, Bool, true, false, Option, Some, Ok, List, [], ◌∷◌, length, inl, inr, refl, sym, ap, ◌∙◌, append_assoc, append-nil}
 use Rattle.std.specs.Prelude.{slice_get}
+use Rattle.std.specs.Str.{IsUtf8, is_utf8}
+use Rattle.std.specs.Str.Lossy.{utf8_lossy}
+use Rattle.std.proofs.lemmas.Str.{IsUtf8-from_is_utf8, is_utf8-from_IsUtf8, utf8_lossy-IsUtf8}
+use Rattle.hex.specs.Hex.{encode_lower}
+use Rattle.json.specs.Token.{Token, key, string}
 use Rattle.jiff_tz.specs.declared.timezone.TimeZone.{TimeZone}
 use Rattle.cron_agenda.specs.Entries.{Listed}
 use Rattle.cron_tab_listing.specs.Listing.{EndsBy}
@@ -8,17 +13,37 @@ use Rattle.cron_tab_listing.specs.declared.listing.TabFire.{TabFire}
 use Rattle.cron_tab_listing.specs.declared.tab_entry.TabEntry.{TabEntry}
 use Rattle.cron_tool.specs.Inner.TabRows.{list_end}
 use Rattle.cron_tool.specs.Statuses.{Ends, is_write_failure}
-use Rattle.cron_tool.specs.TabRows.{AreRows, ListEndsAs, tab_row}
+use Rattle.cron_tool.specs.TabRows.{AreRows, ListEndsAs, tab_row, text_members}
+use Rattle.cron_tool.specs.declared.row.Form.{Form}
 use Rattle.cron_tool.specs.declared.status.Status.{Status}
 use Rattle.cron_tool.specs.declared.status.Status.TheVariants.{Done, Unreadable}
-use Rattle.cron_tool.specs.declared.tabs.Source.{Source}
+use Rattle.cron_tool.specs.declared.tab_row.Source.{Source}
+
+-- the members of bytes that are a text
+pub text_written : (name raw bytes text : List ℕ) (old mid new : List Token) → text ≡ bytes → IsUtf8 bytes → mid ≡ old ++ key name ∷ []
+    → new ≡ mid ++ string text ∷ [] → new ≡ old ++ text_members name raw bytes
+text_written name raw bytes text old mid new same utf8 one two =
+    two ∙ ap (λ (m : List Token). m ++ string text ∷ []) one ∙ append_assoc old (key name ∷ []) (string text ∷ [])
+    ∙ rw (same, utf8_lossy-IsUtf8 bytes utf8, is_utf8-from_IsUtf8 bytes utf8) refl
+
+no_text : (b : Bool) (bytes : List ℕ) → is_utf8 bytes ≡ b → (IsUtf8 bytes → ⊥) → is_utf8 bytes ≡ false
+no_text true bytes is none = absurd (none (IsUtf8-from_is_utf8 bytes is))
+no_text false bytes is none = is
+
+-- and of others
+pub raw_written : (name raw bytes : List ℕ) (old mid new : List Token) → (IsUtf8 bytes → ⊥) → mid ≡ old ++ key name ∷ []
+    → new ≡ mid ++ (string (utf8_lossy bytes) ∷ key raw ∷ string (encode_lower bytes) ∷ []) → new ≡ old ++ text_members name raw bytes
+raw_written name raw bytes old mid new none one two =
+    let more = string (utf8_lossy bytes) ∷ key raw ∷ string (encode_lower bytes) ∷ [] in
+    two ∙ ap (λ (m : List Token). m ++ more) one ∙ append_assoc old (key name ∷ []) more
+    ∙ rw (no_text (is_utf8 bytes) bytes refl none) refl
 
 -- one more row
-pub row_on : (sources : List Source) (fires : List TabFire) (s : Source) (f : TabFire) (report row : List ℕ) → AreRows sources fires report
-    → slice_get sources f.id ≡ Some s → row ≡ tab_row s f → AreRows sources (fires ++ f ∷ []) (report ++ row)
-row_on sources [] s f report row none got is = (s, [], got, ap (λ (r : List ℕ). r ++ row) none ∙ is ∙ sym (append-nil (tab_row s f)), refl)
-row_on sources (g ∷ fires) s f report row (t, rest, found, e, more) got is =
-    (t, rest ++ row, found, ap (λ (r : List ℕ). r ++ row) e ∙ append_assoc (tab_row t g) rest row, row_on sources fires s f rest row more got is)
+pub row_on : (form : Form) (sources : List Source) (fires : List TabFire) (s : Source) (f : TabFire) (report row : List ℕ) → AreRows form sources fires report
+    → slice_get sources f.id ≡ Some s → row ≡ tab_row form s f → AreRows form sources (fires ++ f ∷ []) (report ++ row)
+row_on form sources [] s f report row none got is = (s, [], got, ap (λ (r : List ℕ). r ++ row) none ∙ is ∙ sym (append-nil (tab_row form s f)), refl)
+row_on form sources (g ∷ fires) s f report row (t, rest, found, e, more) got is =
+    (t, rest ++ row, found, ap (λ (r : List ℕ). r ++ row) e ∙ append_assoc (tab_row form t g) rest row, row_on form sources fires s f rest row more got is)
 
 -- how a list ends
 pub rows_end : (done : Bool) (end status : Status) (zones : List TimeZone) (t : ℤ) (limit : ℕ) (fires : List TabFire) (left : Listed TabEntry)

@@ -18,7 +18,7 @@ use Rattle.cron_tool.specs.declared.answer.Which.{Which}
 use Rattle.cron_tool.specs.declared.answer.Which.TheVariants as which
 use Rattle.cron_tool.specs.declared.expression.Expression.{Expression}
 use Rattle.cron_tool.specs.declared.fires.Asked.{Asked}
-use Rattle.cron_tool.specs.declared.fires.Asked.TheVariants.{Next, Between}
+use Rattle.cron_tool.specs.declared.fires.Asked.TheVariants.{Next, Back, Between}
 use Rattle.cron_tool.specs.declared.status.Status.{Status}
 use Rattle.cron_tool.specs.declared.status.Status.TheVariants.{Done}
 use Rattle.cron_tool.specs.declared.trouble.Trouble.{Trouble}
@@ -27,12 +27,14 @@ use Rattle.cron_tool.specs.declared.trouble.Trouble.TheVariants as trouble
 -- the fires that are asked for, with the instants that the words tell in a zone
 abbrev pub IsAsked : Which → TimeZone → ℤ → Asked → Type 0
 IsAsked (which.Next count start) z now (Next t n) = IsInstant start.now z now (Some t.nanosecond) × (n ≡ count)
+IsAsked (which.Back count end) z now (Back t n) = IsInstant end.now z now (Some t.nanosecond) × (n ≡ count)
 IsAsked (which.Between start end) z now (Between t u) = IsInstant start.now z now (Some t.nanosecond) × IsInstant end.now z now (Some u.nanosecond)
 IsAsked _ z now _ = ⊥
 
 -- this word is no instant, and those before it are
 abbrev pub IsNoInstant : Which → TimeZone → ℤ → List ℕ → Type 0
 IsNoInstant (which.Next count start) z now word = (word ≡ start.now) × IsInstant start.now z now None
+IsNoInstant (which.Back count end) z now word = (word ≡ end.now) × IsInstant end.now z now None
 IsNoInstant (which.Between start end) z now word =
     ((word ≡ start.now) × IsInstant start.now z now None)
     ⊎ ((t : ℤ) × IsInstant start.now z now (Some t) × (word ≡ end.now) × IsInstant end.now z now None)

@@ -63,7 +63,7 @@ pub record ListsDue {F W C : Type 0} (g : Given F) (r : Request) (out : Reportin
   pub expression : Expression
   pub zone : TimeZone
   pub opened : F
-  pub begun : IsBegun g r.expression.now r.zone.now old.0 expression zone opened
+  pub begun : IsBegun g r.quartz r.expression.now r.zone.now old.0 expression zone opened
   pub found : Result Pending Status
   pub finds : FindsPending g.reads g.now r complaints (opened, old.2) found (new.0, new.2)
   pub lists :
@@ -75,5 +75,5 @@ pub record ListsDue {F W C : Type 0} (g : Given F) (r : Request) (out : Reportin
 abbrev pub AnswersDue : {F W C : Type 0} → Given F → Request → Reporting W → Reporting C → F × W × C → Status → F × W × C → Type 0
 AnswersDue g r out complaints old status new =
     ListsDue g r out complaints old status new
-    ⊎ ((t : Trouble) × IsNoSubject g.reads g.places r.expression.now r.zone.now old.0 t new.0 × complaints (IsTold t) old.2 status new.2
+    ⊎ ((t : Trouble) × IsNoSubject g.reads g.places r.quartz r.expression.now r.zone.now old.0 t new.0 × complaints (IsTold t) old.2 status new.2
     × (new.1 ≡ old.1))

@@ -1,5 +1,5 @@
 -- The fires of an expression as rows.
-use Rattle.std.specs.Prelude.{ℕ, zero, suc, ◌-◌, ℤ, Bool, true, false, List, map, take, Option, Some, None, Result, ⊤}
+use Rattle.std.specs.Prelude.{ℕ, zero, suc, ◌-◌, ℤ, pos, ◌-ℤ◌, Bool, true, false, List, map, take, Option, Some, None, Result, ⊤}
 use Rattle.std.specs.declared.io.Error.{Error}
 use Rattle.jiff_tz.specs.declared.timezone.TimeZone.{TimeZone}
 use Rattle.cron_units.specs.Sets.{Sets}
@@ -7,8 +7,8 @@ use Rattle.cron_dues.specs.Due as dues
 use Rattle.cron_dues.specs.DueText.{due_text}
 use Rattle.cron_moments.specs.MomentText.{moment_text}
 use Rattle.cron_moments.specs.Readings as moments
-use Rattle.cron_unions.specs.UnionDues.{dues_any_after, dues_any_between}
-use Rattle.cron_unions.specs.Unions.{fires_any_after, fires_any_between}
+use Rattle.cron_unions.specs.UnionDues.{dues_any_after, dues_any_back, dues_any_between}
+use Rattle.cron_unions.specs.Unions.{fires_any_after, fires_any_back, fires_any_between}
 use Rattle.cron_fires.specs.declared.changes.ClockChanges.{ClockChanges}
 use Rattle.cron_fires.specs.declared.changes.ClockChanges.TheVariants.{AsShown, Once}
 use Rattle.cron_writer.specs.Calls.{AreGathered, HandsOnLines, IsFlushed}
@@ -16,17 +16,27 @@ use Rattle.cron_writer.specs.Watching.{has_failed, writer_of}
 use Rattle.cron_writer.specs.declared.watched.Watched.{Watched}
 use Rattle.cron_tool.specs.Rows.{row, rows}
 use Rattle.cron_tool.specs.declared.fires.Asked.{Asked}
-use Rattle.cron_tool.specs.declared.fires.Asked.TheVariants.{Next, Between}
+use Rattle.cron_tool.specs.declared.fires.Asked.TheVariants.{Next, Back, Between}
 use Rattle.cron_tool.specs.declared.row.Form.{Form}
+
+-- of the times at which a clock shows a match those before the instant t, in nanoseconds since 1970, the latest first
+abbrev pub moments_before : List Sets → TimeZone → ℤ → List moments.Reading
+moments_before ss z t = fires_any_back ss z (t -ℤ pos 1)
+
+-- the same of the matches, each once
+abbrev pub dues_before : List Sets → TimeZone → ℤ → List dues.Due
+dues_before ss z t = dues_any_back ss z (t -ℤ pos 1)
 
 -- of the times at which a clock shows a match those that are asked for, in order
 abbrev pub moments_of : Asked → List Sets → TimeZone → List moments.Reading
 moments_of (Next start count) ss z = take count (fires_any_after ss z start.nanosecond)
+moments_of (Back end count) ss z = take count (moments_before ss z end.nanosecond)
 moments_of (Between start end) ss z = fires_any_between ss z start.nanosecond end.nanosecond
 
 -- of the matches, each once, those that are asked for, in order
 abbrev pub dues_of : Asked → List Sets → TimeZone → List dues.Due
 dues_of (Next start count) ss z = take count (dues_any_after ss z start.nanosecond)
+dues_of (Back end count) ss z = take count (dues_before ss z end.nanosecond)
 dues_of (Between start end) ss z = dues_any_between ss z start.nanosecond end.nanosecond
 
 -- the rows of those that are asked for, by a rule at clock changes

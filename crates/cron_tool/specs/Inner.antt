@@ -1,2 +1,5 @@
 pub mod Checks
 pub mod TabRows
+pub mod Backs
+pub mod Tallies
+pub mod Explanations

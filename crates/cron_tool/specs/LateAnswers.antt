@@ -18,7 +18,7 @@ use Rattle.cron_tool.specs.declared.trouble.Trouble.TheVariants as trouble
 pub record SaysWhen {F : Type 0} (g : Given F) (r : Request) (old new : F) (was is : Option (List ℕ)) (status : Status) : Type 0 where
   pub expression : Expression
   pub zone : TimeZone
-  pub begun : IsBegun g r.expression.now r.zone.now old expression zone new
+  pub begun : IsBegun g r.quartz r.expression.now r.zone.now old expression zone new
   pub last : ℤ
   pub is_last : IsInstant r.last.now zone g.now (Some last)
   pub says : SaysWhetherBy (changes_by r.changes expression) (schedules_of expression) zone last r.grace g.now was is status
@@ -26,8 +26,8 @@ pub record SaysWhen {F : Type 0} (g : Given F) (r : Request) (old new : F) (was 
 -- why it can't be
 abbrev pub IsLateTrouble : {F : Type 0} → Given F → Request → F → F → Trouble → Type 0
 IsLateTrouble g r old new (trouble.Instant word) =
-    (word.now ≡ r.last.now) × ((e : Expression) × (z : TimeZone) × IsBegun g r.expression.now r.zone.now old e z new × IsInstant r.last.now z g.now None)
-IsLateTrouble g r old new other = IsNoSubject g.reads g.places r.expression.now r.zone.now old other new
+    (word.now ≡ r.last.now) × ((e : Expression) × (z : TimeZone) × IsBegun g r.quartz r.expression.now r.zone.now old e z new × IsInstant r.last.now z g.now None)
+IsLateTrouble g r old new other = IsNoSubject g.reads g.places r.quartz r.expression.now r.zone.now old other new
 
 -- The sentence was written, and nothing was complained of; or a complaint was written, and nothing else.
 abbrev pub AnswersLate : {F W C : Type 0} → Given F → Request → Reporting W → Reporting C → F × W × C → Status → F × W × C → Type 0

@@ -20,3 +20,6 @@ pub mod Notices
 pub mod Pendings
 pub mod DueAnswers
 pub mod DoneAnswers
+pub mod Tallies
+pub mod Reports
+pub mod Explanations

@@ -6,7 +6,7 @@ use Rattle.cron_moments.specs.Civil.{civil}
 use Rattle.cron_unions.specs.Unions.{matches_any}
 use Rattle.cron_comparing.specs.Comparisons.{IsFirstCommon, IsFirstDifference}
 use Rattle.cron_listing.specs.Output.{complaint}
-use Rattle.cron_tool.specs.Expressions.{schedules_of, IsRead, IsRefused}
+use Rattle.cron_tool.specs.Expressions.{schedules_of, IsReadAs, IsRefusedAs}
 use Rattle.cron_tool.specs.Statuses.{Ending, Ends, Reporting}
 use Rattle.cron_tool.specs.Troubles.{IsTold}
 use Rattle.cron_tool.specs.declared.expression.Expression.{Expression}
@@ -19,14 +19,14 @@ use Rattle.cron_tool.specs.declared.trouble.Trouble.TheVariants as trouble
 
 -- the two expressions that the words are
 pub record AreRead (p : Pair) (b : Both) : Type 0 where
-  pub first : IsRead p.first.now b.first
-  pub second : IsRead p.second.now b.second
+  pub first : IsReadAs p.quartz p.first.now b.first
+  pub second : IsReadAs p.quartz p.second.now b.second
 
 -- the first of the two that is no expression, and why
 abbrev pub IsNoPair : Pair → Trouble → Type 0
 IsNoPair p (trouble.Expression text refusal) =
-    ((text.now ≡ p.first.now) × IsRefused p.first.now refusal)
-    ⊎ ((text.now ≡ p.second.now) × ((e : Expression) × IsRead p.first.now e) × IsRefused p.second.now refusal)
+    ((text.now ≡ p.first.now) × IsRefusedAs p.quartz p.first.now refusal)
+    ⊎ ((text.now ≡ p.second.now) × ((e : Expression) × IsReadAs p.quartz p.first.now e) × IsRefusedAs p.quartz p.second.now refusal)
 IsNoPair p _ = ⊥
 
 abbrev pub no_memory : List ℕ

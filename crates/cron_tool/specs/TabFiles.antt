@@ -11,7 +11,7 @@ use Rattle.cron_tab_lines.specs.declared.zones.NamedZone.{NamedZone}
 use Rattle.cron_tab_listing.specs.Adding.{AddsLine, Start, start_of}
 use Rattle.cron_tab_listing.specs.declared.adding.Clock.{Clock}
 use Rattle.cron_tab_listing.specs.declared.tab_entry.TabEntry.{TabEntry}
-use Rattle.cron_tool.specs.declared.tabs.Source.{Source}
+use Rattle.cron_tool.specs.declared.tab_row.Source.{Source}
 use Rattle.cron_tool.specs.declared.tab_files.Firing.{Firing}
 use Rattle.cron_tool.specs.declared.tab_files.TabAgenda as code
 
@@ -27,18 +27,18 @@ abbrev pub nothing : TabAgenda
 nothing = record { agenda = listed [] 0; sources = [] }
 
 -- the source is that of a line's entry
-abbrev pub IsSource : List ℕ → FileLine → Source → Type 0
-IsSource front line s = (e : Entry) × (line.outcome ≡ Ok (entry e)) × (s.front.now ≡ front) × (bytes_view s.user ≡ e.user) × (s.command.now ≡ e.command)
+abbrev pub IsSource : Option (List ℕ) → FileLine → Source → Type 0
+IsSource file line s = (e : Entry) × (line.outcome ≡ Ok (entry e)) × (bytes_view s.file ≡ file) × (bytes_view s.user ≡ e.user) × (s.command.now ≡ e.command)
 
 -- that of an entry that was added is put behind the others
-abbrev pub AddsSource : List ℕ → FileLine → Option ℕ → List Source → List Source → Type 0
-AddsSource front line None old new = new ≡ old
-AddsSource front line (Some id) old new = (s : Source) × IsSource front line s × (new ≡ old ++ s ∷ [])
+abbrev pub AddsSource : Option (List ℕ) → FileLine → Option ℕ → List Source → List Source → Type 0
+AddsSource file line None old new = new ≡ old
+AddsSource file line (Some id) old new = (s : Source) × IsSource file line s × (new ≡ old ++ s ∷ [])
 
 -- what the agenda adds of a line, with its source
-abbrev pub LoadsLine : Start → List ℕ → FileLine → TabAgenda → TabAgenda → Type 0
-LoadsLine s front line old new =
-    (answer : Option ℕ) × AddsLine s line old.agenda (Ok answer) new.agenda × AddsSource front line answer old.sources new.sources
+abbrev pub LoadsLine : Start → Option (List ℕ) → FileLine → TabAgenda → TabAgenda → Type 0
+LoadsLine s file line old new =
+    (answer : Option ℕ) × AddsLine s line old.agenda (Ok answer) new.agenda × AddsSource file line answer old.sources new.sources
 
 -- where, from when on and by which rule entries fire
 pub record Given : Type 0 where
@@ -51,13 +51,13 @@ abbrev pub given : List TimeZone → Firing → Given
 given zones f = record { zones = zones; names = f.names.now; clock = f.clock; t = f.start.nanosecond }
 
 -- it is added in the zone with this number; or it has no zone, and is left out
-abbrev pub LoadsIn : Given → Option ℕ → List ℕ → FileLine → TabAgenda → TabAgenda → Type 0
-LoadsIn g None front line old new = new ≡ old
-LoadsIn g (Some zone) front line old new = LoadsLine (start_of g.zones zone g.clock g.t) front line old new
+abbrev pub LoadsIn : Given → Option ℕ → Option (List ℕ) → FileLine → TabAgenda → TabAgenda → Type 0
+LoadsIn g None file line old new = new ≡ old
+LoadsIn g (Some zone) file line old new = LoadsLine (start_of g.zones zone g.clock g.t) file line old new
 
 -- The entries of lines are added, each in the zone of the last `CRON_TZ` above it.
-abbrev pub LoadsLines : Given → Option ℕ → List ℕ → List FileLine → TabAgenda → TabAgenda → Type 0
-LoadsLines g here front [] old new = new ≡ old
-LoadsLines g here front (line ∷ lines) old new =
-    (between : TabAgenda) × LoadsIn g here front line old between
-    × LoadsLines g (zone_below g.names here line.outcome) front lines between new
+abbrev pub LoadsLines : Given → Option ℕ → Option (List ℕ) → List FileLine → TabAgenda → TabAgenda → Type 0
+LoadsLines g here file [] old new = new ≡ old
+LoadsLines g here file (line ∷ lines) old new =
+    (between : TabAgenda) × LoadsIn g here file line old between
+    × LoadsLines g (zone_below g.names here line.outcome) file lines between new

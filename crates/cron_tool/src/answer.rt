@@ -26,6 +26,8 @@ use std::alloc::Global;
 pub enum Which<'a> {
     /// The first so many after START.
     Next(u64, &'a str),
+    /// The last so many before START.
+    Back(u64, &'a str),
     /// Those after START, and up to and with END.
     Between(&'a str, &'a str),
 }
@@ -47,8 +49,12 @@ pub struct Request<'a> {
     pub form: Form,
 }
 
-// Reads the instants, or answers the first word that is none.
-fn asked_of<'a>(which: &Which<'a>, zone: &TimeZone<'_>, now: Timestamp) -> Result<Asked, &'a str>
+/// Reads the instants, or answers the first word that is none.
+pub(crate) fn asked_of<'a>(
+    which: &Which<'a>,
+    zone: &TimeZone<'_>,
+    now: Timestamp,
+) -> Result<Asked, &'a str>
     ensures { MatchResult result
         (IsAsked which.now (plain_zone zone.now) now.nanosecond)
         (λ word. IsNoInstant which.now (plain_zone zone.now) now.nanosecond word.now) }
@@ -67,6 +73,10 @@ fn asked_of<'a>(which: &Which<'a>, zone: &TimeZone<'_>, now: Timestamp) -> Resul
                 None => Err(end),
             }
         }
+        Which::Back(count, start) => match instant_of(start, zone, now) {
+            Some(instant) => Ok(Asked::Back(instant, count)),
+            None => Err(start),
+        },
     }
 }
 

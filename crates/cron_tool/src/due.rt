@@ -28,6 +28,8 @@ pub struct Request<'a> {
     pub stamp: &'a str,
     /// EXPRESSION.
     pub expression: &'a str,
+    /// Whether it is one of Quartz.
+    pub quartz: bool,
     /// ZONE.
     pub zone: &'a str,
     /// Whether the last of the fires suffices.
@@ -114,7 +116,8 @@ pub fn answer<F: ZoneFiles, W: Watchable, C: Watchable>(
         (files.old, out.old, complaints.old) result (files.new, out.new, complaints.new) }
     ensures mark { (has_failed out.new || has_failed complaints.new) ≡ is_write_failure result }
 {
-    let subject = match subject_of(alloc, request.expression, request.zone, places, files) {
+    let (quartz, text) = (request.quartz, request.expression);
+    let subject = match subject_of(alloc, quartz, text, request.zone, places, files) {
         Ok(subject) => subject,
         Err(trouble) => return tell(alloc, &trouble, complaints),
     };

@@ -1,4 +1,5 @@
-//! The fires of an expression as rows: the next ones after an instant, and those between two.
+//! The fires of an expression as rows: the next ones after an instant, the last ones before it, and
+//! those between two.
 
 ghost use Rattle.std.specs.Prelude.{◌≡◌, ◌≤◌, [], false, length};
 ghost use Rattle.jiff.specs.Words.{plain_zone};
@@ -14,6 +15,7 @@ ghost use Rattle.cron_tool.specs.Rows.{rows};
 ghost use Rattle.cron_tool.specs.Statuses.{Ends, is_write_failure};
 ghost use Rattle.cron_tool.specs.declared.status.Status.TheVariants.{Done};
 
+use crate::back::{dues_before, moments_before};
 use crate::expression::Expression;
 use crate::left::Left;
 use crate::row::{Form, Told, row_of};
@@ -33,6 +35,8 @@ use jiff::tz::TimeZone;
 pub enum Asked {
     /// The first so many whose instant comes after this one.
     Next(Timestamp, u64),
+    /// The last so many whose instant comes before this one, the latest first.
+    Back(Timestamp, u64),
     /// Those whose instant comes after the first, and not after the second.
     Between(Timestamp, Timestamp),
 }
@@ -130,6 +134,10 @@ fn send_moments<W: Watchable>(
             let mut run: Run<'_, 12> = Run::after(schedules, start, zone);
             send_rows(&mut run, Some(count), form, out);
         }
+        Asked::Back(end, count) => {
+            let mut run = moments_before(schedules, end, zone);
+            send_rows(&mut run, Some(count), form, out);
+        }
         Asked::Between(start, end) => {
             let mut run: Run<'_, 12> = Run::between(schedules, start, end, zone);
             send_rows(&mut run, None, form, out);
@@ -159,6 +167,10 @@ fn send_dues<W: Watchable>(
             let mut run = DueRun::after(schedules, start, zone);
             send_rows(&mut run, Some(count), form, out);
         }
+        Asked::Back(end, count) => {
+            let mut run = dues_before(schedules, end, zone);
+            send_rows(&mut run, Some(count), form, out);
+        }
         Asked::Between(start, end) => {
             let mut run = DueRun::between(schedules, start, end, zone);
             send_rows(&mut run, None, form, out);
@@ -166,8 +178,8 @@ fn send_dues<W: Watchable>(
     }
 }
 
-// By a rule.
-fn send_fires<W: Watchable>(
+/// Writes the rows of the fires that are asked for, by a rule, until a write fails.
+pub(crate) fn send_fires<W: Watchable>(
     schedules: &[ScheduleFields],
     changes: ClockChanges,
     asked: &Asked,

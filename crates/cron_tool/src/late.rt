@@ -24,6 +24,8 @@ use std::alloc::Global;
 pub struct Request<'a> {
     /// EXPRESSION.
     pub expression: &'a str,
+    /// Whether it is one of Quartz.
+    pub quartz: bool,
     /// ZONE.
     pub zone: &'a str,
     /// INSTANT.
@@ -52,7 +54,8 @@ pub fn answer<F: ZoneFiles, W: Watchable, C: Watchable>(
         (files.old, out.old, complaints.old) result (files.new, out.new, complaints.new) }
     ensures mark { (has_failed out.new || has_failed complaints.new) ≡ is_write_failure result }
 {
-    let subject = match subject_of(alloc, request.expression, request.zone, places, files) {
+    let (quartz, text) = (request.quartz, request.expression);
+    let subject = match subject_of(alloc, quartz, text, request.zone, places, files) {
         Ok(subject) => subject,
         Err(trouble) => return tell(alloc, &trouble, complaints),
     };

@@ -5,6 +5,8 @@ ghost use Rattle.std.specs.Iterator.{YieldsFirst};
 
 use cron_dues::fire::DueFire;
 use cron_moments::moment::Moment;
+use cron_unions::back_due_run::BackDueRun;
+use cron_unions::back_run::BackRun;
 use cron_unions::due_run::DueRun;
 use cron_unions::run::Run;
 
@@ -27,6 +29,22 @@ impl<'a, const N: usize> Left<Moment> for Run<'a, N> {
 }
 
 impl<'a> Left<DueFire> for DueRun<'a> {
+    ghost left = { λ run. run };
+
+    fn take_first(&mut self) -> Option<DueFire> {
+        self.next()
+    }
+}
+
+impl<'a> Left<Moment> for BackRun<'a> {
+    ghost left = { λ run. run };
+
+    fn take_first(&mut self) -> Option<Moment> {
+        self.next()
+    }
+}
+
+impl<'a> Left<DueFire> for BackDueRun<'a> {
     ghost left = { λ run. run };
 
     fn take_first(&mut self) -> Option<DueFire> {

@@ -3,10 +3,12 @@
 #![tactic(auto)]
 
 pub mod answer;
+mod back;
 pub mod check;
 pub mod compare;
 pub mod done;
 pub mod due;
+pub mod explain;
 pub mod expression;
 pub mod fires;
 pub mod instant;
@@ -21,11 +23,14 @@ pub mod overlap;
 pub mod pair;
 pub mod pending;
 pub mod refusal;
+mod report;
 pub mod row;
 pub mod stamp;
 pub mod status;
 mod subject;
 pub mod tab_files;
+pub mod tab_row;
 pub mod tabs;
+pub mod tally;
 pub mod trouble;
 mod words;

@@ -10,7 +10,7 @@ ghost use Rattle.cron_tool.specs.Pairs.{AreRead, IsNoPair, no_memory};
 ghost use Rattle.cron_tool.specs.Statuses.{Ends, is_write_failure};
 ghost use Rattle.cron_tool.specs.declared.status.Status.TheVariants.{Unreadable};
 
-use crate::expression::{Expression, read};
+use crate::expression::{Expression, read_as};
 use crate::status::{Status, finish};
 use crate::trouble::Trouble;
 use cron_moments::civil::civil_of;
@@ -22,6 +22,8 @@ use cron_writer::watched::{Watched, send};
 /// Two expressions, in words.
 #[derive(Clone, Copy)]
 pub struct Pair<'a> {
+    /// Whether they are of Quartz.
+    pub quartz: bool,
     /// EXPRESSION.
     pub first: &'a str,
     /// OTHER.
@@ -39,11 +41,11 @@ pub(crate) struct Both {
 pub(crate) fn read_both<'a>(pair: &Pair<'a>) -> Result<Both, Trouble<'a>>
     ensures { MatchResult result (AreRead pair.now) (IsNoPair pair.now) }
 {
-    let first = match read(pair.first) {
+    let first = match read_as(pair.quartz, pair.first) {
         Ok(first) => first,
         Err(refusal) => return Err(Trouble::Expression(pair.first, refusal)),
     };
-    match read(pair.second) {
+    match read_as(pair.quartz, pair.second) {
         Ok(second) => Ok(Both { first, second }),
         Err(refusal) => Err(Trouble::Expression(pair.second, refusal)),
     }
@@ -57,6 +59,20 @@ pub(crate) fn matches_second(union: &[ScheduleFields], second: u32) -> bool
     union.iter().any(|fields| includes(fields, date_time))
 }
 
+/// Writes bytes, all of them, and flushes. No call of the writer may have failed before.
+pub fn send_bytes<W: Watchable>(bytes: &[u8], done: Status, out: &mut Watched<W>) -> Status
+    requires out { has_failed out.old ≡ false }
+    requires done { is_write_failure done ≡ false }
+    ensures ends { Ends done bytes.now
+        (W.contents (writer_of out.old)) (W.contents (writer_of out.new)) result }
+    ensures mark { has_failed out.new ≡ is_write_failure result }
+    ensures calls { AreWritesFlushed W.writes W.flushes
+        (writer_of out.old) (has_failed out.old) (writer_of out.new) (has_failed out.new) }
+{
+    send(out, bytes);
+    finish(out, done)
+}
+
 /// Writes a text whole and flushes. No call of the writer may have failed before.
 pub(crate) fn send_text<W: Watchable>(text: &str, done: Status, out: &mut Watched<W>) -> Status
     requires out { has_failed out.old ≡ false }
@@ -67,8 +83,7 @@ pub(crate) fn send_text<W: Watchable>(text: &str, done: Status, out: &mut Watche
     ensures calls { AreWritesFlushed W.writes W.flushes
         (writer_of out.old) (has_failed out.old) (writer_of out.new) (has_failed out.new) }
 {
-    send(out, text.as_bytes());
-    finish(out, done)
+    send_bytes(text.as_bytes(), done, out)
 }
 
 /// Says that memory ran out, and flushes. No call of the writer may have failed before.

@@ -7,6 +7,7 @@ ghost use Rattle.arrayvec.specs.ArrayVec.{array_vec_len};
 ghost use Rattle.cron_tool.specs.Rows.{json_row, row, text_row};
 
 use arrayvec::ArrayVec;
+use cron_agenda::EntryFire;
 use cron_dues::fire::{DueFire, due_second};
 use cron_dues::text::{self, Text};
 use cron_moments::line;
@@ -80,6 +81,29 @@ impl Told for DueFire {
 
     fn second(&self) -> i64 {
         due_second(self)
+    }
+}
+
+impl Told for EntryFire {
+    ghost use Rattle.cron_agenda.specs.Fires.{instant};
+    ghost use Rattle.cron_tool.specs.TabRows.{fire_text};
+
+    ghost text = { fire_text };
+
+    ghost second = { instant };
+
+    fn text(&self) -> Text {
+        match self {
+            EntryFire::AsShown(moment) => moment.text(),
+            EntryFire::Once(due) => due.text(),
+        }
+    }
+
+    fn second(&self) -> i64 {
+        match self {
+            EntryFire::AsShown(moment) => moment.second(),
+            EntryFire::Once(due) => due.second(),
+        }
     }
 }
 

@@ -3,7 +3,7 @@
 ghost use Rattle.std.specs.Prelude.{MatchResult};
 ghost use Rattle.cron_tool.specs.Subjects.{IsNoSubject, IsSubject};
 
-use crate::expression::{Expression, read};
+use crate::expression::{Expression, read_as};
 use crate::trouble::Trouble;
 use cron_zones::files::ZoneFiles;
 use cron_zones::open::{Places, open};
@@ -17,21 +17,22 @@ pub(crate) struct Subject<'a> {
     pub zone: Zone<'a>,
 }
 
-/// Reads the expression, and opens the zone.
+/// Reads the expression, of Quartz where that is asked for, and opens the zone.
 pub(crate) fn subject_of<'a, F: ZoneFiles>(
     alloc: Global,
+    quartz: bool,
     expression: &'a str,
     zone: &'a str,
     places: &Places<'a>,
     files: &mut F,
 ) -> Result<Subject<'a>, Trouble<'a>>
     ensures { MatchResult result
-        (λ subject. IsSubject F.reads places.now expression.now zone.now
+        (λ subject. IsSubject F.reads places.now quartz expression.now zone.now
         files.old subject.expression subject.zone files.new)
-        (λ trouble. IsNoSubject F.reads places.now expression.now zone.now
+        (λ trouble. IsNoSubject F.reads places.now quartz expression.now zone.now
         files.old trouble files.new) }
 {
-    let expression = match read(expression) {
+    let expression = match read_as(quartz, expression) {
         Ok(expression) => expression,
         Err(refusal) => return Err(Trouble::Expression(expression, refusal)),
     };

@@ -3,11 +3,11 @@
 ghost use Rattle.std.specs.Prelude.{◌≡◌, OnOk, Some, map};
 ghost use Rattle.jiff.specs.Words.{plain_zone};
 ghost use Rattle.cron_tab_lines.specs.Files.{file_lines};
-ghost use Rattle.cron_tab_lines.specs.Views.{file_line_view};
+ghost use Rattle.cron_tab_lines.specs.Views.{bytes_view, file_line_view};
 ghost use Rattle.cron_tab_listing.specs.Adding.{start_of};
 ghost use Rattle.cron_tool.specs.TabFiles.{LoadsIn, LoadsLine, LoadsLines, agenda_view, given, nothing};
 
-use crate::tabs::Source;
+use crate::tab_row::Source;
 use cron_agenda::Agenda;
 use cron_tab_lines::{Crontab, FileLine, Line, Lines, NamedZone, zone_below};
 use cron_tab_listing::{Clock, TabEntry, add_line};
@@ -28,8 +28,8 @@ pub struct TabAgenda<'a> {
 pub struct TabFile<'a> {
     /// Whose it is.
     pub kind: Crontab,
-    /// What stands in front of each line's number, as the file's name and a colon; or nothing.
-    pub front: &'a str,
+    /// Its name, where several are listed.
+    pub name: Option<&'a str>,
     pub bytes: &'a [u8],
 }
 
@@ -58,7 +58,7 @@ impl<'a> TabAgenda<'a> {
 // Adds the entry of a line, with its source.
 fn load_line<'a>(
     tabs: &mut TabAgenda<'a>,
-    front: &'a str,
+    file: Option<&'a str>,
     line: &FileLine<'a>,
     firing: &Firing<'_>,
     zones: &[TimeZone<'_>],
@@ -66,7 +66,7 @@ fn load_line<'a>(
 ) -> Result<(), AllocError>
     ensures { OnOk result (LoadsLine
         (start_of (map plain_zone zones.now) zone firing.now.clock firing.now.start.nanosecond)
-        front.now (file_line_view line.now) (agenda_view tabs.old) (agenda_view tabs.new)) }
+        (bytes_view file.entry) (file_line_view line.now) (agenda_view tabs.old) (agenda_view tabs.new)) }
 {
     let Ok(Line::Entry(entry)) = &line.read else {
         return Ok(());
@@ -81,7 +81,7 @@ fn load_line<'a>(
         zone,
     ) {
         Ok(Some(_)) => tabs.sources.push(Source {
-            front,
+            file,
             user,
             command,
         })?,
@@ -94,17 +94,17 @@ fn load_line<'a>(
 // Adds the entry of a line in the zone with this number. Without a zone it is left out.
 fn load_in<'a>(
     tabs: &mut TabAgenda<'a>,
-    front: &'a str,
+    file: Option<&'a str>,
     line: &FileLine<'a>,
     firing: &Firing<'_>,
     zones: &[TimeZone<'_>],
     here: Option<usize>,
 ) -> Result<(), AllocError>
     ensures { OnOk result (LoadsIn (given (map plain_zone zones.now) firing.now) here
-        front.now (file_line_view line.now) (agenda_view tabs.old) (agenda_view tabs.new)) }
+        (bytes_view file.entry) (file_line_view line.now) (agenda_view tabs.old) (agenda_view tabs.new)) }
 {
     match here {
-        Some(zone) => load_line(tabs, front, line, firing, zones, zone),
+        Some(zone) => load_line(tabs, file, line, firing, zones, zone),
         None => Ok(()),
     }
 }
@@ -119,12 +119,12 @@ pub fn load_file<'a>(
     zones: &[TimeZone<'_>],
 ) -> Result<(), AllocError>
     ensures { OnOk result (LoadsLines (given (map plain_zone zones.now) firing.now) (Some 0)
-        file.now.front.now (file_lines file.now.kind file.now.bytes.now)
+        (bytes_view file.now.name) (file_lines file.now.kind file.now.bytes.now)
         (agenda_view tabs.old) (agenda_view tabs.new)) }
 {
     let mut here = Some(0);
     for line in Lines::of(file.kind, file.bytes) {
-        load_in(tabs, file.front, &line, firing, zones, here)?;
+        load_in(tabs, file.name, &line, firing, zones, here)?;
         here = zone_below(firing.names, here, &line);
     }
     Ok(())

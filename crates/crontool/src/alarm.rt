@@ -1,13 +1,13 @@
 //! The subcommand `alarm`.
 
-use crate::commands::{changes_of, running, word};
+use crate::commands::{changes_of, quartz, running, word};
 use crate::machine::{Surroundings, complain, open_zone, say_trouble};
 use crate::run::status_of;
 use clap::{ArgMatches, Command};
 use cron_ringing::printer::Printer;
 use cron_running::{Alarm, FireWriter, ring_at};
 use cron_scheduler::MachineClock;
-use cron_tool::expression::{Expression, read};
+use cron_tool::expression::{Expression, read_as};
 use cron_tool::status::Status;
 use cron_tool::trouble::Trouble;
 use cron_writer::watched::Watched;
@@ -19,7 +19,8 @@ use std::io;
 pub(crate) fn command<'a>(alloc: Global) -> Result<Command<'a>, AllocError> {
     let command = Command::new(alloc, "alarm")
         .about("Writes a line at each fire of an expression, when it comes")
-        .arg(word(alloc, "EXPRESSION", "A cron expression"))?;
+        .arg(word(alloc, "EXPRESSION", "A cron expression"))?
+        .arg(quartz(alloc))?;
     running(alloc, command)
 }
 
@@ -61,7 +62,7 @@ pub(crate) fn answer(rt: &HostRuntime, words: &ArgMatches<'_>) -> Status {
     let (Some(text), Some(zone)) = (words.get_str("EXPRESSION"), words.get_str("zone")) else {
         return complain(rt, "a word is missing", Status::WrongWords);
     };
-    match read(text) {
+    match read_as(words.get_flag("quartz"), text) {
         Ok(expression) => match ring(rt, words, &expression, zone) {
             Ok(status) | Err(status) => status,
         },

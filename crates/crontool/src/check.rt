@@ -63,12 +63,16 @@ pub(crate) fn command<'a>(alloc: Global) -> Result<Command<'a>, AllocError> {
     of_expressions(alloc, command)
 }
 
+/// The name of one of so many files, if it is told.
+pub(crate) fn told_name(file: &str, count: usize) -> Option<&str> {
+    if count > 1 { Some(file) } else { None }
+}
+
 /// What stands in front of each line's number.
-pub(crate) fn front_of(alloc: Global, file: &str, count: usize) -> Result<String, AllocError> {
-    if count > 1 {
-        format!(in alloc; "{file}:")
-    } else {
-        Ok(String::new(alloc))
+pub(crate) fn front_of(alloc: Global, name: Option<&str>) -> Result<String, AllocError> {
+    match name {
+        Some(name) => format!(in alloc; "{name}:"),
+        None => Ok(String::new(alloc)),
     }
 }
 
@@ -157,7 +161,7 @@ enum Kind<'a> {
 
 // Checks one of so many files.
 fn check_one(rt: &HostRuntime, kind: &Kind<'_>, file: &str, count: usize) -> Status {
-    let Ok(front) = front_of(rt.alloc(), file, count) else {
+    let Ok(front) = front_of(rt.alloc(), told_name(file, count)) else {
         return no_memory(rt);
     };
     let front = front.as_str();

@@ -1,6 +1,8 @@
 //! The subcommands with their words, and what they ask for.
 
-use crate::{alarm, check, compare, done, due, late, list, oncalendar, overlap, run};
+use crate::{
+    alarm, calendar, check, compare, done, due, explain, late, list, oncalendar, overlap, run,
+};
 use clap::{Arg, ArgAction, ArgMatches, Command, value_parser};
 use cron_fires::ClockChanges;
 use cron_tool::answer::{Request, Which};
@@ -81,13 +83,15 @@ pub(crate) fn running<'a>(alloc: Global, command: Command<'a>) -> Result<Command
 
 /// What all subcommands that list the fires of an expression have.
 pub(crate) fn listing<'a>(alloc: Global, command: Command<'a>) -> Result<Command<'a>, AllocError> {
-    let command = command.arg(word(alloc, "EXPRESSION", "A cron expression"))?;
+    let command = command
+        .arg(word(alloc, "EXPRESSION", "A cron expression"))?
+        .arg(quartz(alloc))?;
     firing(alloc, command)?.arg(flag(alloc, "json", "An object of JSON for each fire"))
 }
 
 /// `--quartz`.
 pub(crate) fn quartz<'a>(alloc: Global) -> Arg<'a> {
-    flag(alloc, "quartz", "EXPRESSION is one of Quartz")
+    flag(alloc, "quartz", "Expressions are of Quartz")
 }
 
 fn next_command<'a>(alloc: Global) -> Result<Command<'a>, AllocError> {
@@ -100,9 +104,14 @@ fn next_command<'a>(alloc: Global) -> Result<Command<'a>, AllocError> {
         "after",
         "START",
         "now",
-        "The instant after which they come",
+        "The instant after which they come, or with --back before which",
     );
-    listing(alloc, command)?.arg(quartz(alloc))?.arg(after)
+    let back = flag(
+        alloc,
+        "back",
+        "The last fires before START, the latest first",
+    );
+    listing(alloc, command)?.arg(back)?.arg(after)
 }
 
 fn between_command<'a>(alloc: Global) -> Result<Command<'a>, AllocError> {
@@ -110,7 +119,7 @@ fn between_command<'a>(alloc: Global) -> Result<Command<'a>, AllocError> {
         .about("Lists the fires after START, up to and with END")
         .arg(word(alloc, "START", "An instant"))?
         .arg(word(alloc, "END", "An instant"))?;
-    listing(alloc, command)?.arg(quartz(alloc))
+    listing(alloc, command)
 }
 
 /// The whole command line.
@@ -131,6 +140,8 @@ pub(crate) fn command<'a>(alloc: Global) -> Result<Command<'a>, AllocError> {
         .subcommand(compare::command(alloc)?)?
         .subcommand(overlap::command(alloc)?)?
         .subcommand(oncalendar::command(alloc)?)?
+        .subcommand(explain::command(alloc)?)?
+        .subcommand(calendar::command(alloc)?)?
         .subcommand(run::command(alloc)?)?
         .subcommand(alarm::command(alloc)?)
 }
@@ -158,7 +169,12 @@ pub(crate) fn form_of(matches: &ArgMatches<'_>) -> Form {
 fn which_of<'a>(name: &str, matches: &ArgMatches<'a>) -> Option<Which<'a>> {
     if name == "next" {
         let count = matches.get_one::<u64>("N")?;
-        return Some(Which::Next(count, matches.get_str("after")?));
+        let start = matches.get_str("after")?;
+        return Some(if matches.get_flag("back") {
+            Which::Back(count, start)
+        } else {
+            Which::Next(count, start)
+        });
     }
     Some(Which::Between(matches.get_str("START")?, matches.get_str("END")?))
 }

@@ -22,6 +22,7 @@ fn request_of<'a>(words: &ArgMatches<'a>) -> Option<Request<'a>> {
     Some(Request {
         stamp: words.get_str("STAMP")?,
         expression: words.get_str("EXPRESSION")?,
+        quartz: words.get_flag("quartz"),
         zone: words.get_str("zone")?,
         latest: words.get_flag("latest"),
         changes: changes_of(words),

@@ -1,6 +1,6 @@
 //! The subcommand `late`.
 
-use crate::commands::{changes_of, firing, word};
+use crate::commands::{changes_of, firing, quartz, word};
 use crate::machine::{Surroundings, complain};
 use clap::{Arg, ArgMatches, Command, value_parser};
 use cron_tool::late::{self, Request};
@@ -26,6 +26,7 @@ pub(crate) fn command<'a>(alloc: Global) -> Result<Command<'a>, AllocError> {
     let command = Command::new(alloc, "late")
         .about("Says whether a fire was missed since the last run, by its status too")
         .arg(word(alloc, "EXPRESSION", "A cron expression"))?
+        .arg(quartz(alloc))?
         .arg(last)?
         .arg(grace)?;
     firing(alloc, command)
@@ -34,6 +35,7 @@ pub(crate) fn command<'a>(alloc: Global) -> Result<Command<'a>, AllocError> {
 fn request_of<'a>(words: &ArgMatches<'a>) -> Option<Request<'a>> {
     Some(Request {
         expression: words.get_str("EXPRESSION")?,
+        quartz: words.get_flag("quartz"),
         zone: words.get_str("zone")?,
         last: words.get_str("last")?,
         grace: words.get_one::<u32>("grace")?,

@@ -1,7 +1,7 @@
 //! The subcommand `list`.
 
-use crate::check::{files, front_of};
-use crate::commands::{choice, firing, flag};
+use crate::check::{files, front_of, told_name};
+use crate::commands::{choice, firing, flag, form_of};
 use crate::machine::{Surroundings, complain, open_zone, say_trouble};
 use crate::run::{clock_of, read_all};
 use crate::zones::{TabZones, no_memory};
@@ -10,6 +10,7 @@ use cron_tab_lines::{Crontab, NamedZone};
 use cron_tab_listing::Clock;
 use cron_tool::check::{Wanted, check};
 use cron_tool::instant::instant_of;
+use cron_tool::row::Form;
 use cron_tool::status::Status;
 use cron_tool::tab_files::{Firing, TabAgenda, TabFile, load_file};
 use cron_tool::tabs::list;
@@ -43,7 +44,8 @@ pub(crate) fn command<'a>(alloc: Global) -> Result<Command<'a>, AllocError> {
         .arg(files(alloc))?
         .arg(count.value_parser(value_parser!(u64)))?
         .arg(after.requires_arg("count")?)?
-        .arg(flag(alloc, "system", "Entries name a user"))?;
+        .arg(flag(alloc, "system", "Entries name a user"))?
+        .arg(flag(alloc, "json", "An object of JSON for each fire"))?;
     firing(alloc, command)
 }
 
@@ -51,6 +53,7 @@ pub(crate) fn command<'a>(alloc: Global) -> Result<Command<'a>, AllocError> {
 #[derive(Clone, Copy)]
 struct Request<'a> {
     kind: Crontab,
+    form: Form,
     clock: Clock,
     zone: &'a str,
     start: &'a str,
@@ -67,6 +70,7 @@ fn request_of<'a, 'w>(words: &'w ArgMatches<'a>) -> Option<(Request<'a>, &'w [&'
         } else {
             Crontab::User
         },
+        form: form_of(words),
         clock: clock_of(words),
         zone: words.get_str("zone")?,
         start: words.get_str("after").unwrap_or("now"),
@@ -106,20 +110,14 @@ fn read_instant(
     }
 }
 
-// What stands in front of the numbers of each file's lines.
-fn fronts_of(alloc: Global, names: &[&str]) -> Result<Vec<String>, AllocError> {
-    let mut fronts = Vec::new(alloc);
-    for name in names {
-        fronts.push(front_of(alloc, *name, names.len())?)?;
-    }
-    Ok(fronts)
-}
-
 // Tells which lines of a crontab are refused.
 fn tell_refused(rt: &HostRuntime, file: &TabFile<'_>, names: &[NamedZone<'_>]) -> Status {
+    let Ok(front) = front_of(rt.alloc(), file.name) else {
+        return no_memory(rt);
+    };
     let wanted = Wanted {
         kind: file.kind,
-        front: file.front,
+        front: front.as_str(),
         warn: false,
         names,
     };
@@ -161,6 +159,7 @@ fn list_loaded(
     let sources = sources.as_slice();
     match list(
         rt.alloc(),
+        request.form,
         &mut agenda,
         sources,
         end,
@@ -221,18 +220,18 @@ fn list_zoned(
     Ok(list_tabs(rt, request, files, &firing, end, zones.as_slice()))
 }
 
-// The crontabs, each with what stands in front of its lines' numbers.
+// The crontabs, each with its name where there are several.
 fn tabs_of<'a>(
     alloc: Global,
     kind: Crontab,
-    fronts: &'a [String],
+    names: &'a [&str],
     read: &'a [Vec<u8>],
 ) -> Result<Vec<TabFile<'a>>, AllocError> {
     let mut files = Vec::new(alloc);
-    for (front, bytes) in fronts.iter().zip(read.iter()) {
+    for (name, bytes) in names.iter().zip(read.iter()) {
         files.push(TabFile {
             kind,
-            front: front.as_str(),
+            name: told_name(*name, names.len()),
             bytes: bytes.as_slice(),
         })?;
     }
@@ -242,12 +241,9 @@ fn tabs_of<'a>(
 // Lists the fires of files.
 fn list_files(rt: &HostRuntime, request: &Request<'_>, names: &[&str]) -> Result<Status, Status> {
     let read = read_all(rt, names)?;
-    let Ok(fronts) = fronts_of(rt.alloc(), names) else {
-        return Err(no_memory(rt));
-    };
     let around = Surroundings::of(rt)?;
     let opened = open_zone(rt, request.zone, &around)?;
-    match tabs_of(rt.alloc(), request.kind, fronts.as_slice(), read.as_slice()) {
+    match tabs_of(rt.alloc(), request.kind, names, read.as_slice()) {
         Ok(files) => list_zoned(rt, request, files.as_slice(), opened.time_zone(), &around),
         Err(_) => Err(no_memory(rt)),
     }

@@ -4,11 +4,14 @@
 #![tactic(auto)]
 
 mod alarm;
+mod calendar;
 mod check;
 mod commands;
 mod compare;
 mod done;
 mod due;
+mod explain;
+mod follow;
 mod late;
 mod list;
 mod machine;
@@ -16,6 +19,8 @@ mod oncalendar;
 mod overlap;
 mod pair;
 mod run;
+mod state;
+mod watch;
 mod zones;
 
 use clap::{ArgMatches, Error};
@@ -77,6 +82,8 @@ fn answer_words(rt: &HostRuntime, name: &str, words: &ArgMatches<'_>) -> Status 
         "compare" => compare::answer(rt, words),
         "overlap" => overlap::answer(rt, words),
         "oncalendar" => oncalendar::answer(rt, words),
+        "explain" => explain::answer(rt, words),
+        "calendar" => calendar::answer(rt, words),
         "run" => run::answer(rt, words),
         "alarm" => alarm::answer(rt, words),
         _ => match request_of(name, words) {

@@ -2,21 +2,18 @@
 
 use crate::check::files;
 use crate::commands::{changes_of, choice, flag, option, running};
-use crate::machine::{Surroundings, complain, open_zone, read_file, say_unread};
-use crate::zones::{TabZones, no_memory};
+use crate::follow::{Runs, follow};
+use crate::machine::{complain, read_file, say_unread};
+use crate::state::State;
+use crate::zones::no_memory;
 use clap::{ArgMatches, Command};
 use cron_agenda_scheduler::{AgendaStop, Lateness};
-use cron_ringing::printer::Printer;
-use cron_running::{Failure, RunOrders, TabFile, TabWriter, run_files};
-use cron_scheduler::MachineClock;
+use cron_running::{Failure, RunOrders};
 use cron_tab_lines::Crontab;
 use cron_tab_listing::Clock;
 use cron_tab_tasks::{Form, Orders};
 use cron_tool::status::Status;
-use cron_writer::watched::Watched;
-use jiff::tz::TimeZone;
 use std::alloc::{AllocError, Global};
-use std::io;
 
 /// Its words.
 pub(crate) fn command<'a>(alloc: Global) -> Result<Command<'a>, AllocError> {
@@ -28,6 +25,9 @@ pub(crate) fn command<'a>(alloc: Global) -> Result<Command<'a>, AllocError> {
         "latest",
         "Of late fires each, latest or within=SECONDS",
     );
+    let state = choice(alloc, "state", "FOLDER", "Where it is noted what was run").conflicts_with(
+        "count",
+    )?;
     let command = Command::new(alloc, "run")
         .about("Writes the command of each entry of crontabs when it fires")
         .arg(files(alloc))?
@@ -35,7 +35,8 @@ pub(crate) fn command<'a>(alloc: Global) -> Result<Command<'a>, AllocError> {
         .arg(flag(alloc, "system", "Entries name a user"))?
         .arg(user)?
         .arg(flag(alloc, "reboot", "Run @reboot once at the start"))?
-        .arg(late)?;
+        .arg(late)?
+        .arg(state)?;
     running(alloc, command)
 }
 
@@ -106,28 +107,6 @@ pub(crate) fn status_of<E: Drop>(rt: &HostRuntime, ended: Result<(), Failure<E>>
     }
 }
 
-fn run_in(
-    rt: &HostRuntime,
-    orders: &RunOrders<'_>,
-    files: &[TabFile<'_>],
-    zones: &[TimeZone<'_>],
-) -> Status {
-    let mut writer = TabWriter::new(rt.alloc(), Watched::new(io::writer(rt)));
-    let mut complaints = Printer {
-        out: Watched::new(rt.stderr()),
-    };
-    let ended = run_files(
-        rt.alloc(),
-        orders,
-        files,
-        zones,
-        &mut MachineClock(rt),
-        &mut writer,
-        &mut complaints,
-    );
-    status_of(rt, ended)
-}
-
 /// Reads the files, or says of the first that can't be read why.
 pub(crate) fn read_all(rt: &HostRuntime, names: &[&str]) -> Result<Vec<Vec<u8>>, Status> {
     let mut read = Vec::new(rt.alloc());
@@ -143,58 +122,31 @@ pub(crate) fn read_all(rt: &HostRuntime, names: &[&str]) -> Result<Vec<Vec<u8>>,
     Ok(read)
 }
 
-fn files_of<'a>(
-    alloc: Global,
-    names: &'a [&str],
-    read: &'a [Vec<u8>],
-) -> Result<Vec<TabFile<'a>>, AllocError> {
-    let mut files = Vec::new(alloc);
-    for (name, bytes) in names.iter().zip(read.iter()) {
-        files.push(TabFile {
-            name,
-            bytes: bytes.as_slice(),
-        })?;
-    }
-    Ok(files)
-}
-
-// Runs the entries of files, in a zone or in those that `CRON_TZ` names.
-fn run_zoned(
+// Runs the entries of files, and notes it where a folder is given.
+fn run_from(
     rt: &HostRuntime,
-    orders: &RunOrders<'_>,
-    files: &[TabFile<'_>],
-    zone: TimeZone<'_>,
-    around: &Surroundings,
-) -> Result<Status, Status> {
-    let mut opened = TabZones::new(rt.alloc());
-    for file in files {
-        opened.open(rt, orders.tasks.kind, file.bytes, around)?;
-    }
-    let (Ok(names), Ok(zones)) = (opened.names(rt.alloc()), opened.behind(rt.alloc(), zone)) else {
-        return Err(no_memory(rt));
-    };
-    let tasks = Orders {
-        names: names.as_slice(),
-        ..orders.tasks
-    };
-    let orders = RunOrders { tasks, ..*orders };
-    Ok(run_in(rt, &orders, files, zones.as_slice()))
-}
-
-// Runs the entries of files.
-fn run(
-    rt: &HostRuntime,
-    orders: &RunOrders<'_>,
+    words: &ArgMatches<'_>,
+    orders: RunOrders<'_>,
     names: &[&str],
     zone: &str,
 ) -> Result<Status, Status> {
-    let read = read_all(rt, names)?;
-    let around = Surroundings::of(rt)?;
-    let opened = open_zone(rt, zone, &around)?;
-    match files_of(rt.alloc(), names, read.as_slice()) {
-        Ok(files) => run_zoned(rt, orders, files.as_slice(), opened.time_zone(), &around),
-        Err(_) => Err(no_memory(rt)),
-    }
+    let Some(folder) = words.get_str("state") else {
+        return follow(
+            rt,
+            &Runs {
+                orders,
+                state: None,
+            },
+            names,
+            zone,
+        );
+    };
+    let state = State::open(rt, folder)?;
+    let runs = Runs {
+        orders,
+        state: Some(&state),
+    };
+    follow(rt, &runs, names, zone)
 }
 
 /// Does what the words ask for.
@@ -206,7 +158,7 @@ pub(crate) fn answer(rt: &HostRuntime, words: &ArgMatches<'_>) -> Status {
     let (Some(names), Some(zone)) = (words.get_strs("FILE"), words.get_str("zone")) else {
         return complain(rt, "a word is missing", Status::WrongWords);
     };
-    match run(rt, &orders, names, zone) {
+    match run_from(rt, words, orders, names, zone) {
         Ok(status) | Err(status) => status,
     }
 }

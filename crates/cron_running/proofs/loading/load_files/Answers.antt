@@ -1,13 +1,14 @@
 use Rattle.std.proofs.Common.{sym, subst, map}
 use Rattle.std.proofs.lemmas.List.{drop_more}
 use Rattle.jiff.specs.Words.{plain_zone}
+use Rattle.cron_running.specs.Noted.{noted_view}
 use Rattle.cron_running.specs.Loading.{AddsTasks, files_tasks, given, state_of}
 use Rattle.cron_running.proofs.LoadLemmas.{adds-append}
 use Rattle.cron_running.proofs.loading.load_files.Goals as goal
 
 pub loop-file-preserved : goal.loop-file-preserved
 loop-file-preserved c = λ after more.
-    let g = given c.args.orders.now (map plain_zone c.args.start.now.zones.now) c.args.start.now.instant.nanosecond in
+    let g = given c.args.orders.now (map plain_zone c.args.start.now.zones.now) c.args.start.now.instant.nanosecond (noted_view c.args.start.now.noted.now) in
     let files = c.args.files.now in
     let one = c.in_ok-load_file.ensures in
     c.loop-file.invariant after

@@ -7,6 +7,8 @@ use Rattle.cron_running.proofs.loop_over.run_loaded.Goals as goal
 pub returns-in-Ok : goal.returns-in-Ok
 returns-in-Ok g c = record {
   started = Ok tt;
+  clock = c.begin.new.self;
+  told = c.begin.ensures;
   writer = c.write_start.new.writer;
   texts = ap (λ ts. map (λ t. t.items) ts.items) c.in-Ok.ensures.texts;
   starts = subst (λ t. WritesStart (writer_calls g.W.Watchable.writes g.W.Watchable.flushes g.W.Write.contents) c.args.orders.now.reboot t c.args.writer.now.printer (Ok tt) c.write_start.new.writer.printer) c.as_slice.ensures.value c.in-Ok.ensures.starts;
@@ -16,6 +18,8 @@ returns-in-Ok g c = record {
 pub returns : goal.returns
 returns g c = record {
   started = Err c.in-Err.error;
+  clock = c.begin.new.self;
+  told = c.begin.ensures;
   writer = c.write_start.new.writer;
   texts = ap (λ ts. map (λ t. t.items) ts.items) c.in-Err.ensures.texts;
   starts = subst (λ t. WritesStart (writer_calls g.W.Watchable.writes g.W.Watchable.flushes g.W.Write.contents) c.args.orders.now.reboot t c.args.writer.now.printer (Err c.in-Err.error) c.write_start.new.writer.printer) c.as_slice.ensures.value c.in-Err.ensures.starts;

@@ -1,6 +1,7 @@
 use Rattle.std.proofs.Common.{Some, map}
 use Rattle.jiff.specs.Words.{plain_zone}
 use Rattle.cron_tab_lines.specs.Files.{file_lines}
+use Rattle.cron_tab_lines.specs.Views.{bytes_view}
 use Rattle.cron_tool.specs.TabFiles.{LoadsLines, TabAgenda, agenda_view, given}
 use Rattle.cron_tool.proofs.tab_files.load_file.Given as goal
 
@@ -8,5 +9,5 @@ use Rattle.cron_tool.proofs.tab_files.load_file.Given as goal
 abbrev pub invariant-loop-line : goal.invariant-loop-line
 invariant-loop-line l =
     (after : TabAgenda)
-    → LoadsLines (given (map plain_zone l.zones) l.firing) l.here l.file.front.now l.line-iterator (agenda_view l.tabs) after
-    → LoadsLines (given (map plain_zone l.zones) l.firing) (Some 0) l.file.front.now (file_lines l.file.kind l.file.bytes.now) (agenda_view l.initial.tabs) after
+    → LoadsLines (given (map plain_zone l.zones) l.firing) l.here (bytes_view l.file.name) l.line-iterator (agenda_view l.tabs) after
+    → LoadsLines (given (map plain_zone l.zones) l.firing) (Some 0) (bytes_view l.file.name) (file_lines l.file.kind l.file.bytes.now) (agenda_view l.initial.tabs) after

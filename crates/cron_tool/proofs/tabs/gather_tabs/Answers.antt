@@ -21,7 +21,7 @@ returns-then-has_failed g c =
       left = c.next_fire.new.agenda;
       taken = taken-on zones c.args.until.nanosecond fires c.args.agenda.now c.loop.agenda c.in-Some.fire c.next_fire.new.agenda taken takes;
       report = report ++ c.as_slice.result.now;
-      rows = row_on c.args.sources.now fires c.in-Some-get.source.now c.in-Some.fire report c.as_slice.result.now rows found
+      rows = row_on c.args.form c.args.sources.now fires c.in-Some-get.source.now c.in-Some.fire report c.as_slice.result.now rows found
           (c.as_slice.ensures.value ∙ c.in-Ok-make_row.ensures);
       puts = put_on _ _ _ _ _ _ _ _ report _ puts c.put.ensures;
       whole = λ done fine. absurd (both_ways _ (sym c.has_failed.ensures ∙ c.if-has_failed.true) fine);
@@ -38,7 +38,7 @@ loop-preserved g c =
       report ++ c.as_slice.result.now,
       length-append fires (c.in-Some.fire ∷ []) ∙ ap (λ n. n + 1) count,
       taken-on zones c.args.until.nanosecond fires c.args.agenda.now c.loop.agenda c.in-Some.fire c.next_fire.new.agenda taken takes,
-      row_on c.args.sources.now fires c.in-Some-get.source.now c.in-Some.fire report c.as_slice.result.now rows found
+      row_on c.args.form c.args.sources.now fires c.in-Some-get.source.now c.in-Some.fire report c.as_slice.result.now rows found
           (c.as_slice.ensures.value ∙ c.in-Ok-make_row.ensures),
       put_on _ _ _ _ _ _ _ _ report _ puts c.put.ensures,
     )

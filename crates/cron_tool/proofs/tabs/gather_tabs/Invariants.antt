@@ -10,5 +10,5 @@ use Rattle.cron_tool.proofs.tabs.gather_tabs.Given as goal
 abbrev pub invariant-loop : goal.invariant-loop
 invariant-loop g l =
     (fires : List TabFire) × (report : List ℕ) × (length fires ≡ l.counter)
-    × AreTaken (map plain_zone l.zones) l.until.nanosecond l.initial.agenda fires l.agenda × AreRows l.sources fires report
+    × AreTaken (map plain_zone l.zones) l.until.nanosecond l.initial.agenda fires l.agenda × AreRows l.form l.sources fires report
     × Puts g.W.Write.contents g.W.Watchable.writes l.initial.gathered l.initial.out l.gathered l.out report

@@ -1,0 +1,117 @@
+-- A clock that notes how far a run has come before it waits, and looks at files after that.
+use Rattle.std.specs.Prelude.{◌≡◌, ◌⊎◌, ℕ, Bool, true, false, ◌||◌, int_le, List, Option, Some, None, Result, Ok, Err, ⊤, IsErrAnd, map}
+use Rattle.std.specs.IoError.{error_kind}
+use Rattle.std.specs.Ordering.{int_eq}
+use Rattle.std.specs.declared.io.Error.{Error}
+use Rattle.std.specs.declared.io.ErrorKind.TheVariants.{OutOfMemory}
+use Rattle.jiff_core.specs.declared.Timestamp.{Timestamp}
+use Rattle.cron_agenda_scheduler.specs.declared.stop.AgendaStop.TheVariants as AgendaStop
+use Rattle.cron_notes.specs.Changes.{Change}
+use Rattle.cron_notes.specs.Replacing.{Replaces}
+use Rattle.cron_ringing.specs.declared.printer.Printer.{Printer}
+use Rattle.cron_running.specs.Noted.{later, note_text, noted_view}
+use Rattle.cron_running.specs.declared.failure.Failure.{Failure}
+use Rattle.cron_running.specs.declared.failure.Failure.TheVariants.{Stopped}
+use Rattle.cron_running.specs.declared.noted.Noted.{Noted}
+use Rattle.cron_running.specs.declared.run_clock.Interruption.{Interruption}
+use Rattle.cron_running.specs.declared.run_clock.Interruption.TheVariants.{Clock, Unnoted, Changed}
+use Rattle.cron_running.specs.declared.run_clock.Notebook.{Notebook}
+use Rattle.cron_running.specs.declared.run_clock.RunClock.{RunClock}
+use Rattle.cron_running.specs.declared.writer.TabWriter.{TabWriter}
+
+-- what one call of a store does
+abbrev pub Does : Type 0 → Type 1
+Does S = S → Change → Result ⊤ Error → S → Type 0
+
+-- The note took its path, as a file is replaced; or memory ran out, and no call was made.
+abbrev pub Notes : {S : Type 0} → Does S → Noted → Notebook S → Result ⊤ Error → Notebook S → Type 0
+Notes does n old answer new =
+    (new.path.now ≡ old.path.now)
+    × (Replaces does old.path.now (note_text (noted_view n)) old.store answer new.store
+    ⊎ (IsErrAnd answer (λ e. error_kind e ≡ OutOfMemory) × (new.store ≡ old.store)))
+
+-- the same where there is a place for notes
+abbrev pub NotesIn : {S : Type 0} → Does S → Noted → Option (Notebook S) → Result ⊤ Error → Option (Notebook S) → Type 0
+NotesIn does n None answer new = (answer ≡ Ok tt) × (new ≡ None)
+NotesIn {S} does n (Some old) answer new = (book : Notebook S) × (new ≡ Some book) × Notes does n old answer book
+
+-- everything else stays
+abbrev pub KeepsAll : {C F S : Type 0} → RunClock C F S → RunClock C F S → Type 0
+KeepsAll old new = (new.clock ≡ old.clock) × (new.files ≡ old.files) × (new.noted ≡ old.noted)
+
+-- what the clock knows of the run was noted, and nothing else was done
+abbrev pub NotesOnce : {C F S : Type 0} → Does S → RunClock C F S → Result ⊤ Error → RunClock C F S → Type 0
+NotesOnce does old answer new = NotesIn does old.noted old.notebook answer new.notebook × KeepsAll old new × (new.until ≡ old.until)
+
+-- it waited until this instant before
+abbrev pub is_waited : Option Timestamp → Timestamp → Bool
+is_waited None t = false
+is_waited (Some until) t = int_eq until.nanosecond t.nanosecond
+
+-- it has come by what is noted
+abbrev pub is_due : Noted → Timestamp → Bool
+is_due n t = int_le t.nanosecond n.until.nanosecond
+
+-- There is nothing to note before a wait until the instant t: it waited until the same before, or what fires at t is due already.
+abbrev pub is_settled : {C F S : Type 0} → RunClock C F S → Timestamp → Bool
+is_settled clock t = is_waited clock.until t || is_due clock.noted t
+
+-- Before a wait it was noted by when all was run; or there was nothing to note, and nothing was done.
+abbrev pub IsTold : {C F S : Type 0} → Does S → Timestamp → RunClock C F S → Result ⊤ Error → RunClock C F S → Type 0
+IsTold does t old answer new =
+    ((is_settled old t ≡ true) × (answer ≡ Ok tt) × (new ≡ old)) ⊎ (NotesIn does old.noted old.notebook answer new.notebook × KeepsAll old new)
+
+-- what the answer of the files makes of a run
+abbrev pub went_on : {E : Type 0} → Bool → Result ⊤ (Interruption E)
+went_on true = Err Changed
+went_on false = Ok tt
+
+-- The clock waited, and then the files were looked at, unless what fires at t is due already; or it couldn't wait. No note was written.
+abbrev pub WaitsOn : {C F S E : Type 0} → (C → Timestamp → Result ⊤ E → C → Type 0) → (F → Bool → F → Type 0) → Timestamp → RunClock C F S
+    → Result ⊤ (Interruption E) → RunClock C F S → Type 0
+WaitsOn {E = E} waits changes t old answer new =
+    (new.notebook ≡ old.notebook) × (new.noted ≡ old.noted)
+    × (((e : E) × waits old.clock t (Err e) new.clock × (new.files ≡ old.files) × (answer ≡ Err (Clock e)))
+    ⊎ (((is_due old.noted t ≡ true) × waits old.clock t (Ok tt) new.clock × (new.files ≡ old.files) × (answer ≡ Ok tt))
+    ⊎ ((changed : Bool) × (is_due old.noted t ≡ false) × waits old.clock t (Ok tt) new.clock × changes old.files changed new.files
+    × (answer ≡ went_on changed))))
+
+-- A wait: first what was run is noted; where that failed nothing follows, and else the clock waits.
+abbrev pub Waits : {C F S E : Type 0} → (C → Timestamp → Result ⊤ E → C → Type 0) → (F → Bool → F → Type 0) → Does S
+    → RunClock C F S → Timestamp → Result ⊤ (Interruption E) → RunClock C F S → Type 0
+Waits {C} {F} {S} waits changes does old t answer new =
+    ((e : Error) × IsTold does t old (Err e) new × (answer ≡ Err (Unnoted e)))
+    ⊎ ((between : RunClock C F S) × IsTold does t old (Ok tt) between × WaitsOn waits changes t between answer new)
+
+-- the latest that it showed is kept
+abbrev pub Sees : {C F S E : Type 0} → RunClock C F S → Result Timestamp (Interruption E) → Result Timestamp E → RunClock C F S → Type 0
+Sees old answer (Ok now) new =
+    (answer ≡ Ok now) × (new.noted ≡ record old.noted { until = later old.noted.until now })
+Sees old answer (Err e) new = (answer ≡ Err (Clock e)) × (new.noted ≡ old.noted)
+
+-- A look at the clock.
+abbrev pub Shows : {C F S E : Type 0} → (C → Result Timestamp E → C → Type 0) → RunClock C F S → Result Timestamp (Interruption E) → RunClock C F S → Type 0
+Shows {E = E} shows old answer new =
+    (look : Result Timestamp E) × shows old.clock look new.clock × Sees old answer look new
+    × (new.files ≡ old.files) × (new.notebook ≡ old.notebook) × (new.until ≡ old.until)
+
+-- It is told the entries of a run, and by when all that they had was run.
+abbrev pub TakesEntries : {C F S : Type 0} → RunClock C F S → Timestamp → List (List ℕ) → RunClock C F S → Type 0
+TakesEntries old until entries new =
+    (map (λ e. e.items) new.noted.entries.items ≡ entries) × (new.noted.until ≡ until) × (new.clock ≡ old.clock)
+    × (new.files ≡ old.files) × (new.notebook ≡ old.notebook) × (new.until ≡ None)
+
+-- ---- a run to its end
+
+abbrev pub noted_end : {E : Type 0} → Result ⊤ Error → Result ⊤ (Failure (Interruption E))
+noted_end (Ok done) = Ok tt
+noted_end (Err e) = Err (Stopped (AgendaStop.Clock (Unnoted e)))
+
+-- A run ended early; or it ended since no entry fires any more, and then this was noted.
+abbrev pub RunsNoted : {C F S E W D : Type 0}
+    → (RunClock C F S × TabWriter W × Printer D → Result ⊤ (Failure (Interruption E)) → RunClock C F S × TabWriter W × Printer D → Type 0) → Does S
+    → RunClock C F S × TabWriter W × Printer D → Result ⊤ (Failure (Interruption E)) → RunClock C F S × TabWriter W × Printer D → Type 0
+RunsNoted {C} {F} {S} {E} {W} {D} runs does old answer new =
+    ((stop : Failure (Interruption E)) × runs old (Err stop) new × (answer ≡ Err stop))
+    ⊎ ((between : RunClock C F S × TabWriter W × Printer D) × (noted : Result ⊤ Error) × runs old (Ok tt) between × NotesOnce does between.0 noted new.0 × (new.1 ≡ between.1)
+    × (answer ≡ noted_end noted))

@@ -1,0 +1,318 @@
+//! The subcommand `calendar`.
+
+ghost use Rattle.std.specs.Prelude.{◌<◌, ◌≤◌, IfSome};
+ghost use Rattle.crontool.specs.Periods.{IsPeriod};
+
+use crate::commands::{changes_of, choice, firing, flag, word};
+use crate::machine::{Surroundings, complain, open_zone, read_file, say_trouble, say_unread};
+use crate::zones::no_memory;
+use clap::{Arg, ArgAction, ArgMatches, Command, value_parser};
+use cron_calendar::pages::{Shown, html_page, text_page};
+use cron_calendar::plans::Plan;
+use cron_crontab::Expression as TabExpression;
+use cron_fires::ClockChanges;
+use cron_tab_lines::{Crontab, Entry, Line, Lines, NamedZone, zone_below};
+use cron_tab_warnings::{follows_clock, text_of};
+use cron_tool::check::{Wanted, check};
+use cron_tool::expression::{Expression, read};
+use cron_tool::status::Status;
+use cron_tool::trouble::Trouble;
+use cron_writer::watched::{Watched, send};
+use jiff::tz::TimeZone;
+use std::alloc::{AllocError, Global};
+use std::env;
+use std::io::{self, IsTerminal};
+
+/// Its words.
+pub(crate) fn command<'a>(alloc: Global) -> Result<Command<'a>, AllocError> {
+    let expressions = Arg::new(alloc, "EXPRESSION")
+        .action(ArgAction::Append)
+        .num_args(0..)
+        .help("Cron expressions");
+    let width = choice(alloc, "width", "N", "How many columns: COLUMNS, or 80");
+    let command = Command::new(alloc, "calendar")
+        .about("Shows how many fires each day has")
+        .arg(word(alloc, "PERIOD", "A year, or a month as 2024-03"))?
+        .arg(expressions)?
+        .arg(choice(alloc, "file", "FILE", "A crontab, or - for standard input"))?
+        .arg(width.value_parser(value_parser!(u64)))?
+        .arg(flag(alloc, "html", "A page of HTML, of the whole year"))?;
+    firing(alloc, command)
+}
+
+/// Something that fires, under a name.
+#[derive(Drop)]
+struct Named<'a> {
+    name: &'a [u8],
+    expression: Expression,
+}
+
+/// The months of a year, or one of them, numbered from January of the year 0.
+#[derive(Clone, Copy)]
+struct Period {
+    year: u32,
+    first: u32,
+    end: u32,
+}
+
+// Reads a year, or a month of one.
+fn period_of(text: &str) -> Option<Period>
+    ensures { IfSome result IsPeriod }
+{
+    let (year, month) = match text.split_once('-') {
+        Some((year, month)) => (year, Some(month.parse::<u32>().ok()?)),
+        None => (text, None),
+    };
+    let year = year.parse::<u32>().ok()?;
+    if year < 1970 || year > 2100 {
+        return None;
+    }
+    let january = year * 12;
+    match month {
+        None => Some(Period {
+            year,
+            first: january,
+            end: january + 12,
+        }),
+        Some(month) if 1 <= month && month <= 12 => Some(Period {
+            year,
+            first: january + month - 1,
+            end: january + month,
+        }),
+        Some(_) => None,
+    }
+}
+
+// Reads the expressions of the command line.
+fn add_words<'a>(
+    rt: &HostRuntime,
+    named: &mut Vec<Named<'a>>,
+    texts: &[&'a str],
+) -> Result<(), Status> {
+    for text in texts {
+        let name = text.as_bytes();
+        match read(*text) {
+            Ok(expression) => match named.push(Named { name, expression }) {
+                Ok(()) => {}
+                Err(_) => return Err(no_memory(rt)),
+            },
+            Err(refusal) => return Err(say_trouble(rt, &Trouble::Expression(*text, refusal))),
+        }
+    }
+    Ok(())
+}
+
+// A line without what ends it.
+fn line_name(bytes: &[u8]) -> &[u8] {
+    match bytes {
+        [name @ .., b'\n'] => name,
+        name => name,
+    }
+}
+
+// When an entry of a line fires, and its own rule at clock changes.
+fn expression_of(entry: &Entry<'_>, line: &str) -> Expression {
+    match &entry.expression {
+        TabExpression::Reboot => Expression::Reboot,
+        TabExpression::Fires(schedules) => {
+            let changes = if follows_clock(line) {
+                ClockChanges::AsShown
+            } else {
+                ClockChanges::Once
+            };
+            Expression::Crontab(*schedules, changes)
+        }
+    }
+}
+
+// Adds the entries of a crontab. Those below a line that names a zone are left out.
+fn add_entries<'a>(named: &mut Vec<Named<'a>>, file: &'a [u8]) -> Result<(), AllocError> {
+    let names = [NamedZone { name: b"", zone: 0 }];
+    let mut here = Some(0);
+    for line in Lines::of(Crontab::User, file) {
+        if let (Some(_), Ok(Line::Entry(entry))) = (here, &line.read) {
+            named.push(Named {
+                name: line_name(line.bytes),
+                expression: expression_of(entry, text_of(line.bytes)),
+            })?;
+        }
+        here = zone_below(&names, here, &line);
+    }
+    Ok(())
+}
+
+// Tells which lines of a crontab are refused.
+fn tell_refused(rt: &HostRuntime, file: &[u8]) -> Status {
+    let wanted = Wanted {
+        kind: Crontab::User,
+        front: "",
+        warn: false,
+        names: &[NamedZone { name: b"", zone: 0 }],
+    };
+    let mut complaints = Watched::new(rt.stderr());
+    match check(rt.alloc(), &wanted, file, &mut complaints) {
+        Status::Unreadable => no_memory(rt),
+        status => status,
+    }
+}
+
+// What fires, each by the rule that was chosen, or its own.
+fn plans_of<'a>(
+    alloc: Global,
+    named: &'a [Named<'a>],
+    chosen: Option<ClockChanges>,
+) -> Result<Vec<Plan<'a>>, AllocError> {
+    let mut plans = Vec::new(alloc);
+    for one in named {
+        plans.push(Plan {
+            name: one.name,
+            schedules: one.expression.as_slice(),
+            once: matches!(one.expression.changes(chosen), ClockChanges::Once),
+        })?;
+    }
+    Ok(plans)
+}
+
+// How wide the terminal is, as COLUMNS says.
+fn columns(rt: &HostRuntime) -> u64 {
+    match env::var(rt, "COLUMNS") {
+        Ok(text) => text.as_str().parse::<u64>().unwrap_or(80),
+        Err(_) => 80,
+    }
+}
+
+// Whether numbers are green: on a terminal, where nothing says that no colours are wanted.
+fn wants_colour(rt: &HostRuntime) -> bool {
+    env::var(rt, "NO_COLOR").is_err() && rt.stdout().is_terminal()
+}
+
+// How many months of 38 columns stand side by side.
+fn months_across(width: u64) -> u32
+    ensures { (0 < result) × (result ≤ 12) }
+{
+    let across = width.saturating_add(3) / 38;
+    if across < 1 {
+        1
+    } else if across > 12 {
+        12
+    } else {
+        across as u32
+    }
+}
+
+// Writes a page whole.
+fn write_page(rt: &HostRuntime, page: &[u8]) -> Status {
+    let mut out = Watched::new(io::writer(rt));
+    send(&mut out, page);
+    if out.has_failed() || out.flush().is_err() {
+        return Status::WriteFailed;
+    }
+    Status::Done
+}
+
+// Makes the page and writes it.
+fn show<'a>(
+    rt: &HostRuntime,
+    words: &ArgMatches<'_>,
+    period: Period,
+    plans: &'a [Plan<'a>],
+    zone: &TimeZone<'_>,
+    zone_name: &'a str,
+) -> Status
+    requires { IsPeriod period }
+{
+    let page = if words.get_flag("html") {
+        html_page(rt.alloc(), plans, period.year, zone, zone_name.as_bytes())
+    } else {
+        let width = words.get_one::<u64>("width").unwrap_or(columns(rt));
+        let shown = Shown {
+            first: period.first,
+            end: period.end,
+            across: months_across(width),
+            colour: wants_colour(rt),
+        };
+        text_page(rt.alloc(), plans, shown, zone)
+    };
+    match page {
+        Ok(page) => write_page(rt, page.as_slice()),
+        Err(_) => no_memory(rt),
+    }
+}
+
+// Shows what fires in a zone.
+fn show_named<'a>(
+    rt: &HostRuntime,
+    words: &ArgMatches<'_>,
+    period: Period,
+    named: &'a [Named<'a>],
+    name: &'a str,
+) -> Result<Status, Status>
+    requires { IsPeriod period }
+{
+    let around = Surroundings::of(rt)?;
+    let opened = open_zone(rt, name, &around)?;
+    match plans_of(rt.alloc(), named, changes_of(words)) {
+        Ok(plans) => Ok(show(
+            rt,
+            words,
+            period,
+            plans.as_slice(),
+            &opened.time_zone(),
+            name,
+        )),
+        Err(_) => Err(no_memory(rt)),
+    }
+}
+
+// Reads the crontab, if one is named.
+fn file_of(rt: &HostRuntime, words: &ArgMatches<'_>) -> Result<Vec<u8>, Status> {
+    let Some(path) = words.get_str("file") else {
+        return Ok(Vec::new(rt.alloc()));
+    };
+    match read_file(rt, path) {
+        Ok(file) => Ok(file),
+        Err(error) => Err(say_unread(rt, path, &error)),
+    }
+}
+
+// Reads what fires, and shows it.
+fn show_words(
+    rt: &HostRuntime,
+    words: &ArgMatches<'_>,
+    period: Period,
+    zone: &str,
+) -> Result<Status, Status>
+    requires { IsPeriod period }
+{
+    let file = file_of(rt, words)?;
+    let mut named = Vec::new(rt.alloc());
+    if let Some(texts) = words.get_strs("EXPRESSION") {
+        add_words(rt, &mut named, texts)?;
+    }
+    if add_entries(&mut named, file.as_slice()).is_err() {
+        return Err(no_memory(rt));
+    }
+    let told = tell_refused(rt, file.as_slice());
+    Ok(told.worse(show_named(rt, words, period, named.as_slice(), zone)?))
+}
+
+/// Does what the words ask for.
+pub(crate) fn answer(rt: &HostRuntime, words: &ArgMatches<'_>) -> Status {
+    let Some(zone) = words.get_str("zone") else {
+        return complain(rt, "a word is missing", Status::WrongWords);
+    };
+    let period = match words.get_str("PERIOD") {
+        Some(text) => period_of(text),
+        None => None,
+    };
+    let Some(period) = period else {
+        return complain(
+            rt,
+            "PERIOD is a year from 1970 to 2100, or a month as 2024-03",
+            Status::WrongWords,
+        );
+    };
+    match show_words(rt, words, period, zone) {
+        Ok(status) | Err(status) => status,
+    }
+}

@@ -1,0 +1,65 @@
+//! The subcommand `explain`.
+
+use crate::commands::{changes_of, form_of, listing, option, quartz};
+use crate::machine::{Surroundings, complain};
+use clap::{ArgMatches, Command};
+use cron_tool::answer::{Request, Which};
+use cron_tool::explain::explain;
+use cron_tool::status::Status;
+use cron_writer::watched::Watched;
+use cron_zones::machine::MachineFiles;
+use std::alloc::{AllocError, Global};
+use std::io;
+
+/// How many fires are listed.
+const FIRES: u64 = 5;
+
+/// Its words.
+pub(crate) fn command<'a>(alloc: Global) -> Result<Command<'a>, AllocError> {
+    let command = Command::new(alloc, "explain").about("Tells in words when an expression fires");
+    let after = option(
+        alloc,
+        "after",
+        "START",
+        "now",
+        "The instant after which fires are told",
+    );
+    listing(alloc, command)?.arg(quartz(alloc))?.arg(after)
+}
+
+fn request_of<'a>(words: &ArgMatches<'a>) -> Option<Request<'a>> {
+    Some(Request {
+        expression: words.get_str("EXPRESSION")?,
+        quartz: words.get_flag("quartz"),
+        zone: words.get_str("zone")?,
+        which: Which::Next(FIRES, words.get_str("after")?),
+        changes: changes_of(words),
+        form: form_of(words),
+    })
+}
+
+// Explains an expression with what the machine has.
+fn explain_here(rt: &HostRuntime, request: &Request<'_>) -> Result<Status, Status> {
+    let around = Surroundings::of(rt)?;
+    let mut out = Watched::new(io::writer(rt));
+    let mut complaints = Watched::new(rt.stderr());
+    Ok(explain(
+        rt.alloc(),
+        request,
+        around.now,
+        &around.places(),
+        &mut MachineFiles(rt),
+        &mut out,
+        &mut complaints,
+    ))
+}
+
+/// Does what the words ask for.
+pub(crate) fn answer(rt: &HostRuntime, words: &ArgMatches<'_>) -> Status {
+    let Some(request) = request_of(words) else {
+        return complain(rt, "a word is missing", Status::WrongWords);
+    };
+    match explain_here(rt, &request) {
+        Ok(status) | Err(status) => status,
+    }
+}
