@@ -4,6 +4,7 @@
 use crate::rounds::least_cost;
 use crate::walks::CHICAGO;
 use anyhow::{Context, Result};
+use cron_instants::instants;
 use cron_quartz::read;
 use cron_unions::instants::first_after;
 use cron_unions::run::Run;
@@ -47,6 +48,20 @@ fn ask_firsts(schedules: &[ScheduleFields], start: Timestamp, zone: &TimeZone<'_
     ended
 }
 
+/// Asks so often for the first fire of each of some schedules by itself, and tells which call last
+/// had none.
+fn ask_each(schedules: &[ScheduleFields], start: Timestamp, zone: &TimeZone<'_>) -> u32 {
+    let mut ended = 0;
+    for call in 0..CALLS {
+        for fields in schedules {
+            if instants::first_after(fields, start, zone).is_none() {
+                ended = call;
+            }
+        }
+    }
+    ended
+}
+
 /// Prints what a fire and a first fire of a form cost.
 fn time_form(rt: &HostRuntime, name: &str, form: &str, zone: &TimeZone<'_>) -> Result<()> {
     let start = "2018-01-01T00:00:00Z".parse::<Timestamp>()?;
@@ -59,12 +74,13 @@ fn time_form(rt: &HostRuntime, name: &str, form: &str, zone: &TimeZone<'_>) -> R
     println!(rt; "quartz fires | {name} | {form} | {count} | {one} | {all}")?;
     let one = least_cost(rt, 20, CALLS, || ask_firsts(first, start, zone))?;
     let all = least_cost(rt, 20, CALLS, || ask_firsts(union, start, zone))?;
-    println!(rt; "quartz first fire | {name} | {form} | {count} | {one} | {all}")?;
+    let each = least_cost(rt, 20, CALLS, || ask_each(union, start, zone))?;
+    println!(rt; "quartz first fire | {name} | {form} | {count} | {one} | {each} | {all}")?;
     Ok(())
 }
 
 /// Prints for each form in two zones how many schedules it has, and what its first one costs and
-/// all of them.
+/// all of them as one; of a first fire in between also each of them by itself, one after another.
 pub fn run(rt: &HostRuntime) -> Result<()> {
     let chicago = TimeZone::posix(CHICAGO)?;
     for form in FORMS {

@@ -1,4 +1,4 @@
-mod RunLemmas
+pub mod RunLemmas
 mod DayLemmas
 mod RoomLemmas
 pub mod ShortTokens

@@ -22,11 +22,11 @@ use Rattle.cron_canonical.proofs.DayLemmas.{some_items}
 
 -- ---- runs have the numbers that they are of
 
-abbrev has : ℕ → ℕ × ℕ → Bool
+abbrev pub has : ℕ → ℕ × ℕ → Bool
 has x r = nat_le r.0 x && nat_le x r.1
 
 -- a run isn't empty, and lies within the unit
-abbrev IsRun : TimeUnit → ℕ × ℕ → Type 0
+abbrev pub IsRun : TimeUnit → ℕ × ℕ → Type 0
 IsRun u r = (u.least ≤ r.0) × (r.0 ≤ r.1) × (r.1 ≤ u.greatest)
 
 before_are : (u : TimeUnit) (n : ℕ) (rs : List (ℕ × ℕ)) → IsBetween u.least u.greatest n → AllByRecursion (IsRun u) rs
@@ -37,7 +37,7 @@ before_are u n (r ∷ rs) w a = by_test (n + 1 == r.0) refl where
   by_test true e = let next : n + 1 ≡ r.0 = eqb-true (n + 1) r.0 e in rw e ((w.0, omega (arith, next, a.0.1), a.0.2), a.1)
   by_test false e = rw e ((w.0, omega arith, w.1), a)
 
-runs_are : (u : TimeUnit) (ns : List ℕ) → AllByRecursion (IsBetween u.least u.greatest) ns → AllByRecursion (IsRun u) (runs_of ns)
+pub runs_are : (u : TimeUnit) (ns : List ℕ) → AllByRecursion (IsBetween u.least u.greatest) ns → AllByRecursion (IsRun u) (runs_of ns)
 unfolding runs_of
 runs_are u [] a = tt
 runs_are u (n ∷ ns) a = before_are u n (runs_of ns) a.0 (runs_are u ns a.1)
@@ -61,7 +61,7 @@ before_has u n x (r ∷ rs) a = by_test (n + 1 == r.0) refl where
       rw (e, longer_has n r.0 r.1 x (eqb-true (n + 1) r.0 e) a.0.1) (or_assoc (nat_eq x n) (has x r) (list_any (has x) rs))
   by_test false e = rw (e, one_has n x) refl
 
-runs_have : (u : TimeUnit) (x : ℕ) (ns : List ℕ) → AllByRecursion (IsBetween u.least u.greatest) ns → list_any (has x) (runs_of ns) ≡ contains ns x
+pub runs_have : (u : TimeUnit) (x : ℕ) (ns : List ℕ) → AllByRecursion (IsBetween u.least u.greatest) ns → list_any (has x) (runs_of ns) ≡ contains ns x
 unfolding runs_of
 runs_have u x [] a = refl
 runs_have u x (n ∷ ns) a =
@@ -135,7 +135,7 @@ star_numbers u ns e =
     }
 
 -- a member of a set of the unit is one of its ordinals
-member_within : (u : TimeUnit) (ns : List ℕ) (x : ℕ) → IsUnit u → IsSet u ns → contains ns x ≡ true → IsBetween u.least u.greatest x
+pub member_within : (u : TimeUnit) (ns : List ℕ) (x : ℕ) → IsUnit u → IsSet u ns → contains ns x ≡ true → IsBetween u.least u.greatest x
 member_within u ns x h s c =
     let there : contains (set_of u (contains ns)) x ≡ true = ap (λ (ys : List ℕ). contains ys x) (sym s) ∙ c in
     elim (cases_lt x u.least) [
@@ -150,7 +150,7 @@ or_later : (a b : Bool) → b ≡ true → (a || b) ≡ true
 or_later true b e = refl
 or_later false b e = e
 
-all_within : (P : ℕ → Type 0) (ns : List ℕ) → ((x : ℕ) → contains ns x ≡ true → P x) → AllByRecursion P ns
+pub all_within : (P : ℕ → Type 0) (ns : List ℕ) → ((x : ℕ) → contains ns x ≡ true → P x) → AllByRecursion P ns
 all_within P [] f = tt
 all_within P (n ∷ ns) f = (f n (rw (eq-eqb n n refl) refl), all_within P ns (λ x c. f x (or_later (nat_eq x n) (contains ns x) c)))
 

@@ -48,7 +48,7 @@ stops_dash rest c l = neither (is_digit c) (is_letter c)
 pub stops_space : (rest : List ℕ) → Stops (32 ∷ rest)
 stops_space rest c l = neither (is_digit c) (is_letter c)
 
-all_digits : (ds : List ℕ) → AllDigits 10 ds → list_all is_digit ds ≡ true
+pub all_digits : (ds : List ℕ) → AllDigits 10 ds → list_all is_digit ds ≡ true
 all_digits [] a = refl
 all_digits (c ∷ ds) a =
     let within = digit_from_value c a.0 in

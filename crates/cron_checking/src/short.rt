@@ -7,7 +7,6 @@ ghost use Rattle.cron_text.specs.Meaning.{Means};
 
 use cron::Schedule;
 use cron_canonical::text_of;
-use cron_fires::fields_of;
 use cron_units::fields::ScheduleFields;
 use std::alloc::{AllocError, Global};
 
@@ -33,6 +32,6 @@ pub fn canonical_text(alloc: Global, schedule: &Schedule) -> Result<String, Allo
     // The source means the sets, so none of them is empty, and their short form means them too.
     let _source = schedule.source();
     let mut text = String::new(alloc);
-    push_sets(&mut text, &fields_of(schedule))?;
+    push_sets(&mut text, schedule.fields())?;
     Ok(text)
 }

@@ -15,7 +15,7 @@ use cron_rows::{Replay, Report, Row, replay_files};
 /// What the rows of a file hold.
 #[derive(Clone, Copy)]
 enum Kind {
-    /// An expression, and its first fires.
+    /// An expression, and its first fires; or `refused`.
     Fires,
     /// A text that is refused.
     Refused,
@@ -25,8 +25,9 @@ enum Kind {
     Messages,
 }
 
-const FILES: [(Kind, &str); 4] = [
+const FILES: [(Kind, &str); 5] = [
     (Kind::Fires, "fires.tsv"),
+    (Kind::Fires, "mutations.tsv"),
     (Kind::Refused, "refused.txt"),
     (Kind::Days, "days.tsv"),
     (Kind::Messages, "messages.txt"),

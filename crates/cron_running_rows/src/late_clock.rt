@@ -1,5 +1,6 @@
 //! A clock that wakes late, and takes no time.
 
+use cron_running::EntryClock;
 use cron_scheduler::AlarmClock;
 use jiff::{Error, Timestamp};
 
@@ -31,4 +32,8 @@ impl AlarmClock for LateClock {
         self.second = instant.as_second().saturating_add(LATE);
         Ok(())
     }
+}
+
+impl EntryClock for LateClock {
+    fn begin(&mut self, _until: Timestamp, _entries: Vec<Vec<u8>>) {}
 }

@@ -5,7 +5,7 @@ use crate::{CHICAGO, NOVEMBER};
 use anyhow::{Result, bail};
 use cron_agenda_scheduler::Lateness;
 use cron_ringing::printer::Printer;
-use cron_running::{RunOrders, TabFile, TabWriter, run_files};
+use cron_running::{Noted, RunOrders, TabFile, TabWriter, run_files};
 use cron_tab_lines::{Crontab, NamedZone};
 use cron_tab_listing::Clock;
 use cron_tab_tasks::{Form, Orders};
@@ -62,6 +62,7 @@ fn run_one(rt: &HostRuntime, tab: &str, orders: &RunOrders<'_>) -> Result<()> {
         orders,
         &files,
         &zones,
+        &Noted::nothing(rt.alloc()),
         &mut clock,
         &mut writer,
         &mut complaints,

@@ -14,4 +14,4 @@ means_again source before text s t m e empty h =
 
 pub returns-clause-means : goal.returns-clause-means
 returns-clause-means c =
-    means_again _ _ _ _ _ c.source-source.ensures.means c.fields_of.ensures c.new-text.ensures.bytes c.in_ok-push_sets.ensures
+    means_again _ _ _ _ _ c.source-source.ensures.means c.fields.ensures c.new-text.ensures.bytes c.in_ok-push_sets.ensures
