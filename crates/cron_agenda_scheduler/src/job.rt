@@ -12,7 +12,8 @@ pub trait AgendaJob<T> {
     type Error;
 
     // one run: the job and the agenda before it, the fire, the answer, and both after it
-    ghost runs: { Self → AgendaFire → Listed T → Result ⊤ Self.Error → Self → Listed T → Type 0 } = { λ _ _ _ _ _ _. Unit {0} };
+    ghost runs: { Self → AgendaFire → Listed T → Result ⊤ Self.Error → Self → Listed T
+        → Type 0 } = { λ _ _ _ _ _ _. Unit {0} };
 
     // a fire that is passed over: the job before it is told, the fire, and the job after it
     ghost passes: { Self → AgendaFire → Self → Type 0 } = { λ _ _ _. Unit {0} };

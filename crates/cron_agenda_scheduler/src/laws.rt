@@ -17,9 +17,13 @@ pub fn what_is_due<T, C: AlarmClock, J: AgendaJob<T>>()
 {}
 
 /// The same of all turns of a run: one that is cut, and begun anew with what each entry has left,
-/// takes what an uncut one takes. Of one entry that is its own fires in order, as a `Plan` has them.
+/// takes what an uncut one takes. Of one entry that is its own fires in order, as a `Plan` has
+/// them.
 pub fn whole_runs<T, C: AlarmClock, J: AgendaJob<T>>()
-    ensures taken { (ts : Tables T) → TurnsAreTaken ts (clock_calls C.shows C.waits) (job_calls J.runs J.passes) }
-    ensures meet { (ts : Tables T) → RunsThatMeetAreOne ts (clock_calls C.shows C.waits) (job_calls J.runs J.passes) }
-    ensures one { (ts : Tables T) → OneEntryIsAPlan ts (clock_calls C.shows C.waits) (job_calls J.runs J.passes) }
+    ensures taken { (ts : Tables T)
+        → TurnsAreTaken ts (clock_calls C.shows C.waits) (job_calls J.runs J.passes) }
+    ensures meet { (ts : Tables T)
+        → RunsThatMeetAreOne ts (clock_calls C.shows C.waits) (job_calls J.runs J.passes) }
+    ensures one { (ts : Tables T)
+        → OneEntryIsAPlan ts (clock_calls C.shows C.waits) (job_calls J.runs J.passes) }
 {}

@@ -10,8 +10,8 @@ use crate::status::Status;
 use cron_crontab::{Expression, read};
 use cron_units::fields::ScheduleFields;
 
-/// Writes schedules to the front of an array, where there is room for all of them, and how many they
-/// are.
+/// Writes schedules to the front of an array, where there is room for all of them, and how many
+/// they are.
 pub(crate) fn write_schedules(
     all: &[ScheduleFields],
     schedules: &mut [CronSchedule],
@@ -29,7 +29,8 @@ pub(crate) fn write_schedules(
     Status::Done
 }
 
-/// Writes the schedules of which one must match, and how many they are: of `@reboot` there are none.
+/// Writes the schedules of which one must match, and how many they are: of `@reboot` there are
+/// none.
 pub(crate) fn write_meaning(
     meaning: &Expression,
     schedules: &mut [CronSchedule],

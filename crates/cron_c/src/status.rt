@@ -18,8 +18,8 @@ pub enum Status {
     BadZone,
     /// The instant is out of range.
     BadInstant,
-    /// The given struct is no item; or, where a walk goes on from it, no item of this timeline; or a
-    /// schedule that no text means.
+    /// The given struct is no item; or, where a walk goes on from it, no item of this timeline; or
+    /// a schedule that no text means.
     NotAnItem,
     /// The text means nothing, and the message couldn't be written.
     Untold,

@@ -67,8 +67,8 @@ pub fn text_of(fields: &ScheduleFields) -> Text
     text
 }
 
-/// The canonical text of sets: their short form, which means them, and no other sets have it. `None`
-/// where one of the sets has no member, so that no text means them.
+/// The canonical text of sets: their short form, which means them, and no other sets have it.
+/// `None` where one of the sets has no member, so that no text means them.
 pub fn canonical_text(fields: &ScheduleFields) -> Option<Text>
     ensures { MatchOption result
         ((text : List ℕ) → Means text fields.now → ⊥)

@@ -266,9 +266,9 @@ fn kept_from(rule: posix::TimeZone, dst: posix::Dst, second: u32) -> Option<Kept
 }
 
 /// The offset that a clock in a zone with a rule shows at a second of UTC, and up to where it keeps
-/// it, as far as the place of the second in its year tells it, or else that year's transitions. That
-/// is up to some days before a transition, up to a transition, or to the end of the year. `None`
-/// outside of the range, and for rules whose transitions lie near each other.
+/// it, as far as the place of the second in its year tells it, or else that year's transitions.
+/// That is up to some days before a transition, up to a transition, or to the end of the year.
+/// `None` outside of the range, and for rules whose transitions lie near each other.
 #[inline(always)]
 pub fn kept_by_rule(zone: &TimeZone<'_>, second: i64) -> Option<Kept>
     ensures agree { IfSome result (λ kept. LookupsAgree (plain_zone zone.now)) }
@@ -301,8 +301,9 @@ pub fn kept_by_transitions(zone: &TimeZone<'_>, second: i64) -> Option<Kept>
     kept_around(rule, dst, second as u32)
 }
 
-/// The number of the civil second that a clock in the zone shows at an instant. Where the transitions of
-/// a rule are worked out for it, the stretch becomes that of this civil second, if they tell it.
+/// The number of the civil second that a clock in the zone shows at an instant. Where the
+/// transitions of a rule are worked out for it, the stretch becomes that of this civil second, if
+/// they tell it.
 #[inline(always)]
 pub fn shown_at(zone: &TimeZone<'_>, instant: Timestamp, stretch: &mut Stretch) -> i64
     requires { IsKnown (plain_zone zone.now) stretch.old }

@@ -38,8 +38,8 @@ fn window_of(fires: &[i64], earlier: Window, start: i64, length: u64) -> Window
     }
 }
 
-/// How the fires of two lists collide, which begin at these seconds, in ascending order, and last so
-/// many each; `None` where no two do. It takes one pass over both lists.
+/// How the fires of two lists collide, which begin at these seconds, in ascending order, and last
+/// so many each; `None` where no two do. It takes one pass over both lists.
 pub fn collisions_of(first: &[i64], second: &[i64], length: u64) -> Option<Collisions>
     requires first { Ascends first.now }
     requires second { Ascends second.now }

@@ -10,7 +10,8 @@ use cron_units::fields::ScheduleFields;
 pub(crate) fn common_product(fields: &ScheduleFields, other: &ScheduleFields) -> ScheduleFields
     requires unmarked { fields.now.days_of_month.last_day ≡ false }
     requires other_unmarked { other.now.days_of_month.last_day ≡ false }
-    ensures { (dt : DateTime) → matches result dt ≡ (matches fields.now dt && matches other.now dt) }
+    ensures { (dt : DateTime)
+        → matches result dt ≡ (matches fields.now dt && matches other.now dt) }
 {
     ScheduleFields {
         seconds: common_members(&fields.seconds, &other.seconds),

@@ -71,7 +71,8 @@ fn push_hours(
     requires known { IsKnown (plain_zone zone.now) stretch.old }
     ensures known { IsKnown (plain_zone zone.now) stretch.new }
     ensures counts { OnOk result (counts.new.items ≡ counts.old.items
-        ++ map (λ hour. total (readings_in times.now (plain_zone zone.now) day (hour_span hour)) 86_400)
+        ++ map
+        (λ hour. total (readings_in times.now (plain_zone zone.now) day (hour_span hour)) 86_400)
         (range_with_len 0 24)) }
 {
     for hour in 0..24 {

@@ -15,8 +15,8 @@ use jiff::Timestamp;
 use jiff::tz::TimeZone;
 use std::marker::Model;
 
-/// Some of the fires of the timeline of seven sets in a zone, the earliest first. Contracts see those
-/// that are left. It takes no memory.
+/// Some of the fires of the timeline of seven sets in a zone, the earliest first. Contracts see
+/// those that are left. It takes no memory.
 #[derive(Drop)]
 pub struct Run<'a> {
     fields: ScheduleFields,
@@ -37,9 +37,11 @@ impl<'a> Model for Run<'a> {
 
     ghost Value = { List Reading };
 
-    ghost view = { λ r. left_beyond r.fields (plain_zone r.zone.now) r.mark.instant r.mark.second r.until };
+    ghost view = { λ r. left_beyond r.fields (plain_zone r.zone.now) r.mark.instant r.mark.second
+        r.until };
 
-    ghost invariant = { λ r. IsKnown r.fields (plain_zone r.zone.now) r.mark.instant r.mark.second r.monotone × KnowsDays r.fields r.days };
+    ghost invariant = { λ r. IsKnown r.fields (plain_zone r.zone.now) r.mark.instant
+        r.mark.second r.monotone × KnowsDays r.fields r.days };
 }
 
 /// Whether an instant, in seconds, isn't past the last one, if there is a last one.
@@ -54,8 +56,8 @@ pub fn is_within(until: Option<i64>, instant: i64) -> bool
 }
 
 impl<'a> Run<'a> {
-    // The fires beyond a place, about which nothing is known yet, up to and with an instant if there is a
-    // last one.
+    // The fires beyond a place, about which nothing is known yet, up to and with an instant if
+    // there is a last one.
     fn beyond(
         fields: ScheduleFields,
         mark: Mark,
@@ -103,8 +105,8 @@ impl<'a> Run<'a> {
         Run::beyond(fields, Mark::behind(last), until, zone)
     }
 
-    /// The fires that are later than this one, which may be none of the timeline, and whose instant doesn't
-    /// come after `now`.
+    /// The fires that are later than this one, which may be none of the timeline, and whose instant
+    /// doesn't come after `now`.
     pub fn past_by(
         fields: ScheduleFields,
         fire: &Moment,
@@ -150,7 +152,8 @@ impl<'a> Iterator for Run<'a> {
 
     ghost remaining = { item_count (λ rest. rest) };
 
-    // A program with several callers has this code once a caller: a call costs a run a third of its time.
+    // A program with several callers has this code once a caller: a call costs a run a third of its
+    // time.
     #[inline(always)]
     fn next(&mut self) -> Option<Moment> {
         self.take_first()

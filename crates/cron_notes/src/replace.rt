@@ -47,8 +47,8 @@ fn make_changes<S: Store>(
 
 /// Replaces the file at a path by one with these bytes, also where there is none. It is written and
 /// synced as `PATH.new` first, and then takes the path: so whoever reads the path, also after a
-/// crash, reads the old bytes or the new ones. An error is that of the call that failed, after which
-/// no other is made; where memory runs out none was.
+/// crash, reads the old bytes or the new ones. An error is that of the call that failed, after
+/// which no other is made; where memory runs out none was.
 pub fn replace<S: Store>(alloc: Global, path: &str, bytes: &[u8], store: &mut S) -> io::Result<()>
     ensures { Replaces S.does path.now bytes.now store.old result store.new }
 {

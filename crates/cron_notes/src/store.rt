@@ -8,8 +8,9 @@ ghost use Rattle.cron_notes.specs.Changes.Change.{Write, Sync, Rename, SyncFolde
 use cron_zones::files::ZoneFiles;
 use std::io;
 
-/// Files that can be read, and changed. Contracts tell the calls one by one: what one call may do is
-/// known to the type alone, so whatever promises some calls made these, in this order, and no other.
+/// Files that can be read, and changed. Contracts tell the calls one by one: what one call may do
+/// is known to the type alone, so whatever promises some calls made these, in this order, and no
+/// other.
 pub trait Store: ZoneFiles {
     // one call: the files before it, what was asked, the answer, and the files after it
     ghost does: { Self → Change → Result ⊤ Error → Self → Type 0 } = { λ _ _ _ _. Unit {0} };

@@ -67,8 +67,8 @@ fn push_text(texts: &mut Vec<Vec<u8>>, text: Vec<u8>) -> Result<(), AllocError>
 // From when on an entry fires: after what is noted of it, or after the run's start.
 fn start_of(start: &Start<'_, '_>, before: &[Vec<u8>], entry: &[u8]) -> Timestamp
     ensures { result.nanosecond
-        ≡ if is_noted (noted_view start.now.noted.now).entries (map (λ e. e.items) before.now) entry.now
-        then start.now.noted.now.until.nanosecond else start.now.instant.nanosecond }
+        ≡ if is_noted (noted_view start.now.noted.now).entries (map (λ e. e.items) before.now)
+        entry.now then start.now.noted.now.until.nanosecond else start.now.instant.nanosecond }
 {
     if start.noted.has(before, entry) {
         start.noted.until
@@ -91,8 +91,8 @@ fn add_table(
     ensures { OnOk result ((loaded.new.known ≡ loaded.old.known) × AddsTimed
         (given orders.now (map plain_zone start.now.zones.now) start.now.instant.nanosecond
         (noted_view start.now.noted.now))
-        after.nanosecond zone (adding.changes_of orders.now.clock line.now.bytes.now) table text.items
-        (state_of loaded.old) (state_of loaded.new)) }
+        after.nanosecond zone (adding.changes_of orders.now.clock line.now.bytes.now) table
+        text.items (state_of loaded.old) (state_of loaded.new)) }
 {
     let changes = changes_of(orders.clock, line.bytes);
     let timely = Timely {
@@ -150,8 +150,9 @@ fn load_line<'a>(
     ensures adds { OnOk result (AddsTasks
         (given orders.now (map plain_zone start.now.zones.now) start.now.instant.nanosecond
         (noted_view start.now.noted.now))
-        (tasks.task_in (file_line_view line.now) here (tasks.text_in (tasks.orders_view orders.now.tasks)
-        (map variable_view variables.new.items) (file_line_view line.now).outcome))
+        (tasks.task_in (file_line_view line.now) here
+        (tasks.text_in (tasks.orders_view orders.now.tasks) (map variable_view variables.new.items)
+        (file_line_view line.now).outcome))
         (state_of loaded.old) (state_of loaded.new)) }
 {
     push_variable(variables, line)?;

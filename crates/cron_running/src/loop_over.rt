@@ -33,7 +33,8 @@ fn write_start<W: Watchable>(
     }
 }
 
-/// Tells the clock which entries there are, writes what is run at the start, and then runs the entries.
+/// Tells the clock which entries there are, writes what is run at the start, and then runs the
+/// entries.
 pub(crate) fn run_loaded<C: EntryClock, W: Watchable>(
     loaded: Loaded,
     orders: &RunOrders<'_>,

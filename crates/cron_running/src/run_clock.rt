@@ -114,8 +114,8 @@ impl<C: AlarmClock, F: Changing, S: Store> RunClock<'_, C, F, S> {
         is_waited(&self.until, instant) || is_due(&self.noted, instant)
     }
 
-    // Notes it before a wait until an instant, unless it waited until the same before, or what fires
-    // then is due already: then that is to be run first.
+    // Notes it before a wait until an instant, unless it waited until the same before, or what
+    // fires then is due already: then that is to be run first.
     fn note_before(&mut self, instant: Timestamp) -> io::Result<()>
         ensures { IsTold S.does instant self.old result self.new }
     {

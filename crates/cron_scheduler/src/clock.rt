@@ -16,7 +16,8 @@ pub trait AlarmClock {
     ghost shows: { Self → Result Timestamp Self.Error → Self → Type 0 } = { λ _ _ _. Unit {0} };
 
     // one wait, until an instant
-    ghost waits: { Self → Timestamp → Result ⊤ Self.Error → Self → Type 0 } = { λ _ _ _ _. Unit {0} };
+    ghost waits: { Self → Timestamp → Result ⊤ Self.Error → Self
+        → Type 0 } = { λ _ _ _ _. Unit {0} };
 
     /// What the clock shows.
     fn now(&mut self) -> Result<Timestamp, Self::Error>

@@ -156,7 +156,8 @@ fn is_wrapped(value: &[u8]) -> bool
 
 /// Tells whether a name and a value have 998 bytes or more.
 fn is_long_setting(setting: &Setting<'_>) -> bool
-    ensures { result ≡ nat_le LONG_SETTING (length setting.now.name.now + length setting.now.value.now) }
+    ensures { result
+        ≡ nat_le LONG_SETTING (length setting.now.name.now + length setting.now.value.now) }
 {
     setting.value.len() >= LONG_SETTING.saturating_sub(setting.name.len())
 }

@@ -71,10 +71,10 @@ fn note<S: Store, C: Watchable>(
     }
 }
 
-/// Answers a request: the stamp notes the fire from now on, unless it notes a later one, or is none.
-/// It is written and synced beside the stamp, takes its name, and the folder is synced; once one of
-/// these calls fails none is made. What is wrong goes to the writer, of which no call may have failed
-/// before.
+/// Answers a request: the stamp notes the fire from now on, unless it notes a later one, or is
+/// none. It is written and synced beside the stamp, takes its name, and the folder is synced; once
+/// one of these calls fails none is made. What is wrong goes to the writer, of which no call may
+/// have failed before.
 pub fn answer<S: Store, C: Watchable>(
     alloc: Global,
     request: &Request<'_>,

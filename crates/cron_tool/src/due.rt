@@ -97,9 +97,9 @@ fn pending_of<F: ZoneFiles, C: Watchable>(
     }
 }
 
-/// Answers a request: the fires go to the one writer, and what is said of the stamp, or is wrong, to
-/// the other. The status is `No` where no fire is pending. The stamp is read and never written. No
-/// call of the writers may have failed before.
+/// Answers a request: the fires go to the one writer, and what is said of the stamp, or is wrong,
+/// to the other. The status is `No` where no fire is pending. The stamp is read and never written.
+/// No call of the writers may have failed before.
 pub fn answer<F: ZoneFiles, W: Watchable, C: Watchable>(
     alloc: Global,
     request: &Request<'_>,

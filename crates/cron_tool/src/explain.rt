@@ -109,7 +109,8 @@ fn send_more<W: Watchable>(
     }
 }
 
-// Writes rows of fires between two texts, and flushes. No call of the writer may have failed before.
+// Writes rows of fires between two texts, and flushes. No call of the writer may have failed
+// before.
 fn send_between<W: Watchable>(
     texts: &Texts,
     schedules: &[ScheduleFields],

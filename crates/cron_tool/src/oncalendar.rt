@@ -41,9 +41,9 @@ fn tell_never<W: Watchable>(out: &mut Watched<W>) -> Status
     send_text(never, Status::No, out)
 }
 
-/// Writes lines of systemd's `OnCalendar` that say an expression, of Quartz where that is asked for:
-/// they match the same civil seconds from 1970 to 2100. The status is `No` where a set of each of
-/// its schedules is empty, since systemd has no line for that. No call of the writers may have
+/// Writes lines of systemd's `OnCalendar` that say an expression, of Quartz where that is asked
+/// for: they match the same civil seconds from 1970 to 2100. The status is `No` where a set of each
+/// of its schedules is empty, since systemd has no line for that. No call of the writers may have
 /// failed before.
 pub fn write_calendar<W: Watchable, C: Watchable>(
     alloc: Global,

@@ -66,7 +66,8 @@ fn load_line<'a>(
 ) -> Result<(), AllocError>
     ensures { OnOk result (LoadsLine
         (start_of (map plain_zone zones.now) zone firing.now.clock firing.now.start.nanosecond)
-        (bytes_view file.entry) (file_line_view line.now) (agenda_view tabs.old) (agenda_view tabs.new)) }
+        (bytes_view file.entry) (file_line_view line.now)
+        (agenda_view tabs.old) (agenda_view tabs.new)) }
 {
     let Ok(Line::Entry(entry)) = &line.read else {
         return Ok(());
@@ -101,7 +102,8 @@ fn load_in<'a>(
     here: Option<usize>,
 ) -> Result<(), AllocError>
     ensures { OnOk result (LoadsIn (given (map plain_zone zones.now) firing.now) here
-        (bytes_view file.entry) (file_line_view line.now) (agenda_view tabs.old) (agenda_view tabs.new)) }
+        (bytes_view file.entry) (file_line_view line.now)
+        (agenda_view tabs.old) (agenda_view tabs.new)) }
 {
     match here {
         Some(zone) => load_line(tabs, file, line, firing, zones, zone),

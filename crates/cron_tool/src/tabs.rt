@@ -34,8 +34,8 @@ fn gather_tabs<W: Watchable>(
     gathered: &mut Gathered,
     out: &mut Watched<W>,
 ) -> bool
-    ensures { GathersTabs form (map plain_zone zones.now) until.nanosecond limit sources.now agenda.old
-        W.contents W.writes (gathered.old, out.old) (gathered.new, out.new) result }
+    ensures { GathersTabs form (map plain_zone zones.now) until.nanosecond limit sources.now
+        agenda.old W.contents W.writes (gathered.old, out.old) (gathered.new, out.new) result }
 {
     let mut row = Vec::new(alloc);
     for _ in 0..limit {

@@ -155,8 +155,8 @@ fn steps_of<'a, T: TimeUnitField>(item: Item<'a>) -> Result<Progression, Refusal
     }
 }
 
-/// Tells whether an item is the unit's word for the last day of the month. The word means it alone: as an
-/// end of a range it is an unknown name, and a step stands behind no single name.
+/// Tells whether an item is the unit's word for the last day of the month. The word means it alone:
+/// as an end of a range it is an unknown name, and a step stands behind no single name.
 #[inline(always)]
 fn names_last_day<T: TimeUnitField>(item: Item<'_>) -> bool
     ensures { result ≡ names_last_day T.unit (item_view item.entry) }

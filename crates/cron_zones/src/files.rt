@@ -12,7 +12,8 @@ use std::io;
 /// type alone, so whatever promises one call reads one file.
 pub trait ZoneFiles {
     // one call: the files before it, the path, the answer, and the files after it
-    ghost reads: { Self → List ℕ → Result (Vec ℕ Global) Error → Self → Type 0 } = { λ _ _ _ _. Unit {0} };
+    ghost reads: { Self → List ℕ → Result (Vec ℕ Global) Error → Self
+        → Type 0 } = { λ _ _ _ _. Unit {0} };
 
     /// Reads a file whole.
     fn read(&mut self, alloc: Global, path: &str) -> io::Result<Vec<u8>>

@@ -22,7 +22,8 @@ pub(crate) fn no_memory(rt: &HostRuntime) -> Status {
     complain(rt, "out of memory", Status::Unreadable)
 }
 
-// Whether a line may set `CRON_TZ`, by its first byte that isn't blank. Other lines needn't be read.
+// Whether a line may set `CRON_TZ`, by its first byte that isn't blank. Other lines needn't be
+// read.
 fn begins_as_name(line: &[u8]) -> bool {
     for byte in line {
         if *byte != b' ' && *byte != b'\t' {

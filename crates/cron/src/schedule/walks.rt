@@ -28,7 +28,8 @@ impl Schedule {
     /// out. In a fold its instants step back: 06:00Z, 07:00Z, 06:30Z, 07:30Z.
     ///
     /// ```text
-    /// let mut walk = schedule.after(start, &zone); // `0 30 1 * * *` in Chicago, from 2022-11-05T12:00:00Z
+    /// // `0 30 1 * * *` in Chicago, from 2022-11-05T12:00:00Z
+    /// let mut walk = schedule.after(start, &zone);
     /// walk.next();      // 2022-11-06 01:30:00 -05:00
     /// walk.next();      // 2022-11-06 01:30:00 -06:00
     /// walk.next_back(); // 2022-11-06 01:30:00 -05:00

@@ -10,7 +10,8 @@ body{font:15px/1.4 system-ui,sans-serif;color:var(--ink);background:var(--paper)
 max-width:62rem;margin:1.5rem auto;padding:0 1rem}\n\
 h1{font-size:1.5rem;margin:0}h2{font-size:1.1rem;margin:1.6rem 0 .5rem}p{margin:.3rem 0}\n\
 .map{width:100%;height:auto;display:block}.map text{fill:var(--ink);font-size:9px}\n\
-.l0{fill:var(--faint)}.l1{fill:var(--l1)}.l2{fill:var(--l2)}.l3{fill:var(--l3)}.l4{fill:var(--l4)}\n\
+.l0{fill:var(--faint)}.l1{fill:var(--l1)}.l2{fill:var(--l2)}.l3{fill:var(--l3)}\n\
+.l4{fill:var(--l4)}\n\
 .b0{background:var(--faint)}.b1{background:var(--l1)}.b2{background:var(--l2)}\
 .b3{background:var(--l3);color:var(--on)}.b4{background:var(--l4);color:var(--on)}\n\
 .scale{font-size:.85rem}.scale span{display:inline-block;width:.8rem;height:.8rem;\
@@ -19,7 +20,8 @@ table{border-collapse:collapse}th{font-weight:600;text-align:left}\n\
 .wide{overflow-x:auto}.hours{font-size:.75rem;font-variant-numeric:tabular-nums}\
 .hours th,.hours td{text-align:right;padding:.25rem .3rem;border:1px solid var(--paper)}\n\
 .entries{width:100%;margin-top:1rem}.entries td,.entries th{padding:.2rem .5rem .2rem 0;\
-border-bottom:1px solid var(--line)}.entries .when{width:45%}.entries code{overflow-wrap:anywhere}\n\
+border-bottom:1px solid var(--line)}.entries .when{width:45%}\n\
+.entries code{overflow-wrap:anywhere}\n\
 .number,.days td{text-align:right;font-variant-numeric:tabular-nums}\n\
 .entries svg{width:100%;height:.8rem;display:block;background:var(--faint);fill:var(--own)}\n\
 .swatch{display:inline-block;width:.9rem;height:.9rem;border-radius:3px;background:var(--own)}\n\
