@@ -6,6 +6,7 @@ pub mod BestLemmas
 pub mod NearestLemmas
 pub mod MergeLemmas
 pub mod HeadLemmas
+pub mod KeyLemmas
 pub mod PartLemmas
 pub mod DueHeadLemmas
 pub mod BackLemmas

@@ -1,5 +1,6 @@
 pub mod Nearest
 pub mod DueHeads
 pub mod Merges
+pub mod Keys
 pub mod Parts
 pub mod Backs

@@ -5,8 +5,8 @@ ghost use Rattle.jiff.specs.Words.{plain_zone};
 ghost use Rattle.cron_unions.specs.Unions.{fires_any_after, fires_any_between, fires_any_past, fires_any_past_by};
 ghost use Rattle.cron_unions.specs.Inner.Parts.{part_of, part_of_any};
 
-use crate::branch::Branch;
-use crate::heads::{least_head, pass_all};
+use crate::branch::{Branch, NONE_LEFT};
+use crate::heads::{least_key, take_heads};
 use arrayvec::ArrayVec;
 use cron_instants::run::Run as Single;
 use cron_moments::moment::Moment;
@@ -132,11 +132,11 @@ impl<'a, const N: usize> Run<'a, N> {
     fn take_first(&mut self) -> Option<Moment>
         ensures { YieldsFirst (λ rest. rest) self.old result self.new }
     {
-        let Some(least) = least_head(self.branches.as_slice()) else {
+        let least = least_key(self.branches.as_slice());
+        if least == NONE_LEFT {
             return None;
-        };
-        pass_all(self.branches.as_mut_slice(), &least);
-        Some(least)
+        }
+        take_heads(self.branches.as_mut_slice(), least)
     }
 }
 
