@@ -8,5 +8,6 @@ pub mod MergeLemmas
 pub mod HeadLemmas
 pub mod KeyLemmas
 pub mod PartLemmas
+pub mod CoverLemmas
 pub mod DueHeadLemmas
 pub mod BackLemmas
