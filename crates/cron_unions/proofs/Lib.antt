@@ -6,6 +6,8 @@ pub mod BestLemmas
 pub mod NearestLemmas
 pub mod MergeLemmas
 pub mod HeadLemmas
+pub mod KeyLemmas
 pub mod PartLemmas
+pub mod CoverLemmas
 pub mod DueHeadLemmas
 pub mod BackLemmas

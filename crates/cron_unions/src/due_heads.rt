@@ -76,6 +76,7 @@ pub(crate) fn heads_of(schedules: &[ScheduleFields], from: i64) -> ArrayVec<Head
 }
 
 // The least of the heads.
+#[inline(always)]
 fn least_head(heads: &[Head]) -> Option<u32>
     ensures { (schedules : List Sets) (from : ℤ)
         → AreHeads schedules from heads.now
@@ -89,6 +90,7 @@ fn least_head(heads: &[Head]) -> Option<u32>
 }
 
 /// The nearest civil second that matches one of the schedules, of which the first have heads.
+#[inline(always)]
 pub(crate) fn nearest_head(heads: &[Head], schedules: &[ScheduleFields], from: i64) -> Option<u32>
     requires { AreHeads schedules.now from heads.now }
     ensures nearest { IsNearest Ahead (is_match_any schedules.now) from result }
@@ -99,6 +101,7 @@ pub(crate) fn nearest_head(heads: &[Head], schedules: &[ScheduleFields], from: i
 }
 
 /// The heads go on past a civil second, before which none of them lies.
+#[inline(always)]
 pub(crate) fn pass_heads(heads: &mut [Head], schedules: &[ScheduleFields], second: u32)
     requires { AreHeads schedules.now (pos second) heads.old }
     ensures heads { AreHeads schedules.now (pos second +ℤ pos 1) heads.new }

@@ -5,6 +5,7 @@ ghost use Rattle.jiff.specs.Words.{plain_zone};
 ghost use Rattle.cron_dues.specs.Inner.Left.{left_from};
 ghost use Rattle.cron_unions.specs.UnionDues.{dues_any, dues_any_after, dues_any_between, dues_any_past, dues_any_past_by};
 
+use crate::covering::needed;
 use crate::due_heads::{HEADS, Head, heads_of, nearest_head, pass_heads};
 use arrayvec::ArrayVec;
 use cron_dues::ahead::{Known, due_ahead};
@@ -56,6 +57,7 @@ impl<'a> DueRun<'a> {
     ) -> DueRun<'a>
         ensures { result ≡ left_from (dues_any schedules.now (plain_zone zone.now)) from until }
     {
+        let schedules = needed(schedules);
         DueRun {
             schedules,
             zone,
@@ -117,6 +119,7 @@ impl<'a> DueRun<'a> {
     }
 
     // Takes the first that is left.
+    #[inline(always)]
     fn take_first(&mut self) -> Option<DueFire>
         ensures { YieldsFirst (λ rest. rest) self.old result self.new }
     {
@@ -142,6 +145,7 @@ impl<'a> Iterator for DueRun<'a> {
 
     ghost remaining = { item_count (λ rest. rest) };
 
+    #[inline(always)]
     fn next(&mut self) -> Option<DueFire> {
         self.take_first()
     }

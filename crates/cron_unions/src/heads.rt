@@ -1,28 +1,38 @@
 //! The heads of several branches.
-ghost use Rattle.std.specs.Prelude.{◌≡◌, map};
-ghost use Rattle.cron_unions.specs.Inner.Merges as merges;
+ghost use Rattle.std.specs.Prelude.{◌≡◌, ◌<◌, All, map};
+ghost use Rattle.cron_moments.specs.Readings.{Reading};
+ghost use Rattle.cron_unions.specs.Inner.Keys.{IsKey, IsKeyOf, IsLeastKey, none_left};
+ghost use Rattle.cron_unions.specs.Inner.Merges.{head_of, passed};
 
-use crate::branch::Branch;
-use cron_instants::item::nearer;
+use crate::branch::{Branch, NONE_LEFT};
 use cron_moments::moment::Moment;
-use cron_units::way::Way;
 
-/// The earliest of the heads.
-pub(crate) fn least_head(branches: &[Branch<'_>]) -> Option<Moment>
-    ensures { result ≡ merges.least_head branches.now }
+/// The least of the numbers of the heads.
+#[inline(always)]
+pub(crate) fn least_key(branches: &[Branch<'_>]) -> u64
+    ensures { IsLeastKey branches.now result }
 {
-    let mut least = None;
+    let mut least = NONE_LEFT;
     for branch in branches {
-        least = nearer(Way::Ahead, &least, branch.head());
+        least = least.min(branch.key());
     }
     least
 }
 
-/// Each branch goes on past a fire, before which it has none left.
-pub(crate) fn pass_all(branches: &mut [Branch<'_>], fire: &Moment)
-    ensures { branches.new ≡ map (merges.passed fire.now) branches.old }
+/// Takes each head with this number, which is the least: all of them are one fire, and each branch
+/// goes on past it.
+#[inline(always)]
+pub(crate) fn take_heads(branches: &mut [Branch<'_>], key: u64) -> Option<Moment>
+    requires least { IsLeastKey branches.old key }
+    requires some { key < none_left }
+    ensures fire { All (λ l. IsKeyOf (head_of l) key → head_of l ≡ result) branches.old }
+    ensures left { (r : Reading) → IsKey r key → branches.new ≡ map (passed r) branches.old }
 {
+    let mut fire = None;
     for branch in branches.iter_mut() {
-        branch.pass(fire);
+        if branch.key() == key {
+            fire = branch.take_head();
+        }
     }
+    fire
 }

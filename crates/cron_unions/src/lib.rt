@@ -5,6 +5,7 @@
 pub mod back_due_run;
 pub mod back_run;
 mod branch;
+mod covering;
 mod due_heads;
 pub mod due_run;
 pub mod dues;

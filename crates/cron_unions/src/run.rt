@@ -5,8 +5,9 @@ ghost use Rattle.jiff.specs.Words.{plain_zone};
 ghost use Rattle.cron_unions.specs.Unions.{fires_any_after, fires_any_between, fires_any_past, fires_any_past_by};
 ghost use Rattle.cron_unions.specs.Inner.Parts.{part_of, part_of_any};
 
-use crate::branch::Branch;
-use crate::heads::{least_head, pass_all};
+use crate::branch::{Branch, NONE_LEFT};
+use crate::covering::needed;
+use crate::heads::{least_key, take_heads};
 use arrayvec::ArrayVec;
 use cron_instants::run::Run as Single;
 use cron_moments::moment::Moment;
@@ -75,7 +76,7 @@ impl<'a, const N: usize> Run<'a, N> {
         ensures { result ≡ part_of_any schedules.now (plain_zone zone.now) part }
     {
         let mut branches = ArrayVec::new();
-        add_branches(&mut branches, schedules, &part, zone);
+        add_branches(&mut branches, needed(schedules), &part, zone);
         Run { branches }
     }
 
@@ -129,14 +130,15 @@ impl<'a, const N: usize> Run<'a, N> {
     }
 
     // Takes the earliest fire that is left.
+    #[inline(always)]
     fn take_first(&mut self) -> Option<Moment>
         ensures { YieldsFirst (λ rest. rest) self.old result self.new }
     {
-        let Some(least) = least_head(self.branches.as_slice()) else {
+        let least = least_key(self.branches.as_slice());
+        if least == NONE_LEFT {
             return None;
-        };
-        pass_all(self.branches.as_mut_slice(), &least);
-        Some(least)
+        }
+        take_heads(self.branches.as_mut_slice(), least)
     }
 }
 
@@ -149,6 +151,7 @@ impl<'a, const N: usize> Iterator for Run<'a, N> {
 
     ghost remaining = { item_count (λ rest. rest) };
 
+    #[inline(always)]
     fn next(&mut self) -> Option<Moment> {
         self.take_first()
     }

@@ -1,9 +1,7 @@
 -- Lists of readings joined into one, and a run with the fire that it answers next.
 use Rattle.std.specs.Prelude.{List, [], ◌∷◌, Option, Some, None, if◌then◌else◌}
-use Rattle.cron_units.specs.declared.way.Way.TheVariants.{Ahead}
 use Rattle.cron_moments.specs.Readings.{Reading}
 use Rattle.cron_instants.specs.Order.{is_earlier}
-use Rattle.cron_instants.specs.Inner.Beyond.{nearer_of}
 use Rattle.cron_instants.proofs.AscentLemmas.{Ascends}
 
 -- a reading put before the first one that it is earlier than, unless it stands there
@@ -31,6 +29,11 @@ abbrev pub head_of : List Reading → Option Reading
 head_of [] = None
 head_of (r ∷ l) = Some r
 
+-- the list behind its first reading
+abbrev pub behind_head : List Reading → List Reading
+behind_head [] = []
+behind_head (r ∷ l) = l
+
 -- the list past a reading, before which none of it lies
 abbrev pub passed : Reading → List Reading → List Reading
 passed r [] = []
@@ -40,11 +43,3 @@ passed r (q ∷ l) = if is_earlier r q then q ∷ l else l
 abbrev pub AllAscend : List (List Reading) → Type 0
 AllAscend [] = Unit {0}
 AllAscend (l ∷ ls) = Ascends l × AllAscend ls
-
--- the earliest of the heads of lists, after one so far
-abbrev pub least_from : Option Reading → List (List Reading) → Option Reading
-least_from best [] = best
-least_from best (l ∷ ls) = least_from (nearer_of Ahead best (head_of l)) ls
-
-abbrev pub least_head : List (List Reading) → Option Reading
-least_head ls = least_from None ls
