@@ -267,6 +267,9 @@ ended_none : (ws : List (List ℕ)) (five read : Five) → ended ws five ≡ Ok 
 ended_none [] five read h = refl
 ended_none (word ∷ more) five read h = absurd (cc)
 
+joined_words : (ws : List (List ℕ)) (w : List ℕ) (more rest : List (List ℕ)) → ws ≡ w ∷ more → more ≡ rest → ws ≡ w ∷ rest
+joined_words ws w more rest h k = h ∙ ap (λ x. w ∷ x) k
+
 -- five words, each with the tokens of one field
 pub record AreFive (ws : List (List ℕ)) : Type 0 where
   pub a : List ℕ
@@ -290,12 +293,17 @@ five_words ws read h =
     let fd = field_one Month kc.found.1 kd.found kd.is in
     let fe = field_one DayOfWeek kd.found.1 ke.found ke.is in
     let none = ended_none ke.found.1 _ read ke.then_is in
+    let le = joined_words kd.found.1 fe.word ke.found.1 [] fe.is none in
+    let ld = joined_words kc.found.1 fd.word kd.found.1 (fe.word ∷ []) fd.is le in
+    let lc = joined_words kb.found.1 fc.word kc.found.1 (fd.word ∷ fe.word ∷ []) fc.is ld in
+    let lb = joined_words ka.found.1 fb.word kb.found.1 (fc.word ∷ fd.word ∷ fe.word ∷ []) fb.is lc in
+    let la = joined_words ws fa.word ka.found.1 (fb.word ∷ fc.word ∷ fd.word ∷ fe.word ∷ []) fa.is lb in
     record {
       a = fa.word;
       b = fb.word;
       c = fc.word;
       d = fd.word;
       e = fe.word;
-      is = fa.is ∙ ap (λ x. fa.word ∷ x) (fb.is ∙ ap (λ x. fb.word ∷ x) (fc.is ∙ ap (λ x. fc.word ∷ x) (fd.is ∙ ap (λ x. fd.word ∷ x) (fe.is ∙ ap (λ x. fe.word ∷ x) none))));
+      is = la;
       ones = (fa.one, (fb.one, (fc.one, (fd.one, (fe.one, tt)))));
     }

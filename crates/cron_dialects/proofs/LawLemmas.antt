@@ -10,7 +10,7 @@ use Rattle.cron_text.specs.Tokens.{symbol_of, tokens}
 use Rattle.cron_crontab.specs.Crontab as tabs
 use Rattle.cron_crontab.specs.Crontab.{Meaning, begins_with_at, expanded, five_of, is_reboot, last_word, meant_by, nickname_of, nicknames, outcome_of, reboot, schedules, schedules_of, text_in, unknown, words}
 use Rattle.cron_crontab.specs.Items.{and_then}
-use Rattle.cron_dialects.specs.Dialects.{MeaningsAgree, NicknamesAloneMeanBoth, NicknamesMeanBoth}
+use Rattle.cron_dialects.specs.Dialects.{MeaningsAgree, NicknamesAloneAreBoth, NicknamesAreBoth}
 use Rattle.cron_dialects.proofs.Alone.{IsSolid, trimmed_word, word_trimmed}
 use Rattle.cron_dialects.proofs.Counts.{AreTokens, link, no_longhand, one}
 use Rattle.cron_dialects.proofs.Crontabs.{both_read, five_words}
@@ -254,7 +254,7 @@ shorthand_known text s h =
       known = k;
     }
 
-pub nicknames_alone : NicknamesAloneMeanBoth
+pub nicknames_alone : NicknamesAloneAreBoth
 nicknames_alone text s m (inl long) tab = absurd (no_tab text s m long tab)
 nicknames_alone text s m (inr short) tab = let k = shorthand_known text s short in (k.nick, k.known.expression, k.is, k.known.stands)
 
@@ -265,7 +265,7 @@ meanings_agree text s m (inr short) tab =
     let same : Ok m ≡ Ok (schedules (s ∷ [])) = sym tab ∙ (ap outcome_of k.is ∙ k.known.tab) in
     cc
 
-pub nicknames_both : NicknamesMeanBoth
+pub nicknames_both : NicknamesAreBoth
 nicknames_both text nickname =
     let k = tab_nickname nickname.0 nickname.1 nickname.3 in
     (k.sets, inr (ap shorthand_of (trimmed_word text nickname.0 nickname.2) ∙ k.known.own), ap outcome_of nickname.2 ∙ k.known.tab)

@@ -10,13 +10,13 @@ abbrev pub IsNickname : List ℕ → Type 0
 IsNickname text = (word expression : List ℕ) × (words text ≡ word ∷ []) × (text_in nicknames word ≡ Some expression)
 
 -- a text that means something to both is a nickname
-abbrev pub NicknamesAloneMeanBoth : Type 0
-NicknamesAloneMeanBoth = (text : List ℕ) (s : Sets) (meaning : Meaning) → Means text s → tabs.Means text meaning → IsNickname text
+abbrev pub NicknamesAloneAreBoth : Type 0
+NicknamesAloneAreBoth = (text : List ℕ) (s : Sets) (meaning : Meaning) → Means text s → tabs.Means text meaning → IsNickname text
 
 -- and what it means to a crontab is the one schedule that it means to this library
 abbrev pub MeaningsAgree : Type 0
 MeaningsAgree = (text : List ℕ) (s : Sets) (meaning : Meaning) → Means text s → tabs.Means text meaning → meaning ≡ schedules (s ∷ [])
 
 -- each nickname means the same to both
-abbrev pub NicknamesMeanBoth : Type 0
-NicknamesMeanBoth = (text : List ℕ) → IsNickname text → (s : Sets) × Means text s × tabs.Means text (schedules (s ∷ []))
+abbrev pub NicknamesAreBoth : Type 0
+NicknamesAreBoth = (text : List ℕ) → IsNickname text → (s : Sets) × Means text s × tabs.Means text (schedules (s ∷ []))

@@ -1,5 +1,5 @@
 use Rattle.cron_dialects.proofs.LawLemmas.{meanings_agree, nicknames_alone}
-use Rattle.cron_dialects.proofs.laws.nicknames_alone_mean_both.Goals as goal
+use Rattle.cron_dialects.proofs.laws.nicknames_alone_are_both.Goals as goal
 
 pub returns-clause-nickname : goal.returns-clause-nickname
 returns-clause-nickname c = nicknames_alone
