@@ -1,7 +1,7 @@
 //! Rings and runs on clocks that wake late: what `cron_ringing` answers to some arguments at the
 //! fold and the gap of Chicago's 2022, and what `cron_running` runs of a crontab by each lateness.
-//! `stdout` has the lines that are wanted. The tests of `cron_scheduler` and of `cron_ringing`
-//! stand here.
+//! `stdout` has the lines that are wanted. The tests of `cron_scheduler`, of `cron_ringing` and of
+//! the notes of `cron_running` stand here.
 #![tactic(auto)]
 
 mod late_clock;

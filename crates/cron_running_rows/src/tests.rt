@@ -1,4 +1,5 @@
-//! Schedulers on clocks that are handed in, and what failures print.
+//! Schedulers on clocks that are handed in, notes in a store that fails, and what failures print.
 
+mod notes;
 mod ringing;
 mod scheduler;

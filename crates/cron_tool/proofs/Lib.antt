@@ -5,3 +5,4 @@ pub mod LatenessLemmas
 pub mod TabLemmas
 pub mod BackLemmas
 pub mod TallyLemmas
+pub mod ExpressionLemmas

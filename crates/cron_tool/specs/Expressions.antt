@@ -44,12 +44,20 @@ clock_changes text = if follows_clock text then AsShown else Once
 abbrev pub IsNoCrontabs : List ℕ → Type 0
 IsNoCrontabs text = (fault : Fault) × tabs.Refuses text fault
 
--- the text is this expression: a crontab's, or else this library's
+-- The text is this expression: a crontab's, or else this library's. Nicknames alone are both, and mean the same to both (`cron_dialects`).
 abbrev pub IsRead : List ℕ → Expression → Type 0
 IsRead text (Crontab some changes) = tabs.Means text (schedules some) × (changes ≡ clock_changes text)
 IsRead text Reboot = tabs.Means text reboot
 IsRead text (Own one) = IsNoCrontabs text × ((s : Sets) × Means text s × (one ≡ s ∷ []))
 IsRead text (Quartz union) = ⊥
+
+-- what means something to a crontab is read with its schedules ..
+abbrev pub KeepsCrontabs : Type 0
+KeepsCrontabs = (text : List ℕ) (some : List Sets) (e : Expression) → tabs.Means text (schedules some) → IsRead text e → schedules_of e ≡ some
+
+-- .. and so is what means something to this library
+abbrev pub KeepsOwn : Type 0
+KeepsOwn = (text : List ℕ) (s : Sets) (e : Expression) → Means text s → IsRead text e → schedules_of e ≡ s ∷ []
 
 abbrev pub has_six_words : List ℕ → Bool
 has_six_words text = nat_le 6 (length (words text))

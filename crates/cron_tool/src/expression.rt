@@ -4,7 +4,7 @@
 ghost use Rattle.std.specs.Prelude.{◌≡◌, ◌≤◌, length, MatchResult};
 ghost use Rattle.cron_crontab.specs.Crontab.{Refuses};
 ghost use Rattle.cron_crontab.specs.Views.{fault_view};
-ghost use Rattle.cron_tool.specs.Expressions.{changes_by, clock_changes, IsRead, IsReadAs, IsRefused, IsRefusedAs, schedules_of};
+ghost use Rattle.cron_tool.specs.Expressions.{changes_by, clock_changes, IsRead, IsReadAs, IsRefused, IsRefusedAs, KeepsCrontabs, KeepsOwn, schedules_of};
 
 use crate::refusal::Refusal;
 use crate::words::has_words;
@@ -84,9 +84,9 @@ fn read_own<'a>(text: &'a str, fault: Fault<'a>) -> Result<Expression, Refusal<'
     Err(Refusal::Crontab(fault))
 }
 
-/// Reads an expression. A text that both kinds have is a crontab's, by its clock, as a nickname is.
-/// A text of neither is refused with a crontab's fault where it has fewer than six words, else with
-/// this library's.
+/// Reads an expression. Of both kinds are nicknames alone, and they are a crontab's, by its clock;
+/// their schedules are the same. A text of neither is refused with a crontab's fault where it has
+/// fewer than six words, else with this library's.
 pub fn read(text: &str) -> Result<Expression, Refusal<'_>>
     ensures { MatchResult result (IsRead text.now) (IsRefused text.now) }
 {
@@ -112,3 +112,10 @@ pub fn read_as(quartz: bool, text: &str) -> Result<Expression, Refusal<'_>>
         Err(fault) => Err(Refusal::Quartz(fault)),
     }
 }
+
+/// A law over the definitions, for callers that call it for what its contract says: what a text
+/// means to a crontab, or to this library, it is read as.
+pub fn meanings_are_kept()
+    ensures crontabs { KeepsCrontabs }
+    ensures own { KeepsOwn }
+{}

@@ -1,0 +1,16 @@
+//! Laws over the definitions: the functions do nothing, and a caller calls one for what its
+//! contract says.
+
+ghost use Rattle.cron_dialects.specs.Dialects.{MeaningsAgree, NicknamesAloneAreBoth, NicknamesAreBoth};
+
+/// A text that means something to a crontab, and to this library too, is a nickname, and both take
+/// it for the same schedule. So five fields are never six or seven, however they are spaced.
+pub fn nicknames_alone_are_both()
+    ensures nickname { NicknamesAloneAreBoth }
+    ensures same { MeaningsAgree }
+{}
+
+/// Each nickname means the same to both. `@reboot` stands for no schedule, and is none of them.
+pub fn nicknames_are_both()
+    ensures { NicknamesAreBoth }
+{}

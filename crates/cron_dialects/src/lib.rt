@@ -1,0 +1,6 @@
+//! Which texts mean something to a crontab and to this library too: laws over both definitions.
+#![tactic(auto)]
+
+pub mod laws;
+#[cfg(test)]
+mod tests;

@@ -1,0 +1,256 @@
+//! Runs of a crontab of which each call of the store fails in turn, or is the last before a cut;
+//! and the runs that are begun again from what the store holds then.
+
+mod disk;
+mod runs;
+mod shelf;
+mod table;
+mod waking;
+
+use cron_agenda_scheduler::AgendaStop;
+use cron_running::{Failure, Interruption, Noted, read_note};
+use disk::{Act, Disk, LOST, Lost, Name, WHOLE};
+use runs::{Ran, run};
+use shelf::{Shelf, Trouble, code_of};
+use std::cell::Cell;
+use std::process::Abort;
+use table::{END, MIDNIGHT, note_of, texts};
+use waking::{Fault, Waking};
+
+/// How many calls replace a note: a write, a sync, a change of names, and a sync of the folder.
+const CALLS: usize = 4;
+
+/// A run, by seconds of the day: what is noted before it, what its clock shows first, how late that
+/// wakes, and what is noted one after another.
+#[derive(Clone, Copy, Debug)]
+struct Case {
+    noted: Option<i64>,
+    begin: i64,
+    late: i64,
+    notes: &'static [i64],
+}
+
+/// Nothing is noted, and the clock wakes in time, or late; fires are late at the start; and the
+/// clock has gone back.
+const CASES: [Case; 4] = [
+    Case {
+        noted: None,
+        begin: 0,
+        late: 0,
+        notes: &[0, 1800, 3600, 5400, 7200],
+    },
+    Case {
+        noted: None,
+        begin: 0,
+        late: 4200,
+        notes: &[0, 6000, 11_400],
+    },
+    Case {
+        noted: Some(0),
+        begin: 4000,
+        late: 0,
+        notes: &[4000, 5400, 7200],
+    },
+    Case {
+        noted: Some(4000),
+        begin: 100,
+        late: 60,
+        notes: &[4000, 5460, 7260],
+    },
+];
+
+impl Case {
+    // Since when its fires are run.
+    fn start(&self) -> i64 {
+        self.noted.unwrap_or(self.begin)
+    }
+
+    fn calls(&self) -> usize {
+        self.notes.len().saturating_mul(CALLS)
+    }
+}
+
+/// Where a run ended: in the note with this number, of whose calls so many were made.
+#[derive(Clone, Copy, Debug)]
+struct Place {
+    case: Case,
+    number: usize,
+    made: usize,
+}
+
+impl Place {
+    // What was noted before the note.
+    fn before(&self) -> Option<i64> {
+        match self.number.checked_sub(1) {
+            Some(last) => self.case.notes.get(last).copied(),
+            None => self.case.noted,
+        }
+    }
+
+    // What the note is to say.
+    fn then(&self) -> i64 {
+        self.case.notes.get(self.number).copied().unwrap_or(END)
+    }
+}
+
+// What is noted in a file, if it is there.
+fn noted_in(rt: &(impl Abort + AllocGlobal), held: Option<&[u8]>) -> Noted {
+    match held {
+        Some(bytes) => read_note(rt.alloc(), bytes)
+            .expect(rt, "memory")
+            .expect(rt, "a whole note"),
+        None => Noted::nothing(rt.alloc()),
+    }
+}
+
+// The files before a run.
+fn disk_of(rt: &(impl Abort + AllocGlobal), case: &Case) -> Disk {
+    let mut disk = Disk::new(rt.alloc());
+    if let Some(second) = case.noted {
+        let note = note_of(rt, second);
+        let write = Act::Write(Name::Note, note.as_bytes());
+        for act in [write, Act::Sync(Name::Note), Act::SyncFolder] {
+            disk.make(act).expect(rt, "memory");
+        }
+    }
+    disk
+}
+
+// Runs a case, in which something goes wrong.
+fn run_case<'a>(
+    rt: &(impl Abort + AllocGlobal),
+    case: &Case,
+    trouble: Trouble,
+    cut: &'a Cell<bool>,
+) -> Ran<'a> {
+    let disk = disk_of(rt, case);
+    let noted = noted_in(rt, disk.note(WHOLE));
+    let clock = Waking {
+        second: MIDNIGHT.saturating_add(case.begin),
+        late: case.late,
+        end: MIDNIGHT.saturating_add(END),
+        cut,
+    };
+    run(rt, &noted, clock, Shelf::new(disk, trouble, cut))
+}
+
+// The second of the day that a store's note says. It is the note, or while that isn't finished the
+// one before it; any other is none of these, whole.
+fn second_of(rt: &(impl Abort + AllocGlobal), place: &Place, held: Option<&[u8]>) -> Option<i64> {
+    if let Some(bytes) = held {
+        if bytes == note_of(rt, place.then()).as_bytes() {
+            return Some(place.then());
+        }
+    }
+    assert!(rt; place.made < CALLS, "the note is lost: {place:?}");
+    match (held, place.before()) {
+        (Some(bytes), Some(second)) => {
+            assert_eq!(rt; bytes, note_of(rt, second).as_bytes(), "{place:?}");
+            Some(second)
+        }
+        (None, None) => None,
+        _ => panic!(rt; "there is no note, or none was before it: {place:?}"),
+    }
+}
+
+// Begins again from what a cut leaves: an hour later, or where nothing is noted at once. What was
+// noted isn't written again, and nothing else is lost.
+fn begin_again(rt: &(impl Abort + AllocGlobal), place: &Place, ran: &Ran<'_>, lost: Lost) {
+    let disk = ran.shelf.disk.after(lost).expect(rt, "memory");
+    let second = second_of(rt, place, disk.note(WHOLE));
+    let noted = noted_in(rt, disk.note(WHOLE));
+    let cut = Cell::new(false);
+    let idle = if second.is_some() { 3600 } else { 0 };
+    let clock = Waking {
+        second: ran.second.saturating_add(idle),
+        late: 0,
+        end: MIDNIGHT.saturating_add(END),
+        cut: &cut,
+    };
+    let again = run(rt, &noted, clock, Shelf::new(disk, Trouble::Nothing, &cut));
+    let wanted = texts(rt, second.unwrap_or(place.case.start()), END);
+    assert_eq!(rt;
+        again.written.as_slice(),
+        wanted.as_bytes(),
+        "{place:?}, {lost:?}"
+    );
+}
+
+// All was written that was due when the note was begun, and what the store holds is gone on from.
+fn check(rt: &(impl Abort + AllocGlobal), place: &Place, ran: &Ran<'_>) {
+    let due = texts(rt, place.case.start(), place.then());
+    assert_eq!(rt; ran.written.as_slice(), due.as_bytes(), "{place:?}");
+    for lost in LOST {
+        begin_again(rt, place, ran, lost);
+    }
+}
+
+// The error of a call that failed is told, and no call is made behind it.
+fn check_failure(rt: &impl Abort, call: usize, ran: &Ran<'_>) {
+    let Err(Failure::Stopped(AgendaStop::Clock(Interruption::Unnoted(error)))) = &ran.answer else {
+        panic!(rt; "the run ended otherwise than by the call {call}");
+    };
+    assert_eq!(rt; error.raw_os_error(), Some(code_of(call)), "{call}");
+    assert_eq!(rt; ran.shelf.calls, call.saturating_add(1));
+}
+
+#[test]
+fn a_run_notes_what_it_ran(rt: HostRuntime) {
+    for case in CASES {
+        let cut = Cell::new(false);
+        let ran = run_case(&rt, &case, Trouble::Nothing, &cut);
+        let Err(Failure::Stopped(AgendaStop::Clock(Interruption::Clock(fault)))) = &ran.answer
+        else {
+            panic!(rt; "the run ended otherwise: {case:?}");
+        };
+        assert_eq!(rt; *fault, Fault::Over, "{case:?}");
+        assert_eq!(rt; ran.shelf.calls, case.calls(), "{case:?}");
+        let place = Place {
+            case,
+            number: case.notes.len().saturating_sub(1),
+            made: CALLS,
+        };
+        check(&rt, &place, &ran);
+    }
+}
+
+fn fail_each_call(rt: &(impl Abort + AllocGlobal), case: Case) {
+    for call in 0..case.calls() {
+        let cut = Cell::new(false);
+        let ran = run_case(rt, &case, Trouble::Fails(call), &cut);
+        check_failure(rt, call, &ran);
+        let place = Place {
+            case,
+            number: call / CALLS,
+            made: call % CALLS,
+        };
+        check(rt, &place, &ran);
+    }
+}
+
+#[test]
+fn each_call_fails_in_turn(rt: HostRuntime) {
+    for case in CASES {
+        fail_each_call(&rt, case);
+    }
+}
+
+fn cut_after_each_call(rt: &(impl Abort + AllocGlobal), case: Case) {
+    for call in 0..case.calls() {
+        let cut = Cell::new(false);
+        let ran = run_case(rt, &case, Trouble::Cut(call), &cut);
+        let place = Place {
+            case,
+            number: call / CALLS,
+            made: call % CALLS + 1,
+        };
+        check(rt, &place, &ran);
+    }
+}
+
+#[test]
+fn each_call_is_the_last_in_turn(rt: HostRuntime) {
+    for case in CASES {
+        cut_after_each_call(&rt, case);
+    }
+}

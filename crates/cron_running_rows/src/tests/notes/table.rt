@@ -1,0 +1,44 @@
+//! A crontab, when it fires, and what its notes are.
+
+use std::process::Abort;
+
+/// Midnight in UTC, at 2024-01-01T00:00:00Z.
+pub(super) const MIDNIGHT: i64 = 1_704_067_200;
+
+/// Ten in the morning, where each run ends.
+pub(super) const END: i64 = 36_000;
+
+pub(super) const TAB: &str = "30 0 * * * a\n0 1 * * * b\n0 1 * * * c\n30 1 * * * d\n0 2 * * * e\n";
+
+/// How many seconds after midnight each of its entries fires, and what is written then.
+const FIRES: [(i64, &str); 5] = [
+    (1800, "a\n"),
+    (3600, "b\n"),
+    (3600, "c\n"),
+    (5400, "d\n"),
+    (7200, "e\n"),
+];
+
+/// What is written at the fires after a second of the day, up to and with another.
+pub(super) fn texts(rt: &(impl Abort + AllocGlobal), after: i64, until: i64) -> String {
+    let mut all = String::new(rt.alloc());
+    for (second, text) in FIRES {
+        if after < second && second <= until {
+            all.push_str(text).expect(rt, "memory");
+        }
+    }
+    all
+}
+
+/// The note of a second of the day.
+pub(super) fn note_of(rt: &(impl Abort + AllocGlobal), second: i64) -> String {
+    let until = MIDNIGHT.saturating_add(second);
+    let mut note = format!(in rt.alloc(); "crontool state 1\n{until}\n").expect(rt, "memory");
+    for line in TAB.lines() {
+        for text in ["\t", line, "\n"] {
+            note.push_str(text).expect(rt, "memory");
+        }
+    }
+    note.push_str(".\n").expect(rt, "memory");
+    note
+}
