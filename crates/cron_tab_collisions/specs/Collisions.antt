@@ -1,0 +1,57 @@
+-- What is told of entries that collide, where each fire lasts so many seconds.
+use Rattle.std.specs.Prelude.{◌≡◌, ◌⊎◌, ◌++◌, ◌*◌, ℕ, List, [], ◌∷◌, Option, Some, None, slice_get}
+use Rattle.std.specs.List.{flat_map}
+use Rattle.cron_agenda.specs.declared.fire.EntryFire.{EntryFire}
+use Rattle.cron_collisions.specs.Collisions.{AreCollisions}
+use Rattle.cron_collisions.specs.declared.collisions.Collisions.{Collisions}
+use Rattle.cron_tab_fires.specs.Entries.{Given, TabFires, entries_in, seconds}
+use Rattle.cron_tab_lines.specs.Files.{file_lines}
+use Rattle.cron_tab_lines.specs.Views.{bytes_view}
+use Rattle.cron_tool.specs.Statuses.{Ends, Reporting}
+use Rattle.cron_tool.specs.declared.status.Status.{Status}
+use Rattle.cron_tool.specs.declared.status.Status.TheVariants.{Done, No, Unreadable}
+use Rattle.cron_tool.specs.declared.tab_files.TabFile.{TabFile}
+use Rattle.cron_tab_collisions.specs.Rows.{later, row}
+
+-- the entries of crontabs, one file after another
+abbrev pub entries_of : Given → List TabFile → List TabFires
+entries_of g files = flat_map (λ f. entries_in g (bytes_view f.name) (Some 0) (file_lines f.kind f.bytes.now)) files
+
+-- a row with the first collision, which begins with the later of its two fires, and the number of all; or nothing
+abbrev pub TellsAs : TabFires → TabFires → Option Collisions → List ℕ → Type 0
+TellsAs a b None text = text ≡ []
+TellsAs a b (Some c) text =
+    (f : EntryFire) × (g : EntryFire) × (slice_get a.fires c.first ≡ Some f) × (slice_get b.fires c.second ≡ Some g) × (text ≡ row a b (later f g) c.pairs)
+
+-- what is told of two entries, by their collisions
+abbrev pub TellsPair : ℕ → TabFires → TabFires → List ℕ → Type 0
+TellsPair length a b text = (found : Option Collisions) × AreCollisions length (seconds a) (seconds b) found × TellsAs a b found text
+
+-- of an entry and each of others
+abbrev pub TellsWith : ℕ → TabFires → List TabFires → List ℕ → Type 0
+TellsWith length a [] text = text ≡ []
+TellsWith length a (b ∷ es) text =
+    (here : List ℕ) × (rest : List ℕ) × (text ≡ here ++ rest) × TellsPair length a b here × TellsWith length a es rest
+
+-- of each entry and those behind it, so of each two once
+abbrev pub TellsAll : ℕ → List TabFires → List ℕ → Type 0
+TellsAll length [] text = text ≡ []
+TellsAll length (a ∷ es) text =
+    (here : List ℕ) × (rest : List ℕ) × (text ≡ here ++ rest) × TellsWith length a es here × TellsAll length es rest
+
+-- there is a row, or there is none
+abbrev pub found_status : List ℕ → Status
+found_status [] = No
+found_status (c ∷ cs) = Done
+
+-- the rows were written
+pub record AreTold (length : ℕ) (es : List TabFires) (was is : Option (List ℕ)) (status : Status) : Type 0 where
+  pub report : List ℕ
+  pub tells : TellsAll length es report
+  pub ends : Ends (found_status report) report was is status
+
+-- The rows of all that collide were written, where each fire lasts so many minutes; or nothing was written, since memory ran out or a zone
+-- wasn't lent.
+abbrev pub TellsCollisions : {W : Type 0} → ℕ → List TabFires → Reporting W → W → Status → W → Type 0
+TellsCollisions minutes es out old status new =
+    out (AreTold (60 * minutes) es) old status new ⊎ ((status ≡ Unreadable) × (new ≡ old))

@@ -1,0 +1,91 @@
+//! What is told of entries, two by two.
+ghost use Rattle.std.specs.Prelude.{◌≡◌, IfOk, OnOk, map};
+ghost use Rattle.cron_agenda.specs.Fires.{instant};
+ghost use Rattle.cron_collisions.specs.Collisions.{Ascends};
+ghost use Rattle.cron_tab_fires.specs.Entries.{seconds, view};
+ghost use Rattle.cron_tab_fires.specs.Laws.{AllAscend};
+ghost use Rattle.cron_tab_collisions.specs.Collisions.{TellsAll, TellsPair, TellsWith};
+ghost use Rattle.cron_tab_collisions.specs.Inner.Telling.{Adds};
+
+use crate::rows::{later, push_row};
+use cron_agenda::EntryFire;
+use cron_collisions::collisions_of;
+use cron_tab_fires::TabFires;
+use cron_tool::row::Told;
+use std::alloc::{AllocError, Global};
+
+// The instants of fires, in seconds.
+fn seconds_of(alloc: Global, fires: &[EntryFire]) -> Result<Vec<i64>, AllocError>
+    ensures { IfOk result (λ seconds. seconds.items ≡ map instant fires.now) }
+{
+    let mut seconds = Vec::new(alloc);
+    for fire in fires {
+        seconds.push(fire.second())?;
+    }
+    Ok(seconds)
+}
+
+// Tells of two entries, where they collide.
+fn tell_pair(
+    alloc: Global,
+    length: u64,
+    first: &TabFires<'_>,
+    second: &TabFires<'_>,
+    report: &mut Vec<u8>,
+) -> Result<(), AllocError>
+    requires first { Ascends (seconds (view first.now)) }
+    requires second { Ascends (seconds (view second.now)) }
+    ensures { OnOk result (Adds (TellsPair length (view first.now) (view second.now))
+        report.old.items report.new.items) }
+{
+    let starts = seconds_of(alloc, first.fires.as_slice())?;
+    let others = seconds_of(alloc, second.fires.as_slice())?;
+    let Some(found) = collisions_of(starts.as_slice(), others.as_slice(), length) else {
+        return Ok(());
+    };
+    let fire = later(first.fires[found.first], second.fires[found.second]);
+    push_row(report, first, second, &fire, found.pairs)?;
+    Ok(())
+}
+
+// Tells of an entry and each of others.
+fn tell_with(
+    alloc: Global,
+    length: u64,
+    first: &TabFires<'_>,
+    others: &[TabFires<'_>],
+    report: &mut Vec<u8>,
+) -> Result<(), AllocError>
+    requires first { Ascends (seconds (view first.now)) }
+    requires others { AllAscend (map view others.now) }
+    ensures { OnOk result (Adds (TellsWith length (view first.now) (map view others.now))
+        report.old.items report.new.items) }
+{
+    for other in others {
+        tell_pair(alloc, length, first, other, report)?;
+    }
+    Ok(())
+}
+
+/// Tells of each entry with those behind it.
+pub(crate) fn tell_all(
+    alloc: Global,
+    length: u64,
+    entries: &[TabFires<'_>],
+    report: &mut Vec<u8>,
+) -> Result<(), AllocError>
+    requires { AllAscend (map view entries.now) }
+    ensures { OnOk result (Adds (TellsAll length (map view entries.now))
+        report.old.items report.new.items) }
+{
+    for place in 0..entries.len() {
+        tell_with(
+            alloc,
+            length,
+            &entries[place],
+            &entries[place + 1..],
+            report,
+        )?;
+    }
+    Ok(())
+}

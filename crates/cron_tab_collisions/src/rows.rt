@@ -1,0 +1,61 @@
+//! The row of two entries that collide.
+ghost use Rattle.std.specs.Prelude.{◌≡◌, ◌++◌, ◌∷◌, [], OnOk};
+ghost use Rattle.cron_tab_lines.specs.Views.{bytes_view};
+ghost use Rattle.cron_tab_fires.specs.Entries.{view};
+ghost use Rattle.cron_tab_collisions.specs.Rows.{file_cell, later, row};
+
+use cron_agenda::EntryFire;
+use cron_tab_fires::TabFires;
+use cron_tool::row::Told;
+use itoa::Buffer;
+use std::alloc::AllocError;
+
+/// The later of two fires, and the first of them where they share an instant.
+pub(crate) fn later(first: EntryFire, second: EntryFire) -> EntryFire
+    ensures { result ≡ later first second }
+{
+    if first.second() < second.second() {
+        second
+    } else {
+        first
+    }
+}
+
+// Appends bytes and a byte behind them.
+fn push_cell(report: &mut Vec<u8>, bytes: &[u8], end: u8) -> Result<(), AllocError>
+    ensures { OnOk result (report.new.items ≡ report.old.items ++ (bytes.now ++ end ∷ [])) }
+{
+    report.extend_from_slice(bytes)?;
+    report.push(end)?;
+    Ok(())
+}
+
+// Appends the file and a colon, where it is told.
+fn push_file(report: &mut Vec<u8>, file: Option<&str>) -> Result<(), AllocError>
+    ensures { OnOk result (report.new.items
+        ≡ report.old.items ++ file_cell (bytes_view file.entry)) }
+{
+    match file {
+        Some(file) => push_cell(report, file.as_bytes(), b':'),
+        None => Ok(()),
+    }
+}
+
+/// Appends the row of two entries, with their first collision and the number of all.
+pub(crate) fn push_row(
+    report: &mut Vec<u8>,
+    first: &TabFires<'_>,
+    second: &TabFires<'_>,
+    fire: &EntryFire,
+    pairs: u128,
+) -> Result<(), AllocError>
+    ensures { OnOk result (report.new.items
+        ≡ report.old.items ++ row (view first.now) (view second.now) fire.now pairs) }
+{
+    push_file(report, first.file)?;
+    push_cell(report, Buffer::new().format(first.line).as_bytes(), b'\t')?;
+    push_file(report, second.file)?;
+    push_cell(report, Buffer::new().format(second.line).as_bytes(), b'\t')?;
+    push_cell(report, fire.text().as_slice(), b'\t')?;
+    push_cell(report, Buffer::new().format(pairs).as_bytes(), b'\n')
+}

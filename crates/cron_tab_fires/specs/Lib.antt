@@ -1,0 +1,3 @@
+pub mod Fires
+pub mod Entries
+pub mod Laws

@@ -1,0 +1,8 @@
+//! The entries of crontabs, each with its fires between two instants.
+#![tactic(auto)]
+
+mod entries;
+mod fires;
+pub mod laws;
+
+pub use entries::{Asked, TabFires, add_fires};
