@@ -3,6 +3,8 @@ pub mod FireLemmas
 pub mod LineLemmas
 pub mod TextLaws
 pub mod UnfoldLaws
+pub mod ReadLaws
+pub mod UidLaws
 pub mod PieceLaws
 pub mod LossyLemmas
 pub mod SummaryLaws

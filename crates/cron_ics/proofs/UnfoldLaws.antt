@@ -4,7 +4,7 @@ use Rattle.std.proofs.lemmas.Bool.{cases_Bool}
 use Rattle.cron_ics.specs.Folding.{HasNoReturn, breaks, folded_from, line_end, unfolded}
 use Rattle.cron_ics.specs.Laws.{FoldedReadsBack}
 
-plain_byte : (a : ℕ) (l : List ℕ) → (a == 13) ≡ false → unfolded (a ∷ l) ≡ a ∷ unfolded l
+pub plain_byte : (a : ℕ) (l : List ℕ) → (a == 13) ≡ false → unfolded (a ∷ l) ≡ a ∷ unfolded l
 plain_byte a [] e = refl
 plain_byte a (b ∷ []) e = refl
 plain_byte a (b ∷ c ∷ l) e = rw e refl

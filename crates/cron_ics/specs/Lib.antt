@@ -4,4 +4,5 @@ pub mod Stamps
 pub mod Fires
 pub mod Events
 pub mod Calendars
+pub mod Reading
 pub mod Laws

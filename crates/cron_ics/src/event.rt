@@ -36,7 +36,7 @@ pub(crate) fn digest_of(alloc: Global, text: &[u8]) -> Result<String, AllocError
     hex::encode(alloc, &digest[..TOLD])
 }
 
-// Pushes a minus and a number.
+// Pushes a number that may lie below zero.
 fn push_number(line: &mut Vec<u8>, number: i64) -> Result<(), AllocError>
     ensures { OnOk result (line.new.items ≡ line.old.items ++ signed_decimal number) }
 {
