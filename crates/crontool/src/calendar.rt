@@ -102,16 +102,16 @@ fn add_words<'a>(
     Ok(())
 }
 
-// A line without what ends it.
-fn line_name(bytes: &[u8]) -> &[u8] {
+/// A line without what ends it.
+pub(crate) fn line_name(bytes: &[u8]) -> &[u8] {
     match bytes {
         [name @ .., b'\n'] => name,
         name => name,
     }
 }
 
-// When an entry of a line fires, and its own rule at clock changes.
-fn expression_of(entry: &Entry<'_>, line: &str) -> Expression {
+/// When an entry of a line fires, and its own rule at clock changes.
+pub(crate) fn expression_of(entry: &Entry<'_>, line: &str) -> Expression {
     match &entry.expression {
         TabExpression::Reboot => Expression::Reboot,
         TabExpression::Fires(schedules) => {
@@ -264,8 +264,8 @@ fn show_named<'a>(
     }
 }
 
-// Reads the crontab, if one is named.
-fn file_of(rt: &HostRuntime, words: &ArgMatches<'_>) -> Result<Vec<u8>, Status> {
+/// Reads the crontab, if one is named.
+pub(crate) fn file_of(rt: &HostRuntime, words: &ArgMatches<'_>) -> Result<Vec<u8>, Status> {
     let Some(path) = words.get_str("file") else {
         return Ok(Vec::new(rt.alloc()));
     };

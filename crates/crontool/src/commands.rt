@@ -1,7 +1,7 @@
 //! The subcommands with their words, and what they ask for.
 
 use crate::{
-    alarm, calendar, check, compare, done, due, explain, late, list, oncalendar, overlap, run,
+    alarm, calendar, check, compare, done, due, explain, ics, late, list, oncalendar, overlap, run,
 };
 use clap::{Arg, ArgAction, ArgMatches, Command, value_parser};
 use cron_fires::ClockChanges;
@@ -142,6 +142,7 @@ pub(crate) fn command<'a>(alloc: Global) -> Result<Command<'a>, AllocError> {
         .subcommand(oncalendar::command(alloc)?)?
         .subcommand(explain::command(alloc)?)?
         .subcommand(calendar::command(alloc)?)?
+        .subcommand(ics::command(alloc)?)?
         .subcommand(run::command(alloc)?)?
         .subcommand(alarm::command(alloc)?)
 }

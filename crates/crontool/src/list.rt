@@ -97,8 +97,8 @@ fn request_of<'a, 'w>(words: &'w ArgMatches<'a>) -> Option<(Request<'a>, &'w [&'
     }
 }
 
-// Reads an instant, or says that a text is none.
-fn read_instant(
+/// Reads an instant, or says that a text is none.
+pub(crate) fn read_instant(
     rt: &HostRuntime,
     text: &str,
     zone: &TimeZone<'_>,

@@ -12,6 +12,7 @@ mod done;
 mod due;
 mod explain;
 mod follow;
+mod ics;
 mod late;
 mod list;
 mod machine;
@@ -84,6 +85,7 @@ fn answer_words(rt: &HostRuntime, name: &str, words: &ArgMatches<'_>) -> Status 
         "oncalendar" => oncalendar::answer(rt, words),
         "explain" => explain::answer(rt, words),
         "calendar" => calendar::answer(rt, words),
+        "ics" => ics::answer(rt, words),
         "run" => run::answer(rt, words),
         "alarm" => alarm::answer(rt, words),
         _ => match request_of(name, words) {

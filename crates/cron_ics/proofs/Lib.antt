@@ -1,0 +1,11 @@
+pub mod FoldLemmas
+pub mod FireLemmas
+pub mod LineLemmas
+pub mod TextLaws
+pub mod UnfoldLaws
+pub mod ReadLaws
+pub mod UidLaws
+pub mod PieceLaws
+pub mod LossyLemmas
+pub mod SummaryLaws
+pub mod BodyLemmas

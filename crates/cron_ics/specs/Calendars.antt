@@ -1,0 +1,47 @@
+-- A calendar of events.
+use Rattle.std.specs.Prelude.{◌≡◌, ◌<◌, ℕ, ◌+◌, List, [], ◌∷◌, ◌++◌, codes, length}
+use Rattle.std.specs.List.{flat_map}
+use Rattle.cron_ics.specs.Events.{copies, digest_text, event_text, folded_lines, summary_line}
+use Rattle.cron_ics.specs.Fires.{AreTold, Told, fires_of}
+use Rattle.cron_ics.specs.declared.calendar.Wanted.{Wanted}
+use Rattle.cron_ics.specs.declared.entry.Entry.{Entry}
+use Rattle.cron_ics.specs.declared.error.IcsError.{IcsError}
+use Rattle.cron_ics.specs.declared.error.IcsError.TheVariants.{TooMany}
+use Rattle.cron_ics.specs.declared.fires.Fire.{Fire}
+
+abbrev pub wanted_fires : Wanted → Entry → List Told
+wanted_fires w e = fires_of w.start.nanosecond w.end.nanosecond e
+
+-- how many fires some entries have
+abbrev pub total : Wanted → List Entry → ℕ
+total w [] = 0
+total w (e ∷ es) = length (wanted_fires w e) + total w es
+
+-- the events of an entry that stands behind others: one a fire, in their order
+abbrev pub events_text : Wanted → List Entry → Entry → List Fire → List ℕ
+events_text w before e fires =
+    flat_map (event_text (digest_text e.text.now) (copies e.text.now before) (summary_line e.summary.now) w.minutes) fires
+
+abbrev pub AreEvents : Wanted → List Entry → Entry → List ℕ → Type 0
+AreEvents w before e text = (fires : List Fire) × AreTold (wanted_fires w e) fires × (text ≡ events_text w before e fires)
+
+-- the events of entries, one entry after another
+abbrev pub IsBody : Wanted → List Entry → List Entry → List ℕ → Type 0
+IsBody w before [] text = text ≡ []
+IsBody w before (e ∷ es) text =
+    (own : List ℕ) × (rest : List ℕ) × AreEvents w before e own × (text ≡ own ++ rest) × IsBody w (before ++ e ∷ []) es rest
+
+abbrev pub head_text : List ℕ
+head_text = folded_lines (codes "BEGIN:VCALENDAR" ∷ codes "VERSION:2.0" ∷ codes "PRODID:-//crontool//crontool ics//EN" ∷ [])
+
+abbrev pub end_text : List ℕ
+end_text = folded_lines (codes "END:VCALENDAR" ∷ [])
+
+-- the calendar of entries
+abbrev pub IsCalendar : Wanted → List Entry → List ℕ → Type 0
+IsCalendar w entries text = (body : List ℕ) × IsBody w [] entries body × (text ≡ head_text ++ (body ++ end_text))
+
+-- why there is none: it would have more events than are wanted, or another cause
+abbrev pub IsRefusal : Wanted → List Entry → IcsError → Type 0
+IsRefusal w entries TooMany = w.most < total w entries
+IsRefusal w entries _ = Unit {0}

@@ -1,0 +1,48 @@
+-- The fires of an entry, and what is written of each.
+use Rattle.std.specs.Prelude.{◌≡◌, ℕ, ℤ, Bool, true, false, List, [], ◌∷◌, map, Option, Some, None}
+use Rattle.jiff.specs.Words.{plain_zone}
+use Rattle.jiff_core.specs.DateTime.{civil_nanos}
+use Rattle.jiff_core.specs.Timestamp.{nanos_of_seconds}
+use Rattle.jiff_tz.specs.declared.timezone.TimeZone.{TimeZone}
+use Rattle.cron_units.specs.Sets.{Sets}
+use Rattle.cron_moments.specs.Readings as moments
+use Rattle.cron_dues.specs.Due as dues
+use Rattle.cron_unions.specs.UnionDues.{dues_any_between}
+use Rattle.cron_unions.specs.Unions.{fires_any_between}
+use Rattle.cron_ics.specs.declared.entry.Entry.{Entry}
+use Rattle.cron_ics.specs.declared.fires.Fire.{Fire}
+
+-- a fire: its instant, in seconds since 1970-01-01T00:00:00Z, and the civil second that matches
+pub record Told : Type 0 where
+  pub instant : ℤ
+  pub second : ℕ
+
+abbrev pub told_moment : moments.Reading → Told
+told_moment m = record { instant = moments.instant m; second = m.second }
+
+abbrev pub told_due : dues.Due → Told
+told_due d = record { instant = dues.instant d; second = d.second }
+
+-- after one instant and up to and with another, by the rule that each match fires once or by the other
+abbrev pub fires_by : Bool → List Sets → TimeZone → ℤ → ℤ → List Told
+fires_by true ss z start end = map told_due (dues_any_between ss z start end)
+fires_by false ss z start end = map told_moment (fires_any_between ss z start end)
+
+-- those of an entry
+abbrev pub fires_of : ℤ → ℤ → Entry → List Told
+fires_of start end e = fires_by e.once e.schedules.now (plain_zone e.zone.now) start end
+
+-- what is written of a fire: its second, the civil second, and what UTC shows then
+abbrev pub Tells : Told → Fire → Type 0
+Tells t f = (f.second ≡ t.instant) × (f.civil ≡ t.second) × (civil_nanos f.utc ≡ nanos_of_seconds t.instant)
+
+abbrev pub AreTold : List Told → List Fire → Type 0
+AreTold [] [] = Unit {0}
+AreTold [] (f ∷ fs) = ⊥
+AreTold (t ∷ ts) [] = ⊥
+AreTold (t ∷ ts) (f ∷ fs) = Tells t f × AreTold ts fs
+
+-- the first of some fires is taken
+abbrev pub TakesFirst : List Told → Option Fire → List Told → Type 0
+TakesFirst old None new = old ≡ []
+TakesFirst old (Some f) new = (t : Told) × (old ≡ t ∷ new) × Tells t f

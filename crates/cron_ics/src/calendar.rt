@@ -1,0 +1,123 @@
+//! The calendar of entries.
+ghost use Rattle.std.specs.Prelude.{◌≡◌, ◌<◌, ◌≤◌, ◌+◌, ◌++◌, [], List, ℕ, IfErr, IfOk, OnOk, length, slice_get, take, Some, string_bytes};
+ghost use Rattle.cron_ics.specs.Calendars.{AreEvents, IsBody, IsCalendar, IsRefusal, head_text, total, wanted_fires};
+ghost use Rattle.cron_ics.specs.Events.{copies, digest_text, summary_line};
+
+use crate::entry::{Entry, copies};
+use crate::error::IcsError;
+use crate::escape::summary_line;
+use crate::event::{Heading, digest_of, push_events};
+use crate::fires::fires_of;
+use crate::fold::push_line;
+use jiff::Timestamp;
+use std::alloc::{AllocError, Global};
+
+/// Which fires are events, and how long these are.
+#[derive(Clone, Copy)]
+pub struct Wanted {
+    /// Fires come after it,
+    pub start: Timestamp,
+    /// up to and with it.
+    pub end: Timestamp,
+    /// How many minutes an event lasts.
+    pub minutes: u32,
+    /// How many events there are at most.
+    pub most: usize,
+}
+
+// What the events of an entry share, which stands behind others.
+fn heading_of(
+    alloc: Global,
+    before: &[Entry<'_>],
+    entry: &Entry<'_>,
+    minutes: u32,
+) -> Result<Heading, AllocError>
+    ensures digest { IfOk result (λ h. string_bytes h.digest ≡ digest_text entry.now.text.now) }
+    ensures copy { IfOk result (λ h. h.copy ≡ copies entry.now.text.now before.now) }
+    ensures summary { IfOk result (λ h. h.summary.items ≡ summary_line entry.now.summary.now) }
+    ensures minutes { IfOk result (λ h. h.minutes ≡ minutes) }
+{
+    Ok(Heading {
+        digest: digest_of(alloc, entry.text)?,
+        copy: copies(before, entry.text),
+        summary: summary_line(alloc, entry.summary)?,
+        minutes,
+    })
+}
+
+// Pushes the events of an entry, which stands behind others, if they are no more than so many, and
+// answers how many they are.
+fn push_entry(
+    alloc: Global,
+    page: &mut Vec<u8>,
+    before: &[Entry<'_>],
+    entry: &Entry<'_>,
+    wanted: &Wanted,
+    room: usize,
+) -> Result<usize, IcsError>
+    ensures pushed { OnOk result ((text : List ℕ) × AreEvents wanted.now before.now entry.now text
+        × (page.new.items ≡ page.old.items ++ text)) }
+    ensures count { IfOk result (λ n. (n ≡ length (wanted_fires wanted.now entry.now))
+        × (n ≤ room)) }
+    ensures many { IfErr result (λ why. why ≡ IcsError.TooMany
+        → room < length (wanted_fires wanted.now entry.now)) }
+{
+    let fires = fires_of(alloc, entry, wanted.start, wanted.end, room)?;
+    let Ok(heading) = heading_of(alloc, before, entry, wanted.minutes) else {
+        return Err(IcsError::OutOfMemory);
+    };
+    let list = fires.as_slice();
+    if push_events(alloc, page, &heading, list).is_err() {
+        return Err(IcsError::OutOfMemory);
+    }
+    Ok(list.len())
+}
+
+// A page with the lines that stand before all events.
+fn page_head(alloc: Global) -> Result<Vec<u8>, AllocError>
+    ensures { IfOk result (λ page. page.items ≡ head_text) }
+{
+    let mut page = Vec::new(alloc);
+    push_line(&mut page, b"BEGIN:VCALENDAR")?;
+    push_line(&mut page, b"VERSION:2.0")?;
+    push_line(&mut page, b"PRODID:-//crontool//crontool ics//EN")?;
+    Ok(page)
+}
+
+// Pushes the events of all entries.
+fn push_body(
+    alloc: Global,
+    page: &mut Vec<u8>,
+    entries: &[Entry<'_>],
+    wanted: &Wanted,
+) -> Result<(), IcsError>
+    ensures pushed { OnOk result ((body : List ℕ) × IsBody wanted.now [] entries.now body
+        × (page.new.items ≡ page.old.items ++ body)) }
+    ensures few { OnOk result (total wanted.now entries.now ≤ wanted.now.most) }
+    ensures refused { IfErr result (IsRefusal wanted.now entries.now) }
+{
+    let mut count = 0;
+    for place in 0..entries.len() {
+        let (before, entry) = (&entries[..place], &entries[place]);
+        count += push_entry(alloc, page, before, entry, wanted, wanted.most - count)?;
+    }
+    Ok(())
+}
+
+/// The calendar of entries: an event a fire, of one entry after another, if they are no more than
+/// are wanted. Equal texts of entries are told apart by how many stand before. What stands in
+/// summaries and is no UTF-8, or a control character, is U+FFFD.
+pub fn calendar(alloc: Global, entries: &[Entry<'_>], wanted: &Wanted) -> Result<Vec<u8>, IcsError>
+    ensures page { IfOk result (λ page. IsCalendar wanted.now entries.now page.items) }
+    ensures few { IfOk result (λ page. total wanted.now entries.now ≤ wanted.now.most) }
+    ensures refused { IfErr result (IsRefusal wanted.now entries.now) }
+{
+    let Ok(mut page) = page_head(alloc) else {
+        return Err(IcsError::OutOfMemory);
+    };
+    push_body(alloc, &mut page, entries, wanted)?;
+    if push_line(&mut page, b"END:VCALENDAR").is_err() {
+        return Err(IcsError::OutOfMemory);
+    }
+    Ok(page)
+}

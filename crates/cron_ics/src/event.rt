@@ -1,0 +1,168 @@
+//! The events of an entry.
+ghost use Rattle.std.specs.Prelude.{◌≡◌, ◌++◌, IfOk, OnOk, codes, string_bytes};
+ghost use Rattle.std.specs.Fmt.{decimal, signed_decimal};
+ghost use Rattle.std.specs.List.{flat_map};
+ghost use Rattle.cron_ics.specs.Events.{digest_text, event_text, folded_lines, time_lines, uid_line};
+ghost use Rattle.cron_ics.specs.Folding.{folded};
+
+use crate::fires::Fire;
+use crate::fold::push_line;
+use crate::stamp::stamp_of;
+use itoa::Buffer;
+use sha2::{Digest, Sha256};
+use std::alloc::{AllocError, Global};
+
+/// How many bytes of a digest are told.
+const TOLD: usize = 16;
+
+/// What all events of an entry share.
+#[derive(Drop)]
+pub(crate) struct Heading {
+    /// What stands for its text.
+    pub(crate) digest: String,
+    /// How many entries before it have the same text.
+    pub(crate) copy: usize,
+    /// The line of its summary.
+    pub(crate) summary: Vec<u8>,
+    /// How long an event is.
+    pub(crate) minutes: u32,
+}
+
+/// What stands for a text.
+pub(crate) fn digest_of(alloc: Global, text: &[u8]) -> Result<String, AllocError>
+    ensures { IfOk result (λ digits. string_bytes digits ≡ digest_text text.now) }
+{
+    let digest = Sha256::digest(text);
+    hex::encode(alloc, &digest[..TOLD])
+}
+
+// Pushes a number that may lie below zero.
+fn push_number(line: &mut Vec<u8>, number: i64) -> Result<(), AllocError>
+    ensures { OnOk result (line.new.items ≡ line.old.items ++ signed_decimal number) }
+{
+    line.extend_from_slice(Buffer::new().format(number).as_bytes())
+}
+
+// Pushes a number.
+fn push_count(line: &mut Vec<u8>, number: u64) -> Result<(), AllocError>
+    ensures { OnOk result (line.new.items ≡ line.old.items ++ decimal number) }
+{
+    line.extend_from_slice(Buffer::new().format(number).as_bytes())
+}
+
+// The line by which an event is told from all others.
+fn uid_line(alloc: Global, heading: &Heading, fire: &Fire) -> Result<Vec<u8>, AllocError>
+    ensures { IfOk result (λ line. line.items
+        ≡ uid_line (string_bytes heading.now.digest) heading.now.copy fire.now) }
+{
+    let mut line = Vec::from_slice(alloc, b"UID:")?;
+    line.extend_from_slice(heading.digest.as_str().as_bytes())?;
+    line.extend_from_slice(b"-")?;
+    push_count(&mut line, heading.copy as u64)?;
+    line.extend_from_slice(b"-")?;
+    push_number(&mut line, fire.second)?;
+    line.extend_from_slice(b"-")?;
+    push_count(&mut line, u64::from(fire.civil))?;
+    line.extend_from_slice(b"@crontool")?;
+    Ok(line)
+}
+
+// Pushes that line.
+fn push_uid(
+    alloc: Global,
+    page: &mut Vec<u8>,
+    heading: &Heading,
+    fire: &Fire,
+) -> Result<(), AllocError>
+    ensures { OnOk result (page.new.items ≡ page.old.items
+        ++ folded (uid_line (string_bytes heading.now.digest) heading.now.copy fire.now)) }
+{
+    let line = uid_line(alloc, heading, fire)?;
+    push_line(page, line.as_slice())
+}
+
+// Pushes the line of the summary.
+fn push_summary(page: &mut Vec<u8>, heading: &Heading) -> Result<(), AllocError>
+    ensures { OnOk result (page.new.items
+        ≡ page.old.items ++ folded heading.now.summary.items) }
+{
+    push_line(page, heading.summary.as_slice())
+}
+
+// Pushes a line with a time of UTC.
+fn push_stamp(
+    alloc: Global,
+    page: &mut Vec<u8>,
+    name: &[u8],
+    stamp: &[u8],
+) -> Result<(), AllocError>
+    ensures { OnOk result (page.new.items ≡ page.old.items ++ folded (name.now ++ stamp.now)) }
+{
+    let mut line = Vec::from_slice(alloc, name)?;
+    line.extend_from_slice(stamp)?;
+    push_line(page, line.as_slice())
+}
+
+// Pushes the line of how long an event is.
+fn push_duration(alloc: Global, page: &mut Vec<u8>, minutes: u32) -> Result<(), AllocError>
+    ensures { OnOk result (page.new.items ≡ page.old.items
+        ++ folded (codes "DURATION:PT" ++ decimal minutes ++ codes "M")) }
+{
+    let mut line = Vec::from_slice(alloc, b"DURATION:PT")?;
+    push_count(&mut line, u64::from(minutes))?;
+    line.extend_from_slice(b"M")?;
+    push_line(page, line.as_slice())
+}
+
+// Pushes the lines of when an event is.
+fn push_times(
+    alloc: Global,
+    page: &mut Vec<u8>,
+    minutes: u32,
+    fire: &Fire,
+) -> Result<(), AllocError>
+    ensures { OnOk result (page.new.items
+        ≡ page.old.items ++ folded_lines (time_lines minutes fire.now)) }
+{
+    let stamp = stamp_of(alloc, fire.utc)?;
+    push_stamp(alloc, page, b"DTSTAMP:", stamp.as_slice())?;
+    push_stamp(alloc, page, b"DTSTART:", stamp.as_slice())?;
+    push_duration(alloc, page, minutes)
+}
+
+// Pushes an event.
+fn push_event(
+    alloc: Global,
+    page: &mut Vec<u8>,
+    heading: &Heading,
+    fire: &Fire,
+) -> Result<(), AllocError>
+    ensures { OnOk result (page.new.items ≡ page.old.items ++ event_text
+        (string_bytes heading.now.digest) heading.now.copy heading.now.summary.items
+        heading.now.minutes fire.now) }
+{
+    push_line(page, b"BEGIN:VEVENT")?;
+    push_uid(alloc, page, heading, fire)?;
+    push_times(alloc, page, heading.minutes, fire)?;
+    push_summary(page, heading)?;
+    push_line(page, b"TRANSP:TRANSPARENT")?;
+    push_line(page, b"END:VEVENT")?;
+    Ok(())
+}
+
+/// Pushes the events of some fires.
+pub(crate) fn push_events(
+    alloc: Global,
+    page: &mut Vec<u8>,
+    heading: &Heading,
+    fires: &[Fire],
+) -> Result<(), AllocError>
+    ensures { OnOk result (page.new.items ≡ page.old.items ++ flat_map (event_text
+        (string_bytes heading.now.digest) heading.now.copy heading.now.summary.items
+        heading.now.minutes) fires.now) }
+{
+    for fire in fires {
+        push_event(alloc, page, heading, fire)?;
+    }
+    Ok(())
+}

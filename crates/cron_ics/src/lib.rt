@@ -1,0 +1,13 @@
+//! The fires of expressions as a calendar of RFC 5545: an event a fire.
+#![tactic(auto)]
+
+pub mod calendar;
+pub mod entry;
+pub mod error;
+mod escape;
+mod event;
+mod fires;
+mod fold;
+pub mod laws;
+mod stamp;
+pub mod write;

@@ -1,0 +1,234 @@
+//! The subcommand `ics`.
+
+use crate::calendar::{expression_of, file_of, line_name};
+use crate::commands::{changes_of, choice, firing, quartz, word};
+use crate::list::read_instant;
+use crate::machine::{Surroundings, complain, open_zone, say_trouble};
+use crate::zones::{TabZones, no_memory};
+use clap::{Arg, ArgAction, ArgMatches, Command, value_parser};
+use cron_fires::ClockChanges;
+use cron_ics::calendar::Wanted;
+use cron_ics::entry::Entry;
+use cron_ics::error::IcsError;
+use cron_ics::write::write_calendar;
+use cron_tab_lines::{Crontab, Line, Lines, NamedZone, zone_below};
+use cron_tab_warnings::text_of;
+use cron_tool::check::{Wanted as Checked, check};
+use cron_tool::expression::{Expression, read_as};
+use cron_tool::status::Status;
+use cron_tool::trouble::Trouble;
+use cron_writer::watched::Watched;
+use jiff::Timestamp;
+use jiff::tz::TimeZone;
+use std::alloc::{AllocError, Global};
+use std::io;
+
+/// How many events there are at most, if no other number is chosen.
+const MOST: u64 = 10_000;
+
+/// The longest event: a leap year.
+const MOST_MINUTES: u64 = 527_040;
+
+/// Its words.
+pub(crate) fn command<'a>(alloc: Global) -> Result<Command<'a>, AllocError> {
+    let expressions = Arg::new(alloc, "EXPRESSION")
+        .action(ArgAction::Append)
+        .num_args(0..)
+        .help("Cron expressions");
+    let minutes = choice(alloc, "minutes", "N", "How long an event is: 1 if left out");
+    let most = choice(
+        alloc,
+        "most",
+        "N",
+        "How many events at most: 10000 if left out",
+    );
+    let command = Command::new(alloc, "ics")
+        .about("Writes the fires after START, up to and with END, as a calendar of RFC 5545")
+        .arg(word(alloc, "START", "An instant"))?
+        .arg(word(alloc, "END", "An instant"))?
+        .arg(expressions)?
+        .arg(choice(alloc, "file", "FILE", "A crontab, or - for standard input"))?
+        .arg(minutes.value_parser(value_parser!(u64)))?
+        .arg(most.value_parser(value_parser!(u64)))?
+        .arg(quartz(alloc))?;
+    firing(alloc, command)
+}
+
+/// Something that fires, under a text.
+#[derive(Drop)]
+struct Named<'a> {
+    text: &'a [u8],
+    summary: &'a [u8],
+    expression: Expression,
+    zone: usize,
+}
+
+// Reads the expressions of the command line.
+fn add_words<'a>(
+    rt: &HostRuntime,
+    named: &mut Vec<Named<'a>>,
+    texts: &[&'a str],
+    quartz: bool,
+) -> Result<(), Status> {
+    for text in texts {
+        let bytes = text.as_bytes();
+        match read_as(quartz, *text) {
+            Ok(expression) => match named.push(Named {
+                text: bytes,
+                summary: bytes,
+                expression,
+                zone: 0,
+            }) {
+                Ok(()) => {}
+                Err(_) => return Err(no_memory(rt)),
+            },
+            Err(refusal) => return Err(say_trouble(rt, &Trouble::Expression(*text, refusal))),
+        }
+    }
+    Ok(())
+}
+
+// Adds the entries of a crontab, each in its zone.
+fn add_entries<'a>(
+    named: &mut Vec<Named<'a>>,
+    file: &'a [u8],
+    names: &[NamedZone<'_>],
+) -> Result<(), AllocError> {
+    let mut here = Some(0);
+    for line in Lines::of(Crontab::User, file) {
+        if let (Some(zone), Ok(Line::Entry(entry))) = (here, &line.read) {
+            named.push(Named {
+                text: line_name(line.bytes),
+                summary: entry.command,
+                expression: expression_of(entry, text_of(line.bytes)),
+                zone,
+            })?;
+        }
+        here = zone_below(names, here, &line);
+    }
+    Ok(())
+}
+
+// Tells which lines of a crontab are refused.
+fn tell_refused(rt: &HostRuntime, file: &[u8], names: &[NamedZone<'_>]) -> Status {
+    let wanted = Checked {
+        kind: Crontab::User,
+        front: "",
+        warn: false,
+        names,
+    };
+    let mut complaints = Watched::new(rt.stderr());
+    match check(rt.alloc(), &wanted, file, &mut complaints) {
+        Status::Unreadable => no_memory(rt),
+        status => status,
+    }
+}
+
+// What fires, each in its zone and by the rule that was chosen, or its own.
+fn entries_of<'a>(
+    alloc: Global,
+    named: &'a [Named<'a>],
+    zones: &'a [TimeZone<'a>],
+    chosen: Option<ClockChanges>,
+) -> Result<Vec<Entry<'a>>, AllocError> {
+    let mut entries = Vec::new(alloc);
+    for one in named {
+        if let Some(zone) = zones.get(one.zone) {
+            entries.push(Entry {
+                text: one.text,
+                summary: one.summary,
+                schedules: one.expression.as_slice(),
+                once: matches!(one.expression.changes(chosen), ClockChanges::Once),
+                zone,
+            })?;
+        }
+    }
+    Ok(entries)
+}
+
+// Which fires are events, or how the subcommand ends where a word is wrong.
+fn wanted_of(
+    rt: &HostRuntime,
+    words: &ArgMatches<'_>,
+    zone: &TimeZone<'_>,
+    now: Timestamp,
+) -> Result<Wanted, Status> {
+    let minutes = words.get_one::<u64>("minutes").unwrap_or(1);
+    if minutes < 1 || minutes > MOST_MINUTES {
+        return Err(complain(rt, "--minutes is 1 to 527040", Status::WrongWords));
+    }
+    let (Some(start), Some(end)) = (words.get_str("START"), words.get_str("END")) else {
+        return Err(complain(rt, "a word is missing", Status::WrongWords));
+    };
+    Ok(Wanted {
+        start: read_instant(rt, start, zone, now)?,
+        end: read_instant(rt, end, zone, now)?,
+        minutes: minutes as u32,
+        most: words.get_one::<u64>("most").unwrap_or(MOST) as usize,
+    })
+}
+
+// Writes the calendar of entries.
+fn write_entries(rt: &HostRuntime, entries: &[Entry<'_>], wanted: &Wanted) -> Status {
+    let mut out = Watched::new(io::writer(rt));
+    match write_calendar(rt.alloc(), entries, wanted, &mut out) {
+        Ok(()) if out.has_failed() => Status::WriteFailed,
+        Ok(()) => Status::Done,
+        Err(IcsError::TooMany) => complain(
+            rt,
+            "more events than --most, which is 10000 if left out",
+            Status::WrongWords,
+        ),
+        Err(IcsError::TooManySchedules | IcsError::OutOfMemory) => no_memory(rt),
+    }
+}
+
+// Writes what fires, once the lines that are refused are told.
+fn write_words(
+    rt: &HostRuntime,
+    words: &ArgMatches<'_>,
+    file: &[u8],
+    zone: &str,
+) -> Result<Status, Status> {
+    let around = Surroundings::of(rt)?;
+    let opened = open_zone(rt, zone, &around)?;
+    let zone = opened.time_zone();
+    let wanted = wanted_of(rt, words, &zone, around.now)?;
+    let mut tabs = TabZones::new(rt.alloc());
+    tabs.open(rt, Crontab::User, file, &around)?;
+    let (Ok(names), Ok(zones)) = (tabs.names(rt.alloc()), tabs.behind(rt.alloc(), zone)) else {
+        return Err(no_memory(rt));
+    };
+    let mut named = Vec::new(rt.alloc());
+    if let Some(texts) = words.get_strs("EXPRESSION") {
+        add_words(rt, &mut named, texts, words.get_flag("quartz"))?;
+    }
+    if add_entries(&mut named, file, names.as_slice()).is_err() {
+        return Err(no_memory(rt));
+    }
+    let told = tell_refused(rt, file, names.as_slice());
+    let chosen = changes_of(words);
+    match entries_of(rt.alloc(), named.as_slice(), zones.as_slice(), chosen) {
+        Ok(entries) => Ok(told.worse(write_entries(rt, entries.as_slice(), &wanted))),
+        Err(_) => Err(no_memory(rt)),
+    }
+}
+
+/// Does what the words ask for.
+pub(crate) fn answer(rt: &HostRuntime, words: &ArgMatches<'_>) -> Status {
+    let Some(zone) = words.get_str("zone") else {
+        return complain(rt, "a word is missing", Status::WrongWords);
+    };
+    let given = words
+        .get_strs("EXPRESSION")
+        .is_some_and(|texts| !texts.is_empty());
+    if !given && words.get_str("file").is_none() {
+        return complain(rt, "an EXPRESSION or --file is wanted", Status::WrongWords);
+    }
+    match file_of(rt, words) {
+        Ok(file) => match write_words(rt, words, file.as_slice(), zone) {
+            Ok(status) | Err(status) => status,
+        },
+        Err(status) => status,
+    }
+}
