@@ -1,9 +1,9 @@
 //! The subcommand `alarm`.
 
-use crate::commands::{changes_of, quartz, running, word};
+use crate::commands::changes_of;
 use crate::machine::{Surroundings, complain, open_zone, say_trouble};
 use crate::run::status_of;
-use clap::{ArgMatches, Command};
+use clap::ArgMatches;
 use cron_ringing::printer::Printer;
 use cron_running::{Alarm, FireWriter, ring_at};
 use cron_scheduler::MachineClock;
@@ -12,17 +12,7 @@ use cron_tool::status::Status;
 use cron_tool::trouble::Trouble;
 use cron_writer::watched::Watched;
 use jiff::tz::TimeZone;
-use std::alloc::{AllocError, Global};
 use std::io;
-
-/// Its words.
-pub(crate) fn command<'a>(alloc: Global) -> Result<Command<'a>, AllocError> {
-    let command = Command::new(alloc, "alarm")
-        .about("Writes a line at each fire of an expression, when it comes")
-        .arg(word(alloc, "EXPRESSION", "A cron expression"))?
-        .arg(quartz(alloc))?;
-    running(alloc, command)
-}
 
 fn ring_in(
     rt: &HostRuntime,

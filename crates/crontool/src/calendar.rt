@@ -3,10 +3,10 @@
 ghost use Rattle.std.specs.Prelude.{◌<◌, ◌≤◌, IfSome};
 ghost use Rattle.crontool.specs.Periods.{IsPeriod};
 
-use crate::commands::{changes_of, choice, firing, flag, word};
+use crate::commands::changes_of;
 use crate::machine::{Surroundings, complain, open_zone, read_file, say_trouble, say_unread};
 use crate::zones::no_memory;
-use clap::{Arg, ArgAction, ArgMatches, Command, value_parser};
+use clap::ArgMatches;
 use cron_calendar::pages::{Shown, html_page, text_page};
 use cron_calendar::plans::Plan;
 use cron_crontab::Expression as TabExpression;
@@ -22,23 +22,6 @@ use jiff::tz::TimeZone;
 use std::alloc::{AllocError, Global};
 use std::env;
 use std::io::{self, IsTerminal};
-
-/// Its words.
-pub(crate) fn command<'a>(alloc: Global) -> Result<Command<'a>, AllocError> {
-    let expressions = Arg::new(alloc, "EXPRESSION")
-        .action(ArgAction::Append)
-        .num_args(0..)
-        .help("Cron expressions");
-    let width = choice(alloc, "width", "N", "How many columns: COLUMNS, or 80");
-    let command = Command::new(alloc, "calendar")
-        .about("Shows how many fires each day has")
-        .arg(word(alloc, "PERIOD", "A year, or a month as 2024-03"))?
-        .arg(expressions)?
-        .arg(choice(alloc, "file", "FILE", "A crontab, or - for standard input"))?
-        .arg(width.value_parser(value_parser!(u64)))?
-        .arg(flag(alloc, "html", "A page of HTML, of the whole year"))?;
-    firing(alloc, command)
-}
 
 /// Something that fires, under a name.
 #[derive(Drop)]

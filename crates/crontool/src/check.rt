@@ -1,9 +1,8 @@
 //! `check`: which lines of files are refused, and which may not be meant.
 
-use crate::commands::{flag, option};
 use crate::machine::{Surroundings, complain, open_zone, read_file, say_trouble, say_unread};
 use crate::zones::{TabZones, no_memory};
-use clap::{Arg, ArgAction, ArgMatches, Command};
+use clap::ArgMatches;
 use cron_checking::check::{Outcome, check as check_expressions};
 use cron_checking::line::{Mode, Telling};
 use cron_tab_lines::Crontab;
@@ -17,51 +16,6 @@ use jiff::tz::TimeZone;
 use std::alloc::{AllocError, Global};
 use std::fs;
 use std::io::{self, BufRead, BufReader, Read};
-
-/// The files of a subcommand, one or more.
-pub(crate) fn files<'a>(alloc: Global) -> Arg<'a> {
-    Arg::new(alloc, "FILE")
-        .required(true)
-        .action(ArgAction::Append)
-        .num_args(1..)
-        .help("A file, or - for standard input")
-}
-
-// The words of a check of expressions.
-fn of_expressions<'a>(alloc: Global, command: Command<'a>) -> Result<Command<'a>, AllocError> {
-    let expressions = flag(
-        alloc,
-        "expressions",
-        "Each line is an expression of this library",
-    )
-    .conflicts_with("system")?
-    .conflicts_with("warn")?;
-    let sets = flag(alloc, "sets", "The sets of each expression, in short form")
-        .requires_arg("expressions")?
-        .conflicts_with("next")?;
-    let next = Arg::new(alloc, "next")
-        .long("next")
-        .value_name("START")
-        .requires_arg("expressions")?
-        .help("The first fire of each expression after an instant");
-    command.arg(expressions)?.arg(sets)?.arg(next)?.arg(option(
-        alloc,
-        "zone",
-        "ZONE",
-        "local",
-        "The zone of --next",
-    ))
-}
-
-/// `check` with its words.
-pub(crate) fn command<'a>(alloc: Global) -> Result<Command<'a>, AllocError> {
-    let command = Command::new(alloc, "check")
-        .about("Tells which lines of crontabs are refused")
-        .arg(files(alloc))?
-        .arg(flag(alloc, "system", "Entries name a user"))?
-        .arg(flag(alloc, "warn", "Tells also what may not be meant"))?;
-    of_expressions(alloc, command)
-}
 
 /// The name of one of so many files, if it is told.
 pub(crate) fn told_name(file: &str, count: usize) -> Option<&str> {

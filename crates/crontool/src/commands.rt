@@ -1,8 +1,6 @@
-//! The subcommands with their words, and what they ask for.
+//! The command line, and what several subcommands ask for.
 
-use crate::{
-    alarm, calendar, check, compare, done, due, explain, ics, late, list, oncalendar, overlap, run,
-};
+use crate::words::{Kind, Rule, SUBCOMMANDS, Subcommand, Word};
 use clap::{Arg, ArgAction, ArgMatches, Command, value_parser};
 use cron_fires::ClockChanges;
 use cron_tool::answer::{Request, Which};
@@ -17,134 +15,68 @@ const AFTER_HELP: &str = "EXPRESSION has five fields, or is a nickname, as in a 
 six or seven fields, of which the first are seconds.\n\
 An instant is ISO with an offset, a fire as it was printed, now, @SECONDS or a civil time in ZONE.";
 
-/// A word that must be there.
-pub(crate) fn word<'a>(alloc: Global, name: &'a str, help: &'a str) -> Arg<'a> {
-    Arg::new(alloc, name).required(true).help(help)
+// A word by its name and what it is.
+fn plain_arg<'a>(alloc: Global, name: &'a str, kind: Kind) -> Arg<'a> {
+    let arg = Arg::new(alloc, name);
+    match kind {
+        Kind::Given => arg.required(true),
+        Kind::GivenNumber => arg.required(true).value_parser(value_parser!(u64)),
+        Kind::Many(least) => arg
+            .required(least > 0)
+            .action(ArgAction::Append)
+            .num_args(least..),
+        Kind::Flag => arg.long(name).action(ArgAction::SetTrue),
+        Kind::Choice(value) => arg.long(name).value_name(value),
+        Kind::Number(value) => arg
+            .long(name)
+            .value_name(value)
+            .value_parser(value_parser!(u64)),
+        Kind::Default(value, default) => arg.long(name).value_name(value).default_value(default),
+        Kind::Needed(value) => arg.long(name).value_name(value).required(true),
+        Kind::NeededNumber(value) => arg
+            .long(name)
+            .value_name(value)
+            .required(true)
+            .value_parser(value_parser!(u32)),
+    }
 }
 
-/// `--NAME VALUE`, or its default.
-pub(crate) fn option<'a>(
-    alloc: Global,
-    name: &'a str,
-    value: &'a str,
-    default: &'a str,
-    help: &'a str,
-) -> Arg<'a> {
-    Arg::new(alloc, name)
-        .long(name)
-        .value_name(value)
-        .default_value(default)
-        .help(help)
+// A word with its line of the help, and what stands beside it.
+fn arg_of<'a>(alloc: Global, word: &Word) -> Result<Arg<'a>, AllocError> {
+    let Word(name, kind, rules, help) = *word;
+    let mut arg = plain_arg(alloc, name, kind).help(help);
+    for rule in rules {
+        arg = match *rule {
+            Rule::With(other) => arg.requires_arg(other)?,
+            Rule::Without(other) => arg.conflicts_with(other)?,
+        };
+    }
+    Ok(arg)
 }
 
-/// `--NAME`.
-pub(crate) fn flag<'a>(alloc: Global, name: &'a str, help: &'a str) -> Arg<'a> {
-    Arg::new(alloc, name)
-        .long(name)
-        .action(ArgAction::SetTrue)
-        .help(help)
-}
-
-/// `--NAME VALUE`, which may be left out.
-pub(crate) fn choice<'a>(alloc: Global, name: &'a str, value: &'a str, help: &'a str) -> Arg<'a> {
-    Arg::new(alloc, name)
-        .long(name)
-        .value_name(value)
-        .help(help)
-}
-
-/// A zone and a rule at clock changes, as all subcommands have that tell of fires.
-pub(crate) fn firing<'a>(alloc: Global, command: Command<'a>) -> Result<Command<'a>, AllocError> {
-    let zone = option(
-        alloc,
-        "zone",
-        "ZONE",
-        "local",
-        "UTC, a rule, a name or local",
-    );
-    let once = flag(
-        alloc,
-        "once",
-        "Each match once, also where the clock changes",
-    )
-    .conflicts_with("as-shown")?;
-    command.arg(zone)?.arg(once)?.arg(flag(
-        alloc,
-        "as-shown",
-        "Each time that the clock shows a match",
-    ))
-}
-
-/// Those of which something is done at each fire, so many times at most.
-pub(crate) fn running<'a>(alloc: Global, command: Command<'a>) -> Result<Command<'a>, AllocError> {
-    let count = choice(alloc, "count", "N", "How many runs at most");
-    firing(alloc, command)?.arg(count.value_parser(value_parser!(u64)))
-}
-
-/// What all subcommands that list the fires of an expression have.
-pub(crate) fn listing<'a>(alloc: Global, command: Command<'a>) -> Result<Command<'a>, AllocError> {
-    let command = command
-        .arg(word(alloc, "EXPRESSION", "A cron expression"))?
-        .arg(quartz(alloc))?;
-    firing(alloc, command)?.arg(flag(alloc, "json", "An object of JSON for each fire"))
-}
-
-/// `--quartz`.
-pub(crate) fn quartz<'a>(alloc: Global) -> Arg<'a> {
-    flag(alloc, "quartz", "Expressions are of Quartz")
-}
-
-fn next_command<'a>(alloc: Global) -> Result<Command<'a>, AllocError> {
-    let count = word(alloc, "N", "How many fires at most").value_parser(value_parser!(u64));
-    let command = Command::new(alloc, "next")
-        .about("Lists the next fires")
-        .arg(count)?;
-    let after = option(
-        alloc,
-        "after",
-        "START",
-        "now",
-        "The instant after which they come, or with --back before which",
-    );
-    let back = flag(
-        alloc,
-        "back",
-        "The last fires before START, the latest first",
-    );
-    listing(alloc, command)?.arg(back)?.arg(after)
-}
-
-fn between_command<'a>(alloc: Global) -> Result<Command<'a>, AllocError> {
-    let command = Command::new(alloc, "between")
-        .about("Lists the fires after START, up to and with END")
-        .arg(word(alloc, "START", "An instant"))?
-        .arg(word(alloc, "END", "An instant"))?;
-    listing(alloc, command)
+fn subcommand<'a>(alloc: Global, said: &Subcommand) -> Result<Command<'a>, AllocError> {
+    let mut command = Command::new(alloc, said.name).about(said.about);
+    for word in said.words {
+        command = command.arg(arg_of(alloc, word)?)?;
+    }
+    match said.usage {
+        Some(usage) => Ok(command.override_usage(usage)),
+        None => Ok(command),
+    }
 }
 
 /// The whole command line.
 pub(crate) fn command<'a>(alloc: Global) -> Result<Command<'a>, AllocError> {
-    Command::new(alloc, "crontool")
+    let mut command = Command::new(alloc, "crontool")
         .version(VERSION)
         .about(ABOUT)
         .after_help(AFTER_HELP)
         .subcommand_required(true)
-        .arg_required_else_help(true)
-        .subcommand(next_command(alloc)?)?
-        .subcommand(between_command(alloc)?)?
-        .subcommand(list::command(alloc)?)?
-        .subcommand(late::command(alloc)?)?
-        .subcommand(due::command(alloc)?)?
-        .subcommand(done::command(alloc)?)?
-        .subcommand(check::command(alloc)?)?
-        .subcommand(compare::command(alloc)?)?
-        .subcommand(overlap::command(alloc)?)?
-        .subcommand(oncalendar::command(alloc)?)?
-        .subcommand(explain::command(alloc)?)?
-        .subcommand(calendar::command(alloc)?)?
-        .subcommand(ics::command(alloc)?)?
-        .subcommand(run::command(alloc)?)?
-        .subcommand(alarm::command(alloc)?)
+        .arg_required_else_help(true);
+    for said in &SUBCOMMANDS {
+        command = command.subcommand(subcommand(alloc, said)?)?;
+    }
+    Ok(command)
 }
 
 /// The rule at clock changes that was chosen, if one was.

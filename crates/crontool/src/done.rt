@@ -1,21 +1,11 @@
 //! The subcommand `done`.
 
-use crate::commands::word;
 use crate::machine::complain;
-use clap::{ArgMatches, Command};
+use clap::ArgMatches;
 use cron_notes::machine::MachineStore;
 use cron_tool::done::{self, Request};
 use cron_tool::status::Status;
 use cron_writer::watched::Watched;
-use std::alloc::{AllocError, Global};
-
-/// Its words.
-pub(crate) fn command<'a>(alloc: Global) -> Result<Command<'a>, AllocError> {
-    Command::new(alloc, "done")
-        .about("Notes a fire in a stamp, unless it notes a later one")
-        .arg(word(alloc, "STAMP", "A file"))?
-        .arg(word(alloc, "FIRE", "A fire as it was printed"))
-}
 
 fn request_of<'a>(words: &ArgMatches<'a>) -> Option<Request<'a>> {
     Some(Request {

@@ -1,22 +1,13 @@
 //! The subcommand `due`.
 
-use crate::commands::{changes_of, flag, form_of, listing, word};
+use crate::commands::{changes_of, form_of};
 use crate::machine::{Surroundings, complain};
-use clap::{ArgMatches, Command};
+use clap::ArgMatches;
 use cron_tool::due::{self, Request};
 use cron_tool::status::Status;
 use cron_writer::watched::Watched;
 use cron_zones::machine::MachineFiles;
-use std::alloc::{AllocError, Global};
 use std::io;
-
-/// Its words.
-pub(crate) fn command<'a>(alloc: Global) -> Result<Command<'a>, AllocError> {
-    let command = Command::new(alloc, "due")
-        .about("Lists the fires that came due after the one that a stamp notes")
-        .arg(word(alloc, "STAMP", "A file, as `done` writes it"))?;
-    listing(alloc, command)?.arg(flag(alloc, "latest", "The last of them alone"))
-}
 
 fn request_of<'a>(words: &ArgMatches<'a>) -> Option<Request<'a>> {
     Some(Request {

@@ -1,31 +1,17 @@
 //! The subcommand `explain`.
 
-use crate::commands::{changes_of, form_of, listing, option, quartz};
+use crate::commands::{changes_of, form_of};
 use crate::machine::{Surroundings, complain};
-use clap::{ArgMatches, Command};
+use clap::ArgMatches;
 use cron_tool::answer::{Request, Which};
 use cron_tool::explain::explain;
 use cron_tool::status::Status;
 use cron_writer::watched::Watched;
 use cron_zones::machine::MachineFiles;
-use std::alloc::{AllocError, Global};
 use std::io;
 
 /// How many fires are listed.
 const FIRES: u64 = 5;
-
-/// Its words.
-pub(crate) fn command<'a>(alloc: Global) -> Result<Command<'a>, AllocError> {
-    let command = Command::new(alloc, "explain").about("Tells in words when an expression fires");
-    let after = option(
-        alloc,
-        "after",
-        "START",
-        "now",
-        "The instant after which fires are told",
-    );
-    listing(alloc, command)?.arg(quartz(alloc))?.arg(after)
-}
 
 fn request_of<'a>(words: &ArgMatches<'a>) -> Option<Request<'a>> {
     Some(Request {

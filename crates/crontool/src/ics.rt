@@ -1,11 +1,11 @@
 //! The subcommand `ics`.
 
 use crate::calendar::{expression_of, file_of, line_name};
-use crate::commands::{changes_of, choice, firing, quartz, word};
+use crate::commands::changes_of;
 use crate::list::read_instant;
 use crate::machine::{Surroundings, complain, open_zone, say_trouble};
 use crate::zones::{TabZones, no_memory};
-use clap::{Arg, ArgAction, ArgMatches, Command, value_parser};
+use clap::ArgMatches;
 use cron_fires::ClockChanges;
 use cron_ics::calendar::Wanted;
 use cron_ics::entry::Entry;
@@ -28,31 +28,6 @@ const MOST: u64 = 10_000;
 
 /// The longest event: a leap year.
 const MOST_MINUTES: u64 = 527_040;
-
-/// Its words.
-pub(crate) fn command<'a>(alloc: Global) -> Result<Command<'a>, AllocError> {
-    let expressions = Arg::new(alloc, "EXPRESSION")
-        .action(ArgAction::Append)
-        .num_args(0..)
-        .help("Cron expressions");
-    let minutes = choice(alloc, "minutes", "N", "How long an event is: 1 if left out");
-    let most = choice(
-        alloc,
-        "most",
-        "N",
-        "How many events at most: 10000 if left out",
-    );
-    let command = Command::new(alloc, "ics")
-        .about("Writes the fires after START, up to and with END, as a calendar of RFC 5545")
-        .arg(word(alloc, "START", "An instant"))?
-        .arg(word(alloc, "END", "An instant"))?
-        .arg(expressions)?
-        .arg(choice(alloc, "file", "FILE", "A crontab, or - for standard input"))?
-        .arg(minutes.value_parser(value_parser!(u64)))?
-        .arg(most.value_parser(value_parser!(u64)))?
-        .arg(quartz(alloc))?;
-    firing(alloc, command)
-}
 
 /// Something that fires, under a text.
 #[derive(Drop)]

@@ -1,36 +1,13 @@
 //! The subcommand `late`.
 
-use crate::commands::{changes_of, firing, quartz, word};
+use crate::commands::changes_of;
 use crate::machine::{Surroundings, complain};
-use clap::{Arg, ArgMatches, Command, value_parser};
+use clap::ArgMatches;
 use cron_tool::late::{self, Request};
 use cron_tool::status::Status;
 use cron_writer::watched::Watched;
 use cron_zones::machine::MachineFiles;
-use std::alloc::{AllocError, Global};
 use std::io;
-
-/// Its words.
-pub(crate) fn command<'a>(alloc: Global) -> Result<Command<'a>, AllocError> {
-    let last = Arg::new(alloc, "last")
-        .long("last")
-        .value_name("INSTANT")
-        .required(true)
-        .help("The instant of the last run");
-    let grace = Arg::new(alloc, "grace")
-        .long("grace")
-        .value_name("SECONDS")
-        .required(true)
-        .value_parser(value_parser!(u32))
-        .help("How long after a fire its run may be noted");
-    let command = Command::new(alloc, "late")
-        .about("Says whether a fire was missed since the last run, by its status too")
-        .arg(word(alloc, "EXPRESSION", "A cron expression"))?
-        .arg(quartz(alloc))?
-        .arg(last)?
-        .arg(grace)?;
-    firing(alloc, command)
-}
 
 fn request_of<'a>(words: &ArgMatches<'a>) -> Option<Request<'a>> {
     Some(Request {

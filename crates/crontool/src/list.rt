@@ -1,11 +1,11 @@
 //! The subcommand `list`.
 
-use crate::check::{files, front_of, told_name};
-use crate::commands::{choice, firing, flag, form_of};
+use crate::check::{front_of, told_name};
+use crate::commands::form_of;
 use crate::machine::{Surroundings, complain, open_zone, say_trouble};
 use crate::run::{clock_of, read_all};
 use crate::zones::{TabZones, no_memory};
-use clap::{ArgMatches, Command, value_parser};
+use clap::ArgMatches;
 use cron_tab_lines::{Crontab, NamedZone};
 use cron_tab_listing::Clock;
 use cron_tool::check::{Wanted, check};
@@ -20,34 +20,6 @@ use jiff::Timestamp;
 use jiff::tz::TimeZone;
 use std::alloc::{AllocError, Global};
 use std::io;
-
-const USAGE: &str = "crontool list [OPTIONS] <START> <END> <FILE>...\n       \
-crontool list [OPTIONS] --count <N> [--after <START>] <FILE>...";
-
-/// Its words.
-pub(crate) fn command<'a>(alloc: Global) -> Result<Command<'a>, AllocError> {
-    let count = choice(
-        alloc,
-        "count",
-        "N",
-        "The first N fires, without START and END",
-    );
-    let after = choice(
-        alloc,
-        "after",
-        "START",
-        "After which they come: now if left out",
-    );
-    let command = Command::new(alloc, "list")
-        .about("Lists the fires of the entries of crontabs after START, up to and with END")
-        .override_usage(USAGE)
-        .arg(files(alloc))?
-        .arg(count.value_parser(value_parser!(u64)))?
-        .arg(after.requires_arg("count")?)?
-        .arg(flag(alloc, "system", "Entries name a user"))?
-        .arg(flag(alloc, "json", "An object of JSON for each fire"))?;
-    firing(alloc, command)
-}
 
 /// What is asked for, in words.
 #[derive(Clone, Copy)]

@@ -22,6 +22,7 @@ mod pair;
 mod run;
 mod state;
 mod watch;
+mod words;
 mod zones;
 
 use clap::{ArgMatches, Error};

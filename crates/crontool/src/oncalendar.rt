@@ -1,21 +1,11 @@
 //! The subcommand `oncalendar`.
 
-use crate::commands::{quartz, word};
 use crate::machine::complain;
-use clap::{ArgMatches, Command};
+use clap::ArgMatches;
 use cron_tool::oncalendar::write_calendar;
 use cron_tool::status::Status;
 use cron_writer::watched::Watched;
-use std::alloc::{AllocError, Global};
 use std::io;
-
-/// Its words.
-pub(crate) fn command<'a>(alloc: Global) -> Result<Command<'a>, AllocError> {
-    Command::new(alloc, "oncalendar")
-        .about("Writes an expression as lines of systemd's OnCalendar")
-        .arg(word(alloc, "EXPRESSION", "A cron expression"))?
-        .arg(quartz(alloc))
-}
 
 /// Does what the words ask for.
 pub(crate) fn answer(rt: &HostRuntime, words: &ArgMatches<'_>) -> Status {

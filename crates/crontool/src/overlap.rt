@@ -1,22 +1,12 @@
 //! The subcommand `overlap`.
 
 use crate::machine::complain;
-use crate::pair::{pair_command, pair_of};
-use clap::{ArgMatches, Command};
+use crate::pair::pair_of;
+use clap::ArgMatches;
 use cron_tool::overlap::overlap;
 use cron_tool::status::Status;
 use cron_writer::watched::Watched;
-use std::alloc::{AllocError, Global};
 use std::io;
-
-/// Its words.
-pub(crate) fn command<'a>(alloc: Global) -> Result<Command<'a>, AllocError> {
-    pair_command(
-        alloc,
-        "overlap",
-        "Tells the first civil second that two expressions both match",
-    )
-}
 
 /// Does what the words ask for.
 pub(crate) fn answer(rt: &HostRuntime, words: &ArgMatches<'_>) -> Status {

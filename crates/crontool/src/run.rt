@@ -1,44 +1,17 @@
 //! The subcommand `run`.
 
-use crate::check::files;
-use crate::commands::{changes_of, choice, flag, option, running};
+use crate::commands::changes_of;
 use crate::follow::{Runs, follow};
 use crate::machine::{complain, read_file, say_unread};
 use crate::state::State;
 use crate::zones::no_memory;
-use clap::{ArgMatches, Command};
+use clap::ArgMatches;
 use cron_agenda_scheduler::{AgendaStop, Lateness};
 use cron_running::{Failure, RunOrders};
 use cron_tab_lines::Crontab;
 use cron_tab_listing::Clock;
 use cron_tab_tasks::{Form, Orders};
 use cron_tool::status::Status;
-use std::alloc::{AllocError, Global};
-
-/// Its words.
-pub(crate) fn command<'a>(alloc: Global) -> Result<Command<'a>, AllocError> {
-    let user = choice(alloc, "user", "NAME", "Only this user's entries").requires_arg("system")?;
-    let late = option(
-        alloc,
-        "late",
-        "RULE",
-        "latest",
-        "Of late fires each, latest or within=SECONDS",
-    );
-    let state = choice(alloc, "state", "FOLDER", "Where it is noted what was run").conflicts_with(
-        "count",
-    )?;
-    let command = Command::new(alloc, "run")
-        .about("Writes the command of each entry of crontabs when it fires")
-        .arg(files(alloc))?
-        .arg(flag(alloc, "shell", "Lines that a shell runs"))?
-        .arg(flag(alloc, "system", "Entries name a user"))?
-        .arg(user)?
-        .arg(flag(alloc, "reboot", "Run @reboot once at the start"))?
-        .arg(late)?
-        .arg(state)?;
-    running(alloc, command)
-}
 
 fn lateness_of(text: &str) -> Option<Lateness> {
     match text {
