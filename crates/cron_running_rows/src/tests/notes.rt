@@ -20,8 +20,8 @@ use waking::{Fault, Waking};
 /// How many calls replace a note: a write, a sync, a change of names, and a sync of the folder.
 const CALLS: usize = 4;
 
-/// A run of a crontab, by seconds of the day: what is noted before it, what its clock shows first, how late that
-/// wakes, and what is noted one after another.
+/// A run of a crontab, by seconds of the day: what is noted before it, what its clock shows first,
+/// how late that wakes, and what is noted one after another.
 #[derive(Clone, Copy, Debug)]
 struct Case {
     tab: Tab,
