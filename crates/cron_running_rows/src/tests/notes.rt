@@ -14,48 +14,67 @@ use runs::{Ran, run};
 use shelf::{Shelf, Trouble, code_of};
 use std::cell::Cell;
 use std::process::Abort;
-use table::{END, MIDNIGHT, note_of, texts};
+use table::{DAY, END, MIDNIGHT, NEVER, Tab, note_of, texts};
 use waking::{Fault, Waking};
 
 /// How many calls replace a note: a write, a sync, a change of names, and a sync of the folder.
 const CALLS: usize = 4;
 
-/// A run, by seconds of the day: what is noted before it, what its clock shows first, how late that
-/// wakes, and what is noted one after another.
+/// A run of a crontab, by seconds of the day: what is noted before it, what its clock shows first,
+/// how late that wakes, and what is noted one after another.
 #[derive(Clone, Copy, Debug)]
 struct Case {
+    tab: Tab,
     noted: Option<i64>,
     begin: i64,
     late: i64,
     notes: &'static [i64],
 }
 
-/// Nothing is noted, and the clock wakes in time, or late; fires are late at the start; and the
-/// clock has gone back.
-const CASES: [Case; 4] = [
+/// Nothing is noted, and the clock wakes in time, or late; fires are late at the start; the clock
+/// has gone back; and two runs that end at once, since nothing fires.
+const CASES: [Case; 6] = [
     Case {
+        tab: DAY,
         noted: None,
         begin: 0,
         late: 0,
         notes: &[0, 1800, 3600, 5400, 7200],
     },
     Case {
+        tab: DAY,
         noted: None,
         begin: 0,
         late: 4200,
         notes: &[0, 6000, 11_400],
     },
     Case {
+        tab: DAY,
         noted: Some(0),
         begin: 4000,
         late: 0,
         notes: &[4000, 5400, 7200],
     },
     Case {
+        tab: DAY,
         noted: Some(4000),
         begin: 100,
         late: 60,
         notes: &[4000, 5460, 7260],
+    },
+    Case {
+        tab: NEVER,
+        noted: None,
+        begin: 500,
+        late: 0,
+        notes: &[500],
+    },
+    Case {
+        tab: NEVER,
+        noted: Some(400),
+        begin: 500,
+        late: 0,
+        notes: &[500],
     },
 ];
 
@@ -107,7 +126,7 @@ fn noted_in(rt: &(impl Abort + AllocGlobal), held: Option<&[u8]>) -> Noted {
 fn disk_of(rt: &(impl Abort + AllocGlobal), case: &Case) -> Disk {
     let mut disk = Disk::new(rt.alloc());
     if let Some(second) = case.noted {
-        let note = note_of(rt, second);
+        let note = note_of(rt, &case.tab, second);
         let write = Act::Write(Name::Note, note.as_bytes());
         for act in [write, Act::Sync(Name::Note), Act::SyncFolder] {
             disk.make(act).expect(rt, "memory");
@@ -131,21 +150,25 @@ fn run_case<'a>(
         end: MIDNIGHT.saturating_add(END),
         cut,
     };
-    run(rt, &noted, clock, Shelf::new(disk, trouble, cut))
+    run(rt, &case.tab, &noted, clock, Shelf::new(disk, trouble, cut))
 }
 
 // The second of the day that a store's note says. It is the note, or while that isn't finished the
 // one before it; any other is none of these, whole.
 fn second_of(rt: &(impl Abort + AllocGlobal), place: &Place, held: Option<&[u8]>) -> Option<i64> {
     if let Some(bytes) = held {
-        if bytes == note_of(rt, place.then()).as_bytes() {
+        if bytes == note_of(rt, &place.case.tab, place.then()).as_bytes() {
             return Some(place.then());
         }
     }
     assert!(rt; place.made < CALLS, "the note is lost: {place:?}");
     match (held, place.before()) {
         (Some(bytes), Some(second)) => {
-            assert_eq!(rt; bytes, note_of(rt, second).as_bytes(), "{place:?}");
+            assert_eq!(rt;
+                bytes,
+                note_of(rt, &place.case.tab, second).as_bytes(),
+                "{place:?}"
+            );
             Some(second)
         }
         (None, None) => None,
@@ -167,8 +190,19 @@ fn begin_again(rt: &(impl Abort + AllocGlobal), place: &Place, ran: &Ran<'_>, lo
         end: MIDNIGHT.saturating_add(END),
         cut: &cut,
     };
-    let again = run(rt, &noted, clock, Shelf::new(disk, Trouble::Nothing, &cut));
-    let wanted = texts(rt, second.unwrap_or(place.case.start()), END);
+    let again = run(
+        rt,
+        &place.case.tab,
+        &noted,
+        clock,
+        Shelf::new(disk, Trouble::Nothing, &cut),
+    );
+    let wanted = texts(
+        rt,
+        &place.case.tab,
+        second.unwrap_or(place.case.start()),
+        END,
+    );
     assert_eq!(rt;
         again.written.as_slice(),
         wanted.as_bytes(),
@@ -178,7 +212,7 @@ fn begin_again(rt: &(impl Abort + AllocGlobal), place: &Place, ran: &Ran<'_>, lo
 
 // All was written that was due when the note was begun, and what the store holds is gone on from.
 fn check(rt: &(impl Abort + AllocGlobal), place: &Place, ran: &Ran<'_>) {
-    let due = texts(rt, place.case.start(), place.then());
+    let due = texts(rt, &place.case.tab, place.case.start(), place.then());
     assert_eq!(rt; ran.written.as_slice(), due.as_bytes(), "{place:?}");
     for lost in LOST {
         begin_again(rt, place, ran, lost);
@@ -194,16 +228,23 @@ fn check_failure(rt: &impl Abort, call: usize, ran: &Ran<'_>) {
     assert_eq!(rt; ran.shelf.calls, call.saturating_add(1));
 }
 
+// Whether a run came to its end: that of its clock, or of its fires.
+fn is_over(case: &Case, ran: &Ran<'_>) -> bool {
+    match &ran.answer {
+        Ok(()) => case.tab.fires.is_empty(),
+        Err(Failure::Stopped(AgendaStop::Clock(Interruption::Clock(Fault::Over)))) => {
+            !case.tab.fires.is_empty()
+        }
+        Err(_) => false,
+    }
+}
+
 #[test]
 fn a_run_notes_what_it_ran(rt: HostRuntime) {
     for case in CASES {
         let cut = Cell::new(false);
         let ran = run_case(&rt, &case, Trouble::Nothing, &cut);
-        let Err(Failure::Stopped(AgendaStop::Clock(Interruption::Clock(fault)))) = &ran.answer
-        else {
-            panic!(rt; "the run ended otherwise: {case:?}");
-        };
-        assert_eq!(rt; *fault, Fault::Over, "{case:?}");
+        assert!(rt; is_over(&case, &ran), "{case:?}");
         assert_eq!(rt; ran.shelf.calls, case.calls(), "{case:?}");
         let place = Place {
             case,

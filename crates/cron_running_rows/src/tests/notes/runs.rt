@@ -1,7 +1,7 @@
-//! One run of the crontab, by a clock and a store in memory.
+//! One run of a crontab, by a clock and a store in memory.
 
 use super::shelf::{PATH, Shelf};
-use super::table::TAB;
+use super::table::Tab;
 use super::waking::{Fault, Unchanged, Waking};
 use cron_agenda_scheduler::Lateness;
 use cron_ringing::printer::Printer;
@@ -38,9 +38,10 @@ pub(super) struct Ran<'a> {
     pub(super) shelf: Shelf<'a>,
 }
 
-/// Runs the crontab after what is noted, and notes it in the store.
+/// Runs a crontab after what is noted, and notes it in the store.
 pub(super) fn run<'a>(
     rt: &(impl Abort + AllocGlobal),
+    tab: &Tab,
     noted: &Noted,
     clock: Waking<'a>,
     shelf: Shelf<'a>,
@@ -59,7 +60,7 @@ pub(super) fn run<'a>(
     };
     let files = [TabFile {
         name: "tab",
-        bytes: TAB.as_bytes(),
+        bytes: tab.text.as_bytes(),
     }];
     let mut writer = TabWriter::new(alloc, Watched::new(Vec::new(alloc)));
     let mut complaints = Printer {

@@ -1,4 +1,4 @@
-//! A crontab, when it fires, and what its notes are.
+//! Crontabs, when they fire, and what their notes are.
 
 use std::process::Abort;
 
@@ -8,22 +8,36 @@ pub(super) const MIDNIGHT: i64 = 1_704_067_200;
 /// Ten in the morning, where each run ends.
 pub(super) const END: i64 = 36_000;
 
-pub(super) const TAB: &str = "30 0 * * * a\n0 1 * * * b\n0 1 * * * c\n30 1 * * * d\n0 2 * * * e\n";
+/// A crontab, and how many seconds after midnight each of its entries fires on that day, with what
+/// is written then.
+#[derive(Clone, Copy, Debug)]
+pub(super) struct Tab {
+    pub(super) text: &'static str,
+    pub(super) fires: &'static [(i64, &'static str)],
+}
 
-/// How many seconds after midnight each of its entries fires, and what is written then.
-const FIRES: [(i64, &str); 5] = [
-    (1800, "a\n"),
-    (3600, "b\n"),
-    (3600, "c\n"),
-    (5400, "d\n"),
-    (7200, "e\n"),
-];
+pub(super) const DAY: Tab = Tab {
+    text: "30 0 * * * a\n0 1 * * * b\n0 1 * * * c\n30 1 * * * d\n0 2 * * * e\n",
+    fires: &[
+        (1800, "a\n"),
+        (3600, "b\n"),
+        (3600, "c\n"),
+        (5400, "d\n"),
+        (7200, "e\n"),
+    ],
+};
+
+/// Has no fire on any day.
+pub(super) const NEVER: Tab = Tab {
+    text: "0 0 30 2 * f\n",
+    fires: &[],
+};
 
 /// What is written at the fires after a second of the day, up to and with another.
-pub(super) fn texts(rt: &(impl Abort + AllocGlobal), after: i64, until: i64) -> String {
+pub(super) fn texts(rt: &(impl Abort + AllocGlobal), tab: &Tab, after: i64, until: i64) -> String {
     let mut all = String::new(rt.alloc());
-    for (second, text) in FIRES {
-        if after < second && second <= until {
+    for (second, text) in tab.fires {
+        if after < *second && *second <= until {
             all.push_str(text).expect(rt, "memory");
         }
     }
@@ -31,10 +45,10 @@ pub(super) fn texts(rt: &(impl Abort + AllocGlobal), after: i64, until: i64) -> 
 }
 
 /// The note of a second of the day.
-pub(super) fn note_of(rt: &(impl Abort + AllocGlobal), second: i64) -> String {
+pub(super) fn note_of(rt: &(impl Abort + AllocGlobal), tab: &Tab, second: i64) -> String {
     let until = MIDNIGHT.saturating_add(second);
     let mut note = format!(in rt.alloc(); "crontool state 1\n{until}\n").expect(rt, "memory");
-    for line in TAB.lines() {
+    for line in tab.text.lines() {
         for text in ["\t", line, "\n"] {
             note.push_str(text).expect(rt, "memory");
         }
