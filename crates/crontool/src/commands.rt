@@ -1,7 +1,8 @@
 //! The subcommands with their words, and what they ask for.
 
 use crate::{
-    alarm, calendar, check, compare, done, due, explain, late, list, oncalendar, overlap, run,
+    alarm, calendar, check, collisions, compare, done, due, explain, late, list, oncalendar,
+    overlap, run,
 };
 use clap::{Arg, ArgAction, ArgMatches, Command, value_parser};
 use cron_fires::ClockChanges;
@@ -139,6 +140,7 @@ pub(crate) fn command<'a>(alloc: Global) -> Result<Command<'a>, AllocError> {
         .subcommand(check::command(alloc)?)?
         .subcommand(compare::command(alloc)?)?
         .subcommand(overlap::command(alloc)?)?
+        .subcommand(collisions::command(alloc)?)?
         .subcommand(oncalendar::command(alloc)?)?
         .subcommand(explain::command(alloc)?)?
         .subcommand(calendar::command(alloc)?)?
