@@ -33,6 +33,11 @@ fn plain_arg<'a>(alloc: Global, name: &'a str, kind: Kind) -> Arg<'a> {
             .value_parser(value_parser!(u64)),
         Kind::Default(value, default) => arg.long(name).value_name(value).default_value(default),
         Kind::Needed(value) => arg.long(name).value_name(value).required(true),
+        Kind::NeededMany(value) => arg
+            .long(name)
+            .value_name(value)
+            .required(true)
+            .action(ArgAction::Append),
         Kind::NeededNumber(value) => arg
             .long(name)
             .value_name(value)

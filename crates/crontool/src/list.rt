@@ -33,15 +33,20 @@ struct Request<'a> {
     most: usize,
 }
 
+/// Whose crontabs they are.
+pub(crate) fn kind_of(words: &ArgMatches<'_>) -> Crontab {
+    if words.get_flag("system") {
+        Crontab::System
+    } else {
+        Crontab::User
+    }
+}
+
 // What is asked for, and of which files. `None` where words are missing.
 fn request_of<'a, 'w>(words: &'w ArgMatches<'a>) -> Option<(Request<'a>, &'w [&'a str])> {
     let given = words.get_strs("FILE")?;
     let request = Request {
-        kind: if words.get_flag("system") {
-            Crontab::System
-        } else {
-            Crontab::User
-        },
+        kind: kind_of(words),
         form: form_of(words),
         clock: clock_of(words),
         zone: words.get_str("zone")?,
@@ -98,6 +103,23 @@ fn tell_refused(rt: &HostRuntime, file: &TabFile<'_>, names: &[NamedZone<'_>]) -
         Status::Unreadable => no_memory(rt),
         status => status,
     }
+}
+
+/// Tells which lines of crontabs are refused, and answers whether one is; or how the subcommand
+/// ends, where it can't go on.
+pub(crate) fn tell_all_refused(
+    rt: &HostRuntime,
+    files: &[TabFile<'_>],
+    names: &[NamedZone<'_>],
+) -> Result<Status, Status> {
+    let mut told = Status::Done;
+    for file in files {
+        told = told.worse(tell_refused(rt, file, names));
+    }
+    if told.code() > Status::No.code() {
+        return Err(told);
+    }
+    Ok(told)
 }
 
 // Tells which lines of a crontab are refused, and adds the others.
@@ -192,8 +214,8 @@ fn list_zoned(
     Ok(list_tabs(rt, request, files, &firing, end, zones.as_slice()))
 }
 
-// The crontabs, each with its name where there are several.
-fn tabs_of<'a>(
+/// The crontabs, each with its name where there are several.
+pub(crate) fn tabs_of<'a>(
     alloc: Global,
     kind: Crontab,
     names: &'a [&str],

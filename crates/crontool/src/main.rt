@@ -6,6 +6,7 @@
 mod alarm;
 mod calendar;
 mod check;
+mod collisions;
 mod commands;
 mod compare;
 mod done;
@@ -83,6 +84,7 @@ fn answer_words(rt: &HostRuntime, name: &str, words: &ArgMatches<'_>) -> Status 
         "check" => check::answer(rt, words),
         "compare" => compare::answer(rt, words),
         "overlap" => overlap::answer(rt, words),
+        "collisions" => collisions::answer(rt, words),
         "oncalendar" => oncalendar::answer(rt, words),
         "explain" => explain::answer(rt, words),
         "calendar" => calendar::answer(rt, words),

@@ -28,6 +28,8 @@ pub(crate) enum Kind {
     Default(&'static str, &'static str),
     /// `--NAME VALUE`, which must be there.
     Needed(&'static str),
+    /// `--NAME VALUE`, which must be there, and may be there several times.
+    NeededMany(&'static str),
     /// `--NAME VALUE`, a number of 32 bits, which must be there.
     NeededNumber(&'static str),
 }
@@ -267,6 +269,32 @@ const OVERLAP: Subcommand = Subcommand {
     words: &[EXPRESSION, OTHER, QUARTZ],
 };
 
+const COLLISIONS: Subcommand = Subcommand {
+    name: "collisions",
+    about: "Tells which entries of crontabs collide after START, up to and with END",
+    usage: None,
+    words: &[
+        START,
+        END,
+        Word(
+            "minutes",
+            Kind::NeededNumber("N"),
+            &[],
+            "How long each fire lasts",
+        ),
+        Word(
+            "file",
+            Kind::NeededMany("FILE"),
+            &[],
+            "A crontab, or - for standard input",
+        ),
+        SYSTEM,
+        ZONE,
+        ONCE,
+        AS_SHOWN,
+    ],
+};
+
 const ON_CALENDAR: Subcommand = Subcommand {
     name: "oncalendar",
     about: "Writes an expression as lines of systemd's OnCalendar",
@@ -385,7 +413,7 @@ const ALARM: Subcommand = Subcommand {
 };
 
 /// All of them, as the help lists them.
-pub(crate) const SUBCOMMANDS: [Subcommand; 15] = [
+pub(crate) const SUBCOMMANDS: [Subcommand; 16] = [
     NEXT,
     BETWEEN,
     LIST,
@@ -395,6 +423,7 @@ pub(crate) const SUBCOMMANDS: [Subcommand; 15] = [
     CHECK,
     COMPARE,
     OVERLAP,
+    COLLISIONS,
     ON_CALENDAR,
     EXPLAIN,
     CALENDAR,

@@ -1,0 +1,66 @@
+//! The report of what differs between two crontabs.
+ghost use Rattle.std.specs.Prelude.{◌≡◌, [], IfOk, false};
+ghost use Rattle.cron_tab_lines.specs.Files.{file_lines};
+ghost use Rattle.cron_tab_comparing.specs.Changes.{TellsAll};
+ghost use Rattle.cron_tab_comparing.specs.Entries.{entries_in};
+ghost use Rattle.cron_tab_comparing.specs.Reports.{TellsChanges, changed_status};
+ghost use Rattle.cron_tool.specs.Statuses.{Reports, is_write_failure};
+ghost use Rattle.cron_writer.specs.Watching.{has_failed};
+
+use crate::entries::entries_of;
+use crate::telling::{tell_new, tell_old};
+use cron_tab_lines::{Crontab, Lines};
+use cron_tool::pair::send_bytes;
+use cron_tool::status::Status;
+use cron_writer::watchable::Watchable;
+use cron_writer::watched::Watched;
+use std::alloc::{AllocError, Global};
+
+// The rows of what differs.
+fn report_of(alloc: Global, kind: Crontab, old: &[u8], new: &[u8]) -> Result<Vec<u8>, AllocError>
+    ensures { IfOk result (λ report. TellsAll (entries_in [] (file_lines kind old.now))
+        (entries_in [] (file_lines kind new.now)) report.items) }
+{
+    let entries = entries_of(alloc, Lines::of(kind, old))?;
+    let others = entries_of(alloc, Lines::of(kind, new))?;
+    let mut report = Vec::new(alloc);
+    tell_old(alloc, entries.as_slice(), others.as_slice(), &mut report)?;
+    tell_new(others.as_slice(), entries.as_slice(), &mut report)?;
+    Ok(report)
+}
+
+// How it ends: whether a row is told.
+fn changed_status(report: &[u8]) -> Status
+    ensures status { result ≡ changed_status report.now }
+    ensures done { is_write_failure result ≡ false }
+{
+    if report.is_empty() {
+        Status::Done
+    } else {
+        Status::No
+    }
+}
+
+/// Writes a row for each entry of the first crontab that went or fires otherwise, and then for each
+/// of the second that came. An entry of the one is the entry of the other that runs the same: of
+/// those that do, each is that at the same place among them. The status is `Done` where there is no
+/// row, else `No`. It is `Unreadable` where memory runs out; nothing is written then. No call of
+/// the writer may have failed before.
+pub fn tell_changes<W: Watchable>(
+    alloc: Global,
+    kind: Crontab,
+    old: &[u8],
+    new: &[u8],
+    out: &mut Watched<W>,
+) -> Status
+    requires { has_failed out.old ≡ false }
+    ensures tells { TellsChanges (entries_in [] (file_lines kind old.now))
+        (entries_in [] (file_lines kind new.now))
+        (Reports W.contents W.writes W.flushes) out.old result out.new }
+    ensures mark { has_failed out.new ≡ is_write_failure result }
+{
+    match report_of(alloc, kind, old, new) {
+        Ok(report) => send_bytes(report.as_slice(), changed_status(report.as_slice()), out),
+        Err(_) => Status::Unreadable,
+    }
+}
