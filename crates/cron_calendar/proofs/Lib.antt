@@ -2,3 +2,4 @@ pub mod GridLemmas
 pub mod WeekdayLemmas
 pub mod ChangeLemmas
 pub mod RowLemmas
+pub mod HtmlLemmas

@@ -4,3 +4,4 @@ pub mod GridLaws
 pub mod Changes
 pub mod Html
 pub mod Plans
+pub mod HtmlLaws
