@@ -259,7 +259,23 @@ const COMPARE: Subcommand = Subcommand {
     name: "compare",
     about: "Tells whether two expressions match the same civil seconds",
     usage: None,
-    words: &[EXPRESSION, OTHER, QUARTZ],
+    words: &[
+        EXPRESSION,
+        OTHER,
+        QUARTZ,
+        Word(
+            "files",
+            Kind::Flag,
+            &[Rule::Without("quartz")],
+            "EXPRESSION and OTHER are files, each a crontab",
+        ),
+        Word(
+            "system",
+            Kind::Flag,
+            &[Rule::With("files")],
+            "Entries name a user",
+        ),
+    ],
 };
 
 const OVERLAP: Subcommand = Subcommand {
