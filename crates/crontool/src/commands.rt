@@ -1,6 +1,7 @@
 //! The command line, and what several subcommands ask for.
 
-use crate::words::{Kind, Rule, SUBCOMMANDS, Subcommand, Word};
+use crate::subcommands::{SUBCOMMANDS, Subcommand};
+use crate::words::{Kind, Rule, Word};
 use clap::{Arg, ArgAction, ArgMatches, Command, value_parser};
 use cron_fires::ClockChanges;
 use cron_tool::answer::{Request, Which};

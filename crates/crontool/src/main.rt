@@ -22,6 +22,7 @@ mod overlap;
 mod pair;
 mod run;
 mod state;
+mod subcommands;
 mod watch;
 mod words;
 mod zones;
