@@ -23,14 +23,15 @@ const FORMS: [&str; 5] = [
 /// How many fires are taken, and how often a first one is asked for.
 const CALLS: u32 = 1_000;
 
-/// Takes so many fires of schedules as one, of twelve at most, and tells which call last gave
-/// nothing.
+/// Takes so many fires of schedules as one, of twelve at most, begins anew where the run ends, and
+/// tells when it last ended.
 fn take_fires(schedules: &[ScheduleFields], start: Timestamp, zone: &TimeZone<'_>) -> u32 {
     let few = &schedules[..schedules.len().min(12)];
     let mut run = Run::<12>::after(few, start, zone);
     let mut ended = 0;
     for call in 0..CALLS {
         if run.next().is_none() {
+            run = Run::<12>::after(few, start, zone);
             ended = call;
         }
     }

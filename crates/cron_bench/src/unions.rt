@@ -11,11 +11,13 @@ use cron_unions::run::Run;
 use jiff::Timestamp;
 use jiff::tz::TimeZone;
 
-const PAIRS: [(&str, &str); 4] = [
+const PAIRS: [(&str, &str); 6] = [
     ("0 */5 * 1,15 * *", "0 */5 * * * Mon-Fri"),
     ("0 * * * * *", "30 * * * * *"),
     ("0 0 12 13 * *", "0 0 12 * * Fri"),
     ("0 0 0 * * *", "0 0 0 * * *"),
+    ("0 0 0 * * *", "0 0 0 * * Mon-Fri"),
+    ("0 0 0 1-20 * *", "0 0 0 * * Mon-Fri"),
 ];
 
 const FIRES: u32 = 10_000;
