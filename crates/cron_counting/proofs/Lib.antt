@@ -7,3 +7,5 @@ pub mod PartLemmas
 pub mod ListLemmas
 pub mod LawLemmas
 pub mod ProductLemmas
+pub mod SteadyLemmas
+pub mod SpanLemmas

@@ -19,7 +19,7 @@ whole_day = record { first = 0; end = 86_400 }
 lent : (ss : List Sets) (day : ℕ) (xs ys : List Times) → ys ≡ xs → IsGathered ss day xs → IsGathered ss day ys
 lent ss day xs ys e own t less = ap (λ l. fits_any l t) e ∙ own t less
 
-map_alike : (f g : ℕ → ℕ) (a b n : ℕ) → ((k : ℕ) → k < n → f (a + k) ≡ g (b + k)) → map f (range_with_len a n) ≡ map g (range_with_len b n)
+pub map_alike : (f g : ℕ → ℕ) (a b n : ℕ) → ((k : ℕ) → k < n → f (a + k) ≡ g (b + k)) → map f (range_with_len a n) ≡ map g (range_with_len b n)
 map_alike f g a b zero same = refl
 map_alike f g a b (suc n) same =
     let first : f a ≡ g b = rw (one a, one b) at (same 0 (omega arith)) in

@@ -4,7 +4,7 @@ use Rattle.std.proofs.lemmas.Bool.{le-ltb, lt-ltb}
 use Rattle.cron_bits.specs.Words.{count_below, has_bit}
 use Rattle.cron_counting.specs.declared.span.Span.{Span}
 use Rattle.cron_counting.specs.declared.times.Times.{Times}
-use Rattle.cron_counting.specs.Inner.Times.{fits_any, fits_in, is_within}
+use Rattle.cron_counting.specs.Inner.Times.{fits_any, fits_in, has_rest, is_within}
 use Rattle.cron_counting.specs.Inner.Totals.{ones, total}
 use Rattle.cron_counting.proofs.HourLemmas.{count-total}
 use Rattle.cron_counting.proofs.TotalLemmas.{total-alike, total-rows, total-split, total-times, total-zero}
@@ -72,32 +72,36 @@ module _ (h q r : ℕ → Bool) where
           let column : (m * 60 + s) % 60 ≡ s = omega arith in
           ap (λ k. q k && r ((m * 60 + s) % 60)) row ∙ ap (λ k. q m && r k) column
 
-  pub day-product : total (λ t. ones ((h (t / 3600) && r (t % 60)) && q (t % 3600 / 60))) 86_400
-      ≡ total (λ k. ones (h k)) 24 * (total (λ m. ones (q m)) 60 * total (λ s. ones (r s)) 60)
-  day-product =
-      total-product h in_hour (λ t. ones ((h (t / 3600) && r (t % 60)) && q (t % 3600 / 60))) 3600 24 (λ m s low less. ap ones (parts m s less))
-      ∙ ap (λ n. total (λ k. ones (h k)) 24 * n) hour-product
-    where
-      parts : (k u : ℕ) → u < 3600 → ((h ((k * 3600 + u) / 3600) && r ((k * 3600 + u) % 60)) && q ((k * 3600 + u) % 3600 / 60)) ≡ (h k && in_hour u)
-      parts k u less =
-          let hour : (k * 3600 + u) / 3600 ≡ k = omega arith in
-          let second : (k * 3600 + u) % 60 ≡ u % 60 = omega arith in
-          let minute : (k * 3600 + u) % 3600 / 60 ≡ u / 60 = omega arith in
-          ap (λ i. (h i && r ((k * 3600 + u) % 60)) && q ((k * 3600 + u) % 3600 / 60)) hour
-          ∙ (ap (λ i. (h k && r i) && q ((k * 3600 + u) % 3600 / 60)) second
-          ∙ (ap (λ i. (h k && r (u % 60)) && q i) minute ∙ three (h k) (r (u % 60)) (q (u / 60))))
+  pub in_parts : (k u : ℕ) → u < 3600 → ((h ((k * 3600 + u) / 3600) && r ((k * 3600 + u) % 60)) && q ((k * 3600 + u) % 3600 / 60)) ≡ (h k && in_hour u)
+  in_parts k u less =
+      let hour : (k * 3600 + u) / 3600 ≡ k = omega arith in
+      let second : (k * 3600 + u) % 60 ≡ u % 60 = omega arith in
+      let minute : (k * 3600 + u) % 3600 / 60 ≡ u / 60 = omega arith in
+      ap (λ i. (h i && r ((k * 3600 + u) % 60)) && q ((k * 3600 + u) % 3600 / 60)) hour
+      ∙ (ap (λ i. (h k && r i) && q ((k * 3600 + u) % 3600 / 60)) second
+      ∙ (ap (λ i. (h k && r (u % 60)) && q i) minute ∙ three (h k) (r (u % 60)) (q (u / 60))))
 
--- of one schedule
-pub one-product : (x : Times) (hours minutes seconds : ℕ → Bool) (h m s : ℕ) → ((k : ℕ) → hours k ≡ (nat_lt k 24 && has_bit x.hours k))
-    → ((k : ℕ) → minutes k ≡ (nat_lt k 60 && has_bit x.minutes k)) → ((k : ℕ) → seconds k ≡ (nat_lt k 60 && has_bit x.seconds k))
-    → h ≡ count_below hours 64 → m ≡ count_below minutes 64 → s ≡ count_below seconds 64
-    → h * (m * s) ≡ total (λ t. ones (fits_any (x ∷ []) t)) 86_400
-unfolding fits_any
-one-product x hours minutes seconds h m s in_hours in_minutes in_seconds e f g =
-    let first = e ∙ count-low hours (has_bit x.hours) 24 40 refl in_hours in
+  pub day-product : total (λ t. ones ((h (t / 3600) && r (t % 60)) && q (t % 3600 / 60))) 86_400
+      ≡ total (λ k. ones (h k)) 24 * total (λ u. ones (in_hour u)) 3600
+  day-product =
+      total-product h in_hour (λ t. ones ((h (t / 3600) && r (t % 60)) && q (t % 3600 / 60))) 3600 24 (λ m s low less. ap ones (in_parts m s less))
+
+-- of one schedule, in each of its hours
+pub rest-product : (x : Times) (minutes seconds : ℕ → Bool) (m s : ℕ) → ((k : ℕ) → minutes k ≡ (nat_lt k 60 && has_bit x.minutes k))
+    → ((k : ℕ) → seconds k ≡ (nat_lt k 60 && has_bit x.seconds k)) → m ≡ count_below minutes 64 → s ≡ count_below seconds 64
+    → m * s ≡ total (λ u. ones (has_rest x u)) 3600
+rest-product x minutes seconds m s in_minutes in_seconds f g =
     let second = f ∙ count-low minutes (has_bit x.minutes) 60 4 refl in_minutes in
     let third = g ∙ count-low seconds (has_bit x.seconds) 60 4 refl in_seconds in
-    rw (first, second, third) (sym (day-product (has_bit x.hours) (has_bit x.minutes) (has_bit x.seconds)))
+    rw (second, third) (sym (hour-product (has_bit x.hours) (has_bit x.minutes) (has_bit x.seconds)))
+
+-- and on a day
+pub one-product : (x : Times) (hours : ℕ → Bool) (h n : ℕ) → ((k : ℕ) → hours k ≡ (nat_lt k 24 && has_bit x.hours k))
+    → h ≡ count_below hours 64 → n ≡ total (λ u. ones (has_rest x u)) 3600 → h * n ≡ total (λ t. ones (fits_any (x ∷ []) t)) 86_400
+unfolding fits_any
+one-product x hours h n in_hours e counted =
+    let first = e ∙ count-low hours (has_bit x.hours) 24 40 refl in_hours in
+    rw (first, counted) (sym (day-product (has_bit x.hours) (has_bit x.minutes) (has_bit x.seconds)))
     ∙ total-alike (λ t. ones ((has_bit x.hours (t / 3600) && has_bit x.seconds (t % 60)) && has_bit x.minutes (t % 3600 / 60)))
     (λ t. ones (((has_bit x.hours (t / 3600) && has_bit x.seconds (t % 60)) && has_bit x.minutes (t % 3600 / 60)) || false)) 86_400
     (λ t less. ap ones (sym (or_false ((has_bit x.hours (t / 3600) && has_bit x.seconds (t % 60)) && has_bit x.minutes (t % 3600 / 60)))))

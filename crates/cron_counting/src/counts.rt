@@ -2,15 +2,17 @@
 ghost use Rattle.std.specs.Prelude.{◌≡◌, ◌+◌, ◌*◌, ◌<◌, ◌≤◌, ◌++◌, IfOk, OnOk, map};
 ghost use Rattle.std.specs.List.{range_with_len};
 ghost use Rattle.jiff.specs.Words.{plain_zone};
+ghost use Rattle.cron_bits.specs.Words.{has_bit};
 ghost use Rattle.cron_clocks.specs.Steady.{IsKnown};
 ghost use Rattle.cron_moments.specs.Civil.{days_in_range};
 ghost use Rattle.cron_counting.specs.Counts.{counts_by_day, counts_by_hour};
 ghost use Rattle.cron_counting.specs.Inner.Times.{hour_span, readings_in, IsGathered};
-ghost use Rattle.cron_counting.specs.Inner.Totals.{total};
+ghost use Rattle.cron_counting.specs.Inner.Totals.{only_if, total};
 
-use crate::day::count_readings;
+use crate::day::{count_readings, covers_day, hourly_readings};
 use crate::span::{HOUR, Span};
 use crate::times::{Times, gather};
+use cron_bits::words::Words;
 use cron_clocks::stretch::Stretch;
 use cron_moments::civil::{SECONDS_PER_DAY, civil_of};
 use cron_units::fields::ScheduleFields;
@@ -59,8 +61,26 @@ pub fn fires_by_day(
     Ok(counts)
 }
 
-// Adds how many readings the times have in each hour of a day.
-fn push_hours(
+// A number where an hour is one of these, and else 0.
+fn count_at(hours: u64, hour: u32, count: u32) -> u32
+    ensures { result ≡ only_if (has_bit hours hour) count }
+{
+    if hours.contains(hour) { count } else { 0 }
+}
+
+// Adds for each hour of a day a number where it is one of these, and else 0.
+fn push_alike(hours: u64, count: u32, counts: &mut Vec<u32>) -> Result<(), AllocError>
+    ensures { OnOk result (counts.new.items ≡ counts.old.items
+        ++ map (λ hour. only_if (has_bit hours hour) count) (range_with_len 0 24)) }
+{
+    for hour in 0..24 {
+        counts.push(count_at(hours, hour, count))?;
+    }
+    Ok(())
+}
+
+// Adds how many readings the times have in each hour of a day, hour by hour.
+fn push_each(
     times: &[Times],
     day: u32,
     zone: &TimeZone<'_>,
@@ -83,6 +103,31 @@ fn push_hours(
         counts.push(count_readings(times, day, span, zone, stretch))?;
     }
     Ok(())
+}
+
+// Adds how many readings the times have in each hour of a day. Where the day has no transition, all
+// hours of one schedule have as many.
+fn push_hours(
+    times: &[Times],
+    day: u32,
+    zone: &TimeZone<'_>,
+    stretch: &mut Stretch,
+    counts: &mut Vec<u32>,
+) -> Result<(), AllocError>
+    requires day { day < days_in_range }
+    requires known { IsKnown (plain_zone zone.now) stretch.old }
+    ensures known { IsKnown (plain_zone zone.now) stretch.new }
+    ensures counts { OnOk result (counts.new.items ≡ counts.old.items
+        ++ map
+        (λ hour. total (readings_in times.now (plain_zone zone.now) day (hour_span hour)) 86_400)
+        (range_with_len 0 24)) }
+{
+    let whole = covers_day(stretch, day, zone);
+    match times {
+        [] => push_alike(0, 0, counts),
+        [only] if whole => push_alike(only.hours, hourly_readings(only, stretch), counts),
+        _ => push_each(times, day, zone, stretch, counts),
+    }
 }
 
 /// The same in each of their hours: 24 for a day, also where its clock skips or repeats some.

@@ -19,6 +19,10 @@ has_second h s x = has_bit x.hours h && has_bit x.seconds s
 abbrev pub has_minute : ℕ → ℕ → ℕ → Times → Bool
 has_minute h m s x = has_second h s x && has_bit x.minutes m
 
+-- its sets have the minute and the second of a time so many seconds after its hour begins
+abbrev pub has_rest : Times → ℕ → Bool
+has_rest x u = has_bit x.minutes (u / 60) && has_bit x.seconds (u % 60)
+
 -- one of them has a time of day
 unfoldable pub fits_any : List Times → ℕ → Bool
 fits_any xs t = list_any (has_minute (t / 3600) (t % 3600 / 60) (t % 60)) xs

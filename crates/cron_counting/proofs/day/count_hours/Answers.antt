@@ -1,11 +1,10 @@
-use Rattle.std.proofs.Common.{sym, ap, ◌∙◌, ◌*◌, ◌≡◌, arith}
-use Rattle.cron_counting.specs.Inner.Times.{fits_in}
-use Rattle.cron_counting.specs.Inner.Totals.{ones, total}
-use Rattle.cron_counting.proofs.TotalLemmas.{add-stretch, total-none}
+use Rattle.std.proofs.Common.{◌*◌, arith}
+use Rattle.cron_counting.proofs.SpanLemmas.{none-before, none-behind}
+use Rattle.cron_counting.proofs.TotalLemmas.{add-stretch}
 use Rattle.cron_counting.proofs.day.count_hours.Goals as goal
 
 pub loop-hour-init : goal.loop-hour-init
-loop-hour-init c = (sym (total-none _), omega arith)
+loop-hour-init c = (none-before c.args.times.now c.args.span _ (omega (arith, c.min-first.ensures)), omega arith)
 
 pub loop-hour-preserved : goal.loop-hour-preserved
 loop-hour-preserved c = (
@@ -15,5 +14,5 @@ loop-hour-preserved c = (
 
 pub returns-clause-value : goal.returns-clause-value
 returns-clause-value c =
-    let last : c.loop-hour.hour ≡ 24 = omega (arith, c.loop-hour-test.false, c.loop-hour.auto.hour-end) in
-    c.loop-hour.invariant.0 ∙ ap (λ h. total (λ t. ones (fits_in c.args.times.now c.args.span t)) (h * 3600)) last
+    none-behind c.args.times.now c.args.span (c.loop-hour.hour * 3600) _ (omega (arith, c.loop-hour-test.false, c.loop-hour.auto.hour-end, c.min-end.ensures))
+    (λ early. omega (arith, early, c.loop-hour-test.false, c.loop-hour.auto.hour-end, c.min-end.ensures)) c.loop-hour.invariant.0

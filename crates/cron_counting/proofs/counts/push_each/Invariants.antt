@@ -5,7 +5,7 @@ use Rattle.jiff.specs.Words.{plain_zone}
 use Rattle.cron_clocks.specs.Steady.{IsKnown}
 use Rattle.cron_counting.specs.Inner.Times.{hour_span, readings_in}
 use Rattle.cron_counting.specs.Inner.Totals.{total}
-use Rattle.cron_counting.proofs.counts.push_hours.Given as goal
+use Rattle.cron_counting.proofs.counts.push_each.Given as goal
 
 abbrev pub invariant-loop-hour : goal.invariant-loop-hour
 invariant-loop-hour l =
