@@ -30,7 +30,7 @@ fn count_product(times: &Times) -> u32
     times.hours.below(24).count() * count_hourly(times)
 }
 
-// How many of the times lie in a span, from the hour in which it begins to the one in which it ends.
+// How many of the times lie in a span: hour by hour, from that in which it begins.
 fn count_hours(times: &[Times], span: Span) -> u32
     ensures value { result ≡ total (λ t. ones (fits_in times.now span t)) 86_400 }
     ensures few { result ≤ 86_400 }
