@@ -1,9 +1,12 @@
 -- The events of one entry more.
 use Rattle.std.proofs.Common.{◌≡◌, ℕ, suc, ◌+◌, ◌<◌, ◌≤◌, List, [], ◌∷◌, ◌++◌, get_or, length, refl, sym, subst, take, drop, drop-cons, take-suc, ap, ◌∙◌, append_assoc, append-nil, arith}
+use Rattle.std.proofs.lemmas.Option.{slice_get_read}
 use lib.ListN.{drop_of_length-le}
-use Rattle.cron_ics.specs.Calendars.{AreEvents, IsBody, total, wanted_fires}
+use Rattle.cron_ics.specs.Calendars.{AreEvents, IsBody, IsRefusal, total, wanted_fires}
 use Rattle.cron_ics.specs.declared.calendar.Wanted.{Wanted}
 use Rattle.cron_ics.specs.declared.entry.Entry.{Entry}
+use Rattle.cron_ics.specs.declared.error.IcsError.{IcsError}
+use Rattle.cron_ics.specs.declared.error.IcsError.TheVariants.{OutOfMemory, TooMany, TooManySchedules}
 
 front : (es : List Entry) (i : ℕ) (e : Entry) → i < length es → e ≡ get_or es i e → take i es ++ e ∷ [] ≡ take (i + 1) es
 front es i e within is =
@@ -34,3 +37,14 @@ pub no_more : (w : Wanted) (es : List Entry) (i : ℕ) (pushed : List ℕ) → l
 no_more w es i pushed past makes =
     let none = drop_of_length-le es {i = i} past in
     subst (IsBody w [] es) (append-nil pushed) (makes [] (subst (λ l. IsBody w (take i es) l []) (sym none) refl))
+
+-- what one entry is refused for is what all are refused for
+pub refused : (w : Wanted) (es : List Entry) (i count room : ℕ) (e : Entry) (why : IcsError) → i < length es → e ≡ get_or es i e
+    → total w es ≡ count + total w (drop i es) → count ≤ w.most → room + count ≡ w.most
+    → (why ≡ TooMany → room < length (wanted_fires w e)) → (why ≡ TooManySchedules → 12 < length e.schedules.now)
+    → IsRefusal w es why
+refused w es i count room e TooMany within is all few left many crowded =
+    omega (arith, more_fires w es i e within is, all, few, left, many refl)
+refused w es i count room e TooManySchedules within is all few left many crowded =
+    (i, e, slice_get_read es (length es) i e refl within is, crowded refl)
+refused w es i count room e OutOfMemory within is all few left many crowded = tt

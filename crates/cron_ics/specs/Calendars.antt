@@ -1,12 +1,12 @@
 -- A calendar of events.
-use Rattle.std.specs.Prelude.{◌≡◌, ◌<◌, ℕ, ◌+◌, List, [], ◌∷◌, ◌++◌, codes, length}
+use Rattle.std.specs.Prelude.{◌≡◌, ◌<◌, ℕ, ◌+◌, List, [], ◌∷◌, ◌++◌, Some, codes, length, slice_get}
 use Rattle.std.specs.List.{flat_map}
 use Rattle.cron_ics.specs.Events.{copies, digest_text, event_text, folded_lines, summary_line}
 use Rattle.cron_ics.specs.Fires.{AreTold, Told, fires_of}
 use Rattle.cron_ics.specs.declared.calendar.Wanted.{Wanted}
 use Rattle.cron_ics.specs.declared.entry.Entry.{Entry}
 use Rattle.cron_ics.specs.declared.error.IcsError.{IcsError}
-use Rattle.cron_ics.specs.declared.error.IcsError.TheVariants.{TooMany}
+use Rattle.cron_ics.specs.declared.error.IcsError.TheVariants.{OutOfMemory, TooMany, TooManySchedules}
 use Rattle.cron_ics.specs.declared.fires.Fire.{Fire}
 
 abbrev pub wanted_fires : Wanted → Entry → List Told
@@ -41,7 +41,12 @@ end_text = folded_lines (codes "END:VCALENDAR" ∷ [])
 abbrev pub IsCalendar : Wanted → List Entry → List ℕ → Type 0
 IsCalendar w entries text = (body : List ℕ) × IsBody w [] entries body × (text ≡ head_text ++ (body ++ end_text))
 
--- why there is none: it would have more events than are wanted, or another cause
+-- one of the entries has more than twelve schedules
+abbrev pub IsCrowded : List Entry → Type 0
+IsCrowded entries = (place : ℕ) × (e : Entry) × (slice_get entries place ≡ Some e) × (12 < length e.schedules.now)
+
+-- why there is none: it would have more events than are wanted, an entry has more than twelve schedules, or memory ran out
 abbrev pub IsRefusal : Wanted → List Entry → IcsError → Type 0
 IsRefusal w entries TooMany = w.most < total w entries
-IsRefusal w entries _ = Unit {0}
+IsRefusal w entries TooManySchedules = IsCrowded entries
+IsRefusal w entries OutOfMemory = Unit {0}

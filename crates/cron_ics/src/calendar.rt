@@ -61,6 +61,8 @@ fn push_entry(
         × (n ≤ room)) }
     ensures many { IfErr result (λ why. why ≡ IcsError.TooMany
         → room < length (wanted_fires wanted.now entry.now)) }
+    ensures crowded { IfErr result (λ why. why ≡ IcsError.TooManySchedules
+        → 12 < length entry.now.schedules.now) }
 {
     let fires = fires_of(alloc, entry, wanted.start, wanted.end, room)?;
     let Ok(heading) = heading_of(alloc, before, entry, wanted.minutes) else {

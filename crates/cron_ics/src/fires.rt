@@ -88,6 +88,7 @@ fn collect<L: Left>(alloc: Global, left: &mut L, room: usize) -> Result<Vec<Fire
     ensures few { IfOk result (λ fires. length (L.left left.old) ≤ room) }
     ensures many { IfErr result
         (λ why. why ≡ IcsError.TooMany → room < length (L.left left.old)) }
+    ensures crowded { IfErr result (λ why. why ≡ IcsError.TooManySchedules → ⊥) }
 {
     let mut fires = Vec::new(alloc);
     'fires: while let Some(fire) = left.take_first() {
@@ -116,6 +117,8 @@ pub(crate) fn fires_of(
         (fires_of start.nanosecond end.nanosecond entry.now) ≤ room) }
     ensures many { IfErr result (λ why. why ≡ IcsError.TooMany → room < length
         (fires_of start.nanosecond end.nanosecond entry.now)) }
+    ensures crowded { IfErr result (λ why. why ≡ IcsError.TooManySchedules
+        → 12 < length entry.now.schedules.now) }
 {
     if entry.once {
         let mut run = DueRun::between(entry.schedules, start, end, entry.zone);

@@ -1,5 +1,6 @@
 use Rattle.std.proofs.Common.{◌++◌, ap, ◌∙◌, append_assoc, arith}
-use Rattle.cron_ics.proofs.BodyLemmas.{more_fires, no_more, one_more}
+use Rattle.std.proofs.lemmas.Result.{err_from_is_err_and}
+use Rattle.cron_ics.proofs.BodyLemmas.{more_fires, no_more, one_more, refused}
 use Rattle.cron_ics.proofs.calendar.push_body.Goals as goal
 
 pub loop-place-preserved : goal.loop-place-preserved
@@ -23,3 +24,11 @@ pub returns-clause-pushed : goal.returns-clause-pushed
 returns-clause-pushed c =
     let (pushed, page, makes, count, few) = c.loop-place.invariant in
     (pushed, no_more c.args.wanted.now c.args.entries.now c.loop-place.place pushed c.loop-place-test.false makes, page)
+
+pub returns-in_err-count-clause-refused : goal.returns-in_err-count-clause-refused
+returns-in_err-count-clause-refused c =
+    let (pushed, page, makes, count, few) = c.loop-place.invariant in
+    let why = refused c.args.wanted.now c.args.entries.now c.loop-place.place c.loop-place.count _ c.index-entries-place.result c.in_err-count.field-0.0
+    c.loop-place-test.true c.index-entries-place.is count few (omega (arith, few)) c.in_err-count.ensures.many c.in_err-count.ensures.crowded in
+    let p = err_from_is_err_and c.from_residual.result c.from_residual.ensures.1 in
+    rw (p.1, p.2) why
