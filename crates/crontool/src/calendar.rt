@@ -4,6 +4,7 @@ ghost use Rattle.std.specs.Prelude.{◌<◌, ◌≤◌, IfSome};
 ghost use Rattle.crontool.specs.Periods.{IsPeriod};
 
 use crate::commands::changes_of;
+use crate::list::tell_refused;
 use crate::machine::{Surroundings, complain, open_zone, read_file, say_trouble, say_unread};
 use crate::zones::no_memory;
 use clap::ArgMatches;
@@ -13,9 +14,9 @@ use cron_crontab::Expression as TabExpression;
 use cron_fires::ClockChanges;
 use cron_tab_lines::{Crontab, Entry, Line, Lines, NamedZone, zone_below};
 use cron_tab_warnings::{follows_clock, text_of};
-use cron_tool::check::{Wanted, check};
 use cron_tool::expression::{Expression, read};
 use cron_tool::status::Status;
+use cron_tool::tab_files::TabFile;
 use cron_tool::trouble::Trouble;
 use cron_writer::watched::{Watched, send};
 use jiff::tz::TimeZone;
@@ -124,18 +125,12 @@ fn add_entries<'a>(named: &mut Vec<Named<'a>>, file: &'a [u8]) -> Result<(), All
     Ok(())
 }
 
-// Tells which lines of a crontab are refused.
-fn tell_refused(rt: &HostRuntime, file: &[u8]) -> Status {
-    let wanted = Wanted {
+/// A crontab of a user, the only one that is read.
+pub(crate) fn user_tab(bytes: &[u8]) -> TabFile<'_> {
+    TabFile {
         kind: Crontab::User,
-        front: "",
-        warn: false,
-        names: &[NamedZone { name: b"", zone: 0 }],
-    };
-    let mut complaints = Watched::new(rt.stderr());
-    match check(rt.alloc(), &wanted, file, &mut complaints) {
-        Status::Unreadable => no_memory(rt),
-        status => status,
+        name: None,
+        bytes,
     }
 }
 
@@ -275,7 +270,8 @@ fn show_words(
     if add_entries(&mut named, file.as_slice()).is_err() {
         return Err(no_memory(rt));
     }
-    let told = tell_refused(rt, file.as_slice());
+    let names = [NamedZone { name: b"", zone: 0 }];
+    let told = tell_refused(rt, &user_tab(file.as_slice()), &names);
     Ok(told.worse(show_named(rt, words, period, named.as_slice(), zone)?))
 }
 

@@ -1,8 +1,8 @@
 //! The subcommand `ics`.
 
-use crate::calendar::{expression_of, file_of, line_name};
+use crate::calendar::{expression_of, file_of, line_name, user_tab};
 use crate::commands::changes_of;
-use crate::list::read_instant;
+use crate::list::{read_instant, tell_refused};
 use crate::machine::{Surroundings, complain, open_zone, say_trouble};
 use crate::zones::{TabZones, no_memory};
 use clap::ArgMatches;
@@ -13,7 +13,6 @@ use cron_ics::error::IcsError;
 use cron_ics::write::write_calendar;
 use cron_tab_lines::{Crontab, Line, Lines, NamedZone, zone_below};
 use cron_tab_warnings::text_of;
-use cron_tool::check::{Wanted as Checked, check};
 use cron_tool::expression::{Expression, read_as};
 use cron_tool::status::Status;
 use cron_tool::trouble::Trouble;
@@ -82,21 +81,6 @@ fn add_entries<'a>(
         here = zone_below(names, here, &line);
     }
     Ok(())
-}
-
-// Tells which lines of a crontab are refused.
-fn tell_refused(rt: &HostRuntime, file: &[u8], names: &[NamedZone<'_>]) -> Status {
-    let wanted = Checked {
-        kind: Crontab::User,
-        front: "",
-        warn: false,
-        names,
-    };
-    let mut complaints = Watched::new(rt.stderr());
-    match check(rt.alloc(), &wanted, file, &mut complaints) {
-        Status::Unreadable => no_memory(rt),
-        status => status,
-    }
 }
 
 // What fires, each in its zone and by the rule that was chosen, or its own.
@@ -181,7 +165,7 @@ fn write_words(
     if add_entries(&mut named, file, names.as_slice()).is_err() {
         return Err(no_memory(rt));
     }
-    let told = tell_refused(rt, file, names.as_slice());
+    let told = tell_refused(rt, &user_tab(file), names.as_slice());
     let chosen = changes_of(words);
     match entries_of(rt.alloc(), named.as_slice(), zones.as_slice(), chosen) {
         Ok(entries) => Ok(told.worse(write_entries(rt, entries.as_slice(), &wanted))),

@@ -87,8 +87,12 @@ pub(crate) fn read_instant(
     }
 }
 
-// Tells which lines of a crontab are refused.
-fn tell_refused(rt: &HostRuntime, file: &TabFile<'_>, names: &[NamedZone<'_>]) -> Status {
+/// Tells which lines of a crontab are refused.
+pub(crate) fn tell_refused(
+    rt: &HostRuntime,
+    file: &TabFile<'_>,
+    names: &[NamedZone<'_>],
+) -> Status {
     let Ok(front) = front_of(rt.alloc(), file.name) else {
         return no_memory(rt);
     };
