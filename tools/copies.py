@@ -10,8 +10,6 @@ from kit import rt
 
 # The proof of a function in a cycle of calls is one of all of them.
 CYCLE = re.compile(r"^ *#\[cycle\b", re.M)
-# A library's symbol, of which there is one.
-SYMBOL = re.compile(r"^ *#\[unsafe\(no_mangle\)\]\n", re.M)
 
 
 def name_of(edit):
@@ -32,7 +30,7 @@ def text_of(crate, edit):
         if text.count(old) != 1:
             return None
         text = text.replace(old, new)
-    return re.sub(rf"\bfn {function.name}\b", f"fn {name_of(edit)}", SYMBOL.sub("", text), count=1)
+    return re.sub(rf"\bfn {function.name}\b", f"fn {name_of(edit)}", text, count=1)
 
 
 def proofs_of(crate, function):

@@ -2,5 +2,6 @@
 
 mod canonical;
 mod files;
+mod marks;
 mod words;
 mod writers;

@@ -4,7 +4,5 @@
 
 mod block;
 pub mod gathered;
-#[cfg(test)]
-mod tests;
 pub mod watchable;
 pub mod watched;
