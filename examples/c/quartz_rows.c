@@ -5,7 +5,7 @@
 #include "edge.h"
 #include "rows.h"
 
-#define ROWS "crates/cron_quartz_rows/data/"
+#define ROWS "crates/cron_union_rows/data/quartz_"
 
 enum { LINE = 1000 };
 

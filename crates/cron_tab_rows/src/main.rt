@@ -1,14 +1,15 @@
 //! Replays the rows of `data/`: expressions of crontabs, and what two crons make of them; others
 //! and the schedules that they are; texts with the message of their refusal; files with what their
-//! lines are; and the warnings of both. It prints each answer that isn't the one of its row, and
-//! for each file how many rows it has. Where an answer differs, or a row can't be taken apart, it
-//! ends with a status other than 0.
+//! lines are; the warnings of both; and the fires of entries. It prints each answer that isn't the
+//! one of its row, and for each file how many rows it has. Where an answer differs, or a row can't
+//! be taken apart, it ends with a status other than 0.
 #![tactic(auto)]
 
 mod crons;
 mod files;
 mod large;
 mod line_warnings;
+mod listing;
 mod masks;
 mod messages;
 mod schedules;
@@ -34,9 +35,13 @@ enum Kind {
     LineWarnings,
     /// A large file, and how many of its lines are of each kind.
     Large,
+    /// A line, and what real crons do with it where the clock changes.
+    Changes,
+    /// A line, and the days on which a transition skips its time or doubles it.
+    ChangedDays,
 }
 
-const FILES: [(Kind, &str); 7] = [
+const FILES: [(Kind, &str); 9] = [
     (Kind::Crons, "lines.tsv"),
     (Kind::Schedules, "schedules.txt"),
     (Kind::Messages, "messages.txt"),
@@ -44,6 +49,8 @@ const FILES: [(Kind, &str); 7] = [
     (Kind::Warnings, "warnings.tsv"),
     (Kind::LineWarnings, "line_warnings.tsv"),
     (Kind::Large, "large.tsv"),
+    (Kind::Changes, "crons.tsv"),
+    (Kind::ChangedDays, "changes.tsv"),
 ];
 
 impl Replay for Kind {
@@ -56,6 +63,8 @@ impl Replay for Kind {
             Kind::Warnings => warnings::replay(report, row),
             Kind::LineWarnings => line_warnings::replay(report, row),
             Kind::Large => large::replay(report, row),
+            Kind::Changes => listing::replay_changes(report, row),
+            Kind::ChangedDays => listing::replay_changed_days(report, row),
         }
     }
 }
@@ -63,5 +72,6 @@ impl Replay for Kind {
 fn main(rt: HostRuntime) -> Result<()> {
     let mut report = Report::new(&rt);
     replay_files(&mut report, &FILES)?;
+    listing::replay_fires(&mut report)?;
     report.end()
 }

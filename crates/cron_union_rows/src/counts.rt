@@ -2,12 +2,11 @@
 //! seconds, of which Python's zoneinfo told the readings. A zone `file NAME` is that of a file of
 //! the zone database (2025b), which lies beside the rows.
 
+use crate::unions::union_of;
 use anyhow::{Context, Result, ensure};
 use cron_counting::counts::{fires_by_day, fires_by_hour};
 use cron_moments::civil::{DAYS, SECONDS_PER_DAY, civil_number};
-use cron_rows::{Replay, Report, Row};
-use cron_text::{no_ordinals, read_into};
-use cron_units::fields::ScheduleFields;
+use cron_rows::{Report, Row};
 use jiff::civil::DateTime;
 use jiff::tz::{TimeZone, Tzif};
 use std::alloc::Global;
@@ -16,7 +15,7 @@ use std::fs;
 
 /// What a row counts.
 #[derive(Clone, Copy)]
-pub(crate) enum Counts {
+enum Counts {
     Days,
     Hours,
 }
@@ -53,17 +52,6 @@ fn case_of<'r>(alloc: Global, row: &'r str) -> Result<Case<'r>> {
         expressions,
         counts,
     })
-}
-
-// The seven sets of each of the expressions.
-fn union_of(alloc: Global, expressions: &str) -> Result<Vec<ScheduleFields>> {
-    let mut union = Vec::new(alloc);
-    for expression in expressions.split(" ; ") {
-        let mut fields = no_ordinals();
-        ensure!(read_into(expression, &mut fields), "no expression");
-        union.push(fields)?;
-    }
-    Ok(union)
 }
 
 // Numbers with a space between two.
@@ -107,18 +95,27 @@ fn compare(
     report.compare(row, "the counts", case.counts, got.as_str())
 }
 
-impl Replay for Counts {
-    fn replay(&self, report: &mut Report<'_>, row: Row<'_>) -> Result<()> {
-        let alloc = report.alloc();
-        let case = case_of(alloc, row.text)?;
-        if let Some(name) = case.zone.strip_prefix("file ") {
-            let bytes = fs::read(report.runtime(), name).context("the zone's file")?;
-            let file = Tzif::parse(alloc, None, bytes.as_slice())?;
-            return compare(report, *self, row, &case, &TimeZone::tzif(&file));
-        }
-        if case.zone == "UTC" {
-            return compare(report, *self, row, &case, &TimeZone::UTC);
-        }
-        compare(report, *self, row, &case, &TimeZone::posix(case.zone)?)
+// Replays a row of counts of this kind.
+fn replay(report: &mut Report<'_>, kind: Counts, row: Row<'_>) -> Result<()> {
+    let alloc = report.alloc();
+    let case = case_of(alloc, row.text)?;
+    if let Some(name) = case.zone.strip_prefix("file ") {
+        let bytes = fs::read(report.runtime(), name).context("the zone's file")?;
+        let file = Tzif::parse(alloc, None, bytes.as_slice())?;
+        return compare(report, kind, row, &case, &TimeZone::tzif(&file));
     }
+    if case.zone == "UTC" {
+        return compare(report, kind, row, &case, &TimeZone::UTC);
+    }
+    compare(report, kind, row, &case, &TimeZone::posix(case.zone)?)
+}
+
+/// Replays a row that counts the fires of days.
+pub(crate) fn replay_days(report: &mut Report<'_>, row: Row<'_>) -> Result<()> {
+    replay(report, Counts::Days, row)
+}
+
+/// Replays a row that counts the fires of hours.
+pub(crate) fn replay_hours(report: &mut Report<'_>, row: Row<'_>) -> Result<()> {
+    replay(report, Counts::Hours, row)
 }

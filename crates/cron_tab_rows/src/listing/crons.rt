@@ -1,6 +1,6 @@
 //! What real crons do with a line where a clock changes.
 
-use crate::tabs::{Span, fires_of};
+use crate::listing::tabs::{Span, fires_of};
 use anyhow::{Context, Result};
 use cron_tab_listing::{Clock, TabFire};
 use std::alloc::{AllocError, Global};

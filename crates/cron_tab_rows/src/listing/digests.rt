@@ -1,7 +1,7 @@
 //! A crontab of fifty lines over two years of Berlin's clock: how often each line fires, by each
 //! rule, and a digest of the minutes at which it does.
 
-use crate::tabs::{Span, fires_of};
+use crate::listing::tabs::{Span, fires_of};
 use anyhow::{Context, Result};
 use cron_fires::ClockChanges;
 use cron_rows::{Report, Row};

@@ -1,6 +1,6 @@
 //! A crontab over two days around a change of Chicago's clock, each fire a row.
 
-use crate::tabs::{Span, fires_of};
+use crate::listing::tabs::{Span, fires_of};
 use anyhow::{Context, Result, ensure};
 use cron_fires::ClockChanges;
 use cron_rows::{Report, Row};
