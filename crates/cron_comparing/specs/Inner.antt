@@ -1,4 +1,3 @@
 pub mod Lengths
-pub mod Units
 pub mod Common
 pub mod Differences

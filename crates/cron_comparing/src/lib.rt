@@ -6,6 +6,4 @@ pub mod common;
 pub mod difference;
 mod earlier;
 mod lengths;
-mod members;
 mod products;
-mod units;

@@ -3,7 +3,7 @@ ghost use Rattle.std.specs.Prelude.{◌≡◌, ◌&&◌, false};
 ghost use Rattle.jiff_core.specs.declared.civil.datetime.DateTime.{DateTime};
 ghost use Rattle.cron_time.specs.Matches.{matches};
 
-use crate::members::{common_days, common_members, common_years};
+use cron_unions::members::{common_days, common_members, common_years};
 use cron_units::fields::ScheduleFields;
 
 /// What both match.

@@ -1,5 +1,5 @@
 -- A schedule that another one covers adds nothing to a union.
-use Rattle.std.proofs.Common.{◌≡◌, ℕ, ◌+◌, ◌-◌, ◌<◌, ◌≤◌, pos, negsuc, ℤ, Bool, true, false, ◌&&◌, ◌||◌, cond, List, [], ◌∷◌, ◌⊎◌, inl, inr, refl, sym, ap, ◌∙◌, subst, length, get_or, arith, bit_and}
+use Rattle.std.proofs.Common.{◌≡◌, ℕ, ◌+◌, ◌-◌, ◌<◌, ◌≤◌, pos, negsuc, ℤ, Bool, true, false, ◌&&◌, ◌||◌, cond, List, [], ◌∷◌, inl, inr, refl, sym, ap, ◌∙◌, subst, length, get_or, arith, bit_and}
 use Rattle.std.specs.Prelude.{◌==◌, filter, map, nat_eq, nat_lt}
 use Rattle.std.proofs.lemmas.Bool.{cases_lt}
 use Rattle.std.proofs.lemmas.List.Elements.{filter_agree}
@@ -8,7 +8,7 @@ use Rattle.jiff_core.specs.declared.civil.time.Time.{Time}
 use Rattle.jiff_core.specs.declared.civil.datetime.DateTime.{DateTime}
 use Rattle.jiff_core.specs.Calendar.{days_in_month}
 use Rattle.jiff_tz.specs.declared.timezone.TimeZone.{TimeZone}
-use Rattle.cron_bits.specs.Words.{bit_of_three, has_bit, then_bits}
+use Rattle.cron_bits.specs.Words.{bit_of_three, has_bit}
 use Rattle.cron_bits.proofs.WordLemmas.{bit_and_test}
 use Rattle.cron_moments.specs.Calendar.{weekday_number}
 use Rattle.cron_moments.specs.Civil.{civil, seconds_in_range}
@@ -17,8 +17,8 @@ use Rattle.cron_units.specs.Units.{FieldSet, TimeUnit, contains, set_of}
 use Rattle.cron_units.proofs.SetLemmas.{contains_before}
 use Rattle.cron_time.specs.Matches.{contains_year, has_day, is_candidate, matches, matches_date, matches_day_of_month, matches_time}
 use Rattle.cron_time.specs.Timeline.{numbers_below}
-use Rattle.cron_dues.specs.Due.{Due, due}
-use Rattle.cron_moments.specs.Readings.{Reading, readings}
+use Rattle.cron_dues.specs.Due.{due}
+use Rattle.cron_moments.specs.Readings.{readings}
 use Rattle.std.specs.List.{flat_map}
 use Rattle.cron_instants.specs.Fires.{earliest_first, is_after, is_by}
 use Rattle.cron_instants.specs.Order.{is_earlier}
@@ -102,7 +102,7 @@ time_in t s covers time =
     (covers.hours time.hour) (covers.minutes time.minute))
     (covers.seconds time.second)
 
-match_in : (t s : Sets) → Covers t s → (dt : DateTime) → matches s dt ≡ true → matches t dt ≡ true
+pub match_in : (t s : Sets) → Covers t s → (dt : DateTime) → matches s dt ≡ true → matches t dt ≡ true
 unfolding matches
 match_in t s covers dt =
     by_and (matches_date s dt.date) (matches_time s dt.time) (matches_date t dt.date) (matches_time t dt.time) (date_in t s covers dt.date) (time_in t s covers dt.time)

@@ -11,3 +11,6 @@ pub mod PartLemmas
 pub mod CoverLemmas
 pub mod DueHeadLemmas
 pub mod BackLemmas
+pub mod MemberLemmas
+pub mod UnitLemmas
+pub mod ApartLemmas

@@ -5,3 +5,4 @@ pub mod Keys
 pub mod Covers
 pub mod Parts
 pub mod Backs
+pub mod Units

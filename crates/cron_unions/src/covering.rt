@@ -46,8 +46,8 @@ fn has_all_days(days: &DaysOfMonth, other: &DaysOfMonth) -> bool
     word & bits_of_days(days) == word
 }
 
-// Whether each of the seven sets has all members of the other schedule's.
-fn covers(fields: &ScheduleFields, other: &ScheduleFields) -> bool
+/// Whether each of the seven sets has all members of the other schedule's.
+pub(crate) fn covers(fields: &ScheduleFields, other: &ScheduleFields) -> bool
     ensures { IsTrue result → Covers fields.now other.now }
 {
     has_all_days(&fields.days_of_month, &other.days_of_month)

@@ -2,6 +2,7 @@
 //! fire, by both rules at clock changes.
 #![tactic(auto)]
 
+mod apart;
 pub mod back_due_run;
 pub mod back_run;
 mod branch;
@@ -12,5 +13,7 @@ pub mod dues;
 mod heads;
 pub mod instants;
 pub mod laws;
+pub mod members;
 mod nearest;
 pub mod run;
+pub mod units;

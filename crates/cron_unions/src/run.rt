@@ -5,6 +5,7 @@ ghost use Rattle.jiff.specs.Words.{plain_zone};
 ghost use Rattle.cron_unions.specs.Unions.{fires_any_after, fires_any_between, fires_any_past, fires_any_past_by};
 ghost use Rattle.cron_unions.specs.Inner.Parts.{part_of, part_of_any};
 
+use crate::apart::apart;
 use crate::branch::{Branch, NONE_LEFT};
 use crate::covering::needed;
 use crate::heads::{least_key, take_heads};
@@ -71,13 +72,28 @@ fn add_branches<'a, const N: usize>(
 }
 
 impl<'a, const N: usize> Run<'a, N> {
-    fn over(schedules: &[ScheduleFields], part: Part, zone: &'a TimeZone<'a>) -> Run<'a, N>
+    // Those of schedules as they are.
+    fn over_each(schedules: &[ScheduleFields], part: &Part, zone: &'a TimeZone<'a>) -> Run<'a, N>
         requires { length schedules.now ≤ N }
-        ensures { result ≡ part_of_any schedules.now (plain_zone zone.now) part }
+        ensures { result ≡ part_of_any schedules.now (plain_zone zone.now) part.now }
     {
         let mut branches = ArrayVec::new();
-        add_branches(&mut branches, needed(schedules), &part, zone);
+        add_branches(&mut branches, schedules, part, zone);
         Run { branches }
+    }
+
+    // Those of schedules, of which two share no match where that costs nothing.
+    fn over(schedules: &[ScheduleFields], part: &Part, zone: &'a TimeZone<'a>) -> Run<'a, N>
+        requires { length schedules.now ≤ N }
+        ensures { result ≡ part_of_any schedules.now (plain_zone zone.now) part.now }
+    {
+        match needed(schedules) {
+            [one, other] => {
+                let (one, other) = apart(one, other);
+                Run::over_each(&[one, other], part, zone)
+            }
+            few => Run::over_each(few, part, zone),
+        }
     }
 
     /// The fires whose instant comes after `start`.
@@ -89,7 +105,7 @@ impl<'a, const N: usize> Run<'a, N> {
         requires { length schedules.now ≤ N }
         ensures { result ≡ fires_any_after schedules.now (plain_zone zone.now) start.nanosecond }
     {
-        Run::over(schedules, Part::After(start), zone)
+        Run::over(schedules, &Part::After(start), zone)
     }
 
     /// The fires that are later than this one, which may be none of the schedules.
@@ -97,7 +113,7 @@ impl<'a, const N: usize> Run<'a, N> {
         requires { length schedules.now ≤ N }
         ensures { result ≡ fires_any_past schedules.now (plain_zone zone.now) fire.now }
     {
-        Run::over(schedules, Part::Past(*fire), zone)
+        Run::over(schedules, &Part::Past(*fire), zone)
     }
 
     /// The fires whose instant comes after `last` and not after `now`.
@@ -111,7 +127,7 @@ impl<'a, const N: usize> Run<'a, N> {
         ensures { result
             ≡ fires_any_between schedules.now (plain_zone zone.now) last.nanosecond now.nanosecond }
     {
-        Run::over(schedules, Part::Between(last, now), zone)
+        Run::over(schedules, &Part::Between(last, now), zone)
     }
 
     /// The fires that are later than this one, which may be none of the schedules, and whose
@@ -126,7 +142,7 @@ impl<'a, const N: usize> Run<'a, N> {
         ensures { result
             ≡ fires_any_past_by schedules.now (plain_zone zone.now) fire.now now.nanosecond }
     {
-        Run::over(schedules, Part::PastBy(*fire, now), zone)
+        Run::over(schedules, &Part::PastBy(*fire, now), zone)
     }
 
     // Takes the earliest fire that is left.

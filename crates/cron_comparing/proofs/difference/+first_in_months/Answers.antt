@@ -1,5 +1,5 @@
 use Rattle.std.proofs.Common.{◌<◌, ◌+◌, length, take, get_or, refl, sym, subst, arith}
-use Rattle.cron_comparing.specs.declared.units.Unit.TheVariants.{Year}
+use Rattle.cron_unions.specs.declared.units.Unit.TheVariants.{Year}
 use Rattle.cron_comparing.proofs.DifferenceLemmas.{IsSharing, all_units, part_in_months, sharing_all, sharing_kept, sharing_more}
 use Rattle.cron_comparing.proofs.difference.+first_in_months.Goals.{then-begins_before, else-begins_before}
 use Rattle.cron_comparing.proofs.difference.+first_in_months.Goals as goal

@@ -6,8 +6,8 @@ use Rattle.cron_moments.specs.Calendar.{weekday_number}
 use Rattle.cron_units.specs.Sets.{Sets}
 use Rattle.cron_units.specs.Units.{contains}
 use Rattle.cron_time.specs.Matches.{contains_year}
-use Rattle.cron_comparing.specs.declared.units.Unit.{Unit}
-use Rattle.cron_comparing.specs.declared.units.Unit.TheVariants.{Year, Month, Day, Weekday, Hour, Minute, Second}
+use Rattle.cron_unions.specs.declared.units.Unit.{Unit}
+use Rattle.cron_unions.specs.declared.units.Unit.TheVariants.{Year, Month, Day, Weekday, Hour, Minute, Second}
 
 -- the unit lies in its set, where no last day is marked
 abbrev pub has_unit : Sets → DateTime → Unit → Bool

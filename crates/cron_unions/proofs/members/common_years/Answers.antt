@@ -1,7 +1,7 @@
 use Rattle.std.proofs.Common.{◌&&◌, ◌-◌, refl}
 use Rattle.cron_bits.proofs.WordLemmas.{bit_and_test}
-use Rattle.cron_comparing.proofs.MemberLemmas.{made_of_two, three_of_two}
-use Rattle.cron_comparing.proofs.members.common_years.Goals as goal
+use Rattle.cron_unions.proofs.MemberLemmas.{made_of_two, three_of_two}
+use Rattle.cron_unions.proofs.members.common_years.Goals as goal
 
 pub returns : goal.returns
 returns g c =

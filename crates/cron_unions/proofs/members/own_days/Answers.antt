@@ -1,7 +1,7 @@
 use Rattle.std.proofs.Common.{◌&&◌, not, ◌-◌, refl, ap, arith}
 use Rattle.cron_units.specs.Units.{FieldSet, days_of_month}
-use Rattle.cron_comparing.proofs.MemberLemmas.{made_of_two}
-use Rattle.cron_comparing.proofs.members.own_days.Goals as goal
+use Rattle.cron_unions.proofs.MemberLemmas.{made_of_two}
+use Rattle.cron_unions.proofs.members.own_days.Goals as goal
 
 pub returns-clause-numbers : goal.returns-clause-numbers
 returns-clause-numbers c =

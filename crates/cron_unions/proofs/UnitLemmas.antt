@@ -9,9 +9,9 @@ use Rattle.cron_units.specs.Sets.{Sets}
 use Rattle.cron_units.specs.Units.{FieldSet, contains}
 use Rattle.cron_time.specs.Matches.{contains_year, has_day, is_candidate, matches, matches_date, matches_day_of_month, matches_time}
 use Rattle.cron_time.proofs.Searches.DayLemmas.{by_number_alone}
-use Rattle.cron_comparing.specs.declared.units.Unit.{Unit}
-use Rattle.cron_comparing.specs.declared.units.Unit.TheVariants.{Year, Month, Day, Weekday, Hour, Minute, Second}
-use Rattle.cron_comparing.specs.Inner.Units.{has_unit}
+use Rattle.cron_unions.specs.declared.units.Unit.{Unit}
+use Rattle.cron_unions.specs.declared.units.Unit.TheVariants.{Year, Month, Day, Weekday, Hour, Minute, Second}
+use Rattle.cron_unions.specs.Inner.Units.{has_unit}
 
 -- ---- a test more, wherever it stands
 

@@ -1,6 +1,6 @@
 use Rattle.std.proofs.Common.{◌&&◌, not, ◌-◌, refl}
-use Rattle.cron_comparing.proofs.MemberLemmas.{made_of_two}
-use Rattle.cron_comparing.proofs.members.own_members.Goals as goal
+use Rattle.cron_unions.proofs.MemberLemmas.{made_of_two}
+use Rattle.cron_unions.proofs.members.own_members.Goals as goal
 
 pub returns : goal.returns
 returns g c =

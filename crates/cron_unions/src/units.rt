@@ -2,14 +2,14 @@
 ghost use Rattle.std.specs.Prelude.{◌≡◌, ◌&&◌, not, false};
 ghost use Rattle.jiff_core.specs.declared.civil.datetime.DateTime.{DateTime};
 ghost use Rattle.cron_time.specs.Matches.{matches};
-ghost use Rattle.cron_comparing.specs.Inner.Units.{has_unit};
+ghost use Rattle.cron_unions.specs.Inner.Units.{has_unit};
 
 use crate::members::{common_days, common_members, common_years, own_days, own_members, own_years};
 use cron_units::fields::ScheduleFields;
 
 /// A unit of which a schedule has a set.
 #[derive(Clone, Copy)]
-pub(crate) enum Unit {
+pub enum Unit {
     Year,
     Month,
     Day,
@@ -20,7 +20,7 @@ pub(crate) enum Unit {
 }
 
 /// All units.
-pub(crate) const UNITS: [Unit; 7] = [
+pub const UNITS: [Unit; 7] = [
     Unit::Year,
     Unit::Month,
     Unit::Day,
@@ -31,7 +31,7 @@ pub(crate) const UNITS: [Unit; 7] = [
 ];
 
 /// What a schedule matches that has the unit in the set of another one.
-pub(crate) fn inside(fields: &ScheduleFields, other: &ScheduleFields, unit: Unit) -> ScheduleFields
+pub fn inside(fields: &ScheduleFields, other: &ScheduleFields, unit: Unit) -> ScheduleFields
     requires unmarked { fields.now.days_of_month.last_day ≡ false }
     ensures matches { (dt : DateTime)
         → matches result dt ≡ (matches fields.now dt && has_unit other.now dt unit) }
@@ -53,7 +53,7 @@ pub(crate) fn inside(fields: &ScheduleFields, other: &ScheduleFields, unit: Unit
 }
 
 /// What a schedule matches that has the unit outside the set of another one.
-pub(crate) fn outside(fields: &ScheduleFields, other: &ScheduleFields, unit: Unit) -> ScheduleFields
+pub fn outside(fields: &ScheduleFields, other: &ScheduleFields, unit: Unit) -> ScheduleFields
     requires unmarked { fields.now.days_of_month.last_day ≡ false }
     ensures matches { (dt : DateTime)
         → matches result dt ≡ (matches fields.now dt && not (has_unit other.now dt unit)) }

@@ -1,6 +1,6 @@
 use Rattle.std.proofs.Common.{Bool}
-use Rattle.cron_comparing.proofs.UnitLemmas.{by_year, by_month, by_day, by_weekday, by_hour, by_minute, by_second}
-use Rattle.cron_comparing.proofs.units.inside.Goals as goal
+use Rattle.cron_unions.proofs.UnitLemmas.{by_year, by_month, by_day, by_weekday, by_hour, by_minute, by_second}
+use Rattle.cron_unions.proofs.units.inside.Goals as goal
 
 pub returns-in-Year-clause-matches : goal.returns-in-Year-clause-matches
 returns-in-Year-clause-matches c = λ dt. rw c.in-Year.is (by_year (λ (b : Bool). b) _ _ _ _ _ c.fields.view_is c.other.view_is c.common_years-part-inside.ensures dt)

@@ -11,7 +11,7 @@ use cron_units::time_unit::{DaysOfMonth, Ordinals, UnitTable};
 
 /// The members of both.
 #[inline(always)]
-pub(crate) fn common_members<U: UnitTable<u64>>(
+pub fn common_members<U: UnitTable<u64>>(
     set: &Ordinals<U, u64>,
     other: &Ordinals<U, u64>,
 ) -> Ordinals<U, u64>
@@ -22,7 +22,7 @@ pub(crate) fn common_members<U: UnitTable<u64>>(
 
 /// The years of both.
 #[inline(always)]
-pub(crate) fn common_years<U: UnitTable<Wide>>(
+pub fn common_years<U: UnitTable<Wide>>(
     set: &Ordinals<U, Wide>,
     other: &Ordinals<U, Wide>,
 ) -> Ordinals<U, Wide>
@@ -39,7 +39,7 @@ pub(crate) fn common_years<U: UnitTable<Wide>>(
 
 /// The numbered days of both, without a mark of the last day.
 #[inline(always)]
-pub(crate) fn common_days(days: &DaysOfMonth, other: &DaysOfMonth) -> DaysOfMonth
+pub fn common_days(days: &DaysOfMonth, other: &DaysOfMonth) -> DaysOfMonth
     ensures numbers { (x : ℕ) → contains result.ordinals x
         ≡ (contains days.now.ordinals x && contains other.now.ordinals x) }
     ensures unmarked { result.last_day ≡ false }
@@ -57,7 +57,7 @@ fn own_bits(word: u64, other: u64) -> u64
 
 /// The members of the first alone.
 #[inline(always)]
-pub(crate) fn own_members<U: UnitTable<u64>>(
+pub fn own_members<U: UnitTable<u64>>(
     set: &Ordinals<U, u64>,
     other: &Ordinals<U, u64>,
 ) -> Ordinals<U, u64>
@@ -68,7 +68,7 @@ pub(crate) fn own_members<U: UnitTable<u64>>(
 
 /// The years of the first alone.
 #[inline(always)]
-pub(crate) fn own_years<U: UnitTable<Wide>>(
+pub fn own_years<U: UnitTable<Wide>>(
     set: &Ordinals<U, Wide>,
     other: &Ordinals<U, Wide>,
 ) -> Ordinals<U, Wide>
@@ -85,7 +85,7 @@ pub(crate) fn own_years<U: UnitTable<Wide>>(
 
 /// The numbered days of the first alone, without a mark of the last day.
 #[inline(always)]
-pub(crate) fn own_days(days: &DaysOfMonth, other: &DaysOfMonth) -> DaysOfMonth
+pub fn own_days(days: &DaysOfMonth, other: &DaysOfMonth) -> DaysOfMonth
     ensures numbers { (x : ℕ) → contains result.ordinals x
         ≡ (contains days.now.ordinals x && not (contains other.now.ordinals x)) }
     ensures unmarked { result.last_day ≡ false }
