@@ -25,6 +25,9 @@ const MARCH_2100: u32 = 25_202;
 /// The days from 1970-01-01 to 2100-03-01.
 const DAYS_TO_MARCH_2100: u32 = 47_541;
 
+/// The days before each month of a year that begins in March.
+const DAYS_BEFORE: [u32; 12] = [0, 31, 61, 92, 122, 153, 184, 214, 245, 275, 306, 337];
+
 // The days of so many years from March 1969 on. The third of them ends in a leap day, and each
 // fourth after it.
 #[inline(always)]
@@ -41,7 +44,7 @@ fn days_of_months(months: u32) -> u32
     requires { months < 12 }
     ensures { result ≡ (153 * months + 2) / 5 }
 {
-    (153 * months + 2) / 5
+    DAYS_BEFORE[months as usize]
 }
 
 // The leap day that is lacking from a number on.
@@ -84,12 +87,14 @@ fn month_and_day(number: u32) -> (u32, u32)
     )
 }
 
-/// The day of the week of a day number, from 1 for Sunday: day 0 was a Thursday.
+/// The day of the week of a day number, from 1 for Sunday: day 0 was a Thursday. A number of 16 bits
+/// is divided by fewer steps than one of 32.
 #[inline(always)]
 pub fn weekday_of(number: u32) -> u32
     requires { number < days_in_range }
     ensures { result ≡ weekday_number (date_numbered number).0 }
 {
+    let number = number as u16 as u32;
     (number + 4) % 7 + 1
 }
 
@@ -192,17 +197,8 @@ impl KnownMonth {
         self.first + day - 1
     }
 
-    // Each month has the shortest one's days: its own length is seldom asked for.
-    #[inline(always)]
-    fn is_longer_than(self, days: u32) -> bool
-        ensures longer { result ≡ true → days < length_of self }
-        ensures covered { result ≡ false → length_of self ≤ days }
-    {
-        days < SHORTEST || days < length_of(self.month)
-    }
-
-    /// The month and the day of the month with this number. It costs little where it lies in
-    /// this month.
+    /// The month and the day of the month with this number. It costs little where it is one of the
+    /// days of this month that each month has.
     #[inline(always)]
     pub fn month_and_day(self, number: u32) -> (u32, u32)
         requires { number < days_in_range }
@@ -214,7 +210,7 @@ impl KnownMonth {
             return month_and_day(number);
         }
         let before = number - self.first;
-        if self.is_longer_than(before) {
+        if before < SHORTEST {
             return (self.month, before + 1);
         }
         month_and_day(number)

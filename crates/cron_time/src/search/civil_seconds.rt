@@ -10,24 +10,14 @@ ghost use Rattle.cron_time.specs.Search.Inner.Numbers.{beyond, beyond_block, mat
 use crate::search::days::some_month_has_a_day;
 use crate::search::members::Members;
 use crate::search::month_days::MonthDays;
-use crate::search::neighbours::{Neighbours, TimesOfDay, time_past};
+use crate::search::neighbours::time_past;
 use crate::search::start_of;
+use crate::search::times::time_from;
 use crate::search::ways::{entry, extreme};
 use cron_moments::calendar::KnownMonth;
 use cron_moments::civil::SECONDS_PER_DAY;
 use cron_units::fields::ScheduleFields;
 use cron_units::way::Way;
-
-// The nearest time of day from one on.
-#[inline(always)]
-fn time_from(fields: &ScheduleFields, way: Way, from: u32) -> Option<u32>
-    requires { from < 86_400 }
-    ensures nearest { IsNearest way (matches_second fields.now) (pos from) result }
-    ensures bound { IfSome result (λ n. n < 86_400) }
-{
-    let members = Members::of(fields);
-    TimesOfDay::nearest(&members, way, from)
-}
 
 // The nearest time of day past one.
 #[inline(always)]

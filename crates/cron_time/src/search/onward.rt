@@ -15,9 +15,10 @@ ghost use Rattle.cron_time.specs.Search.{IsFound};
 
 use crate::search::members::Members;
 use crate::search::month_days::MonthDays;
-use crate::search::neighbours::{Neighbours, TimesOfDay, time_past};
+use crate::search::neighbours::time_past;
 use crate::search::readable::search_readable;
 use crate::search::start_of;
+use crate::search::times::time_from;
 use crate::search::ways::{entry, extreme, past};
 use cron_clocks::stretch::Stretch;
 use cron_moments::civil::SECONDS_PER_DAY;
@@ -74,8 +75,7 @@ fn search_day_times(
         (option_map found_items result) }
     ensures known { IsKnown (plain_zone zone.now) stretch.new }
 {
-    let members = Members::of(fields);
-    let first = TimesOfDay::nearest(&members, way, from);
+    let first = time_from(fields, way, from);
     search_readable(fields, zone, way, day, from, first, stretch)
 }
 
