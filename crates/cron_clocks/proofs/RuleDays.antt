@@ -1,37 +1,23 @@
 -- The days of a year among which a rule's day is in every year.
-use Rattle.std.proofs.Common.{◌≡◌, ℕ, zero, suc, ◌+◌, ◌-◌, ◌*◌, ◌/◌, ◌%◌, ◌<◌, ◌≤◌, Bool, true, false, cond, ◌&&◌, nat_le, ℤ, pos, ◌+ℤ◌, ◌-ℤ◌, ◌≤ℤ◌, refl, arith, min, ◌==◌, nat_lt}
+use Rattle.std.proofs.Common.{◌≡◌, ℕ, ◌+◌, ◌-◌, ◌*◌, ◌%◌, ◌<◌, ◌≤◌, Bool, true, false, cond, ◌&&◌, nat_le, ℤ, pos, ◌+ℤ◌, ◌-ℤ◌, ◌≤ℤ◌, refl, arith, min, ◌==◌, nat_lt}
 use Rattle.std.proofs.lemmas.Bool.Decides.{nat_tests}
 use Rattle.std.proofs.lemmas.Bool.{lt-ltb}
 use Rattle.jiff_core.specs.Calendar.{days_from_civil, days_in_month, days_in_year, is_leap_year, days_of_months}
 use Rattle.jiff_core.proofs.CalendarLemmas.{days_from_civil-day_count, day_count-day_of_year, days_in_month_bounds, days_in_year_bounds}
 use Rattle.jiff_core.proofs.DateLemmas.{days_from_civil-day}
-use Rattle.jiff_core.proofs.MarchLemmas.{days_of_months-late, leap_day}
+use Rattle.jiff_core.proofs.MarchLemmas.{leap_day}
 use Rattle.jiff_core.proofs.SignedLemmas.{signed_arith}
 use Rattle.jiff_tz.specs.declared.posix.Day.TheVariants.{JulianOne, JulianZero, WeekdayOfMonth}
 use Rattle.jiff_tz.specs.PosixRule.{first_day, rule_day, sunday_number, nth_weekday, last_weekday}
 use Rattle.cron_clocks.specs.Transitions.{IsAmong}
 
 -- the days before a month, in the shorter years and in each
-leap_few : (y : ℤ) → leap_day y ≤ 1
+pub leap_few : (y : ℤ) → leap_day y ≤ 1
 leap_few y = few (is_leap_year y)
   where
     few : (b : Bool) → cond b 1 0 ≤ 1
     few true = omega arith
     few false = omega arith
-
-pub days_early : (y : ℤ) (m : ℕ) → 1 ≤ m → m < 3 → days_of_months y (m - 1) ≡ 31 * (m - 1)
-unfolding days_of_months
-days_early y zero low high = absurd (omega arith)
-days_early y (suc zero) low high = refl
-days_early y (suc (suc zero)) low high = refl
-days_early y (suc (suc (suc n))) low high = absurd (omega arith)
-
-pub days_late : (y : ℤ) (m : ℕ) → 3 ≤ m → m ≤ 12
-    → ((153 * m - 457) / 5 + 59 ≤ days_of_months y (m - 1)) × (days_of_months y (m - 1) ≤ (153 * m - 457) / 5 + 60)
-days_late y m low high =
-    let months = days_of_months-late y m low (omega arith) in
-    let leap = leap_few y in
-    (omega (arith, months, leap), omega (arith, months, leap))
 
 month_start : (y : ℤ) (m : ℕ) → days_from_civil y m 1 ≡ first_day y +ℤ pos (days_of_months y (m - 1))
 month_start y m =

@@ -41,7 +41,7 @@ kept_up z low high =
 march_days_few : (k : ℕ) → k < years_in_range → march_days (11_969 + k) ≡ 4_371_587 + (1461 * k + 1) / 4
 march_days_few k h = omega arith
 
-first_of : (k : ℕ) → k < years_in_range → first_day (pos (1970 + k)) ≡ pos ((1461 * k + 1) / 4)
+pub first_of : (k : ℕ) → k < years_in_range → first_day (pos (1970 + k)) ≡ pos ((1461 * k + 1) / 4)
 first_of k h =
     let e : pos (1970 + k) +ℤ pos 10000 ≡ pos (suc (11_969 + k)) = omega (arith, signed_arith) in
     omega (
@@ -65,21 +65,26 @@ day_high day k h e =
           omega (arith, signed_arith)
     ]
 
+pub year_has : (n k : ℕ) → n < seconds_in_range → k ≡ (4 * (n / 86_400) + 2) / 1461 → IsYearAt (pos (1970 + k)) n
+year_has n k h e =
+    let first = first_of k (omega arith) in
+    let high = day_high (n / 86_400) k (omega arith) e in
+    record {
+      in_range = h;
+      year = (omega (arith, signed_arith), omega (arith, signed_arith));
+      low = omega (arith, signed_arith);
+      high = omega (arith, signed_arith);
+    }
+
 pub year_at : (n k : ℕ) → n < seconds_in_range → k ≡ (4 * (n / 86_400) + 2) / 1461 → IsYearOf ((1461 * k + 1) / 4 * 86_400) n
 year_at n k h e =
     let first = first_of k (omega arith) in
-    let high = day_high (n / 86_400) k (omega arith) e in
     record {
       number = pos (1970 + k);
       low_year = omega (arith, signed_arith);
       high_year = omega (arith, signed_arith);
       from = omega (arith, signed_arith);
-      has = record {
-        in_range = h;
-        year = (omega (arith, signed_arith), omega (arith, signed_arith));
-        low = omega (arith, signed_arith);
-        high = omega (arith, signed_arith);
-      };
+      has = year_has n k h e;
       room = omega arith;
     }
 

@@ -157,6 +157,7 @@ fn learn(
 // The offset that a clock shows in a second of UTC by a rule, if it's known from the transitions of
 // that year. Where the clock shows the same year, they tell the stretch of the civil second that it
 // shows, too.
+#[inline(never)]
 fn offset_by_transitions(
     rule: posix::TimeZone,
     dst: posix::Dst,
@@ -236,35 +237,6 @@ fn offset_at(zone: &TimeZone<'_>, instant: Timestamp, second: i64, stretch: &mut
     }
 }
 
-// The same from the transitions of the year of the second.
-#[inline(never)]
-fn kept_around(rule: posix::TimeZone, dst: posix::Dst, second: u32) -> Option<Kept>
-    requires range { second < seconds_in_range }
-    requires saving { rule.dst ≡ Some dst }
-    ensures { IfSome result
-        (λ kept. IsKeptUpTo (Posix rule) (pos second) kept.end kept.offset.seconds) }
-{
-    kept_among(rule, dst, transitions_around(dst, second), second)
-}
-
-// The same from the season of the second, or else from the transitions of its year.
-#[inline(always)]
-fn kept_from(rule: posix::TimeZone, dst: posix::Dst, second: u32) -> Option<Kept>
-    requires range { second < seconds_in_range }
-    requires saving { rule.dst ≡ Some dst }
-    ensures apart { IfSome result (λ kept. TransitionsAreApart dst) }
-    ensures kept { IfSome result
-        (λ kept. IsKeptUpTo (Posix rule) (pos second) kept.end kept.offset.seconds) }
-{
-    let Some(season) = season_if_apart(rule, dst, second)? else {
-        return kept_around(rule, dst, second);
-    };
-    Some(Kept {
-        offset: season.offset,
-        end: season.end,
-    })
-}
-
 /// The offset that a clock in a zone with a rule shows at a second of UTC, and up to where it keeps
 /// it, as far as the place of the second in its year tells it, or else that year's transitions.
 /// That is up to some days before a transition, up to a transition, or to the end of the year.
@@ -282,11 +254,18 @@ pub fn kept_by_rule(zone: &TimeZone<'_>, second: i64) -> Option<Kept>
     if second < 0 || second >= SECONDS {
         return None;
     }
-    kept_from(rule, dst, second as u32)
+    match season_if_apart(rule, dst, second as u32)? {
+        Some(season) => Some(Kept {
+            offset: season.offset,
+            end: season.end,
+        }),
+        None => kept_by_transitions(zone, second),
+    }
 }
 
 /// The same from the transitions of the year alone, also where they lie near each other. Near a
 /// transition this is the shorter way.
+#[inline(never)]
 pub fn kept_by_transitions(zone: &TimeZone<'_>, second: i64) -> Option<Kept>
     ensures { IfSome result
         (λ kept. IsKeptUpTo (plain_zone zone.now) second kept.end kept.offset.seconds) }
@@ -298,7 +277,8 @@ pub fn kept_by_transitions(zone: &TimeZone<'_>, second: i64) -> Option<Kept>
     if second < 0 || second >= SECONDS {
         return None;
     }
-    kept_around(rule, dst, second as u32)
+    let civil = second as u32;
+    kept_among(rule, dst, transitions_around(dst, civil), civil)
 }
 
 /// The number of the civil second that a clock in the zone shows at an instant. Where the

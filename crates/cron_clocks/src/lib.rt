@@ -11,5 +11,6 @@ mod season;
 pub mod stretch;
 mod table;
 mod transitions;
+mod years;
 
 pub use agreement::lookups_agree;

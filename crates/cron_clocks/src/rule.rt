@@ -1,5 +1,5 @@
 //! The civil seconds between the transitions of a rule.
-ghost use Rattle.std.specs.Prelude.{◌≡◌, ◌≤◌, ◌<◌, pos, neg_ℤ, ◌+ℤ◌, ◌-ℤ◌, ◌*ℤ◌, ◌≤ℤ◌, ◌<ℤ◌, IsTrue, Some, true};
+ghost use Rattle.std.specs.Prelude.{◌≡◌, ◌≤◌, ◌<◌, ◌+◌, ◌-◌, ◌%◌, pos, neg_ℤ, ◌+ℤ◌, ◌-ℤ◌, ◌*ℤ◌, ◌≤ℤ◌, ◌<ℤ◌, IsTrue, Some, true};
 ghost use Rattle.jiff_core.specs.Calendar.{IsYear, IsBetween, IsEpochDay, IsWithin, days_in_year};
 ghost use Rattle.jiff_core.specs.Date.{epoch_day};
 ghost use Rattle.jiff_core.specs.Timestamp.{nanos_of_seconds};
@@ -12,7 +12,8 @@ ghost use Rattle.cron_clocks.specs.Steady.{IsToldBy};
 
 use crate::offsets::{Placed, offsets_among};
 use crate::transitions::DAY;
-use cron_moments::civil::{SECONDS, civil_of};
+use crate::years::{Year, year_of};
+use cron_moments::civil::SECONDS;
 use jiff::tz::Offset;
 use jiff_core::civil::{Date, days_in_year, is_leap_year};
 use jiff_tz::posix::{Day, DayTime, Dst, TimeZone};
@@ -38,15 +39,6 @@ pub(crate) const WHOLE: Span = Span {
     first: 0,
     end: SECONDS,
 };
-
-// The day number of 1 January.
-fn new_year(year: i16) -> i32
-    requires { IsYear year }
-    ensures value { result ≡ Rule.first_day year }
-    ensures bound { IsEpochDay result }
-{
-    Date::constrain(year, 1, 1).to_unix_epoch_day()
-}
 
 // The civil seconds of a year, which begins with this day.
 fn year_span(year: i16, new_year: i32) -> Span
@@ -74,13 +66,24 @@ fn number_of(date: Date, new_year: i32) -> i32
     new_year + i32::from(date.day_of_year()) - 1
 }
 
-// The weekday of a day, from 0 for Sunday. Day 0 was a Thursday.
-fn sunday_zero(day: i32) -> u8
-    requires { IsEpochDay day }
-    ensures value { result ≡ sunday_number day }
+// How many days after a day the next such weekday is, from 0 for Sunday. Day 0 was a Thursday.
+fn days_ahead(day: i32, weekday: u8) -> u8
+    requires bound { IsEpochDay day }
+    requires weekday_in { weekday ≤ 6 }
+    ensures value { result ≡ (weekday + 7 - sunday_number day) % 7 }
     ensures bound { result < 7 }
 {
-    (day + 4).rem_euclid(7) as u8
+    (i32::from(weekday) - 4 - day).rem_euclid(7) as u8
+}
+
+// How many days before a day the last such weekday is.
+fn days_back(day: i32, weekday: u8) -> u8
+    requires bound { IsEpochDay day }
+    requires weekday_in { weekday ≤ 6 }
+    ensures value { result ≡ (sunday_number day + 7 - weekday) % 7 }
+    ensures bound { result < 7 }
+{
+    (day + 4 - i32::from(weekday)).rem_euclid(7) as u8
 }
 
 // The day number of the weekday in the week of the month, where week 5 is the last. The year begins
@@ -95,12 +98,10 @@ fn day_of_week(year: i16, new_year: i32, month: u8, week: u8, weekday: u8) -> i3
 {
     if week == 5 {
         let last = number_of(Date::constrain(year, month, 31), new_year);
-        let back = (sunday_zero(last) + 7 - weekday) % 7;
-        last - i32::from(back)
+        last - i32::from(days_back(last, weekday))
     } else {
         let first = number_of(Date::constrain(year, month, 1), new_year);
-        let ahead = (weekday + 7 - sunday_zero(first)) % 7;
-        first + i32::from(ahead) + 7 * (i32::from(week) - 1)
+        first + i32::from(days_ahead(first, weekday)) + 7 * (i32::from(week) - 1)
     }
 }
 
@@ -197,22 +198,24 @@ pub(crate) struct Transitions {
 }
 
 // The transitions of a rule in a year.
-fn transitions_of(dst: Dst, number: i16) -> Transitions
-    requires { IsYear number }
+fn transitions_of(dst: Dst, of: Year) -> Transitions
+    requires year { IsYear of.number }
+    requires new_year { of.new_year ≡ Rule.first_day of.number }
+    requires bound { IsEpochDay of.new_year }
     ensures transitions { AreTransitions dst
         result.year.first
         result.year.end
         result.start
         result.end }
-    ensures first { result.year.first ≡ Rule.first_day number *ℤ pos 86_400 }
-    ensures end { result.year.end ≡ year_end number }
+    ensures first { result.year.first ≡ Rule.first_day of.number *ℤ pos 86_400 }
+    ensures end { result.year.end ≡ year_end of.number }
 {
-    let first = new_year(number);
-    let year = year_span(number, first);
+    let Year { number, new_year } = of;
+    let year = year_span(number, new_year);
     Transitions {
         year,
-        start: transition_in(dst.rule.start, number, first, year),
-        end: transition_in(dst.rule.end, number, first, year),
+        start: transition_in(dst.rule.start, number, new_year, year),
+        end: transition_in(dst.rule.end, number, new_year, year),
     }
 }
 
@@ -227,7 +230,7 @@ pub(crate) fn transitions_around(dst: Dst, second: u32) -> Transitions
     ensures low { result.year.first ≤ℤ pos second }
     ensures high { pos second <ℤ result.year.end }
 {
-    transitions_of(dst, civil_of(second).to_plain().date.year)
+    transitions_of(dst, year_of(second))
 }
 
 /// The part of the span that has the second in it, where the span is parted at the transition.

@@ -15,6 +15,7 @@ ghost use Rattle.cron_clocks.specs.Transitions.{TransitionsAreApart};
 
 use crate::rule::{Span, SpanOffsets, WHOLE, between_transitions, transitions_around};
 use crate::transitions::{SecondsOfYear, is_week_before, is_week_inside, seconds_of};
+use crate::years::year_start_of;
 use cron_moments::civil::{FURTHEST_OFFSET, SECONDS, SECONDS_PER_DAY};
 use jiff::tz::Offset;
 use jiff_tz::posix::{Dst, TimeZone};
@@ -92,6 +93,7 @@ fn season_bounds_among(
 }
 
 // The bounds of a year's seasons by a rule whose transitions lie apart.
+#[inline(always)]
 fn season_bounds_of(rule: TimeZone, dst: Dst) -> Option<SeasonBounds>
     requires { rule.dst ≡ Some dst }
     ensures apart { IfSome result (λ c. TransitionsAreApart dst) }
@@ -118,16 +120,6 @@ fn season_bounds_of(rule: TimeZone, dst: Dst) -> Option<SeasonBounds>
     } else {
         None
     }
-}
-
-// The second that begins the year of a second. Each fourth year from 1972 on is longer: 2100, which
-// isn't, is the last one.
-fn year_start_of(second: u32) -> u32
-    requires { second < seconds_in_range }
-    ensures { IsYearOf result second }
-{
-    let years = (4 * (second / SECONDS_PER_DAY) + 2) / 1461;
-    (1461 * years + 1) / 4 * SECONDS_PER_DAY
 }
 
 // The season of a second, if it lies in one, from the second that begins its year. Those at the
@@ -174,6 +166,7 @@ fn season_among(season_bounds: SeasonBounds, year_start: u32, second: u32) -> Op
 
 /// The season of a second of UTC, or of a civil second, if the place in its year tells it. `None`
 /// where the transitions of the rule lie near each other.
+#[inline(always)]
 pub(crate) fn season_if_apart(rule: TimeZone, dst: Dst, second: u32) -> Option<Option<Season>>
     requires range { second < seconds_in_range }
     requires saving { rule.dst ≡ Some dst }
@@ -186,6 +179,7 @@ pub(crate) fn season_if_apart(rule: TimeZone, dst: Dst, second: u32) -> Option<O
 }
 
 /// The same season, if there is one.
+#[inline(always)]
 pub(crate) fn season_at(rule: TimeZone, dst: Dst, second: u32) -> Option<Season>
     requires range { second < seconds_in_range }
     requires saving { rule.dst ≡ Some dst }
@@ -194,8 +188,23 @@ pub(crate) fn season_at(rule: TimeZone, dst: Dst, second: u32) -> Option<Season>
     season_if_apart(rule, dst, second)?
 }
 
+// What a rule tells of a civil second, from the transitions of its year.
+#[inline(never)]
+fn offsets_in_year(rule: TimeZone, dst: Dst, second: u32) -> SpanOffsets
+    requires range { second < seconds_in_range }
+    requires saving { rule.dst ≡ Some dst }
+    ensures alike { IsToldAlike rule second result.span.first result.span.end }
+    ensures low { result.span.first ≤ℤ pos second }
+    ensures high { pos second <ℤ result.span.end }
+    ensures narrowed { IsNarrowed (pos 0) (pos seconds_in_range) result.span.first result.span.end }
+    ensures told { IsToldBy (Rule.ambiguous_at rule (civil second)) result.earlier result.later }
+{
+    between_transitions(rule, dst, transitions_around(dst, second), second)
+}
+
 /// What a rule tells of a civil second.
-pub(crate) fn rule_offsets(rule: TimeZone, second: u32) -> SpanOffsets
+#[inline(always)]
+pub(crate) fn offsets_by_rule(rule: TimeZone, second: u32) -> SpanOffsets
     requires { second < seconds_in_range }
     ensures alike { IsToldAlike rule second result.span.first result.span.end }
     ensures low { result.span.first ≤ℤ pos second }
@@ -212,6 +221,19 @@ pub(crate) fn rule_offsets(rule: TimeZone, second: u32) -> SpanOffsets
     };
     match season_at(rule, dst, second) {
         Some(season) => season.offsets(),
-        None => between_transitions(rule, dst, transitions_around(dst, second), second),
+        None => offsets_in_year(rule, dst, second),
     }
+}
+
+/// The same, where it is asked seldom.
+#[inline(never)]
+pub(crate) fn rule_offsets(rule: TimeZone, second: u32) -> SpanOffsets
+    requires { second < seconds_in_range }
+    ensures alike { IsToldAlike rule second result.span.first result.span.end }
+    ensures low { result.span.first ≤ℤ pos second }
+    ensures high { pos second <ℤ result.span.end }
+    ensures narrowed { IsNarrowed (pos 0) (pos seconds_in_range) result.span.first result.span.end }
+    ensures told { IsToldBy (Rule.ambiguous_at rule (civil second)) result.earlier result.later }
+{
+    offsets_by_rule(rule, second)
 }

@@ -11,7 +11,7 @@ ghost use Rattle.cron_clocks.specs.Seasons.{IsSeason};
 ghost use Rattle.cron_clocks.specs.Steady.{IsKnown, IsSteady, IsToldBy, readings_at, whole_range};
 
 use crate::rule::SpanOffsets;
-use crate::season::{Season, rule_offsets};
+use crate::season::{Season, offsets_by_rule};
 use crate::table::table_offsets;
 use cron_moments::civil::SECONDS;
 use cron_moments::moment::moment_numbered;
@@ -145,7 +145,7 @@ impl Stretch {
             jiff_tz::TimeZone::Posix(rule) => rule_stretch(
                 rule,
                 second,
-                rule_offsets(rule, second),
+                offsets_by_rule(rule, second),
             ),
             jiff_tz::TimeZone::Tzif(table) => between_rows(table, second),
         }

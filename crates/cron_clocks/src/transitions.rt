@@ -16,6 +16,9 @@ const WEEK: i64 = 7 * DAY;
 // The seconds of the shorter years.
 const YEAR: i64 = 365 * DAY;
 
+// The days of the shorter years before each month.
+const DAYS_BEFORE: [u16; 12] = [0, 31, 59, 90, 120, 151, 181, 212, 243, 273, 304, 334];
+
 // Days of a year, from the first to the last, counted from 0 for 1 January.
 #[derive(Clone, Copy)]
 struct DaysOfYear {
@@ -108,12 +111,7 @@ fn days_before(month: u8) -> u16
     ensures high { (y : ℤ) → days_of_months y (month - 1) ≤ result + 1 }
     ensures bound { result < 400 }
 {
-    let months = u16::from(month);
-    if months < 3 {
-        31 * (months - 1)
-    } else {
-        (153 * months - 457) / 5 + 59
-    }
+    DAYS_BEFORE[usize::from(month - 1)]
 }
 
 // The days of a week of a month. Week 5 is the last one, which may begin where the fourth does.

@@ -7,4 +7,4 @@ returns c =
     let low = c.if-second-lt0.false in
     let high = c.if-second-ge-SECONDS.false in
     let same : pos (unsigned_abs (to_z w64 (of_z w64 c.args.second))) ≡ c.args.second = omega (arith, signed_casts) in
-    rw (sym c.to_plain.ensures, c.in-Posix.is) (rw same at c.kept_around.ensures)
+    rw (sym c.to_plain.ensures, c.in-Posix.is) (rw same at c.kept_among.ensures)
