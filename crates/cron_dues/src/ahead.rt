@@ -14,6 +14,7 @@ use crate::fire::{DueFire, due_fire};
 use crate::steady::DueSpan;
 use crate::way_to::span_of;
 use cron_time::search::civil_seconds::{match_past, nearest_match};
+use cron_time::search::minute::Minute;
 use cron_time::search::month_days::MonthDays;
 use cron_units::fields::ScheduleFields;
 use cron_units::way::Way;
@@ -125,6 +126,7 @@ fn next_match(
     fields: &ScheduleFields,
     from: i64,
     known: &Known,
+    minute: &mut Minute,
     days: &mut MonthDays,
 ) -> Option<u32>
     requires known { IsPastIfKnown fields.now from known.now }
@@ -136,7 +138,7 @@ fn next_match(
     if known.end == 0 {
         return nearest_match(fields, Way::Ahead, from);
     }
-    match_past(fields, Way::Ahead, (from - 1) as u32, days)
+    match_past(fields, Way::Ahead, (from - 1) as u32, minute, days)
 }
 
 /// The due fire of the nearest civil second that matches, from a number on. Where something is
@@ -147,6 +149,7 @@ pub(crate) fn next_due<C: Clock>(
     clock: &C,
     from: i64,
     known: &mut Known,
+    minute: &mut Minute,
     days: &mut MonthDays,
 ) -> Option<DueFire>
     requires known { IsKnown fields.now (C.offsets clock.now) from known.old }
@@ -154,7 +157,7 @@ pub(crate) fn next_due<C: Clock>(
     ensures next { IsNextDue fields.now (C.offsets clock.now) from result known.new }
     ensures days { KnowsDays fields.now days.new }
 {
-    let Some(second) = next_match(fields, from, known, days) else {
+    let Some(second) = next_match(fields, from, known, minute, days) else {
         return None;
     };
     Some(due_ahead(clock, second, known))

@@ -11,6 +11,7 @@ use crate::fire::{DueFire, due_second, nominal_second};
 use crate::reach::reached_by;
 use cron_instants::run::is_within;
 use cron_moments::calendar::KnownMonth;
+use cron_time::search::minute::Minute;
 use cron_time::search::month_days::MonthDays;
 use cron_units::fields::ScheduleFields;
 use jiff::Timestamp;
@@ -24,6 +25,7 @@ pub struct Run<'a, C: Clock> {
     clock: &'a C,
     from: i64,
     known: Known,
+    minute: Minute,
     days: MonthDays,
     until: Option<i64>,
 }
@@ -54,6 +56,7 @@ impl<'a, C: Clock> Run<'a, C> {
             clock,
             from,
             known: Known::nothing(),
+            minute: Minute::epoch(),
             days: MonthDays::unknown(KnownMonth::january_1970()),
             until,
         }
@@ -110,6 +113,7 @@ impl<'a, C: Clock> Run<'a, C> {
             self.clock,
             self.from,
             &mut self.known,
+            &mut self.minute,
             &mut self.days,
         ) else {
             return None;

@@ -18,6 +18,7 @@ use cron_clocks::stretch::Stretch;
 use cron_moments::civil::SECONDS;
 use cron_moments::moment::{Moment, civil_second, moment_numbered};
 use cron_time::search::civil_seconds::match_past;
+use cron_time::search::minute::Minute;
 use cron_time::search::month_days::MonthDays;
 use cron_units::fields::ScheduleFields;
 use cron_units::way::Way;
@@ -150,6 +151,7 @@ pub(crate) fn next_item(
     zone: &TimeZone<'_>,
     mark: Mark,
     known: Option<Monotone>,
+    minute: &mut Minute,
     days: &mut MonthDays,
 ) -> (Option<Moment>, Option<Monotone>)
     requires known { IsKnown fields.now (plain_zone zone.now) mark.instant mark.second known }
@@ -165,7 +167,7 @@ pub(crate) fn next_item(
     let Some(monotone) = known else {
         return search_next(fields, zone, mark);
     };
-    let Some(next) = match_past(fields, Way::Ahead, mark.second, days) else {
+    let Some(next) = match_past(fields, Way::Ahead, mark.second, minute, days) else {
         return (None, None);
     };
     if next < monotone.end {

@@ -9,6 +9,7 @@ use crate::mark::Mark;
 use crate::monotone::{Monotone, next_item};
 use cron_moments::calendar::KnownMonth;
 use cron_moments::moment::Moment;
+use cron_time::search::minute::Minute;
 use cron_time::search::month_days::MonthDays;
 use cron_units::fields::ScheduleFields;
 use jiff::Timestamp;
@@ -23,6 +24,7 @@ pub struct Run<'a> {
     zone: &'a TimeZone<'a>,
     mark: Mark,
     monotone: Option<Monotone>,
+    minute: Minute,
     days: MonthDays,
     until: Option<i64>,
 }
@@ -72,6 +74,7 @@ impl<'a> Run<'a> {
             zone,
             mark,
             monotone: None,
+            minute: Minute::epoch(),
             days: MonthDays::unknown(KnownMonth::january_1970()),
             until,
         }
@@ -129,6 +132,7 @@ impl<'a> Run<'a> {
             self.zone,
             self.mark,
             self.monotone,
+            &mut self.minute,
             &mut self.days,
         );
         self.monotone = monotone;

@@ -23,3 +23,4 @@ pub mod DaysPastLemmas
 pub mod TimeOfDayLemmas
 pub mod NearestTimeLemmas
 pub mod CivilSecondLemmas
+pub mod MinuteLemmas

@@ -11,6 +11,7 @@ use crate::nearest::{nearer_second, nearest_match};
 use arrayvec::ArrayVec;
 use cron_moments::calendar::KnownMonth;
 use cron_time::search::civil_seconds::{self, match_past};
+use cron_time::search::minute::Minute;
 use cron_time::search::month_days::MonthDays;
 use cron_units::fields::ScheduleFields;
 use cron_units::way::Way;
@@ -22,6 +23,7 @@ pub(crate) const HEADS: usize = 8;
 #[derive(Clone, Copy)]
 pub(crate) struct Head {
     pub next: Option<u32>,
+    pub minute: Minute,
     pub days: MonthDays,
 }
 
@@ -29,6 +31,7 @@ impl Default for Head {
     fn default() -> Head {
         Head {
             next: None,
+            minute: Minute::epoch(),
             days: MonthDays::unknown(KnownMonth::january_1970()),
         }
     }
@@ -41,6 +44,7 @@ impl Head {
     {
         Head {
             next: civil_seconds::nearest_match(fields, Way::Ahead, from),
+            minute: Minute::epoch(),
             days: MonthDays::unknown(KnownMonth::january_1970()),
         }
     }
@@ -57,7 +61,7 @@ impl Head {
         if next != second {
             return;
         }
-        self.next = match_past(fields, Way::Ahead, second, &mut self.days);
+        self.next = match_past(fields, Way::Ahead, second, &mut self.minute, &mut self.days);
     }
 }
 

@@ -24,7 +24,7 @@ day_in_range n =
       | inr ge ↦ le-ltb n 4_133_980_800 ge ∙ sym (le-ltb (n / 86_400) days_in_range (omega arith))
     ]
 
-and_assoc : (a b c : Bool) → (a && (b && c)) ≡ ((a && b) && c)
+pub and_assoc : (a b c : Bool) → (a && (b && c)) ≡ ((a && b) && c)
 and_assoc true b c = refl
 and_assoc false b c = refl
 

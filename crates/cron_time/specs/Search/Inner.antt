@@ -11,3 +11,4 @@ pub mod Filled
 pub mod MonthDays
 pub mod LeapDays
 pub mod Gaps
+pub mod Minutes

@@ -1,5 +1,5 @@
 //! The nearest civil second that matches. It needs no reading, and no zone is asked for one.
-ghost use Rattle.std.specs.Prelude.{◌≡◌, ◌/◌, ◌%◌, ◌<◌, pos, true, IfSome};
+ghost use Rattle.std.specs.Prelude.{◌≡◌, ◌+◌, ◌/◌, ◌%◌, ◌<◌, pos, true, IfSome};
 ghost use Rattle.cron_units.specs.Nearest.{IsNearest};
 ghost use Rattle.cron_moments.specs.Civil.{days_in_range, seconds_in_range};
 ghost use Rattle.cron_moments.specs.CivilDates.{date_numbered};
@@ -9,27 +9,15 @@ ghost use Rattle.cron_time.specs.Search.Inner.Numbers.{beyond, beyond_block, mat
 
 use crate::search::days::some_month_has_a_day;
 use crate::search::members::Members;
+use crate::search::minute::Minute;
 use crate::search::month_days::MonthDays;
-use crate::search::neighbours::time_past;
 use crate::search::start_of;
 use crate::search::times::time_from;
-use crate::search::ways::{entry, extreme};
+use crate::search::ways::entry;
 use cron_moments::calendar::KnownMonth;
 use cron_moments::civil::SECONDS_PER_DAY;
 use cron_units::fields::ScheduleFields;
 use cron_units::way::Way;
-
-// The nearest time of day past one.
-#[inline(always)]
-fn time_after(fields: &ScheduleFields, way: Way, time: u32) -> Option<u32>
-    requires fits { time < 86_400 }
-    requires matching { matches_second fields.now time ≡ true }
-    ensures nearest { IsNearest way (matches_second fields.now) (beyond way time) result }
-    ensures bound { IfSome result (λ n. n < 86_400) }
-{
-    let members = Members::of(fields);
-    time_past(&members, way, time)
-}
 
 // The nearest match in the days past one whose date matches. `BACK` says the way once more, so that
 // each has code of its own.
@@ -38,6 +26,7 @@ fn match_in_days_past<const BACK: bool>(
     fields: &ScheduleFields,
     way: Way,
     day: u32,
+    minute: &mut Minute,
     days: &mut MonthDays,
 ) -> Option<u32>
     requires tied { way ≡ way_of BACK }
@@ -49,13 +38,19 @@ fn match_in_days_past<const BACK: bool>(
     ensures days { KnowsDays fields.now days.new }
 {
     let next = days.day_past(fields, way, day)?;
-    let time = time_from(fields, way, extreme(way, SECONDS_PER_DAY))?;
+    let time = minute.enter_day(&Members::of(fields), way, next)?;
     Some(next * SECONDS_PER_DAY + time)
 }
 
 // Each direction has code of its own.
 #[inline(always)]
-fn match_past_day(fields: &ScheduleFields, way: Way, day: u32, days: &mut MonthDays) -> Option<u32>
+fn match_past_day(
+    fields: &ScheduleFields,
+    way: Way,
+    day: u32,
+    minute: &mut Minute,
+    days: &mut MonthDays,
+) -> Option<u32>
     requires in_range { day < days_in_range }
     requires matching { matches_date fields.now (date_numbered day).0 ≡ true }
     requires days { KnowsDays fields.now days.old }
@@ -64,8 +59,8 @@ fn match_past_day(fields: &ScheduleFields, way: Way, day: u32, days: &mut MonthD
     ensures days { KnowsDays fields.now days.new }
 {
     match way {
-        Way::Ahead => match_in_days_past::<false>(fields, Way::Ahead, day, days),
-        Way::Back => match_in_days_past::<true>(fields, Way::Back, day, days),
+        Way::Ahead => match_in_days_past::<false>(fields, Way::Ahead, day, minute, days),
+        Way::Back => match_in_days_past::<true>(fields, Way::Back, day, minute, days),
     }
 }
 
@@ -83,7 +78,7 @@ fn match_from(fields: &ScheduleFields, way: Way, start: u32, days: &mut MonthDay
     if let Some(time) = time_from(fields, way, from) {
         return Some(day * SECONDS_PER_DAY + time);
     }
-    match_past_day(fields, way, day, days)
+    match_past_day(fields, way, day, &mut Minute::epoch(), days)
 }
 
 /// The nearest civil second of the range that matches, from a number on: ahead the first one at or
@@ -102,14 +97,39 @@ pub fn nearest_match(fields: &ScheduleFields, way: Way, from: i64) -> Option<u32
     match_from(fields, way, start, &mut days)
 }
 
-/// The nearest civil second that matches past one that does: first in its own day, whose date
-/// needn't be made. It begins with the days of a month that an earlier search knew, and leaves
-/// those that it knows.
+// The nearest match past one in its own minute, hour or day, or else past the day.
 #[inline(always)]
-pub fn match_past(
+fn match_past_place(
+    fields: &ScheduleFields,
+    way: Way,
+    place: u32,
+    minute: &mut Minute,
+    days: &mut MonthDays,
+) -> Option<u32>
+    requires place { place < 60 }
+    requires matching { is_match fields.now (minute.old.first + place) ≡ true }
+    requires days { KnowsDays fields.now days.old }
+    ensures nearest { IsNearest way
+        (is_match fields.now)
+        (beyond way (minute.old.first + place))
+        result }
+    ensures bound { IfSome result (λ n. n < seconds_in_range) }
+    ensures days { KnowsDays fields.now days.new }
+{
+    let members = Members::of(fields);
+    if let Some(next) = minute.past_in_day(&members, way, place) {
+        return Some(next);
+    }
+    match_past_day(fields, way, minute.day(), minute, days)
+}
+
+// The same past a match that doesn't lie in the minute.
+#[inline(never)]
+fn match_past_elsewhere(
     fields: &ScheduleFields,
     way: Way,
     second: u32,
+    minute: &mut Minute,
     days: &mut MonthDays,
 ) -> Option<u32>
     requires matching { is_match fields.now second ≡ true }
@@ -118,9 +138,29 @@ pub fn match_past(
     ensures bound { IfSome result (λ n. n < seconds_in_range) }
     ensures days { KnowsDays fields.now days.new }
 {
-    let day = second / SECONDS_PER_DAY;
-    if let Some(time) = time_after(fields, way, second % SECONDS_PER_DAY) {
-        return Some(day * SECONDS_PER_DAY + time);
+    *minute = Minute::around(second);
+    match_past_place(fields, way, second % 60, minute, days)
+}
+
+/// The nearest civil second that matches past one that does: first in its own day, whose date
+/// needn't be made. It begins with the minute and the days of a month that an earlier search knew,
+/// and leaves those that it knows.
+#[inline(always)]
+pub fn match_past(
+    fields: &ScheduleFields,
+    way: Way,
+    second: u32,
+    minute: &mut Minute,
+    days: &mut MonthDays,
+) -> Option<u32>
+    requires matching { is_match fields.now second ≡ true }
+    requires days { KnowsDays fields.now days.old }
+    ensures nearest { IsNearest way (is_match fields.now) (beyond way second) result }
+    ensures bound { IfSome result (λ n. n < seconds_in_range) }
+    ensures days { KnowsDays fields.now days.new }
+{
+    match minute.place_of(second) {
+        Some(place) => match_past_place(fields, way, place, minute, days),
+        None => match_past_elsewhere(fields, way, second, minute, days),
     }
-    match_past_day(fields, way, day, days)
 }

@@ -22,6 +22,7 @@ pub(crate) mod days;
 pub(crate) mod inquiry;
 mod leap_days;
 pub(crate) mod members;
+pub mod minute;
 pub mod month_days;
 mod months;
 mod neighbours;

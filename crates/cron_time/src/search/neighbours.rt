@@ -158,7 +158,7 @@ pub(crate) fn past_in_parts<O: Neighbours, I: Neighbours>(
 }
 
 /// The seconds of a minute.
-struct Seconds;
+pub(crate) struct Seconds;
 
 impl Neighbours for Seconds {
     ghost use Rattle.cron_time.specs.Search.Inner.Filled.{seconds_filled};
@@ -186,7 +186,7 @@ impl Neighbours for Seconds {
 }
 
 /// The minutes of an hour.
-struct Minutes;
+pub(crate) struct Minutes;
 
 impl Neighbours for Minutes {
     ghost use Rattle.cron_time.specs.Search.Inner.Filled.{minutes_filled};
@@ -214,7 +214,7 @@ impl Neighbours for Minutes {
 }
 
 /// The hours of a day.
-struct Hours;
+pub(crate) struct Hours;
 
 impl Neighbours for Hours {
     ghost use Rattle.cron_time.specs.Search.Inner.Filled.{hours_filled};

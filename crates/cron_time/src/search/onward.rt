@@ -1,10 +1,11 @@
 //! The nearest civil second on the timeline, past a matching one or from a number on, without
 //! counts.
-ghost use Rattle.std.specs.Prelude.{◌≡◌, ◌+◌, ◌/◌, ◌%◌, ◌^◌, ◌<◌, ◌≤◌, pos, true, MatchOption, option_map};
+ghost use Rattle.std.specs.Prelude.{◌≡◌, ◌+◌, ◌/◌, ◌%◌, ◌^◌, ◌<◌, ◌≤◌, pos, true, IfSome, MatchOption, option_map};
 ghost use Rattle.jiff.specs.Words.{plain_zone};
 ghost use Rattle.cron_moments.specs.Civil.{days_in_range, seconds_in_range};
 ghost use Rattle.cron_moments.specs.CivilDates.{date_numbered};
 ghost use Rattle.cron_moments.specs.Found.{found_items};
+ghost use Rattle.cron_moments.specs.Readings.{readings};
 ghost use Rattle.cron_clocks.specs.Steady.{IsKnown};
 ghost use Rattle.cron_time.specs.Search.Inner.Blocks.{AllFail};
 ghost use Rattle.cron_time.specs.Search.Inner.DaySearch.{FindsInDay, FindsPastDay, FindsTimePast};
@@ -14,6 +15,7 @@ ghost use Rattle.cron_time.specs.Matches.{matches_date};
 ghost use Rattle.cron_time.specs.Search.{IsFound};
 
 use crate::search::members::Members;
+use crate::search::minute::Minute;
 use crate::search::month_days::MonthDays;
 use crate::search::neighbours::time_past;
 use crate::search::readable::search_readable;
@@ -28,13 +30,13 @@ use cron_units::way::Way;
 use jiff::tz::TimeZone;
 
 // The times of the day past one of them, if there are any.
-#[inline(always)]
 fn search_times_past(
     fields: &ScheduleFields,
     zone: &TimeZone<'_>,
     way: Way,
     day: u32,
     time: u32,
+    minute: &mut Minute,
     stretch: &mut Stretch,
 ) -> Option<Found>
     requires in_range { day < days_in_range }
@@ -50,6 +52,9 @@ fn search_times_past(
     let from = past(way, time)?;
     let members = Members::of(fields);
     let first = time_past(&members, way, time);
+    if let Some(next) = first {
+        *minute = Minute::around(day * SECONDS_PER_DAY + next);
+    }
     search_readable(fields, zone, way, day, from, first, stretch)
 }
 
@@ -79,6 +84,18 @@ fn search_day_times(
     search_readable(fields, zone, way, day, from, first, stretch)
 }
 
+// A stretch in which nothing has been looked for yet becomes that of a civil second.
+#[inline(always)]
+fn learn(zone: &TimeZone<'_>, second: u32, stretch: &mut Stretch)
+    requires in_range { second < seconds_in_range }
+    requires known { IsKnown (plain_zone zone.now) stretch.old }
+    ensures { IsKnown (plain_zone zone.now) stretch.new }
+{
+    if stretch.end == 0 {
+        *stretch = Stretch::at(zone, second);
+    }
+}
+
 // The days past one whose date matches, out of the way of the items of the own day. It begins with
 // the days and the stretch that the search before knew, and leaves those that it knows. `BACK` says
 // the way once more, so that each has code of its own.
@@ -88,6 +105,7 @@ fn days_past<const BACK: bool>(
     zone: &TimeZone<'_>,
     way: Way,
     own: u32,
+    minute: &mut Minute,
     days: &mut MonthDays,
     stretch: &mut Stretch,
 ) -> Option<Found>
@@ -100,10 +118,12 @@ fn days_past<const BACK: bool>(
     ensures days { KnowsDays fields.now days.new }
     ensures known { IsKnown (plain_zone zone.now) stretch.new }
 {
+    learn(zone, own * SECONDS_PER_DAY, stretch);
     let mut day = own;
     while let Some(next) = days.day_past(fields, way, day) {
         let from = extreme(way, SECONDS_PER_DAY);
-        let found = search_day_times(fields, zone, way, next, from, stretch);
+        let first = minute.enter_day(&Members::of(fields), way, next);
+        let found = search_readable(fields, zone, way, next, from, first, stretch);
         if found.is_some() {
             return found;
         }
@@ -119,6 +139,7 @@ fn days_past_either_way(
     zone: &TimeZone<'_>,
     way: Way,
     own: u32,
+    minute: &mut Minute,
     days: &mut MonthDays,
     stretch: &mut Stretch,
 ) -> Option<Found>
@@ -131,20 +152,32 @@ fn days_past_either_way(
     ensures known { IsKnown (plain_zone zone.now) stretch.new }
 {
     match way {
-        Way::Ahead => days_past::<false>(fields, zone, Way::Ahead, own, days, stretch),
-        Way::Back => days_past::<true>(fields, zone, Way::Back, own, days, stretch),
+        Way::Ahead => days_past::<false>(fields, zone, Way::Ahead, own, minute, days, stretch),
+        Way::Back => days_past::<true>(fields, zone, Way::Back, own, minute, days, stretch),
     }
 }
 
-/// The nearest civil second on the timeline past one that matches: first in its own day, whose date
-/// needn't be made, and then in the days past it. It begins with the days of a month and the
-/// stretch that an earlier search knew, and leaves those that it knows.
+// The readings of a civil second, if it lies in the stretch and has some.
 #[inline(always)]
-pub fn search_past(
+fn readings_in(_zone: &TimeZone<'_>, second: u32, stretch: &Stretch) -> Option<Found>
+    requires known { IsKnown (plain_zone _zone.now) stretch.now }
+    ensures { IfSome result (λ f. found_items f ≡ readings (plain_zone _zone.now) second) }
+{
+    if !stretch.has(second) {
+        return None;
+    }
+    stretch.readings(second)
+}
+
+// The search past a civil second that doesn't lie in the minute, or where the stretch doesn't tell
+// the readings of the nearest match.
+#[inline(never)]
+fn search_past_elsewhere(
     fields: &ScheduleFields,
     zone: &TimeZone<'_>,
     way: Way,
     second: u32,
+    minute: &mut Minute,
     days: &mut MonthDays,
     stretch: &mut Stretch,
 ) -> Option<Found>
@@ -161,12 +194,54 @@ pub fn search_past(
     ensures days { KnowsDays fields.now days.new }
     ensures known { IsKnown (plain_zone zone.now) stretch.new }
 {
+    learn(zone, second, stretch);
     let day = second / SECONDS_PER_DAY;
-    let found = search_times_past(fields, zone, way, day, second % SECONDS_PER_DAY, stretch);
+    let time = second % SECONDS_PER_DAY;
+    let found = search_times_past(fields, zone, way, day, time, minute, stretch);
     if found.is_some() {
         return found;
     }
-    days_past_either_way(fields, zone, way, day, days, stretch)
+    days_past_either_way(fields, zone, way, day, minute, days, stretch)
+}
+
+/// The nearest civil second on the timeline past one that matches: first in its own day, whose date
+/// needn't be made, and then in the days past it. It begins with the minute, the days of a month
+/// and the stretch that an earlier search knew, and leaves those that it knows.
+#[inline(always)]
+pub fn search_past(
+    fields: &ScheduleFields,
+    zone: &TimeZone<'_>,
+    way: Way,
+    second: u32,
+    minute: &mut Minute,
+    days: &mut MonthDays,
+    stretch: &mut Stretch,
+) -> Option<Found>
+    requires in_range { second < seconds_in_range }
+    requires matching { matches_date fields.now (date_numbered (second / 86_400)).0 ≡ true }
+    requires member { matches_second fields.now (second % 86_400) ≡ true }
+    requires days { KnowsDays fields.now days.old }
+    requires known { IsKnown (plain_zone zone.now) stretch.old }
+    ensures found { IsFound way
+        fields.now
+        (plain_zone zone.now)
+        (beyond way second)
+        (option_map found_items result) }
+    ensures days { KnowsDays fields.now days.new }
+    ensures known { IsKnown (plain_zone zone.now) stretch.new }
+{
+    let Some(place) = minute.place_of(second) else {
+        return search_past_elsewhere(fields, zone, way, second, minute, days, stretch);
+    };
+    let members = Members::of(fields);
+    let Some(next) = minute.past_in_day(&members, way, place) else {
+        return days_past_either_way(fields, zone, way, minute.day(), minute, days, stretch);
+    };
+    let found = readings_in(zone, next, stretch);
+    if found.is_some() {
+        return found;
+    }
+    search_past_elsewhere(fields, zone, way, second, minute, days, stretch)
 }
 
 // The days from that of a civil second on: in the first one whose date matches the times from a
@@ -176,6 +251,7 @@ fn days_from<const BACK: bool>(
     zone: &TimeZone<'_>,
     way: Way,
     start: u32,
+    minute: &mut Minute,
     days: &mut MonthDays,
     stretch: &mut Stretch,
 ) -> Option<Found>
@@ -197,7 +273,7 @@ fn days_from<const BACK: bool>(
     if found.is_some() {
         return found;
     }
-    days_past::<BACK>(fields, zone, way, day, days, stretch)
+    days_past::<BACK>(fields, zone, way, day, minute, days, stretch)
 }
 
 /// The nearest civil second on the timeline from a number on. It begins with the days of a month
@@ -207,6 +283,7 @@ pub fn search_onward(
     zone: &TimeZone<'_>,
     way: Way,
     from: i64,
+    minute: &mut Minute,
     days: &mut MonthDays,
     stretch: &mut Stretch,
 ) -> Option<Found>
@@ -221,7 +298,7 @@ pub fn search_onward(
 {
     let start = start_of(way, from)?;
     match way {
-        Way::Ahead => days_from::<false>(fields, zone, Way::Ahead, start, days, stretch),
-        Way::Back => days_from::<true>(fields, zone, Way::Back, start, days, stretch),
+        Way::Ahead => days_from::<false>(fields, zone, Way::Ahead, start, minute, days, stretch),
+        Way::Back => days_from::<true>(fields, zone, Way::Back, start, minute, days, stretch),
     }
 }

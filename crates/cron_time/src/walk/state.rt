@@ -6,6 +6,7 @@ ghost use Rattle.cron_time.specs.Walk.Inner.Stand as kept;
 ghost use Rattle.cron_moments.specs.Readings.{Reading};
 ghost use Rattle.jiff_tz.specs.declared.timezone.TimeZone.{TimeZone};
 
+use crate::search::minute::Minute;
 use crate::search::month_days::MonthDays;
 use cron_clocks::stretch::Stretch;
 use cron_moments::calendar::KnownMonth;
@@ -27,7 +28,8 @@ pub(crate) enum Stage {
 }
 
 /// The stage of a walk, the readings of its civil second, and the instant that it started from.
-/// What the stage doesn't speak of means nothing. The days are those of the month that was looked
+/// What the stage doesn't speak of means nothing. The minute is that in which the last search
+/// ended, mostly the minute of the civil second. The days are those of the month that was looked
 /// up last, as far as they are known, and the stretch, perhaps an empty one, is the one in which a
 /// reading was last looked for.
 #[derive(Clone, Copy)]
@@ -36,6 +38,7 @@ pub struct State {
     pub(crate) earlier: Moment,
     pub(crate) later: Moment,
     pub(crate) start: jiff_core::Timestamp,
+    pub(crate) minute: Minute,
     pub(crate) days: MonthDays,
     pub(crate) stretch: Stretch,
 }
@@ -52,6 +55,7 @@ impl State {
             earlier: none,
             later: none,
             start: start.to_plain(),
+            minute: Minute::epoch(),
             days: MonthDays::unknown(KnownMonth::january_1970()),
             stretch: Stretch::empty(),
         }

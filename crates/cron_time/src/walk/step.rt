@@ -8,6 +8,7 @@ ghost use Rattle.cron_time.specs.Walk.Inner.Stand as kept;
 ghost use Rattle.cron_time.specs.Search.Inner.Numbers.{beyond, matches_second, way_of};
 ghost use Rattle.cron_time.specs.Walk.Inner.Stop.{IsReached, LeadsTo};
 ghost use Rattle.cron_time.specs.Matches.{matches_date};
+ghost use Rattle.cron_time.specs.declared.walk.state.Stage.TheVariants as stage;
 
 use crate::search::days::some_month_has_a_day;
 use crate::search::members::Members;
@@ -36,8 +37,16 @@ fn from_bound(fields: &ScheduleFields, zone: &TimeZone<'_>, way: Way, state: &mu
         &mut state.stretch,
     ) {
         Some(from) => {
-            let found = search_onward(fields, zone, way, from, &mut state.days, &mut state.stretch);
-            state.arrive(way, found)
+            let reached = search_onward(
+                fields,
+                zone,
+                way,
+                from,
+                &mut state.minute,
+                &mut state.days,
+                &mut state.stretch,
+            );
+            state.arrive(way, reached)
         }
         None => state.arrive(way, None),
     }
@@ -84,10 +93,47 @@ fn past_item(fields: &ScheduleFields, zone: &TimeZone<'_>, way: Way, state: &mut
         zone,
         way,
         civil_second(&item),
+        &mut state.minute,
         &mut state.days,
         &mut state.stretch,
     );
     state.arrive(way, found)
+}
+
+// From the earlier of two readings.
+#[inline(never)]
+fn from_earlier(fields: &ScheduleFields, zone: &TimeZone<'_>, way: Way, state: &mut State)
+    requires stage { state.old.stage ≡ stage.Earlier }
+    requires placed { IsPlaced fields.now (plain_zone zone.now) (stand_of state.old) }
+    requires known { Knows fields.now (plain_zone zone.now) state.old }
+    ensures leads { LeadsTo way fields.now
+        (plain_zone zone.now)
+        (stand_of state.old)
+        (stand_of state.new) }
+    ensures known { Knows fields.now (plain_zone zone.now) state.new }
+{
+    match way {
+        Way::Ahead => state.stage = Stage::Later,
+        Way::Back => past_item(fields, zone, way, state),
+    }
+}
+
+// From the later of two readings.
+#[inline(never)]
+fn from_later(fields: &ScheduleFields, zone: &TimeZone<'_>, way: Way, state: &mut State)
+    requires stage { state.old.stage ≡ stage.Later }
+    requires placed { IsPlaced fields.now (plain_zone zone.now) (stand_of state.old) }
+    requires known { Knows fields.now (plain_zone zone.now) state.old }
+    ensures leads { LeadsTo way fields.now
+        (plain_zone zone.now)
+        (stand_of state.old)
+        (stand_of state.new) }
+    ensures known { Knows fields.now (plain_zone zone.now) state.new }
+{
+    match way {
+        Way::Ahead => past_item(fields, zone, way, state),
+        Way::Back => state.stage = Stage::Earlier,
+    }
 }
 
 // Takes a walk from where it stands to where a call in this direction leads. `BACK` says the way
@@ -110,14 +156,8 @@ fn step_one_way<const BACK: bool>(
     match state.stage {
         Stage::Start => from_start(fields, zone, way, state),
         Stage::Single => past_item(fields, zone, way, state),
-        Stage::Earlier => match way {
-            Way::Ahead => state.stage = Stage::Later,
-            Way::Back => past_item(fields, zone, way, state),
-        },
-        Stage::Later => match way {
-            Way::Ahead => past_item(fields, zone, way, state),
-            Way::Back => state.stage = Stage::Earlier,
-        },
+        Stage::Earlier => from_earlier(fields, zone, way, state),
+        Stage::Later => from_later(fields, zone, way, state),
         Stage::Ended => {}
     }
 }

@@ -19,9 +19,9 @@ returns-then-is_some-clause-finds g c =
     let reached : Reaches c.args.way 86_400 (matching_day s) (stands s z) (beyond_day c.args.way own) (pos own) c.in-Some.next =
     reach_next c.args.way 86_400 (matching_day s) (stands s z) (beyond_day c.args.way own) (pos own) c.loop-next.day c.in-Some.next
     (split_days s z).block_fails kept.reached kept.fails near in
-    day_found c.args.way s z own c.in-Some.next c.extreme-from.result c.search_day_times-found.result reached
+    day_found c.args.way s z own c.in-Some.next c.extreme-from.result c.search_readable-found.result reached
     (later c.args.way own c.loop-next.day c.in-Some.next kept.reached.lies near.lies) c.extreme-from.ensures.extreme (sym c.if-is_some.ensures)
-    c.search_day_times-found.ensures.found
+    c.search_readable-found.ensures.found
 
 pub loop-next-preserved : goal.loop-next-preserved
 loop-next-preserved g c =
@@ -32,12 +32,12 @@ loop-next-preserved g c =
     let near = c.in-Some.ensures.nearest in
     record {
       days = c.day_past.ensures.known;
-      known = c.search_day_times-found.ensures.known;
+      known = c.search_readable-found.ensures.known;
       reached = reach_next c.args.way 86_400 (matching_day s) (stands s z) (beyond_day c.args.way own) (pos own) c.loop-next.day c.in-Some.next
           (split_days s z).block_fails kept.reached kept.fails near;
-      fails = day_silent c.args.way s z own c.in-Some.next c.extreme-from.result c.search_day_times-found.result
+      fails = day_silent c.args.way s z own c.in-Some.next c.extreme-from.result c.search_readable-found.result
           (later c.args.way own c.loop-next.day c.in-Some.next kept.reached.lies near.lies) c.extreme-from.ensures.extreme (sym c.if-is_some.ensures)
-          c.search_day_times-found.ensures.found;
+          c.search_readable-found.ensures.found;
     }
 
 pub returns-clause-finds : goal.returns-clause-finds

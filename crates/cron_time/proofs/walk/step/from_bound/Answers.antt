@@ -9,10 +9,10 @@ returns-in-Some-clause-leads c =
     let s = c.args.fields.now in
     let z = plain_zone c.args.zone.now in
     let fits : FitsSigned w64 c.in-Some.from = search rules in
-    let found = rw (to_z-of_z fits) at c.search_onward-found.ensures.found in
+    let found = rw (to_z-of_z fits) at c.search_onward-reached.ensures.found in
     let at = sym c.bound.ensures.bound ∙ c.in-Some.is in
     rw c.arrive.ensures.stand (start_stop c.args.way s z _ c.in-Some.from _ (rw c.from_plain.ensures at at)
-    (reached c.args.way s z c.in-Some.from c.search_onward-found.result found))
+    (reached c.args.way s z c.in-Some.from c.search_onward-reached.result found))
 
 pub returns-in-None-clause-leads : goal.returns-in-None-clause-leads
 returns-in-None-clause-leads c =
@@ -27,11 +27,11 @@ from_plain-requires c = search rules
 pub bound-requires : goal.bound-requires
 bound-requires c = search rules
 
-pub search_onward-found-requires-clause-days : goal.search_onward-found-requires-clause-days
-search_onward-found-requires-clause-days c = search rules
+pub search_onward-reached-requires-clause-days : goal.search_onward-reached-requires-clause-days
+search_onward-reached-requires-clause-days c = search rules
 
-pub search_onward-found-requires-clause-known : goal.search_onward-found-requires-clause-known
-search_onward-found-requires-clause-known c = search rules
+pub search_onward-reached-requires-clause-known : goal.search_onward-reached-requires-clause-known
+search_onward-reached-requires-clause-known c = search rules
 
 pub arrive-requires : goal.arrive-requires
 arrive-requires c = search rules
