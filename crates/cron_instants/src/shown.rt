@@ -13,6 +13,7 @@ ghost use Rattle.cron_instants.specs.Inner.Beyond.{IsBest, IsBeyond};
 ghost use Rattle.cron_instants.specs.Inner.Shown.{IsFirstShown, IsFrom, IsItemIn};
 
 use crate::mark::Mark;
+use crate::offset_range::APART;
 use cron_clocks::clock::{Kept, keeping_by_rule, kept_by_rule};
 use cron_moments::civil::FURTHEST_OFFSET;
 use cron_moments::moment::{Moment, moment_numbered};
@@ -20,9 +21,6 @@ use cron_time::search::civil_seconds::nearest_match;
 use cron_units::fields::ScheduleFields;
 use cron_units::way::Way;
 use jiff::tz::TimeZone;
-
-// Two clocks are nearer to each other, in seconds.
-const APART: i64 = 2 * (FURTHEST_OFFSET + 1);
 
 // Whether a clock keeps its offset so long that after it no clock shows what was shown before the
 // instant.
