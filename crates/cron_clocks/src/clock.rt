@@ -31,6 +31,15 @@ pub struct Kept {
     pub end: u32,
 }
 
+/// An offset that a clock keeps, and that which it keeps from the end of it on, if that is known.
+#[derive(Clone, Copy)]
+pub struct Keeping {
+    /// The offset, and up to where it is kept.
+    pub kept: Kept,
+    /// The next one, and up to where that is kept.
+    pub next: Option<Kept>,
+}
+
 // Each clock is nearer to UTC, in seconds.
 const FAR: i64 = FURTHEST_OFFSET + 1;
 
@@ -57,6 +66,7 @@ fn are_far_inside(transitions: Transitions) -> bool
 
 // The offset that a clock shows in a second of UTC, from the transitions of its year. It isn't
 // known where one of them lies at an edge of the year.
+#[inline(always)]
 fn offset_among(
     rule: posix::TimeZone,
     dst: posix::Dst,
@@ -95,6 +105,7 @@ fn offset_among(
 
 // The offset that a clock shows in a second of UTC, and up to where it keeps it in that year, from
 // the transitions of the year.
+#[inline(always)]
 fn kept_among(
     rule: posix::TimeZone,
     dst: posix::Dst,
@@ -122,6 +133,30 @@ fn kept_among(
         offset,
         end: part_twice(in_year, at, start, end).end as u32,
     })
+}
+
+// The same for a second that may lie in another year.
+#[inline(always)]
+fn kept_if_among(
+    rule: posix::TimeZone,
+    dst: posix::Dst,
+    transitions: Transitions,
+    second: u32,
+) -> Option<Kept>
+    requires saving { rule.dst ≡ Some dst }
+    requires transitions { AreTransitions dst
+        transitions.year.first
+        transitions.year.end
+        transitions.start
+        transitions.end }
+    ensures { IfSome result
+        (λ kept. IsKeptUpTo (Posix rule) (pos second) kept.end kept.offset.seconds) }
+{
+    let at = i64::from(second);
+    if at >= SECONDS || !transitions.year.has(at) {
+        return None;
+    }
+    kept_among(rule, dst, transitions, second)
 }
 
 // The stretch becomes that of a civil second, if this is one of the year of the transitions.
@@ -237,38 +272,14 @@ fn offset_at(zone: &TimeZone<'_>, instant: Timestamp, second: i64, stretch: &mut
     }
 }
 
-/// The offset that a clock in a zone with a rule shows at a second of UTC, and up to where it keeps
-/// it, as far as the place of the second in its year tells it, or else that year's transitions.
-/// That is up to some days before a transition, up to a transition, or to the end of the year.
-/// `None` outside of the range, and for rules whose transitions lie near each other.
-#[inline(always)]
-pub fn kept_by_rule(zone: &TimeZone<'_>, second: i64) -> Option<Kept>
-    ensures agree { IfSome result (λ kept. LookupsAgree (plain_zone zone.now)) }
-    ensures kept { IfSome result
-        (λ kept. IsKeptUpTo (plain_zone zone.now) second kept.end kept.offset.seconds) }
-{
-    let jiff_tz::TimeZone::Posix(rule) = zone.to_plain() else {
-        return None;
-    };
-    let dst = rule.dst?;
-    if second < 0 || second >= SECONDS {
-        return None;
-    }
-    match season_if_apart(rule, dst, second as u32)? {
-        Some(season) => Some(Kept {
-            offset: season.offset,
-            end: season.end,
-        }),
-        None => kept_by_transitions(zone, second),
-    }
-}
-
-/// The same from the transitions of the year alone, also where they lie near each other. Near a
-/// transition this is the shorter way.
+// The offset that a clock in a zone with a rule shows at a second of UTC, up to where it keeps it,
+// and the next one in that year, from the transitions of the year.
 #[inline(never)]
-pub fn kept_by_transitions(zone: &TimeZone<'_>, second: i64) -> Option<Kept>
-    ensures { IfSome result
-        (λ kept. IsKeptUpTo (plain_zone zone.now) second kept.end kept.offset.seconds) }
+fn keeping_by_transitions(zone: &TimeZone<'_>, second: i64) -> Option<Keeping>
+    ensures kept { IfSome result
+        (λ k. IsKeptUpTo (plain_zone zone.now) second k.kept.end k.kept.offset.seconds) }
+    ensures next { IfSome result (λ k. IfSome k.next
+        (λ n. IsKeptUpTo (plain_zone zone.now) (pos k.kept.end) n.end n.offset.seconds)) }
 {
     let jiff_tz::TimeZone::Posix(rule) = zone.to_plain() else {
         return None;
@@ -278,7 +289,63 @@ pub fn kept_by_transitions(zone: &TimeZone<'_>, second: i64) -> Option<Kept>
         return None;
     }
     let civil = second as u32;
-    kept_among(rule, dst, transitions_around(dst, civil), civil)
+    let transitions = transitions_around(dst, civil);
+    let kept = kept_among(rule, dst, transitions, civil)?;
+    Some(Keeping {
+        kept,
+        next: kept_if_among(rule, dst, transitions, kept.end),
+    })
+}
+
+/// The offset that a clock in a zone with a rule shows at a second of UTC, and up to where it keeps
+/// it, as far as the place of the second in its year tells it, or else that year's transitions,
+/// which tell the next offset too. That is up to some days before a transition, up to a transition,
+/// or to the end of the year. `None` outside of the range, and for rules whose transitions lie near
+/// each other.
+#[inline(always)]
+pub fn keeping_by_rule(zone: &TimeZone<'_>, second: i64) -> Option<Keeping>
+    ensures agree { IfSome result (λ k. LookupsAgree (plain_zone zone.now)) }
+    ensures kept { IfSome result
+        (λ k. IsKeptUpTo (plain_zone zone.now) second k.kept.end k.kept.offset.seconds) }
+    ensures next { IfSome result (λ k. IfSome k.next
+        (λ n. IsKeptUpTo (plain_zone zone.now) (pos k.kept.end) n.end n.offset.seconds)) }
+{
+    let jiff_tz::TimeZone::Posix(rule) = zone.to_plain() else {
+        return None;
+    };
+    let dst = rule.dst?;
+    if second < 0 || second >= SECONDS {
+        return None;
+    }
+    let Some(season) = season_if_apart(rule, dst, second as u32)? else {
+        return keeping_by_transitions(zone, second);
+    };
+    Some(Keeping {
+        kept: Kept {
+            offset: season.offset,
+            end: season.end,
+        },
+        next: None,
+    })
+}
+
+/// The same without the next offset.
+#[inline(always)]
+pub fn kept_by_rule(zone: &TimeZone<'_>, second: i64) -> Option<Kept>
+    ensures agree { IfSome result (λ kept. LookupsAgree (plain_zone zone.now)) }
+    ensures kept { IfSome result
+        (λ kept. IsKeptUpTo (plain_zone zone.now) second kept.end kept.offset.seconds) }
+{
+    Some(keeping_by_rule(zone, second)?.kept)
+}
+
+/// The same from the transitions of the year alone, also where they lie near each other. Near a
+/// transition this is the shorter way.
+pub fn kept_by_transitions(zone: &TimeZone<'_>, second: i64) -> Option<Kept>
+    ensures { IfSome result
+        (λ kept. IsKeptUpTo (plain_zone zone.now) second kept.end kept.offset.seconds) }
+{
+    Some(keeping_by_transitions(zone, second)?.kept)
 }
 
 /// The number of the civil second that a clock in the zone shows at an instant. Where the

@@ -220,6 +220,7 @@ fn transitions_of(dst: Dst, of: Year) -> Transitions
 }
 
 /// The transitions of a rule in the year of a civil second.
+#[inline(always)]
 pub(crate) fn transitions_around(dst: Dst, second: u32) -> Transitions
     requires { second < seconds_in_range }
     ensures transitions { AreTransitions dst

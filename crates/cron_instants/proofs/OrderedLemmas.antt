@@ -69,6 +69,19 @@ module _ (z : TimeZone) (p : OffsetRange) (st : Stretch) (o : Offset) (offset_ra
           ];
         }
 
+    -- and where the edge lies so far ahead that what is read behind it is read later
+    ordered_far : (pos c +ℤ pos 187_200) ≤ℤ p.edge → IsInOrder z c o
+    ordered_far far = record {
+      settled = settled_before (omega (arith, signed_arith));
+      ahead = λ q h more. elim (sides (pos q.second) p.edge) [
+        | inl less ↦ offset_range.ordered (reading c o) q (read c range low high) h more less (inl (once c low high))
+        | inr past ↦
+            let near = q.offset.in_range in
+            let own = o.in_range in
+            omega (arith, signed_arith, near, own)
+      ];
+    }
+
     -- past the edge they are, where the stretch begins long enough before
     settled_past : (pos st.first +ℤ width p) ≤ℤ pos c → (p.edge +ℤ width p) ≤ℤ pos c → IsSettled z c o
     settled_past begun over = record {
@@ -135,3 +148,16 @@ module _ (z : TimeZone) (p : OffsetRange) (st : Stretch) (o : Offset) (offset_ra
             (arith, signed_arith))
             (omega (arith, signed_arith)) (omega (arith, signed_arith)) (omega (arith, signed_arith)));
       }
+
+-- and a stretch far before the edge is monotone up to its end
+pub monotone_far : (z : TimeZone) (p : OffsetRange) (st : Stretch) (o : Offset) → IsOffsetRange z p → IsKnown z st → st.earlier ≡ Some o → st.later ≡ None
+    → (c : ℕ) → st.first ≤ c → c < st.end → (end : ℤ) → pos c <ℤ end → end ≤ℤ pos st.end → end ≤ℤ pos seconds_in_range → (end +ℤ pos 187_200) ≤ℤ p.edge
+    → (monotone : Monotone) → monotone.offset ≡ o → ((k : ℕ) → k < monotone.end → pos k <ℤ end) → IsMonotone z c monotone
+monotone_far z p st o offset_range known one alone c low high end here within short far monotone offset upto = record {
+  settled = subst (IsSettled z c) (sym offset)
+      (settled_before z p st o offset_range known one alone c (omega (arith, signed_arith)) low high (omega (arith, signed_arith)));
+  on = λ k from to.
+      let before = upto k to in
+      subst (IsInOrder z k) (sym offset)
+      (ordered_far z p st o offset_range known one alone k (omega (arith, signed_arith)) (omega arith) (omega (arith, signed_arith)) (omega (arith, signed_arith)));
+}

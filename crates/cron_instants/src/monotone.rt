@@ -13,7 +13,7 @@ ghost use Rattle.cron_instants.specs.Inner.OffsetRange.{IsOffsetRange};
 use crate::joined::{join_around, one_offset};
 use crate::mark::Mark;
 use crate::nearest::nearest_item;
-use crate::offset_range::{OffsetRange, offset_range_of};
+use crate::offset_range::{APART, OffsetRange, offset_range_of};
 use cron_clocks::stretch::Stretch;
 use cron_moments::civil::SECONDS;
 use cron_moments::moment::{Moment, civil_second, moment_numbered};
@@ -50,7 +50,7 @@ fn monotone_up_to(offset: Offset, end: i64, width: i64) -> Monotone
 }
 
 // Up to where the civil seconds of a stretch from this one on are in order, if those before it are
-// read earlier.
+// read earlier. Far before the edge that is the end of the stretch.
 fn monotone_in(stretch: &Stretch, second: u32, offset_range: OffsetRange) -> Option<Monotone>
     requires low { stretch.now.first ≤ second }
     requires high { second < stretch.now.end }
@@ -64,6 +64,9 @@ fn monotone_in(stretch: &Stretch, second: u32, offset_range: OffsetRange) -> Opt
     let at = i64::from(second);
     let width = offset_range.width();
     let end = i64::from(stretch.end).min(SECONDS);
+    if end + APART <= offset_range.edge {
+        return Some(monotone_up_to(offset, end, 0));
+    }
     if at < offset_range.edge {
         return Some(monotone_up_to(offset, end.min(offset_range.edge), width));
     }

@@ -5,10 +5,13 @@ ghost use Rattle.jiff_core.specs.Calendar.{IsBetween};
 ghost use Rattle.jiff_tz.specs.declared.timezone.TimeZone.TheVariants.{Tzif};
 ghost use Rattle.cron_instants.specs.Inner.OffsetRange.{HasOffsets, IsAmongOffsets, IsOffsetRange, width};
 
-use cron_moments::civil::SECONDS;
+use cron_moments::civil::{FURTHEST_OFFSET, SECONDS};
 use jiff::tz::TimeZone;
 use jiff_tz::posix;
 use jiff_tz::tzif::Transition;
+
+/// Two clocks are nearer to each other, in seconds.
+pub(crate) const APART: i64 = 2 * (FURTHEST_OFFSET + 1);
 
 /// From the edge on the readings of a zone are at offsets from the least to the greatest, in
 /// seconds. Before it they come in the order of a table's transitions.

@@ -13,16 +13,14 @@ ghost use Rattle.cron_instants.specs.Inner.Beyond.{IsBest, IsBeyond};
 ghost use Rattle.cron_instants.specs.Inner.Shown.{IsFirstShown, IsFrom, IsItemIn};
 
 use crate::mark::Mark;
-use cron_clocks::clock::{Kept, kept_by_rule};
+use crate::offset_range::APART;
+use cron_clocks::clock::{Kept, keeping_by_rule, kept_by_rule};
 use cron_moments::civil::FURTHEST_OFFSET;
 use cron_moments::moment::{Moment, moment_numbered};
 use cron_time::search::civil_seconds::nearest_match;
 use cron_units::fields::ScheduleFields;
 use cron_units::way::Way;
 use jiff::tz::TimeZone;
-
-// Two clocks are nearer to each other, in seconds.
-const APART: i64 = 2 * (FURTHEST_OFFSET + 1);
 
 // Whether a clock keeps its offset so long that after it no clock shows what was shown before the
 // instant.
@@ -110,7 +108,8 @@ fn first_by_rule(fields: &ScheduleFields, zone: &TimeZone<'_>, mark: Mark) -> Op
         (IsBeyond Ahead fields.now (plain_zone zone.now) mark.instant mark.second)) }
 {
     let at = mark.instant + 1;
-    let kept = kept_by_rule(zone, at)?;
+    let keeping = keeping_by_rule(zone, at)?;
+    let kept = keeping.kept;
     let from = at + i64::from(kept.offset.seconds());
     let next = nearest_match(fields, Way::Ahead, from);
     if is_long(&kept, at) {
@@ -119,28 +118,44 @@ fn first_by_rule(fields: &ScheduleFields, zone: &TimeZone<'_>, mark: Mark) -> Op
     if let Some(item) = item_in(&kept, next) {
         return Some(Some(item));
     }
-    first_behind(fields, zone, i64::from(kept.end), from, next)
+    let end = i64::from(kept.end);
+    let behind = kept_behind(zone, end, keeping.next)?;
+    first_behind(fields, zone, end, &behind, from, next)
 }
 
-// The first item from an instant on, if it is known. The nearest match from a number on is known.
+// The offset that a clock keeps from an instant on, which may be known, and up to where.
+fn kept_behind(zone: &TimeZone<'_>, at: i64, known: Option<Kept>) -> Option<Kept>
+    requires { IfSome known (λ k. IsKeptUpTo (plain_zone zone.now) at k.end k.offset.seconds) }
+    ensures { IfSome result (λ k. IsKeptUpTo (plain_zone zone.now) at k.end k.offset.seconds) }
+{
+    match known {
+        Some(kept) => Some(kept),
+        None => kept_by_rule(zone, at),
+    }
+}
+
+// The first item from an instant on, if it is known, from the offset that a clock keeps then. The
+// nearest match from a number on is known.
 fn first_behind(
     fields: &ScheduleFields,
     zone: &TimeZone<'_>,
     at: i64,
+    kept: &Kept,
     earlier: i64,
     known: Option<u32>,
 ) -> Option<Option<Moment>>
+    requires agree { LookupsAgree (plain_zone zone.now) }
+    requires kept { IsKeptUpTo (plain_zone zone.now) at kept.now.end kept.now.offset.seconds }
     requires at { IsBetween (neg_ℤ (pos 400_000_000_000)) (pos 400_000_000_001) at }
     requires known { IsNearest Ahead (is_match fields.now) earlier known }
     requires bound { IfSome known (λ n. n < seconds_in_range) }
     ensures { IfSome result (IsBest Ahead (IsFrom fields.now (plain_zone zone.now) at)) }
 {
-    let kept = kept_by_rule(zone, at)?;
-    if !is_long(&kept, at) {
+    if !is_long(kept, at) {
         return None;
     }
     let from = at + i64::from(kept.offset.seconds());
-    first_in_long(zone, &kept, match_from(fields, from, earlier, known))
+    first_in_long(zone, kept, match_from(fields, from, earlier, known))
 }
 
 /// The same in any zone. It is known in zones with a rule alone.

@@ -10,11 +10,11 @@ is_true b h = search rules
 pub returns : goal.returns
 returns c =
     let range = c.requires.at in
-    let near = c.in_ok-kept.kept.offset.in_range in
+    let near = c.args.kept.now.offset.in_range in
     let at : to_z w64 (of_z w64 c.args.at) ≡ c.args.at = omega (arith, signed_casts, range) in
-    let from : to_z w64 (of_z w64 (to_z w64 (of_z w64 c.args.at) +ℤ to_z w64 (of_z w64 c.from.result))) ≡ c.args.at +ℤ c.in_ok-kept.kept.offset.seconds =
+    let from : to_z w64 (of_z w64 (to_z w64 (of_z w64 c.args.at) +ℤ to_z w64 (of_z w64 c.from.result))) ≡ c.args.at +ℤ c.args.kept.now.offset.seconds =
     omega (arith, signed_casts, range, near, c.from.ensures, c.seconds.ensures) in
     let long = rw at at (c.is_long.ensures (is_true c.is_long.result c.if-not-is_long.false)) in
     if_some
-    (λ first best. best c.args.fields.now c.args.at c.in_ok-kept.ensures.agree (rw at at c.in_ok-kept.ensures.kept) long (rw from at c.match_from.ensures.nearest))
+    (λ first best. best c.args.fields.now c.args.at c.requires.agree c.requires.kept long (rw from at c.match_from.ensures.nearest))
     c.first_in_long.result c.first_in_long.ensures
