@@ -83,8 +83,8 @@ pub added : {T : Type 0} (schedules : T → List Sets) (zones : List TimeZone) (
 added schedules zones table zone fires old (Ok id) new z fire lent first inserts = (z, fire, lent, first, inserts.0, inserts.1)
 added schedules zones table zone fires old (Err why) new z fire lent first inserts = (
   elim inserts.0 [
-    | inl e ↦ subst (IsRefused zones zone fires old.added) (sym e.0) e.1
-    | inr e ↦ subst (IsRefused zones zone fires old.added) (sym e) tt
+    | inl e ↦ subst (IsRefused zones zone fires old.added old.room) (sym e.0) e.1
+    | inr e ↦ subst (IsRefused zones zone fires old.added old.room) (sym e.0) e.1
   ],
   inserts.1,
 )

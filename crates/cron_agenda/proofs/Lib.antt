@@ -1,5 +1,6 @@
 pub mod ListLemmas
 pub mod SlotLemmas
+pub mod TreeLemmas
 pub mod FirstLemmas
 pub mod IdLemmas
 pub mod EntryLemmas

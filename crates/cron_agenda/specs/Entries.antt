@@ -1,5 +1,6 @@
 -- The entries of an agenda, and what is added to them and taken from them.
-use Rattle.std.specs.Prelude.{◌≡◌, ◌≤◌, ℕ, ◌+◌, ◌-◌, ◌^◌, ℤ, pos, ◌*ℤ◌, Bool, true, false, not, ◌==◌, int_le, List, [], ◌∷◌, ◌++◌, filter, slice_get, Option, Some, None, MatchOption, Result, Ok, Err, ⊤}
+use Rattle.std.specs.Prelude.{◌≡◌, ◌≤◌, ℕ, ◌+◌, ◌-◌, ◌^◌, ℤ, pos, ◌*ℤ◌, Bool, true, false, not, ◌==◌, int_le, List, [], ◌∷◌, ◌++◌, filter, slice_get, Option, Some, None, MatchOption, Result, Ok, Err, ⊤, max}
+use Rattle.std.specs.declared.alloc.AllocError.{AllocError}
 use Rattle.std.specs.List.{list_any}
 use Rattle.std.specs.Option.{is_none}
 use Rattle.jiff_tz.specs.declared.timezone.TimeZone.{TimeZone}
@@ -14,13 +15,19 @@ use Rattle.cron_agenda.specs.declared.error.AddError.TheVariants.{NoZone, NoFire
 use Rattle.cron_agenda.specs.declared.error.ZoneMissing.{ZoneMissing}
 use Rattle.cron_agenda.specs.Fires.{fires_past, instant}
 
--- an agenda: its entries in the order in which they were added, each with the fire that comes next, and how many were ever added
+-- an agenda: its entries in the order in which they were added, each with the fire that comes next, how many were ever added, and
+-- how many more have their memory already
 pub record Listed (T : Type 0) : Type 0 where
   pub entries : List (Entry T)
   pub added : ℕ
+  pub room : ℕ
 
-abbrev pub listed : {T : Type 0} → List (Entry T) → ℕ → Listed T
-listed entries added = record { entries = entries; added = added }
+abbrev pub listed : {T : Type 0} → List (Entry T) → ℕ → ℕ → Listed T
+listed entries added room = record { entries = entries; added = added; room = room }
+
+-- an agenda with these entries in place of its own
+abbrev pub with_entries : {T : Type 0} → List (Entry T) → Listed T → Listed T
+with_entries entries a = listed entries a.added a.room
 
 abbrev pub entry : {T : Type 0} → ℕ → T → ℕ → EntryFire → Entry T
 entry id table zone fire = record { id = id; table = table; zone = zone; fire = fire }
@@ -87,7 +94,7 @@ pub record LacksZone {T : Type 0} (zones : List TimeZone) (old : List (Entry T))
 -- what fires next is taken
 abbrev pub TakesNext : {T : Type 0} → (T → List Sets) → List TimeZone → Listed T → Result (Option AgendaFire) ZoneMissing → Listed T → Type 0
 TakesNext schedules zones old (Ok None) new = (old.entries ≡ []) × (new ≡ old)
-TakesNext schedules zones old (Ok (Some taken)) new = IsTaken schedules zones old.entries taken new.entries × (new.added ≡ old.added)
+TakesNext schedules zones old (Ok (Some taken)) new = IsTaken schedules zones old.entries taken new.entries × (new.added ≡ old.added) × (new.room ≡ old.room)
 TakesNext schedules zones old (Err why) new = LacksZone zones old.entries why × (new ≡ old)
 
 -- its next fire's instant is t, which is in nanoseconds since 1970, or comes before it
@@ -101,16 +108,21 @@ TakesDue schedules zones t old (Ok (Some taken)) new =
     TakesNext schedules zones old (Ok (Some taken)) new × (int_le (instant taken.fire *ℤ pos 1_000_000_000) t ≡ true)
 TakesDue schedules zones t old (Err why) new = TakesNext schedules zones old (Err why) new
 
--- Why nothing was added: for want of the zone, of fires in it, of ids, of which there are 2^64 - 1, or of memory.
-abbrev pub IsRefused : List TimeZone → ℕ → (TimeZone → List EntryFire) → ℕ → AddError → Type 0
-IsRefused zones zone fires added NoZone = slice_get zones zone ≡ None
-IsRefused zones zone fires added NoFires = (z : TimeZone) × (slice_get zones zone ≡ Some z) × (fires z ≡ [])
-IsRefused zones zone fires added NoIds = added ≡ 2 ^ 64 - 1
-IsRefused zones zone fires added OutOfMemory = ⊤
+-- Why nothing was added: for want of the zone, of fires in it, of ids, of which there are 2^64 - 1, or of memory that wasn't there already.
+abbrev pub IsRefused : List TimeZone → ℕ → (TimeZone → List EntryFire) → ℕ → ℕ → AddError → Type 0
+IsRefused zones zone fires added room NoZone = slice_get zones zone ≡ None
+IsRefused zones zone fires added room NoFires = (z : TimeZone) × (slice_get zones zone ≡ Some z) × (fires z ≡ [])
+IsRefused zones zone fires added room NoIds = added ≡ 2 ^ 64 - 1
+IsRefused zones zone fires added room OutOfMemory = room ≡ 0
 
 -- An entry is added whose fires these are in the zone with this number, under the next id; or nothing changes.
 abbrev pub Adds : {T : Type 0} → (T → List Sets) → List TimeZone → T → ℕ → (TimeZone → List EntryFire) → Listed T → Result ℕ AddError → Listed T → Type 0
 Adds schedules zones table zone fires old (Ok id) new =
     (z : TimeZone) × (fire : EntryFire) × (slice_get zones zone ≡ Some z) × (fires z ≡ fire ∷ fires_past (schedules table) z fire)
-    × (id ≡ old.added) × (new ≡ listed (old.entries ++ entry id table zone fire ∷ []) (old.added + 1))
-Adds schedules zones table zone fires old (Err why) new = IsRefused zones zone fires old.added why × (new ≡ old)
+    × (id ≡ old.added) × (new ≡ listed (old.entries ++ entry id table zone fire ∷ []) (old.added + 1) (old.room - 1))
+Adds schedules zones table zone fires old (Err why) new = IsRefused zones zone fires old.added old.room why × (new ≡ old)
+
+-- Memory is taken for so many more entries; or nothing changes.
+abbrev pub Reserves : {T : Type 0} → ℕ → Listed T → Result ⊤ AllocError → Listed T → Type 0
+Reserves additional old (Ok done) new = new ≡ listed old.entries old.added (max old.room additional)
+Reserves additional old (Err why) new = new ≡ old

@@ -1,9 +1,9 @@
 //! Entries, each with its next fire.
-ghost use Rattle.std.specs.Prelude.{◌≡◌, [], ◌∷◌, ◌++◌, filter, length, map};
+ghost use Rattle.std.specs.Prelude.{◌≡◌, ◌≤◌, [], ◌∷◌, ◌++◌, filter, length, map, vec_capacity, vec_len};
 ghost use Rattle.std.specs.Option.{is_some};
 ghost use Rattle.jiff.specs.Words.{plain_zone};
 ghost use Rattle.cron_agenda.specs.Fires.{fires_after, fires_past};
-ghost use Rattle.cron_agenda.specs.Entries.{Adds, HaveIds, IsEntryOf, IsFirstEntry, TakesDue, TakesNext, has, listed, without};
+ghost use Rattle.cron_agenda.specs.Entries.{Adds, HaveIds, IsEntryOf, IsFirstEntry, Reserves, TakesDue, TakesNext, has, listed, with_entries, without};
 ghost use Rattle.cron_agenda.specs.Inner.Slots as inner;
 
 use crate::earliest::Earliest;
@@ -17,25 +17,28 @@ use jiff::tz::TimeZone;
 use std::alloc::{AllocError, Global};
 use std::marker::Model;
 
-/// Entries, each with its next fire. Contracts see them in the order in which they were added, and
-/// how many were ever added.
+/// Entries, each with its next fire. Contracts see them in the order in which they were added, how
+/// many were ever added, and how many more have their memory already.
 #[derive(Drop)]
 pub struct Agenda<T> {
     slots: Vec<Slot<T>>,
     firsts: Earliest,
     live: usize,
     added: u64,
+    room: usize,
 }
 
 impl<T> Model for Agenda<T> {
     ghost use Rattle.cron_agenda.specs.Entries.{Listed, listed};
-    ghost use Rattle.cron_agenda.specs.Inner.Slots.{IsKept, entries_of};
+    ghost use Rattle.std.specs.Prelude.{vec_capacity, vec_len};
+    ghost use Rattle.cron_agenda.specs.Inner.Slots.{HasRoom, IsKept, entries_of};
 
     ghost Value = { Listed T };
 
-    ghost view = { λ a. listed (entries_of a.slots.items) a.added };
+    ghost view = { λ a. listed (entries_of a.slots.items) a.added a.room };
 
-    ghost invariant = { λ a. IsKept a.slots.items a.firsts a.live a.added };
+    ghost invariant = { λ a. IsKept a.slots.items a.firsts.instants a.live a.added
+        × HasRoom (vec_len a.slots) (vec_capacity a.slots) a.firsts.room a.room };
 }
 
 // Where the entry with this id stands, if it is there.
@@ -65,7 +68,9 @@ fn place_of<T>(slots: &[Slot<T>], id: u64) -> Option<usize>
 
 // Drops the slots whose entry is gone.
 fn keep_live<T: Drop>(slots: &mut Vec<Slot<T>>)
-    ensures { slots.new.items ≡ filter (λ s. is_some s.head) slots.old.items }
+    ensures items { slots.new.items ≡ filter (λ s. is_some s.head) slots.old.items }
+    ensures len { vec_len slots.new ≤ vec_len slots.old }
+    ensures capacity { vec_capacity slots.new ≡ vec_capacity slots.old }
 {
     slots.retain(|slot| slot.head.is_some());
 }
@@ -73,13 +78,14 @@ fn keep_live<T: Drop>(slots: &mut Vec<Slot<T>>)
 impl<T: Timetable + Copy> Agenda<T> {
     /// No entries.
     pub fn new(alloc: Global) -> Agenda<T>
-        ensures { result ≡ listed [] 0 }
+        ensures { result ≡ listed [] 0 0 }
     {
         Agenda {
             slots: Vec::new(alloc),
             firsts: Earliest::new(alloc),
             live: 0,
             added: 0,
+            room: 0,
         }
     }
 
@@ -91,12 +97,15 @@ impl<T: Timetable + Copy> Agenda<T> {
         self.live
     }
 
-    /// Takes memory for so many more entries, so that adding them takes none.
+    /// Takes memory for so many more entries: adding them takes none, and is never refused for want
+    /// of it. There may be at most 2^30 entries, with those that are gone and have their slots still.
     pub fn reserve(&mut self, additional: usize) -> Result<(), AllocError>
-        ensures { self.new ≡ self.old }
+        ensures { Reserves additional self.old result self.new }
     {
         self.slots.try_reserve(additional)?;
-        self.firsts.reserve(additional)
+        self.firsts.reserve(additional)?;
+        self.room = self.room.max(additional);
+        Ok(())
     }
 
     // Adds an entry with this next fire.
@@ -124,6 +133,7 @@ impl<T: Timetable + Copy> Agenda<T> {
         let id = self.added;
         self.added += 1;
         self.live += 1;
+        self.room = self.room.saturating_sub(1);
         Ok(id)
     }
 
@@ -187,7 +197,7 @@ impl<T: Timetable + Copy> Agenda<T> {
     // Removes the entry with this id, and leaves its slot.
     fn empty_slot(&mut self, id: u64) -> bool
         ensures found { result ≡ has id self.old.entries }
-        ensures rest { self.new ≡ listed (without id self.old.entries) self.old.added }
+        ensures rest { self.new ≡ with_entries (without id self.old.entries) self.old }
     {
         let Some(place) = place_of(&self.slots, id) else {
             return false;
@@ -199,10 +209,11 @@ impl<T: Timetable + Copy> Agenda<T> {
         true
     }
 
-    /// Removes the entry with this id, and tells whether there was one. It takes no memory.
+    /// Removes the entry with this id, and tells whether there was one. It takes no memory. A call
+    /// after which fewer than half of the slots have an entry drops the others, in a pass over all.
     pub fn remove(&mut self, id: u64) -> bool
         ensures found { result ≡ has id self.old.entries }
-        ensures rest { self.new ≡ listed (without id self.old.entries) self.old.added }
+        ensures rest { self.new ≡ with_entries (without id self.old.entries) self.old }
     {
         let found = self.empty_slot(id);
         self.compact();
@@ -255,8 +266,8 @@ impl<T: Timetable + Copy> Agenda<T> {
 
     /// Takes what fires next, of all entries: by instant, of those at one instant that of the entry
     /// that was added first. Its entry goes on to its next fire in its zone; one that has none is
-    /// removed, and the fire says so. Nothing is taken where its zone isn't lent. It takes no
-    /// memory.
+    /// removed, and the fire says so. Nothing is taken where its zone isn't lent. It takes no memory.
+    /// A call that removes an entry may pass over all slots, as [`Agenda::remove`] says.
     pub fn next(&mut self, zones: &[TimeZone<'_>]) -> Result<Option<AgendaFire>, ZoneMissing>
         ensures { TakesNext T.schedules (map plain_zone zones.now) self.old result self.new }
     {

@@ -1,68 +1,99 @@
 //! Which of some places comes first, kept as their instants change: a tree in a list, whose place
-//! `i` stands over the places `2i + 1` and `2i + 2`, and has the least key from it down.
-ghost use Rattle.std.specs.Prelude.{◌≡◌, ◌≢◌, ℕ, ◌<◌, ◌≤◌, [], ◌∷◌, ◌++◌, length, map, slice_set, OnOk, OnErr};
+//! `i` stands over the places `8i + 1` to `8i + 8`, and has the least word from it down.
+ghost use Rattle.std.specs.Prelude.{◌≡◌, ◌≢◌, ℕ, ◌+◌, ◌*◌, ◌<◌, ◌≤◌, [], ◌∷◌, ◌++◌, All, EachIndex, length, map, slice_set, IfSome, OnOk, OnErr};
 ghost use Rattle.cron_earliest.specs.Places.{IsFirstPlace};
 ghost use Rattle.cron_agenda.specs.Inner.Slots as inner;
-ghost use Rattle.cron_earliest.specs.Tree as tree;
+ghost use Rattle.cron_agenda.specs.Inner.Tree as tree;
+ghost use Rattle.cron_agenda.specs.Inner.Words as words;
 
 use crate::slots::Slot;
-use cron_earliest::{Key, lesser};
+use crate::words::{NONE, PLACES, place_in, word_of};
 use std::alloc::{AllocError, Global};
 use std::marker::Model;
 
-/// Places, each with an instant or none.
+/// Places, each with an instant or none. There are at most 2^30.
 #[derive(Drop)]
 pub(crate) struct Earliest {
-    own: Vec<Option<i64>>,
-    best: Vec<Option<Key>>,
+    own: Vec<u64>,
+    best: Vec<u64>,
 }
 
 impl Model for Earliest {
-    ghost use Rattle.std.specs.Prelude.{List, Option, ℤ};
-    ghost use Rattle.cron_earliest.specs.Tree.{IsTree};
+    ghost use Rattle.std.specs.Prelude.{map};
+    ghost use Rattle.std.specs.Prelude.{vec_capacity, vec_len};
+    ghost use Rattle.cron_agenda.specs.Inner.Tree.{IsKeptTree, Places, room_in};
+    ghost use Rattle.cron_agenda.specs.Inner.Words.{instant_in};
 
-    ghost Value = { List (Option ℤ) };
+    ghost Value = { Places };
 
-    ghost view = { λ e. e.own.items };
+    ghost view = { λ e. record {
+      instants = map instant_in e.own.items;
+      room = room_in (vec_len e.own) (vec_capacity e.own) (vec_len e.best) (vec_capacity e.best);
+    } };
 
-    ghost invariant = { λ e. IsTree e.own.items e.best.items };
+    ghost invariant = { λ e. IsKeptTree e.own.items e.best.items };
 }
 
-// The key of a place's own instant.
+// The least of the words of two places.
 #[inline(always)]
-fn own_at(own: &[Option<i64>], at: usize) -> Option<Key>
-    requires { at < length own.now }
-    ensures { result ≡ tree.own_at own.now at }
+fn least_of_two(best: &[u64], first: usize) -> u64
+    requires { first + 2 ≤ length best.now }
+    ensures { tree.IsLeastIn best.now first (first + 2) result }
 {
-    match own[at] {
-        Some(instant) => Some(Key { instant, place: at }),
-        None => None,
+    best[first].min(best[first + 1])
+}
+
+// The least of those of four.
+#[inline(always)]
+fn least_of_four(best: &[u64], first: usize) -> u64
+    requires { first + 4 ≤ length best.now }
+    ensures { tree.IsLeastIn best.now first (first + 4) result }
+{
+    least_of_two(best, first).min(least_of_two(best, first + 2))
+}
+
+// The least of those of eight.
+#[inline(always)]
+fn least_of_eight(best: &[u64], first: usize) -> u64
+    requires { first + 8 ≤ length best.now }
+    ensures { tree.IsLeastIn best.now first (first + 8) result }
+{
+    least_of_four(best, first).min(least_of_four(best, first + 4))
+}
+
+// The least of those from a place on.
+fn least_from(best: &[u64], first: usize) -> u64
+    ensures { tree.IsLeastIn best.now first (length best.now) result }
+{
+    let mut least = NONE;
+    for at in first..best.len() {
+        least = least.min(best[at]);
     }
+    least
 }
 
-// The least key from a place down; none past the end.
+// Of a place's own word and those of the places below it the least.
 #[inline(always)]
-fn best_at(best: &[Option<Key>], at: usize) -> Option<Key>
-    ensures { result ≡ tree.best_at best.now at }
-{
-    if at < best.len() { best[at] } else { None }
-}
-
-// Of a place's own key and those of its children the least.
-#[inline(always)]
-fn best_of(own: &[Option<i64>], best: &[Option<Key>], at: usize) -> Option<Key>
+fn best_of(own: &[u64], best: &[u64], at: usize) -> u64
     requires at { at < length own.now }
     requires size { length best.now ≡ length own.now }
-    ensures { result ≡ tree.best_of own.now best.now at }
+    requires most { length own.now ≤ 1_073_741_824 }
+    ensures { tree.IsLeast own.now best.now at result }
 {
-    let below = lesser(best_at(best, 2 * at + 1), best_at(best, 2 * at + 2));
-    lesser(own_at(own, at), below)
+    let first = 8 * at + 1;
+    let below = if first + 8 <= best.len() {
+        least_of_eight(best, first)
+    } else {
+        least_from(best, first)
+    };
+    own[at].min(below)
 }
 
 // Sets right the place and those above it.
-fn repair(own: &[Option<i64>], best: &mut [Option<Key>], from: usize)
+fn repair(own: &[u64], best: &mut [u64], from: usize)
     requires at { from < length own.now }
     requires size { length best.old ≡ length own.now }
+    requires most { length own.now ≤ 1_073_741_824 }
     requires others { (i : ℕ) → i < length own.now → i ≢ from → tree.IsBestAt own.now best.old i }
     ensures { tree.IsTree own.now best.new }
 {
@@ -72,13 +103,14 @@ fn repair(own: &[Option<i64>], best: &mut [Option<Key>], from: usize)
         if at == 0 {
             return;
         }
-        at = (at - 1) / 2;
+        at = (at - 1) / 8;
     }
 }
 
 // Sets right all places, the last one first.
-fn rebuild(own: &[Option<i64>], best: &mut [Option<Key>])
-    requires { length best.old ≡ length own.now }
+fn rebuild(own: &[u64], best: &mut [u64])
+    requires size { length best.old ≡ length own.now }
+    requires most { length own.now ≤ 1_073_741_824 }
     ensures { tree.IsTree own.now best.new }
 {
     for at in (0..own.len()).rev() {
@@ -86,20 +118,22 @@ fn rebuild(own: &[Option<i64>], best: &mut [Option<Key>])
     }
 }
 
-// Writes the instants of these slots.
-fn read_instants<T>(own: &mut [Option<i64>], slots: &[Slot<T>])
-    requires { length own.old ≡ length slots.now }
-    ensures { own.new ≡ map inner.instant_of slots.now }
+// Writes the words of these slots.
+fn read_instants<T>(own: &mut [u64], slots: &[Slot<T>])
+    requires size { length own.old ≡ length slots.now }
+    requires most { length slots.now ≤ 1_073_741_824 }
+    ensures instants { map words.instant_in own.new ≡ map inner.instant_of slots.now }
+    ensures places { tree.HavePlaces own.new }
 {
     for (at, slot) in slots.iter().enumerate() {
-        own[at] = slot.instant();
+        own[at] = word_of(slot.instant(), at);
     }
 }
 
 impl Earliest {
     /// No places.
     pub(crate) fn new(alloc: Global) -> Earliest
-        ensures { result ≡ [] }
+        ensures { result.instants ≡ [] }
     {
         Earliest {
             own: Vec::new(alloc),
@@ -109,40 +143,56 @@ impl Earliest {
 
     /// Takes memory for so many more places.
     pub(crate) fn reserve(&mut self, additional: usize) -> Result<(), AllocError>
-        ensures { self.new ≡ self.old }
+        ensures instants { self.new.instants ≡ self.old.instants }
+        ensures ok { OnOk result (additional ≤ self.new.room) }
+        ensures room { self.old.room ≤ self.new.room }
+        ensures err { OnErr result (self.old.room < additional) }
     {
+        if additional > PLACES - self.own.len() {
+            return Err(AllocError);
+        }
         self.best.try_reserve(additional)?;
         self.own.try_reserve(additional)
     }
 
     /// Adds a place behind the others.
     pub(crate) fn push(&mut self, instant: Option<i64>) -> Result<(), AllocError>
-        ensures ok { OnOk result (self.new ≡ self.old ++ instant ∷ []) }
-        ensures err { OnErr result (self.new ≡ self.old) }
+        requires { IfSome instant words.CanBeKept }
+        ensures ok { OnOk result (self.new.instants ≡ self.old.instants ++ instant ∷ []) }
+        ensures err { OnErr result (self.new.instants ≡ self.old.instants) }
+        ensures room { self.old.room ≤ self.new.room + 1 }
+        ensures full { OnErr result (self.old.room ≡ 0) }
     {
-        self.best.push(None)?;
-        if self.own.push(instant).is_err() {
+        let last = self.own.len();
+        if last >= PLACES {
+            return Err(AllocError);
+        }
+        self.best.push(NONE)?;
+        if self.own.push(word_of(instant, last)).is_err() {
             self.best.pop();
             return Err(AllocError);
         }
-        let last = self.own.len() - 1;
         repair(&self.own, &mut self.best, last);
         Ok(())
     }
 
     /// Gives a place this instant, or none.
     pub(crate) fn set(&mut self, place: usize, instant: Option<i64>)
-        requires { place < length self.old }
-        ensures { self.new ≡ slice_set self.old place instant }
+        requires place { place < length self.old.instants }
+        requires instant { IfSome instant words.CanBeKept }
+        ensures instants { self.new.instants ≡ slice_set self.old.instants place instant }
+        ensures room { self.new.room ≡ self.old.room }
     {
-        self.own[place] = instant;
+        let word = &mut self.own[place];
+        *word = word_of(instant, place);
         repair(&self.own, &mut self.best, place);
     }
 
     /// Has as many places as there are slots, each with its slot's instant. It takes no memory.
     pub(crate) fn reset<T>(&mut self, slots: &[Slot<T>])
-        requires { length slots.now ≤ length self.old }
-        ensures { self.new ≡ map inner.instant_of slots.now }
+        requires { length slots.now ≤ length self.old.instants }
+        ensures instants { self.new.instants ≡ map inner.instant_of slots.now }
+        ensures room { self.old.room ≤ self.new.room }
     {
         self.own.truncate(slots.len());
         self.best.truncate(slots.len());
@@ -152,11 +202,11 @@ impl Earliest {
 
     /// The place that comes first: by instant, and where that is shared by its number.
     pub(crate) fn first(&self) -> Option<usize>
-        ensures { IsFirstPlace self.now result }
+        ensures { IsFirstPlace self.now.instants result }
     {
-        match best_at(&self.best, 0) {
-            Some(key) => Some(key.place),
-            None => None,
+        if self.best.is_empty() {
+            return None;
         }
+        place_in(self.best[0])
     }
 }

@@ -3,6 +3,7 @@ ghost use Rattle.std.specs.Prelude.{◌≡◌, ◌*ℤ◌, pos};
 ghost use Rattle.jiff.specs.Words.{plain_zone};
 ghost use Rattle.cron_fires.specs.Rules.{IsFirstOf};
 ghost use Rattle.cron_agenda.specs.Fires.{fires_after, fires_past, instant};
+ghost use Rattle.cron_agenda.specs.Inner.Words.{CanBeKept};
 
 use cron::schedule::Moment;
 use cron_dues::fire::due_second;
@@ -45,7 +46,8 @@ impl EntryFire {
 
 /// The instant of a fire, in seconds since 1970-01-01T00:00:00Z.
 pub(crate) fn second_of(fire: &EntryFire) -> i64
-    ensures { result ≡ instant fire.now }
+    ensures value { result ≡ instant fire.now }
+    ensures bound { CanBeKept result }
 {
     match fire {
         EntryFire::AsShown(moment) => instant_of(moment),

@@ -9,6 +9,7 @@ mod error;
 mod fire;
 pub mod laws;
 mod slots;
+mod words;
 
 pub use agenda::Agenda;
 pub use entry::Entry;

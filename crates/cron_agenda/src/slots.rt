@@ -1,6 +1,7 @@
 //! Slots of entries.
-ghost use Rattle.std.specs.Prelude.{◌≡◌};
+ghost use Rattle.std.specs.Prelude.{◌≡◌, IfSome};
 ghost use Rattle.cron_agenda.specs.Inner.Slots as inner;
+ghost use Rattle.cron_agenda.specs.Inner.Words.{CanBeKept};
 
 use crate::entry::Entry;
 use crate::fire::{EntryFire, second_of};
@@ -17,7 +18,8 @@ pub(crate) struct Slot<T> {
 impl<T> Slot<T> {
     /// The instant of the next fire.
     pub(crate) fn instant(&self) -> Option<i64>
-        ensures { result ≡ inner.instant_of self.now }
+        ensures value { result ≡ inner.instant_of self.now }
+        ensures bound { IfSome result CanBeKept }
     {
         match &self.head {
             Some(fire) => Some(second_of(fire)),

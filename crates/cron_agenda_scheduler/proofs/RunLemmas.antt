@@ -58,7 +58,7 @@ runs_that_meet ts cs js first second most left more rest c d e g a b z j k l m l
     ∙ ap (λ fires. fires ++ merged ts.schedules ts.zones z.entries) (map-append own_of (all_taken first) (all_taken second))
 
 pub one_entry_is_a_plan : {T C J E F : Type 0} (ts : Tables T) (cs : ClockCalls C E) (js : JobCalls T J F) → OneEntryIsAPlan ts cs js
-one_entry_is_a_plan ts cs js turns most runs added c d e b j k leaves up all =
+one_entry_is_a_plan ts cs js turns most runs added room c d e b j k leaves up all =
     sym (one_is_its_fires ts.schedules ts.zones e up)
     ∙ (taken_are_the_front ts.schedules ts.zones (all_taken turns) (e ∷ []) b.entries (up, tt)
     (turns_are_taken ts cs js turns most runs c _ j d b k leaves all)).0

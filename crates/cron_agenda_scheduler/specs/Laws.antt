@@ -58,8 +58,8 @@ RunsThatMeetAreOne {T} {C} {J} ts cs js =
 -- .. and of one entry its own fires as they stand, as a plan of one schedule has them.
 abbrev pub OneEntryIsAPlan : {T C J E F : Type 0} → (ts : Tables T) → ClockCalls C E → JobCalls T J F → Type 0
 OneEntryIsAPlan {T} {C} {J} ts cs js =
-    (turns : List (List Deed)) (most runs added : ℕ) (c d : C) (e : Entry T) (b : Listed T) (j k : J)
+    (turns : List (List Deed)) (most runs added room : ℕ) (c d : C) (e : Entry T) (b : Listed T) (j k : J)
     → LeavesAgenda js
     → Ascend (left ts.schedules ts.zones e)
-    → AreTurns ts cs js turns most c (listed (e ∷ []) added) j runs d b k
+    → AreTurns ts cs js turns most c (listed (e ∷ []) added room) j runs d b k
     → owned e.id (left ts.schedules ts.zones e) ≡ map own_of (all_taken turns) ++ merged ts.schedules ts.zones b.entries

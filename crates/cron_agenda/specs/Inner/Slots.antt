@@ -35,6 +35,10 @@ pub record IsKept {T : Type 0} (slots : List (Slot T)) (firsts : List (Option �
   pub ids : IdsAscend 0 slots added
   pub count : live ≡ length (entries_of slots)
 
+-- as many more entries as there is room for need no memory, of slots and of places
+abbrev pub HasRoom : ℕ → ℕ → ℕ → ℕ → Type 0
+HasRoom len capacity places room = (room + len ≤ capacity) × (room ≤ places)
+
 -- the slot at a place has this id, and a fire
 pub record HasEntry {T : Type 0} (slots : List (Slot T)) (id place : ℕ) : Type 0 where
   pub slot : Slot T
@@ -52,7 +56,8 @@ IsPlaceOf slots id answer =
 abbrev pub IsOwn : {T : Type 0} → Slot T → Option (Entry T) → Type 0
 IsOwn s answer = MatchOption answer (s.head ≡ None) (λ e. (s.head ≡ Some e.fire) × (e ≡ entry s.id s.table s.zone e.fire))
 
--- an entry is added with this next fire; or nothing changes, for want of ids or memory
+-- an entry is added with this next fire; or nothing changes, for want of ids or of memory that wasn't there already
 abbrev pub Inserts : {T : Type 0} → T → ℕ → EntryFire → Listed T → Result ℕ AddError → Listed T → Type 0
-Inserts table zone fire old (Ok id) new = (id ≡ old.added) × (new ≡ listed (old.entries ++ entry id table zone fire ∷ []) (old.added + 1))
-Inserts table zone fire old (Err why) new = (((why ≡ NoIds) × (old.added ≡ 2 ^ 64 - 1)) ⊎ (why ≡ OutOfMemory)) × (new ≡ old)
+Inserts table zone fire old (Ok id) new =
+    (id ≡ old.added) × (new ≡ listed (old.entries ++ entry id table zone fire ∷ []) (old.added + 1) (old.room - 1))
+Inserts table zone fire old (Err why) new = (((why ≡ NoIds) × (old.added ≡ 2 ^ 64 - 1)) ⊎ ((why ≡ OutOfMemory) × (old.room ≡ 0))) × (new ≡ old)

@@ -4,5 +4,5 @@ use Rattle.std.specs.Option.{is_some}
 use Rattle.cron_agenda.specs.declared.slots.Slot.{Slot}
 use Rattle.cron_agenda.proofs.agenda.keep_live.Goals as goal
 
-pub returns : goal.returns
-returns g c = filter_from_retain _ (λ (s : Slot _). is_some s.head) (λ p x b q h. search rules) _ _ _ c.retain.ensures.filtered
+pub returns-clause-items : goal.returns-clause-items
+returns-clause-items g c = filter_from_retain _ (λ (s : Slot _). is_some s.head) (λ p x b q h. search rules) _ _ _ c.retain.ensures.filtered

@@ -7,7 +7,7 @@ use Rattle.cron_agenda.proofs.agenda.Agenda.get.Goals as goal
 
 pub returns-in_err-place : goal.returns-in_err-place
 returns-in_err-place g c =
-    let none = subst (λ l. (p : ℕ) → HasEntry l c.args.id p → ⊥) c.deref.ensures.value (c.in_err-place.ensures c.self.inside.added (subst (λ l. IdsAscend 0 l c.self.inside.added) (sym c.deref.ensures.value) c.self.invariant.ids)) in
+    let none = subst (λ l. (p : ℕ) → HasEntry l c.args.id p → ⊥) c.deref.ensures.value (c.in_err-place.ensures c.self.inside.added (subst (λ l. IdsAscend 0 l c.self.inside.added) (sym c.deref.ensures.value) c.self.invariant.0.ids)) in
     rw (c.from_residual.ensures, ← c.self.view_is) (without-none c.self.inside.slots.items c.args.id none).1
 
 pub index-requires : goal.index-requires
@@ -22,4 +22,4 @@ returns g c =
     let less = slice_get_within c.self.inside.slots.items c.in_ok-place.place found.slot found.here in
     let here : slice_get c.self.inside.slots.items c.in_ok-place.place ≡ Some c.index.result.now =
     slice_get_read c.self.inside.slots.items (length c.self.inside.slots.items) c.in_ok-place.place c.index.result.now refl less c.index.ensures in
-    rw (← c.self.view_is) (entry_there c.self.invariant found c.index.result.now here c.entry.result c.entry.ensures)
+    rw (← c.self.view_is) (entry_there c.self.invariant.0 found c.index.result.now here c.entry.result c.entry.ensures)

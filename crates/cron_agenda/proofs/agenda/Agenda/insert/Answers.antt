@@ -1,4 +1,4 @@
-use Rattle.std.proofs.Common.{◌≡◌, ◌+◌, true, cond, Some, [], ◌∷◌, ◌++◌, refl, sym, ap, ◌∙◌, rules}
+use Rattle.std.proofs.Common.{arith, ◌≡◌, ◌+◌, ◌-◌, true, cond, Some, [], ◌∷◌, ◌++◌, refl, sym, ap, ◌∙◌, rules}
 use Rattle.std.specs.Prelude.{not}
 use Rattle.std.specs.Result.{is_ok}
 use Rattle.cron_agenda.specs.declared.slots.Slot.{Slot}
@@ -12,7 +12,7 @@ use Rattle.cron_agenda.proofs.agenda.Agenda.insert.Goals as goal
 pub overflow_add-self-2 : goal.overflow_add-self-2
 overflow_add-self-2 g c =
     let fewer = entries-fewer c.self.inside.slots.items in
-    let count = c.self.invariant.count in
+    let count = c.self.invariant.0.count in
     let reserved = c.try_reserve.ensures.len in
     search rules
 
@@ -23,9 +23,15 @@ invariant_of-self-2 g c =
     let items : c.push-2.new.self.items ≡ c.self.inside.slots.items ++ slot ∷ [] =
     c.push-2.ensures.items ∙ ap (λ b. cond b (c.try_reserve.new.self.items ++ slot ∷ []) c.try_reserve.new.self.items) went
     ∙ ap (λ l. l ++ slot ∷ []) c.try_reserve.ensures.items in
-    let firsts : c.push.new.self ≡ c.self.inside.firsts ++ Some (instant c.args.fire) ∷ [] =
-    on_ok c.push.result (sym c.is_err-2.ensures.value ∙ c.if-is_err-2.false) c.push.ensures.ok ∙ ap (λ o. c.self.inside.firsts ++ o ∷ []) c.instant.ensures in
-    rw (items, firsts) (kept-more c.self.inside.slots.items c.self.inside.firsts c.self.inside.live c.self.inside.added c.args.table c.args.zone c.args.fire c.self.invariant)
+    let firsts : c.push.new.self.instants ≡ c.self.inside.firsts.instants ++ Some (instant c.args.fire) ∷ [] =
+    on_ok c.push.result (sym c.is_err-2.ensures.value ∙ c.if-is_err-2.false) c.push.ensures.ok ∙ ap (λ o. c.self.inside.firsts.instants ++ o ∷ []) c.instant.ensures.value in
+    let reserved = on_ok c.try_reserve.result (sym c.is_err.ensures.value ∙ c.if-is_err.false) c.try_reserve.ensures.ok in (
+      rw (items, firsts) (kept-more c.self.inside.slots.items c.self.inside.firsts.instants c.self.inside.live c.self.inside.added c.args.table c.args.zone c.args.fire c.self.invariant.0),
+      (
+        omega (arith, c.self.invariant.1.0, c.try_reserve.ensures.len, c.try_reserve.ensures.capacity, c.push-2.ensures.upper_bound, c.push-2.ensures.capacity),
+        omega (arith, c.self.invariant.1.1, c.push.ensures.room),
+      ),
+    )
 
 pub returns : goal.returns
 returns g c =
@@ -34,4 +40,4 @@ returns g c =
     let items : c.push-2.new.self.items ≡ c.self.inside.slots.items ++ slot ∷ [] =
     c.push-2.ensures.items ∙ ap (λ b. cond b (c.try_reserve.new.self.items ++ slot ∷ []) c.try_reserve.new.self.items) went
     ∙ ap (λ l. l ++ slot ∷ []) c.try_reserve.ensures.items in
-    rw (← c.self.view_is) (refl, ap (λ es. listed es (c.self.inside.added + 1)) (ap entries_of items ∙ entries-more c.self.inside.slots.items c.self.inside.added c.args.table c.args.zone c.args.fire))
+    rw (← c.self.view_is, c.saturating_sub-self-inside.ensures) (refl, ap (λ es. listed es (c.self.inside.added + 1) (c.self.inside.room - 1)) (ap entries_of items ∙ entries-more c.self.inside.slots.items c.self.inside.added c.args.table c.args.zone c.args.fire))

@@ -1,4 +1,4 @@
-use Rattle.std.proofs.Common.{refl, ap, ◌∙◌, map, rules}
+use Rattle.std.proofs.Common.{arith, refl, ap, ◌∙◌, map, rules}
 use Rattle.std.proofs.lemmas.Option.{slice_get_within, slice_get-map}
 use Rattle.std.specs.Prelude.{Some}
 use Rattle.std.specs.Option.{option_map}
@@ -10,20 +10,20 @@ use Rattle.cron_agenda.proofs.agenda.Agenda.take.Goals as goal
 use Rattle.cron_agenda.proofs.agenda.Agenda.take.Goals.{then-is_last, else-is_last}
 
 pub returns-in_default : goal.returns-in_default
-returns-in_default g c = (rw (← c.self.view_is) (nothing_left c.self.invariant c.in_default.ensures), refl)
+returns-in_default g c = (rw (← c.self.view_is) (nothing_left c.self.invariant.0 c.in_default.ensures), refl)
 
 pub index-slot-requires : goal.index-slot-requires
-index-slot-requires g c = let less = first_within c.self.invariant c.in-Some.ensures in search rules
+index-slot-requires g c = let less = first_within c.self.invariant.0 c.in-Some.ensures in search rules
 
 pub returns-in_default-head : goal.returns-in_default-head
-returns-in_default-head g c = absurd (first_has c.self.invariant c.in-Some.ensures c.index-slot.result.now c.index-slot.ensures c.in_default-head.is)
+returns-in_default-head g c = absurd (first_has c.self.invariant.0 c.in-Some.ensures c.index-slot.result.now c.index-slot.ensures c.in_default-head.is)
 
 pub returns-in_default-get : goal.returns-in_default-get
 returns-in_default-get g c =
     rw (← c.self.view_is) (
       record {
         entry = entry c.index-slot.result.now.id c.index-slot.result.now.table c.index-slot.result.now.zone c.in-Some-head.fire;
-        first = is_first c.self.invariant c.in-Some.ensures c.index-slot.result.now c.index-slot.ensures c.in-Some-head.fire c.in-Some-head.is;
+        first = is_first c.self.invariant.0 c.in-Some.ensures c.index-slot.result.now c.index-slot.ensures c.in-Some-head.fire c.in-Some-head.is;
         id = refl;
         missing = slice_get-map plain_zone c.args.zones.now c.index-slot.result.now.zone ∙ ap (option_map plain_zone) (get_past c.args.zones.now c.index-slot.result.now.zone c.in_default-get.ensures.lookup.3);
       },
@@ -31,32 +31,36 @@ returns-in_default-get g c =
     )
 
 pub index_mut-changed-requires : goal.index_mut-changed-requires
-index_mut-changed-requires g c = let less = first_within c.self.invariant c.in-Some.ensures in search rules
+index_mut-changed-requires g c = let less = first_within c.self.invariant.0 c.in-Some.ensures in search rules
 
-pub set-requires : goal.set-requires
-set-requires g c = slice_get_within c.self.inside.firsts c.in-Some.place (Some c.in-Some.ensures.instant) c.in-Some.ensures.here
+pub set-requires-clause-place : goal.set-requires-clause-place
+set-requires-clause-place g c = slice_get_within c.self.inside.firsts.instants c.in-Some.place (Some c.in-Some.ensures.instant) c.in-Some.ensures.here
 
 pub overflow_sub-self : goal.overflow_sub-self
-overflow_sub-self g c = some_live c.self.invariant c.in-Some.ensures c.index-slot.result.now c.index-slot.ensures c.in-Some-head.fire c.in-Some-head.is
+overflow_sub-self g c = some_live c.self.invariant.0 c.in-Some.ensures c.index-slot.result.now c.index-slot.ensures c.in-Some-head.fire c.in-Some-head.is
 
 pub invariant_of-self : goal.invariant_of-self
-invariant_of-self g c =
-    rw (c.set.ensures, c.instant-instant.ensures) (kept_last c.self.invariant c.in-Some.ensures c.index-slot.result.now c.index-slot.ensures
-    c.in-Some-head.fire c.in-Some-head.is c.index_mut-changed.result.now c.index_mut-changed.ensures.value c.first_past-next.result
-    (none_told c.first_past-next.result c.is_none-is_last.result c.is_none-is_last.ensures ∙ c.if-is_last.true))
+invariant_of-self g c = (
+  rw (c.set.ensures.instants, c.instant-instant.ensures.value) (kept_last c.self.invariant.0 c.in-Some.ensures c.index-slot.result.now c.index-slot.ensures
+      c.in-Some-head.fire c.in-Some-head.is c.index_mut-changed.result.now c.index_mut-changed.ensures.value c.first_past-next.result
+      (none_told c.first_past-next.result c.is_none-is_last.result c.is_none-is_last.ensures ∙ c.if-is_last.true)),
+  (omega (arith, c.self.invariant.1.0), omega (arith, c.self.invariant.1.1, c.set.ensures.room)),
+)
 
 pub invariant_of-self-else-is_last : goal.invariant_of-self-else-is_last
-invariant_of-self-else-is_last g c =
-    rw (c.set.ensures, c.instant-instant.ensures) (kept_more c.self.invariant c.in-Some.ensures c.index-slot.result.now c.index-slot.ensures
-    c.in-Some-head.fire c.in-Some-head.is c.index_mut-changed.result.now c.index_mut-changed.ensures.value c.first_past-next.result
-    (none_told c.first_past-next.result c.is_none-is_last.result c.is_none-is_last.ensures ∙ c.if-is_last.false))
+invariant_of-self-else-is_last g c = (
+  rw (c.set.ensures.instants, c.instant-instant.ensures.value) (kept_more c.self.invariant.0 c.in-Some.ensures c.index-slot.result.now c.index-slot.ensures
+      c.in-Some-head.fire c.in-Some-head.is c.index_mut-changed.result.now c.index_mut-changed.ensures.value c.first_past-next.result
+      (none_told c.first_past-next.result c.is_none-is_last.result c.is_none-is_last.ensures ∙ c.if-is_last.false)),
+  (omega (arith, c.self.invariant.1.0), omega (arith, c.self.invariant.1.1, c.set.ensures.room)),
+)
 
 pub returns : goal.returns
 returns g c =
     let lent = slice_get-map plain_zone c.args.zones.now c.index-slot.result.now.zone ∙ ap (option_map plain_zone) (get_there c.args.zones.now c.index-slot.result.now.zone c.in-Some-get.zone.now c.in-Some-get.ensures.lookup.3.0 c.in-Some-get.ensures.lookup.3.1) in
-    let is = taken c.self.invariant c.in-Some.ensures c.index-slot.result.now c.index-slot.ensures c.in-Some-head.fire c.in-Some-head.is
+    let is = taken c.self.invariant.0 c.in-Some.ensures c.index-slot.result.now c.index-slot.ensures c.in-Some-head.fire c.in-Some-head.is
     c.index_mut-changed.result.now c.index_mut-changed.ensures.value c.first_past-next.result g.T.Timetable.schedules (map plain_zone c.args.zones.now) (plain_zone c.in-Some-get.zone.now) lent c.first_past-next.ensures c.is_none-is_last.result (none_told c.first_past-next.result c.is_none-is_last.result c.is_none-is_last.ensures) in
     elim c.if-is_last.branch [
-      | then-is_last w ↦ rw (← c.self.view_is, w.self-is) (is, refl)
-      | else-is_last w ↦ rw (← c.self.view_is, w.self-is) (is, refl)
+      | then-is_last w ↦ rw (← c.self.view_is, w.self-is) (is, refl, refl)
+      | else-is_last w ↦ rw (← c.self.view_is, w.self-is) (is, refl, refl)
     ]

@@ -1,0 +1,35 @@
+//! A place and its instant as one word: of two words the less one has what comes first.
+ghost use Rattle.std.specs.Prelude.{◌≡◌, ◌<◌, IfSome};
+ghost use Rattle.cron_agenda.specs.Inner.Words as inner;
+
+/// How many places there are at most.
+pub(crate) const PLACES: usize = 1_073_741_824;
+
+/// The word of a place with no instant, which is greater than that of each other.
+pub(crate) const NONE: u64 = u64::MAX;
+
+/// The word of a place with an instant, or none.
+#[inline(always)]
+pub(crate) fn word_of(instant: Option<i64>, place: usize) -> u64
+    requires instant { IfSome instant inner.CanBeKept }
+    requires place { place < 1_073_741_824 }
+    ensures instant { inner.instant_in result ≡ instant }
+    ensures place { inner.HasPlace result place }
+{
+    match instant {
+        Some(instant) => (instant + 93_600) as u64 * 1_073_741_824 + place as u64,
+        None => NONE,
+    }
+}
+
+/// The place of a word, if it has an instant.
+#[inline(always)]
+pub(crate) fn place_in(word: u64) -> Option<usize>
+    ensures { result ≡ inner.place_in word }
+{
+    if word < NONE {
+        Some((word % 1_073_741_824) as usize)
+    } else {
+        None
+    }
+}
