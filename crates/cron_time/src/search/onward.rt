@@ -84,8 +84,9 @@ fn search_day_times(
     search_readable(fields, zone, way, day, from, first, stretch)
 }
 
-// A stretch in which nothing has been looked for yet becomes that of a civil second.
-#[inline(always)]
+// A stretch in which nothing has been looked for yet becomes that of a civil second. Only a walk
+// that goes on asks for it: a fresh call is done before it would pay.
+#[inline(never)]
 fn learn(zone: &TimeZone<'_>, second: u32, stretch: &mut Stretch)
     requires in_range { second < seconds_in_range }
     requires known { IsKnown (plain_zone zone.now) stretch.old }
@@ -118,7 +119,6 @@ fn days_past<const BACK: bool>(
     ensures days { KnowsDays fields.now days.new }
     ensures known { IsKnown (plain_zone zone.now) stretch.new }
 {
-    learn(zone, own * SECONDS_PER_DAY, stretch);
     let mut day = own;
     while let Some(next) = days.day_past(fields, way, day) {
         let from = extreme(way, SECONDS_PER_DAY);
@@ -151,6 +151,7 @@ fn days_past_either_way(
     ensures days { KnowsDays fields.now days.new }
     ensures known { IsKnown (plain_zone zone.now) stretch.new }
 {
+    learn(zone, own * SECONDS_PER_DAY, stretch);
     match way {
         Way::Ahead => days_past::<false>(fields, zone, Way::Ahead, own, minute, days, stretch),
         Way::Back => days_past::<true>(fields, zone, Way::Back, own, minute, days, stretch),
