@@ -28,11 +28,6 @@ use Rattle.cron_time.proofs.Searches.WayLemmas.{side, before, same, after, lies_
 pub unwanted_bare : (s : Sets) (month : ℕ) → matches_month s month ≡ false → IsBare s month
 unwanted_bare s month h day = and_left (matches_month s month) (has_matching s month day) h
 
-pub nearest_leads : (way : Way) (s : Sets) (month : ℕ) (next : Option ℕ) → IsNearest way (matches_month s) (beyond way month) next → LeadsOn way s month next
-nearest_leads way s month None h = λ k lies. unwanted_bare s k (h k lies)
-nearest_leads way s month (Some n) h =
-    record { wanted = h.passes; lies = h.lies; between = λ k lies early. unwanted_bare s k (h.nearest k lies early) }
-
 pub bare_fails : (s : Sets) (n : ℕ) → IsBare s (n / 100) → matches_ranked s n ≡ false
 bare_fails s n bare = bare (n % 100)
 
