@@ -4,12 +4,12 @@ use Rattle.std.proofs.lemmas.Bool.{cases_lt, cases_eq, lt-ltb, le-ltb}
 use Rattle.std.proofs.lemmas.Bool.Decides.{nat_tests}
 use Rattle.jiff_core.specs.Calendar.{day_count, is_leap_year}
 use Rattle.jiff_core.specs.March.{march_days}
-use Rattle.jiff_core.proofs.CalendarLemmas.{days_from_civil-day_count}
+use Rattle.jiff_core.proofs.CalendarLemmas.{days_from_civil-day_count, days_in_month_bounds}
 use Rattle.jiff_core.proofs.MarchLemmas.{leap_day, day_count-late, day_count-early, day_in_month, day_in_early_month}
 use Rattle.jiff_core.proofs.SignedLemmas.{signed_arith}
 use Rattle.cron_moments.specs.Civil.{days_in_range, years_in_range}
 use Rattle.cron_moments.specs.CivilDates.{date_numbered}
-use Rattle.cron_moments.specs.Calendar.{day_number, first_month, months_end, year_of, month_of, length_of, rank, rank_of_date}
+use Rattle.cron_moments.specs.Calendar.{day_number, first_month, leap_days_of, months_end, year_of, month_of, length_of, rank, rank_of_date}
 use Rattle.cron_moments.proofs.NumberLemmas.{number_is}
 
 -- the leap day that 2100 lacks
@@ -253,3 +253,42 @@ known_rank month number low high from near =
     let fits : day ≤ length_of month = omega arith in
     let is : day_number month day ≡ number = omega (arith, number_on month day low high (omega arith) fits) in
     sym (number_is month day low high (omega arith) fits).at ∙ ap (λ n. rank_of_date (date_numbered n).0) is
+
+-- ---- from January on
+
+-- the first of a month by the days of the years, and by those before the month in its own year
+pub of_year : (year place days : ℕ) → 1970 ≤ year → year ≤ 2100 → place < 12 → (place < 2 → days ≡ 31 * place)
+    → (2 ≤ place → days ≡ (153 * (place - 2) + 2) / 5 + 59 + leap_days_of year)
+    → (first_month ≤ 12 * year + place) × (12 * year + place < months_end) × ((1461 * (year - 1970) + 1) / 4 + days ≡ day_number (12 * year + place) 1)
+of_year year place days low high small early late =
+    let closed = number_closed (12 * year + place) 1 (omega arith) (omega arith) (omega arith) (first_fits (12 * year + place)) in (
+      omega arith,
+      omega arith,
+      elim (cases_lt place 2) [
+        | inl lt ↦ before_march year place days low high lt (early lt) closed
+        | inr ge ↦ from_march year place days low high small ge (late ge) closed
+      ],
+    )
+  where
+    first_fits : (month : ℕ) → 1 ≤ length_of month
+    first_fits month = omega (arith, days_in_month_bounds (pos (year_of month)) (month_of month))
+
+    before_march : (year place days : ℕ) → 1970 ≤ year → year ≤ 2100 → place < 2 → days ≡ 31 * place
+        → day_number (12 * year + place) 1 + lacking (12 * year + place) + 307 ≡ years_before (12 * year + place) + months_before (12 * year + place) + 1
+        → (1461 * (year - 1970) + 1) / 4 + days ≡ day_number (12 * year + place) 1
+    before_march year place days low high lt e closed =
+        let y : (12 * year + place - 23_630) / 12 ≡ year - 1970 = omega arith in
+        let m : (12 * year + place - 23_630) % 12 ≡ place + 10 = omega arith in
+        let none : lacking (12 * year + place) ≡ 0 = rw (lt-ltb (12 * year + place) 25_202 (omega arith)) refl in
+        let same = rw (none, y, m) at closed in
+        omega (arith, same, e)
+
+    from_march : (year place days : ℕ) → 1970 ≤ year → year ≤ 2100 → place < 12 → 2 ≤ place
+        → days ≡ (153 * (place - 2) + 2) / 5 + 59 + leap_days_of year
+        → day_number (12 * year + place) 1 + lacking (12 * year + place) + 307 ≡ years_before (12 * year + place) + months_before (12 * year + place) + 1
+        → (1461 * (year - 1970) + 1) / 4 + days ≡ day_number (12 * year + place) 1
+    from_march year place days low high small ge e closed =
+        let y : (12 * year + place - 23_630) / 12 ≡ year - 1969 = omega arith in
+        let m : (12 * year + place - 23_630) % 12 ≡ place - 2 = omega arith in
+        let same = rw (y, m) at closed in
+        grind (arith, nat_tests, same, e)

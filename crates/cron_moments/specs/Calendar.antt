@@ -1,5 +1,5 @@
 -- Months and days by number, and the order of dates.
-use Rattle.std.specs.Prelude.{ℕ, ◌+◌, ◌-◌, ◌*◌, ◌/◌, ◌%◌, pos, unsigned_abs}
+use Rattle.std.specs.Prelude.{ℕ, ◌+◌, ◌-◌, ◌*◌, ◌/◌, ◌%◌, ◌&&◌, cond, nat_eq, nat_lt, pos, unsigned_abs}
 use Rattle.jiff_core.specs.declared.civil.date.Date.{Date}
 use Rattle.jiff_core.specs.Calendar.{days_from_civil, days_in_month}
 use Rattle.jiff_core.specs.Date.{weekday_of}
@@ -38,3 +38,7 @@ rank_of_date d = rank (month_number d) d.day
 -- the day of the week, from 1 for Sunday to 7 for Saturday
 abbrev pub weekday_number : Date → ℕ
 weekday_number d = (weekday_of d + 1) % 7 + 1
+
+-- the leap days of a year of the range
+abbrev pub leap_days_of : ℕ → ℕ
+leap_days_of year = cond (nat_eq (year % 4) 0 && nat_lt year 2100) 1 0

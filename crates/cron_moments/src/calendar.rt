@@ -2,7 +2,7 @@
 //!
 //! Years and their months are counted from March, so that a leap day ends its year. Of the years of
 //! the range that 4 divides, 2100 alone has no leap day.
-ghost use Rattle.std.specs.Prelude.{◌≡◌, cond, nat_lt, ◌+◌, ◌*◌, ◌/◌, ◌<◌, ◌≤◌};
+ghost use Rattle.std.specs.Prelude.{◌≡◌, cond, nat_lt, ◌+◌, ◌-◌, ◌*◌, ◌/◌, ◌<◌, ◌≤◌};
 ghost use Rattle.cron_moments.specs.Civil.{days_in_range};
 ghost use Rattle.cron_moments.specs.CivilDates.{date_numbered};
 ghost use Rattle.cron_moments.specs.Calendar.{day_number, first_month, length_of, months_end, rank, rank_of_date, weekday_number};
@@ -45,6 +45,24 @@ fn days_of_months(months: u32) -> u32
     ensures { result ≡ (153 * months + 2) / 5 }
 {
     DAYS_BEFORE[months as usize]
+}
+
+/// The days before each month of a year, from January on: in years without a leap day, and in those
+/// with one.
+const DAYS_BEFORE_IN_YEAR: [u32; 24] = [
+    0, 31, 59, 90, 120, 151, 181, 212, 243, 273, 304, 334, 0, 31, 60, 91, 121, 152, 182, 213, 244,
+    274, 305, 335,
+];
+
+// The days of a year before one of its months, from 0 for January.
+#[inline(always)]
+fn days_before(leap_days: u32, place: u32) -> u32
+    requires place { place < 12 }
+    requires leap_days { leap_days ≤ 1 }
+    ensures early { place < 2 → result ≡ 31 * place }
+    ensures late { 2 ≤ place → result ≡ (153 * (place - 2) + 2) / 5 + 59 + leap_days }
+{
+    DAYS_BEFORE_IN_YEAR[(12 * leap_days + place) as usize]
 }
 
 // The leap day that is lacking from a number on.
@@ -214,5 +232,63 @@ impl KnownMonth {
             return (self.month, before + 1);
         }
         month_and_day(number)
+    }
+}
+
+/// A year of the range with the number of its first day, which is made once for all its months.
+#[derive(Clone, Copy)]
+pub struct KnownYear {
+    year: u32,
+    first: u32,
+    leap_days: u32,
+}
+
+impl Model for KnownYear {
+    ghost use Rattle.std.specs.Prelude.{◌≡◌, ◌<◌, ◌≤◌, ◌+◌, ◌-◌, ◌*◌, ◌/◌, ℕ};
+    ghost use Rattle.cron_moments.specs.Calendar.{leap_days_of};
+
+    ghost Value = { ℕ };
+
+    ghost view = { λ y. y.year };
+
+    ghost inverse = { λ year. record {
+      year = year;
+      first = (1461 * (year - 1970) + 1) / 4;
+      leap_days = leap_days_of year;
+    } };
+
+    ghost invariant = { λ y. (1970 ≤ y.year)
+        × (y.year ≤ 2100)
+        × (y.first ≡ (1461 * (y.year - 1970) + 1) / 4)
+        × (y.leap_days ≡ leap_days_of y.year) };
+}
+
+impl KnownYear {
+    ghost use Rattle.std.specs.Prelude.{◌≡◌, ◌<◌, ◌≤◌, ◌+◌, ◌*◌};
+
+    /// The year with this number.
+    #[inline(always)]
+    pub fn of_number(year: u32) -> KnownYear
+        requires { (1970 ≤ year) × (year ≤ 2100) }
+        ensures { result ≡ year }
+    {
+        let first = (1461 * (year - 1970) + 1) / 4;
+        let leap_days = if year % 4 == 0 && year < 2100 { 1 } else { 0 };
+        KnownYear {
+            year,
+            first,
+            leap_days,
+        }
+    }
+
+    /// A month of the year, from 0 for January.
+    #[inline(always)]
+    pub fn month(self, place: u32) -> KnownMonth
+        requires { place < 12 }
+        ensures { result ≡ 12 * self + place }
+    {
+        let month = 12 * self.year + place;
+        let first = self.first + days_before(self.leap_days, place);
+        KnownMonth { month, first }
     }
 }

@@ -9,6 +9,7 @@ pub mod DaySearchLemmas
 pub mod CountLemmas
 pub mod PassingLemmas
 pub mod SurveyLemmas
+pub mod RowLemmas
 pub mod SearchLemmas
 pub mod OwnDayLemmas
 pub mod DayLemmas

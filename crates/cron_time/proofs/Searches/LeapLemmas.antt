@@ -1,5 +1,5 @@
 -- Months past one another, of which those between are bare; schedules of which 29 February alone can match.
-use Rattle.std.proofs.Common.{◌≡◌, ℕ, List, ◌+◌, ◌-◌, ◌/◌, ◌%◌, ◌<◌, ◌≤◌, ◌&&◌, true, false, ℤ, pos, Option, Some, None, IfSome, is_some, sym, subst, ◌∙◌, inl, inr, arith}
+use Rattle.std.proofs.Common.{◌≡◌, ℕ, List, ◌+◌, ◌-◌, ◌/◌, ◌%◌, ◌<◌, ◌≤◌, ◌&&◌, true, false, ℤ, pos, Option, Some, None, sym, subst, ◌∙◌, inl, inr, arith}
 use Rattle.std.proofs.lemmas.Bool.{both_ways, cases_Bool, cases_eq, ne_eqb, lt-ltb, and_left, and_parts, and_right}
 use Rattle.std.proofs.lemmas.Bool.Decides.{nat_tests}
 use Rattle.std.specs.Prelude.{nat_le, nat_lt, nat_eq, not}
@@ -21,34 +21,19 @@ use Rattle.cron_time.specs.Search.Inner.Numbers.{beyond, beyond_block, matches_d
 use Rattle.cron_time.proofs.Searches.BlockLemmas.{BlockFails}
 use Rattle.cron_time.proofs.Searches.DayLemmas.{by_number_alone}
 use Rattle.cron_time.proofs.Searches.MonthDayLemmas.{matching_fits}
-use Rattle.cron_time.proofs.Searches.WayLemmas.{side, before, same, after, lies_next, lies_past, lies_or_before, not_between}
+use Rattle.cron_time.proofs.Searches.WayLemmas.{side, before, same, after, lies_past, lies_or_before}
 
 -- ---- months past one another
 
-unwanted_bare : (s : Sets) (month : ℕ) → matches_month s month ≡ false → IsBare s month
+pub unwanted_bare : (s : Sets) (month : ℕ) → matches_month s month ≡ false → IsBare s month
 unwanted_bare s month h day = and_left (matches_month s month) (has_matching s month day) h
 
-pub nearest_leads : (way : Way) (s : Sets) (month : ℕ) (next : Option ℕ) → IsNearest way (matches_month s) (beyond way month) next → LeadsOn way s month next
-nearest_leads way s month None h = λ k lies. unwanted_bare s k (h k lies)
-nearest_leads way s month (Some n) h =
-    record { wanted = h.passes; lies = h.lies; between = λ k lies early. unwanted_bare s k (h.nearest k lies early) }
-
-bare_fails : (s : Sets) (n : ℕ) → IsBare s (n / 100) → matches_ranked s n ≡ false
+pub bare_fails : (s : Sets) (n : ℕ) → IsBare s (n / 100) → matches_ranked s n ≡ false
 bare_fails s n bare = bare (n % 100)
 
 past_month : (way : Way) (month n : ℕ) → LiesFrom way (beyond_block way 100 month) n → LiesFrom way (beyond way month) (n / 100)
 past_month Ahead month n h = omega (arith, signed_arith)
 past_month Back month n h = omega (arith, signed_arith)
-
--- the next one is no further
-pub beside_leads : (way : Way) (s : Sets) (month : ℕ) (next : Option ℕ) → is_some next ≡ true
-    → IfSome next (λ n. (matches_month s n ≡ true) × (pos n ≡ beyond way month)) → LeadsOn way s month next
-beside_leads way s month None e h = cc
-beside_leads way s month (Some n) e h = record {
-  wanted = h.0;
-  lies = lies_next way month n h.1;
-  between = λ k lies early. absurd (not_between way month n k h.1 lies early);
-}
 
 -- a search that has come to a month goes on where it leads
 pub leads_reach : (way : Way) (s : Sets) (start first : ℤ) (month : ℕ) (next : Option ℕ)

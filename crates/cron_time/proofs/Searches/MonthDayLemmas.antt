@@ -210,7 +210,7 @@ none_at_zero : (s : Sets) (month : ℕ) → has_matching s month 0 ≡ false
 none_at_zero s month = refl
 
 -- a day is the first one or one after it
-by_place : (s : Sets) (month d : ℕ) → ((k : ℕ) → d ≡ k + 1 → has_matching s month (k + 1) ≡ false) → has_matching s month d ≡ false
+pub by_place : (s : Sets) (month d : ℕ) → ((k : ℕ) → d ≡ k + 1 → has_matching s month (k + 1) ≡ false) → has_matching s month d ≡ false
 by_place s month zero h = none_at_zero s month
 by_place s month (suc k) h =
     let e : suc k ≡ k + 1 = omega arith in

@@ -3,10 +3,10 @@
 //! Walks and calls by instants go by these bits. The public searches make and test each date by
 //! itself, since they promise how many dates they make.
 
-ghost use Rattle.std.specs.Prelude.{◌≡◌, ℕ, ◌+◌, ◌%◌, ◌<◌, ◌≤◌, pos, IfSome, option_map, true, false};
+ghost use Rattle.std.specs.Prelude.{◌≡◌, ℕ, ◌+◌, ◌/◌, ◌%◌, ◌<◌, ◌≤◌, pos, IfSome, MatchOption, option_map, true, false};
 ghost use Rattle.jiff.specs.Words.{plain_zone};
 ghost use Rattle.cron_bits.specs.Words.{has_bit};
-ghost use Rattle.cron_units.specs.Nearest.{IsNearest, LiesFrom};
+ghost use Rattle.cron_units.specs.Nearest.{IsNearest, IsNearestAt, LiesFrom};
 ghost use Rattle.cron_units.specs.Sets.{Sets};
 ghost use Rattle.cron_units.specs.Units.{contains};
 ghost use Rattle.cron_moments.specs.Calendar.{day_number, first_month, months_end, rank, rank_of_date};
@@ -15,18 +15,18 @@ ghost use Rattle.cron_moments.specs.CivilDates.{date_numbered};
 ghost use Rattle.cron_time.specs.Matches.{matches_date};
 ghost use Rattle.cron_time.specs.Search.Inner.Days.{day_rank, IsInRange};
 ghost use Rattle.cron_time.specs.Search.Inner.Questions.{outermost};
-ghost use Rattle.cron_time.specs.Search.Inner.MonthDays.{AreDaysOf, KnowsDays, LeadsOn, matches_ranked, matching_day};
+ghost use Rattle.cron_time.specs.Search.Inner.MonthDays.{AreDaysOf, AreMonths, ComesTo, IsRestBare, KnowsDays, LeadsOn, matches_ranked, matching_day};
 ghost use Rattle.cron_time.specs.Search.Inner.Numbers.{beyond, beyond_block, matches_day, matches_month, way_of};
 
 use crate::matching::includes_each_date;
-use crate::search::days::{Day, month_past};
+use crate::search::days::Day;
 use crate::search::leap_days::{leap_february, wants_leap_days};
 use crate::search::members::Members;
-use crate::search::months::Months;
+use crate::search::months::{Months, month_past_year};
 use crate::search::neighbours::Neighbours;
 use crate::search::ways::{entry, past_below};
 use cron_bits::words::Words;
-use cron_moments::calendar::{KnownMonth, SHORTEST, length_of, weekday_of};
+use cron_moments::calendar::{KnownMonth, KnownYear, SHORTEST, length_of, weekday_of};
 use cron_moments::civil::DAYS;
 use cron_units::fields::ScheduleFields;
 use cron_units::time_unit::TimeUnitSpec;
@@ -71,52 +71,6 @@ fn weekdays_from(fields: &ScheduleFields, day: u32) -> u64
     let four = two | two << 14;
     let eight = four | four << 28;
     eight >> (weekday_of(day) - 1)
-}
-
-// The month beside one in its year, if it lies in the set.
-#[inline(always)]
-fn month_beside(fields: &ScheduleFields, way: Way, month: u32) -> Option<u32>
-    requires range { (first_month ≤ month) × (month < months_end) }
-    requires matching { matches_month fields.now month ≡ true }
-    ensures beside { IfSome result
-        (λ n. (matches_month fields.now n ≡ true) × (pos n ≡ beyond way month)) }
-    ensures bound { IfSome result (λ n. (first_month ≤ n) × (n < months_end)) }
-{
-    let before = month % 12;
-    match way {
-        Way::Ahead => {
-            if before == 11 || !fields.months.includes(before + 2) {
-                return None;
-            }
-            Some(month + 1)
-        }
-        Way::Back => {
-            if before == 0 || !fields.months.includes(before) {
-                return None;
-            }
-            Some(month - 1)
-        }
-    }
-}
-
-// A month past one that lies in the sets. Where 29 February alone is wanted, the years between two
-// leap years are passed. It asks no zone.
-#[inline(always)]
-fn next_month(fields: &ScheduleFields, way: Way, month: u32) -> Option<u32>
-    requires range { (first_month ≤ month) × (month < months_end) }
-    requires matching { matches_month fields.now month ≡ true }
-    ensures leads { LeadsOn way fields.now month result }
-    ensures bound { IfSome result (λ n. (first_month ≤ n) × (n < months_end)) }
-{
-    let beside = month_beside(fields, way, month);
-    if beside.is_some() {
-        return beside;
-    }
-    let members = Members::of(fields);
-    if wants_leap_days(fields) {
-        return Months::nearest(&members, way, leap_february(way, month));
-    }
-    month_past(&members, way, month)
 }
 
 // The nearest month from one on that lies in the sets. It asks no zone.
@@ -166,6 +120,44 @@ fn first_bit(way: Way, word: u64) -> Option<u32>
     }
 }
 
+// The months of a year that lie in the set, a bit for each, the first one for January.
+#[inline(always)]
+fn months_of_year(fields: &ScheduleFields) -> u64
+    ensures { AreMonths fields.now result }
+{
+    bits(&fields.months).below(12)
+}
+
+// A month of the years past that of a month, past which in its own year no month has a matching day.
+// Where 29 February alone is wanted, the years between two leap years are passed. It asks no zone.
+#[inline(always)]
+fn month_in_year_past(fields: &ScheduleFields, way: Way, month: u32) -> Option<u32>
+    requires range { (first_month ≤ month) × (month < months_end) }
+    requires rest { IsRestBare way fields.now (beyond way month) (month / 12) }
+    ensures leads { LeadsOn way fields.now month result }
+    ensures bound { IfSome result (λ n. (first_month ≤ n) × (n < months_end)) }
+{
+    let members = Members::of(fields);
+    if wants_leap_days(fields) {
+        return Months::nearest(&members, way, leap_february(way, month));
+    }
+    month_past_year(&members, way, month / 12)
+}
+
+// A month past one that lies in the sets: the next one of its year, or one of the years past it.
+#[inline(always)]
+fn next_month(fields: &ScheduleFields, way: Way, month: u32) -> Option<u32>
+    requires range { (first_month ≤ month) × (month < months_end) }
+    requires matching { matches_month fields.now month ≡ true }
+    ensures leads { LeadsOn way fields.now month result }
+    ensures bound { IfSome result (λ n. (first_month ≤ n) × (n < months_end)) }
+{
+    if let Some(place) = bit_past(way, months_of_year(fields), month % 12) {
+        return Some(month / 12 * 12 + place);
+    }
+    month_in_year_past(fields, way, month)
+}
+
 impl MonthDays {
     /// Nothing is known of the days of this month.
     #[inline(always)]
@@ -183,6 +175,34 @@ impl MonthDays {
     {
         let days = days_in_set(fields, month.number()) & weekdays_from(fields, month.first_day());
         MonthDays { month, days }
+    }
+
+    // The days of the first month, from one on within its year, that has a matching day, and the
+    // place of the first of these.
+    #[inline(always)]
+    fn in_rest_of_year(fields: &ScheduleFields, way: Way, from: u32) -> Option<(MonthDays, u32)>
+        requires range { (first_month ≤ from) × (from < months_end) }
+        requires matching { matches_month fields.now from ≡ true }
+        ensures months { MatchOption result
+            (IsRestBare way fields.now (pos from) (from / 12))
+            (λ there. ComesTo way fields.now from there.0.month) }
+        ensures days { IfSome result (λ there. AreDaysOf fields.now there.0) }
+        ensures first { IfSome result (λ there. IsNearestAt way
+            (has_bit there.0.days)
+            (pos (outermost way 100))
+            there.1) }
+    {
+        let year = KnownYear::of_number(from / 12);
+        let months = months_of_year(fields);
+        let mut next = Some(from % 12);
+        while let Some(place) = next {
+            let there = MonthDays::of(fields, year.month(place));
+            if let Some(first) = first_bit(way, there.days) {
+                return Some((there, first));
+            }
+            next = bit_past(way, months, place);
+        }
+        None
     }
 
     // The place of a day among the bits, if its bit is 1.
@@ -246,15 +266,14 @@ impl MonthDays {
     {
         let mut next = next_month(fields, way, month);
         while let Some(month) = next {
-            let there = MonthDays::of(fields, KnownMonth::of_number(month));
-            if let Some(first) = first_bit(way, there.days) {
+            if let Some((there, first)) = MonthDays::in_rest_of_year(fields, way, month) {
                 *self = there;
                 return Some(Day {
-                    month,
+                    month: self.month.number(),
                     day: first + 1,
                 });
             }
-            next = next_month(fields, way, month);
+            next = month_in_year_past(fields, way, month);
         }
         None
     }

@@ -1,12 +1,13 @@
 //! The nearest year, and the nearest month of the range or of a year.
-ghost use Rattle.std.specs.Prelude.{◌+◌};
+ghost use Rattle.std.specs.Prelude.{◌+◌, ◌≤◌, ◌<◌, IfSome};
+ghost use Rattle.cron_units.specs.Nearest.{IsNearest};
 ghost use Rattle.cron_units.specs.Units.{contains, years};
 ghost use Rattle.cron_moments.specs.Calendar.{first_month, months_end};
-ghost use Rattle.cron_time.specs.Search.Inner.Numbers.{matches_month, matches_month_of_year};
+ghost use Rattle.cron_time.specs.Search.Inner.Numbers.{beyond_block, matches_month, matches_month_of_year};
 
-use crate::search::counter::Counter;
+use crate::search::counter::{Counter, Uncounted};
 use crate::search::members::{Members, Unit};
-use crate::search::neighbours::{Neighbours, nearest_in_parts};
+use crate::search::neighbours::{Neighbours, nearest_in_parts, nearest_past_block};
 use cron_units::way::Way;
 
 /// The months of a year, from 0 for January.
@@ -91,4 +92,17 @@ impl Neighbours for Months {
     }
 
     ghost filled = { all_months_filled };
+}
+
+/// The nearest month past a year.
+#[inline(always)]
+pub(crate) fn month_past_year(members: &Members<'_>, way: Way, year: u32) -> Option<u32>
+    requires { year ≤ years.greatest }
+    ensures nearest { IsNearest way
+        (matches_month members.now)
+        (beyond_block way 12 year)
+        result }
+    ensures bound { IfSome result (λ n. (first_month ≤ n) × (n < months_end)) }
+{
+    nearest_past_block::<Years, MonthsOfYear, Uncounted>(members, &mut Uncounted, way, 12, year)
 }

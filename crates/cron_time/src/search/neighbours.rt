@@ -56,7 +56,7 @@ pub(crate) trait Neighbours {
 
 /// The nearest number past the block of an outer number, in its parts.
 #[inline(always)]
-fn nearest_past_block<O: Neighbours, I: Neighbours, C: Counter>(
+pub(crate) fn nearest_past_block<O: Neighbours, I: Neighbours, C: Counter>(
     members: &Members<'_>,
     counter: &mut C,
     way: Way,

@@ -1,5 +1,5 @@
 -- The days of a month whose dates match, and the days of the range whose dates do.
-use Rattle.std.specs.Prelude.{◌≡◌, ℕ, ◌+◌, ◌/◌, ◌%◌, ◌⊎◌, Bool, true, false, ◌&&◌, nat_le, nat_lt, Option, MatchOption}
+use Rattle.std.specs.Prelude.{◌≡◌, ℕ, ◌+◌, ◌/◌, ◌%◌, ◌⊎◌, ℤ, pos, Bool, true, false, ◌&&◌, nat_le, nat_lt, Option, MatchOption}
 use Rattle.cron_bits.specs.Words.{has_bit}
 use Rattle.cron_units.specs.declared.way.Way.{Way}
 use Rattle.cron_units.specs.Nearest.{LiesFrom, Precedes}
@@ -49,3 +49,17 @@ pub record IsNextMonth (way : Way) (s : Sets) (month next : ℕ) : Type 0 where
 -- or there is none, and all past it are bare
 abbrev pub LeadsOn : Way → Sets → ℕ → Option ℕ → Type 0
 LeadsOn way s month next = MatchOption next ((k : ℕ) → LiesFrom way (beyond way month) k → IsBare s k) (IsNextMonth way s month)
+
+-- the bits of the months of a year
+abbrev pub AreMonths : Sets → ℕ → Type 0
+AreMonths s months = (k : ℕ) → has_bit months k ≡ (nat_lt k 12 && contains s.months (k + 1))
+
+-- from a start on each month of a year is bare
+abbrev pub IsRestBare : Way → Sets → ℤ → ℕ → Type 0
+IsRestBare way s start year = (k : ℕ) → LiesFrom way start k → k / 12 ≡ year → IsBare s k
+
+-- a search from a month on has come to another that lies in the sets, and those before it are bare
+pub record ComesTo (way : Way) (s : Sets) (from next : ℕ) : Type 0 where
+  pub wanted : matches_month s next ≡ true
+  pub lies : LiesFrom way (pos from) next
+  pub between : (k : ℕ) → LiesFrom way (pos from) k → Precedes way k next → IsBare s k

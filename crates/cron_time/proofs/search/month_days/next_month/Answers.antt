@@ -1,44 +1,18 @@
-use Rattle.std.proofs.Common.{rules}
+use Rattle.std.proofs.Common.{arith}
+use Rattle.cron_time.proofs.Searches.RowLemmas.{row_next, row_none}
 use Rattle.cron_time.proofs.search.month_days.next_month.Goals as goal
 
-pub month_beside-beside-requires-clause-range : goal.month_beside-beside-requires-clause-range
-month_beside-beside-requires-clause-range c = search rules
+pub returns-in-Some-clause-leads : goal.returns-in-Some-clause-leads
+returns-in-Some-clause-leads c =
+    (row_next c.args.way c.args.fields.now c.args.month c.months_of_year.result c.in-Some.place c.requires.matching c.months_of_year.ensures
+    (rw c.in-Some.is at c.bit_past.ensures)).1
 
-pub is_some-requires : goal.is_some-requires
-is_some-requires c κs = search rules
+pub returns-in-Some-clause-bound : goal.returns-in-Some-clause-bound
+returns-in-Some-clause-bound c =
+    let next = row_next c.args.way c.args.fields.now c.args.month c.months_of_year.result c.in-Some.place c.requires.matching c.months_of_year.ensures
+    (rw c.in-Some.is at c.bit_past.ensures) in
+    (omega (arith, c.requires.range), omega (arith, next.0, c.requires.range))
 
-pub returns-then-is_some-clause-leads : goal.returns-then-is_some-clause-leads
-returns-then-is_some-clause-leads c = search rules
-
-pub returns-then-is_some-clause-bound : goal.returns-then-is_some-clause-bound
-returns-then-is_some-clause-bound c = search rules
-
-pub of-members-requires : goal.of-members-requires
-of-members-requires c = search rules
-
-pub wants_leap_days-requires : goal.wants_leap_days-requires
-wants_leap_days-requires c = search rules
-
-pub leap_february-requires : goal.leap_february-requires
-leap_february-requires c = search rules
-
-pub nearest-requires : goal.nearest-requires
-nearest-requires c = search rules
-
-pub returns-then-wants_leap_days-clause-leads : goal.returns-then-wants_leap_days-clause-leads
-returns-then-wants_leap_days-clause-leads c = search rules
-
-pub returns-then-wants_leap_days-clause-bound : goal.returns-then-wants_leap_days-clause-bound
-returns-then-wants_leap_days-clause-bound c = search rules
-
-pub month_past-requires-clause-range : goal.month_past-requires-clause-range
-month_past-requires-clause-range c = search rules
-
-pub month_past-requires-clause-matching : goal.month_past-requires-clause-matching
-month_past-requires-clause-matching c = search rules
-
-pub returns-clause-leads : goal.returns-clause-leads
-returns-clause-leads c = search rules
-
-pub returns-clause-bound : goal.returns-clause-bound
-returns-clause-bound c = search rules
+pub month_in_year_past-requires-clause-rest : goal.month_in_year_past-requires-clause-rest
+month_in_year_past-requires-clause-rest c =
+    row_none c.args.way c.args.fields.now c.args.month c.months_of_year.result c.months_of_year.ensures (rw c.in_default.is at c.bit_past.ensures)
