@@ -122,13 +122,15 @@ fn behind_transitions(table: &Tzif, count: usize, second: u32) -> SpanOffsets
         result.earlier
         result.later }
 {
-    match table.posix_tz() {
-        Some(rule) if count == table.transitions().len() => rule_offsets(rule, second),
-        _ => SpanOffsets {
-            span: WHOLE,
-            earlier: Some(offset_past(table, count)),
-            later: None,
-        },
+    if count == table.transitions().len() {
+        if let Some(rule) = table.posix_tz() {
+            return rule_offsets(rule, second);
+        }
+    }
+    SpanOffsets {
+        span: WHOLE,
+        earlier: Some(offset_past(table, count)),
+        later: None,
     }
 }
 
