@@ -11,7 +11,7 @@ use Rattle.cron_running.specs.Alarms.{AddsAlarm}
 use Rattle.cron_running.specs.declared.alarm.Alarm.{Alarm}
 
 pub alarm-added : (a : Alarm) (start : Timestamp) (table : Union) (old new : Listed Union) (answer : Result ℕ AddError) → table.schedules.now ≡ a.schedules.now
-    → old ≡ listed [] 0
+    → old ≡ listed [] 0 0
     → Adds (λ u. u.schedules.now) (plain_zone a.zone ∷ []) table 0 (λ z. fires_after table.schedules.now z a.changes start.nanosecond) old answer new
     → AddsAlarm a start answer new
 alarm-added a start table old new answer same none adds =

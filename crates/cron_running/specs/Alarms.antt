@@ -40,7 +40,7 @@ abbrev pub AddsAlarm : Alarm → Timestamp → Result ℕ AddError → Listed Un
 AddsAlarm a start answer agenda =
     (table : Union) × (table.schedules.now ≡ a.schedules.now)
     × Adds (λ u. u.schedules.now) (plain_zone a.zone ∷ []) table 0
-    (λ z. fires_after table.schedules.now z a.changes start.nanosecond) (listed [] 0) answer agenda
+    (λ z. fires_after table.schedules.now z a.changes start.nanosecond) (listed [] 0 0) answer agenda
 
 -- The loop over it was run, in which each run writes the line of its fire.
 abbrev pub RunsLines : {C W E : Type 0} → ClockCalls C E → WriterCalls W → Alarm → Listed Union → C × FireWriter W → Result ⊤ (AgendaStop E WriteFailed)

@@ -49,7 +49,7 @@ abbrev pub state_of : Loaded → State
 state_of l = record { known = map (λ e. e.items) l.known.items; agenda = l.agenda; texts = map (λ t. t.items) l.texts.items; at_reboot = l.at_reboot.items }
 
 abbrev pub nothing : State
-nothing = record { known = []; agenda = listed [] 0; texts = []; at_reboot = [] }
+nothing = record { known = []; agenda = listed [] 0 0; texts = []; at_reboot = [] }
 
 -- from when on an entry fires behind others, in nanoseconds since 1970
 abbrev pub start_of : Given → List (List ℕ) → List ℕ → ℤ

@@ -24,7 +24,7 @@ abbrev pub agenda_view : code.TabAgenda → TabAgenda
 agenda_view a = record { agenda = a.agenda; sources = a.sources.items }
 
 abbrev pub nothing : TabAgenda
-nothing = record { agenda = listed [] 0; sources = [] }
+nothing = record { agenda = listed [] 0 0; sources = [] }
 
 -- the source is that of a line's entry
 abbrev pub IsSource : Option (List ℕ) → FileLine → Source → Type 0
