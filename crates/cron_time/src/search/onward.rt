@@ -118,7 +118,6 @@ fn days_past<const BACK: bool>(
     ensures days { KnowsDays fields.now days.new }
     ensures known { IsKnown (plain_zone zone.now) stretch.new }
 {
-    learn(zone, own * SECONDS_PER_DAY, stretch);
     let mut day = own;
     while let Some(next) = days.day_past(fields, way, day) {
         let from = extreme(way, SECONDS_PER_DAY);
