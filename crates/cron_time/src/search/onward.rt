@@ -151,7 +151,6 @@ fn days_past_either_way(
     ensures days { KnowsDays fields.now days.new }
     ensures known { IsKnown (plain_zone zone.now) stretch.new }
 {
-    learn(zone, own * SECONDS_PER_DAY, stretch);
     match way {
         Way::Ahead => days_past::<false>(fields, zone, Way::Ahead, own, minute, days, stretch),
         Way::Back => days_past::<true>(fields, zone, Way::Back, own, minute, days, stretch),
