@@ -6,8 +6,8 @@ ghost use Rattle.cron_comparing.specs.Inner.Differences.{AreInMonthsOf, NoneBefo
 
 use crate::earlier::earlier;
 use crate::lengths::in_months_of;
-use cron_unions::units::{UNITS, inside, outside};
 use cron_time::search::civil_seconds::nearest_match;
+use cron_unions::units::{UNITS, inside, outside};
 use cron_units::fields::ScheduleFields;
 use cron_units::time_unit::layout::bits;
 use cron_units::way::Way;

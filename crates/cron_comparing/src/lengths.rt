@@ -6,8 +6,8 @@ ghost use Rattle.cron_units.specs.Units.{contains};
 ghost use Rattle.cron_time.specs.Matches.{matches};
 ghost use Rattle.cron_comparing.specs.Inner.Lengths.{can_have, suits_year};
 
-use cron_unions::members::{common_members, common_years};
 use cron_bits::words::Words;
+use cron_unions::members::{common_members, common_years};
 use cron_units::fields::ScheduleFields;
 use cron_units::time_unit::layout::{bits_of_days, days_from_bits, from_bits, from_three};
 use cron_units::time_unit::{DaysOfMonth, Months, TimeUnitField, Years};
