@@ -157,6 +157,27 @@ fn check_back(
     check_beyond(rt, walk.next_back(), span);
 }
 
+// A walk that turns at each reading of the span: back to the one before it, and ahead to it again.
+fn check_turns(
+    rt: &impl Abort,
+    schedule: &Schedule,
+    zone: &TimeZone<'_>,
+    span: Span,
+    readings: &[Shown],
+) {
+    let mut walk = schedule.after(before(rt, zone, span), zone);
+    let mut last = None;
+    for wanted in readings {
+        check_answer(rt, walk.next(), *wanted);
+        if let Some(earlier) = last {
+            check_answer(rt, walk.next_back(), earlier);
+            check_answer(rt, walk.next(), *wanted);
+        }
+        last = Some(*wanted);
+    }
+    check_beyond(rt, walk.next(), span);
+}
+
 // The first index whose reading is at this civil second or later.
 fn index_from(readings: &[Shown], datetime: DateTime) -> usize {
     let mut index: usize = 0;
@@ -257,6 +278,7 @@ fn check_readings(
 ) {
     check_ahead(rt, schedule, zone, span, readings);
     check_back(rt, schedule, zone, span, readings);
+    check_turns(rt, schedule, zone, span, readings);
     check_searches(rt, schedule, zone, span, readings);
 }
 
@@ -270,8 +292,8 @@ fn check_schedule(
     check_readings(rt, schedule, zone, span, readings.as_slice());
 }
 
-/// Compares a span's part of the walks in both directions, and both searches from some of its
-/// seconds.
+/// Compares a span's part of the walks in both directions and of one that turns, and both searches
+/// from some of its seconds.
 pub(crate) fn check_span(
     rt: &(impl Abort + AllocGlobal),
     text: &str,
