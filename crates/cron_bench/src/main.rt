@@ -7,18 +7,21 @@
 //! - `cron_bench turn FILE`: runs and first fires around a transition of the zone in a file;
 //! - `cron_bench unions`: a fire of two schedules as one;
 //! - `cron_bench tabs`: expressions, lines and entries of crontabs;
-//! - `cron_bench quartz`: a fire of a form of Quartz.
+//! - `cron_bench quartz`: a fire of a form of Quartz;
+//! - `cron_bench agenda`: entries of an agenda, beside a `BTreeSet`.
 //!
 //! `cron_bench print` prints the varied lines. With no word it prints nothing. At other words, and
 //! where a text, a zone or a file is refused, it ends with an error and the status 1.
 #![tactic(auto)]
 
+mod agendas;
 mod calls;
 mod checks;
 mod lines;
 mod parses;
 mod quartz;
 mod rounds;
+mod sorted;
 mod tabs;
 mod turns;
 mod unions;
@@ -47,8 +50,10 @@ fn run(rt: &HostRuntime, words: &[String]) -> Result<()> {
         ("unions", []) => unions::run(rt),
         ("tabs", []) => tabs::run(rt),
         ("quartz", []) => quartz::run(rt),
+        ("agenda", []) => agendas::run(rt),
         _ => bail!(
-            "usage: cron_bench [run | growth | lines | print | turn FILE | unions | tabs | quartz]"
+            "usage: cron_bench \
+             [run | growth | lines | print | turn FILE | unions | tabs | quartz | agenda]"
         ),
     }
 }

@@ -35,3 +35,22 @@ pub fn least_cost<F: FnMut() -> R, R: Drop>(
         tenths: best.saturating_mul(10) / u128::from(calls.max(1)),
     })
 }
+
+/// What the longest of so many calls took, each of which is given its number.
+pub fn longest_call<F: FnMut(u32) -> R, R: Drop>(
+    rt: &HostRuntime,
+    calls: u32,
+    mut call: F,
+) -> Result<Cost>
+    requires { F.IsAlwaysCallable call }
+{
+    let mut longest = 0;
+    for at in 0..calls {
+        let begun = Instant::now(rt)?;
+        let _told = call(at);
+        longest = longest.max(begun.elapsed(rt)?.as_nanos());
+    }
+    Ok(Cost {
+        tenths: longest.saturating_mul(10),
+    })
+}
