@@ -1,7 +1,7 @@
 //! The mark of a watched writer.
 
-use crate::watched::{Watched, send};
 use arrayvec::ArrayVec;
+use cron_writer::watched::{Watched, send};
 use std::io::{self, ErrorKind, Write};
 use std::test::Fail;
 
