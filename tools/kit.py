@@ -24,8 +24,6 @@ def loaded():
 
 
 rt = loaded()
-# Whether the kit keeps on the machine what its `rt ci` proved and refused. An older one does all anew in each run.
-KEEPS = hasattr(rt, "Kept")
 # Over statements a check was seen to take at most so much of the memory that is planned for it.
 OVER = 0.55
 
@@ -52,20 +50,6 @@ def with_libraries(crates):
     return found
 
 
-def note_of(crate):
-    """Returns the file that tells of which files `rt ci` built a library that it left in out/."""
-    return f"{os.path.dirname(crate.rlib)}/stamp_of_ci"
-
-
-def note_libraries():
-    """Notes which libraries in out/ a run of `rt ci` left there just now, where the kit keeps none: other commands stamp theirs."""
-    for crate in [] if KEEPS else crates_of(top()):
-        folder = os.path.dirname(crate.rlib)
-        if crate.makes_rlib() and os.path.isdir(crate.rlib) and not os.path.isfile(f"{folder}/stamp"):
-            with open(note_of(crate), "w", encoding="utf-8") as it:
-                it.write(crate.stamp())
-
-
 def link_from_ci(kept, crate, room):
     """Links the library that `rt ci` keeps as built of these files to a folder of that room, and notes its sum, which is part
     of the names of those above. Returns whether it is kept, and is whole."""
@@ -90,9 +74,6 @@ def libraries_of_ci(crates):
     """While this lasts, checks of these crates read the libraries below them as `rt ci` built them of these files, if it keeps
     all of these on this machine. Gives whether it does."""
     libraries = with_libraries([it for crate in crates for it in crate.below()])
-    if not KEEPS:
-        yield all(rt.rtlib.text_of(note_of(it)) == it.stamp() for it in libraries)
-        return
     rt.Crate.allowed = rt.handles_of(top())
     kept, own = rt.Kept(libraries), [it.rlib for it in libraries]
     with tempfile.TemporaryDirectory(prefix=f"rt-copy-{os.getpid()}-") as room:
@@ -142,8 +123,7 @@ def proofs_of(crates, builds):
 
 @functools.cache
 def share_work():
-    if KEEPS:
-        rt.share_work(True)
+    rt.share_work(True)
 
 
 # The folders of the crates that this process holds.
@@ -174,15 +154,16 @@ def build(crates, others=()):
     return side_by_side(whole, True, others)
 
 
-def prove(crates, others=()):
-    """Proves crates, all side by side over the libraries that `rt ci` built, where it keeps those below them, and else as
-    `build` does. What else is done and returned is as there."""
+@contextlib.contextmanager
+def libraries_below(crates):
+    """While this lasts, the libraries below these crates stand as built of these files: as `rt ci` built them, where it keeps all
+    of them on this machine, and else as `build` does. Gives whether all are proved."""
     with libraries_of_ci(crates) as are_kept:
-        if not are_kept:
-            return build(crates, others)
-        hold(crates)
-        return side_by_side(crates, False, others)
+        yield are_kept or build([it for crate in crates for it in crate.below()])[0]
 
 
-if __name__ == "__main__":
-    note_libraries()
+def prove(crates, others=()):
+    """Proves crates, all side by side, over the libraries below them, which stand. What else is done and returned is as in
+    `build`."""
+    hold(crates)
+    return side_by_side(crates, False, others)

@@ -1,9 +1,9 @@
 """The ledgers of refused edits: crates/NAME/edits/ledger.txt has a line for each edit of edits/ that the prover refused.
 
 A line is the edit's name, a sum, and, where the refusal says little of the contract, why. The sum is of all that the refusal
-rests on: the edit, the scripts that judge it, the kit, HANDLES, and the crate and those below it with their lines of crates.txt
-and their src/, specs/ and proofs/. Of the crates below, the sources stand for what `rt` hands on, which is known only once they
-are built. So a line with the right sum vouches for its edit on every machine, and another one is stale."""
+rests on: the edit, the scripts that judge it, the kit, HANDLES, the crate's src/, specs/, proofs/ and line of crates.txt, and
+what `rt` hands to it of the crates below. That is known once these are built. So a line with the right sum vouches for its edit
+on every machine, and another one is stale."""
 import contextlib
 import fcntl
 import functools
@@ -19,6 +19,10 @@ LINE = re.compile(r"([A-Za-z0-9_.-]+) ([0-9a-f]{32})(?: (\S.*))?")
 # What judges an edit, beside the kit.
 SCRIPTS = ("copies.py", "edits.py", "judge.py", "kit.py")
 OF_KIT = ("KIT-ID", "bin/rt", "bin/rtlib.py")
+# What the crates above a library read of it, once it is built: what it has, without bodies and comments, with its specs and proofs.
+HANDED_ON = ("interface", "lang")
+# The proofs of functions are handed on too. No crate names those of another, and tools/check_pages holds that.
+LEFT_OUT = {"Answers.antt", "Invariants.antt", "made.json"}
 
 
 def sum_of(*told):
@@ -39,6 +43,13 @@ def sum_of_crate(crate):
     return sum_of(crate.name, sorted(crate.said.items()), [it.name for it in crate.deps], [*crate.of_kit], files)
 
 
+@functools.cache
+def sum_handed(library):
+    """Returns a sum of what `rt` hands to crates above of the library that is built in this folder."""
+    files = [f"{at}/{it}" for part in HANDED_ON for at, _, names in os.walk(f"{library}/{part}") for it in names if it not in LEFT_OUT]
+    return sum_of(sorted((os.path.relpath(it, library), rt.rtlib.sum_of(it)) for it in files))
+
+
 def path_of(crate):
     return f"{crate.folder}/edits/ledger.txt"
 
@@ -48,11 +59,12 @@ def name_of(file):
 
 
 class Ledger:
-    """The ledger of one crate, and the sum of all that its edits rest on beside themselves."""
+    """The ledger of one crate, and the sum of all that its edits rest on beside themselves. The libraries below are built."""
 
     def __init__(self, crate, handles):
         self.crate, self.file = crate, path_of(crate)
-        self.rest = sum_of(sum_of_judges(), handles, [sum_of_crate(it) for it in [*crate.below(), crate]])
+        handed = [(it.name, sum_handed(it.rlib)) for it in crate.below()]
+        self.rest = sum_of(sum_of_judges(), handles, sum_of_crate(crate), handed)
 
     def sum(self, file):
         """Returns the sum that the line of the edit in this file must have."""

@@ -10,10 +10,22 @@ import copies
 import edits as given
 import ledger
 from judge import Judge, temporary
-from kit import crates_of, prove, rt, top
+from kit import build, crates_of, prove, rt, top
 
 # It has functions of both kinds, and no crate below it.
 SMALL = "cron_bits"
+# A library of one function, of which other crates see its contract alone.
+LIBRARY = """//! A number.
+#![tactic(auto)]
+ghost use Rattle.std.specs.Prelude.{{◌≡◌}};
+
+/// A number.
+pub fn number() -> u32
+    ensures {{ result ≡ {number} }}
+{{
+    {body}
+}}
+"""
 
 
 def write(file, text):
@@ -120,6 +132,16 @@ def lines_of_two_runs(it):
     return len(it.ledger().lines()[0]) - before
 
 
+def sum_handed(number, body):
+    """Returns a sum of what is handed on of a library whose function has this contract and this body."""
+    with temporary() as room:
+        os.makedirs(f"{room}/crates/number/src")
+        write(f"{room}/crates.txt", "number:\n")
+        write(f"{room}/crates/number/src/lib.rt", LIBRARY.format(number=number, body=body))
+        [crate] = crates_of(os.path.realpath(room))
+        return ledger.sum_handed(crate.rlib) if build([crate])[0] else None
+
+
 def ledger_faults(crate):
     """Returns which of the ledger's promises don't hold."""
     with temporary() as room:
@@ -140,6 +162,9 @@ def ledger_faults(crate):
         with open(f"{it.crate.folder}/src/lib.rt", "a", encoding="utf-8") as file:
             file.write("// a change\n")
         held["a change of the crate makes its lines stale"] = it.vouched() == []
+        four = sum_handed(4, "4")
+        held["a change of a body keeps the lines above"] = four is not None and sum_handed(4, "2 + 2") == four
+        held["a change of a contract makes the lines above stale"] = sum_handed(5, "5") not in (four, None)
         sizes = {number: [f"{number}"] * number for number in range(1, 8)}
         named = {type("Named", (), {"name": str(number)})(): files for number, files in sizes.items()}
         turns = [ledger.sample(named, number) for number in range(4)]
