@@ -300,8 +300,8 @@ fn keeping_by_transitions(zone: &TimeZone<'_>, second: i64) -> Option<Keeping>
 /// The offset that a clock in a zone with a rule shows at a second of UTC, and up to where it keeps
 /// it, as far as the place of the second in its year tells it, or else that year's transitions,
 /// which tell the next offset too. That is up to some days before a transition, up to a transition,
-/// or to the end of the year. `None` outside of the range, and for rules whose transitions lie near
-/// each other.
+/// or to the end of the year. `None` outside of the range, in zones without a rule, for rules with
+/// one offset, and where a transition lies near another one or an edge of its year.
 #[inline(always)]
 pub fn keeping_by_rule(zone: &TimeZone<'_>, second: i64) -> Option<Keeping>
     ensures agree { IfSome result (λ k. LookupsAgree (plain_zone zone.now)) }

@@ -3,7 +3,7 @@
 #![tactic(auto)]
 
 use anyhow::{Context, Result, ensure};
-use std::alloc::Global;
+use std::alloc::{AllocError, Global};
 use std::{fmt, fs};
 
 /// A row of a file.
@@ -20,6 +20,26 @@ pub struct Row<'r> {
 impl<'r> fmt::Display for Row<'r> {
     fn fmt<W: fmt::Write>(&self, f: &mut fmt::Formatter<W>) -> fmt::Result {
         write!(f, "{}:{}", self.file, self.line)
+    }
+}
+
+impl<'r> Row<'r> {
+    /// What is asked, and the answer behind the first separator.
+    pub fn parts(&self, separator: &str) -> Result<(&'r str, &'r str)> {
+        self.text
+            .split_once(separator)
+            .context("the row lacks an answer")
+    }
+}
+
+// The message of a refusal, or `read`.
+fn message_of<T, E: fmt::Display>(
+    alloc: Global,
+    read: &Result<T, E>,
+) -> Result<String, AllocError> {
+    match read {
+        Ok(_) => String::from_str(alloc, "read"),
+        Err(fault) => format!(in alloc; "{fault}"),
     }
 }
 
@@ -53,6 +73,17 @@ impl<'r> Report<'r> {
             println!(self.rt; "{row}: {asked}: expected {expected:?}, got {got:?}")?;
         }
         Ok(())
+    }
+
+    /// Compares what became of a text with the message that a row has, `read` where it is taken.
+    pub fn compare_message<T, E: fmt::Display>(
+        &mut self,
+        row: Row<'_>,
+        expected: &str,
+        read: &Result<T, E>,
+    ) -> Result<()> {
+        let got = message_of(self.alloc(), read)?;
+        self.compare(row, "its refusal", expected, got.as_str())
     }
 
     /// Fails where an answer differed.

@@ -1,6 +1,6 @@
 //! Expressions, and the schedules that they are, as one or two cron expressions of six fields.
 
-use anyhow::{Context, Result, ensure};
+use anyhow::{Result, ensure};
 use cron_crontab::{Expression, read};
 use cron_rows::{Report, Row};
 use cron_text::{no_ordinals, read_into};
@@ -42,10 +42,7 @@ fn answer(text: &str, told: &str) -> Result<&'static str> {
 
 /// Replays a row.
 pub(crate) fn replay(report: &mut Report<'_>, row: Row<'_>) -> Result<()> {
-    let (text, told) = row
-        .text
-        .split_once(" | ")
-        .context("the row lacks an answer")?;
+    let (text, told) = row.parts(" | ")?;
     let got = answer(text, told)?;
     report.compare(row, "schedules", "as told", got)
 }

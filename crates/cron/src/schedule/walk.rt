@@ -82,6 +82,7 @@ impl<C: Inputs> Walker<C> {
 
     /// The item before the cursor, to which the cursor moves. `None` where there is none, and from
     /// then on for ever, in both directions.
+    #[inline(always)]
     pub fn next_back(&mut self) -> Option<Moment>
         ensures { Gives Back self.old result self.new }
     {
@@ -109,6 +110,7 @@ impl<C: Inputs> Iterator for Walker<C> {
 
     /// The item after the cursor, to which the cursor moves. `None` where there is none, and from
     /// then on for ever, in both directions.
+    #[inline(always)]
     fn next(&mut self) -> Option<Moment> {
         self.step(Way::Ahead)
     }

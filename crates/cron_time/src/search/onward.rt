@@ -98,10 +98,11 @@ fn learn(zone: &TimeZone<'_>, second: u32, stretch: &mut Stretch)
 }
 
 // The days past one whose date matches, out of the way of the items of the own day. It begins with
-// the days and the stretch that the search before knew, and leaves those that it knows. `BACK` says
-// the way once more, so that each has code of its own.
-#[inline(never)]
-fn days_past<const BACK: bool>(
+// the days and the stretch that the search before knew, and leaves those that it knows, and the
+// minute of the first time of the day that it comes to. `BACK` says the way once more, so that each
+// has code of its own.
+#[inline(always)]
+pub(crate) fn days_past<const BACK: bool>(
     fields: &ScheduleFields,
     zone: &TimeZone<'_>,
     way: Way,
@@ -157,9 +158,9 @@ fn days_past_either_way(
     }
 }
 
-// The readings of a civil second, if it lies in the stretch and has some.
+/// The readings of a civil second, if it lies in the stretch and has some.
 #[inline(always)]
-fn readings_in(_zone: &TimeZone<'_>, second: u32, stretch: &Stretch) -> Option<Found>
+pub(crate) fn readings_in(_zone: &TimeZone<'_>, second: u32, stretch: &Stretch) -> Option<Found>
     requires known { IsKnown (plain_zone _zone.now) stretch.now }
     ensures { IfSome result (λ f. found_items f ≡ readings (plain_zone _zone.now) second) }
 {
@@ -169,10 +170,12 @@ fn readings_in(_zone: &TimeZone<'_>, second: u32, stretch: &Stretch) -> Option<F
     stretch.readings(second)
 }
 
-// The search past a civil second that doesn't lie in the minute, or where the stretch doesn't tell
-// the readings of the nearest match.
-#[inline(never)]
-fn search_past_elsewhere(
+/// The nearest civil second on the timeline past one that matches: first in its own day, whose date
+/// needn't be made, and then in the days past it. It begins with the days of a month and the
+/// stretch that an earlier search knew, and leaves those that it knows. The minute may be any before
+/// it, and is that of the answer's first time behind it.
+#[inline(always)]
+pub(crate) fn search_past(
     fields: &ScheduleFields,
     zone: &TimeZone<'_>,
     way: Way,
@@ -202,46 +205,6 @@ fn search_past_elsewhere(
         return found;
     }
     days_past_either_way(fields, zone, way, day, minute, days, stretch)
-}
-
-/// The nearest civil second on the timeline past one that matches: first in its own day, whose date
-/// needn't be made, and then in the days past it. It begins with the minute, the days of a month
-/// and the stretch that an earlier search knew, and leaves those that it knows.
-#[inline(always)]
-pub fn search_past(
-    fields: &ScheduleFields,
-    zone: &TimeZone<'_>,
-    way: Way,
-    second: u32,
-    minute: &mut Minute,
-    days: &mut MonthDays,
-    stretch: &mut Stretch,
-) -> Option<Found>
-    requires in_range { second < seconds_in_range }
-    requires matching { matches_date fields.now (date_numbered (second / 86_400)).0 ≡ true }
-    requires member { matches_second fields.now (second % 86_400) ≡ true }
-    requires days { KnowsDays fields.now days.old }
-    requires known { IsKnown (plain_zone zone.now) stretch.old }
-    ensures found { IsFound way
-        fields.now
-        (plain_zone zone.now)
-        (beyond way second)
-        (option_map found_items result) }
-    ensures days { KnowsDays fields.now days.new }
-    ensures known { IsKnown (plain_zone zone.now) stretch.new }
-{
-    let Some(place) = minute.place_of(second) else {
-        return search_past_elsewhere(fields, zone, way, second, minute, days, stretch);
-    };
-    let members = Members::of(fields);
-    let Some(next) = minute.past_in_day(&members, way, place) else {
-        return days_past_either_way(fields, zone, way, minute.day(), minute, days, stretch);
-    };
-    let found = readings_in(zone, next, stretch);
-    if found.is_some() {
-        return found;
-    }
-    search_past_elsewhere(fields, zone, way, second, minute, days, stretch)
 }
 
 // The days from that of a civil second on: in the first one whose date matches the times from a
@@ -277,7 +240,8 @@ fn days_from<const BACK: bool>(
 }
 
 /// The nearest civil second on the timeline from a number on. It begins with the days of a month
-/// and the stretch that an earlier search knew, and leaves those that it knows.
+/// and the stretch that an earlier search knew, and leaves those that it knows. The minute may be
+/// any, before and after.
 pub fn search_onward(
     fields: &ScheduleFields,
     zone: &TimeZone<'_>,

@@ -5,12 +5,12 @@ ghost use Rattle.std.specs.Prelude.{◌<◌, ◌≤◌, pos, IfSome, MatchOption
 ghost use Rattle.cron_units.specs.Nearest.{IsNearest};
 ghost use Rattle.cron_units.specs.Sets.{AreSets};
 ghost use Rattle.cron_time.specs.Search.Inner.Numbers.{matches_second};
-ghost use Rattle.cron_time.specs.Search.Inner.Questions.{outermost};
 ghost use Rattle.cron_time.specs.Search.Times.{IsNearestTime, time_of_parts};
 
 use crate::search::answers::TimeFound;
 use crate::search::counter::Questions;
-use crate::search::members::{Members, Unit};
+use crate::search::members::Members;
+use crate::search::minute::Minute;
 use crate::search::neighbours::{Neighbours, TimesOfDay};
 use crate::search::ways::extreme;
 use cron_moments::civil::SECONDS_PER_DAY;
@@ -54,22 +54,6 @@ pub fn nearest_time(
     }
 }
 
-// The first time of a day in this direction: its hour, minute and second are each the first of
-// their sets.
-#[inline(always)]
-fn outermost_time(members: &Members<'_>, way: Way) -> Option<u32>
-    ensures nearest { IsNearest way
-        (matches_second members.now)
-        (pos (outermost way 86_400))
-        result }
-    ensures bound { IfSome result (λ n. n < 86_400) }
-{
-    let hour = members.nearest(Unit::Hour, way, extreme(way, 24))?;
-    let minute = members.nearest(Unit::Minute, way, extreme(way, 60))?;
-    let second = members.nearest(Unit::Second, way, extreme(way, 60))?;
-    Some(hour * 3600 + minute * 60 + second)
-}
-
 /// The nearest time of day from one on. From the outermost one of all on no part is compared.
 #[inline(always)]
 pub(crate) fn time_from(fields: &ScheduleFields, way: Way, from: u32) -> Option<u32>
@@ -79,7 +63,7 @@ pub(crate) fn time_from(fields: &ScheduleFields, way: Way, from: u32) -> Option<
 {
     let members = Members::of(fields);
     if from == extreme(way, SECONDS_PER_DAY) {
-        return outermost_time(&members, way);
+        return Minute::epoch().enter_day(&members, way, 0);
     }
     TimesOfDay::nearest(&members, way, from)
 }

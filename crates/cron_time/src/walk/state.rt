@@ -28,10 +28,10 @@ pub(crate) enum Stage {
 }
 
 /// The stage of a walk, the readings of its civil second, and the instant that it started from.
-/// What the stage doesn't speak of means nothing. The minute is that in which the last search
-/// ended, mostly the minute of the civil second. The days are those of the month that was looked
-/// up last, as far as they are known, and the stretch, perhaps an empty one, is the one in which a
-/// reading was last looked for.
+/// What the stage doesn't speak of means nothing. The minute may be any: mostly it is that of the
+/// civil second, and a search from there is then short. The days are those of the month that was
+/// looked up last, as far as they are known, and the stretch, perhaps an empty one, is the one in
+/// which a reading was last looked for.
 #[derive(Clone, Copy)]
 pub struct State {
     pub(crate) stage: Stage,

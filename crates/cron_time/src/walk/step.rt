@@ -1,10 +1,11 @@
 //! One call of a walk in either direction.
-ghost use Rattle.std.specs.Prelude.{◌≡◌, ◌/◌, ◌%◌, ◌<◌, true};
+ghost use Rattle.std.specs.Prelude.{◌≡◌, ◌/◌, ◌%◌, ◌<◌, true, if◌then◌else◌};
 ghost use Rattle.jiff.specs.Words.{plain_zone};
 ghost use Rattle.cron_moments.specs.Civil.{seconds_in_range};
 ghost use Rattle.cron_moments.specs.CivilDates.{date_numbered};
 ghost use Rattle.cron_time.specs.Walk.Inner.Placed.{stand_of, IsPlaced, Knows};
 ghost use Rattle.cron_time.specs.Walk.Inner.Stand as kept;
+ghost use Rattle.cron_time.specs.Search.Inner.Blocks.{AllFail};
 ghost use Rattle.cron_time.specs.Search.Inner.Numbers.{beyond, matches_second, way_of};
 ghost use Rattle.cron_time.specs.Walk.Inner.Stop.{IsReached, LeadsTo};
 ghost use Rattle.cron_time.specs.Matches.{matches_date};
@@ -12,7 +13,7 @@ ghost use Rattle.cron_time.specs.declared.walk.state.Stage.TheVariants as stage;
 
 use crate::search::days::some_month_has_a_day;
 use crate::search::members::Members;
-use crate::search::onward::{search_onward, search_past};
+use crate::search::onward::{days_past, readings_in, search_onward, search_past};
 use crate::walk::bounds::bound;
 use crate::walk::state::{Stage, State};
 use cron_moments::moment::civil_second;
@@ -71,9 +72,9 @@ fn from_start(fields: &ScheduleFields, zone: &TimeZone<'_>, way: Way, state: &mu
     from_bound(fields, zone, way, state)
 }
 
-// The walk goes to the first item past its civil second.
-#[inline(always)]
-fn past_item(fields: &ScheduleFields, zone: &TimeZone<'_>, way: Way, state: &mut State)
+// The walk goes to the first item past its civil second, wherever that lies.
+#[inline(never)]
+fn past_item_elsewhere(fields: &ScheduleFields, zone: &TimeZone<'_>, way: Way, state: &mut State)
     requires in_range { state.old.earlier.second < seconds_in_range }
     requires matching { matches_date fields.now
         (date_numbered (state.old.earlier.second / 86_400)).0
@@ -100,28 +101,92 @@ fn past_item(fields: &ScheduleFields, zone: &TimeZone<'_>, way: Way, state: &mut
     state.arrive(way, found)
 }
 
-// From the earlier of two readings.
+// The walk goes to the first item of the days past that of its minute, whose own has no more. `BACK`
+// says the way once more, so that each has code of its own.
 #[inline(never)]
-fn from_earlier(fields: &ScheduleFields, zone: &TimeZone<'_>, way: Way, state: &mut State)
-    requires stage { state.old.stage ≡ stage.Earlier }
-    requires placed { IsPlaced fields.now (plain_zone zone.now) (stand_of state.old) }
+fn past_own_day<const BACK: bool>(
+    fields: &ScheduleFields,
+    zone: &TimeZone<'_>,
+    way: Way,
+    state: &mut State,
+)
+    requires tied { way ≡ way_of BACK }
+    requires day { state.old.minute.day ≡ state.old.earlier.second / 86_400 }
+    requires none { AllFail way
+        (matches_second fields.now)
+        (beyond way (state.old.earlier.second % 86_400)) }
+    requires matching { matches_date fields.now
+        (date_numbered (state.old.earlier.second / 86_400)).0
+        ≡ true }
     requires known { Knows fields.now (plain_zone zone.now) state.old }
-    ensures leads { LeadsTo way fields.now
+    ensures reached { IsReached way
+        fields.now
         (plain_zone zone.now)
-        (stand_of state.old)
+        (beyond way state.old.earlier.second)
         (stand_of state.new) }
     ensures known { Knows fields.now (plain_zone zone.now) state.new }
 {
-    match way {
-        Way::Ahead => state.stage = Stage::Later,
-        Way::Back => past_item(fields, zone, way, state),
-    }
+    let day = state.minute.day();
+    let found = days_past::<BACK>(
+        fields,
+        zone,
+        way,
+        day,
+        &mut state.minute,
+        &mut state.days,
+        &mut state.stretch,
+    );
+    state.arrive(way, found)
 }
 
-// From the later of two readings.
+// The walk goes to the first item past its civil second. That mostly lies in the same day and
+// stretch, so a search there stands here, and what else there is has code elsewhere.
+#[inline(always)]
+fn past_item<const BACK: bool>(
+    fields: &ScheduleFields,
+    zone: &TimeZone<'_>,
+    way: Way,
+    state: &mut State,
+)
+    requires tied { way ≡ way_of BACK }
+    requires in_range { state.old.earlier.second < seconds_in_range }
+    requires matching { matches_date fields.now
+        (date_numbered (state.old.earlier.second / 86_400)).0
+        ≡ true }
+    requires member { matches_second fields.now (state.old.earlier.second % 86_400) ≡ true }
+    requires known { Knows fields.now (plain_zone zone.now) state.old }
+    ensures reached { IsReached way
+        fields.now
+        (plain_zone zone.now)
+        (beyond way state.old.earlier.second)
+        (stand_of state.new) }
+    ensures known { Knows fields.now (plain_zone zone.now) state.new }
+{
+    let second = civil_second(&state.earlier);
+    let Some(place) = state.minute.place_of(second) else {
+        return past_item_elsewhere(fields, zone, way, state);
+    };
+    let members = Members::of(fields);
+    let Some(next) = state.minute.past_in_day(&members, way, place) else {
+        return past_own_day::<BACK>(fields, zone, way, state);
+    };
+    let found = readings_in(zone, next, &state.stretch);
+    if found.is_none() {
+        return past_item_elsewhere(fields, zone, way, state);
+    }
+    state.arrive(way, found)
+}
+
+// From one of two readings: to the other one if that lies in this direction, and else past both.
 #[inline(never)]
-fn from_later(fields: &ScheduleFields, zone: &TimeZone<'_>, way: Way, state: &mut State)
-    requires stage { state.old.stage ≡ stage.Later }
+fn from_reading(
+    fields: &ScheduleFields,
+    zone: &TimeZone<'_>,
+    way: Way,
+    later: bool,
+    state: &mut State,
+)
+    requires stage { state.old.stage ≡ if later then stage.Later else stage.Earlier }
     requires placed { IsPlaced fields.now (plain_zone zone.now) (stand_of state.old) }
     requires known { Knows fields.now (plain_zone zone.now) state.old }
     ensures leads { LeadsTo way fields.now
@@ -131,8 +196,9 @@ fn from_later(fields: &ScheduleFields, zone: &TimeZone<'_>, way: Way, state: &mu
     ensures known { Knows fields.now (plain_zone zone.now) state.new }
 {
     match way {
-        Way::Ahead => past_item(fields, zone, way, state),
-        Way::Back => state.stage = Stage::Earlier,
+        Way::Ahead if !later => state.stage = Stage::Later,
+        Way::Back if later => state.stage = Stage::Earlier,
+        _ => past_item_elsewhere(fields, zone, way, state),
     }
 }
 
@@ -155,9 +221,9 @@ fn step_one_way<const BACK: bool>(
 {
     match state.stage {
         Stage::Start => from_start(fields, zone, way, state),
-        Stage::Single => past_item(fields, zone, way, state),
-        Stage::Earlier => from_earlier(fields, zone, way, state),
-        Stage::Later => from_later(fields, zone, way, state),
+        Stage::Single => past_item::<BACK>(fields, zone, way, state),
+        Stage::Earlier => from_reading(fields, zone, way, false, state),
+        Stage::Later => from_reading(fields, zone, way, true, state),
         Stage::Ended => {}
     }
 }

@@ -1,7 +1,7 @@
 //! Forms of days, how many days of 1970 to 2100 each has, and the sum of their numbers, where
 //! 1970-01-01 has the number 0.
 
-use anyhow::{Context, Result};
+use anyhow::Result;
 use cron_quartz::{Expression, read};
 use cron_rows::{Report, Row};
 use cron_unions::run::Run;
@@ -27,10 +27,7 @@ fn days(alloc: Global, expression: &Expression, start: Timestamp) -> Result<Stri
 
 /// Replays a row.
 pub(crate) fn replay(report: &mut Report<'_>, row: Row<'_>) -> Result<()> {
-    let (text, told) = row
-        .text
-        .split_once('\t')
-        .context("the row lacks an answer")?;
+    let (text, told) = row.parts("\t")?;
     let outcome = read(text);
     let Ok(expression) = &outcome else {
         return report.compare(row, "days", told, "refused");

@@ -1,6 +1,6 @@
 //! Expressions, and their first fires in UTC after the start of 2024-01-15, with spaces between.
 
-use anyhow::{Context, Result};
+use anyhow::Result;
 use cron_quartz::read;
 use cron_rows::{Report, Row};
 use cron_unions::instants::first_after;
@@ -37,10 +37,7 @@ fn fires(
 
 /// Replays a row.
 pub(crate) fn replay(report: &mut Report<'_>, row: Row<'_>) -> Result<()> {
-    let (text, told) = row
-        .text
-        .split_once('\t')
-        .context("the row lacks an answer")?;
+    let (text, told) = row.parts("\t")?;
     let outcome = read(text);
     let Ok(expression) = &outcome else {
         return report.compare(row, "fires", told, "refused");
