@@ -259,8 +259,8 @@ impl<T: Timetable + Copy> Agenda<T> {
     // Slots don't pile up. A sweep that begins with n slots, while k are added, takes at most
     // 2(n + k) steps, so at most (n + k) / 4 + 1 calls. Each of them removes one entry at most. So
     // where there are never more than p entries, k is at most p + (n + k) / 4 + 1, which makes it
-    // (4p + n + 4) / 3. The sweep leaves at most p slots, and one for each call. From n = 2p + 2 on
-    // that is 2p + 2 again, and meanwhile there are at most n + k = 4p + 4.
+    // (4p + n + 4) / 3. The sweep leaves at most p slots, and one for each call. Where n is 2p + 2 at
+    // most, as it is at first, that is 2p + 2 again, and meanwhile there are at most 4p + 4 slots.
     fn compact(&mut self)
         ensures { self.new ≡ self.old }
     {
