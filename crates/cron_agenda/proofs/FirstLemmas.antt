@@ -15,10 +15,11 @@ use Rattle.jiff_tz.specs.declared.timezone.TimeZone.{TimeZone}
 use Rattle.cron_units.specs.Sets.{Sets}
 use Rattle.cron_fires.specs.Rules.{IsFirstOf}
 use Rattle.cron_agenda.specs.Fires.{fires_past, instant}
-use Rattle.cron_agenda.specs.Entries.{ComesFirst, IsBeforeAll, IsFirstEntry, IsTaken, entry, gone_on}
-use Rattle.cron_agenda.specs.Inner.Slots.{IdsAscend, IsKept, IsOwn, entries_of, entry_of, entry_when, instant_of}
+use Rattle.cron_agenda.specs.Entries.{ComesFirst, HaveIds, IsBeforeAll, IsFirstEntry, IsTaken, entry, gone_on}
+use Rattle.cron_agenda.specs.Inner.Slots.{IsKept, IsOwn, entries_of, entry_of, entry_when, instant_of}
 use Rattle.cron_agenda.proofs.ListLemmas.{Split, split, get-before, get-behind, some_same, none_of, some_of}
-use Rattle.cron_agenda.proofs.SlotLemmas.{entries-append, ids-behind, ids-put, with_head}
+use Rattle.cron_agenda.proofs.SlotLemmas.{entries-append, have-behind, live_id, with_head}
+use Rattle.cron_agenda.proofs.PartLemmas.{have_parts, put_parts}
 
 -- ---- which entry comes first
 
@@ -55,17 +56,17 @@ heads-before : {T : Type 0} (n : ℤ) (id : ℕ) (ss : List (Slot T)) → ((i : 
 heads-before n id [] h = tt
 heads-before n id (s ∷ ss) h = (λ q e. inl (h 0 (instant q) (has_head s ss q e)), heads-before n id ss (λ i m there. h (suc i) m there))
 
-heads-behind : {T : Type 0} (n : ℤ) (id : ℕ) (ss : List (Slot T)) (low high : ℕ) → id < low → IdsAscend low ss high
+heads-behind : {T : Type 0} (n : ℤ) (id : ℕ) (ss : List (Slot T)) (low high : ℕ) → id < low → HaveIds low (entries_of ss) high
     → ((i : ℕ) (m : ℤ) → HasAt (map instant_of ss) i m → (n <ℤ m) ⊎ (n ≡ m)) → AreBehind n id ss
 heads-behind n id [] low high less ids h = tt
 heads-behind n id (s ∷ ss) low high less ids h =
-    let first = ids.0 in (
-      λ q e. elim (h 0 (instant q) (has_head s ss q e)) [ inl early ↦ inl early | inr same ↦ inr (same, omega arith) ],
-      heads-behind n id ss (s.id + 1) high (omega arith) ids.1 (λ i m there. h (suc i) m there),
+    let own = live_id s ss low high ids in (
+      λ q e. elim (h 0 (instant q) (has_head s ss q e)) [ inl early ↦ inl early | inr same ↦ inr (same, (let first = own.0 q e in omega (arith, first.0))) ],
+      heads-behind n id ss low high less own.1 (λ i m there. h (suc i) m there),
     )
 
 module _ {T : Type 0} (before after : List (Slot T)) (s : Slot T) (f : EntryFire) (head : s.head ≡ Some f) (added : ℕ)
-    (ids : IdsAscend 0 (before ++ s ∷ after) added) where
+    (ids : HaveIds 0 (entries_of (before ++ s ∷ after)) added) where
   abbrev pub e : Entry T
   e = entry s.id s.table s.zone f
 
@@ -103,7 +104,7 @@ module _ {T : Type 0} (before after : List (Slot T)) (s : Slot T) (f : EntryFire
 
     ahead_after : IsBeforeAll e (entries_of after)
     ahead_after =
-        before-slots e after (heads-behind (instant f) s.id after (s.id + 1) added (omega arith) (ids-behind before after s 0 added ids) (λ i m h.
+        before-slots e after (heads-behind (instant f) s.id after (s.id + 1) added (omega arith) (have-behind (entries_of before) (entries_of after) e 0 added (subst (λ es. HaveIds 0 es added) entries_are ids)) (λ i m h.
         let size = length-map before instant_of in
         elim (behind_first (length before + suc i) m
         (get-behind (map instant_of before) (Some (instant f) ∷ map instant_of after) (suc i) (length before + suc i) (Some m) (omega arith) h)
@@ -117,7 +118,7 @@ module _ {T : Type 0} (before after : List (Slot T)) (s : Slot T) (f : EntryFire
 
 -- ---- the slot at the first place
 
-module _ {T : Type 0} {slots : List (Slot T)} {firsts : List (Option ℤ)} {live added : ℕ} (kept : IsKept slots firsts live added) where
+module _ {T : Type 0} {slots : List (Slot T)} {firsts : List (Option ℤ)} {live added packed scanned : ℕ} (kept : IsKept slots firsts live added packed scanned) where
   module _ {place : ℕ} (first : tree.ComesFirst firsts place) where
     pub first_within : place < length slots
     first_within =
@@ -142,8 +143,8 @@ module _ {T : Type 0} {slots : List (Slot T)} {firsts : List (Option ℤ)} {live
         abbrev pub cut_at : Split slots place s
         cut_at = split slots place s (there s read)
 
-        pub ids_here : IdsAscend 0 (cut_at.before ++ s ∷ cut_at.after) added
-        ids_here = subst (λ l. IdsAscend 0 l added) cut_at.is kept.ids
+        pub ids_here : HaveIds 0 (entries_of (cut_at.before ++ s ∷ cut_at.after)) added
+        ids_here = subst (λ l. HaveIds 0 (entries_of l) added) cut_at.is (have_parts kept.parts)
 
         pub first_here : tree.ComesFirst (map instant_of (cut_at.before ++ s ∷ cut_at.after)) (length cut_at.before)
         first_here =
@@ -196,22 +197,20 @@ module _ {T : Type 0} {slots : List (Slot T)} {firsts : List (Option ℤ)} {live
               ap length (entries_then ∙ ap (λ o. entries_of cut_at.before ++ (gone_on (entry s.id s.table s.zone f) o ++ entries_of cut_at.after)) some)
               ∙ omega arith
 
-          kept_by : (n : ℕ) → n ≡ length (entries_of (set slots place t)) → IsKept (set slots place t) (set firsts place (option_map instant h)) n added
+          kept_by : (n : ℕ) → n ≡ length (entries_of (set slots place t)) → IsKept (set slots place t) (set firsts place (option_map instant h)) n added packed scanned
           kept_by n count = record {
             keys =
                 ap (λ l. set l place (option_map instant h)) kept.keys
                 ∙ ap (λ (u : Slot T). set (map instant_of slots) place (option_map instant u.head)) (sym becomes)
                 ∙ sym (map-set instant_of slots place t);
-            ids =
-                subst (λ l. IdsAscend 0 l added) (sym (cut_at.put t))
-                (ids-put cut_at.before cut_at.after s t 0 added (ap (λ (u : Slot T). u.id) becomes) ids_here);
+            parts = put_parts kept.parts place s t (there s read) (λ none. cc) (ap (λ (u : Slot T). u.id) becomes);
             count = count;
           }
 
-          pub kept_last : is_none h ≡ true → IsKept (set slots place t) (set firsts place (option_map instant h)) (live - 1) added
+          pub kept_last : is_none h ≡ true → IsKept (set slots place t) (set firsts place (option_map instant h)) (live - 1) added packed scanned
           kept_last none = kept_by (live - 1) (sym (count_last none))
 
-          pub kept_more : is_none h ≡ false → IsKept (set slots place t) (set firsts place (option_map instant h)) live added
+          pub kept_more : is_none h ≡ false → IsKept (set slots place t) (set firsts place (option_map instant h)) live added packed scanned
           kept_more some = let q = some_of h some in kept_by live (sym (count_more q.0 q.1))
 
           pub taken : (schedules : T → List Sets) (zones : List TimeZone) (z : TimeZone) → slice_get zones s.zone ≡ Some z

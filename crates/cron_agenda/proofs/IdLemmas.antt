@@ -1,52 +1,22 @@
 -- The slot with an id, and the slots without its entry.
-use Rattle.std.proofs.Common.{◌≡◌, ℕ, zero, suc, ◌+◌, ◌<◌, ◌≤◌, ℤ, Bool, true, false, cond, ◌||◌, eqb, ◌-◌, List, [], ◌∷◌, ◌++◌, length, map, set, Option, Some, None, inl, inr, refl, sym, ap, subst, ◌∙◌, arith, length-append}
+use Rattle.std.proofs.Common.{◌≡◌, ℕ, suc, ◌+◌, ◌<◌, ℤ, Bool, true, false, cond, ◌||◌, eqb, ◌-◌, List, [], ◌∷◌, ◌++◌, length, map, set, Option, Some, None, inl, inr, refl, sym, ap, subst, ◌∙◌, arith, length-append}
 use Rattle.std.specs.Prelude.{slice_get, not, ◌==◌}
 use Rattle.std.proofs.lemmas.Bool.{cases_lt, eq-eqb, eqb-true}
 use Rattle.std.proofs.lemmas.List.Elements.{filter-append}
 use Rattle.std.proofs.lemmas.List.Folds.{list_any-append}
 use Rattle.std.specs.Option.{is_some, option_map}
 use Rattle.std.proofs.lemmas.List.{map-set}
-use Rattle.std.proofs.lemmas.Option.{slice_get_within}
 use Rattle.cron_agenda.specs.declared.entry.Entry.{Entry}
 use Rattle.cron_agenda.specs.declared.fire.EntryFire.{EntryFire}
 use Rattle.cron_agenda.specs.declared.slots.Slot.{Slot}
 use Rattle.cron_agenda.specs.Fires.{instant}
-use Rattle.cron_agenda.specs.Entries.{IsEntryOf, entry, has, without}
+use Rattle.cron_agenda.specs.Entries.{HaveIds, IsEntryOf, entry, has, without}
 use Rattle.cron_agenda.specs.Inner.Slots.{HasEntry, IdsAscend, IsKept, IsOwn, entries_of, entry_of, entry_when, instant_of}
-use Rattle.cron_agenda.proofs.ListLemmas.{Split, split, get-before, get-behind, some_same}
-use Rattle.cron_agenda.proofs.SlotLemmas.{entries-append, ids-put}
+use Rattle.cron_agenda.proofs.ListLemmas.{Split, split, get-behind, some_same}
+use Rattle.cron_agenda.proofs.SlotLemmas.{entries-append, have-before, have-behind, ids-apart, ids-order, live_within}
+use Rattle.cron_agenda.proofs.PartLemmas.{have_parts, put_parts}
 
 -- ---- a slot by its id
-
-ids-from : {T : Type 0} (slots : List (Slot T)) (low high i : ℕ) (t : Slot T) → IdsAscend low slots high → slice_get slots i ≡ Some t → low ≤ t.id
-ids-from [] low high zero t ids e = cc
-ids-from [] low high (suc i) t ids e = cc
-ids-from (s ∷ slots) low high zero t ids e = let same : s ≡ t = cc in subst (λ (v : Slot _). low ≤ v.id) same ids.0
-ids-from (s ∷ slots) low high (suc i) t ids e =
-    let rest = ids-from slots (s.id + 1) high i t ids.1 e in let first = ids.0 in omega arith
-
-ids-order : {T : Type 0} (slots : List (Slot T)) (low high i j : ℕ) (s t : Slot T) → IdsAscend low slots high → slice_get slots i ≡ Some s
-    → slice_get slots j ≡ Some t → i < j → s.id < t.id
-ids-order [] low high zero j s t ids e f less = cc
-ids-order [] low high (suc i) j s t ids e f less = cc
-ids-order (u ∷ slots) low high i zero s t ids e f less = absurd (omega arith)
-ids-order (u ∷ slots) low high zero (suc j) s t ids e f less =
-    let same : u ≡ s = cc in
-    let rest = ids-from slots (u.id + 1) high j t ids.1 f in
-    subst (λ (v : Slot _). v.id < t.id) same (omega arith)
-ids-order (u ∷ slots) low high (suc i) (suc j) s t ids e f less = ids-order slots (u.id + 1) high i j s t ids.1 e f (omega arith)
-
--- two slots with one id are one
-ids-apart : {T : Type 0} (slots : List (Slot T)) (low high i j : ℕ) (s t : Slot T) → IdsAscend low slots high → slice_get slots i ≡ Some s
-    → slice_get slots j ≡ Some t → s.id ≡ t.id → i ≡ j
-ids-apart slots low high i j s t ids e f same =
-    elim (cases_lt i j) [
-      | inl less ↦ let before = ids-order slots low high i j s t ids e f less in absurd (omega arith)
-      | inr le ↦ elim (cases_lt j i) [
-        | inl more ↦ let behind = ids-order slots low high j i t s ids f e more in absurd (omega arith)
-        | inr ge ↦ omega arith
-      ]
-    ]
 
 -- a slot with a greater id stands behind one
 pub behind_id : {T : Type 0} (slots : List (Slot T)) (high id middle p : ℕ) (s : Slot T) → IdsAscend 0 slots high → slice_get slots middle ≡ Some s
@@ -117,7 +87,7 @@ without-none (s ∷ slots) id none =
           ∙ ap (λ b. b || has id (entries_of slots)) one.1 ∙ rest.1,
     )
 
-module _ {T : Type 0} {slots : List (Slot T)} {firsts : List (Option ℤ)} {live added : ℕ} (kept : IsKept slots firsts live added) {id place : ℕ}
+module _ {T : Type 0} {slots : List (Slot T)} {firsts : List (Option ℤ)} {live added packed scanned : ℕ} (kept : IsKept slots firsts live added packed scanned) {id place : ℕ}
     (found : HasEntry slots id place) where
   abbrev s : Slot T
   s = found.slot
@@ -128,30 +98,25 @@ module _ {T : Type 0} {slots : List (Slot T)} {firsts : List (Option ℤ)} {live
   cut_there : Split slots place s
   cut_there = split slots place s found.here
 
-  ids_there : IdsAscend 0 (cut_there.before ++ s ∷ cut_there.after) added
-  ids_there = subst (λ l. IdsAscend 0 l added) cut_there.is kept.ids
-
-  only_there : (i : ℕ) (t : Slot T) → slice_get (cut_there.before ++ s ∷ cut_there.after) i ≡ Some t → t.id ≡ id → i ≡ length cut_there.before
-  only_there i t e same =
-      ids-apart (cut_there.before ++ s ∷ cut_there.after) 0 added i (length cut_there.before) t s ids_there e
-      (get-behind cut_there.before (s ∷ cut_there.after) 0 (length cut_there.before) s (omega arith) refl) (same ∙ sym found.same)
-
-  none_before : (p : ℕ) → HasEntry cut_there.before id p → ⊥
-  none_before p h =
-      let less = slice_get_within cut_there.before p h.slot h.here in
-      let at = only_there p h.slot (get-before cut_there.before (s ∷ cut_there.after) p h.slot h.here) h.same in
-      omega arith
-
-  none_behind : (p : ℕ) → HasEntry cut_there.after id p → ⊥
-  none_behind p h =
-      let at = only_there (length cut_there.before + suc p) h.slot
-      (get-behind cut_there.before (s ∷ cut_there.after) (suc p) (length cut_there.before + suc p) h.slot refl h.here) h.same in
-      omega arith
-
   entries_there : entries_of slots ≡ entries_of cut_there.before ++ own ∷ entries_of cut_there.after
   entries_there =
       ap entries_of cut_there.is ∙ entries-append cut_there.before (s ∷ cut_there.after)
       ∙ ap (λ h. entries_of cut_there.before ++ (entry_when s.id s.table s.zone h ++ entries_of cut_there.after)) found.live
+
+  ids_there : HaveIds 0 (entries_of cut_there.before ++ own ∷ entries_of cut_there.after) added
+  ids_there = subst (λ es. HaveIds 0 es added) entries_there (have_parts kept.parts)
+
+  none_before : (p : ℕ) → HasEntry cut_there.before id p → ⊥
+  none_before p h =
+      let ids = have-before (entries_of cut_there.before) (entries_of cut_there.after) own 0 added ids_there in
+      let less = (live_within cut_there.before 0 s.id id p ids h).1 in
+      let same = found.same in omega arith
+
+  none_behind : (p : ℕ) → HasEntry cut_there.after id p → ⊥
+  none_behind p h =
+      let ids = have-behind (entries_of cut_there.before) (entries_of cut_there.after) own 0 added ids_there in
+      let more = (live_within cut_there.after (s.id + 1) added id p ids h).0 in
+      let same = found.same in omega arith
 
   pub was_there : has id (entries_of slots) ≡ true
   was_there =
@@ -202,13 +167,13 @@ module _ {T : Type 0} {slots : List (Slot T)} {firsts : List (Option ℤ)} {live
         ∙ sym (filter-append (λ (v : Entry T). not (v.id == id)) (entries_of cut_there.before) (own ∷ entries_of cut_there.after))
         ∙ sym (ap (without id) entries_there)
 
-    pub kept-less : IsKept (set slots place t) (set firsts place None) (live - 1) added
+    pub kept-less : IsKept (set slots place t) (set firsts place None) (live - 1) added packed scanned
     kept-less =
         let count = kept.count in
         let size = ap length entries_there ∙ length-append (entries_of cut_there.before) (own ∷ entries_of cut_there.after) in
         let less = ap length entries_less ∙ length-append (entries_of cut_there.before) (entries_of cut_there.after) in
         record {
           keys = ap (λ l. set l place None) kept.keys ∙ ap (λ o. set (map instant_of slots) place (option_map instant o)) (sym ended) ∙ sym (map-set instant_of slots place t);
-          ids = subst (λ l. IdsAscend 0 l added) (sym (cut_there.put t)) (ids-put cut_there.before cut_there.after s t 0 added same ids_there);
+          parts = put_parts kept.parts place s t found.here (λ none. let lives = found.live in cc) same;
           count = omega arith;
         }

@@ -1,5 +1,8 @@
 pub mod ListLemmas
 pub mod SlotLemmas
+pub mod PartLemmas
+pub mod SweepLemmas
+pub mod LookLemmas
 pub mod TreeLemmas
 pub mod FirstLemmas
 pub mod IdLemmas

@@ -68,7 +68,7 @@ pub on_ok : {A E P : Type 0} (r : Result A E) → is_err r ≡ false → OnOk r 
 on_ok (Ok x) e h = h
 on_ok (Err x) e h = cc
 
-pub none_told : (h : Option EntryFire) (b : Bool) → is_some h ≡ not b → is_none h ≡ b
+pub none_told : {X : Type 0} (h : Option X) (b : Bool) → is_some h ≡ not b → is_none h ≡ b
 none_told h true told = ap not told
 none_told h false told = ap not told
 

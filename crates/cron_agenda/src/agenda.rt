@@ -1,6 +1,5 @@
 //! Entries, each with its next fire.
-ghost use Rattle.std.specs.Prelude.{◌≡◌, ◌≤◌, [], ◌∷◌, ◌++◌, filter, length, map, vec_capacity, vec_len};
-ghost use Rattle.std.specs.Option.{is_some};
+ghost use Rattle.std.specs.Prelude.{◌≡◌, ◌≤◌, [], length, map};
 ghost use Rattle.jiff.specs.Words.{plain_zone};
 ghost use Rattle.cron_agenda.specs.Fires.{fires_after, fires_past};
 ghost use Rattle.cron_agenda.specs.Entries.{Adds, HaveIds, IsEntryOf, IsFirstEntry, Reserves, TakesDue, TakesNext, has, listed, with_entries, without};
@@ -17,6 +16,9 @@ use jiff::tz::TimeZone;
 use std::alloc::{AllocError, Global};
 use std::marker::Model;
 
+/// How many steps of a sweep a call does.
+const STEPS: usize = 8;
+
 /// Entries, each with its next fire. Contracts see them in the order in which they were added, how
 /// many were ever added, and how many more have their memory already.
 #[derive(Drop)]
@@ -26,6 +28,10 @@ pub struct Agenda<T> {
     live: usize,
     added: u64,
     room: usize,
+    // How many slots at the front are packed, and how many a sweep has scanned. Those between are
+    // left over: they have no entry, and wait for their end.
+    packed: usize,
+    scanned: usize,
 }
 
 impl<T> Model for Agenda<T> {
@@ -37,7 +43,7 @@ impl<T> Model for Agenda<T> {
 
     ghost view = { λ a. listed (entries_of a.slots.items) a.added a.room };
 
-    ghost invariant = { λ a. IsKept a.slots.items a.firsts.instants a.live a.added
+    ghost invariant = { λ a. IsKept a.slots.items a.firsts.instants a.live a.added a.packed a.scanned
         × HasRoom (vec_len a.slots) (vec_capacity a.slots) a.firsts.room a.room };
 }
 
@@ -66,13 +72,18 @@ fn place_of<T>(slots: &[Slot<T>], id: u64) -> Option<usize>
     None
 }
 
-// Drops the slots whose entry is gone.
-fn keep_live<T: Drop>(slots: &mut Vec<Slot<T>>)
-    ensures items { slots.new.items ≡ filter (λ s. is_some s.head) slots.old.items }
-    ensures len { vec_len slots.new ≤ vec_len slots.old }
-    ensures capacity { vec_capacity slots.new ≡ vec_capacity slots.old }
+// Where it stands, of slots in parts. Those left over between the parts are not searched, as their
+// ids are in no order.
+fn place_in_parts<T>(slots: &[Slot<T>], packed: usize, scanned: usize, id: u64) -> Option<usize>
+    requires packed { packed ≤ scanned }
+    requires scanned { scanned ≤ length slots.now }
+    ensures { inner.IsPlaceInParts slots.now packed scanned id result }
 {
-    slots.retain(|slot| slot.head.is_some());
+    if packed > 0 && id <= slots[packed - 1].id {
+        return place_of(&slots[..packed], id);
+    }
+    let place = place_of(&slots[scanned..], id)?;
+    Some(scanned + place)
 }
 
 impl<T: Timetable + Copy> Agenda<T> {
@@ -86,6 +97,8 @@ impl<T: Timetable + Copy> Agenda<T> {
             live: 0,
             added: 0,
             room: 0,
+            packed: 0,
+            scanned: 0,
         }
     }
 
@@ -98,7 +111,8 @@ impl<T: Timetable + Copy> Agenda<T> {
     }
 
     /// Takes memory for so many more entries: adding them takes none, and is never refused for want
-    /// of it. There may be at most 2^30 entries, with those that are gone and have their slots still.
+    /// of it. There may be at most 2^30 slots, of entries and of some that are gone: it is refused
+    /// where there would be more.
     pub fn reserve(&mut self, additional: usize) -> Result<(), AllocError>
         ensures { Reserves additional self.old result self.new }
     {
@@ -106,6 +120,16 @@ impl<T: Timetable + Copy> Agenda<T> {
         self.firsts.reserve(additional)?;
         self.room = self.room.max(additional);
         Ok(())
+    }
+
+    // Where no sweep is on, the slot that was added is packed already.
+    fn skip_added(&mut self)
+        ensures { self.new ≡ self.old }
+    {
+        if self.packed == self.scanned && self.scanned + 1 == self.slots.len() {
+            self.scanned = self.slots.len();
+            self.packed = self.scanned;
+        }
     }
 
     // Adds an entry with this next fire.
@@ -134,12 +158,13 @@ impl<T: Timetable + Copy> Agenda<T> {
         self.added += 1;
         self.live += 1;
         self.room = self.room.saturating_sub(1);
+        self.skip_added();
         Ok(id)
     }
 
     /// Adds an entry: the fires of a table after an instant, by a rule, in the zone with this
     /// number. It answers the entry's id, which no other has or had: ids count from 0. An error
-    /// changes nothing.
+    /// changes nothing. One is [`AddError::OutOfMemory`], also where there are 2^30 slots.
     pub fn add(
         &mut self,
         table: T,
@@ -162,7 +187,7 @@ impl<T: Timetable + Copy> Agenda<T> {
     }
 
     /// Adds an entry: the fires of a table past one, by its rule, as one that was noted before a
-    /// restart.
+    /// restart. Its id and its errors are as those of [`Agenda::add`].
     pub fn add_past(
         &mut self,
         table: T,
@@ -183,14 +208,65 @@ impl<T: Timetable + Copy> Agenda<T> {
         self.insert(table, zone, later)
     }
 
-    // Drops the slots whose entry is gone, once fewer than half of them have one. It takes no
-    // memory.
+    // Begins a sweep where none is on, once fewer than half of the slots have an entry.
+    fn begin_sweep(&mut self)
+        ensures { self.new ≡ self.old }
+    {
+        if self.packed == self.slots.len() && self.live < self.slots.len() / 2 {
+            self.packed = 0;
+            self.scanned = 0;
+        }
+    }
+
+    // Does a step of a sweep: scans a slot, and moves it to the front if it has an entry; or drops
+    // the last slot, once all are scanned.
+    fn step(&mut self)
+        ensures { self.new ≡ self.old }
+    {
+        let to = self.packed;
+        let at = self.scanned;
+        if at >= self.slots.len() {
+            if to < at {
+                self.slots.pop();
+                self.firsts.pop();
+                self.scanned = at - 1;
+            }
+            return;
+        }
+        let instant = self.slots[at].instant();
+        self.scanned = at + 1;
+        if instant.is_none() {
+            return;
+        }
+        let left = self.slots[to].instant();
+        self.slots.swap(to, at);
+        self.firsts.set(to, instant);
+        self.firsts.set(at, left);
+        self.packed = to + 1;
+    }
+
+    // Does some steps of a sweep.
+    fn sweep(&mut self)
+        ensures { self.new ≡ self.old }
+    {
+        for _ in 0..STEPS {
+            self.step();
+        }
+    }
+
+    // Goes on with a sweep, or begins one, a few steps at each call that may have emptied a slot.
+    //
+    // Slots don't pile up. A sweep that begins with n slots, while k are added, takes at most
+    // 2(n + k) steps, so at most (n + k) / 4 + 1 calls. Each of them removes one entry at most. So
+    // where there are never more than p entries, k is at most p + (n + k) / 4 + 1, which makes it
+    // (4p + n + 4) / 3. The sweep leaves at most p slots, and one for each call. Where n is 2p + 2 at
+    // most, as it is at first, that is 2p + 2 again, and meanwhile there are at most 4p + 4 slots.
     fn compact(&mut self)
         ensures { self.new ≡ self.old }
     {
-        if self.live < self.slots.len() / 2 {
-            keep_live(&mut self.slots);
-            self.firsts.reset(&self.slots);
+        self.begin_sweep();
+        if self.packed < self.slots.len() {
+            self.sweep();
         }
     }
 
@@ -199,7 +275,7 @@ impl<T: Timetable + Copy> Agenda<T> {
         ensures found { result ≡ has id self.old.entries }
         ensures rest { self.new ≡ with_entries (without id self.old.entries) self.old }
     {
-        let Some(place) = place_of(&self.slots, id) else {
+        let Some(place) = place_in_parts(&self.slots, self.packed, self.scanned, id) else {
             return false;
         };
         let slot = &mut self.slots[place];
@@ -209,8 +285,9 @@ impl<T: Timetable + Copy> Agenda<T> {
         true
     }
 
-    /// Removes the entry with this id, and tells whether there was one. It takes no memory. A call
-    /// after which fewer than half of the slots have an entry drops the others, in a pass over all.
+    /// Removes the entry with this id, and tells whether there was one. It takes no memory. Once fewer
+    /// than half of the slots have an entry, this call and those behind it drop the others. Each does
+    /// no more than a few steps of that, so none passes over all slots.
     pub fn remove(&mut self, id: u64) -> bool
         ensures found { result ≡ has id self.old.entries }
         ensures rest { self.new ≡ with_entries (without id self.old.entries) self.old }
@@ -224,7 +301,7 @@ impl<T: Timetable + Copy> Agenda<T> {
     pub fn get(&self, id: u64) -> Option<Entry<T>>
         ensures { IsEntryOf id self.now.entries result }
     {
-        let place = place_of(&self.slots, id)?;
+        let place = place_in_parts(&self.slots, self.packed, self.scanned, id)?;
         self.slots[place].entry()
     }
 
@@ -267,7 +344,7 @@ impl<T: Timetable + Copy> Agenda<T> {
     /// Takes what fires next, of all entries: by instant, of those at one instant that of the entry
     /// that was added first. Its entry goes on to its next fire in its zone; one that has none is
     /// removed, and the fire says so. Nothing is taken where its zone isn't lent. It takes no memory.
-    /// A call that removes an entry may pass over all slots, as [`Agenda::remove`] says.
+    /// A call may drop a few slots of entries that are gone, as [`Agenda::remove`] says.
     pub fn next(&mut self, zones: &[TimeZone<'_>]) -> Result<Option<AgendaFire>, ZoneMissing>
         ensures { TakesNext T.schedules (map plain_zone zones.now) self.old result self.new }
     {

@@ -1,12 +1,10 @@
 //! Which of some places comes first, kept as their instants change: a tree in a list, whose place
 //! `i` stands over the places `8i + 1` to `8i + 8`, and has the least word from it down.
-ghost use Rattle.std.specs.Prelude.{◌≡◌, ◌≢◌, ℕ, ◌+◌, ◌*◌, ◌<◌, ◌≤◌, [], ◌∷◌, ◌++◌, All, EachIndex, length, map, slice_set, IfSome, OnOk, OnErr};
+ghost use Rattle.std.specs.Prelude.{◌≡◌, ◌≢◌, ℕ, ◌+◌, ◌-◌, ◌<◌, ◌≤◌, [], ◌∷◌, ◌++◌, Some, None, length, slice_get, slice_set, take, IfSome, OnOk, OnErr};
 ghost use Rattle.cron_earliest.specs.Places.{IsFirstPlace};
-ghost use Rattle.cron_agenda.specs.Inner.Slots as inner;
 ghost use Rattle.cron_agenda.specs.Inner.Tree as tree;
 ghost use Rattle.cron_agenda.specs.Inner.Words as words;
 
-use crate::slots::Slot;
 use crate::words::{NONE, PLACES, place_in, word_of};
 use std::alloc::{AllocError, Global};
 use std::marker::Model;
@@ -107,29 +105,6 @@ fn repair(own: &[u64], best: &mut [u64], from: usize)
     }
 }
 
-// Sets right all places, the last one first.
-fn rebuild(own: &[u64], best: &mut [u64])
-    requires size { length best.old ≡ length own.now }
-    requires most { length own.now ≤ 1_073_741_824 }
-    ensures { tree.IsTree own.now best.new }
-{
-    for at in (0..own.len()).rev() {
-        best[at] = best_of(own, best, at);
-    }
-}
-
-// Writes the words of these slots.
-fn read_instants<T>(own: &mut [u64], slots: &[Slot<T>])
-    requires size { length own.old ≡ length slots.now }
-    requires most { length slots.now ≤ 1_073_741_824 }
-    ensures instants { map words.instant_in own.new ≡ map inner.instant_of slots.now }
-    ensures places { tree.HavePlaces own.new }
-{
-    for (at, slot) in slots.iter().enumerate() {
-        own[at] = word_of(slot.instant(), at);
-    }
-}
-
 impl Earliest {
     /// No places.
     pub(crate) fn new(alloc: Global) -> Earliest
@@ -188,16 +163,14 @@ impl Earliest {
         repair(&self.own, &mut self.best, place);
     }
 
-    /// Has as many places as there are slots, each with its slot's instant. It takes no memory.
-    pub(crate) fn reset<T>(&mut self, slots: &[Slot<T>])
-        requires { length slots.now ≤ length self.old.instants }
-        ensures instants { self.new.instants ≡ map inner.instant_of slots.now }
+    /// Drops the last place, which has no instant.
+    pub(crate) fn pop(&mut self)
+        requires { slice_get self.old.instants (length self.old.instants - 1) ≡ Some None }
+        ensures instants { self.new.instants ≡ take (length self.old.instants - 1) self.old.instants }
         ensures room { self.old.room ≤ self.new.room }
     {
-        self.own.truncate(slots.len());
-        self.best.truncate(slots.len());
-        read_instants(&mut self.own, slots);
-        rebuild(&self.own, &mut self.best);
+        self.own.pop();
+        self.best.pop();
     }
 
     /// The place that comes first: by instant, and where that is shared by its number.

@@ -12,7 +12,7 @@ pub enum AddError {
     NoFires,
     /// So many were added that no id is left: 2^64 - 1.
     NoIds,
-    /// Memory ran out.
+    /// Memory ran out; or there are 2^30 slots, of entries and of some that are gone.
     OutOfMemory,
 }
 

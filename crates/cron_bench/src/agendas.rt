@@ -94,6 +94,11 @@ fn take_sorted(sorted: &mut Sorted, zones: &[TimeZone<'_>]) -> Option<u64> {
     Some(sum)
 }
 
+/// The sum with a round's; none where a round failed.
+fn sum_with(sum: Option<u64>, round: Option<u64>) -> Option<u64> {
+    Some(sum?.wrapping_add(round?))
+}
+
 /// The bytes of memory that the program holds.
 fn held_bytes(rt: &HostRuntime) -> Result<usize> {
     let text = fs::read_to_string(rt, "/proc/self/statm")?;
@@ -105,10 +110,11 @@ fn held_bytes(rt: &HostRuntime) -> Result<usize> {
 fn time_sorted(rt: &HostRuntime, plan: &Plan<'_>, count: u32) -> Result<u64> {
     let mut sorted = Sorted::new(rt.alloc());
     fill_sorted(&mut sorted, plan, count)?;
-    let mut sum: u64 = 0;
+    let mut sum = Some(0);
     let cost = least_cost(rt, ROUNDS, FIRES, || {
-        sum = sum.wrapping_add(take_sorted(&mut sorted, plan.zones).unwrap_or(0));
+        sum = sum_with(sum, take_sorted(&mut sorted, plan.zones));
     })?;
+    let sum = sum.context("agenda: the set has no more fires")?;
     println!(rt; "agenda | {count} | a fire, BTreeSet | {cost}")?;
     Ok(sum)
 }
@@ -120,10 +126,11 @@ fn time_fires(
     plan: &Plan<'_>,
     count: u32,
 ) -> Result<u64> {
-    let mut sum: u64 = 0;
+    let mut sum = Some(0);
     let cost = least_cost(rt, ROUNDS, FIRES, || {
-        sum = sum.wrapping_add(take(agenda, plan.zones).unwrap_or(0));
+        sum = sum_with(sum, take(agenda, plan.zones));
     })?;
+    let sum = sum.context("agenda: it has no more fires")?;
     println!(rt; "agenda | {count} | a fire | {cost}")?;
     Ok(sum)
 }

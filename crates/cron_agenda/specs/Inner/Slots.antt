@@ -1,4 +1,4 @@
--- Slots of entries, in the order of their ids. One whose entry is gone stays, and has no fire.
+-- Slots of entries. One whose entry is gone stays for a while, and has no fire.
 use Rattle.std.specs.Prelude.{◌≡◌, ℕ, ◌+◌, ◌-◌, ◌^◌, ◌⊎◌, ◌≤◌, ℤ, Result, Ok, Err, Option, Some, None, MatchOption, List, [], ◌∷◌, ◌++◌, length, map, slice_get}
 use Rattle.std.specs.Option.{option_map}
 use Rattle.cron_agenda.specs.declared.entry.Entry.{Entry}
@@ -30,9 +30,21 @@ abbrev pub IdsAscend : {T : Type 0} → ℕ → List (Slot T) → ℕ → Type 0
 IdsAscend low [] high = low ≤ high
 IdsAscend low (s ∷ ss) high = (low ≤ s.id) × IdsAscend (s.id + 1) ss high
 
-pub record IsKept {T : Type 0} (slots : List (Slot T)) (firsts : List (Option ℤ)) (live added : ℕ) : Type 0 where
+-- The slots stand in three parts: those that are packed at the front, some that are left over, and those that a sweep has still to
+-- scan. The ids ascend over the first and the last. Those between have no fire, and their ids mean nothing.
+pub record AreInParts {T : Type 0} (slots : List (Slot T)) (packed scanned added : ℕ) : Type 0 where
+  pub front : List (Slot T)
+  pub between : List (Slot T)
+  pub rest : List (Slot T)
+  pub are : slots ≡ front ++ (between ++ rest)
+  pub packed_are : length front ≡ packed
+  pub scanned_are : length front + length between ≡ scanned
+  pub ids : IdsAscend 0 (front ++ rest) added
+  pub none : entries_of between ≡ []
+
+pub record IsKept {T : Type 0} (slots : List (Slot T)) (firsts : List (Option ℤ)) (live added packed scanned : ℕ) : Type 0 where
   pub keys : firsts ≡ map instant_of slots
-  pub ids : IdsAscend 0 slots added
+  pub parts : AreInParts slots packed scanned added
   pub count : live ≡ length (entries_of slots)
 
 -- as many more entries as there is room for need no memory, of slots and of places
@@ -51,6 +63,11 @@ pub record HasEntry {T : Type 0} (slots : List (Slot T)) (id place : ℕ) : Type
 abbrev pub IsPlaceOf : {T : Type 0} → List (Slot T) → ℕ → Option ℕ → Type 0
 IsPlaceOf slots id answer =
     MatchOption answer ((high : ℕ) → IdsAscend 0 slots high → (p : ℕ) → HasEntry slots id p → ⊥) (HasEntry slots id)
+
+-- so where the slots are in parts
+abbrev pub IsPlaceInParts : {T : Type 0} → List (Slot T) → ℕ → ℕ → ℕ → Option ℕ → Type 0
+IsPlaceInParts slots packed scanned id answer =
+    MatchOption answer ((added : ℕ) → AreInParts slots packed scanned added → (p : ℕ) → HasEntry slots id p → ⊥) (HasEntry slots id)
 
 -- the slot's entry, none exactly where it has no fire
 abbrev pub IsOwn : {T : Type 0} → Slot T → Option (Entry T) → Type 0

@@ -3,19 +3,30 @@ use Rattle.std.proofs.lemmas.Option.{get_or_from_slice_get, slice_get_within}
 use Rattle.std.proofs.lemmas.List.{length-map}
 use Rattle.cron_agenda.specs.declared.slots.Slot.{Slot}
 use Rattle.cron_agenda.specs.Entries.{listed}
-use Rattle.cron_agenda.specs.Inner.Slots.{HasEntry, IdsAscend, instant_of}
+use Rattle.cron_agenda.specs.Inner.Slots.{AreInParts, HasEntry, instant_of}
 use Rattle.cron_agenda.proofs.SlotLemmas.{with_head}
 use Rattle.cron_agenda.proofs.IdLemmas.{is_without, kept-less, live_there, was_there, without-none}
+use Rattle.cron_agenda.proofs.PartLemmas.{in_order}
 use Rattle.cron_agenda.proofs.agenda.Agenda.empty_slot.Goals as goal
+
+pub place_in_parts-requires-clause-packed : goal.place_in_parts-requires-clause-packed
+place_in_parts-requires-clause-packed g c = (in_order c.self.invariant.0.parts).0
+
+pub place_in_parts-requires-clause-scanned : goal.place_in_parts-requires-clause-scanned
+place_in_parts-requires-clause-scanned g c =
+    let order = in_order c.self.invariant.0.parts in
+    let high = order.1 in
+    let size = ap length c.deref.ensures.value in
+    omega arith
 
 pub returns-in_default-clause-found : goal.returns-in_default-clause-found
 returns-in_default-clause-found g c =
-    let none = subst (λ l. (p : ℕ) → HasEntry l c.args.id p → ⊥) c.deref.ensures.value (c.in_default.ensures c.self.inside.added (subst (λ l. IdsAscend 0 l c.self.inside.added) (sym c.deref.ensures.value) c.self.invariant.0.ids)) in
+    let none = subst (λ l. (p : ℕ) → HasEntry l c.args.id p → ⊥) c.deref.ensures.value (c.in_default.ensures c.self.inside.added (subst (λ l. AreInParts l c.self.inside.packed c.self.inside.scanned c.self.inside.added) (sym c.deref.ensures.value) c.self.invariant.0.parts)) in
     rw (← c.self.view_is) (sym (without-none c.self.inside.slots.items c.args.id none).1)
 
 pub returns-in_default-clause-rest : goal.returns-in_default-clause-rest
 returns-in_default-clause-rest g c =
-    let none = subst (λ l. (p : ℕ) → HasEntry l c.args.id p → ⊥) c.deref.ensures.value (c.in_default.ensures c.self.inside.added (subst (λ l. IdsAscend 0 l c.self.inside.added) (sym c.deref.ensures.value) c.self.invariant.0.ids)) in
+    let none = subst (λ l. (p : ℕ) → HasEntry l c.args.id p → ⊥) c.deref.ensures.value (c.in_default.ensures c.self.inside.added (subst (λ l. AreInParts l c.self.inside.packed c.self.inside.scanned c.self.inside.added) (sym c.deref.ensures.value) c.self.invariant.0.parts)) in
     rw (← c.self.view_is) (ap (λ es. listed es c.self.inside.added c.self.inside.room) (sym (without-none c.self.inside.slots.items c.args.id none).0))
 
 pub index_mut-slot-requires : goal.index_mut-slot-requires

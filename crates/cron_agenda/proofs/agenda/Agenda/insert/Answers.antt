@@ -6,7 +6,8 @@ use Rattle.cron_agenda.specs.Entries.{listed}
 use Rattle.cron_agenda.specs.Fires.{instant}
 use Rattle.cron_agenda.specs.Inner.Slots.{entries_of}
 use Rattle.cron_agenda.proofs.ListLemmas.{on_ok}
-use Rattle.cron_agenda.proofs.SlotLemmas.{entries-fewer, entries-more, kept-more}
+use Rattle.cron_agenda.proofs.SlotLemmas.{entries-fewer, entries-more}
+use Rattle.cron_agenda.proofs.PartLemmas.{kept-more}
 use Rattle.cron_agenda.proofs.agenda.Agenda.insert.Goals as goal
 
 pub overflow_add-self-2 : goal.overflow_add-self-2
@@ -26,7 +27,7 @@ invariant_of-self-2 g c =
     let firsts : c.push.new.self.instants ≡ c.self.inside.firsts.instants ++ Some (instant c.args.fire) ∷ [] =
     on_ok c.push.result (sym c.is_err-2.ensures.value ∙ c.if-is_err-2.false) c.push.ensures.ok ∙ ap (λ o. c.self.inside.firsts.instants ++ o ∷ []) c.instant.ensures.value in
     let reserved = on_ok c.try_reserve.result (sym c.is_err.ensures.value ∙ c.if-is_err.false) c.try_reserve.ensures.ok in (
-      rw (items, firsts) (kept-more c.self.inside.slots.items c.self.inside.firsts.instants c.self.inside.live c.self.inside.added c.args.table c.args.zone c.args.fire c.self.invariant.0),
+      rw (items, firsts) (kept-more c.self.inside.slots.items c.self.inside.firsts.instants c.self.inside.live c.self.inside.added c.self.inside.packed c.self.inside.scanned c.args.table c.args.zone c.args.fire c.self.invariant.0),
       (
         omega (arith, c.self.invariant.1.0, c.try_reserve.ensures.len, c.try_reserve.ensures.capacity, c.push-2.ensures.upper_bound, c.push-2.ensures.capacity),
         omega (arith, c.self.invariant.1.1, c.push.ensures.room),
@@ -40,4 +41,4 @@ returns g c =
     let items : c.push-2.new.self.items ≡ c.self.inside.slots.items ++ slot ∷ [] =
     c.push-2.ensures.items ∙ ap (λ b. cond b (c.try_reserve.new.self.items ++ slot ∷ []) c.try_reserve.new.self.items) went
     ∙ ap (λ l. l ++ slot ∷ []) c.try_reserve.ensures.items in
-    rw (← c.self.view_is, c.saturating_sub-self-inside.ensures) (refl, ap (λ es. listed es (c.self.inside.added + 1) (c.self.inside.room - 1)) (ap entries_of items ∙ entries-more c.self.inside.slots.items c.self.inside.added c.args.table c.args.zone c.args.fire))
+    rw (← c.self.view_is, c.skip_added.ensures, c.saturating_sub-self-inside.ensures) (refl, ap (λ es. listed es (c.self.inside.added + 1) (c.self.inside.room - 1)) (ap entries_of items ∙ entries-more c.self.inside.slots.items c.self.inside.added c.args.table c.args.zone c.args.fire))
