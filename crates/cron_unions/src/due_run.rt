@@ -5,7 +5,7 @@ ghost use Rattle.jiff.specs.Words.{plain_zone};
 ghost use Rattle.cron_dues.specs.Inner.Left.{left_from};
 ghost use Rattle.cron_unions.specs.UnionDues.{dues_any, dues_any_after, dues_any_between, dues_any_past, dues_any_past_by};
 
-use crate::due_heads::{HEADS, Head, heads_of, nearest_head, pass_heads};
+use crate::due_heads::{HEADS, Head, NO_MATCH, heads_of, nearest_head, pass_heads};
 use crate::searched::Searched;
 use arrayvec::ArrayVec;
 use cron_dues::ahead::{Known, due_ahead};
@@ -24,6 +24,7 @@ pub struct DueRun<'a> {
     schedules: Searched<'a>,
     zone: &'a TimeZone<'a>,
     from: i64,
+    next: u32,
     heads: ArrayVec<Head, HEADS>,
     known: Known,
     until: Option<i64>,
@@ -35,7 +36,10 @@ impl<'a> Model for DueRun<'a> {
     ghost use Rattle.cron_dues.specs.Due.{Due, zone_clock};
     ghost use Rattle.cron_dues.specs.Inner.Known.{AreDueFrom};
     ghost use Rattle.cron_dues.specs.Inner.Left.{left_from};
-    ghost use Rattle.cron_unions.specs.Inner.DueHeads.{AreHeads};
+    ghost use Rattle.cron_units.specs.Nearest.{IsNearest};
+    ghost use Rattle.cron_units.specs.declared.way.Way.TheVariants.{Ahead};
+    ghost use Rattle.cron_unions.specs.Inner.DueHeads.{AreHeads, match_of};
+    ghost use Rattle.cron_unions.specs.Inner.Nearest.{is_match_any};
     ghost use Rattle.cron_unions.specs.Inner.Searched.{list_of};
     ghost use Rattle.cron_unions.specs.UnionDues.{dues_any};
 
@@ -45,6 +49,7 @@ impl<'a> Model for DueRun<'a> {
         (dues_any (list_of r.schedules) (plain_zone r.zone.now)) r.from r.until };
 
     ghost invariant = { λ r. AreHeads (list_of r.schedules) r.from r.heads.items
+        × IsNearest Ahead (is_match_any (list_of r.schedules)) r.from (match_of r.next)
         × AreDueFrom (zone_clock r.zone.now) r.from r.known };
 }
 
@@ -60,10 +65,12 @@ impl<'a> DueRun<'a> {
     {
         let schedules = Searched::of(schedules);
         let heads = heads_of(schedules.as_slice(), from);
+        let next = nearest_head(heads.as_slice(), schedules.as_slice(), from);
         DueRun {
             schedules,
             zone,
             from,
+            next,
             heads,
             known: Known::nothing(),
             until,
@@ -125,16 +132,18 @@ impl<'a> DueRun<'a> {
     fn take_first(&mut self) -> Option<DueFire>
         ensures { YieldsFirst (λ rest. rest) self.old result self.new }
     {
-        let schedules = self.schedules.as_slice();
-        let Some(second) = nearest_head(self.heads.as_slice(), schedules, self.from) else {
-            return None;
-        };
-        let fire = due_ahead(self.zone, second, &mut self.known);
-        pass_heads(self.heads.as_mut_slice(), self.schedules.as_slice(), second);
-        self.from = i64::from(second) + 1;
-        if !is_within(self.until, due_second(&fire)) {
+        let second = self.next;
+        if second == NO_MATCH {
             return None;
         }
+        let fire = due_ahead(self.zone, second, &mut self.known);
+        if !is_within(self.until, due_second(&fire)) {
+            self.from = i64::from(second);
+            return None;
+        }
+        let schedules = self.schedules.as_slice();
+        self.next = pass_heads(self.heads.as_mut_slice(), schedules, second);
+        self.from = i64::from(second) + 1;
         Some(fire)
     }
 }
