@@ -82,7 +82,8 @@ impl Head {
 
 /// The heads of the first schedules, as many as there is room for.
 pub(crate) fn heads_of(schedules: &[ScheduleFields], from: i64) -> ArrayVec<Head, HEADS>
-    ensures { AreHeads schedules.now from result.items }
+    ensures heads { AreHeads schedules.now from result.items }
+    ensures both { length schedules.now ≡ 2 → length result.items ≡ 2 }
 {
     let mut heads = ArrayVec::new();
     for fields in schedules {
@@ -169,6 +170,7 @@ fn pass_one(heads: &mut [Head], schedules: &[ScheduleFields], second: u32) -> u3
 pub(crate) fn pass_heads(heads: &mut [Head], schedules: &[ScheduleFields], second: u32) -> u32
     requires range { second < seconds_in_range }
     requires heads { AreHeads schedules.now (pos second) heads.old }
+    requires both { length schedules.now ≡ 2 → length heads.old ≡ 2 }
     ensures heads { AreHeads schedules.now (pos second +ℤ pos 1) heads.new }
     ensures size { length heads.new ≡ length heads.old }
     ensures nearest { IsNearest Ahead
@@ -179,7 +181,7 @@ pub(crate) fn pass_heads(heads: &mut [Head], schedules: &[ScheduleFields], secon
     if schedules.len() == 1 && heads.len() == 1 {
         return pass_one(heads, schedules, second);
     }
-    if schedules.len() != 2 || heads.len() != 2 {
+    if schedules.len() != 2 {
         return pass_each(heads, schedules, second);
     }
     let at = if heads[0].next == second { 0 } else { 1 };

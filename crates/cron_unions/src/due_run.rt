@@ -31,7 +31,7 @@ pub struct DueRun<'a> {
 }
 
 impl<'a> Model for DueRun<'a> {
-    ghost use Rattle.std.specs.Prelude.{List};
+    ghost use Rattle.std.specs.Prelude.{◌≡◌, List, length};
     ghost use Rattle.jiff.specs.Words.{plain_zone};
     ghost use Rattle.cron_dues.specs.Due.{Due, zone_clock};
     ghost use Rattle.cron_dues.specs.Inner.Known.{AreDueFrom};
@@ -49,6 +49,7 @@ impl<'a> Model for DueRun<'a> {
         (dues_any (list_of r.schedules) (plain_zone r.zone.now)) r.from r.until };
 
     ghost invariant = { λ r. AreHeads (list_of r.schedules) r.from r.heads.items
+        × (length (list_of r.schedules) ≡ 2 → length r.heads.items ≡ 2)
         × IsNearest Ahead (is_match_any (list_of r.schedules)) r.from (match_of r.next)
         × AreDueFrom (zone_clock r.zone.now) r.from r.known };
 }

@@ -13,6 +13,7 @@ pub pass-requires-clause-passing : goal.pass-requires-clause-passing
 pass-requires-clause-passing c =
     let ss = c.args.schedules.now in
     let at = c.if-heads-second.at in
+    let count : length c.args.heads.now ≡ 2 = c.requires.both c.if-schedules-ne2.false in
     let less : at < length c.args.heads.now = elim c.if-heads-second.branch [
       | then-heads-second w ↦ let is = w.at-is in omega arith
       | else-heads-second w ↦ let is = w.at-is in omega arith
@@ -25,6 +26,7 @@ pub pass_each-requires-then-least-second-clause-passing : goal.pass_each-require
 pass_each-requires-then-least-second-clause-passing c =
     let ss = c.args.schedules.now in
     let at = c.if-heads-second.at in
+    let count : length c.args.heads.now ≡ 2 = c.requires.both c.if-schedules-ne2.false in
     let less : at < length c.args.heads.now = elim c.if-heads-second.branch [
       | then-heads-second w ↦ let is = w.at-is in omega arith
       | else-heads-second w ↦ let is = w.at-is in omega arith
@@ -37,6 +39,7 @@ pub returns-clause-heads : goal.returns-clause-heads
 returns-clause-heads c =
     let ss = c.args.schedules.now in
     let at = c.if-heads-second.at in
+    let count : length c.args.heads.now ≡ 2 = c.requires.both c.if-schedules-ne2.false in
     let less : at < length c.args.heads.now = elim c.if-heads-second.branch [
       | then-heads-second w ↦ let is = w.at-is in omega arith
       | else-heads-second w ↦ let is = w.at-is in omega arith
@@ -56,6 +59,7 @@ pub returns-clause-nearest : goal.returns-clause-nearest
 returns-clause-nearest c =
     let ss = c.args.schedules.now in
     let at = c.if-heads-second.at in
+    let count : length c.args.heads.now ≡ 2 = c.requires.both c.if-schedules-ne2.false in
     let less : at < length c.args.heads.now = elim c.if-heads-second.branch [
       | then-heads-second w ↦ let is = w.at-is in omega arith
       | else-heads-second w ↦ let is = w.at-is in omega arith

@@ -7,11 +7,12 @@ use Rattle.cron_unions.proofs.CoverLemmas.{dues_same}
 use Rattle.cron_unions.proofs.due_run.DueRun.from.Goals as goal
 
 pub nearest_head-next-requires : goal.nearest_head-next-requires
-nearest_head-next-requires c = rw (c.as_slice-3.ensures, c.as_slice-2.ensures.value) (rw c.as_slice.ensures at c.heads_of-heads.ensures)
+nearest_head-next-requires c = rw (c.as_slice-3.ensures, c.as_slice-2.ensures.value) (rw c.as_slice.ensures at c.heads_of-heads.ensures.heads)
 
 pub invariant_of-result : goal.invariant_of-result
 invariant_of-result c = (
-  rw c.as_slice.ensures at c.heads_of-heads.ensures,
+  rw c.as_slice.ensures at c.heads_of-heads.ensures.heads,
+  rw c.as_slice.ensures at c.heads_of-heads.ensures.both,
   rw c.as_slice-3.ensures at c.nearest_head-next.ensures,
   due_before_none (zone_clock c.args.zone.now) _ c.nothing.result c.nothing.ensures,
 )

@@ -20,7 +20,7 @@ returns-then-second c =
     let ss = list_of c.self.inside.schedules in
     let from = c.self.inside.from in
     let absent : match_of c.self.inside.next ≡ None = ap match_of c.if-second.true in
-    let none = subst (λ (o : Option ℕ). IsNearest Ahead (is_match_any ss) from o) absent c.self.invariant.1 in
+    let none = subst (λ (o : Option ℕ). IsNearest Ahead (is_match_any ss) from o) absent c.self.invariant.2 in
     let left = left-none (seconds_of_any ss) (is_match_any ss) (zone_clock c.self.inside.zone.now) (any-matches ss) from c.self.inside.until none in
     (sym c.self.view_is ∙ left, sym c.self.view_is ∙ left)
 
@@ -30,7 +30,7 @@ pass_heads-self-inside-requires-clause-heads c =
     let second = c.self.inside.next in
     let from = c.self.inside.from in
     let there : match_of second ≡ Some second = match-some second (omega arith) in
-    let near = subst (λ (o : Option ℕ). IsNearest Ahead (is_match_any ss) from o) there c.self.invariant.1 in
+    let near = subst (λ (o : Option ℕ). IsNearest Ahead (is_match_any ss) from o) there c.self.invariant.2 in
     rw (c.as_slice-schedules.ensures, c.as_mut_slice.ensures.value) (heads-up ss from c.self.inside.heads.items second near c.self.invariant.0)
 
 pub invariant_of-self : goal.invariant_of-self
@@ -39,11 +39,12 @@ invariant_of-self c =
     let second = c.self.inside.next in
     let from = c.self.inside.from in
     let there : match_of second ≡ Some second = match-some second (omega arith) in
-    let near = subst (λ (o : Option ℕ). IsNearest Ahead (is_match_any ss) from o) there c.self.invariant.1 in
+    let near = subst (λ (o : Option ℕ). IsNearest Ahead (is_match_any ss) from o) there c.self.invariant.2 in
     let here = nearest-up (is_match_any ss) from (pos second) (Some second) near.lies (omega (arith, signed_arith)) near in
     let fits : FitsSigned w64 c.from-self-inside.result = search rules in
     rw (to_z-of_z fits, c.from-self-inside.ensures) (
       heads-up ss from c.self.inside.heads.items second near c.self.invariant.0,
+      c.self.invariant.1,
       subst (λ (o : Option ℕ). IsNearest Ahead (is_match_any ss) (pos second) o) (sym there) here,
       c.due_ahead-fire.ensures.known,
     )
@@ -55,6 +56,7 @@ invariant_of-self-2 c =
     let long = rw c.as_mut_slice.ensures.value at c.pass_heads-self-inside.ensures.size in
     rw (to_z-of_z fits-second, to_z-of_z fits-next, c.from.ensures, refill_whole c.self.inside.heads.items c.pass_heads-self-inside.new.heads long) (
       rw c.as_slice-schedules.ensures at c.pass_heads-self-inside.ensures.heads,
+      λ two. long ∙ c.self.invariant.1 two,
       rw c.as_slice-schedules.ensures at c.pass_heads-self-inside.ensures.nearest,
       λ k on less. c.due_ahead-fire.ensures.known k (omega (arith, signed_arith)) less,
     )
@@ -65,7 +67,7 @@ returns-then-not-is_within c =
     let second = c.self.inside.next in
     let from = c.self.inside.from in
     let there : match_of second ≡ Some second = match-some second (omega arith) in
-    let near = subst (λ (o : Option ℕ). IsNearest Ahead (is_match_any ss) from o) there c.self.invariant.1 in
+    let near = subst (λ (o : Option ℕ). IsNearest Ahead (is_match_any ss) from o) there c.self.invariant.2 in
     let here = nearest-up (is_match_any ss) from (pos second) (Some second) near.lies (omega (arith, signed_arith)) near in
     let clock = zone_clock c.self.inside.zone.now in
     let are = any-matches ss in
@@ -89,7 +91,7 @@ returns c =
     let second = c.self.inside.next in
     let from = c.self.inside.from in
     let there : match_of second ≡ Some second = match-some second (omega arith) in
-    let near = subst (λ (o : Option ℕ). IsNearest Ahead (is_match_any ss) from o) there c.self.invariant.1 in
+    let near = subst (λ (o : Option ℕ). IsNearest Ahead (is_match_any ss) from o) there c.self.invariant.2 in
     let clock = zone_clock c.self.inside.zone.now in
     let are = any-matches ss in
     let until = c.self.inside.until in
