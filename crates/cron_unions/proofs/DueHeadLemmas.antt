@@ -1,7 +1,9 @@
 -- The nearest match of each of several schedules, from one number on and from a later one.
-use Rattle.std.proofs.Common.{◌≡◌, ℕ, ◌+◌, ◌-◌, ◌<◌, ◌≤◌, Bool, true, false, ◌||◌, ◌&&◌, nat_lt, ℤ, pos, ◌+ℤ◌, ◌≤ℤ◌, List, [], ◌∷◌, ◌++◌, Option, Some, None, refl, sym, ap, ◌∙◌, subst, length, length-append, take, drop, get_or, slice_set, arith}
+use Rattle.std.proofs.Common.{◌≡◌, ℕ, ◌+◌, ◌-◌, ◌<◌, ◌≤◌, min, zero, suc, cond, inl, inr, Bool, true, false, ◌||◌, ◌&&◌, nat_lt, ℤ, pos, ◌+ℤ◌, ◌≤ℤ◌, List, [], ◌∷◌, ◌++◌, Option, Some, None, refl, sym, ap, ◌∙◌, subst, length, length-append, take, drop, get_or, slice_set, arith}
 use Rattle.std.specs.Prelude.{slice_get, Any, IfSome}
 use Rattle.std.proofs.lemmas.List.{take-append-drop, take_all, length-drop, length-set, get_or-set_other, get_or-set_same}
+use Rattle.std.proofs.lemmas.Bool.{cases_eq, cases_lt}
+use Rattle.std.proofs.lemmas.Bool.Decides.{nat_tests}
 use Rattle.std.proofs.lemmas.List.Folds.{list_any-append}
 use Rattle.std.proofs.lemmas.Option.{get_or_from_slice_get, slice_get-get_or, slice_get_read, slice_get_within}
 use Rattle.std.proofs.lemmas.Int.{by_lt_z}
@@ -13,11 +15,46 @@ use Rattle.cron_moments.specs.Civil.{civil, seconds_in_range}
 use Rattle.cron_time.specs.Matches.{is_match, matches}
 use Rattle.cron_time.proofs.PlaceLemmas.{slice_get-append, slice_get-left}
 use Rattle.cron_unions.specs.Unions.{matches_any}
-use Rattle.cron_unions.specs.Inner.DueHeads.{AreHeads, IsHead}
+use Rattle.cron_unions.specs.Inner.DueHeads.{AreHeads, ArePassing, IsHead, IsPassing, match_of}
 use Rattle.cron_unions.specs.Inner.Nearest.{is_match_any, nearer_second}
 use Rattle.cron_unions.specs.declared.due_heads.Head.{Head}
-use Rattle.cron_unions.proofs.NearestLemmas.{nearest-of_both, nearest-step}
+use Rattle.cron_unions.proofs.NearestLemmas.{nearest-end, nearest-none, nearest-of_both, nearest-step}
 use Rattle.cron_unions.proofs.UnionLemmas.{match-of_any}
+
+-- ---- matches as numbers
+
+pub match-some : (n : ℕ) → n < 4_294_967_295 → match_of n ≡ Some n
+match-some n less = grind (arith, nat_tests)
+
+match-none : (n : ℕ) → 4_294_967_295 ≤ n → match_of n ≡ None
+match-none n le = grind (arith, nat_tests)
+
+match-own : (n k : ℕ) → match_of n ≡ Some k → n ≡ k
+match-own n k e =
+    elim (cases_lt n 4_294_967_295) [
+      | inl less ↦ let is = match-some n less in cc
+      | inr le ↦ let is = match-none n le in cc
+    ]
+
+nearer-both : (a b c : ℕ) → c ≡ min a b → Some c ≡ nearer_second Ahead (Some a) (Some b)
+nearer-both a b c e = by_test (nat_lt b a) refl
+  where
+    by_test : (v : Bool) → nat_lt b a ≡ v → Some c ≡ cond v (Some b) (Some a)
+    by_test true is = ap Some (grind (arith, nat_tests))
+    by_test false is = ap Some (grind (arith, nat_tests))
+
+pub match-min : (a b c : ℕ) → c ≡ min a b → match_of c ≡ nearer_second Ahead (match_of a) (match_of b)
+match-min a b c e =
+    elim (cases_lt a 4_294_967_295) [
+      | inl a_less ↦ elim (cases_lt b 4_294_967_295) [
+        | inl b_less ↦ rw (match-some a a_less, match-some b b_less, match-some c (omega arith)) (nearer-both a b c e)
+        | inr b_none ↦ rw (match-some a a_less, match-none b b_none, match-some c (omega arith)) (ap Some (omega arith))
+      ]
+      | inr a_none ↦ elim (cases_lt b 4_294_967_295) [
+        | inl b_less ↦ rw (match-none a a_none, match-some b b_less, match-some c (omega arith)) (ap Some (omega arith))
+        | inr b_none ↦ rw (match-none a a_none, match-none b b_none, match-none c (omega arith)) refl
+      ]
+    ]
 
 -- ---- the heads are made
 
@@ -61,7 +98,7 @@ heads-more ss from hs s h heads less is head = record {
 -- ---- the least of them
 
 pub least-more : (ss : List Sets) (from : ℤ) (hs : List Head) (i : ℕ) (h : Head) (a c : Option ℕ) → AreHeads ss from hs → i < length hs
-    → h ≡ get_or hs i h → c ≡ nearer_second Ahead a h.next → IsNearest Ahead (is_match_any (take i ss)) from a
+    → h ≡ get_or hs i h → c ≡ nearer_second Ahead a (match_of h.next) → IsNearest Ahead (is_match_any (take i ss)) from a
     → IsNearest Ahead (is_match_any (take (i + 1) ss)) from c
 least-more ss from hs i h a c heads less is e first =
     let few = heads.few in
@@ -77,7 +114,7 @@ least-more ss from hs i h a c heads less is e first =
         let few = heads.few in
         let at_h : slice_get hs i ≡ Some h = slice_get_read hs (length hs) i h refl less is in
         let head = heads.each i both.0 h both.1 at_h in
-        nearest-step Ahead from ss i both.0 a h.next c (omega arith) (sym (get_or_from_slice_get ss i both.0 both.0 both.1)) e first head.nearest
+        nearest-step Ahead from ss i both.0 a (match_of h.next) c (omega arith) (sym (get_or_from_slice_get ss i both.0 both.0 both.1)) e first head.nearest
 
 and_or_both : (r a b : Bool) → (r && (a || b)) ≡ ((r && a) || (r && b))
 and_or_both true a b = refl
@@ -102,7 +139,7 @@ nearest-parted ss from n a b c first second e =
 -- ---- they go on
 
 -- up to a civil second that isn't past it, the nearest stays
-nearest-up : (m : ℕ → Bool) (from to : ℤ) (next : Option ℕ) → from ≤ℤ to → IfSome next (λ n. to ≤ℤ pos n) → IsNearest Ahead m from next
+pub nearest-up : (m : ℕ → Bool) (from to : ℤ) (next : Option ℕ) → from ≤ℤ to → IfSome next (λ n. to ≤ℤ pos n) → IsNearest Ahead m from next
     → IsNearest Ahead m to next
 nearest-up m from to None le short none = λ k lies. none k (omega (arith, signed_arith))
 nearest-up m from to (Some n) le short near = record {
@@ -117,9 +154,10 @@ other_next second n other le =
     (λ less. omega (arith, signed_arith))
     (λ ge. let same : n ≡ second = omega (arith, signed_arith) in absurd (other (ap Some same)))
 
-pub head-kept : (s : Sets) (second : ℕ) (h : Head) → (h.next ≡ Some second → ⊥) → IsHead s (pos second) h → IsHead s (pos second +ℤ pos 1) h
+pub head-kept : (s : Sets) (second : ℕ) (h : Head) → (h.next ≡ second → ⊥) → IsHead s (pos second) h → IsHead s (pos second +ℤ pos 1) h
 head-kept s second h other head = record {
-  nearest = nearest-up (is_match s) (pos second) (pos second +ℤ pos 1) h.next (omega (arith, signed_arith)) (short h.next other head.nearest) head.nearest;
+  nearest = nearest-up (is_match s) (pos second) (pos second +ℤ pos 1) (match_of h.next) (omega (arith, signed_arith))
+      (short (match_of h.next) (λ e. other (match-own h.next second e)) head.nearest) head.nearest;
   days = head.days;
 }
   where
@@ -148,29 +186,77 @@ heads-up ss from hs second near heads = record {
   each = λ i s h at_s at_h.
       let head = heads.each i s h at_s at_h in
       record {
-        nearest = nearest-up (is_match s) from (pos second) h.next near.lies (head_short ss from second i s h.next near at_s head.nearest) head.nearest;
+        nearest = nearest-up (is_match s) from (pos second) (match_of h.next) near.lies (head_short ss from second i s (match_of h.next) near at_s head.nearest) head.nearest;
         days = head.days;
       };
 }
 
--- the first so many have gone on past a civil second, and the others are at it
-pub record ArePassing (ss : List Sets) (second n : ℕ) (hs : List Head) : Type 0 where
+-- ---- some lie at a civil second, and some are past it
+
+pub passing-of : (ss : List Sets) (second : ℕ) (hs : List Head) → AreHeads ss (pos second) hs → ArePassing ss second hs
+passing-of ss second hs heads = record {
+  few = heads.few;
+  each = λ i s h at_s at_h.
+      let head = heads.each i s h at_s at_h in
+      record { there = λ e. head; past = λ other. head-kept s second h other head };
+}
+
+pub passing-done : (ss : List Sets) (second : ℕ) (hs : List Head) → ArePassing ss second hs
+    → ((i : ℕ) (h : Head) → slice_get hs i ≡ Some h → h.next ≡ second → ⊥) → AreHeads ss (pos second +ℤ pos 1) hs
+passing-done ss second hs passing clear = record {
+  few = passing.few;
+  each = λ i s h at_s at_h. (passing.each i s h at_s at_h).past (clear i h at_h);
+}
+
+-- a head past a civil second doesn't lie there
+head-past : (s : Sets) (second : ℕ) (h : Head) → second < seconds_in_range → IsHead s (pos second +ℤ pos 1) h → h.next ≡ second → ⊥
+head-past s second h range head e =
+    let is : match_of h.next ≡ Some second = ap match_of e ∙ match-some second (omega arith) in
+    let near = subst (λ (o : Option ℕ). IsNearest Ahead (is_match s) (pos second +ℤ pos 1) o) is head.nearest in
+    let lies = near.lies in omega (arith, signed_arith)
+
+-- nor before it
+head-up : (s : Sets) (second : ℕ) (h : Head) → second < seconds_in_range → (from : ℤ) → pos second ≤ℤ from → IsHead s from h → second ≤ h.next
+head-up s second h range from le head =
+    elim (cases_lt h.next 4_294_967_295) [
+      | inl less ↦
+          let near = subst (λ (o : Option ℕ). IsNearest Ahead (is_match s) from o) (match-some h.next less) head.nearest in
+          let lies = near.lies in omega (arith, signed_arith)
+      | inr none ↦ omega arith
+    ]
+
+passing-up : (s : Sets) (second : ℕ) (h : Head) → second < seconds_in_range → IsPassing s second h → second ≤ h.next
+passing-up s second h range passing =
+    elim (cases_eq h.next second) [
+      | inl e ↦ omega arith
+      | inr other ↦ head-up s second h range (pos second +ℤ pos 1) (omega (arith, signed_arith)) (passing.past other)
+    ]
+
+-- the first so many have gone on past a civil second
+pub record ArePassed (ss : List Sets) (second n : ℕ) (hs : List Head) : Type 0 where
   pub few : length hs ≤ length ss
   pub past : (i : ℕ) (s : Sets) (h : Head) → i < n → slice_get ss i ≡ Some s → slice_get hs i ≡ Some h → IsHead s (pos second +ℤ pos 1) h
-  pub left : (i : ℕ) (s : Sets) (h : Head) → n ≤ i → slice_get ss i ≡ Some s → slice_get hs i ≡ Some h → IsHead s (pos second) h
+  pub left : (i : ℕ) (s : Sets) (h : Head) → n ≤ i → slice_get ss i ≡ Some s → slice_get hs i ≡ Some h → IsPassing s second h
 
-pub passing-none : (ss : List Sets) (second : ℕ) (hs : List Head) → AreHeads ss (pos second) hs → ArePassing ss second 0 hs
-passing-none ss second hs heads = record {
-  few = heads.few;
-  past = λ i s h less at_s at_h. absurd (omega arith);
-  left = λ i s h le at_s at_h. heads.each i s h at_s at_h;
-}
-
-pub passing-all : (ss : List Sets) (second n : ℕ) (hs : List Head) → length hs ≤ n → ArePassing ss second n hs → AreHeads ss (pos second +ℤ pos 1) hs
-passing-all ss second n hs whole passing = record {
+pub passed-none : (ss : List Sets) (second : ℕ) (hs : List Head) → ArePassing ss second hs → ArePassed ss second 0 hs
+passed-none ss second hs passing = record {
   few = passing.few;
-  each = λ i s h at_s at_h. passing.past i s h (let within = slice_get_within hs i h at_h in omega arith) at_s at_h;
+  past = λ i s h less at_s at_h. absurd (omega arith);
+  left = λ i s h le at_s at_h. passing.each i s h at_s at_h;
 }
+
+pub passed-all : (ss : List Sets) (second n : ℕ) (hs : List Head) → length hs ≤ n → ArePassed ss second n hs → AreHeads ss (pos second +ℤ pos 1) hs
+passed-all ss second n hs whole passed = record {
+  few = passed.few;
+  each = λ i s h at_s at_h. passed.past i s h (let within = slice_get_within hs i h at_h in omega arith) at_s at_h;
+}
+
+-- the one that a loop has come to
+pub passed-next : (ss : List Sets) (second n : ℕ) (hs : List Head) (s : Sets) (h : Head) → ArePassed ss second n hs → n < length hs
+    → s ≡ get_or ss n s → h ≡ get_or hs n h → IsPassing s second h
+passed-next ss second n hs s h passed room is own =
+    let few = passed.few in
+    passed.left n s h (omega arith) (slice_get_read ss (length ss) n s refl (omega arith) is) (slice_get_read hs (length hs) n h refl room own)
 
 head_set : (hs : List Head) (n i : ℕ) (x h : Head) → n < length hs → i ≡ n → slice_get (slice_set hs n x) i ≡ Some h → h ≡ x
 head_set hs n i x h room e get =
@@ -184,9 +270,9 @@ head_kept_at hs n i x h other get =
     let was = get_or-set_other hs n i x h other in
     slice_get-get_or hs i h (omega (arith, length-set hs n x)) ∙ ap Some (sym was ∙ is)
 
-pub passing-more : (ss : List Sets) (second n : ℕ) (hs : List Head) (s : Sets) (x : Head) → ArePassing ss second n hs → n < length hs
-    → s ≡ get_or ss n s → IsHead s (pos second +ℤ pos 1) x → ArePassing ss second (n + 1) (slice_set hs n x)
-passing-more ss second n hs s x passing room is head = record {
+pub passed-more : (ss : List Sets) (second n : ℕ) (hs : List Head) (s : Sets) (x : Head) → ArePassed ss second n hs → n < length hs
+    → s ≡ get_or ss n s → IsHead s (pos second +ℤ pos 1) x → ArePassed ss second (n + 1) (slice_set hs n x)
+passed-more ss second n hs s x passing room is head = record {
   few = let few = passing.few in omega (arith, length-set hs n x);
   past = λ i t h less at_s at_h.
       by_lt_z (pos i) (pos n)
@@ -197,3 +283,81 @@ passing-more ss second n hs s x passing room is head = record {
       (subst (λ (u : Sets). IsHead u (pos second +ℤ pos 1) x) (sym (sets_at ss s t i n here (omega arith) is at_s)) head));
   left = λ i t h le at_s at_h. passing.left i t h (omega arith) at_s (head_kept_at hs n i x h (λ e. omega arith) at_h);
 }
+
+-- ---- of two one goes on
+
+pub passing-set : (ss : List Sets) (second n : ℕ) (hs : List Head) (s : Sets) (x : Head) → second < seconds_in_range → ArePassing ss second hs
+    → n < length hs → s ≡ get_or ss n s → IsHead s (pos second +ℤ pos 1) x → ArePassing ss second (slice_set hs n x)
+passing-set ss second n hs s x range passing room is head = record {
+  few = let few = passing.few in omega (arith, length-set hs n x);
+  each = λ i t h at_s at_h.
+      elim (cases_eq i n) [
+        | inl here ↦
+            let few = passing.few in
+            let own = subst (λ (u : Sets). IsHead u (pos second +ℤ pos 1) x) (sym (sets_at ss s t i n here (omega arith) is at_s)) head in
+            subst (λ (g : Head). IsPassing t second g) (sym (head_set hs n i x h room here at_h))
+            (record { there = λ e. absurd (head-past t second x range own e); past = λ other. own })
+        | inr other ↦ passing.each i t h at_s (head_kept_at hs n i x h other at_h)
+      ];
+}
+
+pub passing-at : (ss : List Sets) (second n : ℕ) (hs : List Head) (s : Sets) (h : Head) → ArePassing ss second hs → n < length hs
+    → s ≡ get_or ss n s → h ≡ get_or hs n h → IsPassing s second h
+passing-at ss second n hs s h passing room is own =
+    let few = passing.few in
+    passing.each n s h (slice_get_read ss (length ss) n s refl (omega arith) is) (slice_get_read hs (length hs) n h refl room own)
+
+two_clear : (a b c second : ℕ) → second ≤ a → second ≤ b → c ≡ min a b → (c ≡ second → ⊥) → (a ≡ second → ⊥) × (b ≡ second → ⊥)
+two_clear a b c second a_up b_up e other = (λ is. other (omega arith), λ is. other (omega arith))
+
+-- where the lesser of two doesn't lie at a civil second, both are past it
+pub pair-done : (ss : List Sets) (second c : ℕ) (hs : List Head) (a b : Head) → second < seconds_in_range → ArePassing ss second hs
+    → length ss ≡ 2 → length hs ≡ 2 → a ≡ get_or hs 0 a → b ≡ get_or hs 1 b → c ≡ min a.next b.next → (c ≡ second → ⊥)
+    → AreHeads ss (pos second +ℤ pos 1) hs
+pair-done (s ∷ t ∷ []) second c (g ∷ h ∷ []) a b range passing long size is_a is_b e other =
+    let up_g = passing-up s second g range (passing.each 0 s g refl refl) in
+    let up_h = passing-up t second h range (passing.each 1 t h refl refl) in
+    let least : c ≡ min g.next h.next = e ∙ ap (λ v. min v b.next) (ap (λ (x : Head). x.next) is_a) ∙ ap (λ v. min g.next v) (ap (λ (x : Head). x.next) is_b) in
+    let clear = two_clear g.next h.next c second up_g up_h least other in
+    passing-done (s ∷ t ∷ []) second (g ∷ h ∷ []) passing (by_place clear)
+  where
+    by_place : (g.next ≡ second → ⊥) × (h.next ≡ second → ⊥) → (i : ℕ) (x : Head) → slice_get (g ∷ h ∷ []) i ≡ Some x → x.next ≡ second → ⊥
+    by_place clear zero x get is = clear.0 (let same : g ≡ x = cc in ap (λ (y : Head). y.next) same ∙ is)
+    by_place clear (suc zero) x get is = clear.1 (let same : h ≡ x = cc in ap (λ (y : Head). y.next) same ∙ is)
+    by_place clear (suc (suc i)) x get is = cc
+pair-done [] second c hs a b range passing long size is_a is_b e other = absurd (omega arith)
+pair-done (s ∷ []) second c hs a b range passing long size is_a is_b e other = absurd (omega arith)
+pair-done (s ∷ t ∷ u ∷ ss) second c hs a b range passing long size is_a is_b e other = absurd (omega arith)
+pair-done (s ∷ t ∷ []) second c [] a b range passing long size is_a is_b e other = absurd (omega arith)
+pair-done (s ∷ t ∷ []) second c (g ∷ []) a b range passing long size is_a is_b e other = absurd (omega arith)
+pair-done (s ∷ t ∷ []) second c (g ∷ h ∷ x ∷ hs) a b range passing long size is_a is_b e other = absurd (omega arith)
+
+-- the lesser of two is the nearest of all
+pub pair-least : (ss : List Sets) (from : ℤ) (c : ℕ) (hs : List Head) (a b : Head) → AreHeads ss from hs
+    → length ss ≡ 2 → length hs ≡ 2 → a ≡ get_or hs 0 a → b ≡ get_or hs 1 b → c ≡ min a.next b.next
+    → IsNearest Ahead (is_match_any ss) from (match_of c)
+pair-least ss from c hs a b heads long size is_a is_b e =
+    let one : IsNearest Ahead (is_match_any (take 1 ss)) from (match_of a.next) =
+    least-more ss from hs 0 a None (match_of a.next) heads (omega arith) is_a refl (nearest-none Ahead from) in
+    let two : IsNearest Ahead (is_match_any (take 2 ss)) from (match_of c) =
+    least-more ss from hs 1 b (match_of a.next) (match_of c) heads (omega arith) is_b (match-min a.next b.next c e) one in
+    nearest-end Ahead from ss 2 (match_of c) (sym long) two
+
+-- ---- one alone
+
+pub one-set : (ss : List Sets) (from to : ℤ) (hs : List Head) (s : Sets) (x : Head) → AreHeads ss from hs → length ss ≡ 1 → length hs ≡ 1
+    → s ≡ get_or ss 0 s → IsHead s to x → AreHeads ss to (slice_set hs 0 x)
+one-set ss from to hs s x heads long size is head = record {
+  few = let few = heads.few in omega (arith, length-set hs 0 x);
+  each = λ i t h at_s at_h.
+      let within = slice_get_within ss i t at_s in
+      let here : i ≡ 0 = omega arith in
+      subst (λ (g : Head). IsHead t to g) (sym (head_set hs 0 i x h (omega arith) here at_h))
+      (subst (λ (u : Sets). IsHead u to x) (sym (sets_at ss s t i 0 here (omega arith) is at_s)) head);
+}
+
+pub one-least : (ss : List Sets) (from : ℤ) (hs : List Head) (a : Head) → AreHeads ss from hs → length ss ≡ 1 → length hs ≡ 1 → a ≡ get_or hs 0 a
+    → IsNearest Ahead (is_match_any ss) from (match_of a.next)
+one-least ss from hs a heads long size is =
+    nearest-end Ahead from ss 1 (match_of a.next) (sym long)
+    (least-more ss from hs 0 a None (match_of a.next) heads (omega arith) is refl (nearest-none Ahead from))

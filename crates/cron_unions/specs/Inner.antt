@@ -6,3 +6,4 @@ pub mod Covers
 pub mod Parts
 pub mod Backs
 pub mod Units
+pub mod Searched

@@ -1,4 +1,4 @@
-//! Two schedules that share matches, as two that share none.
+//! Two schedules that share matches, as two that share fewer.
 ghost use Rattle.std.specs.Prelude.{◌≡◌, ◌||◌, [], ◌∷◌};
 ghost use Rattle.jiff_core.specs.declared.civil.datetime.DateTime.{DateTime};
 ghost use Rattle.cron_time.specs.Matches.{matches};
@@ -26,9 +26,11 @@ fn own_part(fields: &ScheduleFields, other: &ScheduleFields) -> ScheduleFields
 }
 
 /// Two schedules that match what these two do. Where one has all that the other one matches but for
-/// the set of one unit, none is matched by both: the two schedules of a crontab's line with both
-/// kinds of day are so. A run over them searches for each fire once.
-pub(crate) fn apart(
+/// the set of one unit, and no last day is marked, none is matched by both: the two schedules of a
+/// crontab's line with both kinds of day are so. Beside a mark both may match some, and a run still
+/// answers each once. That it searches for none of them twice is a matter of cost alone, which no
+/// clause states.
+pub(crate) fn take_shared_out(
     one: &ScheduleFields,
     other: &ScheduleFields,
 ) -> (ScheduleFields, ScheduleFields)

@@ -4,10 +4,10 @@ ghost use Rattle.cron_units.specs.Nearest.{IsNearest};
 ghost use Rattle.cron_units.specs.Sets.{Sets};
 ghost use Rattle.cron_units.specs.declared.way.Way.TheVariants.{Ahead};
 ghost use Rattle.cron_moments.specs.Civil.{seconds_in_range};
-ghost use Rattle.cron_unions.specs.Inner.DueHeads.{AreHeads, IsHead};
+ghost use Rattle.cron_unions.specs.Inner.DueHeads.{AreHeads, ArePassing, IsHead, IsPassing, match_of};
 ghost use Rattle.cron_unions.specs.Inner.Nearest.{is_match_any};
 
-use crate::nearest::{nearer_second, nearest_match};
+use crate::nearest::nearest_match;
 use arrayvec::ArrayVec;
 use cron_moments::calendar::KnownMonth;
 use cron_time::search::civil_seconds::{self, match_past};
@@ -19,10 +19,14 @@ use cron_units::way::Way;
 /// How many schedules of a run have a head.
 pub(crate) const HEADS: usize = 8;
 
-/// The nearest match of a schedule from a number on, and what is known of the days of its month.
+/// The number of no match: it is greater than that of each.
+pub(crate) const NO_MATCH: u32 = u32::MAX;
+
+/// The nearest match of a schedule from a number on, or `NO_MATCH`, and what is known of the days
+/// of its month.
 #[derive(Clone, Copy)]
 pub(crate) struct Head {
-    pub next: Option<u32>,
+    pub next: u32,
     pub minute: Minute,
     pub days: MonthDays,
 }
@@ -30,10 +34,22 @@ pub(crate) struct Head {
 impl Default for Head {
     fn default() -> Head {
         Head {
-            next: None,
+            next: NO_MATCH,
             minute: Minute::epoch(),
             days: MonthDays::unknown(KnownMonth::january_1970()),
         }
+    }
+}
+
+// The number of a match, or of none.
+#[inline(always)]
+fn number_of(next: Option<u32>) -> u32
+    requires { IfSome next (λ n. n < seconds_in_range) }
+    ensures { match_of result ≡ next }
+{
+    match next {
+        Some(second) => second,
+        None => NO_MATCH,
     }
 }
 
@@ -43,31 +59,31 @@ impl Head {
         ensures { IsHead fields.now from result }
     {
         Head {
-            next: civil_seconds::nearest_match(fields, Way::Ahead, from),
+            next: number_of(civil_seconds::nearest_match(fields, Way::Ahead, from)),
             minute: Minute::epoch(),
             days: MonthDays::unknown(KnownMonth::january_1970()),
         }
     }
 
-    // Goes on past a civil second, before which it doesn't lie.
+    // Goes on past a civil second, if it lies there.
     #[inline(always)]
     fn pass(&mut self, fields: &ScheduleFields, second: u32)
-        requires { IsHead fields.now (pos second) self.old }
+        requires range { second < seconds_in_range }
+        requires passing { IsPassing fields.now second self.old }
         ensures { IsHead fields.now (pos second +ℤ pos 1) self.new }
     {
-        let Some(next) = self.next else {
-            return;
-        };
-        if next != second {
+        if self.next != second {
             return;
         }
-        self.next = match_past(fields, Way::Ahead, second, &mut self.minute, &mut self.days);
+        let next = match_past(fields, Way::Ahead, second, &mut self.minute, &mut self.days);
+        self.next = number_of(next);
     }
 }
 
 /// The heads of the first schedules, as many as there is room for.
 pub(crate) fn heads_of(schedules: &[ScheduleFields], from: i64) -> ArrayVec<Head, HEADS>
-    ensures { AreHeads schedules.now from result.items }
+    ensures heads { AreHeads schedules.now from result.items }
+    ensures both { length schedules.now ≡ 2 → length result.items ≡ 2 }
 {
     let mut heads = ArrayVec::new();
     for fields in schedules {
@@ -81,38 +97,99 @@ pub(crate) fn heads_of(schedules: &[ScheduleFields], from: i64) -> ArrayVec<Head
 
 // The least of the heads.
 #[inline(always)]
-fn least_head(heads: &[Head]) -> Option<u32>
+fn least_head(heads: &[Head]) -> u32
     ensures { (schedules : List Sets) (from : ℤ)
         → AreHeads schedules from heads.now
-        → IsNearest Ahead (is_match_any (take (length heads.now) schedules)) from result }
+        → IsNearest Ahead
+        (is_match_any (take (length heads.now) schedules))
+        from
+        (match_of result) }
 {
-    let mut least = None;
+    let mut least = NO_MATCH;
     for head in heads {
-        least = nearer_second(Way::Ahead, least, head.next);
+        least = least.min(head.next);
     }
     least
 }
 
-/// The nearest civil second that matches one of the schedules, of which the first have heads.
-#[inline(always)]
-pub(crate) fn nearest_head(heads: &[Head], schedules: &[ScheduleFields], from: i64) -> Option<u32>
+/// The nearest civil second that matches one of the schedules, of which the first have heads, or
+/// `NO_MATCH`.
+pub(crate) fn nearest_head(heads: &[Head], schedules: &[ScheduleFields], from: i64) -> u32
     requires { AreHeads schedules.now from heads.now }
-    ensures nearest { IsNearest Ahead (is_match_any schedules.now) from result }
-    ensures bound { IfSome result (λ c. c < seconds_in_range) }
+    ensures { IsNearest Ahead (is_match_any schedules.now) from (match_of result) }
 {
+    let least = least_head(heads);
+    if heads.len() == schedules.len() {
+        return least;
+    }
     let others = nearest_match(&schedules[heads.len()..], Way::Ahead, from);
-    nearer_second(Way::Ahead, least_head(heads), others)
+    least.min(number_of(others))
 }
 
-/// The heads go on past a civil second, before which none of them lies.
-#[inline(always)]
-pub(crate) fn pass_heads(heads: &mut [Head], schedules: &[ScheduleFields], second: u32)
-    requires { AreHeads schedules.now (pos second) heads.old }
+// Each head goes on past a civil second, and the nearest match past it is told.
+#[inline(never)]
+fn pass_each(heads: &mut [Head], schedules: &[ScheduleFields], second: u32) -> u32
+    requires range { second < seconds_in_range }
+    requires passing { ArePassing schedules.now second heads.old }
     ensures heads { AreHeads schedules.now (pos second +ℤ pos 1) heads.new }
     ensures size { length heads.new ≡ length heads.old }
+    ensures nearest { IsNearest Ahead
+        (is_match_any schedules.now)
+        (pos second +ℤ pos 1)
+        (match_of result) }
 {
     for at in 0..heads.len() {
         let head = &mut heads[at];
         head.pass(&schedules[at], second);
     }
+    nearest_head(heads, schedules, i64::from(second) + 1)
+}
+
+// The same of one head. A run of one schedule would wait for the loops.
+#[inline(never)]
+fn pass_one(heads: &mut [Head], schedules: &[ScheduleFields], second: u32) -> u32
+    requires range { second < seconds_in_range }
+    requires heads { AreHeads schedules.now (pos second) heads.old }
+    requires one { length schedules.now ≡ 1 }
+    requires only { length heads.old ≡ 1 }
+    ensures heads { AreHeads schedules.now (pos second +ℤ pos 1) heads.new }
+    ensures size { length heads.new ≡ length heads.old }
+    ensures nearest { IsNearest Ahead
+        (is_match_any schedules.now)
+        (pos second +ℤ pos 1)
+        (match_of result) }
+{
+    let head = &mut heads[0];
+    head.pass(&schedules[0], second);
+    heads[0].next
+}
+
+/// The heads go on past a civil second, before which none of them lies, and the nearest match past
+/// it is told, or `NO_MATCH`. Of two mostly one alone lies there.
+#[inline(always)]
+pub(crate) fn pass_heads(heads: &mut [Head], schedules: &[ScheduleFields], second: u32) -> u32
+    requires range { second < seconds_in_range }
+    requires heads { AreHeads schedules.now (pos second) heads.old }
+    requires both { length schedules.now ≡ 2 → length heads.old ≡ 2 }
+    ensures heads { AreHeads schedules.now (pos second +ℤ pos 1) heads.new }
+    ensures size { length heads.new ≡ length heads.old }
+    ensures nearest { IsNearest Ahead
+        (is_match_any schedules.now)
+        (pos second +ℤ pos 1)
+        (match_of result) }
+{
+    if schedules.len() == 1 && heads.len() == 1 {
+        return pass_one(heads, schedules, second);
+    }
+    if schedules.len() != 2 {
+        return pass_each(heads, schedules, second);
+    }
+    let at = if heads[0].next == second { 0 } else { 1 };
+    let near = &mut heads[at];
+    near.pass(&schedules[at], second);
+    let least = heads[0].next.min(heads[1].next);
+    if least == second {
+        return pass_each(heads, schedules, second);
+    }
+    least
 }

@@ -5,8 +5,8 @@ ghost use Rattle.jiff.specs.Words.{plain_zone};
 ghost use Rattle.cron_dues.specs.Inner.Left.{left_from};
 ghost use Rattle.cron_unions.specs.UnionDues.{dues_any, dues_any_after, dues_any_between, dues_any_past, dues_any_past_by};
 
-use crate::covering::needed;
-use crate::due_heads::{HEADS, Head, heads_of, nearest_head, pass_heads};
+use crate::due_heads::{HEADS, Head, NO_MATCH, heads_of, nearest_head, pass_heads};
+use crate::searched::Searched;
 use arrayvec::ArrayVec;
 use cron_dues::ahead::{Known, due_ahead};
 use cron_dues::fire::{DueFire, due_second, nominal_second};
@@ -21,29 +21,36 @@ use std::marker::Model;
 /// them match its civil second. Contracts see those that are left. It takes no memory.
 #[derive(Drop)]
 pub struct DueRun<'a> {
-    schedules: &'a [ScheduleFields],
+    schedules: Searched<'a>,
     zone: &'a TimeZone<'a>,
     from: i64,
+    next: u32,
     heads: ArrayVec<Head, HEADS>,
     known: Known,
     until: Option<i64>,
 }
 
 impl<'a> Model for DueRun<'a> {
-    ghost use Rattle.std.specs.Prelude.{List};
+    ghost use Rattle.std.specs.Prelude.{◌≡◌, List, length};
     ghost use Rattle.jiff.specs.Words.{plain_zone};
     ghost use Rattle.cron_dues.specs.Due.{Due, zone_clock};
     ghost use Rattle.cron_dues.specs.Inner.Known.{AreDueFrom};
     ghost use Rattle.cron_dues.specs.Inner.Left.{left_from};
-    ghost use Rattle.cron_unions.specs.Inner.DueHeads.{AreHeads};
+    ghost use Rattle.cron_units.specs.Nearest.{IsNearest};
+    ghost use Rattle.cron_units.specs.declared.way.Way.TheVariants.{Ahead};
+    ghost use Rattle.cron_unions.specs.Inner.DueHeads.{AreHeads, match_of};
+    ghost use Rattle.cron_unions.specs.Inner.Nearest.{is_match_any};
+    ghost use Rattle.cron_unions.specs.Inner.Searched.{list_of};
     ghost use Rattle.cron_unions.specs.UnionDues.{dues_any};
 
     ghost Value = { List Due };
 
     ghost view = { λ r. left_from
-        (dues_any r.schedules.now (plain_zone r.zone.now)) r.from r.until };
+        (dues_any (list_of r.schedules) (plain_zone r.zone.now)) r.from r.until };
 
-    ghost invariant = { λ r. AreHeads r.schedules.now r.from r.heads.items
+    ghost invariant = { λ r. AreHeads (list_of r.schedules) r.from r.heads.items
+        × (length (list_of r.schedules) ≡ 2 → length r.heads.items ≡ 2)
+        × IsNearest Ahead (is_match_any (list_of r.schedules)) r.from (match_of r.next)
         × AreDueFrom (zone_clock r.zone.now) r.from r.known };
 }
 
@@ -57,12 +64,15 @@ impl<'a> DueRun<'a> {
     ) -> DueRun<'a>
         ensures { result ≡ left_from (dues_any schedules.now (plain_zone zone.now)) from until }
     {
-        let schedules = needed(schedules);
+        let schedules = Searched::of(schedules);
+        let heads = heads_of(schedules.as_slice(), from);
+        let next = nearest_head(heads.as_slice(), schedules.as_slice(), from);
         DueRun {
             schedules,
             zone,
             from,
-            heads: heads_of(schedules, from),
+            next,
+            heads,
             known: Known::nothing(),
             until,
         }
@@ -123,15 +133,18 @@ impl<'a> DueRun<'a> {
     fn take_first(&mut self) -> Option<DueFire>
         ensures { YieldsFirst (λ rest. rest) self.old result self.new }
     {
-        let Some(second) = nearest_head(self.heads.as_slice(), self.schedules, self.from) else {
-            return None;
-        };
-        let fire = due_ahead(self.zone, second, &mut self.known);
-        pass_heads(self.heads.as_mut_slice(), self.schedules, second);
-        self.from = i64::from(second) + 1;
-        if !is_within(self.until, due_second(&fire)) {
+        let second = self.next;
+        if second == NO_MATCH {
             return None;
         }
+        let fire = due_ahead(self.zone, second, &mut self.known);
+        if !is_within(self.until, due_second(&fire)) {
+            self.from = i64::from(second);
+            return None;
+        }
+        let schedules = self.schedules.as_slice();
+        self.next = pass_heads(self.heads.as_mut_slice(), schedules, second);
+        self.from = i64::from(second) + 1;
         Some(fire)
     }
 }

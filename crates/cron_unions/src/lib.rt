@@ -16,4 +16,5 @@ pub mod laws;
 pub mod members;
 mod nearest;
 pub mod run;
+mod searched;
 pub mod units;

@@ -5,10 +5,9 @@ ghost use Rattle.jiff.specs.Words.{plain_zone};
 ghost use Rattle.cron_unions.specs.Unions.{fires_any_after, fires_any_between, fires_any_past, fires_any_past_by};
 ghost use Rattle.cron_unions.specs.Inner.Parts.{part_of, part_of_any};
 
-use crate::apart::apart;
 use crate::branch::{Branch, NONE_LEFT};
-use crate::covering::needed;
 use crate::heads::{least_key, take_heads};
+use crate::searched::Searched;
 use arrayvec::ArrayVec;
 use cron_instants::run::Run as Single;
 use cron_moments::moment::Moment;
@@ -82,18 +81,13 @@ impl<'a, const N: usize> Run<'a, N> {
         Run { branches }
     }
 
-    // Those of schedules, of which two share no match where that costs nothing.
+    // Those of schedules, of which it searches those that it needs.
     fn over(schedules: &[ScheduleFields], part: &Part, zone: &'a TimeZone<'a>) -> Run<'a, N>
         requires { length schedules.now ≤ N }
         ensures { result ≡ part_of_any schedules.now (plain_zone zone.now) part.now }
     {
-        match needed(schedules) {
-            [one, other] => {
-                let (one, other) = apart(one, other);
-                Run::over_each(&[one, other], part, zone)
-            }
-            few => Run::over_each(few, part, zone),
-        }
+        let searched = Searched::of(schedules);
+        Run::over_each(searched.as_slice(), part, zone)
     }
 
     /// The fires whose instant comes after `start`.
