@@ -19,8 +19,9 @@ LINE = re.compile(r"([A-Za-z0-9_.-]+) ([0-9a-f]{32})(?: (\S.*))?")
 # What judges an edit, beside the kit.
 SCRIPTS = ("copies.py", "edits.py", "judge.py", "kit.py")
 OF_KIT = ("KIT-ID", "bin/rt", "bin/rtlib.py")
-# What the crates above a library read of it, once it is built: what it has, without bodies and comments, with its specs and proofs.
-HANDED_ON = ("interface", "lang")
+# What `rattle` reads of a library for a crate above it: its public interface for another library, and all that it has for a
+# program, which links it; without bodies and comments, and with its specs and proofs.
+FOR_LIBRARIES, FOR_PROGRAMS = ("interface", "lang/antt"), ("lang",)
 # The proofs of functions are handed on too. No crate names those of another, and tools/check_pages holds that.
 LEFT_OUT = {"Answers.antt", "Invariants.antt", "made.json"}
 
@@ -44,9 +45,9 @@ def sum_of_crate(crate):
 
 
 @functools.cache
-def sum_handed(library):
-    """Returns a sum of what `rt` hands to crates above of the library that is built in this folder."""
-    files = [f"{at}/{it}" for part in HANDED_ON for at, _, names in os.walk(f"{library}/{part}") for it in names if it not in LEFT_OUT]
+def sum_handed(library, parts):
+    """Returns a sum of these parts of the library that is built in this folder."""
+    files = [f"{at}/{it}" for part in parts for at, _, names in os.walk(f"{library}/{part}") for it in names if it not in LEFT_OUT]
     return sum_of(sorted((os.path.relpath(it, library), rt.rtlib.sum_of(it)) for it in files))
 
 
@@ -63,7 +64,8 @@ class Ledger:
 
     def __init__(self, crate, handles):
         self.crate, self.file = crate, path_of(crate)
-        handed = [(it.name, sum_handed(it.rlib)) for it in crate.below()]
+        parts = FOR_LIBRARIES if crate.makes_rlib() else FOR_PROGRAMS
+        handed = [(it.name, sum_handed(it.rlib, parts)) for it in crate.below()]
         self.rest = sum_of(sum_of_judges(), handles, sum_of_crate(crate), handed)
 
     def sum(self, file):

@@ -172,10 +172,10 @@ pub(crate) fn readings_in(_zone: &TimeZone<'_>, second: u32, stretch: &Stretch) 
 
 /// The nearest civil second on the timeline past one that matches: first in its own day, whose date
 /// needn't be made, and then in the days past it. It begins with the days of a month and the
-/// stretch that an earlier search knew, and leaves those that it knows. The minute may be any before
-/// it, and is that of the answer's first time behind it.
+/// stretch that an earlier search knew, and leaves those that it knows. The minute may be any,
+/// before and after.
 #[inline(always)]
-pub(crate) fn search_past(
+pub fn search_past(
     fields: &ScheduleFields,
     zone: &TimeZone<'_>,
     way: Way,
