@@ -184,9 +184,13 @@ pub(crate) fn pass_heads(heads: &mut [Head], schedules: &[ScheduleFields], secon
     if schedules.len() != 2 {
         return pass_each(heads, schedules, second);
     }
-    let at = if heads[0].next == second { 0 } else { 1 };
-    let near = &mut heads[at];
-    near.pass(&schedules[at], second);
+    if heads[0].next == second {
+        let near = &mut heads[0];
+        near.pass(&schedules[0], second);
+    } else {
+        let near = &mut heads[1];
+        near.pass(&schedules[1], second);
+    }
     let least = heads[0].next.min(heads[1].next);
     if least == second {
         return pass_each(heads, schedules, second);
