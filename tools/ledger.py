@@ -8,6 +8,7 @@ import contextlib
 import fcntl
 import functools
 import hashlib
+import json
 import os
 import re
 import subprocess
@@ -19,11 +20,10 @@ LINE = re.compile(r"([A-Za-z0-9_.-]+) ([0-9a-f]{32})(?: (\S.*))?")
 # What judges an edit, beside the kit.
 SCRIPTS = ("copies.py", "edits.py", "judge.py", "kit.py")
 OF_KIT = ("KIT-ID", "bin/rt", "bin/rtlib.py")
-# What `rattle` reads of a library for a crate above it: its public interface for another library, and all that it has for a
-# program, which links it; without bodies and comments, and with its specs and proofs.
-FOR_LIBRARIES, FOR_PROGRAMS = ("interface", "lang/antt"), ("lang",)
-# The proofs of functions are handed on too. No crate names those of another, and tools/check_pages holds that.
-LEFT_OUT = {"Answers.antt", "Invariants.antt", "made.json"}
+# How the names of the modules begin that crates above can see, in the list of what a library hands on.
+SEEN = "facade/"
+# Of a function such modules say that its body meets its contract, and change with the body.
+OF_BODIES = ("Met", "Statement")
 
 
 def sum_of(*told):
@@ -44,11 +44,30 @@ def sum_of_crate(crate):
     return sum_of(crate.name, sorted(crate.said.items()), [it.name for it in crate.deps], [*crate.of_kit], files)
 
 
+def lines_of(file):
+    with open(file, encoding="utf-8") as it:
+        return [json.loads(line) for line in it]
+
+
+def modules_seen(library):
+    """Returns the names of the modules that crates above can see of the library that is built in this folder, but for those that
+    speak of bodies, each with what it shows, and of which module."""
+    told = lines_of(f"{library}/lang/antt/made.json")
+    shown = {name: how["StandsFor"] for name, how in zip(told, told[1:]) if str(name).startswith(SEEN) and "StandsFor" in how}
+    return {name: how for name, how in sorted(shown.items()) if name.rpartition("/")[2] not in OF_BODIES}
+
+
 @functools.cache
-def sum_handed(library, parts):
-    """Returns a sum of these parts of the library that is built in this folder."""
-    files = [f"{at}/{it}" for part in parts for at, _, names in os.walk(f"{library}/{part}") for it in names if it not in LEFT_OUT]
-    return sum_of(sorted((os.path.relpath(it, library), rt.rtlib.sum_of(it)) for it in files))
+def sum_handed(library):
+    """Returns a sum of what `rt ci` hands to crates above of the library that is built in this folder: its items, and the
+    statements of its contracts, specs and proofs, each as it was checked. No body, comment or proof is among it."""
+    places = {name: slice(at, at + size) for name, at, size in lines_of(f"{library}/toolchain/checked.json")}
+    with open(f"{library}/toolchain/checked.a", "rb") as it:
+        checked = it.read()
+    seen = modules_seen(library)
+    statements = [checked[places.get(f"part/{shown['source']}", slice(0))] for shown in seen.values()]
+    items = [f"{at}/{it}" for at, _, names in os.walk(f"{library}/interface") for it in names]
+    return sum_of(seen, statements, sorted((os.path.relpath(it, library), rt.rtlib.sum_of(it)) for it in items))
 
 
 def path_of(crate):
@@ -64,8 +83,7 @@ class Ledger:
 
     def __init__(self, crate, handles):
         self.crate, self.file = crate, path_of(crate)
-        parts = FOR_LIBRARIES if crate.makes_rlib() else FOR_PROGRAMS
-        handed = [(it.name, sum_handed(it.rlib, parts)) for it in crate.below()]
+        handed = [(it.name, sum_handed(it.rlib)) for it in crate.below()]
         self.rest = sum_of(sum_of_judges(), handles, sum_of_crate(crate), handed)
 
     def sum(self, file):
