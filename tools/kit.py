@@ -87,27 +87,27 @@ def libraries_of_ci(crates):
                 crate.rlib = rlib
 
 
-def proved(crate, jobs, builds=True):
-    """Proves a crate over what is kept in its out/, where the proof is kept too, and builds it if it is to and is a library.
-    Returns what failed."""
+def proved(crate, jobs, builds, anew):
+    """Proves a crate over what is kept in its out/, where the proof is kept too, or anew, and builds it if it is to and is a
+    library. Returns what failed."""
     os.makedirs(f"{crate.folder}/out", exist_ok=True)
     with tempfile.TemporaryFile("w+", errors="replace") as crate.out:
         if builds and crate.makes_rlib():
-            status = crate.build_rlib(["--jobs", str(jobs)], anew=False)
+            status = crate.build_rlib(["--jobs", str(jobs)], anew)
         else:
             status = crate.check(["--jobs", str(jobs)])
         crate.out.seek(0)
         return f"{crate.out.read()}status {status}: " if status else ""
 
 
-def proofs_of(crates, builds):
+def proofs_of(crates, builds, anew):
     """Returns the tasks that prove these crates, each after those below it if it is to build them. They give whether it is
     proved, and print what the prover said where it is not."""
 
     def work(crate, waits, given, jobs):
         if not all(given[it] for it in waits):
             return False
-        said = proved(crate, jobs, builds)
+        said = proved(crate, jobs, builds, anew)
         if said:
             print(f"{said}{crate.name} is not proved", flush=True)
         return not said
@@ -139,9 +139,9 @@ def hold(crates):
     HELD.update(it.folder for it in crates)
 
 
-def side_by_side(crates, builds, others):
+def side_by_side(crates, builds, others=(), anew=False):
     """Does the tasks that prove these crates, and others, and returns whether all are proved, and what each other task gave."""
-    given = rt.in_lanes({**proofs_of(crates, builds), **dict(others)})
+    given = rt.in_lanes({**proofs_of(crates, builds, anew), **dict(others)})
     return all(given[it.name, "proof"] for it in crates), {it: given[it] for it in dict(others)}
 
 
@@ -154,12 +154,22 @@ def build(crates, others=()):
     return side_by_side(whole, True, others)
 
 
+def build_as_ci(libraries):
+    """Proves libraries anew and builds them over statements, as `rt ci` does. Returns whether all are proved."""
+    hold(libraries)
+    rt.rtlib.Crate.cuts_libraries = True
+    try:
+        return side_by_side(libraries, True, anew=True)[0]
+    finally:
+        rt.rtlib.Crate.cuts_libraries = False
+
+
 @contextlib.contextmanager
 def libraries_below(crates):
-    """While this lasts, the libraries below these crates stand as built of these files: as `rt ci` built them, where it keeps all
-    of them on this machine, and else as `build` does. Gives whether all are proved."""
+    """While this lasts, the libraries below these crates stand as `rt ci` builds them of these files: it keeps them on this
+    machine, or they are built. Gives whether all are proved."""
     with libraries_of_ci(crates) as are_kept:
-        yield are_kept or build([it for crate in crates for it in crate.below()])[0]
+        yield are_kept or build_as_ci(with_libraries([it for crate in crates for it in crate.below()]))
 
 
 def prove(crates, others=()):
