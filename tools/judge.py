@@ -19,9 +19,8 @@ MOST_COPIES, MOST_IN_PLACE = 40, 16
 ROOM = "edits-"
 PAST_WHAT_IS_REFUSED = [*ONE_JOB, "--allow-holes"]
 VERDICT = re.compile(r"^fn (\S+): (.*)", re.M)
-# What the kit tells of an edit that it tried by itself and that is well: an older one says only that it is.
-AT_LIMIT = getattr(rt, "AT_LIMIT", None)
-IS_REFUSED = (getattr(rt, "REFUSED", True), AT_LIMIT)
+# What the kit tells of an edit that it tried by itself and that is well.
+IS_REFUSED = (rt.REFUSED, rt.AT_LIMIT)
 REFUSED, PROVED, WAITS, UNCLEAR = "refused", "proved", "waits", "unclear"
 JUDGED = {"not proved": REFUSED, "no proof: expected answers": REFUSED, "no holes": PROVED, "proved": PROVED}
 # An error that only says that a proof names what an edit took away, and how the kit tells of an edit with no other.
@@ -101,7 +100,7 @@ class Judge:
         """Returns why an edit fails, tried by itself, or nothing where the prover refuses the crate with it."""
         kind, said = self.over_kept(lambda kept: rt.must_fail(self.crate, edit.file, ONE_JOB, kept))
         by_a_name = BY_A_LOST_NAME if ONLY_LOST_NAMES in said else ""
-        edit.weakness = BY_A_LIMIT if kind == AT_LIMIT else by_a_name
+        edit.weakness = BY_A_LIMIT if kind == rt.AT_LIMIT else by_a_name
         return "" if kind in IS_REFUSED else said.partition(": ")[2]
 
     def as_copies(self, edits):

@@ -2,6 +2,7 @@
 //! says that it is out of memory and changes nothing. `tools/refuse_memory` refuses each growth in
 //! turn.
 
+mod agendas;
 mod calls;
 mod checks;
 mod readers;
