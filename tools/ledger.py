@@ -65,7 +65,8 @@ def sum_handed(library):
     with open(f"{library}/toolchain/checked.a", "rb") as it:
         checked = it.read()
     seen = modules_seen(library)
-    statements = [checked[places.get(f"part/{shown['source']}", slice(0))] for shown in seen.values()]
+    # (a module that shows none of its own names may list what is private)
+    statements = [checked[places.get(f"part/{it['source']}", slice(0))] for it in seen.values() if it["names"]]
     items = [f"{at}/{it}" for at, _, names in os.walk(f"{library}/interface") for it in names]
     return sum_of(seen, statements, sorted((os.path.relpath(it, library), rt.rtlib.sum_of(it)) for it in items))
 
