@@ -40,8 +40,10 @@ fn add_one(
 // Takes the fires of all entries, of which each has one.
 fn take_all(rt: &(impl Abort + Print), agenda: &mut Agenda<ScheduleFields>) -> Result<(), Fail> {
     for _ in 0..agenda.len() {
-        let taken = agenda.next(&[TimeZone::UTC])?;
-        assert!(rt; taken.is_some_and(|fire| fire.is_last));
+        match agenda.next(&[TimeZone::UTC])? {
+            Some(fire) => assert!(rt; fire.is_last),
+            None => assert!(rt; false, "a fire is lacking"),
+        }
     }
     assert!(rt; agenda.next(&[TimeZone::UTC])?.is_none());
     Ok(())
