@@ -402,8 +402,8 @@ uint32_t cron_c_dues_past(const cron_c_schedule *schedule,
  * has the zone of the file's rule, if there is one. An item of the history is an item of an era's zone
  * whose instant lies in that era. So no item lies before the first era, and without an era there is
  * none. The last eras of a list, from any of them on, are a history too. From the era that holds the
- * instant on they serve every call but `cron_c_history_fire_by`, whose answer may lie in any earlier
- * era.
+ * instant on they serve the calls by instants but those named `_fire_by`, whose answer may lie in any
+ * earlier era, and none by due fires, which ask what the clock showed before.
  */
 typedef struct cron_c_era {
     int64_t starts;
@@ -574,7 +574,7 @@ typedef struct cron_c_entry {
     size_t soonest_place;
 } cron_c_entry;
 
-/* When the first of an agenda's entries fires, which has at least a place: INT64_MAX where none is left. */
+/* When the first entry of an agenda with a place or more fires: INT64_MAX where none is left. */
 static inline int64_t cron_c_agenda_instant(const cron_c_entry *entries)
 {
     return entries[0].soonest_instant;
