@@ -9,8 +9,8 @@ use cron_agenda_scheduler::AgendaStop;
 use cron_notes::machine::MachineStore;
 use cron_ringing::printer::Printer;
 use cron_running::{
-    Failure, Interruption, Notebook, Noted, RunClock, RunOrders, TabFile, TabWriter, run_files,
-    run_noted,
+    Changing, Failure, Interruption, Notebook, Noted, RunClock, RunOrders, TabFile, TabWriter,
+    run_files, run_noted,
 };
 use cron_scheduler::MachineClock;
 use cron_tab_tasks::Orders;
@@ -19,7 +19,8 @@ use cron_writer::watched::Watched;
 use jiff::Error;
 use jiff::tz::TimeZone;
 use std::alloc::{AllocError, Global};
-use std::io;
+use std::time::Duration;
+use std::{io, thread};
 
 /// How the run of some files ended: they have changed, or it is over.
 #[derive(Drop)]
@@ -237,8 +238,19 @@ fn watch_of<'r>(rt: &'r HostRuntime, runs: &Runs<'_>, names: &[&str]) -> Result<
     }
 }
 
+// Waits until files have changed, which are looked at three times a minute.
+fn wait_for_change(rt: &HostRuntime, watch: &mut Watch<'_>) {
+    for _ in 0..u64::MAX {
+        thread::sleep(rt, Duration::from_secs(20));
+        if watch.have_changed() {
+            return;
+        }
+    }
+}
+
 /// Runs the entries of files. Where a file changes it goes on with those that it has then, unless a
-/// number of runs is asked for.
+/// number of runs is asked for. Where they have no fires then, as those of a file that an editor
+/// leaves empty for a moment, it waits for the next change.
 pub(crate) fn follow(
     rt: &HostRuntime,
     runs: &Runs<'_>,
@@ -251,10 +263,11 @@ pub(crate) fn follow(
     };
     let mut runs = *runs;
     let mut watch = watch_of(rt, &runs, names)?;
+    let mut behind = watch_of(rt, &runs, names)?;
     let mut read = read_all(rt, names)?;
     let around = Surroundings::of(rt)?;
     let opened = open_zone(rt, zone, &around)?;
-    for _ in 0..u64::MAX {
+    for changes in 0..u64::MAX {
         let zone = opened.time_zone();
         match run_read(
             rt,
@@ -266,11 +279,13 @@ pub(crate) fn follow(
             &noted,
             watch,
         )? {
-            Ended::Over(status) => return Ok(status),
             Ended::Changed(until) => noted = until,
+            Ended::Over(Status::Done) if changes > 0 => wait_for_change(rt, &mut behind),
+            Ended::Over(status) => return Ok(status),
         }
         runs.orders.reboot = false;
         watch = watch_of(rt, &runs, names)?;
+        behind = watch_of(rt, &runs, names)?;
         read_again(rt, names, read.as_mut_slice())?;
     }
     Ok(Status::Done)
