@@ -11,5 +11,7 @@ pub mod MonotoneLemmas
 pub mod TransitionLemmas
 pub mod OffsetRangeLemmas
 pub mod TableOffsetRange
+pub mod TablePeriods
+pub mod PeriodLemmas
 pub mod OrderedLemmas
 pub mod ShownLemmas

@@ -1,5 +1,5 @@
 -- The first item by what a clock shows.
-use Rattle.std.proofs.Common.{◌≡◌, ℕ, ◌≤◌, ℤ, pos, ◌+ℤ◌, ◌-ℤ◌, ◌≤ℤ◌, ◌<ℤ◌, true, false, Option, Some, None, inl, inr, refl, sym, ap, ◌∙◌, arith}
+use Rattle.std.proofs.Common.{◌≡◌, ℕ, ◌≤◌, ℤ, pos, ◌+ℤ◌, ◌-ℤ◌, ◌≤ℤ◌, ◌<ℤ◌, true, false, Option, Some, None, inl, inr, sym, ap, ◌∙◌, arith}
 use Rattle.std.specs.Option.{IfSome}
 use Rattle.std.proofs.lemmas.Bool.{both_ways}
 use Rattle.std.proofs.lemmas.Int.{by_lt_z}
@@ -75,34 +75,6 @@ module _ (s : Sets) (z : TimeZone) (agree : LookupsAgree z) where
       (nearest : IsNearest Ahead (is_match s) (a +ℤ kept.offset.seconds) next) where
     offset_in : (q : Reading) → IsShownAt z q → a ≤ℤ instant q → instant q <ℤ pos kept.end → q.offset.seconds ≡ kept.offset.seconds
     offset_in q shown from to = sym shown ∙ keeps.shown (instant q) from to
-
-    pub best_in : (r : Reading) → IsItemIn kept next (Some r) → IsBest Ahead (IsFrom s z a) (Some r)
-    best_in r item =
-        let found = rw item.0 at nearest in
-        let lies = found.lies in
-        let offset : r.offset.seconds ≡ kept.offset.seconds = ap (λ (o : Offset). o.seconds) item.1 in
-        let before = item.2 in
-        let from : a ≤ℤ instant r = omega (arith, signed_arith, lies, offset) in
-        best_at a r found.passes (keeps.shown (instant r) from before ∙ sym offset) from
-        (none_among a (instant r) (a +ℤ kept.offset.seconds) (pos r.second) (no_match_before s _ r.second found)
-        (λ q shown low high.
-        let own : q.offset.seconds ≡ kept.offset.seconds = offset_in q shown low (omega (arith, signed_arith, high, before)) in
-        (omega (arith, signed_arith, own, low), omega (arith, signed_arith, own, offset, high))))
-
-    none_by : (o : Option ℕ) → next ≡ o → IfSome o (λ c. pos kept.end ≤ℤ (pos c -ℤ kept.offset.seconds)) → HasNone s z a (pos kept.end)
-    none_by None is late =
-        none_among a (pos kept.end) (a +ℤ kept.offset.seconds) (pos kept.end +ℤ kept.offset.seconds) (no_match_none s _ _ (rw is at nearest))
-        (λ q shown low high.
-        let own : q.offset.seconds ≡ kept.offset.seconds = offset_in q shown low high in
-        (omega (arith, signed_arith, own, low), omega (arith, signed_arith, own, high)))
-    none_by (Some c) is late =
-        none_among a (pos kept.end) (a +ℤ kept.offset.seconds) (pos c) (no_match_before s _ c (rw is at nearest))
-        (λ q shown low high.
-        let own : q.offset.seconds ≡ kept.offset.seconds = offset_in q shown low high in
-        (omega (arith, signed_arith, own, low), omega (arith, signed_arith, own, high, late)))
-
-    pub none_in : IsItemIn kept next None → HasNone s z a (pos kept.end)
-    none_in item = none_by next refl item
 
     -- ---- and keeps it long
 

@@ -11,11 +11,11 @@ use Rattle.cron_units.specs.Sets.{Sets}
 use Rattle.cron_moments.specs.Readings.{Reading, reading}
 use Rattle.cron_clocks.specs.declared.stretch.Stretch.{Stretch}
 use Rattle.cron_time.specs.Matches.{is_match}
-use Rattle.cron_instants.specs.Inner.Beyond.{nearer_of, entry_of, IsBest, IsBeyond, IsEntered, IsPassed, IsSought, IsGoneOn, LiesPast, IsNotPast, IsInside, IsStartAt, IsMatchAt, IsMatchIn}
+use Rattle.cron_instants.specs.Inner.Beyond.{entry_of, IsBest, IsBettered, IsBeyond, IsEntered, IsPassed, IsSought, IsGoneOn, LiesPast, IsNotPast, IsInside, IsStartAt, IsMatchAt, IsMatchIn}
 use Rattle.cron_clocks.specs.Steady.{IsSteady, readings_at}
 use Rattle.cron_instants.proofs.MatchLemmas.{match_in_range}
 use Rattle.cron_instants.proofs.OrderLemmas.{past_entry, entry_past, not_nearer}
-use Rattle.cron_instants.proofs.BestLemmas.{best_of_more, best_of_both}
+use Rattle.cron_instants.proofs.BestLemmas.{best_of_more, best_kept, best_chained}
 
 -- ---- at one offset
 
@@ -72,8 +72,8 @@ module _ (way : Way) (s : Sets) (i : ℤ) (c : ℕ) (st : Stretch) where
   no_reading zero r e = cc
   no_reading (suc n) r e = cc
 
-  pub best_of_none : st.earlier ≡ None → (r : Reading) → IsMatchIn way s i c st r → ⊥
-  best_of_none none r m = no_reading m.place r (rw none at m.here)
+  pub best_of_none : (best : Option Reading) → st.earlier ≡ None → IsBettered way (IsMatchIn way s i c st) best best
+  best_of_none best none = best_kept way (IsMatchIn way s i c st) best (λ r m. absurd (no_reading m.place r (rw none at m.here)))
 
   inside : (r : Reading) (o : Offset) (place : ℕ) → at_offset o r → slice_get (readings_at r.second st.earlier st.later) place ≡ Some (reading r.second o)
       → IsMatchIn way s i c st r
@@ -97,20 +97,32 @@ module _ (way : Way) (s : Sets) (i : ℤ) (c : ℕ) (st : Stretch) where
   either_read n zero o p r e = inl cc
   either_read n (suc place) o p r e = inr (first_read n place p r e)
 
-  pub best_of_one : (o : Offset) (best : Option Reading) → st.earlier ≡ Some o → st.later ≡ None → IsBest way (at_offset o) best
-      → IsBest way (IsMatchIn way s i c st) best
-  best_of_one o best first none found =
-      best_of_more way (at_offset o) (IsMatchIn way s i c st) best found
-      (λ r m. inside r o 0 m (rw (first, none) refl))
-      (λ r m. inl (outside r o m (first_read r.second m.place o r (rw (first, none) at m.here))))
+  pub best_of_one : (o : Offset) (best better : Option Reading) → st.earlier ≡ Some o → st.later ≡ None → IsBettered way (at_offset o) best better
+      → IsBettered way (IsMatchIn way s i c st) best better
+  best_of_one o best better first none found =
+      best_of_more way (λ r. (best ≡ Some r) ⊎ at_offset o r) (λ r. (best ≡ Some r) ⊎ IsMatchIn way s i c st r) better found
+      (λ r either. elim either [ inl e ↦ inl e | inr m ↦ inr (inside r o 0 m (rw (first, none) refl)) ])
+      (λ r either. inl (elim either [
+        | inl e ↦ inl e
+        | inr m ↦ inr (outside r o m (first_read r.second m.place o r (rw (first, none) at m.here)))
+      ]))
 
-  pub best_of_two : (o p : Offset) (a b : Option Reading) → st.earlier ≡ Some o → st.later ≡ Some p → IsBest way (at_offset o) a → IsBest way (at_offset p) b
-      → IsBest way (IsMatchIn way s i c st) (nearer_of way a b)
-  best_of_two o p a b first second one other =
-      best_of_more way (λ r. at_offset o r ⊎ at_offset p r) (IsMatchIn way s i c st) (nearer_of way a b)
-      (best_of_both way (at_offset o) (at_offset p) a b one other)
-      (λ r m. elim m [ inl x ↦ inside r o 0 x (rw (first, second) refl) | inr y ↦ inside r p 1 y (rw (first, second) refl) ])
-      (λ r m. inl (elim (either_read r.second m.place o p r (rw (first, second) at m.here)) [ inl x ↦ inl (outside r o m x) | inr y ↦ inr (outside r p m y) ]))
+  pub best_of_two : (o p : Offset) (best a b : Option Reading) → st.earlier ≡ Some o → st.later ≡ Some p → IsBettered way (at_offset o) best a
+      → IsBettered way (at_offset p) a b → IsBettered way (IsMatchIn way s i c st) best b
+  best_of_two o p best a b first second one other =
+      best_of_more way (λ r. ((best ≡ Some r) ⊎ at_offset o r) ⊎ at_offset p r) (λ r. (best ≡ Some r) ⊎ IsMatchIn way s i c st r) b
+      (best_chained way (λ r. (best ≡ Some r) ⊎ at_offset o r) (at_offset p) a b one other)
+      (λ r m. elim m [
+        | inl x ↦ elim x [ inl e ↦ inl e | inr y ↦ inr (inside r o 0 y (rw (first, second) refl)) ]
+        | inr y ↦ inr (inside r p 1 y (rw (first, second) refl))
+      ])
+      (λ r m. inl (elim m [
+        | inl e ↦ inl (inl e)
+        | inr x ↦ elim (either_read r.second x.place o p r (rw (first, second) at x.here)) [
+          | inl is ↦ inl (inr (outside r o x is))
+          | inr is ↦ inr (outside r p x is)
+        ]
+      ]))
 
 -- ---- from stretch to stretch
 
@@ -146,16 +158,16 @@ within_not_past : (way : Way) (low high k : ℕ) → low ≤ k → k < high → 
 within_not_past Ahead low high k from to = to
 within_not_past Back low high k from to = from
 
-module _ (way : Way) (s : Sets) (z : TimeZone) (i : ℤ) (c n : ℕ) (old here : Option Reading) (st : Stretch) (steady : IsSteady z st)
-    (low : st.first ≤ n) (high : n < st.end) (sought : IsSought way s z i c (Some n) old) (found : IsBest way (IsMatchIn way s i c st) here) where
+module _ (way : Way) (s : Sets) (z : TimeZone) (i : ℤ) (c n : ℕ) (old new : Option Reading) (st : Stretch) (steady : IsSteady z st)
+    (low : st.first ≤ n) (high : n < st.end) (sought : IsSought way s z i c (Some n) old) (found : IsBettered way (IsMatchIn way s i c st) old new) where
   abbrev Early_item : Reading → Type 0
   Early_item r = IsBeyond way s z i c r × Precedes way r.second n
 
   abbrev In_stretch : Reading → Type 0
   In_stretch = IsMatchIn way s i c st
 
-  both : IsBest way (λ r. Early_item r ⊎ In_stretch r) (nearer_of way old here)
-  both = best_of_both way Early_item In_stretch old here sought.1 found
+  both : IsBest way (λ r. Early_item r ⊎ In_stretch r) new
+  both = best_chained way Early_item In_stretch old new sought.1 found
 
   not_past : (b : Reading) → Early_item b ⊎ In_stretch b → IsNotPast way st.first st.end b.second
   not_past b (inl early) = early_not_past way st.first n st.end b.second low high early.1
@@ -165,8 +177,8 @@ module _ (way : Way) (s : Sets) (z : TimeZone) (i : ℤ) (c n : ℕ) (old here :
   not_past_by None found = tt
   not_past_by (Some b) found = not_past b found.0
 
-  pub best_not_past : IfSome (nearer_of way old here) (λ b. IsNotPast way st.first st.end b.second)
-  best_not_past = not_past_by (nearer_of way old here) both
+  pub best_not_past : IfSome new (λ b. IsNotPast way st.first st.end b.second)
+  best_not_past = not_past_by new both
 
   read_there : (r : Reading) → In_stretch r → IsBeyond way s z i c r
   read_there r m = (
@@ -188,10 +200,10 @@ module _ (way : Way) (s : Sets) (z : TimeZone) (i : ℤ) (c n : ℕ) (old here :
     here = ap (λ xs. slice_get xs m.0.place) (sym (steady.same r.second from to)) ∙ m.0.here;
   }
 
-  pub passed_on : (next : Option ℕ) → IsGoneOn way s st.first st.end (nearer_of way old here) next → IsSought way s z i c next (nearer_of way old here)
+  pub passed_on : (next : Option ℕ) → IsGoneOn way s st.first st.end new next → IsSought way s z i c next new
   passed_on None on = (
     tt,
-    best_of_more way (λ r. Early_item r ⊎ In_stretch r) (λ r. IsBeyond way s z i c r × IsPassed way None r.second) (nearer_of way old here) both
+    best_of_more way (λ r. Early_item r ⊎ In_stretch r) (λ r. IsBeyond way s z i c r × IsPassed way None r.second) new both
         (λ r m. elim m [ inl early ↦ (early.0, tt) | inr within ↦ (read_there r within, tt) ])
         (λ r m. elim (placed way st.first n st.end r.second low high) [
           | Early before ↦ inl (inl (m.0, before))
@@ -201,7 +213,7 @@ module _ (way : Way) (s : Sets) (z : TimeZone) (i : ℤ) (c n : ℕ) (old here :
   )
   passed_on (Some m) on = (
     on.0,
-    best_of_more way (λ r. Early_item r ⊎ In_stretch r) (λ r. IsBeyond way s z i c r × IsPassed way (Some m) r.second) (nearer_of way old here) both
+    best_of_more way (λ r. Early_item r ⊎ In_stretch r) (λ r. IsBeyond way s z i c r × IsPassed way (Some m) r.second) new both
         (λ r x. elim x [
           | inl early ↦ (early.0, early_passed way st.first n st.end m r.second low high on.1 early.1)
           | inr within ↦ (read_there r within, within_passed way st.first st.end m r.second within.from within.to on.1)

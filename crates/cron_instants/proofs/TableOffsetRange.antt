@@ -36,7 +36,7 @@ TellsRows z edge =
     → ambiguous_after z (count z c) (civil c) ≡ Unambiguous (type_after z (count z c)).offset
 
 module _ (v : TimeZone) (z : Tzif) (told : Tells v z) (edge : ℤ) (rows : TellsRows z edge) where
-  stand : (r : Reading) → IsRead v r → pos r.second <ℤ edge → Stand v z r
+  pub stand : (r : Reading) → IsRead v r → pos r.second <ℤ edge → Stand v z r
   stand r h short = stand_of v z told r h (rows r.second h.in_range short)
 
   -- of two civil seconds past the same transitions the second one isn't in the fold alone
@@ -83,6 +83,31 @@ module _ (v : TimeZone) (z : Tzif) (told : Tells v z) (edge : ℤ) (rows : Tells
         ]
       ]
 
+-- a list that says the same as the table has as many transitions
+pub sizes : (z : Tzif) (ts : List Transition) → map transition_text ts ≡ transitions_of z → length ts ≡ size z
+sizes z ts same =
+    let own : length (map transition_text ts) ≡ length ts = grind (arith, common_steps) in
+    let other = transitions_length z in
+    sym own ∙ ap length same ∙ other
+
+-- ---- up to the end of the last transition
+
+below_last : (z : Tzif) → 0 < size z → (c : ℕ) → count z c ≡ size z → pos c <ℤ civil_end (transition_at z (size z - 1)) → inside z c ≡ false → ⊥
+below_last z some c all short out =
+    let past = outside_end z (count z c) (pos c) out (omega arith) in
+    let here = ap (λ n. civil_end (transition_at z (n - 1))) all in
+    omega (arith, signed_arith)
+
+pub rows_upto : (z : Tzif) → 0 < size z → TellsRows z (civil_end (transition_at z (size z - 1)))
+rows_upto z some c range short out = elim (cases_lt (count z c) (size z)) [
+  | inl less ↦
+      let not_all : (count z c == vec_len z.transitions) ≡ false = grind (arith, nat_tests) in
+      rw not_all refl
+  | inr all ↦
+      let bound = count_bound z c in
+      absurd (below_last z some c (omega arith) short out)
+]
+
 -- ---- with no rule
 
 no_rule : (z : Tzif) (n : ℕ) (dt : DateTime) → z.posix_tz ≡ None → ambiguous_after z n dt ≡ Unambiguous (type_after z n).offset
@@ -116,18 +141,12 @@ module _ (t : Bor Tzif) (p : OffsetRange) (r : Rule) (o : Option Rule) (ts : Lis
   abbrev z : Tzif
   z = t.now
 
-  pub sizes : length ts ≡ size z
-  sizes =
-      let own : length (map transition_text ts) ≡ length ts = grind (arith, common_steps) in
-      let other = transitions_length z in
-      sym own ∙ ap length transitions ∙ other
-
   -- past all transitions the zone has the readings of the rule
   ruled : (c : ℕ) → c < seconds_in_range → count z c ≡ size z → inside z c ≡ false → readings (TableZone t) c ≡ readings (RuleZone r) c
   unfolding readings ambiguous_at
   ruled c range all out =
       told_around t c range ∙ ap (λ (b : Bool). readings_by c (offsets_around z (count z c) b (civil c))) out
-      ∙ ap (readings_by c) (past_all z (count z c) r o ts (civil c) same is transitions (all ∙ sym sizes))
+      ∙ ap (readings_by c) (past_all z (count z c) r o ts (civil c) same is transitions (all ∙ sym (sizes z ts transitions)))
 
   ruled_among : (q : Reading) → IsRead (TableZone t) q → count z q.second ≡ size z → inside z q.second ≡ false → IsAmongOffsets p q.offset.seconds
   ruled_among q h all out =
@@ -158,21 +177,10 @@ module _ (t : Bor Tzif) (p : OffsetRange) (r : Rule) (o : Option Rule) (ts : Lis
         omega (arith, signed_arith)
 
     below_end : (c : ℕ) → count z c ≡ size z → pos c <ℤ p.edge → inside z c ≡ false → ⊥
-    below_end c all short out =
-        let e = last_end in
-        let past = outside_end z (count z c) (pos c) out (omega arith) in
-        let here = ap (λ n. civil_end (transition_at z (n - 1))) all in
-        omega (arith, signed_arith)
+    below_end c all short out = below_last z some c all (subst (λ e. pos c <ℤ e) last_end short) out
 
     rows : TellsRows z p.edge
-    rows c range short out = elim (cases_lt (count z c) (size z)) [
-      | inl less ↦
-          let not_all : (count z c == vec_len z.transitions) ≡ false = grind (arith, nat_tests) in
-          rw not_all refl
-      | inr all ↦
-          let bound = count_bound z c in
-          absurd (below_end c (omega arith) short out)
-    ]
+    rows c range short out = rows_upto z some c range (subst (λ e. pos c <ℤ e) last_end short) out
 
     stands : (q : Reading) → IsRead (TableZone t) q → pos q.second <ℤ p.edge → Stand (TableZone t) z q
     stands q h short = stand (TableZone t) z (told_around t) p.edge rows q h short

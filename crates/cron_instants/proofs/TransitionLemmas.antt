@@ -44,6 +44,8 @@ pub record EdgesOf (s b a start end : ℤ) : Type 0 where
   pub after_end : (s +ℤ a) ≤ℤ end
   pub falling_start : a ≤ℤ b → start ≡ s +ℤ a
   pub falling_end : a ≤ℤ b → end ≡ s +ℤ b
+  pub rising_start : b ≤ℤ a → start ≡ s +ℤ b
+  pub rising_end : b ≤ℤ a → end ≡ s +ℤ a
 
 edges_by : (s b a : ℤ) (t : Bool) → int_lt a b ≡ t → EdgesOf s b a (s +ℤ cond t a b) (s +ℤ cond t b a)
 edges_by s b a true is =
@@ -54,6 +56,8 @@ edges_by s b a true is =
       after_end = omega (arith, signed_arith);
       falling_start = λ h. refl;
       falling_end = λ h. refl;
+      rising_start = λ h. omega (arith, signed_arith);
+      rising_end = λ h. omega (arith, signed_arith);
     }
 edges_by s b a false is =
     let more = lt-false a b is in record {
@@ -63,6 +67,8 @@ edges_by s b a false is =
       after_end = omega (arith, signed_arith);
       falling_start = λ h. omega (arith, signed_arith);
       falling_end = λ h. omega (arith, signed_arith);
+      rising_start = λ h. refl;
+      rising_end = λ h. refl;
     }
 
 pub edges_of : (t : Transition) → EdgesOf t.second t.before.seconds t.after.offset.seconds (civil_start t) (civil_end t)
@@ -97,7 +103,7 @@ counts_rise z c d le = elim (cases_lt (count z d) (count z c)) [
 ]
 
 -- past so many transitions the clock is at the offset before the next one
-before_is : (z : Tzif) (k : ℕ) → k < size z → (transition_at z k).before.seconds ≡ (type_after z k).offset.seconds
+pub before_is : (z : Tzif) (k : ℕ) → k < size z → (transition_at z k).before.seconds ≡ (type_after z k).offset.seconds
 before_is z zero l = first_goes_on z l
 before_is z (suc k) l =
     let parts = goes_on z k (omega arith) in

@@ -11,7 +11,7 @@ ghost use Rattle.cron_instants.specs.Inner.Monotone.{IsMonotone};
 
 use crate::mark::Mark;
 use crate::monotone::{Monotone, monotone_around, monotone_past};
-use crate::nearest::nearest_item;
+use crate::nearest::{nearest_item, stretch_around};
 use cron_clocks::stretch::Stretch;
 use cron_moments::civil::SECONDS;
 use cron_moments::moment::{Moment, moment_numbered};
@@ -20,45 +20,24 @@ use cron_units::fields::ScheduleFields;
 use cron_units::way::Way;
 use jiff::tz::TimeZone;
 
-// What is known of a civil second, in whose stretch it may lie.
-fn monotone_about(zone: &TimeZone<'_>, stretch: &Stretch, second: u32) -> Option<Monotone>
+// What is known of the civil second that a clock shows at a mark, if it is read at that instant.
+fn known_at(zone: &TimeZone<'_>, mark: Mark, second: u32, stretch: &Stretch) -> Option<Monotone>
+    requires low { stretch.now.first ≤ second }
+    requires high { second < stretch.now.end }
     requires range { second < seconds_in_range }
     requires known { IsKnown (plain_zone zone.now) stretch.now }
-    ensures { IfSome result (λ monotone. IsMonotone (plain_zone zone.now) second monotone) }
+    ensures monotone { IfSome result (λ monotone. IsMonotone (plain_zone zone.now) second monotone) }
+    ensures instant { IfSome result (λ monotone. mark.instant ≡ pos second -ℤ monotone.offset.seconds) }
+    ensures upto { IfSome result (λ monotone. second ≤ mark.second) }
 {
-    if stretch.has(second) {
-        return monotone_around(zone, stretch, second);
-    }
-    let around = Stretch::at(zone, second);
-    monotone_around(zone, &around, second)
-}
-
-// The civil second that a clock shows at a mark, and what is known of it, if it is read at that
-// instant.
-fn reading_at(
-    zone: &TimeZone<'_>,
-    mark: Mark,
-    shown: i64,
-    stretch: &Stretch,
-) -> Option<(u32, Monotone)>
-    requires { IsKnown (plain_zone zone.now) stretch.now }
-    ensures monotone { IfSome result (λ p. IsMonotone (plain_zone zone.now) p.0 p.1) }
-    ensures instant { IfSome result (λ p. mark.instant ≡ pos p.0 -ℤ p.1.offset.seconds) }
-    ensures upto { IfSome result (λ p. p.0 ≤ mark.second) }
-    ensures range { IfSome result (λ p. p.0 < seconds_in_range) }
-{
-    if shown < 0 || shown >= SECONDS {
-        return None;
-    }
-    let second = shown as u32;
-    let monotone = monotone_about(zone, stretch, second)?;
+    let monotone = monotone_around(zone, stretch, second)?;
     if i64::from(second) - i64::from(monotone.offset.seconds()) != mark.instant {
         return None;
     }
     if mark.second < second {
         return None;
     }
-    Some((second, monotone))
+    Some(monotone)
 }
 
 // The nearest item ahead of a mark, from the civil second that a clock shows at it.
@@ -68,7 +47,9 @@ fn item_past(
     mark: Mark,
     second: u32,
     monotone: Monotone,
+    stretch: &Stretch,
 ) -> Option<Moment>
+    requires known { IsKnown (plain_zone zone.now) stretch.now }
     requires monotone { IsMonotone (plain_zone zone.now) second monotone }
     requires instant { mark.instant ≡ pos second -ℤ monotone.offset.seconds }
     requires upto { second ≤ mark.second }
@@ -83,7 +64,7 @@ fn item_past(
     }
     match monotone_past(zone, next) {
         Some(there) => Some(moment_numbered(next, there.offset)),
-        None => nearest_item(fields, zone, Way::Ahead, mark),
+        None => nearest_item(fields, zone, Way::Ahead, mark, stretch),
     }
 }
 
@@ -102,8 +83,13 @@ pub(crate) fn first_item(
         (IsBeyond Ahead fields.now (plain_zone zone.now) mark.instant mark.second)
         result }
 {
-    match reading_at(zone, mark, shown, stretch) {
-        Some((second, monotone)) => item_past(fields, zone, mark, second, monotone),
-        None => nearest_item(fields, zone, Way::Ahead, mark),
+    if shown < 0 || shown >= SECONDS {
+        return nearest_item(fields, zone, Way::Ahead, mark, stretch);
+    }
+    let second = shown as u32;
+    let around = stretch_around(zone, stretch, second);
+    match known_at(zone, mark, second, &around) {
+        Some(monotone) => item_past(fields, zone, mark, second, monotone, &around),
+        None => nearest_item(fields, zone, Way::Ahead, mark, &around),
     }
 }

@@ -40,7 +40,13 @@ pub fn first_past(fields: &ScheduleFields, fire: &Moment, zone: &TimeZone<'_>) -
 pub fn last_by(fields: &ScheduleFields, now: Timestamp, zone: &TimeZone<'_>) -> Option<Moment>
     ensures { IsLastBy fields.now (plain_zone zone.now) now.nanosecond result }
 {
-    nearest_item(fields, zone, Way::Back, Mark::behind(now))
+    nearest_item(
+        fields,
+        zone,
+        Way::Back,
+        Mark::behind(now),
+        &Stretch::empty(),
+    )
 }
 
 /// The latest fire that is earlier than this one. `None` where there is none. The one that is
@@ -48,5 +54,5 @@ pub fn last_by(fields: &ScheduleFields, now: Timestamp, zone: &TimeZone<'_>) -> 
 pub fn last_before(fields: &ScheduleFields, fire: &Moment, zone: &TimeZone<'_>) -> Option<Moment>
     ensures { IsLastBefore fields.now (plain_zone zone.now) fire.now result }
 {
-    nearest_item(fields, zone, Way::Back, Mark::of(fire))
+    nearest_item(fields, zone, Way::Back, Mark::of(fire), &Stretch::empty())
 }

@@ -11,5 +11,6 @@ mod mark;
 mod monotone;
 mod nearest;
 mod offset_range;
+mod periods;
 pub mod run;
 mod shown;

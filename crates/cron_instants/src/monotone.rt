@@ -139,7 +139,7 @@ fn search_next(
 ) -> (Option<Moment>, Option<Monotone>)
     ensures { IsNext fields.now (plain_zone zone.now) mark.instant mark.second result.0 result.1 }
 {
-    let Some(item) = nearest_item(fields, zone, Way::Ahead, mark) else {
+    let Some(item) = nearest_item(fields, zone, Way::Ahead, mark, &Stretch::empty()) else {
         return (None, None);
     };
     let monotone = monotone_at(zone, &item);

@@ -1,8 +1,10 @@
 //! The nearest item beyond a place among the instants.
-ghost use Rattle.std.specs.Prelude.{◌≡◌, ◌≤◌, ◌<◌, IfSome, Some};
+ghost use Rattle.std.specs.Prelude.{◌≡◌, ◌≤◌, ◌<◌, IfSome, IsTrue, Some};
 ghost use Rattle.jiff.specs.Words.{plain_zone};
+ghost use Rattle.cron_clocks.specs.Steady.{IsKnown, IsSteady};
 ghost use Rattle.cron_moments.specs.Civil.{seconds_in_range};
-ghost use Rattle.cron_instants.specs.Inner.Beyond.{IsBest, IsBeyond, IsEntered, IsGoneOn, IsMatchAt, IsMatchIn, IsNotPast, IsSought, IsStart, entry_of, left_to_pass};
+ghost use Rattle.cron_moments.specs.Readings.{Reading};
+ghost use Rattle.cron_instants.specs.Inner.Beyond.{IsBest, IsBettered, IsBeyond, IsEntered, IsGoneOn, IsMatchAt, IsMatchIn, IsNoBetter, IsNotPast, IsSought, IsStart, entry_of, left_to_pass};
 
 use crate::item::nearer;
 use crate::mark::Mark;
@@ -112,24 +114,71 @@ fn item_at(
     Some(moment_numbered(second, offset))
 }
 
-// The nearest item of a stretch.
-fn item_in(fields: &ScheduleFields, stretch: &Stretch, way: Way, mark: Mark) -> Option<Moment>
+// Whether no civil second of a stretch, read at an offset, is better than the best so far.
+#[inline(always)]
+fn is_too_late(stretch: &Stretch, way: Way, offset: Offset, best: &Option<Moment>) -> bool
+    ensures { IsTrue result → (r : Reading) → stretch.now.first ≤ r.second
+        → r.second < stretch.now.end → r.offset ≡ offset → IsNoBetter way best.now r }
+{
+    let Some(item) = *best else {
+        return false;
+    };
+    let shown = instant_of(&item) + i64::from(offset.seconds());
+    match way {
+        Way::Ahead => shown < i64::from(stretch.first),
+        Way::Back => shown >= i64::from(stretch.end),
+    }
+}
+
+// The nearest of the best so far and the items of a stretch at one of its offsets.
+fn best_at(
+    fields: &ScheduleFields,
+    stretch: &Stretch,
+    way: Way,
+    mark: Mark,
+    offset: Offset,
+    best: &Option<Moment>,
+) -> Option<Moment>
     requires some { stretch.now.first < stretch.now.end }
     requires high { stretch.now.end ≤ seconds_in_range }
-    ensures { IsBest way (IsMatchIn way fields.now mark.instant mark.second stretch.now) result }
+    ensures { IsBettered way
+        (IsMatchAt way fields.now mark.instant mark.second stretch.now.first stretch.now.end offset)
+        best.now
+        result }
+{
+    if is_too_late(stretch, way, offset, best) {
+        return *best;
+    }
+    nearer(way, best, item_at(fields, stretch, way, mark, offset))
+}
+
+// The nearest of the best so far and the items of a stretch.
+fn best_in(
+    fields: &ScheduleFields,
+    stretch: &Stretch,
+    way: Way,
+    mark: Mark,
+    best: &Option<Moment>,
+) -> Option<Moment>
+    requires some { stretch.now.first < stretch.now.end }
+    requires high { stretch.now.end ≤ seconds_in_range }
+    ensures { IsBettered way
+        (IsMatchIn way fields.now mark.instant mark.second stretch.now)
+        best.now
+        result }
 {
     let Some(earlier) = stretch.earlier else {
-        return None;
+        return *best;
     };
-    let best = item_at(fields, stretch, way, mark, earlier);
+    let first = best_at(fields, stretch, way, mark, earlier, best);
     let Some(later) = stretch.later else {
-        return best;
+        return first;
     };
-    nearer(way, &best, item_at(fields, stretch, way, mark, later))
+    best_at(fields, stretch, way, mark, later, &first)
 }
 
 // From which civil second behind a stretch to go on, if a better item than the best so far can lie
-// there.
+// there. Past a best one the next stretch mostly has no better, so it is entered without a search.
 fn next_past(
     fields: &ScheduleFields,
     stretch: &Stretch,
@@ -159,22 +208,39 @@ fn next_past(
         Way::Back => instant_of(&item) - edge as i64,
     };
     if gap >= FURTHEST_OFFSET {
-        return None;
+        None
+    } else {
+        Some(edge)
     }
-    nearest_match(fields, way, edge as i64)
 }
 
-// A stretch with this civil second is passed: the best so far becomes better by its nearest item,
-// and the answer is from where to go on.
+/// The stretch around a civil second. It may be the one that is known.
+pub(crate) fn stretch_around(zone: &TimeZone<'_>, known: &Stretch, second: u32) -> Stretch
+    requires range { second < seconds_in_range }
+    requires known { IsKnown (plain_zone zone.now) known.now }
+    ensures steady { IsSteady (plain_zone zone.now) result }
+    ensures low { result.first ≤ second }
+    ensures high { second < result.end }
+{
+    if known.has(second) && i64::from(known.end) <= SECONDS {
+        return *known;
+    }
+    Stretch::at(zone, second)
+}
+
+// A stretch with this civil second in it is passed: the best so far becomes the nearest of it and
+// the items of the stretch, and the answer is from where to go on.
 fn pass(
     fields: &ScheduleFields,
     zone: &TimeZone<'_>,
     way: Way,
     mark: Mark,
+    known: &Stretch,
     second: u32,
     best: &mut Option<Moment>,
 ) -> Option<u32>
-    requires { IsSought way fields.now
+    requires known { IsKnown (plain_zone zone.now) known.now }
+    requires sought { IsSought way fields.now
         (plain_zone zone.now)
         mark.instant
         mark.second
@@ -188,19 +254,20 @@ fn pass(
         best.new }
     ensures less { left_to_pass way result < left_to_pass way (Some second) }
 {
-    let stretch = Stretch::at(zone, second);
-    let here = item_in(fields, &stretch, way, mark);
-    *best = nearer(way, best, here);
+    let stretch = stretch_around(zone, known, second);
+    *best = best_in(fields, &stretch, way, mark, best);
     next_past(fields, &stretch, way, best)
 }
 
-/// The nearest item beyond a mark.
+/// The nearest item beyond a mark. A stretch that is known isn't looked up again.
 pub(crate) fn nearest_item(
     fields: &ScheduleFields,
     zone: &TimeZone<'_>,
     way: Way,
     mark: Mark,
+    known: &Stretch,
 ) -> Option<Moment>
+    requires { IsKnown (plain_zone zone.now) known.now }
     ensures { IsBest way
         (IsBeyond way fields.now (plain_zone zone.now) mark.instant mark.second)
         result }
@@ -208,7 +275,7 @@ pub(crate) fn nearest_item(
     let mut best = None;
     let mut next = entrance(way, mark);
     while let Some(second) = next {
-        next = pass(fields, zone, way, mark, second, &mut best);
+        next = pass(fields, zone, way, mark, known, second, &mut best);
     }
     best
 }

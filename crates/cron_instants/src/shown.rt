@@ -1,8 +1,9 @@
 //! The first item after an instant by what a clock shows, one offset after another. That costs
 //! little around a transition too, where stretches of civil seconds would be asked several times.
-ghost use Rattle.std.specs.Prelude.{◌≡◌, ◌≤◌, ◌<◌, ℤ, neg_ℤ, pos, ◌+ℤ◌, ◌≤ℤ◌, IfSome, IsTrue};
+ghost use Rattle.std.specs.Prelude.{◌≡◌, ℕ, ◌≤◌, ◌<◌, ℤ, neg_ℤ, pos, ◌+ℤ◌, ◌≤ℤ◌, ◌<ℤ◌, IfSome, IsTrue, Some, false};
 ghost use Rattle.jiff.specs.Words.{plain_zone};
 ghost use Rattle.jiff_core.specs.Calendar.{IsBetween};
+ghost use Rattle.jiff_tz.specs.declared.timezone.TimeZone.TheVariants.{Tzif};
 ghost use Rattle.cron_clocks.specs.Clocks.{IsKeptUpTo, LookupsAgree};
 ghost use Rattle.cron_moments.specs.Civil.{seconds_in_range};
 ghost use Rattle.cron_time.specs.Matches.{is_match};
@@ -10,12 +11,15 @@ ghost use Rattle.cron_units.specs.declared.way.Way.TheVariants.{Ahead};
 ghost use Rattle.cron_units.specs.Nearest.{IsNearest};
 ghost use Rattle.cron_units.specs.Sets.{Sets};
 ghost use Rattle.cron_instants.specs.Inner.Beyond.{IsBest, IsBeyond};
+ghost use Rattle.cron_instants.specs.Inner.Periods.{IsLastOf};
 ghost use Rattle.cron_instants.specs.Inner.Shown.{IsFirstShown, IsFrom, IsItemIn};
 
 use crate::mark::Mark;
+use crate::monotone::monotone_past;
 use crate::offset_range::APART;
+use crate::periods::{period_past, transitions_by};
 use cron_clocks::clock::{Kept, keeping_by_rule, kept_by_rule};
-use cron_moments::civil::FURTHEST_OFFSET;
+use cron_moments::civil::{FURTHEST_OFFSET, SECONDS, SECONDS_PER_DAY};
 use cron_moments::moment::{Moment, moment_numbered};
 use cron_time::search::civil_seconds::nearest_match;
 use cron_units::fields::ScheduleFields;
@@ -42,7 +46,29 @@ fn match_from(fields: &ScheduleFields, from: i64, earlier: i64, known: Option<u3
     if earlier <= from && lies_from(known, from) {
         return known;
     }
+    if from <= earlier && has_no_hour(fields, from, earlier) {
+        return known;
+    }
     nearest_match(fields, Way::Ahead, from)
+}
+
+// Whether no civil second from one number on and before another matches, as the hours of a day tell
+// it. In a fold that spares a search of its hour.
+fn has_no_hour(fields: &ScheduleFields, from: i64, end: i64) -> bool
+    ensures { IsTrue result → (k : ℕ) → from ≤ℤ pos k → pos k <ℤ end
+        → is_match fields.now k ≡ false }
+{
+    if from < 0 || end < from || end >= SECONDS {
+        return false;
+    }
+    let (first, last) = (from as u32, end as u32);
+    if first / SECONDS_PER_DAY != last / SECONDS_PER_DAY {
+        return false;
+    }
+    match fields.nearest_hour(Way::Ahead, first % SECONDS_PER_DAY / 3600) {
+        Some(hour) => last % SECONDS_PER_DAY / 3600 < hour,
+        None => true,
+    }
 }
 
 // Whether the civil second, if there is one, isn't before a number.
@@ -158,7 +184,75 @@ fn first_behind(
     first_in_long(zone, kept, match_from(fields, from, earlier, known))
 }
 
-/// The same in any zone. It is known in zones with a rule alone.
+// The first item from an instant on, that of the last of so many transitions of the zone's table,
+// if it is known. The nearest match from a number on is known.
+fn first_past_transition(
+    fields: &ScheduleFields,
+    zone: &TimeZone<'_>,
+    table: &jiff_tz::Tzif,
+    count: usize,
+    at: i64,
+    earlier: i64,
+    known: Option<u32>,
+) -> Option<Moment>
+    requires zone { plain_zone zone.now ≡ Tzif table }
+    requires last { IsLastOf table.now count at }
+    requires at { IsBetween (neg_ℤ (pos 400_000_000_000)) (pos 400_000_000_001) at }
+    requires known { IsNearest Ahead (is_match fields.now) earlier known }
+    requires bound { IfSome known (λ n. n < seconds_in_range) }
+    ensures { IfSome result
+        (λ item. IsBest Ahead (IsFrom fields.now (plain_zone zone.now) at) (Some item)) }
+{
+    let kept = period_past(table, count)?;
+    let from = at + i64::from(kept.offset.seconds());
+    let next = match_from(fields, from, earlier, known);
+    if let Some(item) = item_in(&kept, next) {
+        return Some(item);
+    }
+    let second = next?;
+    let there = monotone_past(zone, second)?;
+    if i64::from(second) - i64::from(there.offset.seconds()) < at {
+        return None;
+    }
+    Some(moment_numbered(second, there.offset))
+}
+
+// The first item beyond a mark that lies behind each item of its instant, if the table of the zone
+// tells it.
+#[inline(never)]
+fn first_by_table(
+    fields: &ScheduleFields,
+    zone: &TimeZone<'_>,
+    table: &jiff_tz::Tzif,
+    mark: Mark,
+) -> Option<Moment>
+    requires zone { plain_zone zone.now ≡ Tzif table }
+    requires behind { seconds_in_range ≤ mark.second }
+    ensures { IfSome result
+        (λ item. IsBest Ahead
+        (IsBeyond Ahead fields.now (plain_zone zone.now) mark.instant mark.second)
+        (Some item)) }
+{
+    let at = mark.instant + 1;
+    let count = transitions_by(table, at);
+    let kept = period_past(table, count)?;
+    let from = at + i64::from(kept.offset.seconds());
+    let next = nearest_match(fields, Way::Ahead, from);
+    if let Some(item) = item_in(&kept, next) {
+        return Some(item);
+    }
+    first_past_transition(
+        fields,
+        zone,
+        table,
+        count + 1,
+        i64::from(kept.end),
+        from,
+        next,
+    )
+}
+
+/// The same in any zone. It is known in zones with a rule or a table, and not in all of them.
 #[inline(always)]
 pub(crate) fn first_shown(
     fields: &ScheduleFields,
@@ -170,11 +264,14 @@ pub(crate) fn first_shown(
         (IsBest Ahead
         (IsBeyond Ahead fields.now (plain_zone zone.now) mark.instant mark.second)) }
 {
-    let jiff_tz::TimeZone::Posix(rule) = zone.to_plain() else {
-        return None;
-    };
-    if rule.dst.is_none() {
-        return None;
+    match zone.to_plain() {
+        jiff_tz::TimeZone::Posix(rule) => {
+            if rule.dst.is_none() {
+                return None;
+            }
+            first_by_rule(fields, zone, mark)
+        }
+        jiff_tz::TimeZone::Tzif(table) => Some(Some(first_by_table(fields, zone, table, mark)?)),
+        _ => None,
     }
-    first_by_rule(fields, zone, mark)
 }

@@ -1,5 +1,5 @@
 -- The nearest item beyond a place among the instants, in a direction.
-use Rattle.std.specs.Prelude.{◌≡◌, ℕ, ◌+◌, ◌-◌, ◌<◌, ◌≤◌, ℤ, ◌+ℤ◌, ◌-ℤ◌, pos, Bool, true, false, Option, Some, None, MatchOption, IfSome, if◌then◌else◌, slice_get, int_lt}
+use Rattle.std.specs.Prelude.{◌≡◌, ◌⊎◌, ℕ, ◌+◌, ◌-◌, ◌<◌, ◌≤◌, ℤ, ◌+ℤ◌, ◌-ℤ◌, pos, Bool, true, false, Option, Some, None, MatchOption, IfSome, if◌then◌else◌, slice_get, int_lt}
 use Rattle.jiff_core.specs.declared.Offset.{Offset}
 use Rattle.jiff_tz.specs.declared.timezone.TimeZone.{TimeZone}
 use Rattle.cron_units.specs.declared.way.Way.{Way}
@@ -32,6 +32,10 @@ IsNoBetter way (Some best) r = is_nearer way r best ≡ false
 abbrev pub IsBest : Way → (Reading → Type 0) → Option Reading → Type 0
 IsBest way P best =
     MatchOption best ((r : Reading) → P r → ⊥) (λ b. P b × ((r : Reading) → P r → is_nearer way r b ≡ false))
+
+-- the nearest of the best one so far and the readings with a property
+abbrev pub IsBettered : Way → (Reading → Type 0) → Option Reading → Option Reading → Type 0
+IsBettered way P best better = IsBest way (λ r. (best ≡ Some r) ⊎ P r) better
 
 -- the nearer of two
 abbrev pub nearer_of : Way → Option Reading → Option Reading → Option Reading

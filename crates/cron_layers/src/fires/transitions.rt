@@ -1,7 +1,7 @@
 //! Runs over transitions of the clock, over new years and at the ends of the range. The instants
 //! are those of Python's `zoneinfo`.
 
-use super::zone_files::{NOON, read_file};
+use super::zone_files::{LENGTHS, NOON, read_file};
 use super::{CHICAGO, seconds};
 use cron::Schedule;
 use cron_fires::{Fires, first_fire_after};
@@ -36,7 +36,8 @@ fn check_run(
     }
 }
 
-// Whether each second of so many fires, one after another.
+// Whether each second of so many fires: one after another, and each as the first after the one
+// before.
 fn check_seconds(rt: &(impl Abort + AllocGlobal), zone: &TimeZone<'_>, start: i64, count: u16) {
     let schedule = Schedule::from_str(rt.alloc(), "* * * * * *").expect(rt, "a schedule");
     let mut run = Fires::after(
@@ -45,15 +46,23 @@ fn check_seconds(rt: &(impl Abort + AllocGlobal), zone: &TimeZone<'_>, start: i6
         zone,
     );
     for past in 1..=count {
-        assert_eq!(rt; seconds(run.next()), Some(start + i64::from(past)));
+        let instant = start + i64::from(past);
+        assert_eq!(rt; seconds(run.next()), Some(instant));
+        let before = Timestamp::from_second(instant.saturating_sub(1)).expect(rt, "an instant");
+        assert_eq!(rt;
+            seconds(first_fire_after(&schedule, before, zone)),
+            Some(instant)
+        );
     }
 }
 
 // The clock goes forth and back four times within two hours.
 #[test]
 fn each_second_of_turning_hours_fires(rt: HostRuntime) {
-    let file = read_file(&rt);
-    check_seconds(&rt, &TimeZone::tzif(&file), NOON - 8000, 24_000);
+    for length in LENGTHS {
+        let file = read_file(&rt, length);
+        check_seconds(&rt, &TimeZone::tzif(&file), NOON - 8000, 24_000);
+    }
 }
 
 // Chicago's fold of 2022-11-06 begins at 06:00Z, and the gap of 2022-03-13 at 08:00Z.

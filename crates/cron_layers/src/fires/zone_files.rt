@@ -7,45 +7,63 @@ use jiff::Timestamp;
 use jiff::tz::{TimeZone, Tzif};
 use std::process::Abort;
 
-// A file of version 2 up to its transitions: a block with one type alone, and the header of a block
-// with four transitions, two types and eight bytes of names.
+// A file of version 2 up to the number of its transitions: a block with one type alone, and the
+// beginning of the header of the next block.
 const FRONT: &[u8] = b"TZif2\0\0\0\0\0\0\0\0\0\0\0\0\0\0\0\
 \0\0\0\0\0\0\0\0\0\0\0\0\0\0\0\0\0\0\0\x01\0\0\0\x04\
 \0\0\0\0\0\0AAA\0\
 TZif2\0\0\0\0\0\0\0\0\0\0\0\0\0\0\0\
-\0\0\0\0\0\0\0\0\0\0\0\0\0\0\0\x04\0\0\0\x02\0\0\0\x08";
+\0\0\0\0\0\0\0\0\0\0\0\0\0\0\0";
 
-// The indexes of the types after the transitions, the types `AAA` at UTC and `BBB` half an hour
-// ahead, the names and the footer.
-const END: &[u8] = b"\x01\0\x01\0\0\0\0\0\0\0\0\0\x07\x08\x01\x04AAA\0BBB\0\nAAA0\n";
+// Two types and eight bytes of names.
+const COUNTS: &[u8] = b"\0\0\0\x02\0\0\0\x08";
+
+// The indexes of the types after the transitions.
+const INDEXES: &[u8] = b"\x01\0\x01\0\0";
+
+// The types `AAA` at UTC and `BBB` half an hour ahead, the names and the footer.
+const END: &[u8] = b"\0\0\0\0\0\0\0\0\x07\x08\x01\x04AAA\0BBB\0\nAAA0\n";
 
 // 2020-03-01T12:00:00Z, when the clock goes from 12:00 to 12:30. At 12:30Z it goes from 13:00 back
 // to 12:30, at 13:00Z from 13:00 to 13:30, and at 13:30Z from 14:00 back to 13:30.
 pub(super) const NOON: i64 = 1_583_064_000;
 
+// These, and one a year later at which nothing changes.
+const TRANSITIONS: [i64; 5] = [
+    NOON,
+    NOON + 1800,
+    NOON + 3600,
+    NOON + 5400,
+    NOON + 31_536_000,
+];
+
+/// How many of the transitions a file has: up to the last change, or one a year past it too. Before
+/// the last one of a table, fires are found in another way than near it.
+pub(super) const LENGTHS: [u8; 2] = [4, 5];
+
 const QUARTER: i64 = 900;
 
-fn zone_file(rt: &(impl Abort + AllocGlobal)) -> Vec<u8> {
+fn zone_file(rt: &(impl Abort + AllocGlobal), length: u8) -> Vec<u8> {
+    let transitions = TRANSITIONS.iter().take(usize::from(length));
+    let indexes = INDEXES.iter().take(usize::from(length));
     let mut bytes = Vec::new(rt.alloc());
-    bytes.extend_from_slice(FRONT).expect(rt, "memory");
-    bytes
-        .extend_from_slice(&NOON.to_be_bytes())
-        .expect(rt, "memory");
-    bytes
-        .extend_from_slice(&(NOON + 1800).to_be_bytes())
-        .expect(rt, "memory");
-    bytes
-        .extend_from_slice(&(NOON + 3600).to_be_bytes())
-        .expect(rt, "memory");
-    bytes
-        .extend_from_slice(&(NOON + 5400).to_be_bytes())
-        .expect(rt, "memory");
+    for part in [FRONT, &[length], COUNTS] {
+        bytes.extend_from_slice(part).expect(rt, "memory");
+    }
+    for transition in transitions {
+        bytes
+            .extend_from_slice(&transition.to_be_bytes())
+            .expect(rt, "memory");
+    }
+    for index in indexes {
+        bytes.push(*index).expect(rt, "memory");
+    }
     bytes.extend_from_slice(END).expect(rt, "memory");
     bytes
 }
 
-pub(super) fn read_file(rt: &(impl Abort + AllocGlobal)) -> Tzif {
-    let bytes = zone_file(rt);
+pub(super) fn read_file(rt: &(impl Abort + AllocGlobal), length: u8) -> Tzif {
+    let bytes = zone_file(rt, length);
     Tzif::parse(rt.alloc(), None, bytes.as_slice()).expect(rt, "a zone file")
 }
 
@@ -79,8 +97,10 @@ fn check_quarters(rt: &(impl Abort + AllocGlobal), zone: &TimeZone<'_>) {
 
 #[test]
 fn each_quarter_of_turning_hours_fires(rt: HostRuntime) {
-    let file = read_file(&rt);
-    check_quarters(&rt, &TimeZone::tzif(&file));
+    for length in LENGTHS {
+        let file = read_file(&rt, length);
+        check_quarters(&rt, &TimeZone::tzif(&file));
+    }
 }
 
 fn check_past(rt: &(impl Abort + AllocGlobal), zone: &TimeZone<'_>) {
@@ -99,6 +119,8 @@ fn check_past(rt: &(impl Abort + AllocGlobal), zone: &TimeZone<'_>) {
 
 #[test]
 fn both_readings_of_a_turning_hour_fire(rt: HostRuntime) {
-    let file = read_file(&rt);
-    check_past(&rt, &TimeZone::tzif(&file));
+    for length in LENGTHS {
+        let file = read_file(&rt, length);
+        check_past(&rt, &TimeZone::tzif(&file));
+    }
 }

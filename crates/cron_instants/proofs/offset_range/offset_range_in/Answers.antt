@@ -16,9 +16,7 @@ returns-in_default c =
 pub returns-then-is_empty : goal.returns-then-is_empty
 returns-then-is_empty c =
     let p = c.offsets_with.result in
-    let same = sizes c.args.table p c.in-Some.rule c.posix_tz.result c.transitions-transitions.result.now c.posix_tz.ensures c.in-Some.is
-    c.transitions-transitions.ensures
-    c.offsets_with.ensures.rule in
+    let same = sizes c.args.table.now c.transitions-transitions.result.now c.transitions-transitions.ensures in
     let empty : (length c.transitions-transitions.result.now == 0) ≡ true = sym c.is_empty.ensures ∙ c.if-is_empty.true in
     let none : length c.transitions-transitions.result.now ≡ 0 = grind (arith, nat_tests) in
     offset_range_of_rule c.args.table p c.in-Some.rule c.posix_tz.result c.transitions-transitions.result.now c.posix_tz.ensures c.in-Some.is c.transitions-transitions.ensures
@@ -27,9 +25,7 @@ returns-then-is_empty c =
 pub returns : goal.returns
 returns c =
     let p = c.offsets_with-2.result in
-    let same = sizes c.args.table p c.in-Some.rule c.posix_tz.result c.transitions-transitions.result.now c.posix_tz.ensures c.in-Some.is
-    c.transitions-transitions.ensures
-    c.offsets_with-2.ensures.rule in
+    let same = sizes c.args.table.now c.transitions-transitions.result.now c.transitions-transitions.ensures in
     let some : (length c.transitions-transitions.result.now == 0) ≡ false = sym c.is_empty.ensures ∙ c.if-is_empty.false in
     let any : 0 < length c.transitions-transitions.result.now = grind (arith, nat_tests) in
     let place : length c.transitions-transitions.result.now - 1 ≡ size c.args.table.now - 1 = ap (λ n. n - 1) same in

@@ -2,7 +2,8 @@ use Rattle.std.proofs.Common.{◌≡◌, ◌+ℤ◌, pos, Bool, true, Some, of_z
 use Rattle.std.specs.Bool.{IsTrue}
 use Rattle.jiff.specs.Words.{plain_zone}
 use Rattle.jiff_core.proofs.SignedLemmas.{signed_arith, signed_casts}
-use Rattle.cron_instants.proofs.ShownLemmas.{best_beyond, best_in, best_on, if_some, none_in}
+use Rattle.cron_instants.proofs.ShownLemmas.{best_beyond, best_on, if_some}
+use Rattle.cron_instants.proofs.PeriodLemmas.{best_in, none_in, period_kept}
 use Rattle.cron_instants.proofs.shown.first_by_rule.Goals as goal
 
 is_true : (b : Bool) → b ≡ true → IsTrue b
@@ -33,7 +34,8 @@ returns-in-Some c =
     let keeps = rw at at c.in_ok-keeping.ensures.kept in
     let nearest = rw from at (rw at at c.nearest_match-next.ensures.nearest) in
     best_beyond c.args.fields.now (plain_zone c.args.zone.now) c.args.mark.instant (c.args.mark.instant +ℤ pos 1) c.args.mark.second (Some c.in-Some.item) refl c.requires
-    (best_in c.args.fields.now (plain_zone c.args.zone.now) c.in_ok-keeping.ensures.agree (c.args.mark.instant +ℤ pos 1) c.in_ok-keeping.keeping.kept keeps
+    (best_in c.args.fields.now (plain_zone c.args.zone.now) (c.args.mark.instant +ℤ pos 1) c.in_ok-keeping.keeping.kept
+    (period_kept (plain_zone c.args.zone.now) (c.args.mark.instant +ℤ pos 1) c.in_ok-keeping.keeping.kept c.in_ok-keeping.ensures.agree keeps)
     c.nearest_match-next.result nearest c.in-Some.item c.in-Some.ensures)
 
 pub returns : goal.returns
@@ -47,7 +49,8 @@ returns c =
     let nearest = rw from at (rw at at c.nearest_match-next.ensures.nearest) in
     let end : to_z w64 (of_z w64 c.from-end.result) ≡ pos c.in_ok-keeping.keeping.kept.end = omega (arith, signed_casts, c.from-end.ensures) in
     let later = keeps.later in
-    let none = none_in c.args.fields.now (plain_zone c.args.zone.now) c.in_ok-keeping.ensures.agree (c.args.mark.instant +ℤ pos 1) c.in_ok-keeping.keeping.kept keeps
+    let none = none_in c.args.fields.now (plain_zone c.args.zone.now) (c.args.mark.instant +ℤ pos 1) c.in_ok-keeping.keeping.kept
+    (period_kept (plain_zone c.args.zone.now) (c.args.mark.instant +ℤ pos 1) c.in_ok-keeping.keeping.kept c.in_ok-keeping.ensures.agree keeps)
     c.nearest_match-next.result nearest c.in_default.ensures in
     if_some
     (λ first best. best_beyond c.args.fields.now (plain_zone c.args.zone.now) c.args.mark.instant (c.args.mark.instant +ℤ pos 1) c.args.mark.second first refl c.requires
