@@ -1,5 +1,6 @@
 //! Zones whose two look-ups agree, and rules where they don't.
 
+use crate::compared::{check_same, check_same_at};
 use cron_clocks::lookups_agree;
 use jiff::tz::{Offset, TimeZone};
 use std::process::Abort;
@@ -8,15 +9,15 @@ use std::process::Abort;
 fn check_rules(rt: &impl Abort, texts: &[&str], wanted: bool) {
     for text in texts {
         let zone = TimeZone::posix(text).expect(rt, "a zone");
-        assert_eq!(rt; lookups_agree(&zone), wanted, "{text}");
+        check_same_at(rt, &text, lookups_agree(&zone), wanted);
     }
 }
 
 #[test]
 fn one_offset_agrees(rt: HostRuntime) {
-    assert!(rt; lookups_agree(&TimeZone::UTC));
+    check_same(&rt, lookups_agree(&TimeZone::UTC), true);
     let half_past = TimeZone::fixed(Offset::from_seconds(19_800).expect(&rt, "an offset"));
-    assert!(rt; lookups_agree(&half_past));
+    check_same(&rt, lookups_agree(&half_past), true);
 }
 
 #[test]

@@ -1,5 +1,6 @@
 //! Each caller of `cron_callers` once.
 
+use crate::compared::check_same;
 use cron::Schedule;
 use cron::schedule::Moment;
 use cron_callers::{
@@ -32,7 +33,7 @@ fn listed(rt: &(impl Abort + AllocGlobal), moments: &[Moment]) -> String {
 
 fn check_moments(rt: &(impl Abort + AllocGlobal), moments: &[Moment], wanted: &str) {
     let listed = listed(rt, moments);
-    assert_eq!(rt; listed.as_str(), wanted);
+    check_same(rt, listed.as_str(), wanted);
 }
 
 #[test]
@@ -100,7 +101,7 @@ fn two_items_are_left(rt: HostRuntime) {
         &rt,
         "a schedule",
     );
-    assert_eq!(rt; count_items(&schedule, start, &TimeZone::UTC, 10), 2);
+    check_same(&rt, count_items(&schedule, start, &TimeZone::UTC, 10), 2);
 }
 
 #[test]
@@ -109,7 +110,7 @@ fn a_day_with_a_fold_has_an_hour_more(rt: HostRuntime) {
     let date = Date::new(2022, 11, 6).expect(&rt, "a date");
     let schedule = Schedule::from_str(rt.alloc(), "@hourly").expect(&rt, "a schedule");
     let items = items_of_day(rt.alloc(), &schedule, eve, date, &zone).expect(&rt, "memory");
-    assert_eq!(rt; items.len(), 25);
+    check_same(&rt, items.len(), 25);
 }
 
 // The missed runs of a schedule in New York between two instants.
@@ -186,7 +187,7 @@ fn runs_are_missed_from_the_end_of_a_gap(rt: HostRuntime) {
 #[test]
 fn a_line_has_no_fault(rt: HostRuntime) {
     let fault = fault_of(rt.alloc(), "@weekly").expect(&rt, "memory");
-    assert!(rt; fault.is_none());
+    check_same(&rt, fault.is_none(), true);
 }
 
 #[test]
@@ -194,40 +195,41 @@ fn a_line_has_one_fault(rt: HostRuntime) {
     let fault = fault_of(rt.alloc(), "0 0 0 0 * *")
         .expect(&rt, "memory")
         .expect(&rt, "no fault");
-    assert_eq!(rt;
+    check_same(
+        &rt,
         fault.as_str(),
-        "Days of Month must be greater than or equal to 1. ('0' specified.)"
+        "Days of Month must be greater than or equal to 1. ('0' specified.)",
     );
 }
 
 #[test]
 fn nine_years_are_counted(rt: HostRuntime) {
     let schedule = Schedule::from_str(rt.alloc(), "0 0 0 1 1 * 2020/10").expect(&rt, "a schedule");
-    assert_eq!(rt; year_count(&schedule), 9);
+    check_same(&rt, year_count(&schedule), 9);
 }
 
 #[test]
 fn hours_descend(rt: HostRuntime) {
     let schedule = Schedule::from_str(rt.alloc(), "0 0 9-17/4 * * *").expect(&rt, "a schedule");
     let hours = descending_hours(rt.alloc(), &schedule).expect(&rt, "memory");
-    assert_eq!(rt; hours.as_slice(), [17, 13, 9].as_slice());
-    assert_eq!(rt; count_hours(&schedule, 9, 16), 2);
+    check_same(&rt, hours.as_slice(), [17, 13, 9].as_slice());
+    check_same(&rt, count_hours(&schedule, 9, 16), 2);
 }
 
 #[test]
 fn minutes_lie_between(rt: HostRuntime) {
     let schedule = Schedule::from_str(rt.alloc(), "0 */15 * * * *").expect(&rt, "a schedule");
     let minutes = minutes_between(rt.alloc(), &schedule, 10, 45).expect(&rt, "memory");
-    assert_eq!(rt; minutes.as_slice(), [15, 30, 45].as_slice());
+    check_same(&rt, minutes.as_slice(), [15, 30, 45].as_slice());
 }
 
 #[test]
 fn july_is_an_odd_month(rt: HostRuntime) {
     let schedule = Schedule::from_str(rt.alloc(), "0 0 0 1 */2 *").expect(&rt, "a schedule");
     let months = summer_months(rt.alloc(), &schedule).expect(&rt, "memory");
-    assert_eq!(rt; months.as_slice(), [7].as_slice());
-    assert_eq!(rt; some_warm_month(&schedule), Some(7));
-    assert_eq!(rt; greatest_month(&schedule, 8, 12), Some(11));
+    check_same(&rt, months.as_slice(), [7].as_slice());
+    check_same(&rt, some_warm_month(&schedule), Some(7));
+    check_same(&rt, greatest_month(&schedule, 8, 12), Some(11));
 }
 
 #[test]
@@ -235,8 +237,16 @@ fn alarms_ascend_at_one_offset(rt: HostRuntime) {
     let schedule = Schedule::from_str(rt.alloc(), "* * * * * *").expect(&rt, "a schedule");
     let offset = Offset::from_seconds(19_800).expect(&rt, "an offset");
     let alarms = first_alarms(&schedule, instant(&rt, "1969-12-31T18:29:59.25Z"), offset);
-    assert_eq!(rt; alarms.first, Some(instant(&rt, "1969-12-31T18:30:00Z")));
-    assert_eq!(rt; alarms.second, Some(instant(&rt, "1969-12-31T18:30:01Z")));
+    check_same(
+        &rt,
+        alarms.first,
+        Some(instant(&rt, "1969-12-31T18:30:00Z")),
+    );
+    check_same(
+        &rt,
+        alarms.second,
+        Some(instant(&rt, "1969-12-31T18:30:01Z")),
+    );
 }
 
 // The first hour of the fold, as a service noted it.
@@ -260,5 +270,5 @@ fn both_orders_go_on_in_a_fold(rt: HostRuntime) {
 #[test]
 fn no_schedule_has_a_thirteenth_month(rt: HostRuntime) {
     let schedule = Schedule::from_str(rt.alloc(), "* * * * * *").expect(&rt, "a schedule");
-    assert!(rt; !has_thirteenth_month(&schedule));
+    check_same(&rt, has_thirteenth_month(&schedule), false);
 }

@@ -1,5 +1,6 @@
 //! Texts, by both readers. The counts are those of a scan in Python.
 
+use crate::compared::{check_same, check_same_at};
 use cron_crontab::read;
 use cron_text::{no_ordinals, read_into};
 
@@ -40,8 +41,8 @@ fn is_own(text: &str) -> bool {
 #[test]
 fn nicknames_alone_are_both(rt: HostRuntime) {
     for (text, crontabs, own) in TEXTS {
-        assert_eq!(rt; is_crontabs(text), crontabs, "{text:?}");
-        assert_eq!(rt; is_own(text), own, "{text:?}");
+        check_same_at(&rt, &text, is_crontabs(text), crontabs);
+        check_same_at(&rt, &text, is_own(text), own);
     }
 }
 
@@ -71,5 +72,5 @@ fn of_all_short_texts_none_is_both(rt: HostRuntime) {
             (false, false) => {}
         }
     }
-    assert_eq!(rt; (crontabs, own), (256, 16_330));
+    check_same(&rt, (crontabs, own), (256, 16_330));
 }

@@ -4,6 +4,7 @@
 mod transitions;
 mod zone_files;
 
+use crate::compared::check_same;
 use cron::Schedule;
 use cron::schedule::Moment;
 use cron_fires::{Fires, first_fire_after, first_fire_past, last_fire_by, missed};
@@ -38,15 +39,15 @@ fn both_hours_of_a_fold_fire(rt: HostRuntime) {
         &zone,
     )
     .expect(&rt, "a fire");
-    assert_eq!(rt; first.timestamp().as_second(), HALF_PAST);
+    check_same(&rt, first.timestamp().as_second(), HALF_PAST);
     let second = first_fire_after(
         &schedule,
         Timestamp::from_second(HALF_PAST).expect(&rt, "an instant"),
         &zone,
     );
-    assert_eq!(rt; seconds(second), Some(HALF_PAST + 3600));
+    check_same(&rt, seconds(second), Some(HALF_PAST + 3600));
     let past = first_fire_past(&schedule, &first, &zone);
-    assert_eq!(rt; past, second);
+    check_same(&rt, past == second, true);
 }
 
 #[test]
@@ -58,7 +59,7 @@ fn the_last_fire_is_the_latest(rt: HostRuntime) {
         Timestamp::from_second(LATER + 1799).expect(&rt, "an instant"),
         &zone,
     );
-    assert_eq!(rt; seconds(last), Some(LATER));
+    check_same(&rt, seconds(last), Some(LATER));
 }
 
 #[test]
@@ -71,14 +72,14 @@ fn a_run_has_both_hours_of_a_fold(rt: HostRuntime) {
         &zone,
     );
     let first = run.next().expect(&rt, "a fire");
-    assert_eq!(rt; first.timestamp().as_second(), HALF_PAST);
+    check_same(&rt, first.timestamp().as_second(), HALF_PAST);
     let mut again = Fires::past(&schedule, &first, &zone);
     let second = run.next();
-    assert_eq!(rt; seconds(second), Some(HALF_PAST + 3600));
-    assert_eq!(rt; again.next(), second);
-    assert_eq!(rt; run.next(), None);
-    assert_eq!(rt; run.next(), None);
-    assert_eq!(rt; again.next(), None);
+    check_same(&rt, seconds(second), Some(HALF_PAST + 3600));
+    check_same(&rt, again.next() == second, true);
+    check_same(&rt, run.next(), None);
+    check_same(&rt, run.next(), None);
+    check_same(&rt, again.next(), None);
 }
 
 #[test]
@@ -88,12 +89,16 @@ fn a_stretch_has_its_last_instant(rt: HostRuntime) {
     let last = Timestamp::from_second(HALF_PAST).expect(&rt, "an instant");
     let now = Timestamp::from_second(HALF_PAST + 3600).expect(&rt, "an instant");
     let fires = missed(rt.alloc(), &schedule, last, now, &zone).expect(&rt, "memory");
-    assert_eq!(rt; fires.len(), 2);
+    check_same(&rt, fires.len(), 2);
     let mut run = Fires::between(&schedule, last, now, &zone);
-    assert_eq!(rt; seconds(run.next()), Some(HALF_PAST + 1800));
-    assert_eq!(rt; seconds(run.next()), Some(HALF_PAST + 3600));
-    assert_eq!(rt; run.next(), None);
-    assert_eq!(rt; Fires::between(&schedule, now, last, &zone).next(), None);
+    check_same(&rt, seconds(run.next()), Some(HALF_PAST + 1800));
+    check_same(&rt, seconds(run.next()), Some(HALF_PAST + 3600));
+    check_same(&rt, run.next(), None);
+    check_same(
+        &rt,
+        Fires::between(&schedule, now, last, &zone).next(),
+        None,
+    );
 }
 
 // From 2001-04-10T00:30Z to 01:00Z two seconds share each instant: 23:30 at -01:00 and 00:30 at
@@ -109,8 +114,8 @@ fn both_of_two_at_one_instant_fire(rt: HostRuntime) {
         &zone,
     );
     let (first, second) = (run.next(), run.next());
-    assert_eq!(rt; seconds(first), Some(shared));
-    assert_eq!(rt; seconds(second), Some(shared));
-    assert!(rt; first != second);
-    assert_eq!(rt; seconds(run.next()), Some(shared + 3600));
+    check_same(&rt, seconds(first), Some(shared));
+    check_same(&rt, seconds(second), Some(shared));
+    check_same(&rt, first != second, true);
+    check_same(&rt, seconds(run.next()), Some(shared + 3600));
 }

@@ -11,6 +11,8 @@ mod callers;
 #[cfg(test)]
 mod checks;
 #[cfg(test)]
+mod compared;
+#[cfg(test)]
 mod dialects;
 #[cfg(test)]
 mod fires;

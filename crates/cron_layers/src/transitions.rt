@@ -1,6 +1,7 @@
 //! Each second around the transitions of rules, and those around the ends of stretches, as
 //! `cron_clocks` tells them and as `jiff` does.
 
+use crate::compared::{check_same, check_same_at};
 use cron_clocks::clock::shown_at;
 use cron_clocks::stretch::Stretch;
 use cron_moments::civil::{SECONDS, civil_number};
@@ -64,7 +65,7 @@ fn check_instants(rt: &impl Abort, zone: &TimeZone<'_>, instant: i64, around: i6
         let at = Timestamp::from_second(second).expect(rt, "an instant");
         let mut stretch = Stretch::empty();
         let shown = shown_at(zone, at, &mut stretch);
-        assert_eq!(rt; shown, civil_number(zone.to_datetime(at)), "{second}");
+        check_same_at(rt, &second, shown, civil_number(zone.to_datetime(at)));
     }
 }
 
@@ -76,7 +77,7 @@ fn check_civil_seconds(rt: &impl Abort, zone: &TimeZone<'_>, civil: i64, around:
             continue;
         };
         let readings = Stretch::at(zone, second).readings(second);
-        assert_eq!(rt; readings, readings_of(zone, second), "{second}");
+        check_same_at(rt, &second, readings, readings_of(zone, second));
     }
 }
 
@@ -100,7 +101,7 @@ fn check_transitions(rt: &impl Abort, zone: &TimeZone<'_>, start: i64) {
         check_around(rt, zone, transition.timestamp().as_second());
         transitions = transitions.saturating_add(1);
     }
-    assert_eq!(rt; transitions, 3);
+    check_same(rt, transitions, 3);
 }
 
 // The seconds around the ends of stretches, one after another from a civil second on. Where a
@@ -114,7 +115,7 @@ fn check_stretches(rt: &impl Abort, zone: &TimeZone<'_>, start: i64) {
         let end = Stretch::at(zone, second).end;
         check_instants(rt, zone, i64::from(end), NARROW);
         check_civil_seconds(rt, zone, i64::from(end), NARROW);
-        assert!(rt; second < end);
+        check_same(rt, second < end, true);
         second = end;
     }
 }

@@ -1,5 +1,6 @@
 //! Outside values, and each generic function once.
 
+use crate::compared::check_same;
 use cron_units::error::ErrorKind;
 use cron_units::specifier::{Base, Item, Refusal, RefusedItem, add_item, item_error};
 use cron_units::time_unit::{
@@ -28,7 +29,7 @@ fn summer() -> Months {
 /// Compares the members of a set with those that are wanted.
 fn check_members<T: TimeUnitField>(rt: &(impl Abort + AllocGlobal), set: &T, wanted: &[u32]) {
     let told: Vec<u32> = set.iter().collect(rt.alloc()).expect(rt, "memory");
-    assert_eq!(rt; told.as_slice(), wanted);
+    check_same(rt, told.as_slice(), wanted);
 }
 
 /// Compares the next member from each end with what is wanted.
@@ -38,19 +39,19 @@ fn check_ends(
     front: Option<u32>,
     back: Option<u32>,
 ) {
-    assert_eq!(rt; members.next(), front);
-    assert_eq!(rt; members.next_back(), back);
+    check_same(rt, members.next(), front);
+    check_same(rt, members.next_back(), back);
 }
 
 /// Compares the member nearest to an ordinal with the one that is wanted.
 fn check_nearest<T: TimeUnitField>(rt: &impl Abort, set: &T, way: Way, ordinal: u32, wanted: u32) {
-    assert_eq!(rt; set.nearest(way, ordinal), Some(wanted));
+    check_same(rt, set.nearest(way, ordinal), Some(wanted));
 }
 
 /// Compares what a value shows with a text.
 fn check_text(rt: &(impl Abort + AllocGlobal), value: &impl Display, wanted: &str) {
     let told = value.to_string(rt.alloc()).expect(rt, "memory");
-    assert_eq!(rt; told.as_str(), wanted);
+    check_same(rt, told.as_str(), wanted);
 }
 
 #[test]
@@ -66,41 +67,41 @@ fn the_ends_of_a_set_meet(rt: HostRuntime) {
 fn a_range_holds_its_included_bounds(rt: HostRuntime) {
     let months = summer();
     let mut members = months.range((Bound::Included(1), Bound::Included(6)));
-    assert_eq!(rt; members.next(), Some(5));
-    assert_eq!(rt; members.next_back(), Some(6));
-    assert_eq!(rt; members.next(), None);
+    check_same(&rt, members.next(), Some(5));
+    check_same(&rt, members.next_back(), Some(6));
+    check_same(&rt, members.next(), None);
 }
 
 #[test]
 fn a_set_tells_what_it_holds(rt: HostRuntime) {
     let months = summer();
-    assert_eq!(rt; months.count(), 4);
-    assert!(rt; months.includes(8));
-    assert!(rt; !months.includes(9));
-    assert!(rt; !months.is_all());
+    check_same(&rt, months.count(), 4);
+    check_same(&rt, months.includes(8), true);
+    check_same(&rt, months.includes(9), false);
+    check_same(&rt, months.is_all(), false);
     check_nearest(&rt, &months, Way::Ahead, 1, 5);
     check_nearest(&rt, &months, Way::Back, 12, 8);
 }
 
 #[test]
 fn a_whole_set_is_all_and_a_set_is_itself(rt: HostRuntime) {
-    assert!(rt; whole::<Hours>().is_all());
-    assert!(rt; whole::<Years>().is_all());
-    assert!(rt; only::<Seconds>(0) == only::<Seconds>(0));
+    check_same(&rt, whole::<Hours>().is_all(), true);
+    check_same(&rt, whole::<Years>().is_all(), true);
+    check_same(&rt, only::<Seconds>(0) == only::<Seconds>(0), true);
 }
 
 #[test]
 fn names_stand_in_any_case(rt: HostRuntime) {
-    assert_eq!(rt; DaysOfWeek::ordinal_from_name("THURS"), Some(5));
-    assert_eq!(rt; Months::ordinal_from_name("Foo"), None);
-    assert_eq!(rt; Hours::ordinal_from_name("jan"), None);
+    check_same(&rt, DaysOfWeek::ordinal_from_name("THURS"), Some(5));
+    check_same(&rt, Months::ordinal_from_name("Foo"), None);
+    check_same(&rt, Hours::ordinal_from_name("jan"), None);
 }
 
 #[test]
 fn a_unit_tells_its_name_and_its_question_mark(rt: HostRuntime) {
-    assert_eq!(rt; Months::name(), "Months");
-    assert!(rt; DaysOfWeek::takes_question_mark());
-    assert!(rt; !Months::takes_question_mark());
+    check_same(&rt, Months::name(), "Months");
+    check_same(&rt, DaysOfWeek::takes_question_mark(), true);
+    check_same(&rt, Months::takes_question_mark(), false);
 }
 
 #[test]
@@ -125,7 +126,7 @@ fn an_error_holds_its_message(rt: HostRuntime) {
     let ErrorKind::Expression(text) = error.kind() else {
         panic!(rt; "no error of an expression");
     };
-    assert_eq!(rt; text.as_str(), TOO_LARGE);
+    check_same(&rt, text.as_str(), TOO_LARGE);
 }
 
 /// Makes the years at the ends of the words that hold a set.
@@ -144,7 +145,7 @@ fn edges() -> Years {
 #[test]
 fn years_stand_in_three_words(rt: HostRuntime) {
     let years = edges();
-    assert_eq!(rt; years.count(), 6);
+    check_same(&rt, years.count(), 6);
     check_members(&rt, &years, &[1970, 2033, 2034, 2097, 2098, 2100]);
 }
 
@@ -155,18 +156,18 @@ const MIDDLE: (Bound<u32>, Bound<u32>) = (Bound::Excluded(2033), Bound::Excluded
 fn a_range_goes_over_the_ends_of_words(rt: HostRuntime) {
     let years = edges();
     let mut ahead = years.range(MIDDLE);
-    assert_eq!(rt; ahead.next(), Some(2034));
-    assert_eq!(rt; ahead.next(), Some(2097));
-    assert_eq!(rt; ahead.next(), None);
+    check_same(&rt, ahead.next(), Some(2034));
+    check_same(&rt, ahead.next(), Some(2097));
+    check_same(&rt, ahead.next(), None);
 }
 
 #[test]
 fn a_range_goes_back_over_the_ends_of_words(rt: HostRuntime) {
     let years = edges();
     let mut back = years.range(MIDDLE);
-    assert_eq!(rt; back.next_back(), Some(2097));
-    assert_eq!(rt; back.next_back(), Some(2034));
-    assert_eq!(rt; back.next_back(), None);
+    check_same(&rt, back.next_back(), Some(2097));
+    check_same(&rt, back.next_back(), Some(2034));
+    check_same(&rt, back.next_back(), None);
 }
 
 #[test]
@@ -195,9 +196,9 @@ fn years_go_on_by_steps(rt: HostRuntime) {
 fn a_refused_item_leaves_the_set(rt: HostRuntime) {
     let mut days: DaysOfMonth = only(31);
     let refused = add_item(&mut days, Item::Plain(Base::Single(32)));
-    assert!(rt; matches!(refused, Err(Refusal::TooLarge(32))));
-    assert!(rt; days == only::<DaysOfMonth>(31));
-    assert_eq!(rt; days.count(), 1);
-    assert!(rt; !days.last_day());
-    assert!(rt; empty::<DaysOfMonth>() != days);
+    check_same(&rt, matches!(refused, Err(Refusal::TooLarge(32))), true);
+    check_same(&rt, days == only::<DaysOfMonth>(31), true);
+    check_same(&rt, days.count(), 1);
+    check_same(&rt, days.last_day(), false);
+    check_same(&rt, empty::<DaysOfMonth>() != days, true);
 }

@@ -1,5 +1,6 @@
 //! Names, what they open, and the files of a machine.
 
+use crate::compared::{check_same, check_same_at};
 use cron_zones::files::ZoneFiles;
 use cron_zones::machine::MachineFiles;
 use cron_zones::names::is_zone_name;
@@ -47,7 +48,7 @@ fn check_opened(rt: &(impl Abort + AllocGlobal), text: &str, places: &Places<'_>
     let opened = open(rt.alloc(), text, places, &mut shelf).expect(rt, "a zone");
     let epoch = Timestamp::from_second(0).expect(rt, "an instant");
     let offset = opened.time_zone().to_offset(epoch).seconds();
-    assert_eq!(rt; offset, seconds, "{text}");
+    check_same_at(rt, &text, offset, seconds);
 }
 
 fn check_refused(
@@ -62,8 +63,8 @@ fn check_refused(
         panic!(rt; "{text} opens a zone");
     };
     let told = error.to_string(rt.alloc()).expect(rt, "memory");
-    assert_eq!(rt; told.as_str(), message, "{text}");
-    assert_eq!(rt; shelf.reads, reads, "{text}");
+    check_same_at(rt, &text, told.as_str(), message);
+    check_same_at(rt, &text, shelf.reads, reads);
 }
 
 #[test]
@@ -89,7 +90,7 @@ fn names_stay_in_their_folder(rt: HostRuntime) {
         ("Am\u{e9}rica", false),
         ("a\0b", false),
     ] {
-        assert_eq!(rt; is_zone_name(text), is_name, "{text}");
+        check_same_at(&rt, &text, is_zone_name(text), is_name);
     }
 }
 
@@ -167,17 +168,18 @@ fn files_of_a_machine_are_read_whole(rt: HostRuntime) {
     let bytes = MachineFiles(&rt)
         .read(rt.alloc(), "/proc/sys/kernel/ostype")
         .expect(&rt, "a file");
-    assert_eq!(rt; bytes.as_slice(), b"Linux\n".as_slice());
+    check_same(&rt, bytes.as_slice(), b"Linux\n".as_slice());
     for (path, kind) in [
         ("/tmp/cron_zones_no_such_file", ErrorKind::NotFound),
         ("/tmp", ErrorKind::InvalidInput),
         ("/dev/zero", ErrorKind::InvalidInput),
     ] {
         let refused = MachineFiles(&rt).read(rt.alloc(), path);
-        assert_eq!(rt;
+        check_same_at(
+            &rt,
+            &path,
             refused.map_err(|error| error.kind()).err(),
             Some(kind),
-            "{path}"
         );
     }
 }

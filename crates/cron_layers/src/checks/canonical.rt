@@ -1,5 +1,6 @@
 //! Canonical texts, which are read back.
 
+use crate::compared::{check_same, check_same_at};
 use cron::Schedule;
 use cron_checking::short::canonical_text;
 use std::process::Abort;
@@ -8,15 +9,15 @@ use std::process::Abort;
 fn check_text(rt: &(impl Abort + AllocGlobal), text: &str, short: &str) {
     let schedule = Schedule::from_str(rt.alloc(), text).expect(rt, "a schedule");
     let printed = canonical_text(rt.alloc(), &schedule).expect(rt, "memory");
-    assert_eq!(rt; printed.as_str(), short, "{text}");
+    check_same_at(rt, &text, printed.as_str(), short);
     check_back(rt, &schedule, printed.as_str());
 }
 
 fn check_back(rt: &(impl Abort + AllocGlobal), schedule: &Schedule, printed: &str) {
     let again = Schedule::from_str(rt.alloc(), printed).expect(rt, "a schedule");
-    assert!(rt; again.timeunitspec_eq(schedule), "{printed}");
+    check_same_at(rt, &printed, again.timeunitspec_eq(schedule), true);
     let same = canonical_text(rt.alloc(), &again).expect(rt, "memory");
-    assert_eq!(rt; same.as_str(), printed);
+    check_same(rt, same.as_str(), printed);
 }
 
 #[test]

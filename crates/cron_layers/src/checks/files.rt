@@ -1,5 +1,6 @@
 //! Files of each kind, and readers that fail.
 
+use crate::compared::{check_same, check_same_at};
 use cron_checking::check::{Outcome, check};
 use cron_checking::line::{Mode, Telling};
 use cron_writer::watched::Watched;
@@ -19,12 +20,8 @@ fn check_told(
     let mut reader = file;
     let mut out = Watched::new(Vec::new(rt.alloc()));
     let end = check(rt.alloc(), how, &mut reader, &mut out);
-    assert_eq!(rt; end, outcome, "a file of {count} bytes");
-    assert_eq!(rt;
-        out.into_inner().as_slice(),
-        told.as_bytes(),
-        "a file of {count} bytes"
-    );
+    check_same_at(rt, &count, end, outcome);
+    check_same_at(rt, &count, out.into_inner().as_slice(), told.as_bytes());
 }
 
 // With its faults alone.
@@ -191,8 +188,8 @@ fn check_failing(
         &mut reader,
         &mut out,
     );
-    assert_eq!(rt; end, outcome);
-    assert_eq!(rt; out.into_inner().as_slice(), told.as_bytes());
+    check_same(rt, end, outcome);
+    check_same(rt, out.into_inner().as_slice(), told.as_bytes());
 }
 
 #[test]
@@ -253,9 +250,10 @@ fn check_left(rt: &(impl Abort + AllocGlobal), front: &[u8]) {
     );
     let mut rest = Vec::new(rt.alloc());
     let _count = reader.read_to_end(&mut rest).expect(rt, "bytes");
-    assert_eq!(rt;
+    check_same(
+        rt,
         (end, rest.as_slice()),
-        (Outcome::AllRead, b"2\n".as_slice())
+        (Outcome::AllRead, b"2\n".as_slice()),
     );
 }
 

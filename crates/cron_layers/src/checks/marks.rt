@@ -1,5 +1,6 @@
 //! The mark of a watched writer.
 
+use crate::compared::{check_same, check_same_at};
 use arrayvec::ArrayVec;
 use cron_writer::watched::{Watched, send};
 use std::io::{self, ErrorKind, Write};
@@ -46,12 +47,12 @@ fn the_mark_is_set_by_a_failure_alone(rt: HostRuntime) {
         (None, "", true),
     ] {
         let mut out = Watched::new(Told::new(takes, true));
-        assert!(rt; !out.has_failed());
+        check_same(&rt, out.has_failed(), false);
         let written = out.write(piece.as_bytes());
-        assert_eq!(rt; written.ok(), takes.map(|count| count.min(piece.len())));
-        assert_eq!(rt; out.has_failed(), failed, "{takes:?} of {piece}");
-        assert!(rt; out.flush().is_ok());
-        assert_eq!(rt; out.has_failed(), failed, "{takes:?} of {piece}, flushed");
+        check_same(&rt, written.ok(), takes.map(|count| count.min(piece.len())));
+        check_same_at(&rt, &(takes, piece), out.has_failed(), failed);
+        check_same(&rt, out.flush().is_ok(), true);
+        check_same_at(&rt, &(takes, piece), out.has_failed(), failed);
     }
 }
 
@@ -59,10 +60,10 @@ fn the_mark_is_set_by_a_failure_alone(rt: HostRuntime) {
 fn a_failed_flush_sets_the_mark(rt: HostRuntime) {
     let mut out = Watched::new(Told::new(Some(4), false));
     let kind = out.flush().map_err(|error| error.kind()).err();
-    assert_eq!(rt; kind, Some(ErrorKind::BrokenPipe));
-    assert!(rt; out.has_failed());
-    assert_eq!(rt; out.write(b"text").ok(), Some(4));
-    assert!(rt; out.has_failed());
+    check_same(&rt, kind, Some(ErrorKind::BrokenPipe));
+    check_same(&rt, out.has_failed(), true);
+    check_same(&rt, out.write(b"text").ok(), Some(4));
+    check_same(&rt, out.has_failed(), true);
 }
 
 // Fails in its first write alone.
@@ -89,12 +90,12 @@ impl Write for FailsOnce {
 fn the_mark_stays_set(rt: HostRuntime) {
     let mut out = Watched::new(FailsOnce { failed: false });
     let kind = out.write(b"text").map_err(|error| error.kind()).err();
-    assert_eq!(rt; kind, Some(ErrorKind::Interrupted));
-    assert!(rt; out.has_failed());
-    assert_eq!(rt; out.write(b"text").ok(), Some(4));
-    assert!(rt; out.has_failed());
-    assert!(rt; out.flush().is_ok());
-    assert!(rt; out.has_failed());
+    check_same(&rt, kind, Some(ErrorKind::Interrupted));
+    check_same(&rt, out.has_failed(), true);
+    check_same(&rt, out.write(b"text").ok(), Some(4));
+    check_same(&rt, out.has_failed(), true);
+    check_same(&rt, out.flush().is_ok(), true);
+    check_same(&rt, out.has_failed(), true);
 }
 
 #[test]
@@ -102,7 +103,7 @@ fn the_writer_is_given_back(rt: HostRuntime) -> Result<(), Fail> {
     let mut out = Watched::new(Vec::new(rt.alloc()));
     out.write(b"text")?;
     out.flush()?;
-    assert_eq!(rt; out.into_inner().as_slice(), b"text".as_slice());
+    check_same(&rt, out.into_inner().as_slice(), b"text".as_slice());
     Ok(())
 }
 
@@ -145,10 +146,11 @@ fn each_call_is_passed_on_once(rt: HostRuntime) {
         let _flushed = out.flush();
         let _empty = out.write(b"");
         let calls = out.into_inner().calls;
-        assert_eq!(rt;
+        check_same_at(
+            &rt,
+            &takes,
             calls.as_slice(),
             [Some(4), None, Some(0)].as_slice(),
-            "{takes:?}"
         );
     }
 }
@@ -165,6 +167,6 @@ fn a_text_is_tried_until_it_is_taken_or_a_call_fails(rt: HostRuntime) {
         let mut out = Watched::new(Counting::new(takes));
         send(&mut out, b"text");
         let calls = out.into_inner().calls;
-        assert_eq!(rt; calls.as_slice(), tried, "{takes:?}");
+        check_same_at(&rt, &takes, calls.as_slice(), tried);
     }
 }

@@ -1,5 +1,6 @@
 //! The words of a command line.
 
+use crate::compared::check_same_at;
 use cron_checking::arguments::request_of;
 use cron_checking::line::Mode;
 use std::process::Abort;
@@ -23,7 +24,7 @@ fn words_in(rt: &(impl Abort + AllocGlobal), line: &str) -> Vec<String> {
 fn check_words(rt: &(impl Abort + AllocGlobal), line: &str, mode: &str, file: Option<&str>) {
     let words = words_in(rt, line);
     let Some(request) = request_of(words.as_slice()) else {
-        assert_eq!(rt; mode, "none", "{line}");
+        check_same_at(rt, &line, mode, "none");
         return;
     };
     let found = match request.mode {
@@ -31,8 +32,8 @@ fn check_words(rt: &(impl Abort + AllocGlobal), line: &str, mode: &str, file: Op
         Mode::Short => "sets",
         Mode::Next(_, _) => "next",
     };
-    assert_eq!(rt; found, mode, "{line}");
-    assert_eq!(rt; request.file, file, "{line}");
+    check_same_at(rt, &line, found, mode);
+    check_same_at(rt, &line, request.file, file);
 }
 
 #[test]

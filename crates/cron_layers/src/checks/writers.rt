@@ -2,6 +2,7 @@
 
 ghost use Rattle.std.specs.Prelude.{Some};
 
+use crate::compared::{check_same, check_same_at};
 use cron_checking::check::{Outcome, check};
 use cron_checking::line::{Mode, Telling};
 use cron_writer::watchable::Watchable;
@@ -27,7 +28,7 @@ fn check_to<W: Watchable>(rt: &(impl Abort + AllocGlobal), writer: W, outcome: O
         &mut reader,
         &mut out,
     );
-    assert_eq!(rt; end, outcome);
+    check_same(rt, end, outcome);
     out.into_inner()
 }
 
@@ -42,7 +43,7 @@ fn a_failed_write_ends_the_check_where_it_stands(rt: HostRuntime) {
             Outcome::SomeRefused
         };
         let _full = check_to(&rt, Cursor::new(held.as_mut_slice()), end);
-        assert_eq!(rt; held.as_slice(), &told[..room], "at {room}");
+        check_same_at(&rt, &room, held.as_slice(), &told[..room]);
     }
 }
 
@@ -65,7 +66,7 @@ impl Write for Unflushed {
 #[test]
 fn a_failed_flush_ends_the_check(rt: HostRuntime) {
     let writer = check_to(&rt, Unflushed(Vec::new(rt.alloc())), Outcome::WriteFailed);
-    assert_eq!(rt; writer.0.as_slice(), TOLD.as_bytes());
+    check_same(&rt, writer.0.as_slice(), TOLD.as_bytes());
 }
 
 /// Counts the calls that hand on whole lines.
@@ -110,6 +111,6 @@ fn calls_for(rt: &(impl Abort + AllocGlobal), lines: u32) -> u32 {
 #[test]
 fn lines_are_written_many_at_a_time(rt: HostRuntime) {
     for (lines, calls) in [(0, 0), (1, 1), (78, 1), (79, 2), (155, 2), (156, 3)] {
-        assert_eq!(rt; calls_for(&rt, lines), calls, "{lines} lines");
+        check_same_at(&rt, &lines, calls_for(&rt, lines), calls);
     }
 }

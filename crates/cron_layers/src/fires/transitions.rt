@@ -3,6 +3,7 @@
 
 use super::zone_files::{LENGTHS, NOON, read_file};
 use super::{CHICAGO, seconds};
+use crate::compared::check_same;
 use cron::Schedule;
 use cron_fires::{Fires, first_fire_after};
 use jiff::Timestamp;
@@ -25,13 +26,13 @@ fn check_run(
     );
     let mut last = start;
     for instant in instants {
-        assert_eq!(rt; seconds(run.next()), Some(*instant));
+        check_same(rt, seconds(run.next()), Some(*instant));
         let first = first_fire_after(
             &schedule,
             Timestamp::from_second(last).expect(rt, "an instant"),
             zone,
         );
-        assert_eq!(rt; seconds(first), Some(*instant));
+        check_same(rt, seconds(first), Some(*instant));
         last = *instant;
     }
 }
@@ -47,11 +48,12 @@ fn check_seconds(rt: &(impl Abort + AllocGlobal), zone: &TimeZone<'_>, start: i6
     );
     for past in 1..=count {
         let instant = start + i64::from(past);
-        assert_eq!(rt; seconds(run.next()), Some(instant));
+        check_same(rt, seconds(run.next()), Some(instant));
         let before = Timestamp::from_second(instant.saturating_sub(1)).expect(rt, "an instant");
-        assert_eq!(rt;
+        check_same(
+            rt,
             seconds(first_fire_after(&schedule, before, zone)),
-            Some(instant)
+            Some(instant),
         );
     }
 }
@@ -115,5 +117,5 @@ fn the_ends_of_the_range_fire(rt: HostRuntime) {
         Timestamp::from_second(last).expect(&rt, "an instant"),
         &behind,
     );
-    assert_eq!(rt; none, None);
+    check_same(&rt, none, None);
 }

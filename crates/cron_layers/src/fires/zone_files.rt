@@ -1,6 +1,7 @@
 //! Fires in a zone from a file whose clock changes each half hour, forth and back by half an hour.
 
 use super::seconds;
+use crate::compared::check_same;
 use cron::Schedule;
 use cron_fires::{Fires, first_fire_after, first_fire_past, last_fire_by, missed};
 use jiff::Timestamp;
@@ -73,12 +74,12 @@ fn check_quarter(rt: &impl Abort, schedule: &Schedule, zone: &TimeZone<'_>, quar
     let instant = NOON + QUARTER * i64::from(quarter);
     let before = Timestamp::from_second(instant - 1).expect(rt, "an instant");
     let fire = first_fire_after(schedule, before, zone);
-    assert_eq!(rt; seconds(fire), Some(instant));
+    check_same(rt, seconds(fire), Some(instant));
     let by = Timestamp::from_second(instant + QUARTER - 1).expect(rt, "an instant");
-    assert_eq!(rt; seconds(last_fire_by(schedule, by, zone)), Some(instant));
+    check_same(rt, seconds(last_fire_by(schedule, by, zone)), Some(instant));
     let mut run = Fires::between(schedule, before, by, zone);
-    assert_eq!(rt; seconds(run.next()), Some(instant));
-    assert_eq!(rt; run.next(), None);
+    check_same(rt, seconds(run.next()), Some(instant));
+    check_same(rt, run.next(), None);
 }
 
 fn check_quarters(rt: &(impl Abort + AllocGlobal), zone: &TimeZone<'_>) {
@@ -92,7 +93,7 @@ fn check_quarters(rt: &(impl Abort + AllocGlobal), zone: &TimeZone<'_>) {
     let last = Timestamp::from_second(NOON - 1).expect(rt, "an instant");
     let now = Timestamp::from_second(NOON + 86_400).expect(rt, "an instant");
     let fires = missed(rt.alloc(), &schedule, last, now, zone).expect(rt, "memory");
-    assert_eq!(rt; fires.len(), 8);
+    check_same(rt, fires.len(), 8);
 }
 
 #[test]
@@ -111,10 +112,10 @@ fn check_past(rt: &(impl Abort + AllocGlobal), zone: &TimeZone<'_>) {
         zone,
     )
     .expect(rt, "a fire");
-    assert_eq!(rt; first.timestamp().as_second(), NOON + QUARTER);
+    check_same(rt, first.timestamp().as_second(), NOON + QUARTER);
     let second = first_fire_past(&schedule, &first, zone).expect(rt, "a fire");
-    assert_eq!(rt; second.timestamp().as_second(), NOON + 3 * QUARTER);
-    assert_eq!(rt; first_fire_past(&schedule, &second, zone), None);
+    check_same(rt, second.timestamp().as_second(), NOON + 3 * QUARTER);
+    check_same(rt, first_fire_past(&schedule, &second, zone), None);
 }
 
 #[test]

@@ -1,6 +1,6 @@
 //! The calls of an agenda.
 
-use super::support::{ACCEPTED, tell, tell_early};
+use super::support::{ACCEPTED, check_holds, check_same, tell, tell_early};
 use cron::Schedule;
 use cron_agenda::{AddError, Agenda};
 use cron_fires::{ClockChanges, fields_of};
@@ -27,9 +27,9 @@ fn add_one(
     let before = agenda.len();
     let zones = [TimeZone::UTC];
     match agenda.add(table, ClockChanges::AsShown, start()?, &zones, 0) {
-        Ok(_) => assert_eq!(rt; agenda.len(), before.saturating_add(1)),
+        Ok(_) => check_same(rt, agenda.len(), before.saturating_add(1)),
         Err(AddError::OutOfMemory) => {
-            assert_eq!(rt; agenda.len(), before);
+            check_same(rt, agenda.len(), before);
             tell(rt)?;
         }
         Err(error) => assert!(rt; false, "{error}"),
@@ -41,11 +41,11 @@ fn add_one(
 fn take_all(rt: &(impl Abort + Print), agenda: &mut Agenda<ScheduleFields>) -> Result<(), Fail> {
     for _ in 0..agenda.len() {
         match agenda.next(&[TimeZone::UTC])? {
-            Some(fire) => assert!(rt; fire.is_last),
+            Some(fire) => check_holds(rt, fire.is_last),
             None => assert!(rt; false, "a fire is lacking"),
         }
     }
-    assert!(rt; agenda.next(&[TimeZone::UTC])?.is_none());
+    check_holds(rt, agenda.next(&[TimeZone::UTC])?.is_none());
     Ok(())
 }
 
@@ -68,14 +68,14 @@ fn reserve(rt: HostRuntime) -> Result<(), Fail> {
     };
     let mut agenda = Agenda::new(rt.alloc());
     if agenda.reserve(ENTRIES).is_err() {
-        assert_eq!(rt; agenda.len(), 0);
+        check_same(&rt, agenda.len(), 0);
         return tell(&rt);
     }
     let zones = [TimeZone::UTC];
     for _ in 0..ENTRIES {
         let table = fields_of(&schedule);
         let added = agenda.add(table, ClockChanges::AsShown, start()?, &zones, 0);
-        assert!(rt; added.is_ok());
+        check_holds(&rt, added.is_ok());
     }
     take_all(&rt, &mut agenda)
 }

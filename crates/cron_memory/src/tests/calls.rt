@@ -1,6 +1,6 @@
 //! The calls of a schedule and of a walk.
 
-use super::support::{ACCEPTED, is_accepted, is_memory, tell, tell_early};
+use super::support::{ACCEPTED, check_holds, check_same, is_accepted, is_memory, tell, tell_early};
 use cron::Schedule;
 use cron::error::{Error, ErrorKind};
 use cron::schedule::{Moment, Turn};
@@ -29,12 +29,12 @@ fn play(rt: HostRuntime) -> Result<(), Fail> {
     let mut walk = schedule.after(start()?, &TimeZone::UTC);
     match walk.play(rt.alloc(), &[Turn::Next]) {
         Ok(answers) => {
-            assert!(rt; answers.len() == 1 && is_item(answers[0])?);
-            assert_eq!(rt; walk.next(), None);
+            check_holds(&rt, answers.len() == 1 && is_item(answers[0])?);
+            check_same(&rt, walk.next(), None);
         }
         Err(_refused) => {
             tell(&rt)?;
-            assert!(rt; is_item(walk.next())?);
+            check_holds(&rt, is_item(walk.next())?);
         }
     }
     Ok(())
@@ -46,10 +46,10 @@ fn clone(rt: HostRuntime) -> Result<(), Fail> {
         return tell_early(&rt);
     };
     match schedule.clone() {
-        Ok(copy) => assert!(rt; is_accepted(&copy)),
+        Ok(copy) => check_holds(&rt, is_accepted(&copy)),
         Err(_refused) => tell(&rt)?,
     }
-    assert!(rt; is_accepted(&schedule));
+    check_holds(&rt, is_accepted(&schedule));
     Ok(())
 }
 
@@ -59,10 +59,10 @@ fn after_owned(rt: HostRuntime) -> Result<(), Fail> {
         return tell_early(&rt);
     };
     match schedule.after_owned(start()?, TimeZone::UTC) {
-        Ok(mut walk) => assert!(rt; is_item(walk.next())?),
+        Ok(mut walk) => check_holds(&rt, is_item(walk.next())?),
         Err(_refused) => tell(&rt)?,
     }
-    assert!(rt; is_accepted(&schedule));
+    check_holds(&rt, is_accepted(&schedule));
     Ok(())
 }
 
@@ -72,10 +72,10 @@ fn upcoming_owned(rt: HostRuntime) -> Result<(), Fail> {
         return tell_early(&rt);
     };
     match schedule.upcoming_owned(start()?, TimeZone::UTC) {
-        Ok(mut walk) => assert!(rt; is_item(walk.next())?),
+        Ok(mut walk) => check_holds(&rt, is_item(walk.next())?),
         Err(_refused) => tell(&rt)?,
     }
-    assert!(rt; is_accepted(&schedule));
+    check_holds(&rt, is_accepted(&schedule));
     Ok(())
 }
 
@@ -85,13 +85,13 @@ fn to_value(rt: HostRuntime) -> Result<(), Fail> {
         return tell_early(&rt);
     };
     match schedule.to_value(rt.alloc()) {
-        Ok(value) => assert_eq!(rt; value.as_str(), Some(ACCEPTED)),
+        Ok(value) => check_same(&rt, value.as_str(), Some(ACCEPTED)),
         Err(error) => {
-            assert!(rt; is_memory(&error));
+            check_holds(&rt, is_memory(&error));
             tell(&rt)?;
         }
     }
-    assert!(rt; is_accepted(&schedule));
+    check_holds(&rt, is_accepted(&schedule));
     Ok(())
 }
 
@@ -106,7 +106,7 @@ fn from_value_of_null(rt: HostRuntime) -> Result<(), Fail> {
     match Schedule::from_value(rt.alloc(), &Value::Null) {
         Ok(schedule) => assert!(rt; false, "{schedule} is read"),
         Err(error) if is_memory(&error) => tell(&rt)?,
-        Err(error) => assert!(rt; is_no_string(&error)),
+        Err(error) => check_holds(&rt, is_no_string(&error)),
     }
     Ok(())
 }

@@ -1,6 +1,6 @@
 //! The calls of the checker of lines.
 
-use super::support::{ACCEPTED, is_accepted, tell, tell_early};
+use super::support::{ACCEPTED, check_holds, check_same, is_accepted, tell, tell_early};
 use cron::Schedule;
 use cron_checking::check::{Outcome, check};
 use cron_checking::line::{Mode, Telling};
@@ -9,7 +9,6 @@ use cron_writer::watched::Watched;
 use jiff::Timestamp;
 use jiff::tz::TimeZone;
 use std::io::Cursor;
-use std::process::Abort;
 use std::test::Fail;
 
 #[test]
@@ -18,10 +17,10 @@ fn canonical_text_of_a_schedule(rt: HostRuntime) -> Result<(), Fail> {
         return tell_early(&rt);
     };
     match canonical_text(rt.alloc(), &schedule) {
-        Ok(text) => assert_eq!(rt; text.as_str(), "1 2 3 4 5 * 2015"),
+        Ok(text) => check_same(&rt, text.as_str(), "1 2 3 4 5 * 2015"),
         Err(_refused) => tell(&rt)?,
     }
-    assert!(rt; is_accepted(&schedule));
+    check_holds(&rt, is_accepted(&schedule));
     Ok(())
 }
 
@@ -61,10 +60,10 @@ fn check_of_three_lines(rt: HostRuntime) -> Result<(), Fail> {
     let end = check(rt.alloc(), &how, &mut reader, &mut out);
     let (count, rest) = past_lines(str::from_utf8(&room)?.trim_end_matches('\0'));
     if end == Outcome::OutOfMemory {
-        assert_eq!(rt; rest, "error: out of memory\n");
+        check_same(&rt, rest, "error: out of memory\n");
         return tell(&rt);
     }
-    assert_eq!(rt; end, Outcome::SomeRefused);
-    assert_eq!(rt; (count, rest), (TOLD.len(), ""));
+    check_same(&rt, end, Outcome::SomeRefused);
+    check_same(&rt, (count, rest), (TOLD.len(), ""));
     Ok(())
 }

@@ -2,6 +2,7 @@
 
 use cron::error::{Error, ErrorKind};
 use cron::{Schedule, TimeUnitSpec};
+use std::fmt::Debug;
 use std::process::Abort;
 use std::test::Fail;
 
@@ -12,6 +13,16 @@ pub(crate) const ACCEPTED: &str = "1 2 3 4 5 ? 2015";
 pub(crate) const REFUSED: &str = "60 * * * * *";
 
 const MESSAGE: &str = "Seconds must be less than 59. ('60' specified.)";
+
+/// Fails where something doesn't hold.
+pub(crate) fn check_holds(rt: &impl Abort, holds: bool) {
+    assert!(rt; holds);
+}
+
+/// Compares what is told with what is wanted.
+pub(crate) fn check_same<T: PartialEq + Debug + Copy>(rt: &impl Abort, told: T, wanted: T) {
+    assert_eq!(rt; told, wanted);
+}
 
 /// Tells `tools/refuse_memory` that a growth of the call was refused.
 pub(crate) fn tell(rt: &impl Print) -> Result<(), Fail> {
@@ -61,9 +72,9 @@ pub(crate) fn check_accepted(
     read: Result<Schedule, Error>,
 ) -> Result<(), Fail> {
     match read {
-        Ok(schedule) => assert!(rt; is_accepted(&schedule)),
+        Ok(schedule) => check_holds(rt, is_accepted(&schedule)),
         Err(error) => {
-            assert!(rt; is_memory(&error));
+            check_holds(rt, is_memory(&error));
             tell(rt)?;
         }
     }
@@ -79,7 +90,7 @@ pub(crate) fn check_refused(
     match read {
         Ok(schedule) => assert!(rt; false, "{schedule} is read"),
         Err(error) if is_memory(&error) => tell(rt)?,
-        Err(error) => assert!(rt; is_message(&error)),
+        Err(error) => check_holds(rt, is_message(&error)),
     }
     Ok(())
 }

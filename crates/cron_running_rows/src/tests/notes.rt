@@ -7,6 +7,7 @@ mod shelf;
 mod table;
 mod waking;
 
+use super::check_same;
 use cron_agenda_scheduler::AgendaStop;
 use cron_running::{Failure, Interruption, Noted, read_note};
 use disk::{Act, Disk, LOST, Lost, Name, WHOLE};
@@ -161,14 +162,11 @@ fn second_of(rt: &(impl Abort + AllocGlobal), place: &Place, held: Option<&[u8]>
             return Some(place.then());
         }
     }
-    assert!(rt; place.made < CALLS, "the note is lost: {place:?}");
+    check_same(rt, &("no note is lost", place), place.made < CALLS, true);
     match (held, place.before()) {
         (Some(bytes), Some(second)) => {
-            assert_eq!(rt;
-                bytes,
-                note_of(rt, &place.case.tab, second).as_bytes(),
-                "{place:?}"
-            );
+            let note = note_of(rt, &place.case.tab, second);
+            check_same(rt, place, bytes, note.as_bytes());
             Some(second)
         }
         (None, None) => None,
@@ -203,17 +201,18 @@ fn begin_again(rt: &(impl Abort + AllocGlobal), place: &Place, ran: &Ran<'_>, lo
         second.unwrap_or(place.case.start()),
         END,
     );
-    assert_eq!(rt;
+    check_same(
+        rt,
+        &(place, lost),
         again.written.as_slice(),
         wanted.as_bytes(),
-        "{place:?}, {lost:?}"
     );
 }
 
 // All was written that was due when the note was begun, and what the store holds is gone on from.
 fn check(rt: &(impl Abort + AllocGlobal), place: &Place, ran: &Ran<'_>) {
     let due = texts(rt, &place.case.tab, place.case.start(), place.then());
-    assert_eq!(rt; ran.written.as_slice(), due.as_bytes(), "{place:?}");
+    check_same(rt, place, ran.written.as_slice(), due.as_bytes());
     for lost in LOST {
         begin_again(rt, place, ran, lost);
     }
@@ -224,8 +223,8 @@ fn check_failure(rt: &impl Abort, call: usize, ran: &Ran<'_>) {
     let Err(Failure::Stopped(AgendaStop::Clock(Interruption::Unnoted(error)))) = &ran.answer else {
         panic!(rt; "the run ended otherwise than by the call {call}");
     };
-    assert_eq!(rt; error.raw_os_error(), Some(code_of(call)), "{call}");
-    assert_eq!(rt; ran.shelf.calls, call.saturating_add(1));
+    check_same(rt, &call, error.raw_os_error(), Some(code_of(call)));
+    check_same(rt, &call, ran.shelf.calls, call.saturating_add(1));
 }
 
 // Whether a run came to its end: that of its clock, or of its fires.
@@ -244,8 +243,8 @@ fn a_run_notes_what_it_ran(rt: HostRuntime) {
     for case in CASES {
         let cut = Cell::new(false);
         let ran = run_case(&rt, &case, Trouble::Nothing, &cut);
-        assert!(rt; is_over(&case, &ran), "{case:?}");
-        assert_eq!(rt; ran.shelf.calls, case.calls(), "{case:?}");
+        check_same(&rt, &case, is_over(&case, &ran), true);
+        check_same(&rt, &case, ran.shelf.calls, case.calls());
         let place = Place {
             case,
             number: case.notes.len().saturating_sub(1),

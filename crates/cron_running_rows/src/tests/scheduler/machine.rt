@@ -1,9 +1,9 @@
 //! The clock of the machine, over a clock of the runtime that is handed in.
 
+use crate::tests::check_same;
 use cron::Schedule;
 use cron::schedule::Moment;
 use cron_scheduler::{AlarmClock, MachineClock, Plan, Start};
-use jiff::Timestamp;
 use jiff::tz::TimeZone;
 use std::alloc::AllocError;
 use std::cell::Cell;
@@ -42,9 +42,11 @@ fn it_wakes_each_minute_until_the_fire(rt: HostRuntime) {
     };
     let schedule = Schedule::from_str(rt.alloc(), "0 0 * * * *").expect(&rt, "a schedule");
     let mut clock = MachineClock(&counting);
-    assert_eq!(rt;
-        clock.now().expect(&rt, "a time"),
-        Timestamp::from_second(1790).expect(&rt, "an instant")
+    check_same(
+        &rt,
+        &"its time",
+        clock.now().expect(&rt, "a time").as_second(),
+        1790,
     );
     let plan = Plan {
         schedule: &schedule,
@@ -60,6 +62,6 @@ fn it_wakes_each_minute_until_the_fire(rt: HostRuntime) {
         },
     )
     .expect(&rt, "a run");
-    assert_eq!(rt; fires.as_slice(), [3600, 7200].as_slice());
-    assert_eq!(rt; counting.sleeps.get(), 31 + 60);
+    check_same(&rt, &"its fires", fires.as_slice(), [3600, 7200].as_slice());
+    check_same(&rt, &"its sleeps", counting.sleeps.get(), 31 + 60);
 }

@@ -2,6 +2,7 @@
 
 use super::CHICAGO;
 use super::clocks::Told;
+use crate::tests::check_same;
 use cron::Schedule;
 use cron_fires::DueFire;
 use cron_scheduler::{Plan, Start};
@@ -42,7 +43,7 @@ fn run_once(
 fn a_repeated_time_is_run_once(rt: HostRuntime) {
     let times = [1_667_716_200, 1_667_806_200];
     let fires = run_once(&rt, "0 30 1 * * *", 1_667_716_199, 2, &times);
-    assert_eq!(rt; fires.as_slice(), times.as_slice());
+    check_same(&rt, &"a fold", fires.as_slice(), times.as_slice());
 }
 
 // The clock goes from 02:00 to 03:00 at 1647158400.
@@ -51,5 +52,5 @@ fn skipped_times_are_run_at_the_transition(rt: HostRuntime) {
     let times = [1_647_158_400, 1_647_160_200];
     let fires = run_once(&rt, "0 0,30 2,3 13 * *", 1_647_151_200, 4, &times);
     let wanted = [1_647_158_400, 1_647_158_400, 1_647_158_400, 1_647_160_200];
-    assert_eq!(rt; fires.as_slice(), wanted.as_slice());
+    check_same(&rt, &"a gap", fires.as_slice(), wanted.as_slice());
 }

@@ -1,7 +1,8 @@
 //! Runs in the fold and the gap of Chicago's 2022, on clocks that are late, early, or go back.
 
 use super::clocks::{Fault, Told};
-use super::{CHICAGO, after, run_told};
+use super::{CHICAGO, Ran, after, run_told};
+use crate::tests::check_same;
 use cron::Schedule;
 use cron::schedule::Moment;
 use cron_scheduler::{Job, Plan, Start, Stop};
@@ -16,80 +17,180 @@ const SECOND: i64 = 1_667_719_800;
 
 const NEXT_DAY: i64 = 1_667_806_200;
 
-#[test]
-fn a_late_clock_loses_nothing(rt: HostRuntime) {
-    let ran = run_told(
-        &rt,
-        "0 30 1 * * *",
-        after(&rt, FIRST - 1),
-        Some(3),
-        &[FIRST + 60, NEXT_DAY + 600],
-    );
-    assert_eq!(rt; ran.answer, Ok(()));
-    assert_eq!(rt; ran.fires.as_slice(), [FIRST, SECOND, NEXT_DAY].as_slice());
-    assert_eq!(rt; ran.waits.as_slice(), [FIRST, SECOND].as_slice());
+// Half past two on the day before the gap of 2022-03-13, the transition, and half past two after
+// it.
+const BEFORE_GAP: i64 = 1_647_073_800;
+
+const GAP: i64 = 1_647_158_400;
+
+const AFTER_GAP: i64 = 1_647_243_000;
+
+const HALF_PAST_ONE: &str = "0 30 1 * * *";
+
+/// A run: its expression, after which second it begins, how many fires it runs at most, what its
+/// clock shows, whether it ends by itself, and the fires that it runs.
+#[derive(Clone, Copy)]
+struct Row {
+    case: &'static str,
+    expression: &'static str,
+    start: i64,
+    most: Option<u64>,
+    times: &'static [i64],
+    ends: bool,
+    fires: &'static [i64],
 }
 
-#[test]
-fn a_clock_that_wakes_early_is_waited_for_again(rt: HostRuntime) {
-    let ran = run_told(
-        &rt,
-        "0 30 1 * * *",
-        after(&rt, FIRST - 1),
-        Some(2),
-        &[FIRST - 60, FIRST - 1, FIRST, SECOND - 1, SECOND],
-    );
-    assert_eq!(rt; ran.answer, Ok(()));
-    assert_eq!(rt; ran.fires.as_slice(), [FIRST, SECOND].as_slice());
-    assert_eq!(rt;
-        ran.waits.as_slice(),
-        [FIRST, FIRST, FIRST, SECOND, SECOND].as_slice()
-    );
-}
+const ROWS: [Row; 12] = [
+    Row {
+        case: "a late clock loses nothing",
+        expression: HALF_PAST_ONE,
+        start: FIRST - 1,
+        most: Some(3),
+        times: &[FIRST + 60, NEXT_DAY + 600],
+        ends: true,
+        fires: &[FIRST, SECOND, NEXT_DAY],
+    },
+    Row {
+        case: "a clock that wakes early is waited for again",
+        expression: HALF_PAST_ONE,
+        start: FIRST - 1,
+        most: Some(2),
+        times: &[FIRST - 60, FIRST - 1, FIRST, SECOND - 1, SECOND],
+        ends: true,
+        fires: &[FIRST, SECOND],
+    },
+    Row {
+        case: "a clock that goes back brings nothing twice",
+        expression: HALF_PAST_ONE,
+        start: FIRST - 1,
+        most: Some(3),
+        times: &[SECOND, FIRST, FIRST - 3600, SECOND + 1, NEXT_DAY],
+        ends: true,
+        fires: &[FIRST, SECOND, NEXT_DAY],
+    },
+    Row {
+        case: "a fault before any time",
+        expression: HALF_PAST_ONE,
+        start: FIRST - 1,
+        most: None,
+        times: &[],
+        ends: false,
+        fires: &[],
+    },
+    Row {
+        case: "a fault before the first fire",
+        expression: HALF_PAST_ONE,
+        start: FIRST - 1,
+        most: None,
+        times: &[FIRST - 1],
+        ends: false,
+        fires: &[],
+    },
+    Row {
+        case: "a fault behind the first fire",
+        expression: HALF_PAST_ONE,
+        start: FIRST - 1,
+        most: None,
+        times: &[SECOND - 1],
+        ends: false,
+        fires: &[FIRST],
+    },
+    Row {
+        case: "a fault behind a clock that goes back",
+        expression: HALF_PAST_ONE,
+        start: FIRST - 1,
+        most: None,
+        times: &[SECOND, FIRST],
+        ends: false,
+        fires: &[FIRST, SECOND],
+    },
+    Row {
+        case: "a fault behind the next day",
+        expression: HALF_PAST_ONE,
+        start: FIRST - 1,
+        most: None,
+        times: &[FIRST, NEXT_DAY],
+        ends: false,
+        fires: &[FIRST, SECOND, NEXT_DAY],
+    },
+    Row {
+        case: "a gap is passed",
+        expression: "0 30 2 * * *",
+        start: BEFORE_GAP - 1,
+        most: Some(2),
+        times: &[BEFORE_GAP, GAP, AFTER_GAP],
+        ends: true,
+        fires: &[BEFORE_GAP, AFTER_GAP],
+    },
+    Row {
+        case: "a start is not run",
+        expression: HALF_PAST_ONE,
+        start: FIRST,
+        most: Some(1),
+        times: &[NEXT_DAY],
+        ends: true,
+        fires: &[SECOND],
+    },
+    Row {
+        case: "a run of no fire asks no clock",
+        expression: HALF_PAST_ONE,
+        start: FIRST - 1,
+        most: Some(0),
+        times: &[],
+        ends: true,
+        fires: &[],
+    },
+    Row {
+        case: "a schedule that ends ends the run",
+        expression: "0 30 1 6 11 * 2022",
+        start: FIRST - 1,
+        most: None,
+        times: &[FIRST, SECOND],
+        ends: true,
+        fires: &[FIRST, SECOND],
+    },
+];
 
-#[test]
-fn a_clock_that_goes_back_brings_nothing_twice(rt: HostRuntime) {
-    let ran = run_told(
-        &rt,
-        "0 30 1 * * *",
-        after(&rt, FIRST - 1),
-        Some(3),
-        &[SECOND, FIRST, FIRST - 3600, SECOND + 1, NEXT_DAY],
-    );
-    assert_eq!(rt; ran.answer, Ok(()));
-    assert_eq!(rt; ran.fires.as_slice(), [FIRST, SECOND, NEXT_DAY].as_slice());
-}
+/// The cases of which the waits are told, and the instants that are waited for.
+const WAITS: [(&str, &[i64]); 3] = [
+    ("a late clock loses nothing", &[FIRST, SECOND]),
+    (
+        "a clock that wakes early is waited for again",
+        &[FIRST, FIRST, FIRST, SECOND, SECOND],
+    ),
+    ("a run of no fire asks no clock", &[]),
+];
 
-#[test]
-fn what_was_due_before_a_fault_was_run(rt: HostRuntime) {
-    for (times, count) in [
-        ([].as_slice(), 0),
-        ([FIRST - 1].as_slice(), 0),
-        ([SECOND - 1].as_slice(), 1),
-        ([SECOND, FIRST].as_slice(), 2),
-        ([FIRST, NEXT_DAY].as_slice(), 3),
-    ] {
-        let ran = run_told(&rt, "0 30 1 * * *", after(&rt, FIRST - 1), None, times);
-        assert_eq!(rt; ran.answer, Err(Stop::Clock(Fault::Over)));
-        let all = [FIRST, SECOND, NEXT_DAY];
-        assert_eq!(rt; ran.fires.as_slice(), &all[..count], "{times:?}");
+fn check_waits(rt: &impl Abort, case: &str, ran: &Ran) {
+    for (named, waits) in WAITS {
+        if case == named {
+            check_same(rt, &case, ran.waits.as_slice(), waits);
+        }
     }
 }
 
+fn has_ended(ran: &Ran) -> bool {
+    ran.answer == Ok(())
+}
+
+fn is_over(ran: &Ran) -> bool {
+    ran.answer == Err(Stop::Clock(Fault::Over))
+}
+
+fn check_ran(rt: &impl Abort, row: &Row, ran: &Ran) {
+    check_same(rt, &row.case, has_ended(ran), row.ends);
+    check_same(rt, &row.case, is_over(ran), !row.ends);
+    check_same(rt, &row.case, ran.fires.as_slice(), row.fires);
+    check_waits(rt, row.case, ran);
+}
+
 #[test]
-fn a_gap_is_passed(rt: HostRuntime) {
-    let ran = run_told(
-        &rt,
-        "0 30 2 * * *",
-        after(&rt, 1_647_073_800 - 1),
-        Some(2),
-        &[1_647_073_800, 1_647_158_400, 1_647_243_000],
-    );
-    assert_eq!(rt; ran.answer, Ok(()));
-    assert_eq!(rt;
-        ran.fires.as_slice(),
-        [1_647_073_800, 1_647_243_000].as_slice()
-    );
+fn told_clocks_run_what_is_due(rt: HostRuntime) {
+    for row in ROWS {
+        let start = after(&rt, row.start);
+        let ran = run_told(&rt, row.expression, start, row.most, row.times);
+        check_ran(&rt, &row, &ran);
+    }
 }
 
 // Half past one on the day of the fold, as a service noted it.
@@ -102,42 +203,11 @@ fn noted(rt: &impl Abort, offset: i32) -> Start<Moment> {
 #[test]
 fn a_restart_in_a_fold_goes_on(rt: HostRuntime) {
     for (offset, first) in [(-18_000, SECOND), (-21_600, NEXT_DAY)] {
-        let ran = run_told(
-            &rt,
-            "0 30 1 * * *",
-            noted(&rt, offset),
-            Some(1),
-            &[NEXT_DAY],
-        );
-        assert_eq!(rt; ran.answer, Ok(()));
-        assert_eq!(rt; ran.fires.as_slice(), [first].as_slice(), "at {offset}");
+        let start = noted(&rt, offset);
+        let ran = run_told(&rt, HALF_PAST_ONE, start, Some(1), &[NEXT_DAY]);
+        check_same(&rt, &offset, has_ended(&ran), true);
+        check_same(&rt, &offset, ran.fires.as_slice(), [first].as_slice());
     }
-}
-
-#[test]
-fn a_start_is_not_run(rt: HostRuntime) {
-    let ran = run_told(&rt, "0 30 1 * * *", after(&rt, FIRST), Some(1), &[NEXT_DAY]);
-    assert_eq!(rt; ran.fires.as_slice(), [SECOND].as_slice());
-}
-
-#[test]
-fn a_run_of_no_fire_asks_no_clock(rt: HostRuntime) {
-    let ran = run_told(&rt, "0 30 1 * * *", after(&rt, FIRST - 1), Some(0), &[]);
-    assert_eq!(rt; ran.answer, Ok(()));
-    assert_eq!(rt; ran.waits.len(), 0);
-}
-
-#[test]
-fn a_schedule_that_ends_ends_the_run(rt: HostRuntime) {
-    let ran = run_told(
-        &rt,
-        "0 30 1 6 11 * 2022",
-        after(&rt, FIRST - 1),
-        None,
-        &[FIRST, SECOND],
-    );
-    assert_eq!(rt; ran.answer, Ok(()));
-    assert_eq!(rt; ran.fires.as_slice(), [FIRST, SECOND].as_slice());
 }
 
 // Fails when it is run for the second time.
@@ -160,7 +230,7 @@ impl Job<Moment> for FailsAtSecond {
 
 #[test]
 fn a_job_that_fails_ends_the_run(rt: HostRuntime) {
-    let schedule = Schedule::from_str(rt.alloc(), "0 30 1 * * *").expect(&rt, "a schedule");
+    let schedule = Schedule::from_str(rt.alloc(), HALF_PAST_ONE).expect(&rt, "a schedule");
     let zone = TimeZone::posix(CHICAGO).expect(&rt, "a zone");
     let plan = Plan {
         schedule: &schedule,
@@ -173,6 +243,6 @@ fn a_job_that_fails_ends_the_run(rt: HostRuntime) {
     let Err(Stop::Job(fire)) = plan.run(&mut clock, &mut job) else {
         panic!(rt; "no fire was told of");
     };
-    assert_eq!(rt; fire.timestamp().as_second(), SECOND);
-    assert_eq!(rt; job.runs, 2);
+    check_same(&rt, &"its fire", fire.timestamp().as_second(), SECOND);
+    check_same(&rt, &"its runs", job.runs, 2);
 }
