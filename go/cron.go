@@ -6,7 +6,7 @@
 //
 // The zone is that of the time that is given, and the schedule is read on its clock. A history of
 // all transitions comes from the file of the zone. Answers come as time passes, also where a clock
-// goes back. Nothing fires outside the years 1970 to 2100. All may be called by several goroutines
+// goes back. No match lies outside the years 1970 to 2100. All may be called by several goroutines
 // at once.
 //
 // A loop asks by Past from the fire that it ran: one that asks by After from the time at which it

@@ -10,7 +10,8 @@ import (
 var ErrNoFire = errors.New("there is no such fire")
 
 // ErrNotAFire says that a fire is none that the call takes: its nominal time isn't at its moment,
-// or before it by whole seconds; or under the rule AsShown it isn't at the moment itself.
+// or before it by whole seconds, at most 187,198 of them; under the rule AsShown it isn't at the
+// moment itself; or it lies outside the years 1970 to 2100, or its offset is 26 hours or more.
 var ErrNotAFire = errors.New("the fire is none that the call takes")
 
 // A TextError says why a text means nothing.

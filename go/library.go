@@ -126,15 +126,19 @@ func parseCrontab(text string) ([]sets, error) {
 	return schedules[:count], err
 }
 
-// canonicalText returns the canonical text of sets, each of which has a member.
-func canonicalText(it *sets) string {
+// canonicalText returns the canonical text of sets, and false where one is empty.
+func canonicalText(it *sets) (string, bool) {
 	text := make([]byte, C.CRON_C_SCHEDULE_TEXT)
 	var needed C.size_t
 	to, room := chars(text)
-	if status := C.cron_c_canonical(it, to, room, &needed); status != C.CRON_C_OK {
+	status := C.cron_c_canonical(it, to, room, &needed)
+	if status == C.CRON_C_NOT_AN_ITEM {
+		return "", false
+	}
+	if status != C.CRON_C_OK {
 		panic("cron_c: " + textOf(status)) // never, since the sets were read of a text
 	}
-	return string(text[:needed])
+	return string(text[:needed]), true
 }
 
 // fixed returns the history of a clock that stays so many seconds ahead of UTC.

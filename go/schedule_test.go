@@ -101,6 +101,11 @@ func TestTheTextIsKept(t *testing.T) {
 	if told := crontab.Canonical(); !reflect.DeepEqual(told, []string{"0 0 0 13 * * *", "0 0 0 * * 6 *"}) {
 		t.Errorf("the canonical texts are %q", told)
 	}
+	never, err := cron.ParseCrontab("0 22-2 * * *")
+	check(t, err)
+	if told := never.Canonical(); len(told) != 0 {
+		t.Errorf("what never fires is %q", told)
+	}
 	if !nightly.Equal(same) || nightly.Equal(crontab) || nightly.Equal(same.Under(cron.Once)) {
 		t.Error("what is equal is told otherwise")
 	}

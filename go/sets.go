@@ -12,12 +12,14 @@ func bytesOf(list []sets) []byte {
 }
 
 // Canonical returns the canonical text of the schedule, or of a crontab's expression that means two
-// schedules both: seven fields, each a star or its runs of numbers as `0-4,30`, with `L` last among
-// the days of the month. Parse reads each back to the same sets.
+// schedules both, but for one that never fires: seven fields, each a star or its runs of numbers as
+// `0-4,30`, with `L` last among the days of the month. Parse reads each back to the same sets.
 func (schedule *Schedule) Canonical() []string {
 	var texts []string
 	for i := range schedule.sets {
-		texts = append(texts, canonicalText(&schedule.sets[i]))
+		if text, ok := canonicalText(&schedule.sets[i]); ok {
+			texts = append(texts, text)
+		}
 	}
 	return texts
 }

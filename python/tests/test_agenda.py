@@ -3,6 +3,7 @@
 import random
 import unittest
 from datetime import datetime, timedelta
+from unittest import mock
 from zoneinfo import ZoneInfo
 
 from cron_c import Agenda, InstantError, Schedule
@@ -129,6 +130,21 @@ class Entries(unittest.TestCase):
         with self.assertRaises(ValueError):
             agenda.add(Schedule("0 0 * * * *"), datetime(2022, 1, 1, tzinfo=CHICAGO), clock_changes="twice")
         self.assertEqual((len(agenda), agenda.first()), (0, None))
+
+    def test_an_interrupt_loses_no_fire(self):
+        agenda, dues, interrupts = Agenda(), Schedule.dues, [KeyboardInterrupt]
+
+        def interrupted(schedule, start):
+            for due in dues(schedule, start):
+                yield due
+                if interrupts:
+                    raise interrupts.pop()
+
+        with mock.patch.object(Schedule, "dues", interrupted):
+            agenda.add(Schedule("0 0 * * * *"), datetime(2022, 1, 1, tzinfo=CHICAGO), clock_changes="once")
+            with self.assertRaises(KeyboardInterrupt):
+                agenda.next()
+        self.assertEqual([agenda.next().moment.hour for _ in range(2)], [1, 2])
 
     def test_a_datetime_without_a_zone_is_refused(self):
         agenda = Agenda()

@@ -20,11 +20,11 @@ class Versions(unittest.TestCase):
         self.assertEqual(cron_c.__version__, library.version())
 
     def test_versions_with_all_calls_and_the_same_structs_are_loaded(self):
-        for version in (10_600, 10_601, 10_700, 19_999):
+        for version in (10_700, 10_701, 10_800, 19_999):
             load(version)
 
     def test_a_version_that_lacks_calls_is_refused(self):
-        for version in (0, 1, 10_000, 10_500, 10_599):
+        for version in (0, 1, 10_000, 10_600, 10_699):
             with self.assertRaises(ImportError, msg=version):
                 load(version)
 
@@ -34,7 +34,7 @@ class Versions(unittest.TestCase):
                 load(version)
 
     def test_a_refusal_names_both_versions(self):
-        with self.assertRaisesRegex(ImportError, r"is of version 1\.4\.0, and this package needs 1\.6\.0 or later, before 2\.0\.0$"):
+        with self.assertRaisesRegex(ImportError, r"is of version 1\.4\.0, and this package needs 1\.7\.0 or later, before 2\.0\.0$"):
             load(10_400)
 
 

@@ -19,8 +19,9 @@ use crate::ffi::{self, Sets};
 use std::fmt;
 use std::str::FromStr;
 
-/// What an expression of a crontab means, as `30 9 * * mon-fri` or `@daily`. Where both kinds of
-/// day are limited one of them suffices. `@reboot`, which no clock fires, never fires.
+/// What an expression of a crontab means, as `30 9 * * mon-fri` or `@daily`. Where neither the third
+/// nor the fifth field begins with a star, one of both kinds of day suffices. `@reboot`, which no
+/// clock fires, never fires.
 #[derive(Clone, Debug)]
 pub struct Crontab {
     source: String,
@@ -33,10 +34,10 @@ impl Crontab {
         &self.source
     }
 
-    /// Returns the canonical text of each schedule that the expression means, as
+    /// Returns the canonical text of each schedule that the expression means and that can fire, as
     /// [`Schedule`](crate::Schedule) reads them: one, or two of which one suffices, or none.
     pub fn canonical(&self) -> Vec<String> {
-        self.schedules.iter().map(ffi::canonical).collect()
+        self.schedules.iter().filter_map(ffi::canonical).collect()
     }
 
     pub(crate) fn schedules(&self) -> &[Sets] {

@@ -12,6 +12,7 @@ use std::ops::Range;
 const OK: u32 = 0;
 const NO_ITEM: u32 = 1;
 const REFUSED: u32 = 2;
+const NOT_AN_ITEM: u32 = 6;
 const MORE: u32 = 8;
 const NO_MEMORY: u32 = 9;
 
@@ -304,15 +305,18 @@ pub(crate) fn parse_crontab(text: &str) -> Result<Vec<Sets>, Error> {
     Ok(sets[..count].to_vec())
 }
 
-/// Returns the canonical text of sets that a text means.
-pub(crate) fn canonical(sets: &Sets) -> String {
+/// Returns the canonical text of sets that a text means, if none is empty.
+pub(crate) fn canonical(sets: &Sets) -> Option<String> {
     let mut text = vec![0; SCHEDULE_TEXT];
     let mut needed = 0;
     // SAFETY: as at the head of this file.
     let status = unsafe { cron_c_canonical(sets, text.as_mut_ptr(), text.len(), &mut needed) };
+    if status == NOT_AN_ITEM {
+        return None;
+    }
     assert_eq!(status, OK, "these sets were read of a text");
     text.truncate(needed);
-    String::from_utf8(text).expect("a canonical text is ASCII")
+    Some(String::from_utf8(text).expect("a canonical text is ASCII"))
 }
 
 /// Calls a reader of texts, and where it refuses the text once more, with room for the message.

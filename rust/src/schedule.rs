@@ -147,7 +147,7 @@ impl Schedule {
     /// # Ok::<(), cron::error::Error>(())
     /// ```
     pub fn canonical(&self) -> String {
-        ffi::canonical(&self.sets)
+        ffi::canonical(&self.sets).expect("each set of an expression has a member")
     }
 }
 

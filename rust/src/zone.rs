@@ -42,13 +42,14 @@ impl Zone {
     /// Opens the zone of a text: `UTC`, a rule, a name of the time zone database, as
     /// `America/Chicago`, or `local`, which is what the variable TZ says, and where it isn't set the
     /// machine's own zone. One file is read at most, of a name that below the folder which TZDIR
-    /// names, or else `/usr/share/zoneinfo`. No name leaves that folder.
+    /// names, or else `/usr/share/zoneinfo`. No name leaves that folder. An empty TZDIR names none.
     pub fn open(text: &str) -> Result<Zone, ZoneError> {
         let tz = env::var_os("TZ").map(|it| it.to_string_lossy().into_owned());
         match ffi::zone_source(text, tz.as_deref()).ok_or(ZoneError::Refused)? {
             Source::Stated(rule) => Zone::of_eras(vec![Era::always(rule)]),
             Source::InFolder(name) => {
-                let folder = env::var_os("TZDIR").unwrap_or_else(|| "/usr/share/zoneinfo".into());
+                let named = env::var_os("TZDIR").filter(|it| !it.is_empty());
+                let folder = named.unwrap_or_else(|| "/usr/share/zoneinfo".into());
                 Zone::of_file(&PathBuf::from(folder).join(name))
             }
             Source::AtPath(path) => Zone::of_file(path.as_ref()),

@@ -190,6 +190,14 @@ fn crontabs_tell_why_a_text_is_refused() {
 }
 
 #[test]
+fn hours_that_run_backwards_never_fire() {
+    let crontab = Crontab::from_str("0 22-2 * * *").unwrap();
+    let start = instant_of("2024-02-01T00:00:00Z");
+    assert!(crontab.canonical().is_empty());
+    assert_eq!(crontab.fires(&Zone::utc()).after(&start), None);
+}
+
+#[test]
 fn reboot_never_fires() {
     let crontab = Crontab::from_str("@reboot").unwrap();
     let start = instant_of("2024-02-01T00:00:00Z");

@@ -602,7 +602,7 @@ uint32_t cron_c_agenda_put(cron_c_entry *entries, size_t entries_length,
  * Takes what fires next of all entries, if its instant is `now` or comes before it: writes the entry's
  * place to `*place` and the fire to `item`, and has the entry go on to its next fire. One that has none
  * gets the rule CRON_C_NO_ENTRY. Fires come by instant, those of one instant by place, and those of one
- * entry by what the clock shows.
+ * entry by the civil second that matches.
  *
  * CRON_C_OK; or CRON_C_NO_ITEM where no entry is due. Where the entry that comes first can't go on nothing
  * is taken, and `*place` tells which it is: CRON_C_BAD_ZONE where its eras are no history, as the calls

@@ -88,8 +88,8 @@ impl Surroundings {
     pub(crate) fn places(&self) -> Places<'_> {
         Places {
             folder: match &self.folder {
-                Some(folder) => folder.as_str(),
-                None => ZONE_FOLDER,
+                Some(folder) if !folder.as_str().is_empty() => folder.as_str(),
+                _ => ZONE_FOLDER,
             },
             tz: self.tz.as_ref().map(|text| text.as_str()),
             machine: LOCAL_FILE,

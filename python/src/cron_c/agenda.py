@@ -108,7 +108,7 @@ class Agenda:
         schedule, dues, clock_changes = self._left[fire.id]
         try:
             follows = next(dues, None)
-        except Exception:
+        except BaseException:  # also of an interrupt: a run that raised once ends
             self._left[fire.id] = schedule, _dues(schedule, fire.due, clock_changes), clock_changes
             raise
         heappop(self._heads)

@@ -96,7 +96,7 @@ class History:
 FIVE_FIELDS = "five fields: a crontab line, which Schedule.crontab reads. Here seconds stand before the minutes, and Sunday is 1."
 
 # The first version that has every call below, and the first whose structs may be others.
-LEAST_VERSION, OTHER_VERSION = 10_600, 20_000
+LEAST_VERSION, OTHER_VERSION = 10_700, 20_000
 
 
 def _numbers(version: int) -> str:
