@@ -3,6 +3,7 @@ pub mod SlotLemmas
 pub mod PartLemmas
 pub mod SweepLemmas
 pub mod LookLemmas
+pub mod LeastLemmas
 pub mod TreeLemmas
 pub mod FirstLemmas
 pub mod IdLemmas
@@ -10,3 +11,5 @@ pub mod EntryLemmas
 pub mod FireLemmas
 pub mod MergeLemmas
 pub mod RestLemmas
+pub mod NextLemmas
+pub mod MatchLemmas

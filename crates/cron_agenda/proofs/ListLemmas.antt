@@ -1,7 +1,7 @@
 -- Lists at one of their places, and options.
 use Rattle.std.proofs.Common.{◌≡◌, ℕ, zero, suc, ◌+◌, ◌<◌, ◌≤◌, Bool, true, false, List, [], ◌∷◌, ◌++◌, length, set, get_or, Option, Some, None, refl, sym, ap, subst, arith}
 use Rattle.std.specs.Prelude.{slice_get, not}
-use Rattle.std.specs.Prelude.{Result, Ok, Err, OnOk}
+use Rattle.std.specs.Prelude.{Result, Ok, Err, OnErr, OnOk}
 use Rattle.std.specs.Result.{is_err}
 use Rattle.std.specs.Option.{is_none, is_some}
 use Rattle.cron_agenda.specs.declared.fire.EntryFire.{EntryFire}
@@ -67,6 +67,10 @@ has_fire (Some q) e = (q, refl)
 pub on_ok : {A E P : Type 0} (r : Result A E) → is_err r ≡ false → OnOk r P → P
 on_ok (Ok x) e h = h
 on_ok (Err x) e h = cc
+
+pub on_err : {A E P : Type 0} (r : Result A E) → is_err r ≡ true → OnErr r P → P
+on_err (Ok x) e h = cc
+on_err (Err x) e h = h
 
 pub none_told : {X : Type 0} (h : Option X) (b : Bool) → is_some h ≡ not b → is_none h ≡ b
 none_told h true told = ap not told

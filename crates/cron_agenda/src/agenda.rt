@@ -1,7 +1,8 @@
 //! Entries, each with its next fire.
 ghost use Rattle.std.specs.Prelude.{◌≡◌, ◌≤◌, [], length, map};
 ghost use Rattle.jiff.specs.Words.{plain_zone};
-ghost use Rattle.cron_agenda.specs.Fires.{fires_after, fires_past};
+ghost use Rattle.cron_fires.specs.Matches.{MatchesAny};
+ghost use Rattle.cron_agenda.specs.Fires.{civil_second, fires_after, fires_past};
 ghost use Rattle.cron_agenda.specs.Entries.{Adds, HaveIds, IsEntryOf, IsFirstEntry, Reserves, TakesDue, TakesNext, has, listed, with_entries, without};
 ghost use Rattle.cron_agenda.specs.Inner.Slots as inner;
 
@@ -9,6 +10,7 @@ use crate::earliest::Earliest;
 use crate::entry::Entry;
 use crate::error::{AddError, ZoneMissing};
 use crate::fire::{AgendaFire, EntryFire, first_after, first_past};
+use crate::next::next_past;
 use crate::slots::Slot;
 use cron_fires::{ClockChanges, Timetable};
 use jiff::Timestamp;
@@ -22,7 +24,7 @@ const STEPS: usize = 8;
 /// Entries, each with its next fire. Contracts see them in the order in which they were added, how
 /// many were ever added, and how many more have their memory already.
 #[derive(Drop)]
-pub struct Agenda<T> {
+pub struct Agenda<T: Timetable> {
     slots: Vec<Slot<T>>,
     firsts: Earliest,
     live: usize,
@@ -34,17 +36,18 @@ pub struct Agenda<T> {
     scanned: usize,
 }
 
-impl<T> Model for Agenda<T> {
+impl<T: Timetable> Model for Agenda<T> {
     ghost use Rattle.cron_agenda.specs.Entries.{Listed, listed};
     ghost use Rattle.std.specs.Prelude.{vec_capacity, vec_len};
-    ghost use Rattle.cron_agenda.specs.Inner.Slots.{HasRoom, IsKept, entries_of};
+    ghost use Rattle.cron_agenda.specs.Inner.Slots.{FiresMatch, HasRoom, IsKept, entries_of};
 
     ghost Value = { Listed T };
 
     ghost view = { λ a. listed (entries_of a.slots.items) a.added a.room };
 
     ghost invariant = { λ a. IsKept a.slots.items a.firsts.instants a.live a.added a.packed a.scanned
-        × HasRoom (vec_len a.slots) (vec_capacity a.slots) a.firsts.room a.room };
+        × HasRoom (vec_len a.slots) (vec_capacity a.slots) a.firsts.room a.room
+        × FiresMatch T.schedules a.slots.items };
 }
 
 // Where the entry with this id stands, if it is there.
@@ -134,6 +137,7 @@ impl<T: Timetable + Copy> Agenda<T> {
 
     // Adds an entry with this next fire.
     fn insert(&mut self, table: T, zone: usize, fire: EntryFire) -> Result<u64, AddError>
+        requires { MatchesAny (T.schedules table) (civil_second fire) }
         ensures { inner.Inserts table zone fire self.old result self.new }
     {
         if self.added == u64::MAX {
@@ -329,7 +333,7 @@ impl<T: Timetable + Copy> Agenda<T> {
         let Some(zone) = zones.get(slot.zone) else {
             return Err(ZoneMissing { id });
         };
-        let next = first_past(&slot.table, &fire, zone);
+        let next = next_past(&slot.table, &fire, zone);
         let is_last = next.is_none();
         let changed = &mut self.slots[place];
         changed.head = next;

@@ -1,6 +1,7 @@
-//! Which of some places comes first, kept as their instants change: a tree in a list, whose place
-//! `i` stands over the places `8i + 1` to `8i + 8`, and has the least word from it down.
-ghost use Rattle.std.specs.Prelude.{◌≡◌, ◌≢◌, ℕ, ◌+◌, ◌-◌, ◌<◌, ◌≤◌, [], ◌∷◌, ◌++◌, Some, None, length, slice_get, slice_set, take, IfSome, OnOk, OnErr};
+//! Which of some places comes first, kept as their instants change: a tree in one list of words,
+//! first its inner words, then one for each place. The inner word `i` is the least of the words
+//! `8i + 1` to `8i + 8`, as far as they exist, so the first of all is the least of the places'.
+ghost use Rattle.std.specs.Prelude.{◌≡◌, ◌⊎◌, ℕ, ◌+◌, ◌-◌, ◌*◌, ◌<◌, ◌≤◌, [], ◌∷◌, ◌++◌, Some, None, drop, length, slice_get, slice_index, slice_set, take, vec_capacity, vec_len, IfSome, OnOk, OnErr};
 ghost use Rattle.cron_earliest.specs.Places.{IsFirstPlace};
 ghost use Rattle.cron_agenda.specs.Inner.Tree as tree;
 ghost use Rattle.cron_agenda.specs.Inner.Words as words;
@@ -12,97 +13,149 @@ use std::marker::Model;
 /// Places, each with an instant or none. There are at most 2^30.
 #[derive(Drop)]
 pub(crate) struct Earliest {
-    own: Vec<u64>,
-    best: Vec<u64>,
+    words: Vec<u64>,
+    inner: usize,
 }
 
 impl Model for Earliest {
-    ghost use Rattle.std.specs.Prelude.{map};
-    ghost use Rattle.std.specs.Prelude.{vec_capacity, vec_len};
+    ghost use Rattle.std.specs.Prelude.{drop, map, vec_capacity, vec_len};
     ghost use Rattle.cron_agenda.specs.Inner.Tree.{IsKeptTree, Places, room_in};
     ghost use Rattle.cron_agenda.specs.Inner.Words.{instant_in};
 
     ghost Value = { Places };
 
     ghost view = { λ e. record {
-      instants = map instant_in e.own.items;
-      room = room_in (vec_len e.own) (vec_capacity e.own) (vec_len e.best) (vec_capacity e.best);
+      instants = map instant_in (drop e.inner e.words.items);
+      room = room_in (vec_len e.words) (vec_capacity e.words) e.inner;
     } };
 
-    ghost invariant = { λ e. IsKeptTree e.own.items e.best.items };
+    ghost invariant = { λ e. IsKeptTree e.words.items e.inner };
 }
 
-// The least of the words of two places.
+// A word, or that of none in place of one.
 #[inline(always)]
-fn least_of_two(best: &[u64], first: usize) -> u64
-    requires { first + 2 ≤ length best.now }
-    ensures { tree.IsLeastIn best.now first (first + 2) result }
+fn word_but(words: &[u64], at: usize, left_out: usize) -> u64
+    requires { at < length words.now }
+    ensures { result ≡ slice_index (tree.without words.now left_out) at }
 {
-    best[first].min(best[first + 1])
+    if at == left_out { NONE } else { words[at] }
 }
 
-// The least of those of four.
+// The lesser of two words, of which one may be left out.
 #[inline(always)]
-fn least_of_four(best: &[u64], first: usize) -> u64
-    requires { first + 4 ≤ length best.now }
-    ensures { tree.IsLeastIn best.now first (first + 4) result }
+fn least_of_two(words: &[u64], first: usize, left_out: usize) -> u64
+    requires { first + 2 ≤ length words.now }
+    ensures { tree.IsLeastIn (tree.without words.now left_out) first (first + 2) result }
 {
-    least_of_two(best, first).min(least_of_two(best, first + 2))
+    word_but(words, first, left_out).min(word_but(words, first + 1, left_out))
 }
 
-// The least of those of eight.
+// The least of four.
 #[inline(always)]
-fn least_of_eight(best: &[u64], first: usize) -> u64
-    requires { first + 8 ≤ length best.now }
-    ensures { tree.IsLeastIn best.now first (first + 8) result }
+fn least_of_four(words: &[u64], first: usize, left_out: usize) -> u64
+    requires { first + 4 ≤ length words.now }
+    ensures { tree.IsLeastIn (tree.without words.now left_out) first (first + 4) result }
 {
-    least_of_four(best, first).min(least_of_four(best, first + 4))
+    least_of_two(words, first, left_out).min(least_of_two(words, first + 2, left_out))
 }
 
-// The least of those from a place on.
-fn least_from(best: &[u64], first: usize) -> u64
-    ensures { tree.IsLeastIn best.now first (length best.now) result }
+// The least of eight.
+#[inline(always)]
+fn least_of_eight(words: &[u64], first: usize, left_out: usize) -> u64
+    requires { first + 8 ≤ length words.now }
+    ensures { tree.IsLeastIn (tree.without words.now left_out) first (first + 8) result }
+{
+    least_of_four(words, first, left_out).min(least_of_four(words, first + 4, left_out))
+}
+
+// The least of those from one on, or that of none.
+fn least_from(words: &[u64], first: usize, left_out: usize) -> u64
+    ensures { tree.IsLeastIn (tree.without words.now left_out) first (length words.now) result }
 {
     let mut least = NONE;
-    for at in first..best.len() {
-        least = least.min(best[at]);
+    for at in first..words.len() {
+        least = least.min(word_but(words, at, left_out));
     }
     least
 }
 
-// Of a place's own word and those of the places below it the least.
+// The least of those below an inner word.
 #[inline(always)]
-fn best_of(own: &[u64], best: &[u64], at: usize) -> u64
-    requires at { at < length own.now }
-    requires size { length best.now ≡ length own.now }
-    requires most { length own.now ≤ 1_073_741_824 }
-    ensures { tree.IsLeast own.now best.now at result }
+fn least_below(words: &[u64], at: usize, left_out: usize) -> u64
+    requires at { at < length words.now }
+    requires most { length words.now ≤ 2_147_483_648 }
+    ensures { tree.IsLeastBelow (tree.without words.now left_out) at result }
 {
     let first = 8 * at + 1;
-    let below = if first + 8 <= best.len() {
-        least_of_eight(best, first)
+    if first + 8 <= words.len() {
+        least_of_eight(words, first, left_out)
     } else {
-        least_from(best, first)
-    };
-    own[at].min(below)
+        least_from(words, first, left_out)
+    }
 }
 
-// Sets right the place and those above it.
-fn repair(own: &[u64], best: &mut [u64], from: usize)
-    requires at { from < length own.now }
-    requires size { length best.old ≡ length own.now }
-    requires most { length own.now ≤ 1_073_741_824 }
-    requires others { (i : ℕ) → i < length own.now → i ≢ from → tree.IsBestAt own.now best.old i }
-    ensures { tree.IsTree own.now best.new }
+// Writes a word, and sets right the inner words above it. Each is written once those beside it were
+// read: a wide read of what was just written waits for it.
+fn write(words: &mut [u64], from: usize, word: u64)
+    requires from { from < length words.old }
+    requires most { length words.old ≤ 2_147_483_648 }
+    ensures right { (i : ℕ) → tree.IsRightAt (slice_set words.old from word) i ⊎ tree.IsBelow from i
+        → tree.IsRightAt words.new i }
+    ensures rest { (n : ℕ) → from ≤ 8 * n
+        → drop n words.new ≡ drop n (slice_set words.old from word) }
 {
     let mut at = from;
-    loop {
-        best[at] = best_of(own, best, at);
-        if at == 0 {
-            return;
-        }
-        at = (at - 1) / 8;
+    let mut least = word;
+    while at > 0 {
+        let above = (at - 1) / 8;
+        let beside = least_below(words, above, at);
+        words[at] = least;
+        least = least.min(beside);
+        at = above;
     }
+    words[0] = least;
+}
+
+// Sets right all inner words, the last one first.
+fn set_all_right(words: &mut [u64], inner: usize)
+    requires inner { inner ≤ length words.old }
+    requires most { length words.old ≤ 2_147_483_648 }
+    ensures right { tree.IsTree words.new inner }
+    ensures places { drop inner words.new ≡ drop inner words.old }
+{
+    for at in (0..inner).rev() {
+        // the first word stands below none
+        words[at] = least_below(words, at, 0);
+    }
+}
+
+// Takes memory for so many more inner words and places, and adds the inner words, or adds none.
+fn widen(
+    words: &mut Vec<u64>,
+    inner: usize,
+    more: usize,
+    additional: usize,
+) -> Result<(), AllocError>
+    requires inner { inner ≤ vec_len words.old }
+    requires most { vec_len words.old + more + additional ≤ 2_147_483_648 }
+    requires right { tree.IsTree words.old.items inner }
+    ensures right { OnOk result (tree.IsTree words.new.items (inner + more)) }
+    ensures places { OnOk result (drop (inner + more) words.new.items ≡ drop inner words.old.items) }
+    ensures len { OnOk result (vec_len words.new ≡ vec_len words.old + more) }
+    ensures room { OnOk result (vec_len words.new + additional ≤ vec_capacity words.new) }
+    ensures capacity { vec_capacity words.old ≤ vec_capacity words.new }
+    ensures err { OnErr result (words.new.items ≡ words.old.items) }
+    ensures full { OnErr result (vec_capacity words.old < vec_len words.old + more + additional) }
+{
+    let len = words.len();
+    words.try_reserve(more + additional)?;
+    if more == 0 {
+        return Ok(());
+    }
+    words.resize(len + more, NONE)?;
+    words.copy_within(inner..len, inner + more);
+    set_all_right(words, inner + more);
+    Ok(())
 }
 
 impl Earliest {
@@ -111,8 +164,8 @@ impl Earliest {
         ensures { result.instants ≡ [] }
     {
         Earliest {
-            own: Vec::new(alloc),
-            best: Vec::new(alloc),
+            words: Vec::new(alloc),
+            inner: 0,
         }
     }
 
@@ -123,11 +176,16 @@ impl Earliest {
         ensures room { self.old.room ≤ self.new.room }
         ensures err { OnErr result (self.old.room < additional) }
     {
-        if additional > PLACES - self.own.len() {
+        let places = self.words.len() - self.inner;
+        if additional > PLACES - places {
             return Err(AllocError);
         }
-        self.best.try_reserve(additional)?;
-        self.own.try_reserve(additional)
+        // the fewest inner words that so many places need
+        let inner = (places + additional + 5) / 7;
+        let more = inner.saturating_sub(self.inner);
+        widen(&mut self.words, self.inner, more, additional)?;
+        self.inner += more;
+        Ok(())
     }
 
     /// Adds a place behind the others.
@@ -138,16 +196,21 @@ impl Earliest {
         ensures room { self.old.room ≤ self.new.room + 1 }
         ensures full { OnErr result (self.old.room ≡ 0) }
     {
-        let last = self.own.len();
-        if last >= PLACES {
+        let place = self.words.len() - self.inner;
+        if place >= PLACES {
             return Err(AllocError);
         }
-        self.best.push(NONE)?;
-        if self.own.push(word_of(instant, last)).is_err() {
-            self.best.pop();
-            return Err(AllocError);
-        }
-        repair(&self.own, &mut self.best, last);
+        // where no inner word stands above the place, as many more as there are, and one
+        let more = if place > 7 * self.inner {
+            self.inner + 1
+        } else {
+            0
+        };
+        widen(&mut self.words, self.inner, more, 1)?;
+        self.inner += more;
+        let word = word_of(instant, place);
+        self.words.push(word)?;
+        write(&mut self.words, self.inner + place, word);
         Ok(())
     }
 
@@ -158,9 +221,9 @@ impl Earliest {
         ensures instants { self.new.instants ≡ slice_set self.old.instants place instant }
         ensures room { self.new.room ≡ self.old.room }
     {
-        let word = &mut self.own[place];
-        *word = word_of(instant, place);
-        repair(&self.own, &mut self.best, place);
+        let at = self.inner + place;
+        let word = word_of(instant, place);
+        write(&mut self.words, at, word);
     }
 
     /// Drops the last place, which has no instant.
@@ -169,17 +232,16 @@ impl Earliest {
         ensures instants { self.new.instants ≡ take (length self.old.instants - 1) self.old.instants }
         ensures room { self.old.room ≤ self.new.room }
     {
-        self.own.pop();
-        self.best.pop();
+        self.words.pop();
     }
 
     /// The place that comes first: by instant, and where that is shared by its number.
     pub(crate) fn first(&self) -> Option<usize>
         ensures { IsFirstPlace self.now.instants result }
     {
-        if self.best.is_empty() {
+        if self.words.is_empty() {
             return None;
         }
-        place_in(self.best[0])
+        place_in(self.words[0])
     }
 }

@@ -1,8 +1,8 @@
 //! Fires of entries, by either rule at clock changes.
 ghost use Rattle.std.specs.Prelude.{◌≡◌, ◌*ℤ◌, pos};
 ghost use Rattle.jiff.specs.Words.{plain_zone};
-ghost use Rattle.cron_fires.specs.Rules.{IsFirstOf};
 ghost use Rattle.cron_agenda.specs.Fires.{fires_after, fires_past, instant};
+ghost use Rattle.cron_agenda.specs.Inner.Slots.{IsFirstFire};
 ghost use Rattle.cron_agenda.specs.Inner.Words.{CanBeKept};
 
 use cron::schedule::Moment;
@@ -62,9 +62,10 @@ pub(crate) fn first_after<T: Timetable>(
     now: Timestamp,
     zone: &TimeZone<'_>,
 ) -> Option<EntryFire>
-    ensures { IsFirstOf
+    ensures { IsFirstFire
+        (T.schedules table.now)
+        (plain_zone zone.now)
         (fires_after (T.schedules table.now) (plain_zone zone.now) changes now.nanosecond)
-        (fires_past (T.schedules table.now) (plain_zone zone.now))
         result }
 {
     match changes {
@@ -85,9 +86,10 @@ pub(crate) fn first_past<T: Timetable>(
     fire: &EntryFire,
     zone: &TimeZone<'_>,
 ) -> Option<EntryFire>
-    ensures { IsFirstOf
+    ensures { IsFirstFire
+        (T.schedules table.now)
+        (plain_zone zone.now)
         (fires_past (T.schedules table.now) (plain_zone zone.now) fire.now)
-        (fires_past (T.schedules table.now) (plain_zone zone.now))
         result }
 {
     match fire {

@@ -8,6 +8,7 @@ mod entry;
 mod error;
 mod fire;
 pub mod laws;
+mod next;
 mod slots;
 mod words;
 

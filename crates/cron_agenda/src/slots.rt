@@ -7,12 +7,13 @@ use crate::entry::Entry;
 use crate::fire::{EntryFire, second_of};
 
 /// An entry with its next fire; or what an entry leaves behind that is gone, with none.
+// What a fire reads of a slot stands at its front: a slot is longer than a line of a cache.
 #[derive(Drop)]
 pub(crate) struct Slot<T> {
     pub id: u64,
-    pub table: T,
     pub zone: usize,
     pub head: Option<EntryFire>,
+    pub table: T,
 }
 
 impl<T> Slot<T> {

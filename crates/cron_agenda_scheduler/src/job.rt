@@ -5,9 +5,10 @@ ghost use Rattle.cron_agenda.specs.Entries.{Listed};
 ghost use Rattle.cron_agenda.specs.declared.fire.AgendaFire.{AgendaFire};
 
 use cron_agenda::{Agenda, AgendaFire};
+use cron_fires::Timetable;
 
 /// What is run for each fire of an agenda whose entries fire by a `T`.
-pub trait AgendaJob<T> {
+pub trait AgendaJob<T: Timetable> {
     /// Why it failed, which ends a step.
     type Error;
 

@@ -76,6 +76,10 @@ impl<T: Timetable> Timetable for Timely<T> {
         self.table.first_past(fire, zone)
     }
 
+    fn next_match(&self, second: u32) -> Option<u32> {
+        self.table.next_match(second)
+    }
+
     fn last_by(&self, now: Timestamp, zone: &TimeZone<'_>) -> Option<Moment> {
         self.table.last_by(now, zone)
     }

@@ -2,3 +2,4 @@ pub mod LawLemmas
 pub mod MeetLemmas
 pub mod DueLemmas
 pub mod AgreeLemmas
+pub mod MatchLemmas

@@ -1,3 +1,4 @@
 pub mod Laws
 pub mod Rules
 pub mod DueLaws
+pub mod Matches

@@ -28,6 +28,7 @@ mod changes;
 mod dues;
 mod fire;
 pub mod laws;
+mod matches;
 mod runs;
 mod timetables;
 

@@ -3,8 +3,10 @@ ghost use Rattle.std.specs.Prelude.{List, [], ◌∷◌};
 ghost use Rattle.jiff.specs.Words.{plain_zone};
 ghost use Rattle.cron_units.specs.Sets.{Sets};
 ghost use Rattle.cron_unions.specs.FirstOfAny.{IsFirstAfterAny, IsFirstPastAny, IsLastByAny};
+ghost use Rattle.cron_fires.specs.Matches.{IsNextMatch, MatchesAny};
 ghost use Rattle.cron_unions.specs.UnionDues.{IsFirstDueAfterAny, IsFirstDuePastAny, IsLastDueByAny};
 
+use crate::matches::{next_match, next_match_of_any};
 use cron::Schedule;
 use cron::schedule::Moment;
 use cron_dues::dues as single_dues;
@@ -28,6 +30,13 @@ pub trait Timetable {
     /// The earliest fire that is later than this one. `None` where there is none.
     fn first_past(&self, fire: &Moment, zone: &TimeZone<'_>) -> Option<Moment>
         ensures { IsFirstPastAny (schedules self.now) (plain_zone zone.now) fire.now result };
+
+    /// The next civil second that matches, behind one that does, both counted from
+    /// 1970-01-01T00:00:00 on. `None` where there is none. No zone is asked, so a clock may show it
+    /// twice or never.
+    fn next_match(&self, second: u32) -> Option<u32>
+        requires { MatchesAny (schedules self.now) second }
+        ensures { IsNextMatch (schedules self.now) second result };
 
     /// The latest fire whose instant is `now` or comes before it. `None` where there is none.
     fn last_by(&self, now: Timestamp, zone: &TimeZone<'_>) -> Option<Moment>
@@ -66,6 +75,10 @@ impl Timetable for Schedule {
         self.fields().first_past(fire, zone)
     }
 
+    fn next_match(&self, second: u32) -> Option<u32> {
+        self.fields().next_match(second)
+    }
+
     fn last_by(&self, now: Timestamp, zone: &TimeZone<'_>) -> Option<Moment> {
         self.fields().last_by(now, zone)
     }
@@ -94,6 +107,10 @@ impl Timetable for ScheduleFields {
         single::first_past(self, fire, zone)
     }
 
+    fn next_match(&self, second: u32) -> Option<u32> {
+        next_match(self, second)
+    }
+
     fn last_by(&self, now: Timestamp, zone: &TimeZone<'_>) -> Option<Moment> {
         single::last_by(self, now, zone)
     }
@@ -120,6 +137,10 @@ impl<'a> Timetable for Union<'a> {
 
     fn first_past(&self, fire: &Moment, zone: &TimeZone<'_>) -> Option<Moment> {
         instants::first_past(self.schedules, fire, zone)
+    }
+
+    fn next_match(&self, second: u32) -> Option<u32> {
+        next_match_of_any(self.schedules, second)
     }
 
     fn last_by(&self, now: Timestamp, zone: &TimeZone<'_>) -> Option<Moment> {

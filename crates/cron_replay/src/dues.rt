@@ -8,9 +8,13 @@
 
 use crate::settings::{Case, case_of, cut, start_at, zone_named};
 use crate::zone_files::bytes_named;
-use anyhow::Result;
+use anyhow::{Result, ensure};
 use cron::Schedule;
-use cron_fires::{DueFire, Dues, first_due_after, first_due_past, last_due_by, missed_dues};
+use cron_agenda::{AddError, Agenda, EntryFire};
+use cron_fires::{
+    ClockChanges, DueFire, Dues, fields_of, first_due_after, first_due_past, last_due_by,
+    missed_dues,
+};
 use cron_rows::{Report, Row};
 use jiff::Timestamp;
 use jiff::tz::{TimeZone, Tzif};
@@ -42,6 +46,7 @@ fn add_fire(told: &mut String, fire: &Option<DueFire>) -> Result<(), AllocError>
 enum Call {
     FirstPast,
     After,
+    Agenda,
     LastBy,
     Between,
     Missed,
@@ -52,6 +57,7 @@ impl Call {
         match self {
             Call::FirstPast => "first_due_past",
             Call::After => "Dues::after",
+            Call::Agenda => "an agenda",
             Call::LastBy => "last_due_by",
             Call::Between => "Dues::between",
             Call::Missed => "missed_dues",
@@ -63,6 +69,7 @@ impl Call {
         match self {
             Call::FirstPast => ask_in_turn(alloc, question),
             Call::After => take_dues(alloc, question),
+            Call::Agenda => take_from_agenda(alloc, question),
             Call::LastBy => last(alloc, question),
             Call::Between => between(alloc, question, end),
             Call::Missed => list_missed(alloc, question, end),
@@ -92,6 +99,34 @@ fn take_dues(alloc: Global, question: &Question<'_>) -> Result<String> {
     let mut dues = Dues::after(question.schedule, question.instant, question.zone);
     for _ in 0..question.count {
         add_fire(&mut told, &dues.next())?;
+    }
+    Ok(told)
+}
+
+/// The due fire of an entry's fire.
+fn due_fire_of(fire: &EntryFire) -> Option<DueFire> {
+    match fire {
+        EntryFire::Once(due) => Some(*due),
+        EntryFire::AsShown(_) => None,
+    }
+}
+
+/// The fires of an agenda with this one entry.
+fn take_from_agenda(alloc: Global, question: &Question<'_>) -> Result<String> {
+    let mut told = String::new(alloc);
+    let mut agenda = Agenda::new(alloc);
+    let zones = [*question.zone];
+    let table = fields_of(question.schedule);
+    let added = agenda.add(table, ClockChanges::Once, question.instant, &zones, 0);
+    if let Err(why) = added {
+        ensure!(why == AddError::NoFires, "the entry is refused: {why}");
+    }
+    for _ in 0..question.count {
+        let fire = match agenda.next(&zones)? {
+            Some(due) => due_fire_of(&due.fire),
+            None => None,
+        };
+        add_fire(&mut told, &fire)?;
     }
     Ok(told)
 }
@@ -169,7 +204,7 @@ fn replay(
 
 pub(crate) fn replay_after(report: &mut Report<'_>, row: Row<'_>) -> Result<()> {
     let case = case_of(row.text)?;
-    let calls = [Call::FirstPast, Call::After];
+    let calls = [Call::FirstPast, Call::After, Call::Agenda];
     replay(report, row, case, case.start, &calls)
 }
 
@@ -185,6 +220,12 @@ pub(crate) fn replay_between(report: &mut Report<'_>, row: Row<'_>) -> Result<()
         rest: answers,
         ..case
     };
-    let calls = [Call::Between, Call::Missed, Call::FirstPast, Call::After];
+    let calls = [
+        Call::Between,
+        Call::Missed,
+        Call::FirstPast,
+        Call::After,
+        Call::Agenda,
+    ];
     replay(report, row, answered, end, &calls)
 }

@@ -7,9 +7,10 @@
 //! of the range.
 
 use crate::settings::{Setting, case_of, cut, setting_of, start_at};
-use anyhow::Result;
+use anyhow::{Context, Result};
 use cron::schedule::Moment;
-use cron_fires::{Fires, first_fire_after, first_fire_past, missed};
+use cron_agenda::{AddError, Agenda, EntryFire};
+use cron_fires::{ClockChanges, Fires, fields_of, first_fire_after, first_fire_past, missed};
 use cron_rows::{Report, Row};
 use jiff::{SignedDuration, Timestamp};
 use std::alloc::{AllocError, Global};
@@ -77,19 +78,48 @@ fn sorted_walk(alloc: Global, setting: &Setting, now: Timestamp) -> Result<Vec<M
     Ok(fires)
 }
 
+/// The moment of a fire by the clock.
+fn moment_of(fire: &EntryFire) -> Option<Moment> {
+    match fire {
+        EntryFire::AsShown(moment) => Some(*moment),
+        EntryFire::Once(_) => None,
+    }
+}
+
+/// Those of an agenda with this one entry.
+fn take_due(alloc: Global, setting: &Setting, now: Timestamp) -> Result<Vec<Moment>> {
+    let mut fires = Vec::new(alloc);
+    let mut agenda = Agenda::new(alloc);
+    let zones = [setting.zone];
+    let table = fields_of(&setting.schedule);
+    let added = agenda.add(table, ClockChanges::AsShown, setting.start, &zones, 0);
+    if let Err(AddError::NoFires) = added {
+        return Ok(fires);
+    }
+    for _ in 0..u64::MAX {
+        let Some(due) = agenda.next_due(now, &zones)? else {
+            break;
+        };
+        fires.push(moment_of(&due.fire).context("another rule")?)?;
+    }
+    Ok(fires)
+}
+
 /// What is asked for the fires between two instants.
 #[derive(Clone, Copy)]
 enum Source {
     Between,
     Missed,
     InTurn,
+    Agenda,
     SortedWalk,
 }
 
-const SOURCES: [Source; 4] = [
+const SOURCES: [Source; 5] = [
     Source::Between,
     Source::Missed,
     Source::InTurn,
+    Source::Agenda,
     Source::SortedWalk,
 ];
 
@@ -99,6 +129,7 @@ impl Source {
             Source::Between => "Fires::between",
             Source::Missed => "missed",
             Source::InTurn => "first_fire_past",
+            Source::Agenda => "an agenda",
             Source::SortedWalk => "a walk, sorted",
         }
     }
@@ -109,6 +140,7 @@ impl Source {
             Source::Between => between(alloc, setting, now),
             Source::Missed => list_missed(alloc, setting, now),
             Source::InTurn => ask_in_turn(alloc, setting, now),
+            Source::Agenda => take_due(alloc, setting, now),
             Source::SortedWalk => sorted_walk(alloc, setting, now),
         }
     }

@@ -9,7 +9,7 @@ ghost use Rattle.cron_running.specs.Alarms.{RingsAt};
 use crate::failure::{Failure, outcome_of};
 use cron_agenda::{AddError, Agenda, AgendaFire, EntryFire};
 use cron_agenda_scheduler::{AgendaJob, AgendaStop, run};
-use cron_fires::{ClockChanges, Union};
+use cron_fires::{ClockChanges, Timetable, Union};
 use cron_ringing::lined::Lined;
 use cron_ringing::printer::{Printer, WriteFailed};
 use cron_scheduler::AlarmClock;
@@ -25,7 +25,7 @@ pub struct FireWriter<W> {
     pub printer: Printer<W>,
 }
 
-impl<T, W: Watchable> AgendaJob<T> for FireWriter<W> {
+impl<T: Timetable, W: Watchable> AgendaJob<T> for FireWriter<W> {
     type Error = WriteFailed;
 
     ghost use Rattle.cron_ringing.specs.Printing.{writer_calls};

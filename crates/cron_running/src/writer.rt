@@ -5,6 +5,7 @@ ghost use Rattle.cron_running.specs.Writing.{text_at};
 
 use cron_agenda::{Agenda, AgendaFire};
 use cron_agenda_scheduler::AgendaJob;
+use cron_fires::Timetable;
 use cron_ringing::printer::{Printer, WriteFailed};
 use cron_writer::watchable::Watchable;
 use cron_writer::watched::Watched;
@@ -43,7 +44,7 @@ fn text_at(texts: &[Vec<u8>], id: u64) -> &[u8]
     }
 }
 
-impl<T, W: Watchable> AgendaJob<T> for TabWriter<W> {
+impl<T: Timetable, W: Watchable> AgendaJob<T> for TabWriter<W> {
     type Error = WriteFailed;
 
     ghost use Rattle.cron_ringing.specs.Printing.{writer_calls};

@@ -67,6 +67,11 @@ impl Timetable for TabEntry {
         Union { schedules }.first_past(fire, zone)
     }
 
+    fn next_match(&self, second: u32) -> Option<u32> {
+        let schedules = self.as_slice();
+        Union { schedules }.next_match(second)
+    }
+
     fn last_by(&self, now: Timestamp, zone: &TimeZone<'_>) -> Option<Moment> {
         let schedules = self.as_slice();
         Union { schedules }.last_by(now, zone)

@@ -1,13 +1,17 @@
 -- Slots of entries. One whose entry is gone stays for a while, and has no fire.
-use Rattle.std.specs.Prelude.{◌≡◌, ℕ, ◌+◌, ◌-◌, ◌^◌, ◌⊎◌, ◌≤◌, ℤ, Result, Ok, Err, Option, Some, None, MatchOption, List, [], ◌∷◌, ◌++◌, length, map, slice_get}
+use Rattle.std.specs.Prelude.{◌≡◌, ℕ, ◌+◌, ◌-◌, ◌^◌, ◌⊎◌, ◌≤◌, ℤ, Result, Ok, Err, Option, Some, None, IfSome, MatchOption, List, [], ◌∷◌, ◌++◌, length, map, slice_get}
 use Rattle.std.specs.Option.{option_map}
 use Rattle.cron_agenda.specs.declared.entry.Entry.{Entry}
 use Rattle.cron_agenda.specs.declared.fire.EntryFire.{EntryFire}
 use Rattle.cron_agenda.specs.declared.slots.Slot.{Slot}
 use Rattle.cron_agenda.specs.declared.error.AddError.{AddError}
 use Rattle.cron_agenda.specs.declared.error.AddError.TheVariants.{NoIds, OutOfMemory}
+use Rattle.jiff_tz.specs.declared.timezone.TimeZone.{TimeZone}
+use Rattle.cron_units.specs.Sets.{Sets}
+use Rattle.cron_fires.specs.Matches.{MatchesAny}
+use Rattle.cron_fires.specs.Rules.{IsFirstOf}
 use Rattle.cron_agenda.specs.Entries.{Listed, listed, entry}
-use Rattle.cron_agenda.specs.Fires.{instant}
+use Rattle.cron_agenda.specs.Fires.{civil_second, fires_past, instant}
 
 abbrev pub entry_when : {T : Type 0} → ℕ → T → ℕ → Option EntryFire → List (Entry T)
 entry_when id table zone None = []
@@ -46,6 +50,15 @@ pub record IsKept {T : Type 0} (slots : List (Slot T)) (firsts : List (Option �
   pub keys : firsts ≡ map instant_of slots
   pub parts : AreInParts slots packed scanned added
   pub count : live ≡ length (entries_of slots)
+
+-- the first of some fires of schedules in a zone, behind which come those past it, and which is at a match
+abbrev pub IsFirstFire : List Sets → TimeZone → List EntryFire → Option EntryFire → Type 0
+IsFirstFire ss z fires answer = IsFirstOf fires (fires_past ss z) answer × IfSome answer (λ fire. MatchesAny ss (civil_second fire))
+
+-- the next fire of each entry is at a match of its schedules
+abbrev pub FiresMatch : {T : Type 0} → (T → List Sets) → List (Slot T) → Type 0
+FiresMatch {T} schedules slots =
+    (i : ℕ) (s : Slot T) (fire : EntryFire) → slice_get slots i ≡ Some s → s.head ≡ Some fire → MatchesAny (schedules s.table) (civil_second fire)
 
 -- as many more entries as there is room for need no memory, of slots and of places
 abbrev pub HasRoom : ℕ → ℕ → ℕ → ℕ → Type 0

@@ -5,8 +5,9 @@ use Rattle.cron_agenda.specs.declared.slots.Slot.{Slot}
 use Rattle.cron_agenda.specs.Entries.{listed}
 use Rattle.cron_agenda.specs.Fires.{instant}
 use Rattle.cron_agenda.specs.Inner.Slots.{entries_of}
-use Rattle.cron_agenda.proofs.ListLemmas.{on_ok}
+use Rattle.cron_agenda.proofs.ListLemmas.{on_err, on_ok}
 use Rattle.cron_agenda.proofs.SlotLemmas.{entries-fewer, entries-more}
+use Rattle.cron_agenda.proofs.MatchLemmas.{match_added}
 use Rattle.cron_agenda.proofs.PartLemmas.{kept-more}
 use Rattle.cron_agenda.proofs.agenda.Agenda.insert.Goals as goal
 
@@ -16,6 +17,27 @@ overflow_add-self-2 g c =
     let count = c.self.invariant.0.count in
     let reserved = c.try_reserve.ensures.len in
     search rules
+
+pub invariant_of-self : goal.invariant_of-self
+invariant_of-self g c =
+    rw c.try_reserve.ensures.items (
+      c.self.invariant.0,
+      (omega (arith, c.self.invariant.1.0, c.try_reserve.ensures.len, c.try_reserve.ensures.capacity), c.self.invariant.1.1),
+      c.self.invariant.2,
+    )
+
+pub invariant_of-self-then-is_err-2 : goal.invariant_of-self-then-is_err-2
+invariant_of-self-then-is_err-2 g c =
+    let firsts = on_err c.push.result (sym c.is_err-2.ensures.value ∙ c.if-is_err-2.true) c.push.ensures.err in
+    let full = on_err c.push.result (sym c.is_err-2.ensures.value ∙ c.if-is_err-2.true) c.push.ensures.full in
+    rw (c.try_reserve.ensures.items, firsts) (
+      c.self.invariant.0,
+      (
+        omega (arith, c.self.invariant.1.0, c.try_reserve.ensures.len, c.try_reserve.ensures.capacity),
+        omega (arith, c.self.invariant.1.1, full),
+      ),
+      c.self.invariant.2,
+    )
 
 pub invariant_of-self-2 : goal.invariant_of-self-2
 invariant_of-self-2 g c =
@@ -32,6 +54,7 @@ invariant_of-self-2 g c =
         omega (arith, c.self.invariant.1.0, c.try_reserve.ensures.len, c.try_reserve.ensures.capacity, c.push-2.ensures.upper_bound, c.push-2.ensures.capacity),
         omega (arith, c.self.invariant.1.1, c.push.ensures.room),
       ),
+      rw items (match_added g.T.Timetable.schedules c.self.inside.slots.items c.self.inside.added c.args.zone c.args.table c.args.fire c.requires c.self.invariant.2),
     )
 
 pub returns : goal.returns

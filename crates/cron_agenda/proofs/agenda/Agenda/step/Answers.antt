@@ -6,6 +6,7 @@ use Rattle.std.proofs.lemmas.Option.{slice_get_read}
 use Rattle.cron_agenda.specs.Entries.{listed}
 use Rattle.cron_agenda.specs.Inner.Slots.{instant_of}
 use Rattle.cron_agenda.proofs.ListLemmas.{none_told}
+use Rattle.cron_agenda.proofs.MatchLemmas.{match_fewer, match_swapped}
 use Rattle.cron_agenda.proofs.PartLemmas.{in_order}
 use Rattle.cron_agenda.proofs.SweepLemmas.{kept_moved, kept_passed, kept_shorter, last_dead, moved_entries, no_head, shorter_entries}
 use Rattle.cron_agenda.proofs.agenda.Agenda.step.Goals as goal
@@ -34,6 +35,7 @@ invariant_of-self g c =
         omega (arith, c.self.invariant.1.0, c.pop.ensures.len, c.pop.ensures.capacity),
         omega (arith, c.self.invariant.1.1, c.pop-then-to-at.ensures.room),
       ),
+      rw items (match_fewer g.T.Timetable.schedules (c.self.inside.scanned - 1) c.self.inside.slots.items c.self.invariant.2),
     )
 
 pub returns-then-to-at : goal.returns-then-to-at
@@ -54,7 +56,7 @@ invariant_of-self-then-is_none g c =
     slice_get_read c.self.inside.slots.items (length c.self.inside.slots.items) c.self.inside.scanned c.index.result.now refl less c.index.ensures in
     let none : is_none c.instant-instant.result ≡ true = none_told c.instant-instant.result c.is_none.result c.is_none.ensures ∙ c.if-is_none.true in
     let dead = no_head c.index.result.now.head (sym (ap is_none c.instant-instant.ensures.value) ∙ none) in
-    (kept_passed c.self.invariant.0 c.index.result.now here dead, c.self.invariant.1)
+    (kept_passed c.self.invariant.0 c.index.result.now here dead, c.self.invariant.1, c.self.invariant.2)
 
 pub invariant_of-self-2 : goal.invariant_of-self-2
 invariant_of-self-2 g c =
@@ -71,6 +73,9 @@ invariant_of-self-2 g c =
         omega (arith, c.self.invariant.1.0, c.swap.ensures.len, c.swap.ensures.capacity),
         omega (arith, c.self.invariant.1.1, c.set.ensures.room, c.set-2.ensures.room),
       ),
+      rw c.swap.ensures.items
+          (match_swapped g.T.Timetable.schedules c.self.inside.slots.items c.self.inside.packed c.self.inside.scanned c.index-2.result.now c.index.result.now
+          there here c.self.invariant.2),
     )
 
 pub returns : goal.returns
