@@ -1,9 +1,9 @@
 -- Fires as numbers that have their order: the list whose first fire has the least number has the earliest of all.
-use Rattle.std.proofs.Common.{◌≡◌, ℕ, ◌+◌, ◌<◌, ◌≤◌, min, true, false, List, [], ◌∷◌, ◌++◌, ◌⊎◌, inl, inr, Option, Some, None, refl, sym, ap, ◌∙◌, subst, map, length, take, drop, get_or, arith}
+use Rattle.std.proofs.Common.{◌≡◌, ℕ, ◌+◌, ◌<◌, ◌≤◌, min, true, false, List, [], ◌∷◌, ◌++◌, ◌⊎◌, inl, inr, Option, Some, None, refl, sym, ap, ◌∙◌, subst, map, length, take, drop, get_or, set, get_or-set_same, length-set, arith}
 use Rattle.std.specs.Prelude.{All, Any}
 use Rattle.std.proofs.lemmas.Bool.{cases_lt}
 use Rattle.std.proofs.lemmas.Int.{by_lt_z}
-use Rattle.std.proofs.lemmas.List.{drop_more, get_or_at, length-map, length-take, take_all, take_more}
+use Rattle.std.proofs.lemmas.List.{drop_more, get_or_at, length-map, length-take, take-set-le, take_all, take_more}
 use Rattle.std.proofs.lemmas.List.Elements.{All-head, All-more, All-nil, All-push, All-tail, All-weaker}
 use Rattle.jiff_core.proofs.SignedLemmas.{signed_arith}
 use Rattle.cron_moments.specs.Readings.{Reading, instant}
@@ -83,6 +83,14 @@ least_key-more ls i l a j c less is own e before =
               subst (λ (n : ℕ). Any (λ m. IsKeyOf (head_of m) n) (take (i + 1) ls)) (sym same)
               (subst (Any (λ m. IsKeyOf (head_of m) j)) (sym more) (any-last (λ m. IsKeyOf (head_of m) j) (take i ls) l own));
         }
+
+-- so where one of the lists was replaced
+pub least_key-set : (ls : List (List Reading)) (i : ℕ) (l : List Reading) (a j c : ℕ) → i < length ls → IsKeyOf (head_of l) j
+    → c ≡ min a j → IsLeastKey (take i ls) a → IsLeastKey (take (i + 1) (set ls i l)) c
+least_key-set ls i l a j c less own e before =
+    let long = length-set ls i l in
+    least_key-more (set ls i l) i l a j c (omega arith) (sym (get_or-set_same ls i l l less)) own e
+    (subst (λ (ms : List (List Reading)). IsLeastKey ms a) (sym (take-set-le i ls i l (omega arith))) before)
 
 pub least_key-end : (ls : List (List Reading)) (i k : ℕ) → i ≡ length ls → IsLeastKey (take i ls) k → IsLeastKey ls k
 least_key-end ls i k e found = subst (λ l. IsLeastKey l k) (ap (λ n. take n ls) e ∙ take_all (length ls) ls (omega arith)) found

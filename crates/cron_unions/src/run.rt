@@ -30,18 +30,21 @@ enum Part {
 #[derive(Drop)]
 pub struct Run<'a, const N: usize> {
     branches: ArrayVec<Branch<'a>, N>,
+    // The number of the first fire that is left.
+    least: u64,
 }
 
 impl<'a, const N: usize> Model for Run<'a, N> {
     ghost use Rattle.std.specs.Prelude.{List};
     ghost use Rattle.cron_moments.specs.Readings.{Reading};
+    ghost use Rattle.cron_unions.specs.Inner.Keys.{IsLeastKey};
     ghost use Rattle.cron_unions.specs.Inner.Merges.{union_of, AllAscend};
 
     ghost Value = { List Reading };
 
     ghost view = { λ r. union_of r.branches.items };
 
-    ghost invariant = { λ r. AllAscend r.branches.items };
+    ghost invariant = { λ r. AllAscend r.branches.items × IsLeastKey r.branches.items r.least };
 }
 
 fn run_over<'a>(fields: ScheduleFields, part: &Part, zone: &'a TimeZone<'a>) -> Single<'a>
@@ -78,7 +81,8 @@ impl<'a, const N: usize> Run<'a, N> {
     {
         let mut branches = ArrayVec::new();
         add_branches(&mut branches, schedules, part, zone);
-        Run { branches }
+        let least = least_key(branches.as_slice());
+        Run { branches, least }
     }
 
     // Those of schedules, of which it searches those that it needs.
@@ -144,11 +148,12 @@ impl<'a, const N: usize> Run<'a, N> {
     fn take_first(&mut self) -> Option<Moment>
         ensures { YieldsFirst (λ rest. rest) self.old result self.new }
     {
-        let least = least_key(self.branches.as_slice());
-        if least == NONE_LEFT {
+        if self.least == NONE_LEFT {
             return None;
         }
-        take_heads(self.branches.as_mut_slice(), least)
+        let (fire, least) = take_heads(self.branches.as_mut_slice(), self.least);
+        self.least = least;
+        fire
     }
 }
 

@@ -1,4 +1,4 @@
-use Rattle.std.proofs.Common.{◌≡◌, ◌<◌, ◌∙◌, min, length, get_or, subst, sym, ap, pos, ◌+ℤ◌, arith}
+use Rattle.std.proofs.Common.{◌≡◌, ◌∙◌, min, length, get_or, subst, sym, ap, pos, ◌+ℤ◌, arith}
 use Rattle.cron_unions.specs.Inner.DueHeads.{ArePassing, IsPassing}
 use Rattle.cron_unions.specs.declared.due_heads.Head.{Head}
 use Rattle.cron_unions.proofs.DueHeadLemmas.{passing-of, passing-at, passing-set, pair-done, pair-least}

@@ -6,8 +6,10 @@ use Rattle.cron_unions.proofs.run.Run.over_each.Goals as goal
 
 pub invariant_of-result : goal.invariant_of-result
 invariant_of-result g c =
-    let e = rw c.new-branches.ensures at c.add_branches.ensures in
-    subst AllAscend (sym e) (all_ascend_part c.args.schedules.now (plain_zone c.args.zone.now) c.args.part.now)
+    let e = rw c.new-branches.ensures at c.add_branches.ensures in (
+      subst AllAscend (sym e) (all_ascend_part c.args.schedules.now (plain_zone c.args.zone.now) c.args.part.now),
+      rw (c.as_slice.ensures.value) at c.least_key-least.ensures,
+    )
 
 pub returns : goal.returns
 returns g c =
