@@ -1,6 +1,7 @@
--- The next fire past one at a match: due, or while a clock keeps its offset.
-use Rattle.std.proofs.Common.{◌≡◌, ℕ, ◌<◌, ℤ, pos, ◌≤ℤ◌, ◌<ℤ◌, true, List, Some, None, inl, inr, refl, sym, ap, ◌∙◌, arith}
+-- The answers of an entry's searches, and the next fire past one at a match: due, or while a clock keeps its offset.
+use Rattle.std.proofs.Common.{◌≡◌, ℕ, ◌<◌, ℤ, pos, ◌≤ℤ◌, ◌<ℤ◌, true, List, Option, Some, None, inl, inr, refl, sym, ap, ◌∙◌, arith}
 use Rattle.std.proofs.lemmas.Int.{by_lt_z}
+use Rattle.std.specs.Option.{option_map}
 use Rattle.jiff_core.proofs.SignedLemmas.{signed_arith}
 use Rattle.jiff_core.specs.declared.Offset.{Offset}
 use Rattle.jiff_tz.specs.declared.timezone.TimeZone.{TimeZone}
@@ -17,13 +18,18 @@ use Rattle.cron_instants.proofs.ItemLemmas.{item_of, stands_of}
 use Rattle.cron_instants.proofs.OrderLemmas.{before-true, before-less, before-not_less, before-not_shared}
 use Rattle.cron_dues.specs.Due.{Due, clock_of, due}
 use Rattle.cron_dues.proofs.MemberLemmas.{due-of, less-true, own-of, true-less}
-use Rattle.cron_unions.specs.FirstOfAny.{IsFirstPastAny, IsItemOfAny}
+use Rattle.cron_unions.specs.FirstOfAny.{IsFirstAfterAny, IsFirstPastAny, IsItemOfAny}
 use Rattle.cron_unions.specs.Inner.Nearest.{is_match_any}
-use Rattle.cron_unions.specs.UnionDues.{IsDueOfAny, IsFirstDuePastAny}
+use Rattle.cron_unions.specs.UnionDues.{IsDueOfAny, IsFirstDueAfterAny, IsFirstDuePastAny}
 use Rattle.cron_unions.specs.Unions.{seconds_of_any}
 use Rattle.cron_unions.proofs.UnionLemmas.{any-matches, any_of_one, any_of-match, match-of_any, one_of_any}
 use Rattle.cron_fires.specs.Matches.{IsNextMatch, MatchesAny}
 use Rattle.cron_fires.proofs.MatchLemmas.{is_match_of, matches_of}
+use Rattle.cron_fires.specs.declared.changes.ClockChanges.TheVariants as rule
+use Rattle.cron_agenda.specs.declared.fire.EntryFire.TheVariants.{AsShown, Once}
+use Rattle.cron_agenda.specs.Fires.{fires_after}
+use Rattle.cron_agenda.specs.Inner.Slots.{IsFirstFire, IsNextFire}
+use Rattle.cron_agenda.proofs.FireLemmas.{once-after, once-past, shown-after, shown-past}
 
 -- an item stands at a match
 pub item_matches : (ss : List Sets) (z : TimeZone) (r : Reading) → IsItemOfAny ss z r → MatchesAny ss r.second
@@ -35,6 +41,28 @@ item_matches ss z r item =
 -- and so does a due fire
 pub due_matches : (ss : List Sets) (z : TimeZone) (d : Due) → IsDueOfAny ss z d → MatchesAny ss d.second
 due_matches ss z d is = matches_of ss d.second (own-of (seconds_of_any ss) (is_match_any ss) (clock_of z) (any-matches ss) d is).matching
+
+-- ---- an answer by either rule
+
+pub first_shown_after : (ss : List Sets) (z : TimeZone) (t : ℤ) (answer : Option Reading) → IsFirstAfterAny ss z t answer
+    → IsFirstFire ss z (fires_after ss z rule.AsShown t) (option_map AsShown answer)
+first_shown_after ss z t None first = (shown-after ss z t None first, tt)
+first_shown_after ss z t (Some r) first = (shown-after ss z t (Some r) first, item_matches ss z r first.0.0)
+
+pub first_due_after : (ss : List Sets) (z : TimeZone) (t : ℤ) (answer : Option Due) → IsFirstDueAfterAny ss z t answer
+    → IsFirstFire ss z (fires_after ss z rule.Once t) (option_map Once answer)
+first_due_after ss z t None first = (once-after ss z t None first, tt)
+first_due_after ss z t (Some d) first = (once-after ss z t (Some d) first, due_matches ss z d first.0.0)
+
+pub next_shown : (ss : List Sets) (z : TimeZone) (fire : Reading) (answer : Option Reading) → IsFirstPastAny ss z fire answer
+    → IsNextFire ss z (AsShown fire) (option_map AsShown answer)
+next_shown ss z fire None first = (shown-past ss z fire None first, tt)
+next_shown ss z fire (Some r) first = (shown-past ss z fire (Some r) first, item_matches ss z r first.0.0)
+
+pub next_due : (ss : List Sets) (z : TimeZone) (fire : Due) (answer : Option Due) → IsFirstDuePastAny ss z fire answer
+    → IsNextFire ss z (Once fire) (option_map Once answer)
+next_due ss z fire None first = (once-past ss z fire None first, tt)
+next_due ss z fire (Some d) first = (once-past ss z fire (Some d) first, due_matches ss z d first.0.0)
 
 -- ---- each match once
 

@@ -32,7 +32,7 @@ impl Model for Earliest {
     ghost invariant = { λ e. IsKeptTree e.words.items e.inner };
 }
 
-// A word, or that of none in place of one.
+// The word at a place in the list, or that of none where that one is left out.
 #[inline(always)]
 fn word_but(words: &[u64], at: usize, left_out: usize) -> u64
     requires { at < length words.now }
@@ -41,56 +41,79 @@ fn word_but(words: &[u64], at: usize, left_out: usize) -> u64
     if at == left_out { NONE } else { words[at] }
 }
 
-// The lesser of two words, of which one may be left out.
-#[inline(always)]
-fn least_of_two(words: &[u64], first: usize, left_out: usize) -> u64
-    requires { first + 2 ≤ length words.now }
-    ensures { tree.IsLeastIn (tree.without words.now left_out) first (first + 2) result }
-{
-    word_but(words, first, left_out).min(word_but(words, first + 1, left_out))
-}
-
-// The least of four.
-#[inline(always)]
-fn least_of_four(words: &[u64], first: usize, left_out: usize) -> u64
-    requires { first + 4 ≤ length words.now }
-    ensures { tree.IsLeastIn (tree.without words.now left_out) first (first + 4) result }
-{
-    least_of_two(words, first, left_out).min(least_of_two(words, first + 2, left_out))
-}
-
-// The least of eight.
-#[inline(always)]
-fn least_of_eight(words: &[u64], first: usize, left_out: usize) -> u64
-    requires { first + 8 ≤ length words.now }
-    ensures { tree.IsLeastIn (tree.without words.now left_out) first (first + 8) result }
-{
-    least_of_four(words, first, left_out).min(least_of_four(words, first + 4, left_out))
-}
-
-// The least of those from one on, or that of none.
-fn least_from(words: &[u64], first: usize, left_out: usize) -> u64
-    ensures { tree.IsLeastIn (tree.without words.now left_out) first (length words.now) result }
+// The least of those from one on and before another, or that of none.
+fn least_in(words: &[u64], first: usize, end: usize, left_out: usize) -> u64
+    requires { end ≤ length words.now }
+    ensures { tree.IsLeastIn (tree.without words.now left_out) first end result }
 {
     let mut least = NONE;
-    for at in first..words.len() {
+    for at in first..end {
         least = least.min(word_but(words, at, left_out));
     }
     least
 }
 
 // The least of those below an inner word.
-#[inline(always)]
 fn least_below(words: &[u64], at: usize, left_out: usize) -> u64
     requires at { at < length words.now }
     requires most { length words.now ≤ 2_147_483_648 }
     ensures { tree.IsLeastBelow (tree.without words.now left_out) at result }
 {
     let first = 8 * at + 1;
+    least_in(words, first, words.len().min(first + 8), left_out)
+}
+
+// The word so many behind one of a row of eight, whose first follows its last.
+#[inline(always)]
+fn word_behind(words: &[u64], first: usize, at: usize, by: usize) -> u64
+    requires row { first + 8 ≤ length words.now }
+    requires low { first ≤ at }
+    requires high { at < first + 8 }
+    requires by { by < 8 }
+    ensures { result ≡ tree.word_behind words.now first at by }
+{
+    words[first + (at - first + by) % 8]
+}
+
+// The lesser of two so many behind it.
+#[inline(always)]
+fn least_of_two(words: &[u64], first: usize, at: usize, by: usize) -> u64
+    requires row { first + 8 ≤ length words.now }
+    requires low { first ≤ at }
+    requires high { at < first + 8 }
+    requires by { by + 2 ≤ 8 }
+    ensures { tree.IsLeastOf (tree.word_behind words.now first at) by (by + 2) result }
+{
+    word_behind(words, first, at, by).min(word_behind(words, first, at, by + 1))
+}
+
+// The least of the seven others of its row. No jump depends on where it stands, as that can't be
+// foretold.
+#[inline(always)]
+fn least_of_seven(words: &[u64], first: usize, at: usize) -> u64
+    requires row { first + 8 ≤ length words.now }
+    requires low { first ≤ at }
+    requires high { at < first + 8 }
+    ensures { tree.IsLeastIn (tree.without words.now at) first (first + 8) result }
+{
+    let near = least_of_two(words, first, at, 1).min(least_of_two(words, first, at, 3));
+    let far = least_of_two(words, first, at, 5).min(word_behind(words, first, at, 7));
+    near.min(far)
+}
+
+// The least of those that stand below an inner word beside this one.
+#[inline(always)]
+fn least_beside(words: &[u64], above: usize, at: usize) -> u64
+    requires below { tree.IsBelow at above }
+    requires at { at < length words.now }
+    requires most { length words.now ≤ 2_147_483_648 }
+    ensures { tree.IsLeastBelow (tree.without words.now at) above result }
+{
+    let first = 8 * above + 1;
     if first + 8 <= words.len() {
-        least_of_eight(words, first, left_out)
+        least_of_seven(words, first, at)
     } else {
-        least_from(words, first, left_out)
+        least_below(words, above, at)
     }
 }
 
@@ -108,7 +131,7 @@ fn write(words: &mut [u64], from: usize, word: u64)
     let mut least = word;
     while at > 0 {
         let above = (at - 1) / 8;
-        let beside = least_below(words, above, at);
+        let beside = least_beside(words, above, at);
         words[at] = least;
         least = least.min(beside);
         at = above;

@@ -1,8 +1,8 @@
 //! Fires of entries, by either rule at clock changes.
 ghost use Rattle.std.specs.Prelude.{◌≡◌, ◌*ℤ◌, pos};
 ghost use Rattle.jiff.specs.Words.{plain_zone};
-ghost use Rattle.cron_agenda.specs.Fires.{fires_after, fires_past, instant};
-ghost use Rattle.cron_agenda.specs.Inner.Slots.{IsFirstFire};
+ghost use Rattle.cron_agenda.specs.Fires.{fires_after, instant};
+ghost use Rattle.cron_agenda.specs.Inner.Slots.{IsFirstFire, IsNextFire};
 ghost use Rattle.cron_agenda.specs.Inner.Words.{CanBeKept};
 
 use cron::schedule::Moment;
@@ -86,11 +86,7 @@ pub(crate) fn first_past<T: Timetable>(
     fire: &EntryFire,
     zone: &TimeZone<'_>,
 ) -> Option<EntryFire>
-    ensures { IsFirstFire
-        (T.schedules table.now)
-        (plain_zone zone.now)
-        (fires_past (T.schedules table.now) (plain_zone zone.now) fire.now)
-        result }
+    ensures { IsNextFire (T.schedules table.now) (plain_zone zone.now) fire.now result }
 {
     match fire {
         EntryFire::AsShown(moment) => match table.first_past(moment, zone) {

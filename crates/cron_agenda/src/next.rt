@@ -1,5 +1,5 @@
-//! The next fire past one at a match, from which a search of civil seconds goes on. That is quick,
-//! and by the clock it tells the next fire while the clock keeps its offset.
+//! The next fire past one at a match. A search of civil seconds goes on from that match, which is
+//! quick. By the clock it tells the next fire while the clock keeps its offset.
 ghost use Rattle.std.specs.Prelude.{◌≡◌, ◌<◌, pos, neg_ℤ, IfSome, Some};
 ghost use Rattle.jiff.specs.Words.{plain_zone};
 ghost use Rattle.jiff_core.specs.Calendar.{IsBetween};
@@ -7,8 +7,8 @@ ghost use Rattle.cron_clocks.specs.Clocks.{IsKeptUpTo, LookupsAgree};
 ghost use Rattle.cron_fires.specs.Matches.{MatchesAny};
 ghost use Rattle.cron_unions.specs.FirstOfAny.{IsFirstPastAny};
 ghost use Rattle.cron_unions.specs.UnionDues.{IsFirstDuePastAny};
-ghost use Rattle.cron_agenda.specs.Fires.{civil_second, fires_past};
-ghost use Rattle.cron_agenda.specs.Inner.Slots.{IsFirstFire};
+ghost use Rattle.cron_agenda.specs.Fires.{civil_second};
+ghost use Rattle.cron_agenda.specs.Inner.Slots.{IsNextFire};
 
 use crate::fire::{EntryFire, first_past};
 use cron::schedule::Moment;
@@ -81,11 +81,7 @@ pub(crate) fn next_past<T: Timetable>(
     zone: &TimeZone<'_>,
 ) -> Option<EntryFire>
     requires { MatchesAny (T.schedules table.now) (civil_second fire.now) }
-    ensures { IsFirstFire
-        (T.schedules table.now)
-        (plain_zone zone.now)
-        (fires_past (T.schedules table.now) (plain_zone zone.now) fire.now)
-        result }
+    ensures { IsNextFire (T.schedules table.now) (plain_zone zone.now) fire.now result }
 {
     match fire {
         EntryFire::AsShown(moment) => match next_while_kept(table, moment, zone) {

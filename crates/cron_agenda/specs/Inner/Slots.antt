@@ -55,6 +55,10 @@ pub record IsKept {T : Type 0} (slots : List (Slot T)) (firsts : List (Option �
 abbrev pub IsFirstFire : List Sets → TimeZone → List EntryFire → Option EntryFire → Type 0
 IsFirstFire ss z fires answer = IsFirstOf fires (fires_past ss z) answer × IfSome answer (λ fire. MatchesAny ss (civil_second fire))
 
+-- so of the fires past one
+abbrev pub IsNextFire : List Sets → TimeZone → EntryFire → Option EntryFire → Type 0
+IsNextFire ss z fire answer = IsFirstFire ss z (fires_past ss z fire) answer
+
 -- the next fire of each entry is at a match of its schedules
 abbrev pub FiresMatch : {T : Type 0} → (T → List Sets) → List (Slot T) → Type 0
 FiresMatch {T} schedules slots =

@@ -1,7 +1,7 @@
 use Rattle.std.proofs.Common.{◌≡◌, ◌-◌, ◌/◌, ℕ, drop, inl, inr, refl, set, sym, subst, ◌∙◌, arith, length-set}
 use Rattle.std.proofs.lemmas.List.{drop-set-lt}
 use Rattle.cron_agenda.specs.Inner.Tree.{IsLeastBelow, IsRightAt}
-use Rattle.cron_agenda.proofs.LeastLemmas.{least_beside}
+use Rattle.cron_agenda.proofs.LeastLemmas.{least_with}
 use Rattle.cron_agenda.proofs.TreeLemmas.{set_right}
 use Rattle.cron_agenda.proofs.earliest.write.Goals as goal
 
@@ -25,7 +25,7 @@ loop-at-preserved c =
     let some = c.loop-at-test.true in
     let lesser = c.min-least.ensures in
     let least = subst (IsLeastBelow written above) (sym lesser)
-    (least_beside c.loop-at.words c.loop-at.at above c.loop-at.least c.least_below-beside.result (omega arith) (omega arith, omega arith) fits c.least_below-beside.ensures) in
+    (least_with c.loop-at.words c.loop-at.at above c.loop-at.least c.least_beside-beside.result (omega arith) (omega arith, omega arith) fits c.least_beside-beside.ensures) in
     record {
       from = omega arith;
       fits = omega arith;

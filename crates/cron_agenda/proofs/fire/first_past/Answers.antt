@@ -1,35 +1,17 @@
-use Rattle.std.proofs.Common.{Some, None, ap, ◌∙◌}
+use Rattle.std.proofs.Common.{Some, None}
 use Rattle.jiff.specs.Words.{plain_zone}
-use Rattle.cron_agenda.specs.Fires.{fires_past}
-use Rattle.cron_agenda.proofs.FireLemmas.{shown-past, once-past}
-use Rattle.cron_agenda.proofs.NextLemmas.{due_matches, item_matches}
+use Rattle.cron_agenda.proofs.NextLemmas.{next_due, next_shown}
 use Rattle.cron_agenda.proofs.fire.first_past.Goals as goal
 
 pub returns-in-Some : goal.returns-in-Some
-returns-in-Some g c = (
-  ap (fires_past (g.T.Timetable.schedules c.args.table.now) (plain_zone c.args.zone.now)) c.in-AsShown.is
-      ∙ shown-past (g.T.Timetable.schedules c.args.table.now) (plain_zone c.args.zone.now) c.in-AsShown.moment (Some c.in-Some.next) c.in-Some.ensures,
-  item_matches (g.T.Timetable.schedules c.args.table.now) (plain_zone c.args.zone.now) c.in-Some.next c.in-Some.ensures.0.0,
-)
+returns-in-Some g c = rw c.in-AsShown.is (next_shown (g.T.Timetable.schedules c.args.table.now) (plain_zone c.args.zone.now) c.in-AsShown.moment (Some c.in-Some.next) c.in-Some.ensures)
 
 pub returns-in-None : goal.returns-in-None
-returns-in-None g c = (
-  ap (fires_past (g.T.Timetable.schedules c.args.table.now) (plain_zone c.args.zone.now)) c.in-AsShown.is
-      ∙ shown-past (g.T.Timetable.schedules c.args.table.now) (plain_zone c.args.zone.now) c.in-AsShown.moment None c.in-None.ensures,
-  tt,
-)
+returns-in-None g c = rw c.in-AsShown.is (next_shown (g.T.Timetable.schedules c.args.table.now) (plain_zone c.args.zone.now) c.in-AsShown.moment None c.in-None.ensures)
 
 pub returns-in-Some-first_due_past : goal.returns-in-Some-first_due_past
-returns-in-Some-first_due_past g c = (
-  ap (fires_past (g.T.Timetable.schedules c.args.table.now) (plain_zone c.args.zone.now)) c.in-Once.is
-      ∙ once-past (g.T.Timetable.schedules c.args.table.now) (plain_zone c.args.zone.now) c.in-Once.due (Some c.in-Some-first_due_past.next)
-      c.in-Some-first_due_past.ensures,
-  due_matches (g.T.Timetable.schedules c.args.table.now) (plain_zone c.args.zone.now) c.in-Some-first_due_past.next c.in-Some-first_due_past.ensures.0.0,
-)
+returns-in-Some-first_due_past g c =
+    rw c.in-Once.is (next_due (g.T.Timetable.schedules c.args.table.now) (plain_zone c.args.zone.now) c.in-Once.due (Some c.in-Some-first_due_past.next) c.in-Some-first_due_past.ensures)
 
 pub returns-in-None-first_due_past : goal.returns-in-None-first_due_past
-returns-in-None-first_due_past g c = (
-  ap (fires_past (g.T.Timetable.schedules c.args.table.now) (plain_zone c.args.zone.now)) c.in-Once.is
-      ∙ once-past (g.T.Timetable.schedules c.args.table.now) (plain_zone c.args.zone.now) c.in-Once.due None c.in-None-first_due_past.ensures,
-  tt,
-)
+returns-in-None-first_due_past g c = rw c.in-Once.is (next_due (g.T.Timetable.schedules c.args.table.now) (plain_zone c.args.zone.now) c.in-Once.due None c.in-None-first_due_past.ensures)

@@ -1,6 +1,0 @@
-use Rattle.std.proofs.Common.{length, ℕ, ◌<◌, ◌≤◌}
-use Rattle.cron_agenda.specs.Inner.Tree.{IsLeastIn, without}
-use Rattle.cron_agenda.proofs.earliest.least_from.Given as goal
-
-abbrev pub invariant-loop-at : goal.invariant-loop-at
-invariant-loop-at l = IsLeastIn (without l.words l.left_out) l.first l.at l.least × ((j : ℕ) → l.first ≤ j → j < l.at → j < length l.words)
