@@ -6,7 +6,7 @@ ghost use Rattle.crontool.specs.Periods.{IsPeriod};
 use crate::commands::changes_of;
 use crate::list::tell_refused;
 use crate::machine::{Surroundings, complain, open_zone, read_file, say_trouble, say_unread};
-use crate::zones::no_memory;
+use crate::zones::{TabZones, no_memory};
 use clap::ArgMatches;
 use cron_calendar::pages::{Shown, html_page, text_page};
 use cron_calendar::plans::Plan;
@@ -109,20 +109,27 @@ pub(crate) fn expression_of(entry: &Entry<'_>, line: &str) -> Expression {
     }
 }
 
-// Adds the entries of a crontab. Those below a line that names a zone are left out.
-fn add_entries<'a>(named: &mut Vec<Named<'a>>, file: &'a [u8]) -> Result<(), AllocError> {
-    let names = [NamedZone { name: b"", zone: 0 }];
+// Adds the entries of a crontab but those below a line that names a zone, and answers whether there
+// are such.
+fn add_entries<'a>(
+    named: &mut Vec<Named<'a>>,
+    file: &'a [u8],
+    names: &[NamedZone<'_>],
+) -> Result<bool, AllocError> {
     let mut here = Some(0);
+    let mut left_out = false;
     for line in Lines::of(Crontab::User, file) {
-        if let (Some(_), Ok(Line::Entry(entry))) = (here, &line.read) {
-            named.push(Named {
+        match (here, &line.read) {
+            (Some(0), Ok(Line::Entry(entry))) => named.push(Named {
                 name: line_name(line.bytes),
                 expression: expression_of(entry, text_of(line.bytes)),
-            })?;
+            })?,
+            (Some(_), Ok(Line::Entry(_))) => left_out = true,
+            _ => {}
         }
-        here = zone_below(&names, here, &line);
+        here = zone_below(names, here, &line);
     }
-    Ok(())
+    Ok(left_out)
 }
 
 /// A crontab of a user, the only one that is read.
@@ -224,11 +231,11 @@ fn show_named<'a>(
     period: Period,
     named: &'a [Named<'a>],
     name: &'a str,
+    around: &Surroundings,
 ) -> Result<Status, Status>
     requires { IsPeriod period }
 {
-    let around = Surroundings::of(rt)?;
-    let opened = open_zone(rt, name, &around)?;
+    let opened = open_zone(rt, name, around)?;
     match plans_of(rt.alloc(), named, changes_of(words)) {
         Ok(plans) => Ok(show(
             rt,
@@ -242,6 +249,17 @@ fn show_named<'a>(
     }
 }
 
+/// Says that nothing is named that fires, if so.
+pub(crate) fn demand_entries(rt: &HostRuntime, words: &ArgMatches<'_>) -> Result<(), Status> {
+    let given = words
+        .get_strs("EXPRESSION")
+        .is_some_and(|texts| !texts.is_empty());
+    if given || words.get_str("file").is_some() {
+        return Ok(());
+    }
+    Err(complain(rt, "an EXPRESSION or --file is wanted", Status::WrongWords))
+}
+
 /// Reads the crontab, if one is named.
 pub(crate) fn file_of(rt: &HostRuntime, words: &ArgMatches<'_>) -> Result<Vec<u8>, Status> {
     let Some(path) = words.get_str("file") else {
@@ -253,6 +271,29 @@ pub(crate) fn file_of(rt: &HostRuntime, words: &ArgMatches<'_>) -> Result<Vec<u8
     }
 }
 
+// Reads the crontab, and tells what of it is refused or left out.
+fn read_tab<'a>(
+    rt: &HostRuntime,
+    file: &'a [u8],
+    around: &'a Surroundings,
+    named: &mut Vec<Named<'a>>,
+) -> Result<Status, Status> {
+    let mut tabs = TabZones::new(rt.alloc());
+    tabs.open(rt, Crontab::User, file, around)?;
+    let Ok(names) = tabs.names(rt.alloc()) else {
+        return Err(no_memory(rt));
+    };
+    let Ok(left_out) = add_entries(named, file, names.as_slice()) else {
+        return Err(no_memory(rt));
+    };
+    let told = tell_refused(rt, &user_tab(file), names.as_slice());
+    if left_out {
+        let why = "entries below CRON_TZ are left out of a calendar";
+        return Ok(told.worse(complain(rt, why, Status::No)));
+    }
+    Ok(told)
+}
+
 // Reads what fires, and shows it.
 fn show_words(
     rt: &HostRuntime,
@@ -262,17 +303,16 @@ fn show_words(
 ) -> Result<Status, Status>
     requires { IsPeriod period }
 {
+    demand_entries(rt, words)?;
     let file = file_of(rt, words)?;
+    let around = Surroundings::of(rt)?;
     let mut named = Vec::new(rt.alloc());
     if let Some(texts) = words.get_strs("EXPRESSION") {
         add_words(rt, &mut named, texts)?;
     }
-    if add_entries(&mut named, file.as_slice()).is_err() {
-        return Err(no_memory(rt));
-    }
-    let names = [NamedZone { name: b"", zone: 0 }];
-    let told = tell_refused(rt, &user_tab(file.as_slice()), &names);
-    Ok(told.worse(show_named(rt, words, period, named.as_slice(), zone)?))
+    let told = read_tab(rt, file.as_slice(), &around, &mut named)?;
+    let shown = show_named(rt, words, period, named.as_slice(), zone, &around)?;
+    Ok(told.worse(shown))
 }
 
 /// Does what the words ask for.

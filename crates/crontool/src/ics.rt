@@ -1,6 +1,6 @@
 //! The subcommand `ics`.
 
-use crate::calendar::{expression_of, file_of, line_name, user_tab};
+use crate::calendar::{demand_entries, expression_of, file_of, line_name, user_tab};
 use crate::commands::changes_of;
 use crate::list::{read_instant, tell_refused};
 use crate::machine::{Surroundings, complain, open_zone, say_trouble};
@@ -178,11 +178,8 @@ pub(crate) fn answer(rt: &HostRuntime, words: &ArgMatches<'_>) -> Status {
     let Some(zone) = words.get_str("zone") else {
         return complain(rt, "a word is missing", Status::WrongWords);
     };
-    let given = words
-        .get_strs("EXPRESSION")
-        .is_some_and(|texts| !texts.is_empty());
-    if !given && words.get_str("file").is_none() {
-        return complain(rt, "an EXPRESSION or --file is wanted", Status::WrongWords);
+    if let Err(status) = demand_entries(rt, words) {
+        return status;
     }
     match file_of(rt, words) {
         Ok(file) => match write_words(rt, words, file.as_slice(), zone) {
