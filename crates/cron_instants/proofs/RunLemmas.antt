@@ -48,7 +48,7 @@ within-is_by t last r is =
     (λ h. let le = int_le-true (instant r) last h in le_yes (instant r *ℤ pos 1_000_000_000) t (omega (arith, signed_arith)))
     (λ h. let le = int_le-true (instant r *ℤ pos 1_000_000_000) t h in le_yes (instant r) last (omega (arith, signed_arith)))
 
-until-is_by : (t last : ℤ) (l : List Reading) → last ≡ int_div_euclid t (pos 1_000_000_000) → left_until (Some last) l ≡ filter (is_by t) l
+pub until-is_by : (t last : ℤ) (l : List Reading) → last ≡ int_div_euclid t (pos 1_000_000_000) → left_until (Some last) l ≡ filter (is_by t) l
 until-is_by t last l is = filter-alike (λ r. int_le (instant r) last) (is_by t) l (λ q h. within-is_by t last q is)
 
 pub left-between : (s : Sets) (z : TimeZone) (t now i last : ℤ) (c : ℕ) → i ≡ int_div_euclid t (pos 1_000_000_000) → c ≡ 4_294_967_295
@@ -76,7 +76,7 @@ fires-beyond : (s : Sets) (z : TimeZone) (i : ℤ) (c : ℕ) (best : Option Read
     → MatchOption best (filter (beyond Ahead i c) (fires s z) ≡ []) (λ r. filter (beyond Ahead i c) (fires s z) ≡ r ∷ fires_past s z r)
 fires-beyond s z i c best found = first-of_fires s z (beyond Ahead i c) best (beyond-keeps_on i c) (beyond-first s z i c best found)
 
-nothing_until : (until : Option ℤ) → left_until until [] ≡ []
+pub nothing_until : (until : Option ℤ) → left_until until [] ≡ []
 nothing_until None = refl
 nothing_until (Some last) = refl
 
@@ -84,7 +84,7 @@ nothing_until (Some last) = refl
 pub left-none : (s : Sets) (z : TimeZone) (i : ℤ) (c : ℕ) (until : Option ℤ) → IsBest Ahead (IsBeyond Ahead s z i c) None → left_beyond s z i c until ≡ []
 left-none s z i c until none = ap (left_until until) (fires-beyond s z i c None none) ∙ nothing_until until
 
-first_until : (until : Option ℤ) (r : Reading) (l : List Reading) → is_within until (instant r) ≡ true → left_until until (r ∷ l) ≡ r ∷ left_until until l
+pub first_until : (until : Option ℤ) (r : Reading) (l : List Reading) → is_within until (instant r) ≡ true → left_until until (r ∷ l) ≡ r ∷ left_until until l
 first_until None r l due = refl
 first_until (Some last) r l due = filter-passes (λ q. int_le (instant q) last) r l due
 
@@ -94,12 +94,13 @@ pub left-first : (s : Sets) (z : TimeZone) (i : ℤ) (c : ℕ) (until : Option �
 left-first s z i c until r found due =
     ap (left_until until) (fires-beyond s z i c (Some r) found) ∙ first_until until r (fires_past s z r) due
 
-late_until : (s : Sets) (z : TimeZone) (until : Option ℤ) (r : Reading) → is_within until (instant r) ≡ false → left_until until (r ∷ fires_past s z r) ≡ []
-late_until s z None r late = cc
-late_until s z (Some last) r late =
-    filter-fails (λ q. int_le (instant q) last) r (fires_past s z r) late
-    ∙ filter-none (λ q. int_le (instant q) last) (fires_past s z r) (λ q h.
-    let le = not_later r q (among-filter (is_earlier r) (fires s z) q h).1 in
+-- nothing behind one that lies past the last instant is left
+pub late_until : (until : Option ℤ) (r : Reading) (l : List Reading) → is_within until (instant r) ≡ false → left_until until (r ∷ filter (is_earlier r) l) ≡ []
+late_until None r l late = cc
+late_until (Some last) r l late =
+    filter-fails (λ q. int_le (instant q) last) r (filter (is_earlier r) l) late
+    ∙ filter-none (λ q. int_le (instant q) last) (filter (is_earlier r) l) (λ q h.
+    let le = not_later r q (among-filter (is_earlier r) l q h).1 in
     let past = int_le-false (instant r) last late in
     le_no (instant q) last (omega (arith, signed_arith)))
 
@@ -107,11 +108,11 @@ late_until s z (Some last) r late =
 pub left-late : (s : Sets) (z : TimeZone) (i : ℤ) (c : ℕ) (until : Option ℤ) (r : Reading) → IsBest Ahead (IsBeyond Ahead s z i c) (Some r)
     → is_within until (instant r) ≡ false → left_beyond s z i c until ≡ []
 left-late s z i c until r found late =
-    ap (left_until until) (fires-beyond s z i c (Some r) found) ∙ late_until s z until r late
+    ap (left_until until) (fires-beyond s z i c (Some r) found) ∙ late_until until r (fires s z) late
 
 -- and nothing is left beyond such an item either
 pub late-left : (s : Sets) (z : TimeZone) (until : Option ℤ) (r : Reading) → is_within until (instant r) ≡ false
     → left_beyond s z (instant r) r.second until ≡ []
 late-left s z None r late = cc
 late-left s z (Some last) r late =
-    sym (filter-fails (λ q. int_le (instant q) last) r (fires_past s z r) late) ∙ late_until s z (Some last) r late
+    sym (filter-fails (λ q. int_le (instant q) last) r (fires_past s z r) late) ∙ late_until (Some last) r (fires s z) late

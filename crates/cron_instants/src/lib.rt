@@ -8,7 +8,7 @@ pub mod item;
 mod joined;
 pub mod laws;
 mod mark;
-mod monotone;
+pub mod monotone;
 mod nearest;
 mod offset_range;
 mod periods;

@@ -28,7 +28,7 @@ use jiff::tz::{Offset, TimeZone};
 /// earlier: each one from it on up to the end is read once at this offset too, with those before it
 /// read earlier and those behind it later. The end may lie before the civil second itself.
 #[derive(Clone, Copy)]
-pub(crate) struct Monotone {
+pub struct Monotone {
     pub offset: Offset,
     pub end: u32,
 }
@@ -115,9 +115,10 @@ fn monotone_at(zone: &TimeZone<'_>, item: &Moment) -> Option<Monotone>
     Some(monotone)
 }
 
-/// What is known of a civil second that is in order.
+/// What is known of a civil second that is in order: it is read once, what the clock shows before it
+/// is read earlier, and what it shows after it later. `None` near the gaps and folds of the zone.
 #[inline(never)]
-pub(crate) fn monotone_past(zone: &TimeZone<'_>, second: u32) -> Option<Monotone>
+pub fn monotone_past(zone: &TimeZone<'_>, second: u32) -> Option<Monotone>
     requires { second < seconds_in_range }
     ensures { IfSome result
         (λ monotone. IsMonotone (plain_zone zone.now) second monotone × (second < monotone.end)) }
