@@ -63,7 +63,7 @@ fn least_below(words: &[u64], at: usize, left_out: usize) -> u64
     least_in(words, first, words.len().min(first + 8), left_out)
 }
 
-// The word so many behind one of a row of eight, whose first follows its last.
+// The word so many places behind one in a row of eight. Behind the last place comes the first.
 #[inline(always)]
 fn word_behind(words: &[u64], first: usize, at: usize, by: usize) -> u64
     requires row { first + 8 ≤ length words.now }

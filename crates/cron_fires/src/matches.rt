@@ -1,13 +1,12 @@
 //! The next civil second that matches, whichever zone's clock shows it.
-ghost use Rattle.std.specs.Prelude.{◌≡◌, ◌<◌, [], ◌∷◌};
-ghost use Rattle.cron_units.specs.declared.way.Way.TheVariants.{Ahead};
-ghost use Rattle.cron_unions.specs.Inner.Nearest.{nearer_second};
+ghost use Rattle.std.specs.Prelude.{[], ◌∷◌};
 ghost use Rattle.cron_fires.specs.Matches.{IsNextMatch, MatchesAny};
 
 use cron_moments::calendar::KnownMonth;
-use cron_time::search::civil_seconds::{match_past, nearest_match};
+use cron_time::search::civil_seconds::match_past;
 use cron_time::search::minute::Minute;
 use cron_time::search::month_days::MonthDays;
+use cron_unions::nearest::nearest_match;
 use cron_units::fields::ScheduleFields;
 use cron_units::way::Way;
 
@@ -22,27 +21,9 @@ pub(crate) fn next_match(fields: &ScheduleFields, second: u32) -> Option<u32>
     match_past(fields, Way::Ahead, second, &mut minute, &mut days)
 }
 
-// The earlier of two civil seconds.
-fn earlier(best: Option<u32>, other: Option<u32>) -> Option<u32>
-    ensures { result ≡ nearer_second Ahead best other }
-{
-    let Some(second) = best else {
-        return other;
-    };
-    match other {
-        Some(next) if next < second => Some(next),
-        _ => best,
-    }
-}
-
 /// The next match of any of several schedules behind a civil second.
 pub(crate) fn next_match_of_any(schedules: &[ScheduleFields], second: u32) -> Option<u32>
     ensures { IsNextMatch schedules.now second result }
 {
-    let mut next = None;
-    for fields in schedules {
-        let own = nearest_match(fields, Way::Ahead, i64::from(second) + 1);
-        next = earlier(next, own);
-    }
-    next
+    nearest_match(schedules, Way::Ahead, i64::from(second) + 1)
 }

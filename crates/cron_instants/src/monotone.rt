@@ -116,7 +116,8 @@ fn monotone_at(zone: &TimeZone<'_>, item: &Moment) -> Option<Monotone>
 }
 
 /// What is known of a civil second that is in order: it is read once, what the clock shows before it
-/// is read earlier, and what it shows after it later. `None` near the gaps and folds of the zone.
+/// is read earlier, and what it shows after it later. `None` says nothing, and comes near gaps and
+/// folds.
 #[inline(never)]
 pub fn monotone_past(zone: &TimeZone<'_>, second: u32) -> Option<Monotone>
     requires { second < seconds_in_range }

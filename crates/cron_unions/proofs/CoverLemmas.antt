@@ -1,6 +1,6 @@
 -- A schedule that another one covers adds nothing to a union.
 use Rattle.std.proofs.Common.{◌≡◌, ℕ, ◌+◌, ◌-◌, ◌<◌, ◌≤◌, pos, negsuc, ℤ, Bool, true, false, ◌&&◌, ◌||◌, cond, List, [], ◌∷◌, inl, inr, refl, sym, ap, ◌∙◌, subst, length, get_or, arith, bit_and}
-use Rattle.std.specs.Prelude.{◌==◌, filter, map, nat_eq, nat_lt}
+use Rattle.std.specs.Prelude.{◌==◌, map, nat_eq, nat_lt}
 use Rattle.std.proofs.lemmas.Bool.{cases_lt}
 use Rattle.std.proofs.lemmas.List.Elements.{filter_agree}
 use Rattle.jiff_core.specs.declared.civil.date.Date.{Date}
@@ -20,14 +20,10 @@ use Rattle.cron_time.specs.Timeline.{numbers_below}
 use Rattle.cron_dues.specs.Due.{due}
 use Rattle.cron_moments.specs.Readings.{readings}
 use Rattle.std.specs.List.{flat_map}
-use Rattle.cron_instants.specs.Fires.{earliest_first, is_after, is_by}
-use Rattle.cron_instants.specs.Order.{is_earlier}
+use Rattle.cron_instants.specs.Fires.{earliest_first}
 use Rattle.cron_unions.specs.Inner.Covers.{Covers, HasAll}
-use Rattle.cron_unions.specs.Inner.Parts.{part_of_any}
 use Rattle.cron_unions.specs.Unions.{fires_any, matches_any, seconds_of_any, timeline_any}
 use Rattle.cron_unions.specs.UnionDues.{dues_any}
-use Rattle.cron_unions.specs.declared.run.Part.{Part}
-use Rattle.cron_unions.specs.declared.run.Part.TheVariants.{After, Past, Between, PastBy}
 
 -- ---- sets by their bits
 
@@ -132,15 +128,9 @@ without_first t s covers =
     (λ c. second_alone (matches t (civil c)) (matches s (civil c)) (match_in t s covers (civil c))) (numbers_below seconds_in_range)
 
 -- what zones make of the civil seconds is the same too
-fires_same : (ss ts : List Sets) (z : TimeZone) → seconds_of_any ss ≡ seconds_of_any ts → fires_any ss z ≡ fires_any ts z
+pub fires_same : (ss ts : List Sets) (z : TimeZone) → seconds_of_any ss ≡ seconds_of_any ts → fires_any ss z ≡ fires_any ts z
 unfolding timeline_any
 fires_same ss ts z e = ap (λ cs. earliest_first (flat_map (readings z) cs)) e
-
-pub part_same : (ss ts : List Sets) (z : TimeZone) (part : Part) → seconds_of_any ss ≡ seconds_of_any ts → part_of_any ss z part ≡ part_of_any ts z part
-part_same ss ts z (After start) e = ap (λ l. filter (is_after start.nanosecond) l) (fires_same ss ts z e)
-part_same ss ts z (Past item) e = ap (λ l. filter (is_earlier item) l) (fires_same ss ts z e)
-part_same ss ts z (Between last now) e = ap (λ l. filter (is_by now.nanosecond) (filter (is_after last.nanosecond) l)) (fires_same ss ts z e)
-part_same ss ts z (PastBy item now) e = ap (λ l. filter (is_by now.nanosecond) (filter (is_earlier item) l)) (fires_same ss ts z e)
 
 pub dues_same : (ss ts : List Sets) (z : TimeZone) → seconds_of_any ss ≡ seconds_of_any ts → dues_any ss z ≡ dues_any ts z
 dues_same ss ts z e = ap (λ cs. map (due z) cs) e

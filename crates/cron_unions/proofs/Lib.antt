@@ -4,12 +4,9 @@ pub mod LawLemmas
 pub mod OneLemmas
 pub mod BestLemmas
 pub mod NearestLemmas
-pub mod MergeLemmas
-pub mod HeadLemmas
-pub mod KeyLemmas
-pub mod PartLemmas
 pub mod CoverLemmas
-pub mod DueHeadLemmas
+pub mod HeadLemmas
+pub mod MergeLemmas
 pub mod BackLemmas
 pub mod MemberLemmas
 pub mod UnitLemmas

@@ -1,194 +1,171 @@
--- Lists of readings joined into one that ascends; lists that ascend are the same where their readings are.
-use Rattle.std.proofs.Common.{◌≡◌, Bool, true, false, cond, List, [], ◌∷◌, map, Some, ◌⊎◌, inl, inr, refl, sym, ap, ◌∙◌}
-use Rattle.std.specs.Prelude.{Any, filter}
+-- The next fire past one: where the clock and the instants have one order it is the next match; and what a run has left by it.
+use Rattle.std.proofs.Common.{◌≡◌, ℕ, ◌<◌, ℤ, pos, ◌+ℤ◌, ◌*ℤ◌, ◌-ℤ◌, Bool, true, false, List, [], ◌∷◌, Option, Some, None, inl, inr, refl, sym, ap, ◌∙◌, subst, arith}
+use Rattle.std.specs.Prelude.{MatchOption, IfSome, filter, slice_get}
+use Rattle.std.proofs.lemmas.Bool.{cases_lt}
+use Rattle.std.specs.Int.{int_div_euclid}
+use Rattle.jiff_core.proofs.SignedLemmas.{signed_arith}
+use Rattle.jiff_core.specs.declared.Offset.{Offset}
 use Rattle.jiff_tz.specs.declared.timezone.TimeZone.{TimeZone}
+use Rattle.cron_clocks.proofs.Windows.{lt_yes}
+use Rattle.cron_units.specs.Nearest.{IsNearest, IsNearestAt}
+use Rattle.cron_units.specs.declared.way.Way.TheVariants.{Ahead}
 use Rattle.cron_units.specs.Sets.{Sets}
-use Rattle.cron_moments.specs.Readings.{Reading}
-use Rattle.cron_instants.specs.Fires.{fires}
-use Rattle.cron_instants.specs.Instants.{IsAmong, IsItem}
+use Rattle.cron_moments.specs.Civil.{seconds_in_range}
+use Rattle.cron_moments.specs.Readings.{Reading, instant, reading}
+use Rattle.cron_instants.specs.Fires.{is_after, is_by}
+use Rattle.cron_instants.specs.Instants.{IsEarliest}
 use Rattle.cron_instants.specs.Order.{is_earlier}
-use Rattle.cron_time.proofs.ListLemmas.{among-cases, among-filter, among-first, among-none, among-rest, filter-among}
-use Rattle.cron_instants.proofs.AscentLemmas.{Ascends, ascends-filter, earlier-not_back, earlier-not_itself, earlier-through, neither-earlier}
-use Rattle.cron_instants.proofs.FireLemmas.{fires-ascend, fires-of_item, item-of_fires}
-use Rattle.cron_unions.specs.Unions.{fires_any}
-use Rattle.cron_unions.specs.Inner.Merges.{insert_once, merged, union_of, AllAscend}
-use Rattle.cron_unions.proofs.AnyLemmas.{any-cases, any-first, any-none, any-rest}
-use Rattle.cron_unions.proofs.UnionLemmas.{fires_any-ascend, fires_any-of_item, item-of_fires_any}
+use Rattle.cron_instants.specs.Inner.Left.{is_within, left_until}
+use Rattle.cron_instants.specs.Inner.Monotone.{IsMonotone}
+use Rattle.cron_instants.specs.Inner.OffsetRange.{IsRead}
+use Rattle.cron_instants.specs.declared.monotone.Monotone.{Monotone}
+use Rattle.cron_instants.proofs.AscentLemmas.{KeepsOn, among-earliest_first, earliest_first-among, first-left}
+use Rattle.cron_instants.proofs.BestLemmas.{best_of_more}
+use Rattle.cron_instants.proofs.FireLemmas.{after-keeps_on, int_lt-true, past-keeps_on}
+use Rattle.cron_instants.proofs.MonotoneLemmas.{IsReadBeyond, nearest_read, still_monotone}
+use Rattle.cron_instants.proofs.OrderedLemmas.{only_reading}
+use Rattle.cron_instants.proofs.RunLemmas.{first_until, late_until, nothing_until, until-is_by}
+use Rattle.cron_unions.specs.FirstOfAny.{IsFirstAfterAny, IsFirstPastAny, IsItemOfAny}
+use Rattle.cron_unions.specs.Unions.{fires_any, fires_any_after, fires_any_between, fires_any_past, fires_any_past_by, seconds_of_any, timeline_any}
+use Rattle.cron_unions.specs.Inner.Heads.{AreHeads, match_of}
+use Rattle.cron_unions.specs.Inner.Nearest.{is_match_any}
+use Rattle.cron_unions.specs.Inner.Merges.{AreHeadsOf, AreNextHeads, IsKnownFire, left_with}
+use Rattle.cron_unions.specs.declared.heads.Head.{Head}
+use Rattle.cron_unions.proofs.CoverLemmas.{fires_same}
+use Rattle.cron_unions.proofs.HeadLemmas.{heads-up, match-some}
+use Rattle.cron_unions.proofs.NearestLemmas.{nearest-range}
+use Rattle.cron_unions.proofs.UnionLemmas.{any_read, fires_any-ascend, item_read}
 
--- ---- the same readings in the same order
+-- ---- what is left, by its first
 
-first_alike : (a : Reading) (l : List Reading) (b : Reading) (m : List Reading) → Ascends (a ∷ l) → Ascends (b ∷ m)
-    → ((q : Reading) → IsAmong (a ∷ l) q → IsAmong (b ∷ m) q) → ((q : Reading) → IsAmong (b ∷ m) q → IsAmong (a ∷ l) q) → a ≡ b
-first_alike a l b m up on to from = elim (among-cases b m a (to a (among-first a l))) [
-  | inl same ↦ same
-  | inr later ↦ elim (among-cases a l b (from b (among-first b m))) [
-    | inl same ↦ sym same
-    | inr other ↦
-        let one = on.0 a later in
-        let back = earlier-not_back b a one in
-        let two = up.0 b other in
-        absurd (cc)
-  ]
-]
+-- the earliest of the items that pass a test is the first of the fires that do
+first-of_any : (ss : List Sets) (z : TimeZone) (p : Reading → Bool) (answer : Option Reading) → KeepsOn p
+    → IsEarliest (λ r. IsItemOfAny ss z r × (p r ≡ true)) answer
+    → MatchOption answer (filter p (fires_any ss z) ≡ []) (λ r. filter p (fires_any ss z) ≡ r ∷ fires_any_past ss z r)
+first-of_any ss z p None on none =
+    first-left p (fires_any ss z) None on (fires_any-ascend ss z) (λ r m. none r (among-earliest_first (timeline_any ss z) r m.0, m.1))
+first-of_any ss z p (Some r) on found =
+    first-left p (fires_any ss z) (Some r) on (fires_any-ascend ss z)
+    ((earliest_first-among (timeline_any ss z) r found.0.0, found.0.1), λ q m. found.1 q (among-earliest_first (timeline_any ss z) q m.0, m.1))
 
-rest_alike : (a : Reading) (l : List Reading) (b : Reading) (m : List Reading) → a ≡ b → Ascends (a ∷ l)
-    → ((q : Reading) → IsAmong (a ∷ l) q → IsAmong (b ∷ m) q) → (q : Reading) → IsAmong l q → IsAmong m q
-rest_alike a l b m same up to q h = elim (among-cases b m q (to q (among-rest a q l h))) [
-  | inl e ↦
-      let later = up.0 q h in
-      let itself = earlier-not_itself a in
-      let alike : q ≡ a = e ∙ sym same in
-      let twice : is_earlier a a ≡ true = ap (is_earlier a) (sym alike) ∙ later in
-      absurd (cc)
-  | inr there ↦ there
-]
+after_of : (ss : List Sets) (z : TimeZone) (t : ℤ) (answer : Option Reading) → IsFirstAfterAny ss z t answer
+    → IsEarliest (λ r. IsItemOfAny ss z r × (is_after t r ≡ true)) answer
+after_of ss z t None none = λ r m. none r (m.0, int_lt-true t (instant r *ℤ pos 1_000_000_000) m.1)
+after_of ss z t (Some r) found = (
+  (found.0.0, lt_yes t (instant r *ℤ pos 1_000_000_000) found.0.1),
+  λ q m. found.1 q (m.0, int_lt-true t (instant q *ℤ pos 1_000_000_000) m.1),
+)
 
-pub same_ascending : (l m : List Reading) → Ascends l → Ascends m → ((q : Reading) → IsAmong l q → IsAmong m q)
-    → ((q : Reading) → IsAmong m q → IsAmong l q) → l ≡ m
-same_ascending [] [] up on to from = refl
-same_ascending [] (b ∷ m) up on to from = absurd (among-none b (from b (among-first b m)))
-same_ascending (a ∷ l) [] up on to from = absurd (among-none a (to a (among-first a l)))
-same_ascending (a ∷ l) (b ∷ m) up on to from =
-    let same = first_alike a l b m up on to from in
-    let rest = same_ascending l m up.1 on.1 (rest_alike a l b m same up to) (rest_alike b m a l (sym same) on from) in
-    cc
+with_next : (ss : List Sets) (z : TimeZone) (answer : Option Reading) (until : Option ℤ) (l : List Reading)
+    → MatchOption answer (l ≡ []) (λ r. l ≡ r ∷ fires_any_past ss z r) → left_with ss z answer until ≡ left_until until l
+with_next ss z None until l e = sym (ap (left_until until) e ∙ nothing_until until)
+with_next ss z (Some r) until l e = sym (ap (left_until until) e)
 
--- ---- a reading put in its place, once
+with_after : (ss : List Sets) (z : TimeZone) (t : ℤ) (answer : Option Reading) (until : Option ℤ) → IsFirstAfterAny ss z t answer
+    → left_with ss z answer until ≡ left_until until (fires_any_after ss z t)
+with_after ss z t answer until first =
+    with_next ss z answer until (fires_any_after ss z t) (first-of_any ss z (is_after t) answer (after-keeps_on t) (after_of ss z t answer first))
 
-among_insert_by : (r p : Reading) (l m : List Reading) (q : Reading) (b c : Bool) → (IsAmong m q → (q ≡ r) ⊎ IsAmong l q)
-    → IsAmong (cond b (r ∷ p ∷ l) (cond c (p ∷ m) (p ∷ l))) q → (q ≡ r) ⊎ IsAmong (p ∷ l) q
-among_insert_by r p l m q true c below h = among-cases r (p ∷ l) q h
-among_insert_by r p l m q false true below h = elim (among-cases p m q h) [
-  | inl e ↦ inr (0, ap Some (sym e))
-  | inr more ↦ elim (below more) [ inl e ↦ inl e | inr there ↦ inr (among-rest p q l there) ]
-]
-among_insert_by r p l m q false false below h = inr h
+with_past : (ss : List Sets) (z : TimeZone) (item : Reading) (answer : Option Reading) (until : Option ℤ) → IsFirstPastAny ss z item answer
+    → left_with ss z answer until ≡ left_until until (fires_any_past ss z item)
+with_past ss z item answer until first =
+    with_next ss z answer until (fires_any_past ss z item) (first-of_any ss z (is_earlier item) answer (past-keeps_on item) first)
 
-among-insert_once : (r : Reading) (l : List Reading) (q : Reading) → IsAmong (insert_once r l) q → (q ≡ r) ⊎ IsAmong l q
-unfolding insert_once
-among-insert_once r [] q h = among-cases r [] q h
-among-insert_once r (p ∷ l) q h =
-    among_insert_by r p l (insert_once r l) q (is_earlier r p) (is_earlier p r) (among-insert_once r l q) h
+-- a run begins with the first fire of schedules that match what others do
+module _ (few ss : List Sets) (z : TimeZone) (answer : Option Reading) (same : seconds_of_any few ≡ seconds_of_any ss) where
+  module _ (t : ℤ) (first : IsFirstAfterAny few z t answer) where
+    pub begins_after : left_with few z answer None ≡ fires_any_after ss z t
+    begins_after = with_after few z t answer None first ∙ ap (filter (is_after t)) (fires_same few ss z same)
 
-insert_among_by : (r p : Reading) (l m : List Reading) (q : Reading) (b c : Bool) → is_earlier r p ≡ b → is_earlier p r ≡ c
-    → ((q ≡ r) ⊎ IsAmong l q → IsAmong m q)
-    → (q ≡ r) ⊎ IsAmong (p ∷ l) q → IsAmong (cond b (r ∷ p ∷ l) (cond c (p ∷ m) (p ∷ l))) q
-insert_among_by r p l m q true c is not_back below (inl e) = (0, ap Some (sym e))
-insert_among_by r p l m q true c is not_back below (inr h) = among-rest r q (p ∷ l) h
-insert_among_by r p l m q false true is not_back below (inl e) = among-rest p q m (below (inl e))
-insert_among_by r p l m q false true is not_back below (inr h) = elim (among-cases p l q h) [
-  | inl e ↦ (0, ap Some (sym e))
-  | inr there ↦ among-rest p q m (below (inr there))
-]
-insert_among_by r p l m q false false is not_back below (inl e) =
-    let same : q ≡ p = e ∙ neither-earlier r p is not_back in (0, ap Some (sym same))
-insert_among_by r p l m q false false is not_back below (inr h) = h
+    pub begins_between : (now last : ℤ) → last ≡ int_div_euclid now (pos 1_000_000_000) → left_with few z answer (Some last) ≡ fires_any_between ss z t now
+    begins_between now last e =
+        with_after few z t answer (Some last) first ∙ until-is_by now last (fires_any_after few z t) e
+        ∙ ap (λ l. filter (is_by now) (filter (is_after t) l)) (fires_same few ss z same)
 
-insert_once-among : (r : Reading) (l : List Reading) (q : Reading) → (q ≡ r) ⊎ IsAmong l q → IsAmong (insert_once r l) q
-unfolding insert_once
-insert_once-among r [] q (inl e) = (0, ap Some (sym e))
-insert_once-among r [] q (inr h) = absurd (among-none q h)
-insert_once-among r (p ∷ l) q h =
-    insert_among_by r p l (insert_once r l) q (is_earlier r p) (is_earlier p r) refl refl (insert_once-among r l q) h
+  module _ (item : Reading) (first : IsFirstPastAny few z item answer) where
+    pub begins_past : left_with few z answer None ≡ fires_any_past ss z item
+    begins_past = with_past few z item answer None first ∙ ap (filter (is_earlier item)) (fires_same few ss z same)
 
-ascends-insert_once : (r : Reading) (l : List Reading) → Ascends l → Ascends (insert_once r l)
-unfolding insert_once
-ascends-insert_once r [] up = (λ q h. absurd (among-none q h), tt)
-ascends-insert_once r (p ∷ l) up = by_tests (is_earlier r p) (is_earlier p r) (ascends-insert_once r l up.1) refl refl
-  where
-    by_tests : (b c : Bool) → Ascends (insert_once r l) → is_earlier r p ≡ b → is_earlier p r ≡ c
-        → Ascends (cond b (r ∷ p ∷ l) (cond c (p ∷ insert_once r l) (p ∷ l)))
-    by_tests true c below is other = (
-      λ q h. elim (among-cases p l q h) [
-        | inl e ↦ ap (is_earlier r) e ∙ is
-        | inr there ↦ earlier-through r p q is (up.0 q there)
-      ],
-      up,
-    )
-    by_tests false true below is other = (
-      λ q h. elim (among-insert_once r l q h) [
-        | inl e ↦ ap (is_earlier p) e ∙ other
-        | inr there ↦ up.0 q there
-      ],
-      below,
-    )
-    by_tests false false below is other = up
+    pub begins_past_by : (now last : ℤ) → last ≡ int_div_euclid now (pos 1_000_000_000) → left_with few z answer (Some last) ≡ fires_any_past_by ss z item now
+    begins_past_by now last e =
+        with_past few z item answer (Some last) first ∙ until-is_by now last (fires_any_past few z item) e
+        ∙ ap (λ l. filter (is_by now) (filter (is_earlier item) l)) (fires_same few ss z same)
 
--- ---- lists joined
+-- the next fire is taken
+pub with_first : (ss : List Sets) (z : TimeZone) (r : Reading) (answer : Option Reading) (until : Option ℤ) → is_within until (instant r) ≡ true
+    → IsFirstPastAny ss z r answer → left_with ss z (Some r) until ≡ r ∷ left_with ss z answer until
+with_first ss z r answer until due first =
+    first_until until r (fires_any_past ss z r) due ∙ ap (λ l. r ∷ l) (sym (with_past ss z r answer until first))
 
-among-merged : (l m : List Reading) (q : Reading) → IsAmong (merged l m) q → IsAmong l q ⊎ IsAmong m q
-unfolding merged
-among-merged [] m q h = inr h
-among-merged (r ∷ l) m q h = elim (among-insert_once r (merged l m) q h) [
-  | inl e ↦ inl (0, ap Some (sym e))
-  | inr there ↦ elim (among-merged l m q there) [ inl one ↦ inl (among-rest r q l one) | inr other ↦ inr other ]
-]
+pub with_late : (ss : List Sets) (z : TimeZone) (r : Reading) (until : Option ℤ) → is_within until (instant r) ≡ false → left_with ss z (Some r) until ≡ []
+with_late ss z r until late = late_until until r (fires_any ss z) late
 
-merged-among : (l m : List Reading) (q : Reading) → IsAmong l q ⊎ IsAmong m q → IsAmong (merged l m) q
-unfolding merged
-merged-among [] m q (inl h) = absurd (among-none q h)
-merged-among [] m q (inr h) = h
-merged-among (r ∷ l) m q (inl h) = elim (among-cases r l q h) [
-  | inl e ↦ insert_once-among r (merged l m) q (inl e)
-  | inr there ↦ insert_once-among r (merged l m) q (inr (merged-among l m q (inl there)))
-]
-merged-among (r ∷ l) m q (inr h) = insert_once-among r (merged l m) q (inr (merged-among l m q (inr h)))
+-- ---- what is known from a fire on
 
-ascends-merged : (l m : List Reading) → Ascends m → Ascends (merged l m)
-unfolding merged
-ascends-merged [] m up = up
-ascends-merged (r ∷ l) m up = ascends-insert_once r (merged l m) (ascends-merged l m up)
+pub known_unknown : (z : TimeZone) (r : Reading) (m : Monotone) → m.end ≡ 0 → IsKnownFire z r m
+known_unknown z r m e = record { offset = λ less. absurd (omega arith); monotone = λ less. absurd (omega arith) }
 
--- the reading stands in one of the lists
-abbrev pub AmongOne : List (List Reading) → Reading → Type 0
-AmongOne [] q = ⊥
-AmongOne (l ∷ ls) q = IsAmong l q ⊎ AmongOne ls q
+-- a reading of a civil second that is read once is that one
+pub known_of : (z : TimeZone) (r : Reading) (m : Monotone) → IsRead z r → IsMonotone z r.second m → IsKnownFire z r m
+known_of z r m read known =
+    let is = only_reading (reading r.second m.offset) r read.place
+    (sym (ap (λ l. slice_get l read.place) known.settled.once) ∙ read.here) in
+    record { offset = λ less. sym (ap (λ (q : Reading). q.offset) is); monotone = λ less. known }
 
-pub among-union : (ls : List (List Reading)) (q : Reading) → IsAmong (union_of ls) q → AmongOne ls q
-unfolding union_of
-among-union [] q h = among-none q h
-among-union (l ∷ ls) q h = elim (among-merged l (union_of ls) q h) [ inl one ↦ inl one | inr other ↦ inr (among-union ls q other) ]
+-- what is known of a civil second in order is known from its reading on
+pub known_there : (z : TimeZone) (n : ℕ) (m : Monotone) → IsMonotone z n m → IsKnownFire z (reading n m.offset) m
+known_there z n m on = record { offset = λ less. refl; monotone = λ less. on }
 
-pub union-among : (ls : List (List Reading)) (q : Reading) → AmongOne ls q → IsAmong (union_of ls) q
-unfolding union_of
-union-among [] q h = absurd h
-union-among (l ∷ ls) q (inl h) = merged-among l (union_of ls) q (inl h)
-union-among (l ∷ ls) q (inr h) = merged-among l (union_of ls) q (inr (union-among ls q h))
+-- the earliest item is a reading of its civil second
+pub read_first : (ss : List Sets) (z : TimeZone) (Q : Reading → Type 0) (answer : Option Reading) → IsEarliest (λ r. IsItemOfAny ss z r × Q r) answer
+    → IfSome answer (λ r. IsRead z r)
+read_first ss z Q None none = tt
+read_first ss z Q (Some r) found = (item_read ss z r found.0.0).0
 
-pub ascends-union : (ls : List (List Reading)) → Ascends (union_of ls)
-unfolding union_of
-ascends-union [] = tt
-ascends-union (l ∷ ls) = ascends-merged l (union_of ls) (ascends-union ls)
+pub next_heads : (ss : List Sets) (z : TimeZone) (answer : Option Reading) (hs : List Head) (from : ℤ)
+    → MatchOption answer (from ≡ pos 0) (λ r. from ≡ pos r.second) → IfSome answer (λ r. IsRead z r) → AreHeads ss from hs → AreNextHeads ss answer hs
+next_heads ss z None hs from e read heads = tt
+next_heads ss z (Some r) hs from e read heads = record { in_range = read.in_range; heads = subst (λ (n : ℤ). AreHeads ss n hs) e heads }
 
--- ---- the fires of each schedule joined are those of the union
+-- ---- the next match is the next fire
 
--- those of each that pass a test
-abbrev pub kept_of : (Reading → Bool) → TimeZone → Sets → List Reading
-kept_of p z s = filter p (fires s z)
+near_at : (ss : List Sets) (from : ℤ) (n : ℕ) → IsNearest Ahead (is_match_any ss) from (match_of n) → n < 4_294_967_295 → IsNearestAt Ahead (is_match_any ss) from n
+near_at ss from n near some = subst (λ (o : Option ℕ). IsNearest Ahead (is_match_any ss) from o) (match-some n some) near
 
-among_kept : (p : Reading → Bool) (z : TimeZone) (ss : List Sets) (q : Reading) → AmongOne (map (kept_of p z) ss) q → Any (λ s. IsItem s z q) ss × (p q ≡ true)
-among_kept p z [] q h = absurd h
-among_kept p z (s ∷ ss) q (inl h) =
-    let both = among-filter p (fires s z) q h in
-    (any-first (λ t. IsItem t z q) s ss (item-of_fires s z q both.0), both.1)
-among_kept p z (s ∷ ss) q (inr h) = let both = among_kept p z ss q h in (any-rest (λ t. IsItem t z q) s ss both.0, both.1)
+module _ (ss : List Sets) (z : TimeZone) (r : Reading) (old : Monotone) (n : ℕ) (in_range : r.second < seconds_in_range) (known : IsKnownFire z r old)
+    (near : IsNearest Ahead (is_match_any ss) (pos r.second +ℤ pos 1) (match_of n)) (some : n < 4_294_967_295) where
+  at : IsNearestAt Ahead (is_match_any ss) (pos r.second +ℤ pos 1) n
+  at = near_at ss (pos r.second +ℤ pos 1) n near some
 
-kept_among : (p : Reading → Bool) (z : TimeZone) (ss : List Sets) (q : Reading) → Any (λ s. IsItem s z q) ss → p q ≡ true → AmongOne (map (kept_of p z) ss) q
-kept_among p z [] q one passes = any-none (λ (t : Sets). IsItem t z q) one
-kept_among p z (s ∷ ss) q one passes = elim (any-cases (λ t. IsItem t z q) s ss one) [
-  | inl here ↦ inl (filter-among p (fires s z) q (fires-of_item s z q here) passes)
-  | inr there ↦ inr (kept_among p z ss q there passes)
-]
+  range : n < seconds_in_range
+  range = nearest-range Ahead (pos r.second +ℤ pos 1) ss (Some n) at
 
-pub union_kept : (p : Reading → Bool) (z : TimeZone) (ss : List Sets) → union_of (map (kept_of p z) ss) ≡ filter p (fires_any ss z)
-union_kept p z ss =
-    same_ascending (union_of (map (kept_of p z) ss)) (filter p (fires_any ss z)) (ascends-union (map (kept_of p z) ss))
-    (ascends-filter p (fires_any ss z) (fires_any-ascend ss z))
-    (λ q h. let both = among_kept p z ss q (among-union (map (kept_of p z) ss) q h) in
-    filter-among p (fires_any ss z) q (fires_any-of_item ss z q both.0) both.1)
-    (λ q h. let both = among-filter p (fires_any ss z) q h in
-    union-among (map (kept_of p z) ss) q (kept_among p z ss q (item-of_fires_any ss z q both.0) both.1))
+  -- if both are in order
+  pub next_there : (there : Monotone) → r.second < old.end → IsMonotone z n there → n < there.end → IsFirstPastAny ss z r (Some (reading n there.offset))
+  next_there there before on less =
+      let here = known.monotone before in
+      let same = known.offset before in
+      best_of_more Ahead (IsReadBeyond (is_match_any ss) z (instant r) r.second) (λ q. IsItemOfAny ss z q × (is_earlier r q ≡ true)) (Some (reading n there.offset))
+      (nearest_read (is_match_any ss) z (instant r) r.second r.second old.offset (ap (λ (o : Offset). pos r.second -ℤ o.seconds) (sym same)) (omega arith)
+      here.settled n there.offset at (on.on n (omega arith) less) in_range range)
+      (λ q h. (any_read ss z q h.0 h.1, h.2))
+      (λ q h. let both = item_read ss z q h.0 in inl (both.0, both.1, h.1))
 
-pub all_ascend : (p : Reading → Bool) (z : TimeZone) (ss : List Sets) → AllAscend (map (kept_of p z) ss)
-all_ascend p z [] = tt
-all_ascend p z (s ∷ ss) = (ascends-filter p (fires s z) (fires-ascend s z), all_ascend p z ss)
+  before_end : n < old.end → r.second < old.end
+  before_end less = let lies = at.lies in omega (arith, signed_arith)
+
+  still_on : n < old.end → IsMonotone z n old
+  still_on less = let lies = at.lies in still_monotone z r.second n old (known.monotone (before_end less)) (omega (arith, signed_arith)) less
+
+  -- so where the match comes before the end of what is known
+  pub next_before : n < old.end → IsFirstPastAny ss z r (Some (reading n old.offset))
+  next_before less = next_there old (before_end less) (still_on less) less
+
+  pub known_before : n < old.end → IsKnownFire z (reading n old.offset) old
+  known_before less = known_there z n old (still_on less)
+
+  pub heads_on : (o : Offset) (hs : List Head) → AreHeads ss (pos r.second +ℤ pos 1) hs → AreHeadsOf ss (reading n o) hs
+  heads_on o hs heads = record { in_range = range; heads = heads-up ss (pos r.second +ℤ pos 1) hs n at heads }
+
+pub some_match : (n : ℕ) → n < 4_294_967_296 → (n ≡ 4_294_967_295 → ⊥) → n < 4_294_967_295
+some_match n fits other = elim (cases_lt n 4_294_967_295) [ inl less ↦ less | inr high ↦ absurd (other (omega arith)) ]

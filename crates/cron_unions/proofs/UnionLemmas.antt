@@ -15,6 +15,7 @@ use Rattle.cron_time.proofs.PlaceLemmas.{nothing_in_nil}
 use Rattle.cron_time.proofs.TimelineLaws.{stand_once}
 use Rattle.cron_time.proofs.TimelineLemmas.{before, item_in, items_of-second}
 use Rattle.cron_instants.specs.Instants.{IsAmong, IsItem}
+use Rattle.cron_instants.specs.Inner.OffsetRange.{IsRead}
 use Rattle.cron_instants.proofs.AscentLemmas.{Ascends, ascends-earliest_first, among-earliest_first, earliest_first-among, once-of}
 use Rattle.cron_instants.proofs.ItemLemmas.{item_of, stands_of}
 use Rattle.cron_instants.proofs.MatchLemmas.{match_in_range}
@@ -118,6 +119,15 @@ item-of_place ss z r place match here =
       rw (timeline-joined ss z)
           (get-joined (items_any ss z) r.second seconds_in_range place (range_of r.second (matches_any ss (civil r.second)) match) inside ∙ there),
     )
+
+-- an item is a reading of a civil second that matches
+pub any_read : (ss : List Sets) (z : TimeZone) (r : Reading) → IsRead z r → is_match_any ss r.second ≡ true → IsItemOfAny ss z r
+any_read ss z r read match = item-of_place ss z r read.place match read.here
+
+pub item_read : (ss : List Sets) (z : TimeZone) (r : Reading) → IsItemOfAny ss z r → IsRead z r × (is_match_any ss r.second ≡ true)
+item_read ss z r item =
+    let at = place_of ss z item.0 r item.1 in
+    (record { in_range = range_of r.second (matches_any ss (civil r.second)) at.matching; place = at.place; here = at.here }, at.matching)
 
 pub one_of_any : (ss : List Sets) (z : TimeZone) (r : Reading) → IsItemOfAny ss z r → Any (λ s. IsItem s z r) ss
 one_of_any ss z r item =

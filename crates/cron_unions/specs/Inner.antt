@@ -1,9 +1,7 @@
 pub mod Nearest
-pub mod DueHeads
-pub mod Merges
-pub mod Keys
+pub mod Heads
 pub mod Covers
-pub mod Parts
 pub mod Backs
 pub mod Units
 pub mod Searched
+pub mod Merges

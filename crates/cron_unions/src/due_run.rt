@@ -5,7 +5,7 @@ ghost use Rattle.jiff.specs.Words.{plain_zone};
 ghost use Rattle.cron_dues.specs.Inner.Left.{left_from};
 ghost use Rattle.cron_unions.specs.UnionDues.{dues_any, dues_any_after, dues_any_between, dues_any_past, dues_any_past_by};
 
-use crate::due_heads::{HEADS, Head, NO_MATCH, heads_of, nearest_head, pass_heads};
+use crate::heads::{HEADS, Head, NO_MATCH, heads_of, nearest_head, pass_heads};
 use crate::searched::Searched;
 use arrayvec::ArrayVec;
 use cron_dues::ahead::{Known, due_ahead};
@@ -38,7 +38,7 @@ impl<'a> Model for DueRun<'a> {
     ghost use Rattle.cron_dues.specs.Inner.Left.{left_from};
     ghost use Rattle.cron_units.specs.Nearest.{IsNearest};
     ghost use Rattle.cron_units.specs.declared.way.Way.TheVariants.{Ahead};
-    ghost use Rattle.cron_unions.specs.Inner.DueHeads.{AreHeads, match_of};
+    ghost use Rattle.cron_unions.specs.Inner.Heads.{AreHeads, match_of};
     ghost use Rattle.cron_unions.specs.Inner.Nearest.{is_match_any};
     ghost use Rattle.cron_unions.specs.Inner.Searched.{list_of};
     ghost use Rattle.cron_unions.specs.UnionDues.{dues_any};

@@ -5,16 +5,15 @@
 mod apart;
 pub mod back_due_run;
 pub mod back_run;
-mod branch;
 mod covering;
-mod due_heads;
 pub mod due_run;
 pub mod dues;
 mod heads;
 pub mod instants;
 pub mod laws;
 pub mod members;
-mod nearest;
+mod merge;
+pub mod nearest;
 pub mod run;
 mod searched;
 pub mod units;

@@ -30,7 +30,7 @@ pub(crate) fn nearer_second(way: Way, best: Option<u32>, other: Option<u32>) -> 
 /// The nearest civil second of the range that matches one of the schedules, from a number on: ahead
 /// the first one at or after it, back the last one at or before it, and `None` exactly where there
 /// is none.
-pub(crate) fn nearest_match(schedules: &[ScheduleFields], way: Way, from: i64) -> Option<u32>
+pub fn nearest_match(schedules: &[ScheduleFields], way: Way, from: i64) -> Option<u32>
     ensures nearest { IsNearest way (is_match_any schedules.now) from result }
     ensures bound { IfSome result (λ c. c < seconds_in_range) }
 {

@@ -1,97 +1,62 @@
 //! Runs over the fires of several schedules as one, in the order of their instants.
-ghost use Rattle.std.specs.Prelude.{◌≡◌, ◌≤◌, ◌+◌, ◌++◌, length, map};
+ghost use Rattle.std.specs.Prelude.{◌≡◌, ◌≤◌, IfSome, length};
 ghost use Rattle.std.specs.Iterator.{YieldsFirst};
 ghost use Rattle.jiff.specs.Words.{plain_zone};
+ghost use Rattle.cron_instants.specs.Inner.OffsetRange.{IsRead};
 ghost use Rattle.cron_unions.specs.Unions.{fires_any_after, fires_any_between, fires_any_past, fires_any_past_by};
-ghost use Rattle.cron_unions.specs.Inner.Parts.{part_of, part_of_any};
+ghost use Rattle.cron_unions.specs.Inner.Merges.{left_with};
 
-use crate::branch::{Branch, NONE_LEFT};
-use crate::heads::{least_key, take_heads};
+use crate::instants::{first_after, first_past};
+use crate::merge::Merge;
 use crate::searched::Searched;
-use arrayvec::ArrayVec;
-use cron_instants::run::Run as Single;
-use cron_moments::moment::Moment;
+use cron_instants::run::is_within;
+use cron_moments::moment::{Moment, instant_of};
 use cron_units::fields::ScheduleFields;
 use jiff::Timestamp;
 use jiff::tz::TimeZone;
 use std::marker::Model;
 
-// Which of the fires.
-#[derive(Clone, Copy)]
-enum Part {
-    After(Timestamp),
-    Past(Moment),
-    Between(Timestamp, Timestamp),
-    PastBy(Moment, Timestamp),
-}
-
 /// Some of the fires of at most N schedules in a zone, the earliest first: each once, also where
 /// several of them match its civil second. Contracts see those that are left. It takes no memory.
 #[derive(Drop)]
 pub struct Run<'a, const N: usize> {
-    branches: ArrayVec<Branch<'a>, N>,
-    // The number of the first fire that is left.
-    least: u64,
+    merge: Merge<N>,
+    zone: &'a TimeZone<'a>,
+    next: Option<Moment>,
+    until: Option<i64>,
 }
 
 impl<'a, const N: usize> Model for Run<'a, N> {
     ghost use Rattle.std.specs.Prelude.{List};
+    ghost use Rattle.jiff.specs.Words.{plain_zone};
     ghost use Rattle.cron_moments.specs.Readings.{Reading};
-    ghost use Rattle.cron_unions.specs.Inner.Keys.{IsLeastKey};
-    ghost use Rattle.cron_unions.specs.Inner.Merges.{union_of, AllAscend};
+    ghost use Rattle.cron_unions.specs.Inner.Merges.{IsMerge, left_with, schedules_of};
 
     ghost Value = { List Reading };
 
-    ghost view = { λ r. union_of r.branches.items };
+    ghost view = { λ r. left_with (schedules_of r.merge) (plain_zone r.zone.now) r.next r.until };
 
-    ghost invariant = { λ r. AllAscend r.branches.items × IsLeastKey r.branches.items r.least };
-}
-
-fn run_over<'a>(fields: ScheduleFields, part: &Part, zone: &'a TimeZone<'a>) -> Single<'a>
-    ensures { result ≡ part_of fields (plain_zone zone.now) part.now }
-{
-    match *part {
-        Part::After(start) => Single::after(fields, start, zone),
-        Part::Past(fire) => Single::past(fields, &fire, zone),
-        Part::Between(last, now) => Single::between(fields, last, now, zone),
-        Part::PastBy(fire, now) => Single::past_by(fields, &fire, now, zone),
-    }
-}
-
-fn add_branches<'a, const N: usize>(
-    branches: &mut ArrayVec<Branch<'a>, N>,
-    schedules: &[ScheduleFields],
-    part: &Part,
-    zone: &'a TimeZone<'a>,
-)
-    requires { length branches.old.items + length schedules.now ≤ N }
-    ensures { branches.new.items
-        ≡ branches.old.items ++ map (λ s. part_of s (plain_zone zone.now) part.now) schedules.now }
-{
-    for fields in schedules {
-        branches.push(Branch::of(run_over(*fields, part, zone)));
-    }
+    ghost invariant = { λ r. IsMerge (schedules_of r.merge) (plain_zone r.zone.now) r.next r.merge };
 }
 
 impl<'a, const N: usize> Run<'a, N> {
-    // Those of schedules as they are.
-    fn over_each(schedules: &[ScheduleFields], part: &Part, zone: &'a TimeZone<'a>) -> Run<'a, N>
-        requires { length schedules.now ≤ N }
-        ensures { result ≡ part_of_any schedules.now (plain_zone zone.now) part.now }
+    // The fires from one on, if there is one, up to and with an instant if there is a last one.
+    fn from(
+        schedules: &[ScheduleFields],
+        next: Option<Moment>,
+        until: Option<i64>,
+        zone: &'a TimeZone<'a>,
+    ) -> Run<'a, N>
+        requires few { length schedules.now ≤ N }
+        requires item { IfSome next (λ r. IsRead (plain_zone zone.now) r) }
+        ensures { result ≡ left_with schedules.now (plain_zone zone.now) next until }
     {
-        let mut branches = ArrayVec::new();
-        add_branches(&mut branches, schedules, part, zone);
-        let least = least_key(branches.as_slice());
-        Run { branches, least }
-    }
-
-    // Those of schedules, of which it searches those that it needs.
-    fn over(schedules: &[ScheduleFields], part: &Part, zone: &'a TimeZone<'a>) -> Run<'a, N>
-        requires { length schedules.now ≤ N }
-        ensures { result ≡ part_of_any schedules.now (plain_zone zone.now) part.now }
-    {
-        let searched = Searched::of(schedules);
-        Run::over_each(searched.as_slice(), part, zone)
+        Run {
+            merge: Merge::from(schedules, zone, &next),
+            zone,
+            next,
+            until,
+        }
     }
 
     /// The fires whose instant comes after `start`.
@@ -103,7 +68,9 @@ impl<'a, const N: usize> Run<'a, N> {
         requires { length schedules.now ≤ N }
         ensures { result ≡ fires_any_after schedules.now (plain_zone zone.now) start.nanosecond }
     {
-        Run::over(schedules, &Part::After(start), zone)
+        let searched = Searched::of(schedules);
+        let few = searched.as_slice();
+        Run::from(few, first_after(few, start, zone), None, zone)
     }
 
     /// The fires that are later than this one, which may be none of the schedules.
@@ -111,7 +78,9 @@ impl<'a, const N: usize> Run<'a, N> {
         requires { length schedules.now ≤ N }
         ensures { result ≡ fires_any_past schedules.now (plain_zone zone.now) fire.now }
     {
-        Run::over(schedules, &Part::Past(*fire), zone)
+        let searched = Searched::of(schedules);
+        let few = searched.as_slice();
+        Run::from(few, first_past(few, fire, zone), None, zone)
     }
 
     /// The fires whose instant comes after `last` and not after `now`.
@@ -125,7 +94,10 @@ impl<'a, const N: usize> Run<'a, N> {
         ensures { result
             ≡ fires_any_between schedules.now (plain_zone zone.now) last.nanosecond now.nanosecond }
     {
-        Run::over(schedules, &Part::Between(last, now), zone)
+        let until = Some(now.to_plain().floor_second());
+        let searched = Searched::of(schedules);
+        let few = searched.as_slice();
+        Run::from(few, first_after(few, last, zone), until, zone)
     }
 
     /// The fires that are later than this one, which may be none of the schedules, and whose
@@ -140,7 +112,10 @@ impl<'a, const N: usize> Run<'a, N> {
         ensures { result
             ≡ fires_any_past_by schedules.now (plain_zone zone.now) fire.now now.nanosecond }
     {
-        Run::over(schedules, &Part::PastBy(*fire, now), zone)
+        let until = Some(now.to_plain().floor_second());
+        let searched = Searched::of(schedules);
+        let few = searched.as_slice();
+        Run::from(few, first_past(few, fire, zone), until, zone)
     }
 
     // Takes the earliest fire that is left.
@@ -148,12 +123,15 @@ impl<'a, const N: usize> Run<'a, N> {
     fn take_first(&mut self) -> Option<Moment>
         ensures { YieldsFirst (λ rest. rest) self.old result self.new }
     {
-        if self.least == NONE_LEFT {
+        let next = self.next;
+        let Some(fire) = next else {
+            return None;
+        };
+        if !is_within(self.until, instant_of(&fire)) {
             return None;
         }
-        let (fire, least) = take_heads(self.branches.as_mut_slice(), self.least);
-        self.least = least;
-        fire
+        self.next = self.merge.next_past(self.zone, &fire);
+        Some(fire)
     }
 }
 

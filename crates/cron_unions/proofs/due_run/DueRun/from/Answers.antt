@@ -1,4 +1,4 @@
-use Rattle.std.proofs.Common.{rules, refl, FitsSigned, w64, to_z-of_z}
+use Rattle.std.proofs.Common.{rules, ◌∙◌, refl, arith, FitsSigned, w64, to_z-of_z}
 use Rattle.jiff.specs.Words.{plain_zone}
 use Rattle.cron_dues.specs.Due.{zone_clock}
 use Rattle.cron_dues.proofs.AheadLemmas.{due_before_none}
@@ -12,7 +12,7 @@ nearest_head-next-requires c = rw (c.as_slice-3.ensures, c.as_slice-2.ensures.va
 pub invariant_of-result : goal.invariant_of-result
 invariant_of-result c = (
   rw c.as_slice.ensures at c.heads_of-heads.ensures.heads,
-  rw c.as_slice.ensures at c.heads_of-heads.ensures.both,
+  λ two. (rw c.as_slice.ensures at c.heads_of-heads.ensures.all) (omega arith) ∙ two,
   rw c.as_slice-3.ensures at c.nearest_head-next.ensures,
   due_before_none (zone_clock c.args.zone.now) _ c.nothing.result c.nothing.ensures,
 )

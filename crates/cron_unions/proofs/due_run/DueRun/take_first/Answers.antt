@@ -7,11 +7,10 @@ use Rattle.cron_instants.specs.Inner.Left.{is_within}
 use Rattle.cron_dues.proofs.AheadLemmas.{nearest_is}
 use Rattle.cron_dues.proofs.RunLemmas.{left-none, left-first, left-late}
 use Rattle.cron_unions.specs.Unions.{seconds_of_any}
-use Rattle.cron_unions.specs.Inner.DueHeads.{match_of}
+use Rattle.cron_unions.specs.Inner.Heads.{match_of}
 use Rattle.cron_unions.specs.Inner.Nearest.{is_match_any}
 use Rattle.cron_unions.specs.Inner.Searched.{list_of}
-use Rattle.cron_unions.proofs.DueHeadLemmas.{heads-up, match-some, nearest-up}
-use Rattle.cron_unions.proofs.PartLemmas.{refill_whole}
+use Rattle.cron_unions.proofs.HeadLemmas.{heads-up, match-some, nearest-up, refill_whole}
 use Rattle.cron_unions.proofs.UnionLemmas.{any-matches}
 use Rattle.cron_unions.proofs.due_run.DueRun.take_first.Goals as goal
 

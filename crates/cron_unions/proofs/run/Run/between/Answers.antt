@@ -1,0 +1,19 @@
+use Rattle.std.proofs.Common.{rules, sym, ◌∙◌, arith, FitsSigned, w64, to_z-of_z}
+use Rattle.jiff.specs.Words.{plain_zone}
+use Rattle.cron_instants.specs.Instants.{IsAfter}
+use Rattle.cron_unions.proofs.MergeLemmas.{begins_between, read_first}
+use Rattle.cron_unions.proofs.run.Run.between.Goals as goal
+
+pub from-requires : goal.from-requires
+from-requires g c =
+    let fewer = rw (sym c.as_slice-few.ensures) at c.of-searched.ensures.fewer in
+    let room = c.requires in
+    (search rules, (omega arith, read_first c.as_slice-few.result.now (plain_zone c.args.zone.now) (IsAfter c.args.last.nanosecond) c.first_after.result c.first_after.ensures))
+
+pub returns : goal.returns
+returns g c =
+    let fits : FitsSigned w64 c.floor_second.result = search rules in
+    let same = rw (sym c.as_slice-few.ensures) at c.of-searched.ensures.same in
+    (rw (to_z-of_z fits) at c.from.ensures)
+    ∙ begins_between c.as_slice-few.result.now c.args.schedules.now (plain_zone c.args.zone.now) c.first_after.result same c.args.last.nanosecond c.first_after.ensures
+    c.args.now.nanosecond c.floor_second.result (rw c.to_plain.ensures at c.floor_second.ensures)
