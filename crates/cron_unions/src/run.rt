@@ -10,7 +10,7 @@ use crate::instants::{first_after, first_past};
 use crate::merge::Merge;
 use crate::searched::Searched;
 use cron_instants::run::is_within;
-use cron_moments::moment::{Moment, instant_of};
+use cron_moments::moment::{Moment, civil_second, instant_of, moment_numbered};
 use cron_units::fields::ScheduleFields;
 use jiff::Timestamp;
 use jiff::tz::TimeZone;
@@ -123,10 +123,11 @@ impl<'a, const N: usize> Run<'a, N> {
     fn take_first(&mut self) -> Option<Moment>
         ensures { YieldsFirst (λ rest. rest) self.old result self.new }
     {
-        let next = self.next;
-        let Some(fire) = next else {
+        let Some(next) = &self.next else {
             return None;
         };
+        // It was written in parts, and a read of the whole would wait for these.
+        let fire = moment_numbered(civil_second(next), next.offset());
         if !is_within(self.until, instant_of(&fire)) {
             return None;
         }
