@@ -27,7 +27,7 @@ use Rattle.cron_unions.proofs.UnionLemmas.{match-of_any}
 pub match-some : (n : ℕ) → n < 4_294_967_295 → match_of n ≡ Some n
 match-some n less = grind (arith, nat_tests)
 
-match-none : (n : ℕ) → 4_294_967_295 ≤ n → match_of n ≡ None
+pub match-none : (n : ℕ) → 4_294_967_295 ≤ n → match_of n ≡ None
 match-none n le = grind (arith, nat_tests)
 
 match-own : (n k : ℕ) → match_of n ≡ Some k → n ≡ k

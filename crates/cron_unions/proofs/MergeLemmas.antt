@@ -1,5 +1,5 @@
 -- The next fire past one: where the clock and the instants have one order it is the next match; and what a run has left by it.
-use Rattle.std.proofs.Common.{◌≡◌, ℕ, ◌<◌, ℤ, pos, ◌+ℤ◌, ◌*ℤ◌, ◌-ℤ◌, Bool, true, false, List, [], ◌∷◌, Option, Some, None, inl, inr, refl, sym, ap, ◌∙◌, subst, arith}
+use Rattle.std.proofs.Common.{◌≡◌, ℕ, ◌<◌, ℤ, pos, ◌+ℤ◌, ◌*ℤ◌, Bool, true, false, List, [], ◌∷◌, Option, Some, None, inl, inr, refl, sym, ap, ◌∙◌, subst, arith}
 use Rattle.std.specs.Prelude.{MatchOption, IfSome, filter, slice_get}
 use Rattle.std.proofs.lemmas.Bool.{cases_lt}
 use Rattle.std.specs.Int.{int_div_euclid}
@@ -21,18 +21,19 @@ use Rattle.cron_instants.specs.Inner.OffsetRange.{IsRead}
 use Rattle.cron_instants.specs.declared.monotone.Monotone.{Monotone}
 use Rattle.cron_instants.proofs.AscentLemmas.{KeepsOn, among-earliest_first, earliest_first-among, first-left}
 use Rattle.cron_instants.proofs.BestLemmas.{best_of_more}
-use Rattle.cron_instants.proofs.FireLemmas.{after-keeps_on, int_lt-true, past-keeps_on}
+use Rattle.cron_instants.proofs.FireLemmas.{int_lt-true, past-keeps_on}
 use Rattle.cron_instants.proofs.MonotoneLemmas.{IsReadBeyond, nearest_read, still_monotone}
 use Rattle.cron_instants.proofs.OrderedLemmas.{only_reading}
 use Rattle.cron_instants.proofs.RunLemmas.{first_until, late_until, nothing_until, until-is_by}
 use Rattle.cron_unions.specs.FirstOfAny.{IsFirstAfterAny, IsFirstPastAny, IsItemOfAny}
-use Rattle.cron_unions.specs.Unions.{fires_any, fires_any_after, fires_any_between, fires_any_past, fires_any_past_by, seconds_of_any, timeline_any}
+use Rattle.cron_unions.specs.Unions.{fires_any, fires_any_past, seconds_of_any, timeline_any}
 use Rattle.cron_unions.specs.Inner.Heads.{AreHeads, match_of}
 use Rattle.cron_unions.specs.Inner.Nearest.{is_match_any}
-use Rattle.cron_unions.specs.Inner.Merges.{AreHeadsOf, AreNextHeads, IsKnownFire, left_with}
+use Rattle.cron_unions.specs.Inner.Merges.{AreFrom, IsKnownFrom, left_with, read_at}
 use Rattle.cron_unions.specs.declared.heads.Head.{Head}
+use Rattle.cron_unions.specs.declared.merge.Merge.{Merge}
 use Rattle.cron_unions.proofs.CoverLemmas.{fires_same}
-use Rattle.cron_unions.proofs.HeadLemmas.{heads-up, match-some}
+use Rattle.cron_unions.proofs.HeadLemmas.{heads-up, match-none, match-some}
 use Rattle.cron_unions.proofs.NearestLemmas.{nearest-range}
 use Rattle.cron_unions.proofs.UnionLemmas.{any_read, fires_any-ascend, item_read}
 
@@ -48,7 +49,7 @@ first-of_any ss z p (Some r) on found =
     first-left p (fires_any ss z) (Some r) on (fires_any-ascend ss z)
     ((earliest_first-among (timeline_any ss z) r found.0.0, found.0.1), λ q m. found.1 q (among-earliest_first (timeline_any ss z) q m.0, m.1))
 
-after_of : (ss : List Sets) (z : TimeZone) (t : ℤ) (answer : Option Reading) → IsFirstAfterAny ss z t answer
+pub after_of : (ss : List Sets) (z : TimeZone) (t : ℤ) (answer : Option Reading) → IsFirstAfterAny ss z t answer
     → IsEarliest (λ r. IsItemOfAny ss z r × (is_after t r ≡ true)) answer
 after_of ss z t None none = λ r m. none r (m.0, int_lt-true t (instant r *ℤ pos 1_000_000_000) m.1)
 after_of ss z t (Some r) found = (
@@ -61,35 +62,23 @@ with_next : (ss : List Sets) (z : TimeZone) (answer : Option Reading) (until : O
 with_next ss z None until l e = sym (ap (left_until until) e ∙ nothing_until until)
 with_next ss z (Some r) until l e = sym (ap (left_until until) e)
 
-with_after : (ss : List Sets) (z : TimeZone) (t : ℤ) (answer : Option Reading) (until : Option ℤ) → IsFirstAfterAny ss z t answer
-    → left_with ss z answer until ≡ left_until until (fires_any_after ss z t)
-with_after ss z t answer until first =
-    with_next ss z answer until (fires_any_after ss z t) (first-of_any ss z (is_after t) answer (after-keeps_on t) (after_of ss z t answer first))
-
 with_past : (ss : List Sets) (z : TimeZone) (item : Reading) (answer : Option Reading) (until : Option ℤ) → IsFirstPastAny ss z item answer
     → left_with ss z answer until ≡ left_until until (fires_any_past ss z item)
 with_past ss z item answer until first =
     with_next ss z answer until (fires_any_past ss z item) (first-of_any ss z (is_earlier item) answer (past-keeps_on item) first)
 
 -- a run begins with the first fire of schedules that match what others do
-module _ (few ss : List Sets) (z : TimeZone) (answer : Option Reading) (same : seconds_of_any few ≡ seconds_of_any ss) where
-  module _ (t : ℤ) (first : IsFirstAfterAny few z t answer) where
-    pub begins_after : left_with few z answer None ≡ fires_any_after ss z t
-    begins_after = with_after few z t answer None first ∙ ap (filter (is_after t)) (fires_same few ss z same)
+module _ (few ss : List Sets) (z : TimeZone) (answer : Option Reading) (same : seconds_of_any few ≡ seconds_of_any ss)
+    (p : Reading → Bool) (on : KeepsOn p) (first : IsEarliest (λ r. IsItemOfAny few z r × (p r ≡ true)) answer) where
+  left : (until : Option ℤ) → left_with few z answer until ≡ left_until until (filter p (fires_any ss z))
+  left until = with_next few z answer until (filter p (fires_any few z)) (first-of_any few z p answer on first)
+      ∙ ap (λ l. left_until until (filter p l)) (fires_same few ss z same)
 
-    pub begins_between : (now last : ℤ) → last ≡ int_div_euclid now (pos 1_000_000_000) → left_with few z answer (Some last) ≡ fires_any_between ss z t now
-    begins_between now last e =
-        with_after few z t answer (Some last) first ∙ until-is_by now last (fires_any_after few z t) e
-        ∙ ap (λ l. filter (is_by now) (filter (is_after t) l)) (fires_same few ss z same)
+  pub begins : left_with few z answer None ≡ filter p (fires_any ss z)
+  begins = left None
 
-  module _ (item : Reading) (first : IsFirstPastAny few z item answer) where
-    pub begins_past : left_with few z answer None ≡ fires_any_past ss z item
-    begins_past = with_past few z item answer None first ∙ ap (filter (is_earlier item)) (fires_same few ss z same)
-
-    pub begins_past_by : (now last : ℤ) → last ≡ int_div_euclid now (pos 1_000_000_000) → left_with few z answer (Some last) ≡ fires_any_past_by ss z item now
-    begins_past_by now last e =
-        with_past few z item answer (Some last) first ∙ until-is_by now last (fires_any_past few z item) e
-        ∙ ap (λ l. filter (is_by now) (filter (is_earlier item) l)) (fires_same few ss z same)
+  pub begins_by : (now last : ℤ) → last ≡ int_div_euclid now (pos 1_000_000_000) → left_with few z answer (Some last) ≡ filter (is_by now) (filter p (fires_any ss z))
+  begins_by now last e = left (Some last) ∙ until-is_by now last (filter p (fires_any ss z)) e
 
 -- the next fire is taken
 pub with_first : (ss : List Sets) (z : TimeZone) (r : Reading) (answer : Option Reading) (until : Option ℤ) → is_within until (instant r) ≡ true
@@ -102,19 +91,16 @@ with_late ss z r until late = late_until until r (fires_any ss z) late
 
 -- ---- what is known from a fire on
 
-pub known_unknown : (z : TimeZone) (r : Reading) (m : Monotone) → m.end ≡ 0 → IsKnownFire z r m
-known_unknown z r m e = record { offset = λ less. absurd (omega arith); monotone = λ less. absurd (omega arith) }
-
 -- a reading of a civil second that is read once is that one
-pub known_of : (z : TimeZone) (r : Reading) (m : Monotone) → IsRead z r → IsMonotone z r.second m → IsKnownFire z r m
-known_of z r m read known =
+pub offset_of : (z : TimeZone) (r : Reading) (m : Monotone) → IsRead z r → IsMonotone z r.second m → m.offset ≡ r.offset
+offset_of z r m read known =
     let is = only_reading (reading r.second m.offset) r read.place
     (sym (ap (λ l. slice_get l read.place) known.settled.once) ∙ read.here) in
-    record { offset = λ less. sym (ap (λ (q : Reading). q.offset) is); monotone = λ less. known }
+    sym (ap (λ (q : Reading). q.offset) is)
 
--- what is known of a civil second in order is known from its reading on
-pub known_there : (z : TimeZone) (n : ℕ) (m : Monotone) → IsMonotone z n m → IsKnownFire z (reading n m.offset) m
-known_there z n m on = record { offset = λ less. refl; monotone = λ less. on }
+-- what is known of no fire
+pub known_none : (z : TimeZone) (n : ℕ) (m : Monotone) → m.end ≡ 0 → IsKnownFrom z n m
+known_none z n m e = λ less. absurd (omega arith)
 
 -- the earliest item is a reading of its civil second
 pub read_first : (ss : List Sets) (z : TimeZone) (Q : Reading → Type 0) (answer : Option Reading) → IsEarliest (λ r. IsItemOfAny ss z r × Q r) answer
@@ -122,50 +108,56 @@ pub read_first : (ss : List Sets) (z : TimeZone) (Q : Reading → Type 0) (answe
 read_first ss z Q None none = tt
 read_first ss z Q (Some r) found = (item_read ss z r found.0.0).0
 
-pub next_heads : (ss : List Sets) (z : TimeZone) (answer : Option Reading) (hs : List Head) (from : ℤ)
-    → MatchOption answer (from ≡ pos 0) (λ r. from ≡ pos r.second) → IfSome answer (λ r. IsRead z r) → AreHeads ss from hs → AreNextHeads ss answer hs
-next_heads ss z None hs from e read heads = tt
-next_heads ss z (Some r) hs from e read heads = record { in_range = read.in_range; heads = subst (λ (n : ℤ). AreHeads ss n hs) e heads }
+-- a match that is read has a number
+pub read_some : (o : Offset) (n : ℕ) (r : Reading) → read_at o (match_of n) ≡ Some r → (n < 4_294_967_295) × (reading n o ≡ r)
+read_some o n r e =
+    elim (cases_lt n 4_294_967_295) [
+      | inl less ↦ let own : Some (reading n o) ≡ Some r = sym (ap (read_at o) (match-some n less)) ∙ e in (less, cc)
+      | inr le ↦ let none : None ≡ Some r = sym (ap (read_at o) (match-none n le)) ∙ e in cc
+    ]
+
+-- a merge is at its next fire
+module _ {N : ℕ} (ss : List Sets) (z : TimeZone) (m : Merge N) where
+  pub at_match : m.next < 4_294_967_295 → AreFrom ss z m m.next → IfSome (match_of m.next) (AreFrom ss z m)
+  at_match some from = subst (λ (o : Option ℕ). IfSome o (AreFrom ss z m)) (sym (match-some m.next some)) from
+
+  pub from_match : m.next < 4_294_967_295 → IfSome (match_of m.next) (AreFrom ss z m) → AreFrom ss z m m.next
+  from_match some next = subst (λ (o : Option ℕ). IfSome o (AreFrom ss z m)) (match-some m.next some) next
 
 -- ---- the next match is the next fire
 
 near_at : (ss : List Sets) (from : ℤ) (n : ℕ) → IsNearest Ahead (is_match_any ss) from (match_of n) → n < 4_294_967_295 → IsNearestAt Ahead (is_match_any ss) from n
 near_at ss from n near some = subst (λ (o : Option ℕ). IsNearest Ahead (is_match_any ss) from o) (match-some n some) near
 
-module _ (ss : List Sets) (z : TimeZone) (r : Reading) (old : Monotone) (n : ℕ) (in_range : r.second < seconds_in_range) (known : IsKnownFire z r old)
-    (near : IsNearest Ahead (is_match_any ss) (pos r.second +ℤ pos 1) (match_of n)) (some : n < 4_294_967_295) where
-  at : IsNearestAt Ahead (is_match_any ss) (pos r.second +ℤ pos 1) n
-  at = near_at ss (pos r.second +ℤ pos 1) n near some
+module _ (ss : List Sets) (z : TimeZone) (c : ℕ) (old : Monotone) (n : ℕ) (in_range : c < seconds_in_range) (known : IsKnownFrom z c old)
+    (near : IsNearest Ahead (is_match_any ss) (pos c +ℤ pos 1) (match_of n)) (some : n < 4_294_967_295) where
+  at : IsNearestAt Ahead (is_match_any ss) (pos c +ℤ pos 1) n
+  at = near_at ss (pos c +ℤ pos 1) n near some
 
-  range : n < seconds_in_range
-  range = nearest-range Ahead (pos r.second +ℤ pos 1) ss (Some n) at
+  pub range : n < seconds_in_range
+  range = nearest-range Ahead (pos c +ℤ pos 1) ss (Some n) at
 
   -- if both are in order
-  pub next_there : (there : Monotone) → r.second < old.end → IsMonotone z n there → n < there.end → IsFirstPastAny ss z r (Some (reading n there.offset))
+  pub next_there : (there : Monotone) → c < old.end → IsMonotone z n there → n < there.end
+      → IsFirstPastAny ss z (reading c old.offset) (read_at there.offset (match_of n))
   next_there there before on less =
-      let here = known.monotone before in
-      let same = known.offset before in
-      best_of_more Ahead (IsReadBeyond (is_match_any ss) z (instant r) r.second) (λ q. IsItemOfAny ss z q × (is_earlier r q ≡ true)) (Some (reading n there.offset))
-      (nearest_read (is_match_any ss) z (instant r) r.second r.second old.offset (ap (λ (o : Offset). pos r.second -ℤ o.seconds) (sym same)) (omega arith)
-      here.settled n there.offset at (on.on n (omega arith) less) in_range range)
+      let fire = reading c old.offset in
+      let here = known before in
+      subst (λ o. IsFirstPastAny ss z fire (read_at there.offset o)) (sym (match-some n some))
+      (best_of_more Ahead (IsReadBeyond (is_match_any ss) z (instant fire) c) (λ q. IsItemOfAny ss z q × (is_earlier fire q ≡ true)) (Some (reading n there.offset))
+      (nearest_read (is_match_any ss) z (instant fire) c c old.offset refl (omega arith) here.settled n there.offset at (on.on n (omega arith) less) in_range range)
       (λ q h. (any_read ss z q h.0 h.1, h.2))
-      (λ q h. let both = item_read ss z q h.0 in inl (both.0, both.1, h.1))
+      (λ q h. let both = item_read ss z q h.0 in inl (both.0, both.1, h.1)))
 
-  before_end : n < old.end → r.second < old.end
+  before_end : n < old.end → c < old.end
   before_end less = let lies = at.lies in omega (arith, signed_arith)
 
-  still_on : n < old.end → IsMonotone z n old
-  still_on less = let lies = at.lies in still_monotone z r.second n old (known.monotone (before_end less)) (omega (arith, signed_arith)) less
+  pub still_on : n < old.end → IsMonotone z n old
+  still_on less = let lies = at.lies in still_monotone z c n old (known (before_end less)) (omega (arith, signed_arith)) less
 
   -- so where the match comes before the end of what is known
-  pub next_before : n < old.end → IsFirstPastAny ss z r (Some (reading n old.offset))
+  pub next_before : n < old.end → IsFirstPastAny ss z (reading c old.offset) (read_at old.offset (match_of n))
   next_before less = next_there old (before_end less) (still_on less) less
 
-  pub known_before : n < old.end → IsKnownFire z (reading n old.offset) old
-  known_before less = known_there z n old (still_on less)
-
-  pub heads_on : (o : Offset) (hs : List Head) → AreHeads ss (pos r.second +ℤ pos 1) hs → AreHeadsOf ss (reading n o) hs
-  heads_on o hs heads = record { in_range = range; heads = heads-up ss (pos r.second +ℤ pos 1) hs n at heads }
-
-pub some_match : (n : ℕ) → n < 4_294_967_296 → (n ≡ 4_294_967_295 → ⊥) → n < 4_294_967_295
-some_match n fits other = elim (cases_lt n 4_294_967_295) [ inl less ↦ less | inr high ↦ absurd (other (omega arith)) ]
+  pub heads_on : (hs : List Head) → AreHeads ss (pos c +ℤ pos 1) hs → AreHeads ss (pos n) hs
+  heads_on hs heads = heads-up ss (pos c +ℤ pos 1) hs n at heads

@@ -1,14 +1,12 @@
 //! Schedules that a run merges.
-ghost use Rattle.std.specs.Prelude.{◌≡◌, ◌≤◌, ◌<◌, pos, ◌+ℤ◌, IfSome, MatchOption, Some, length, take};
+ghost use Rattle.std.specs.Prelude.{◌≡◌, ◌≤◌, ◌<◌, IfSome, MatchOption, None, Some, length, take};
 ghost use Rattle.jiff.specs.Words.{plain_zone};
 ghost use Rattle.cron_moments.specs.Civil.{seconds_in_range};
+ghost use Rattle.cron_moments.specs.Readings.{reading};
 ghost use Rattle.cron_instants.specs.Inner.OffsetRange.{IsRead};
-ghost use Rattle.cron_units.specs.Nearest.{IsNearest};
-ghost use Rattle.cron_units.specs.declared.way.Way.TheVariants.{Ahead};
 ghost use Rattle.cron_unions.specs.FirstOfAny.{IsFirstPastAny};
-ghost use Rattle.cron_unions.specs.Inner.Heads.{AreHeads, match_of};
-ghost use Rattle.cron_unions.specs.Inner.Merges.{IsKnownFire, IsKnownNext, IsMerge, IsPassed, schedules_of};
-ghost use Rattle.cron_unions.specs.Inner.Nearest.{is_match_any};
+ghost use Rattle.cron_unions.specs.Inner.Heads.{match_of};
+ghost use Rattle.cron_unions.specs.Inner.Merges.{IsKnownFrom, IsMerge, IsPassed, next_of, schedules_of};
 
 use crate::heads::{Head, NO_MATCH, heads_of, pass_heads};
 use crate::instants::first_past;
@@ -20,13 +18,15 @@ use cron_units::time_unit::whole;
 use jiff::tz::{Offset, TimeZone};
 
 /// At most N schedules, the nearest match of each from the next fire on, and up to which civil
-/// second the clock and the instants are known to have one order.
+/// second the clock and the instants are known to have one order. The next fire is a number and
+/// the offset of what is known: an `Option` of a fire would be read before it is written whole.
 #[derive(Drop)]
 pub(crate) struct Merge<const N: usize> {
     // The first of these, as many as there are heads.
     schedules: [ScheduleFields; N],
     heads: ArrayVec<Head, N>,
     monotone: Monotone,
+    next: u32,
 }
 
 // A schedule for the places behind those of a run.
@@ -52,20 +52,24 @@ fn array_of<const N: usize>(schedules: &[ScheduleFields]) -> [ScheduleFields; N]
     all
 }
 
-// The civil second of a fire, if there is one.
-fn second_of(fire: &Option<Moment>) -> i64
-    ensures { MatchOption fire.now (result ≡ pos 0) (λ r. result ≡ pos r.second) }
+// The civil second of a fire, or `NO_MATCH`.
+fn second_of(fire: &Option<Moment>) -> u32
+    requires { IfSome fire.now (λ r. r.second < seconds_in_range) }
+    ensures { MatchOption fire.now
+        (match_of result ≡ None)
+        (λ r. (result ≡ r.second) × (match_of result ≡ Some r.second)) }
 {
     match fire {
-        Some(moment) => i64::from(civil_second(moment)),
-        None => 0,
+        Some(moment) => civil_second(moment),
+        None => NO_MATCH,
     }
 }
 
 // What is known from a fire on, if there is one.
 fn known_from(zone: &TimeZone<'_>, fire: &Option<Moment>) -> Monotone
     requires { IfSome fire.now (λ r. IsRead (plain_zone zone.now) r) }
-    ensures { IsKnownNext (plain_zone zone.now) fire.now result }
+    ensures { IfSome fire.now
+        (λ r. (result.offset ≡ r.offset) × IsKnownFrom (plain_zone zone.now) r.second result) }
 {
     let Some(moment) = fire else {
         return unknown(Offset::UTC);
@@ -78,7 +82,7 @@ fn known_from(zone: &TimeZone<'_>, fire: &Option<Moment>) -> Monotone
 
 // Nothing is known of civil seconds in order.
 fn unknown(offset: Offset) -> Monotone
-    ensures { result.end ≡ 0 }
+    ensures { result ≡ record { offset = offset; end = 0 } }
 {
     Monotone { offset, end: 0 }
 }
@@ -92,54 +96,70 @@ impl<const N: usize> Merge<N> {
     ) -> Merge<N>
         requires few { length schedules.now ≤ N }
         requires item { IfSome next.now (λ r. IsRead (plain_zone zone.now) r) }
-        ensures { IsMerge schedules.now (plain_zone zone.now) next.now result }
+        ensures next { next_of result ≡ next.now }
+        ensures merge { IsMerge schedules.now (plain_zone zone.now) result }
     {
+        let second = second_of(next);
         Merge {
             schedules: array_of(schedules),
-            heads: heads_of(schedules, second_of(next)),
+            heads: heads_of(schedules, i64::from(second)),
             monotone: known_from(zone, next),
+            next: second,
         }
     }
 
-    // The next fire past one, by a search that asks the zone. The nearest match past the fire is
-    // known.
-    #[inline(never)]
-    fn search_past(&mut self, zone: &TimeZone<'_>, fire: &Moment, second: u32) -> Option<Moment>
-        requires passed { IsPassed (plain_zone zone.now) fire.now self.old }
-        requires nearest { IsNearest Ahead
-            (is_match_any (schedules_of self.old))
-            (pos fire.now.second +ℤ pos 1)
-            (match_of second) }
-        ensures first { IsFirstPastAny (schedules_of self.old) (plain_zone zone.now) fire.now result }
-        ensures merge { IsMerge (schedules_of self.old) (plain_zone zone.now) result self.new }
+    /// The next fire, if there is one.
+    #[inline(always)]
+    pub(crate) fn next(&self) -> Option<Moment>
+        ensures { result ≡ next_of self.now }
     {
-        if civil_second(fire) < self.monotone.end && second != NO_MATCH {
-            if let Some(there) = monotone_past(zone, second) {
-                let next = moment_numbered(second, there.offset);
+        if self.next == NO_MATCH {
+            return None;
+        }
+        Some(moment_numbered(self.next, self.monotone.offset))
+    }
+
+    // Goes on to the next fire past the one at this civil second, which the heads have passed, by
+    // what the zone tells.
+    #[inline(never)]
+    fn search_past(&mut self, zone: &TimeZone<'_>, second: u32)
+        requires { IsPassed (plain_zone zone.now) second self.old }
+        ensures first { IsFirstPastAny (schedules_of self.old)
+            (plain_zone zone.now)
+            (reading second self.old.monotone.offset)
+            (next_of self.new) }
+        ensures merge { IsMerge (schedules_of self.old) (plain_zone zone.now) self.new }
+    {
+        if second < self.monotone.end && self.next < NO_MATCH {
+            if let Some(there) = monotone_past(zone, self.next) {
                 self.monotone = there;
-                return Some(next);
+                return;
             }
         }
-        let schedules = &self.schedules[..self.heads.len()];
-        let next = first_past(schedules, fire, zone);
-        self.heads = heads_of(schedules, second_of(&next));
-        self.monotone = known_from(zone, &next);
-        next
+        let all = self.schedules;
+        let schedules = &all[..self.heads.len()];
+        let fire = moment_numbered(second, self.monotone.offset);
+        let next = first_past(schedules, &fire, zone);
+        *self = Merge::from(schedules, zone, &next);
     }
 
-    /// The next fire past the one that was next. Up to where the clock and the instants have one
-    /// order it is at the next match.
+    /// Goes on to the next fire past the one that is next. Up to where the clock and the instants
+    /// have one order it is at the next match.
     #[inline(always)]
-    pub(crate) fn next_past(&mut self, zone: &TimeZone<'_>, fire: &Moment) -> Option<Moment>
-        requires { IsMerge (schedules_of self.old) (plain_zone zone.now) (Some fire.now) self.old }
-        ensures first { IsFirstPastAny (schedules_of self.old) (plain_zone zone.now) fire.now result }
-        ensures merge { IsMerge (schedules_of self.old) (plain_zone zone.now) result self.new }
+    pub(crate) fn pass(&mut self, zone: &TimeZone<'_>)
+        requires merge { IsMerge (schedules_of self.old) (plain_zone zone.now) self.old }
+        requires some { self.old.next < 4_294_967_295 }
+        ensures first { IsFirstPastAny (schedules_of self.old)
+            (plain_zone zone.now)
+            (reading self.old.next self.old.monotone.offset)
+            (next_of self.new) }
+        ensures merge { IsMerge (schedules_of self.old) (plain_zone zone.now) self.new }
     {
+        let second = self.next;
         let schedules = &self.schedules[..self.heads.len()];
-        let second = pass_heads(self.heads.as_mut_slice(), schedules, civil_second(fire));
-        if second < self.monotone.end {
-            return Some(moment_numbered(second, self.monotone.offset));
+        self.next = pass_heads(self.heads.as_mut_slice(), schedules, second);
+        if self.next >= self.monotone.end {
+            self.search_past(zone, second);
         }
-        self.search_past(zone, fire, second)
     }
 }

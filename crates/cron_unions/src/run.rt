@@ -10,7 +10,7 @@ use crate::instants::{first_after, first_past};
 use crate::merge::Merge;
 use crate::searched::Searched;
 use cron_instants::run::is_within;
-use cron_moments::moment::{Moment, civil_second, instant_of, moment_numbered};
+use cron_moments::moment::{Moment, instant_of};
 use cron_units::fields::ScheduleFields;
 use jiff::Timestamp;
 use jiff::tz::TimeZone;
@@ -22,7 +22,6 @@ use std::marker::Model;
 pub struct Run<'a, const N: usize> {
     merge: Merge<N>,
     zone: &'a TimeZone<'a>,
-    next: Option<Moment>,
     until: Option<i64>,
 }
 
@@ -30,13 +29,13 @@ impl<'a, const N: usize> Model for Run<'a, N> {
     ghost use Rattle.std.specs.Prelude.{List};
     ghost use Rattle.jiff.specs.Words.{plain_zone};
     ghost use Rattle.cron_moments.specs.Readings.{Reading};
-    ghost use Rattle.cron_unions.specs.Inner.Merges.{IsMerge, left_with, schedules_of};
+    ghost use Rattle.cron_unions.specs.Inner.Merges.{IsMerge, left_with, next_of, schedules_of};
 
     ghost Value = { List Reading };
 
-    ghost view = { λ r. left_with (schedules_of r.merge) (plain_zone r.zone.now) r.next r.until };
+    ghost view = { λ r. left_with (schedules_of r.merge) (plain_zone r.zone.now) (next_of r.merge) r.until };
 
-    ghost invariant = { λ r. IsMerge (schedules_of r.merge) (plain_zone r.zone.now) r.next r.merge };
+    ghost invariant = { λ r. IsMerge (schedules_of r.merge) (plain_zone r.zone.now) r.merge };
 }
 
 impl<'a, const N: usize> Run<'a, N> {
@@ -54,7 +53,6 @@ impl<'a, const N: usize> Run<'a, N> {
         Run {
             merge: Merge::from(schedules, zone, &next),
             zone,
-            next,
             until,
         }
     }
@@ -123,15 +121,11 @@ impl<'a, const N: usize> Run<'a, N> {
     fn take_first(&mut self) -> Option<Moment>
         ensures { YieldsFirst (λ rest. rest) self.old result self.new }
     {
-        let Some(next) = &self.next else {
-            return None;
-        };
-        // It was written in parts, and a read of the whole would wait for these.
-        let fire = moment_numbered(civil_second(next), next.offset());
+        let fire = self.merge.next()?;
         if !is_within(self.until, instant_of(&fire)) {
             return None;
         }
-        self.next = self.merge.next_past(self.zone, &fire);
+        self.merge.pass(self.zone);
         Some(fire)
     }
 }

@@ -1,7 +1,9 @@
 use Rattle.std.proofs.Common.{rules, sym, ◌∙◌, arith, FitsSigned, w64, to_z-of_z}
 use Rattle.jiff.specs.Words.{plain_zone}
+use Rattle.cron_instants.specs.Fires.{is_after}
 use Rattle.cron_instants.specs.Instants.{IsAfter}
-use Rattle.cron_unions.proofs.MergeLemmas.{begins_between, read_first}
+use Rattle.cron_instants.proofs.FireLemmas.{after-keeps_on}
+use Rattle.cron_unions.proofs.MergeLemmas.{after_of, begins_by, read_first}
 use Rattle.cron_unions.proofs.run.Run.between.Goals as goal
 
 pub from-requires : goal.from-requires
@@ -15,5 +17,6 @@ returns g c =
     let fits : FitsSigned w64 c.floor_second.result = search rules in
     let same = rw (sym c.as_slice-few.ensures) at c.of-searched.ensures.same in
     (rw (to_z-of_z fits) at c.from.ensures)
-    ∙ begins_between c.as_slice-few.result.now c.args.schedules.now (plain_zone c.args.zone.now) c.first_after.result same c.args.last.nanosecond c.first_after.ensures
+    ∙ begins_by c.as_slice-few.result.now c.args.schedules.now (plain_zone c.args.zone.now) c.first_after.result same
+    (is_after c.args.last.nanosecond) (after-keeps_on c.args.last.nanosecond) (after_of c.as_slice-few.result.now (plain_zone c.args.zone.now) c.args.last.nanosecond c.first_after.result c.first_after.ensures)
     c.args.now.nanosecond c.floor_second.result (rw c.to_plain.ensures at c.floor_second.ensures)

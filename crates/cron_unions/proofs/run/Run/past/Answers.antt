@@ -1,7 +1,8 @@
 use Rattle.std.proofs.Common.{rules, ◌≡◌, true, sym, ◌∙◌, arith}
 use Rattle.jiff.specs.Words.{plain_zone}
 use Rattle.cron_instants.specs.Order.{is_earlier}
-use Rattle.cron_unions.proofs.MergeLemmas.{begins_past, read_first}
+use Rattle.cron_instants.proofs.FireLemmas.{past-keeps_on}
+use Rattle.cron_unions.proofs.MergeLemmas.{begins, read_first}
 use Rattle.cron_unions.proofs.run.Run.past.Goals as goal
 
 pub from-requires : goal.from-requires
@@ -14,4 +15,5 @@ pub returns : goal.returns
 returns g c =
     let same = rw (sym c.as_slice-few.ensures) at c.of-searched.ensures.same in
     c.from.ensures
-    ∙ begins_past c.as_slice-few.result.now c.args.schedules.now (plain_zone c.args.zone.now) c.first_past.result same c.args.fire.now c.first_past.ensures
+    ∙ begins c.as_slice-few.result.now c.args.schedules.now (plain_zone c.args.zone.now) c.first_past.result same
+    (is_earlier c.args.fire.now) (past-keeps_on c.args.fire.now) c.first_past.ensures

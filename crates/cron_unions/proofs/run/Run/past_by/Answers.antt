@@ -1,7 +1,8 @@
 use Rattle.std.proofs.Common.{rules, ◌≡◌, true, sym, ◌∙◌, arith, FitsSigned, w64, to_z-of_z}
 use Rattle.jiff.specs.Words.{plain_zone}
 use Rattle.cron_instants.specs.Order.{is_earlier}
-use Rattle.cron_unions.proofs.MergeLemmas.{begins_past_by, read_first}
+use Rattle.cron_instants.proofs.FireLemmas.{past-keeps_on}
+use Rattle.cron_unions.proofs.MergeLemmas.{begins_by, read_first}
 use Rattle.cron_unions.proofs.run.Run.past_by.Goals as goal
 
 pub from-requires : goal.from-requires
@@ -15,5 +16,6 @@ returns g c =
     let fits : FitsSigned w64 c.floor_second.result = search rules in
     let same = rw (sym c.as_slice-few.ensures) at c.of-searched.ensures.same in
     (rw (to_z-of_z fits) at c.from.ensures)
-    ∙ begins_past_by c.as_slice-few.result.now c.args.schedules.now (plain_zone c.args.zone.now) c.first_past.result same c.args.fire.now c.first_past.ensures
+    ∙ begins_by c.as_slice-few.result.now c.args.schedules.now (plain_zone c.args.zone.now) c.first_past.result same
+    (is_earlier c.args.fire.now) (past-keeps_on c.args.fire.now) c.first_past.ensures
     c.args.now.nanosecond c.floor_second.result (rw c.to_plain.ensures at c.floor_second.ensures)
