@@ -21,9 +21,12 @@ class Order(unittest.TestCase):
         agenda, start = Agenda(), datetime(2022, 11, 5, 12, tzinfo=CHICAGO)
         backup = agenda.add(Schedule("0 30 1 * * *"), start, clock_changes="once")
         report = agenda.add(Schedule.crontab("30 1 * * *"), start)
-        told = [(it.id, it.moment.isoformat()) for it in taken(agenda, start + timedelta(days=1))]
+        fires = taken(agenda, start + timedelta(days=1))
+        self.assertEqual([(it.due.nominal, it.due.nominal.fold) for it in fires], [(datetime(2022, 11, 6, 1, 30), 0)] * 3)
+        with self.assertRaises(AttributeError):
+            fires[0].id = report
         self.assertEqual(
-            told,
+            [(it.id, it.moment.isoformat()) for it in fires],
             [
                 (backup, "2022-11-06T01:30:00-05:00"),
                 (report, "2022-11-06T01:30:00-05:00"),
@@ -101,7 +104,7 @@ class Entries(unittest.TestCase):
         for entry in entries[:4]:
             self.assertTrue(agenda.remove(entry))
         self.assertFalse(agenda.remove(entries[0]))
-        self.assertEqual((len(agenda), entries[0] in agenda, agenda.get(entries[0])), (1, False, None))
+        self.assertEqual((len(agenda), entries[0] in agenda, entries[4] in agenda, agenda.get(entries[0])), (1, False, True, None))
         self.assertEqual(agenda.get(entries[4]), Schedule("0 0 * * * *"))
         self.assertNotIn(agenda.add(Schedule("0 0 * * * *"), start), entries)
         self.assertEqual([agenda.next().id for _ in range(2)], [entries[4], 5])

@@ -95,7 +95,8 @@ class Answers(unittest.TestCase):
     def test_lines(self):
         schedule = Schedule.crontab_line("  30 9\t* * mon-fri  /bin/backup --all%its input")
         self.assertEqual((schedule, schedule.text), (Schedule.crontab("30 9 * * mon-fri"), "30 9 * * mon-fri"))
-        self.assertEqual(Schedule.crontab_line("@daily root backup", system=True), Schedule.crontab("@daily"))
+        nickname = Schedule.crontab_line("@daily root backup", system=True)
+        self.assertEqual((nickname, nickname.text), (Schedule.crontab("@daily"), "@daily"))
         for line in ("", " \t", "# 30 9 * * * backup", "MAILTO=a@b.example", "CRON_TZ=UTC"):
             self.assertIsNone(Schedule.crontab_line(line))
         with self.assertRaisesRegex(TextError, "^no command stands behind the fields$"):

@@ -47,6 +47,13 @@ class Once(unittest.TestCase):
         self.assertEqual(len(schedule.between(*day)), 2)
         self.assertFalse(schedule.matches(chicago(2022, 11, 6, 1, 30, fold=1), clock_changes="once"))
 
+    def test_a_fire_at_a_datetime_is_not_before_it(self):
+        schedule, fire = Schedule("0 30 1 * * *"), chicago(2022, 11, 6, 1, 30)
+        days = ["2022-11-05T01:30:00-05:00", "2022-11-06T01:30:00-05:00"]
+        for moment, wanted in ((fire, days[0]), (fire.replace(microsecond=1), days[1]), (fire.replace(second=1), days[1])):
+            self.assertEqual(schedule.before(moment, clock_changes="once").isoformat(), wanted)
+            self.assertEqual(next(schedule.fires(moment, reverse=True, clock_changes="once")).isoformat(), wanted)
+
     def test_a_run_goes_on_from_a_fire_that_shares_its_instant(self):
         schedule, start, end = Schedule("0 */15 2 * * *"), chicago(2022, 3, 13), chicago(2022, 3, 14)
         whole = list(schedule.dues(start, end))

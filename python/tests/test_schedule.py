@@ -142,6 +142,9 @@ class Answers(unittest.TestCase):
             self.assertEqual([it.isoformat() for it in schedule.fires(noon, end, reverse=True)], days[:count])
         # a fire at the start itself isn't before it
         self.assertEqual([it.isoformat() for it in schedule.fires(chicago(2022, 11, 7, 1, 30), chicago(2022, 11, 6), reverse=True)], days[1:3])
+        # and one a moment before it is
+        self.assertEqual(next(schedule.fires(chicago(2022, 11, 7, 1, 30, 1), reverse=True)).isoformat(), days[0])
+        self.assertEqual(next(schedule.fires(chicago(2022, 11, 7, 1, 30, 0, 1), reverse=True)).isoformat(), days[0])
         self.assertEqual(len(list(Schedule("0 0 0 1 1 * *").fires(datetime(9999, 1, 1, tzinfo=UTC), reverse=True))), 131)
 
     def test_pages_go_on_over_many_eras(self):
@@ -284,6 +287,9 @@ class Refusals(unittest.TestCase):
             Schedule("@daily").after(datetime(2024, 1, 1))
         with self.assertRaises(InstantError):
             Schedule("@daily").between(datetime(2024, 1, 1, tzinfo=UTC), datetime(2024, 1, 2))
+        for tell in (Schedule("@daily").fires, Schedule("@daily").dues):
+            with self.assertRaises(InstantError):
+                tell(datetime(2024, 1, 1, tzinfo=UTC), datetime(2024, 1, 2))
         with self.assertRaises(InstantError):
             Schedule("@daily").after(datetime(2024, 1, 1, tzinfo=Nowhere()))
 
