@@ -54,6 +54,13 @@ class Once(unittest.TestCase):
             self.assertEqual(schedule.before(moment, clock_changes="once").isoformat(), wanted)
             self.assertEqual(next(schedule.fires(moment, reverse=True, clock_changes="once")).isoformat(), wanted)
 
+    def test_reversed_fires_are_each_second_with_the_end(self):
+        schedule, end = Schedule("* * * * * *"), chicago(2022, 3, 13, 1)
+        seconds = [end + timedelta(seconds=it) for it in reversed(range(10))]
+        for changes in ("as_shown", "once"):
+            told = schedule.fires(end + timedelta(seconds=10), end, reverse=True, clock_changes=changes)
+            self.assertEqual(list(told), seconds)
+
     def test_a_run_goes_on_from_a_fire_that_shares_its_instant(self):
         schedule, start, end = Schedule("0 */15 2 * * *"), chicago(2022, 3, 13), chicago(2022, 3, 14)
         whole = list(schedule.dues(start, end))
