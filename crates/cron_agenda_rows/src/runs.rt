@@ -5,8 +5,8 @@
 use crate::tables::{changes_named, schedules_of, zones_named};
 use anyhow::{Context, Error, Result, bail, ensure};
 use cron_agenda::{AddError, Agenda, AgendaFire};
-use cron_agenda_scheduler::{AgendaJob, AgendaStop, Lateness, Timely, run};
-use cron_fires::{Timetable, Union};
+use cron_agenda_scheduler::{AgendaJob, AgendaStop, Lateness, Timely, run, step};
+use cron_fires::Union;
 use cron_scheduler::AlarmClock;
 use cron_units::fields::ScheduleFields;
 use jiff::Timestamp;
@@ -43,18 +43,23 @@ impl AlarmClock for ScriptedClock<'_> {
     }
 }
 
-/// A job that notes each fire. Its run of some number may fail, and that of another removes an
-/// entry.
+/// A job that notes each fire. Of its runs one may fail, which ends the loop or is only noted, one
+/// may remove an entry, and one may add one.
 #[derive(Drop)]
-struct ScriptedJob {
+struct ScriptedJob<'a> {
     deeds: String,
     runs: u64,
     fails_at: u64,
+    notes_at: u64,
     removes_at: u64,
     removed: u64,
+    adds_at: u64,
+    added: &'a str,
+    schedules: &'a [ScheduleFields],
+    zones: &'a [TimeZone<'a>],
 }
 
-impl ScriptedJob {
+impl ScriptedJob<'_> {
     fn note(&mut self, word: &str, due: &AgendaFire) -> Result<()> {
         if !self.deeds.is_empty() {
             self.deeds.push_str(", ")?;
@@ -64,14 +69,22 @@ impl ScriptedJob {
     }
 }
 
-impl<T: Timetable + Copy> AgendaJob<T> for ScriptedJob {
+impl<'a> AgendaJob<Timely<Union<'a>>> for ScriptedJob<'a> {
     type Error = Error;
 
-    fn run(&mut self, due: AgendaFire, agenda: &mut Agenda<T>) -> Result<()> {
+    fn run(&mut self, due: AgendaFire, agenda: &mut Agenda<Timely<Union<'a>>>) -> Result<()> {
         self.runs = self.runs.saturating_add(1);
-        self.note("ran", &due)?;
+        let word = if self.runs == self.notes_at {
+            "failed"
+        } else {
+            "ran"
+        };
+        self.note(word, &due)?;
         if self.runs == self.removes_at {
             let _found = agenda.remove(self.removed);
+        }
+        if self.runs == self.adds_at {
+            add(agenda, self.zones, self.added, self.schedules)?;
         }
         ensure!(self.runs != self.fails_at, "the run fails");
         Ok(())
@@ -92,22 +105,39 @@ fn lateness_named(name: &str) -> Result<Lateness> {
     }
 }
 
-// What a job does: `-`, `fails:3`, or `removes:0:2`, the entry 0 at its second run.
-fn job_named(alloc: Global, name: &str) -> Result<ScriptedJob> {
+// What a job does: `-`, `fails:3`, `notes:3`, the same but it goes on, `removes:0:2`, the entry 0
+// at its second run, or `adds:2:STEP`.
+fn job_named<'a>(
+    alloc: Global,
+    name: &'a str,
+    schedules: &'a [ScheduleFields],
+    zones: &'a [TimeZone<'a>],
+) -> Result<ScriptedJob<'a>> {
     let mut job = ScriptedJob {
         deeds: String::new(alloc),
         runs: 0,
         fails_at: 0,
+        notes_at: 0,
         removes_at: 0,
         removed: 0,
+        adds_at: 0,
+        added: "",
+        schedules,
+        zones,
     };
     match name.split_once(':') {
         None => {}
         Some(("fails", at)) => job.fails_at = at.parse::<u64>()?,
+        Some(("notes", at)) => job.notes_at = at.parse::<u64>()?,
         Some(("removes", rest)) => {
             let (id, at) = rest.split_once(':').context("a run is wanted")?;
             job.removed = id.parse::<u64>()?;
             job.removes_at = at.parse::<u64>()?;
+        }
+        Some(("adds", rest)) => {
+            let (at, added) = rest.split_once(':').context("an entry is wanted")?;
+            job.adds_at = at.parse::<u64>()?;
+            job.added = added;
         }
         Some(_) => bail!("{name:?} is no job"),
     }
@@ -156,21 +186,48 @@ fn or_none(text: &str) -> &str {
     if text.is_empty() { "none" } else { text }
 }
 
-/// What a row of these comes to: the waits, the deeds and the end.
-pub(crate) fn told(
+// Runs the loop, or makes its steps one by one where no number of runs is asked for.
+fn play<'a>(
+    agenda: &mut Agenda<Timely<Union<'a>>>,
+    clock: &mut ScriptedClock<'_>,
+    job: &mut ScriptedJob<'a>,
+    most: &str,
+    by_steps: bool,
+) -> Result<&'static str> {
+    let zones = job.zones;
+    if !by_steps {
+        let most = match most {
+            "-" => u64::MAX,
+            most => most.parse::<u64>()?,
+        };
+        return Ok(ending(run(agenda, zones, clock, job, most)));
+    }
+    for _ in 0..1_000 {
+        match step(agenda, zones, clock, job) {
+            Ok(true) => {}
+            Ok(false) => return Ok(ending(Ok(()))),
+            Err(stop) => return Ok(ending(Err(stop))),
+        }
+    }
+    bail!("the steps don't end")
+}
+
+// What a row comes to by the loop, or by its steps.
+fn told_by(
     alloc: Global,
-    names: &str,
+    zones: &[TimeZone<'_>],
     entries: &str,
     (shown, job, most): (&str, &str, &str),
+    by_steps: bool,
 ) -> Result<String> {
-    let zones = zones_named(alloc, names)?;
     let mut tables = Vec::new(alloc);
     for step in entries.split(" ; ") {
         tables.push(schedules_of(alloc, step)?)?;
     }
+    let more = schedules_of(alloc, job)?;
     let mut agenda = Agenda::new(alloc);
     for (step, schedules) in entries.split(" ; ").zip(tables.as_slice()) {
-        add(&mut agenda, zones.as_slice(), step, schedules.as_slice())?;
+        add(&mut agenda, zones, step, schedules.as_slice())?;
     }
     let words: Vec<&str> = shown.split(' ').collect(alloc)?;
     let mut clock = ScriptedClock {
@@ -178,14 +235,27 @@ pub(crate) fn told(
         waits: String::new(alloc),
         count: 0,
     };
-    let mut job = job_named(alloc, job)?;
-    let most = if most == "-" {
-        u64::MAX
-    } else {
-        most.parse::<u64>()?
-    };
-    let ended = ending(run(&mut agenda, zones.as_slice(), &mut clock, &mut job, most));
+    let mut job = job_named(alloc, job, more.as_slice(), zones)?;
+    let ended = play(&mut agenda, &mut clock, &mut job, most, by_steps)?;
     let (waits, deeds) = (or_none(clock.waits.as_str()), or_none(job.deeds.as_str()));
     let left = agenda.len();
     Ok(format!(in alloc; "{waits} | {deeds} | {ended}, {left} left")?)
+}
+
+/// What a row of these comes to: the waits, the deeds and the end. Steps come to the same as the
+/// loop where no number of runs is asked for.
+pub(crate) fn told(
+    alloc: Global,
+    names: &str,
+    entries: &str,
+    script: (&str, &str, &str),
+) -> Result<String> {
+    let zones = zones_named(alloc, names)?;
+    let zones = zones.as_slice();
+    let told = told_by(alloc, zones, entries, script, false)?;
+    if script.2 == "-" {
+        let steps = told_by(alloc, zones, entries, script, true)?;
+        ensure!(steps.as_str() == told.as_str(), "its steps come to {steps}");
+    }
+    Ok(told)
 }
