@@ -212,21 +212,17 @@ fn play<'a>(
     bail!("the steps don't end")
 }
 
-// What a row comes to by the loop, or by its steps.
-fn told_by(
+// What a row comes to by the loop, or by its steps. The last table is that of the job.
+fn told_of<'a>(
     alloc: Global,
-    zones: &[TimeZone<'_>],
+    zones: &'a [TimeZone<'a>],
     entries: &str,
-    (shown, job, most): (&str, &str, &str),
+    tables: &'a [Vec<ScheduleFields>],
+    (shown, job, most): (&'a str, &'a str, &'a str),
     by_steps: bool,
 ) -> Result<String> {
-    let mut tables = Vec::new(alloc);
-    for step in entries.split(" ; ") {
-        tables.push(schedules_of(alloc, step)?)?;
-    }
-    let more = schedules_of(alloc, job)?;
     let mut agenda = Agenda::new(alloc);
-    for (step, schedules) in entries.split(" ; ").zip(tables.as_slice()) {
+    for (step, schedules) in entries.split(" ; ").zip(tables) {
         add(&mut agenda, zones, step, schedules.as_slice())?;
     }
     let words: Vec<&str> = shown.split(' ').collect(alloc)?;
@@ -235,6 +231,7 @@ fn told_by(
         waits: String::new(alloc),
         count: 0,
     };
+    let more = tables.last().context("no schedules")?;
     let mut job = job_named(alloc, job, more.as_slice(), zones)?;
     let ended = play(&mut agenda, &mut clock, &mut job, most, by_steps)?;
     let (waits, deeds) = (or_none(clock.waits.as_str()), or_none(job.deeds.as_str()));
@@ -248,13 +245,18 @@ pub(crate) fn told(
     alloc: Global,
     names: &str,
     entries: &str,
-    script: (&str, &str, &str),
+    (shown, job, most): (&str, &str, &str),
 ) -> Result<String> {
     let zones = zones_named(alloc, names)?;
-    let zones = zones.as_slice();
-    let told = told_by(alloc, zones, entries, script, false)?;
-    if script.2 == "-" {
-        let steps = told_by(alloc, zones, entries, script, true)?;
+    let mut tables = Vec::new(alloc);
+    for step in entries.split(" ; ") {
+        tables.push(schedules_of(alloc, step)?)?;
+    }
+    tables.push(schedules_of(alloc, job)?)?;
+    let (zones, tables, script) = (zones.as_slice(), tables.as_slice(), (shown, job, most));
+    let told = told_of(alloc, zones, entries, tables, script, false)?;
+    if most == "-" {
+        let steps = told_of(alloc, zones, entries, tables, script, true)?;
         ensure!(steps.as_str() == told.as_str(), "its steps come to {steps}");
     }
     Ok(told)
