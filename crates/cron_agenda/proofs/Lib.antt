@@ -11,5 +11,7 @@ pub mod EntryLemmas
 pub mod FireLemmas
 pub mod MergeLemmas
 pub mod RestLemmas
+pub mod ZoneLemmas
+pub mod AnewLemmas
 pub mod NextLemmas
 pub mod MatchLemmas

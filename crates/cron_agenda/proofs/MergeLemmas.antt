@@ -39,6 +39,19 @@ by_second i p c j q d e h = grind (arith, ints)
 not_back : (i : ℤ) (p c : ℕ) (j : ℤ) (q d : ℕ) → comes i p c j q d ≡ true → comes j q d i p c ≡ false
 not_back i p c j q d h = grind (arith, ints)
 
+-- ids in the same order change nothing
+same_id : (i : ℤ) (p c : ℕ) (j : ℤ) (d r : ℕ) → comes i r c j r d ≡ comes i p c j p d
+same_id i p c j d r = grind (arith, ints)
+
+later_id : (i : ℤ) (p c : ℕ) (j : ℤ) (q d r s : ℕ) → p < q → r < s → comes i r c j s d ≡ comes i p c j q d
+later_id i p c j q d r s h g = grind (arith, ints)
+
+pub before-same_id : (p r : ℕ) (f g : EntryFire) → precedes (own r f) (own r g) ≡ precedes (own p f) (own p g)
+before-same_id p r f g = same_id (instant f) p (civil_second f) (instant g) (civil_second g) r
+
+pub before-later_id : (p q r s : ℕ) (f g : EntryFire) → p < q → r < s → precedes (own r f) (own s g) ≡ precedes (own p f) (own q g)
+before-later_id p q r s f g h k = later_id (instant f) p (civil_second f) (instant g) q (civil_second g) r s h k
+
 pub before-instant : (a b : OwnFire) → instant a.fire <ℤ instant b.fire → precedes a b ≡ true
 before-instant a b h = by_instant (instant a.fire) a.id (civil_second a.fire) (instant b.fire) b.id (civil_second b.fire) h
 

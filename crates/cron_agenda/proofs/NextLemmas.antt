@@ -19,7 +19,7 @@ use Rattle.cron_instants.proofs.OrderLemmas.{before-true, before-less, before-no
 use Rattle.cron_dues.specs.Due.{Due, clock_of, due}
 use Rattle.cron_dues.proofs.MemberLemmas.{due-of, less-true, own-of, true-less}
 use Rattle.cron_unions.specs.FirstOfAny.{IsFirstAfterAny, IsFirstPastAny, IsItemOfAny}
-use Rattle.cron_unions.specs.Inner.Nearest.{is_match_any}
+use Rattle.cron_unions.specs.Nearest.{is_match_any}
 use Rattle.cron_unions.specs.UnionDues.{IsDueOfAny, IsFirstDueAfterAny, IsFirstDuePastAny}
 use Rattle.cron_unions.specs.Unions.{seconds_of_any}
 use Rattle.cron_unions.proofs.UnionLemmas.{any-matches, any_of_one, any_of-match, match-of_any, one_of_any}

@@ -1,6 +1,7 @@
 -- What entries have left behind fires that were taken from them.
 use Rattle.std.proofs.Common.{◌≡◌, ℕ, ◌+◌, ◌<◌, ◌≤◌, Bool, true, false, eqb, List, [], ◌∷◌, ◌++◌, Option, Some, None, refl, sym, ap, subst, ◌∙◌, arith}
 use Rattle.std.specs.Prelude.{◌==◌, if◌then◌else◌, slice_get}
+use Rattle.std.specs.List.{flat_map}
 use Rattle.std.specs.Option.{option_or}
 use Rattle.std.proofs.lemmas.Bool.{eq-eqb, eqb-true}
 use Rattle.std.proofs.lemmas.Grind.{flat_map-append}
@@ -14,7 +15,7 @@ use Rattle.cron_agenda.specs.declared.fire.EntryFire.{EntryFire}
 use Rattle.cron_agenda.specs.Entries.{HaveIds, IsTaken, Listed, entry, gone_on}
 use Rattle.cron_agenda.specs.Fires.{fires_past}
 use Rattle.cron_agenda.specs.Laws.{AddedPastGoesOn, TakenAreTheFront, TheRestIsBehind}
-use Rattle.cron_agenda.specs.Merged.{AllAscend, AreTaken, OwnFire, all_of, behind, in_order, last_of, left_behind, merged, own_of, owned, rest_in}
+use Rattle.cron_agenda.specs.Merged.{AllAscend, AreTaken, behind, in_order, last_of, left, merged, own_of, owned, rest_in}
 use Rattle.cron_agenda.proofs.MergeLemmas.{taken_is_first}
 
 -- ---- they are a front
@@ -28,7 +29,7 @@ taken_are_the_front schedules zones (f ∷ fs) old new up taken =
 
 -- ---- ids
 
-unlike : (a b : ℕ) → (a ≡ b → ⊥) → (a == b) ≡ false
+pub unlike : (a b : ℕ) → (a ≡ b → ⊥) → (a == b) ≡ false
 unlike a b apart = by_test (eqb a b) refl
   where
     by_test : (t : Bool) → eqb a b ≡ t → t ≡ false
@@ -95,16 +96,6 @@ last_has : (id : ℕ) (f : AgendaFire) (fs : List AgendaFire) → f.id ≡ id �
 last_has id f fs same = ap (λ b. option_or (last_of id fs) (if b then Some f.fire else None)) (eq-eqb f.id id same)
 
 module _ {T : Type 0} (schedules : T → List Sets) (zones : List TimeZone) where
-  behind-append : (fs : List AgendaFire) (a b : List (Entry T)) → left_behind schedules zones fs (a ++ b) ≡ left_behind schedules zones fs a ++ left_behind schedules zones fs b
-  behind-append fs a b = flat_map-append (λ e. owned e.id (behind schedules zones (last_of e.id fs) e)) a b
-
-  -- a fire of another entry says nothing
-  behind_lacks : (f : AgendaFire) (fs : List AgendaFire) (es : List (Entry T)) → AllLack f.id es → left_behind schedules zones (f ∷ fs) es ≡ left_behind schedules zones fs es
-  behind_lacks f fs [] lack = refl
-  behind_lacks f fs (e ∷ es) lack =
-      ap (λ o. owned e.id (behind schedules zones o e) ++ left_behind schedules zones (f ∷ fs) es) (last_lacks e.id f fs (λ same. lack.0 (sym same)))
-      ∙ ap (λ l. owned e.id (behind schedules zones (last_of e.id fs) e) ++ l) (behind_lacks f fs es lack.1)
-
   -- no entry has the id, and so no fire that is taken
   never_last : (id : ℕ) (fs : List AgendaFire) (old new : List (Entry T)) → AllLack id old → AreTaken schedules zones fs old new → last_of id fs ≡ None
   never_last id [] old new lack taken = refl
@@ -118,23 +109,48 @@ module _ {T : Type 0} (schedules : T → List Sets) (zones : List TimeZone) wher
       (lack-append id (gone_on is.entry is.next) is.first.after (lack-gone id is.entry is.next behind_it.0) behind_it.1)) in
       last_lacks id f fs apart ∙ never_last id fs taken.0 new rest taken.2
 
-  -- what an entry that goes on, or ends, has behind a fire
-  abbrev gone_left : Entry T → Option EntryFire → Option EntryFire → List OwnFire
-  gone_left e None last = []
-  gone_left e (Some q) last = owned e.id (behind schedules zones last (entry e.id e.table e.zone q))
+  ids-one : (f : AgendaFire) (old new : List (Entry T)) (low high : ℕ) → HaveIds low old high → IsTaken schedules zones old f new → HaveIds low new high
+  ids-one f old new low high ids is =
+      subst (λ l. HaveIds low l high) (sym is.now)
+      (ids-gone is.first.before is.first.after is.entry is.next low high (subst (λ l. HaveIds low l high) is.first.is ids))
 
-  gone_is : (fs : List AgendaFire) (e : Entry T) (next : Option EntryFire) → left_behind schedules zones fs (gone_on e next) ≡ gone_left e next (last_of e.id fs)
+  pub ids-taken : (fs : List AgendaFire) (old new : List (Entry T)) (low high : ℕ) → HaveIds low old high → AreTaken schedules zones fs old new
+      → HaveIds low new high
+  ids-taken [] old new low high ids same = subst (λ l. HaveIds low l high) (sym same) ids
+  ids-taken (f ∷ fs) old new low high ids taken = ids-taken fs taken.0 new low high (ids-one f old taken.0 low high ids taken.1) taken.2
+
+-- what is told of each entry, by its id and the fires that it has, and nothing where it has none
+module _ {T X : Type 0} (schedules : T → List Sets) (zones : List TimeZone) (told : ℕ → List EntryFire → List X) (nothing : (id : ℕ) → told id [] ≡ []) where
+  abbrev told_behind : List AgendaFire → List (Entry T) → List X
+  told_behind fs es = flat_map (λ e. told e.id (behind schedules zones (last_of e.id fs) e)) es
+
+  behind-append : (fs : List AgendaFire) (a b : List (Entry T)) → told_behind fs (a ++ b) ≡ told_behind fs a ++ told_behind fs b
+  behind-append fs a b = flat_map-append (λ e. told e.id (behind schedules zones (last_of e.id fs) e)) a b
+
+  -- a fire of another entry says nothing
+  behind_lacks : (f : AgendaFire) (fs : List AgendaFire) (es : List (Entry T)) → AllLack f.id es → told_behind (f ∷ fs) es ≡ told_behind fs es
+  behind_lacks f fs [] lack = refl
+  behind_lacks f fs (e ∷ es) lack =
+      ap (λ o. told e.id (behind schedules zones o e) ++ told_behind (f ∷ fs) es) (last_lacks e.id f fs (λ same. lack.0 (sym same)))
+      ∙ ap (λ l. told e.id (behind schedules zones (last_of e.id fs) e) ++ l) (behind_lacks f fs es lack.1)
+
+  -- what an entry that goes on, or ends, has behind a fire
+  abbrev gone_left : Entry T → Option EntryFire → Option EntryFire → List X
+  gone_left e None last = []
+  gone_left e (Some q) last = told e.id (behind schedules zones last (entry e.id e.table e.zone q))
+
+  gone_is : (fs : List AgendaFire) (e : Entry T) (next : Option EntryFire) → told_behind fs (gone_on e next) ≡ gone_left e next (last_of e.id fs)
   gone_is fs e None = refl
   gone_is fs e (Some q) = append-nil (gone_left e (Some q) (last_of e.id fs))
 
   behind_gone : (e : Entry T) (z : TimeZone) (next last : Option EntryFire) → slice_get zones e.zone ≡ Some z
       → IsFirstOf (fires_past (schedules e.table) z e.fire) (fires_past (schedules e.table) z) next → (next ≡ None → last ≡ None)
-      → owned e.id (behind schedules zones (option_or last (Some e.fire)) e) ≡ gone_left e next last
-  behind_gone e z None None lent goes ends = ap (λ o. owned e.id (rest_in (schedules e.table) o e.fire)) lent ∙ ap (owned e.id) goes
+      → told e.id (behind schedules zones (option_or last (Some e.fire)) e) ≡ gone_left e next last
+  behind_gone e z None None lent goes ends = ap (λ o. told e.id (rest_in (schedules e.table) o e.fire)) lent ∙ ap (told e.id) goes ∙ nothing e.id
   behind_gone e z None (Some q) lent goes ends = let no = ends refl in absurd (cc)
   behind_gone e z (Some q) None lent goes ends =
-      ap (λ o. owned e.id (rest_in (schedules e.table) o e.fire)) lent ∙ ap (owned e.id) goes
-      ∙ ap (λ o. owned e.id (q ∷ rest_in (schedules e.table) o q)) (sym lent)
+      ap (λ o. told e.id (rest_in (schedules e.table) o e.fire)) lent ∙ ap (told e.id) goes
+      ∙ ap (λ o. told e.id (q ∷ rest_in (schedules e.table) o q)) (sym lent)
   behind_gone e z (Some q) (Some p) lent goes ends = refl
 
   module _ (f : AgendaFire) (fs : List AgendaFire) (old mid new : List (Entry T)) (low high : ℕ) (ids : HaveIds low old high) (is : IsTaken schedules zones old f mid) where
@@ -150,9 +166,6 @@ module _ {T : Type 0} (schedules : T → List Sets) (zones : List TimeZone) wher
     ids_there : HaveIds low (a ++ e ∷ b) high
     ids_there = subst (λ l. HaveIds low l high) is.first.is ids
 
-    ids_mid : HaveIds low mid high
-    ids_mid = subst (λ l. HaveIds low l high) (sym is.now) (ids-gone a b e is.next low high ids_there)
-
     id_is : f.id ≡ e.id
     id_is = ap (λ (v : AgendaFire). v.id) is.is
 
@@ -161,32 +174,32 @@ module _ {T : Type 0} (schedules : T → List Sets) (zones : List TimeZone) wher
 
     ended : AreTaken schedules zones fs mid new → is.next ≡ None → last_of e.id fs ≡ None
     ended taken none =
-        never_last e.id fs mid new (subst (AllLack e.id) (sym is.now) (lack-append e.id a (gone_on e is.next ++ b) others.0
+        never_last schedules zones e.id fs mid new (subst (AllLack e.id) (sym is.now) (lack-append e.id a (gone_on e is.next ++ b) others.0
         (lack-append e.id (gone_on e is.next) b (subst (λ o. AllLack e.id (gone_on e o)) (sym none) tt) others.1))) taken
 
-    one_on : AreTaken schedules zones fs mid new → left_behind schedules zones (f ∷ fs) old ≡ left_behind schedules zones fs mid
+    one_on : AreTaken schedules zones fs mid new → told_behind (f ∷ fs) old ≡ told_behind fs mid
     one_on taken =
-        ap (left_behind schedules zones (f ∷ fs)) is.first.is
+        ap (told_behind (f ∷ fs)) is.first.is
         ∙ behind-append (f ∷ fs) a (e ∷ b)
-        ∙ ap (λ l. l ++ left_behind schedules zones (f ∷ fs) (e ∷ b)) (behind_lacks f fs a (subst (λ i. AllLack i a) (sym id_is) others.0))
-        ∙ ap (λ o. left_behind schedules zones fs a ++ (owned e.id (behind schedules zones o e) ++ left_behind schedules zones (f ∷ fs) b))
+        ∙ ap (λ l. l ++ told_behind (f ∷ fs) (e ∷ b)) (behind_lacks f fs a (subst (λ i. AllLack i a) (sym id_is) others.0))
+        ∙ ap (λ o. told_behind fs a ++ (told e.id (behind schedules zones o e) ++ told_behind (f ∷ fs) b))
         (last_has e.id f fs id_is ∙ ap (λ (v : AgendaFire). option_or (last_of e.id fs) (Some v.fire)) is.is)
-        ∙ ap (λ l. left_behind schedules zones fs a ++ (owned e.id (behind schedules zones (option_or (last_of e.id fs) (Some e.fire)) e) ++ l))
+        ∙ ap (λ l. told_behind fs a ++ (told e.id (behind schedules zones (option_or (last_of e.id fs) (Some e.fire)) e) ++ l))
         (behind_lacks f fs b (subst (λ i. AllLack i b) (sym id_is) others.1))
-        ∙ ap (λ l. left_behind schedules zones fs a ++ (l ++ left_behind schedules zones fs b))
+        ∙ ap (λ l. told_behind fs a ++ (l ++ told_behind fs b))
         (behind_gone e is.zone is.next (last_of e.id fs) is.lent is.goes_on (ended taken) ∙ sym (gone_is fs e is.next))
-        ∙ sym (ap (left_behind schedules zones fs) is.now ∙ behind-append fs a (gone_on e is.next ++ b)
-        ∙ ap (λ l. left_behind schedules zones fs a ++ l) (behind-append fs (gone_on e is.next) b))
+        ∙ sym (ap (told_behind fs) is.now ∙ behind-append fs a (gone_on e is.next ++ b)
+        ∙ ap (λ l. told_behind fs a ++ l) (behind-append fs (gone_on e is.next) b))
 
-  rest_is : (fs : List AgendaFire) (old new : List (Entry T)) (low high : ℕ) → HaveIds low old high → AreTaken schedules zones fs old new
-      → all_of schedules zones new ≡ left_behind schedules zones fs old
-  rest_is [] old new low high ids same = ap (all_of schedules zones) same
+  pub rest_is : (fs : List AgendaFire) (old new : List (Entry T)) (low high : ℕ) → HaveIds low old high → AreTaken schedules zones fs old new
+      → flat_map (λ e. told e.id (left schedules zones e)) new ≡ told_behind fs old
+  rest_is [] old new low high ids same = ap (flat_map (λ e. told e.id (left schedules zones e))) same
   rest_is (f ∷ fs) old new low high ids taken =
-      rest_is fs taken.0 new low high (ids_mid f fs old taken.0 new low high ids taken.1) taken.2
+      rest_is fs taken.0 new low high (ids-one schedules zones f old taken.0 low high ids taken.1) taken.2
       ∙ sym (one_on f fs old taken.0 new low high ids taken.1 taken.2)
 
 pub the_rest_is_behind : {T : Type 0} (schedules : T → List Sets) → TheRestIsBehind schedules
-the_rest_is_behind schedules zones fires old new low high ids taken = ap in_order (rest_is schedules zones fires old new low high ids taken)
+the_rest_is_behind schedules zones fires old new low high ids taken = ap in_order (rest_is schedules zones owned (λ id. refl) fires old new low high ids taken)
 
 -- ---- an entry that is added past a fire
 

@@ -1,5 +1,5 @@
 -- What holds of the fires that entries have left, merged.
-use Rattle.std.specs.Prelude.{◌≡◌, ℕ, ◌<◌, ℤ, false, Some, List, [], ◌∷◌, ◌++◌, Result, Ok, Err, map, slice_get}
+use Rattle.std.specs.Prelude.{◌≡◌, ℕ, ◌<◌, ℤ, false, Some, None, List, [], ◌∷◌, ◌++◌, Result, Ok, Err, map, slice_get}
 use Rattle.std.specs.List.Sorted.{IsPermutation}
 use Rattle.jiff_tz.specs.declared.timezone.TimeZone.{TimeZone}
 use Rattle.cron_units.specs.Sets.{Sets}
@@ -11,7 +11,7 @@ use Rattle.cron_fires.specs.declared.changes.ClockChanges.{ClockChanges}
 use Rattle.cron_agenda.specs.declared.fire.EntryFire.{EntryFire}
 use Rattle.cron_agenda.specs.Entries.{Adds, HaveIds, IsTaken, Listed, entry, without}
 use Rattle.cron_agenda.specs.Fires.{fires_after, fires_past}
-use Rattle.cron_agenda.specs.Merged.{AllAscend, AreTaken, Ascend, OwnFire, all_of, in_order, left, left_behind, merged, own, own_of, owned, precedes, rest_in}
+use Rattle.cron_agenda.specs.Merged.{AllAscend, AreTaken, Ascend, HasAll, IsAnew, OwnFire, all_of, in_order, last_of, left, left_behind, merged, own, own_of, owned, precedes, renamed, rest_in}
 
 -- What is taken is the first of the merged fires, and leaves the others, where those of each entry ascend; and they do so then.
 abbrev pub TakenIsTheFirst : {T : Type 0} → (T → List Sets) → Type 0
@@ -86,3 +86,90 @@ pub record AddedPastGoesOn {T : Type 0} (schedules : T → List Sets) : Type 0 w
       (zones : List TimeZone) (table : T) (zone : ℕ) (last : EntryFire) (old new : Listed T)
       → Adds schedules zones table zone (λ z. fires_past (schedules table) z last) old (Err NoFires) new
       → rest_in (schedules table) (slice_get zones zone) last ≡ []
+
+-- New entries go on as those of a run that isn't cut: entry for entry; all of them, merged, under new ids; and so fire for fire. Those of
+-- each entry ascend where they did.
+pub record GoOnAs {T : Type 0} (schedules : T → List Sets) (zones : List TimeZone) (now news : List (Entry T)) : Type 0 where
+  pub each : map (left schedules zones) news ≡ map (left schedules zones) now
+  pub all : merged schedules zones news ≡ map (renamed now news) (merged schedules zones now)
+  pub fires : map (λ o. o.fire) (merged schedules zones news) ≡ map (λ o. o.fire) (merged schedules zones now)
+  pub ascend : AllAscend schedules zones now → AllAscend schedules zones news
+
+-- So all entries do that are added anew after a restart, each past the last of its own fires that were taken.
+abbrev pub RestartOfAllGoesOn : {T : Type 0} → (T → List Sets) → Type 0
+RestartOfAllGoesOn {T} schedules =
+    (zones : List TimeZone) (fires : List AgendaFire) (olds now news : List (Entry T)) (low high first end : ℕ)
+    → HaveIds low olds high
+    → HaveIds first news end
+    → AreTaken schedules zones fires olds now
+    → IsAnew schedules zones fires olds news
+    → GoOnAs schedules zones now news
+
+-- An added entry has left all of the fires with which it is added.
+abbrev pub AddedHasAll : {T : Type 0} → (T → List Sets) → Type 0
+AddedHasAll {T} schedules =
+    (zones : List TimeZone) (table : T) (zone : ℕ) (fires : TimeZone → List EntryFire) (old : Listed T) (id : ℕ) (new : Listed T)
+    → Adds schedules zones table zone fires old (Ok id) new
+    → (fire : EntryFire) × (new.entries ≡ old.entries ++ entry id table zone fire ∷ []) × HasAll schedules zones fires (entry id table zone fire)
+
+-- Entries become anew one after another, in their old order. One of which a fire was noted is added past it, or never fires again; one of
+-- which none was noted is added again with all that it had.
+pub record AddedAreAnew {T : Type 0} (schedules : T → List Sets) : Type 0 where
+  pub none : (zones : List TimeZone) (fires : List AgendaFire) → IsAnew schedules zones fires [] []
+  pub past :
+      (zones : List TimeZone) (fires : List AgendaFire) (olds : List (Entry T)) (e : Entry T) (last : EntryFire) (old : Listed T) (id : ℕ) (new : Listed T)
+      → last_of e.id fires ≡ Some last
+      → Adds schedules zones e.table e.zone (λ z. fires_past (schedules e.table) z last) old (Ok id) new
+      → IsAnew schedules zones fires olds old.entries
+      → IsAnew schedules zones fires (olds ++ e ∷ []) new.entries
+  pub ended :
+      (zones : List TimeZone) (fires : List AgendaFire) (olds : List (Entry T)) (e : Entry T) (last : EntryFire) (old new : Listed T)
+      → last_of e.id fires ≡ Some last
+      → Adds schedules zones e.table e.zone (λ z. fires_past (schedules e.table) z last) old (Err NoFires) new
+      → IsAnew schedules zones fires olds old.entries
+      → IsAnew schedules zones fires (olds ++ e ∷ []) new.entries
+  pub again :
+      (zones : List TimeZone) (fires : List AgendaFire) (olds : List (Entry T)) (e : Entry T) (all : TimeZone → List EntryFire) (old : Listed T) (id : ℕ)
+      (new : Listed T)
+      → last_of e.id fires ≡ None
+      → HasAll schedules zones all e
+      → Adds schedules zones e.table e.zone all old (Ok id) new
+      → IsAnew schedules zones fires olds old.entries
+      → IsAnew schedules zones fires (olds ++ e ∷ []) new.entries
+
+-- A zone is lent for each entry.
+abbrev pub AreLent : {T : Type 0} → List TimeZone → List (Entry T) → Type 0
+AreLent zones [] = Unit {0}
+AreLent zones (e ∷ es) = ((zone : TimeZone) × (slice_get zones e.zone ≡ Some zone)) × AreLent zones es
+
+-- Where a zone is lent for each entry, others behind them change nothing: not what each has left, nor what all have, merged ..
+pub record ZonesMayGrow {T : Type 0} (schedules : T → List Sets) : Type 0 where
+  pub each :
+      (zones others : List TimeZone) (es : List (Entry T))
+      → AreLent zones es
+      → map (left schedules (zones ++ others)) es ≡ map (left schedules zones) es
+  pub all :
+      (zones others : List TimeZone) (es : List (Entry T))
+      → AreLent zones es
+      → merged schedules (zones ++ others) es ≡ merged schedules zones es
+  pub ascend :
+      (zones others : List TimeZone) (es : List (Entry T))
+      → AreLent zones es
+      → AllAscend schedules zones es
+      → AllAscend schedules (zones ++ others) es
+
+-- .. and one stays lent for each: as others come behind them, as entries are added and removed, and as fires are taken.
+pub record StayLent {T : Type 0} (schedules : T → List Sets) : Type 0 where
+  pub none : (zones : List TimeZone) → AreLent {T = T} zones []
+  pub grown : (zones others : List TimeZone) (es : List (Entry T)) → AreLent zones es → AreLent (zones ++ others) es
+  pub more :
+      (zones : List TimeZone) (table : T) (zone : ℕ) (fires : TimeZone → List EntryFire) (old : Listed T) (answer : Result ℕ AddError) (new : Listed T)
+      → Adds schedules zones table zone fires old answer new
+      → AreLent zones old.entries
+      → AreLent zones new.entries
+  pub less : (zones : List TimeZone) (id : ℕ) (es : List (Entry T)) → AreLent zones es → AreLent zones (without id es)
+  pub taken :
+      (zones : List TimeZone) (old : List (Entry T)) (taken : AgendaFire) (new : List (Entry T))
+      → IsTaken schedules zones old taken new
+      → AreLent zones old
+      → AreLent zones new

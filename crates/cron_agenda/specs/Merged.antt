@@ -1,5 +1,5 @@
 -- What entries have left together, in one order.
-use Rattle.std.specs.Prelude.{◌≡◌, ℕ, Bool, true, ◌&&◌, ◌||◌, ◌==◌, int_lt, nat_lt, if◌then◌else◌, List, [], ◌∷◌, map, Option, Some, None, slice_get}
+use Rattle.std.specs.Prelude.{◌≡◌, ℕ, Bool, true, false, ◌&&◌, ◌||◌, ◌==◌, int_lt, nat_lt, if◌then◌else◌, List, [], ◌∷◌, map, filter, Option, Some, None, slice_get}
 use Rattle.std.specs.Ordering.{int_eq}
 use Rattle.std.specs.List.{flat_map}
 use Rattle.std.specs.Option.{option_or}
@@ -30,6 +30,10 @@ rest_in ss (Some zone) fire = fires_past ss zone fire
 -- what an entry has left in the zones that are lent: its next fire, and those past it
 abbrev pub left : {T : Type 0} → (T → List Sets) → List TimeZone → Entry T → List EntryFire
 left schedules zones e = e.fire ∷ rest_in (schedules e.table) (slice_get zones e.zone) e.fire
+
+-- an entry has left all of these fires, which are told by its zone
+abbrev pub HasAll : {T : Type 0} → (T → List Sets) → List TimeZone → (TimeZone → List EntryFire) → Entry T → Type 0
+HasAll schedules zones fires e = (zone : TimeZone) → slice_get zones e.zone ≡ Some zone → left schedules zones e ≡ fires zone
 
 -- what all of them have left, one entry after another
 abbrev pub all_of : {T : Type 0} → (T → List Sets) → List TimeZone → List (Entry T) → List OwnFire
@@ -90,3 +94,23 @@ behind schedules zones (Some last) e = rest_in (schedules e.table) (slice_get zo
 -- what all of them have left behind the last of their own among some fires, one entry after another
 abbrev pub left_behind : {T : Type 0} → (T → List Sets) → List TimeZone → List AgendaFire → List (Entry T) → List OwnFire
 left_behind schedules zones fires es = flat_map (λ e. owned e.id (behind schedules zones (last_of e.id fires) e)) es
+
+-- whether anything comes where this is left
+abbrev pub goes_on : List EntryFire → Bool
+goes_on [] = false
+goes_on (fire ∷ fires) = true
+
+-- Entries are added anew after a restart, in their old order: each has left what an old one has behind the last of its own among some
+-- fires. Those that have nothing there are left out.
+abbrev pub IsAnew : {T : Type 0} → (T → List Sets) → List TimeZone → List AgendaFire → List (Entry T) → List (Entry T) → Type 0
+IsAnew schedules zones fires olds news = map (left schedules zones) news ≡ filter goes_on (map (λ e. behind schedules zones (last_of e.id fires) e) olds)
+
+-- the id that new entries have in the place where old ones have this id
+abbrev pub new_id : {T : Type 0} → List (Entry T) → List (Entry T) → ℕ → ℕ
+new_id [] news id = id
+new_id (e ∷ olds) [] id = id
+new_id (e ∷ olds) (n ∷ news) id = if e.id == id then n.id else new_id olds news id
+
+-- a fire under the new id of its entry
+abbrev pub renamed : {T : Type 0} → List (Entry T) → List (Entry T) → OwnFire → OwnFire
+renamed olds news o = own (new_id olds news o.id) o.fire

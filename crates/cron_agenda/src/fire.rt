@@ -11,6 +11,7 @@ use cron_fires::{ClockChanges, DueFire, Timetable};
 use cron_moments::moment::instant_of;
 use jiff::Timestamp;
 use jiff::tz::TimeZone;
+use std::fmt;
 
 /// A fire of an entry, by the rule that the entry has.
 #[derive(Clone, Copy, Debug, PartialEq, Eq)]
@@ -40,6 +41,23 @@ impl EntryFire {
         match self {
             EntryFire::AsShown(moment) => moment.timestamp(),
             EntryFire::Once(due) => due.timestamp(),
+        }
+    }
+}
+
+/// It prints as the moment, or the due fire, that it holds.
+impl fmt::Display for EntryFire {
+    ghost use Rattle.std.specs.Prelude.{Some};
+    ghost use Rattle.cron_agenda.specs.Messages.{fire_text};
+
+    ghost output = { λ fire. Some (fire_text fire) };
+
+    ghost styled_output = { λ fire _. Some (fire_text fire) };
+
+    fn fmt<W: fmt::Write>(&self, f: &mut fmt::Formatter<W>) -> fmt::Result {
+        match self {
+            EntryFire::AsShown(moment) => moment.fmt(f),
+            EntryFire::Once(due) => due.fmt(f),
         }
     }
 }

@@ -3,7 +3,7 @@
 
 ghost use Rattle.std.specs.Prelude.{List};
 ghost use Rattle.jiff_tz.specs.declared.timezone.TimeZone.{TimeZone};
-ghost use Rattle.cron_agenda.specs.Laws.{AddedPastGoesOn, EntriesAscend, FiresAscend, MergedHasTheFires, MergedIsInOrder, OneEntryIsItsFires, TakenAreTheFront, TakenIsTheFirst, TheRestIsBehind};
+ghost use Rattle.cron_agenda.specs.Laws.{AddedAreAnew, AddedHasAll, AddedPastGoesOn, EntriesAscend, FiresAscend, MergedHasTheFires, MergedIsInOrder, OneEntryIsItsFires, RestartOfAllGoesOn, StayLent, TakenAreTheFront, TakenIsTheFirst, TheRestIsBehind, ZonesMayGrow};
 
 use cron_fires::Timetable;
 
@@ -21,6 +21,14 @@ pub fn fires_ascend()
 /// So do those that each entry has left, in zones that stay while entries are added and removed.
 pub fn entries_ascend<T: Timetable>()
     ensures { (zones : List TimeZone) → EntriesAscend T.schedules zones }
+{}
+
+/// Zones may come while a program runs, behind the others: where one is lent for each entry, they
+/// change nothing. One stays lent for each, whatever is added, removed and taken. An added entry's
+/// zone was lent, so who appends zones and adds entries keeps all of it.
+pub fn zones_may_grow<T: Timetable>()
+    ensures grown { ZonesMayGrow T.schedules }
+    ensures lent { StayLent T.schedules }
 {}
 
 /// The merged fires are those that the entries have left, no more and no fewer, in order.
@@ -41,4 +49,16 @@ pub fn cut_runs<T: Timetable>()
     ensures front { TakenAreTheFront T.schedules }
     ensures rest { TheRestIsBehind T.schedules }
     ensures past { AddedPastGoesOn T.schedules }
+{}
+
+/// After a restart all entries go on as in a run that isn't cut, fire for fire, under new ids. For
+/// that each is added anew, in the old order.
+///
+/// Where a fire was noted of an entry, `add_past` adds it past the last one, as [`cut_runs`] says of
+/// one entry. If it would never fire then, it is left out. Where none was noted, `add` adds it as at
+/// first: what it had then is all that it was added with.
+pub fn restart_of_all<T: Timetable>()
+    ensures all { RestartOfAllGoesOn T.schedules }
+    ensures anew { AddedAreAnew T.schedules }
+    ensures first { AddedHasAll T.schedules }
 {}

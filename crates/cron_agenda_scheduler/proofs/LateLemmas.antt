@@ -20,7 +20,8 @@ found false c d h g = absurd (cc)
 found true true d h g = refl
 found true false d h g = g
 
-unlike : (a b : ℕ) → (a ≡ b → ⊥) → (a == b) ≡ false
+-- the test tells numbers apart that differ
+pub unlike : (a b : ℕ) → (a ≡ b → ⊥) → (a == b) ≡ false
 unlike a b apart = by_test (eqb a b) refl
   where
     by_test : (t : Bool) → eqb a b ≡ t → t ≡ false

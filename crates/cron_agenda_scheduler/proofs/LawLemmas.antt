@@ -11,9 +11,10 @@ use Rattle.cron_agenda.specs.declared.entry.Entry.{Entry}
 use Rattle.cron_agenda.specs.declared.fire.EntryFire.{EntryFire}
 use Rattle.cron_agenda.specs.Entries.{IsTaken, Listed, TakesDue, is_by}
 use Rattle.cron_agenda.specs.Fires.{civil_second, instant}
-use Rattle.cron_agenda.specs.Merged.{AllAscend, IsEarlierThan, OwnFire, all_of, in_order, left, merged, own, own_of, owned, precedes, put, rest_in}
+use Rattle.cron_agenda.specs.Merged.{AllAscend, IsEarlierThan, OwnFire, all_of, in_order, left, merged, own_of, owned, precedes, put, rest_in}
 use Rattle.cron_agenda.proofs.RestLemmas.{taken_are_the_front}
-use Rattle.cron_scheduler.specs.Inner.Passing.{AllPass, NonePass}
+use Rattle.cron_fires.specs.Rules as rules
+use Rattle.cron_scheduler.specs.Passing.{AllPass, NonePass}
 use Rattle.cron_scheduler.proofs.DueLemmas.{filter_front}
 use Rattle.cron_agenda_scheduler.specs.Late.{Tables}
 use Rattle.cron_agenda_scheduler.specs.Laws.{DeedsAreAllDue, DeedsAreTaken, is_due}
@@ -32,7 +33,7 @@ deeds_are_taken ts js t (Passed f ∷ ds) a j a' j' leaves done =
 
 -- ---- each is due
 
-all_due : {T J F : Type 0} (ts : Tables T) (js : JobCalls T J F) (t : ℤ) (ds : List Deed) (a : Listed T) (j : J) (a' : Listed T) (j' : J)
+pub all_due : {T J F : Type 0} (ts : Tables T) (js : JobCalls T J F) (t : ℤ) (ds : List Deed) (a : Listed T) (j : J) (a' : Listed T) (j' : J)
     → AreDone ts js t ds a j a' j' → AllPass (is_due t) (map own_of (taken ds))
 all_due ts js t [] a j a' j' done = tt
 all_due ts js t (Ran f ∷ ds) a j a' j' done = (done.2.1.takes.1, all_due ts js t ds done.0 done.1 a' j' done.3)
@@ -69,12 +70,17 @@ not_later i c j d before = elim (before-true i c j d before) [
 late_too : (i j t : ℤ) → i ≤ℤ j → int_le (i *ℤ pos 1_000_000_000) t ≡ false → int_le (j *ℤ pos 1_000_000_000) t ≡ false
 late_too i j t le late = grind (arith, ints)
 
-none_later : (t : ℤ) (id : ℕ) (f : EntryFire) (l : List EntryFire) → IsEarlierThan f l → is_due t (own id f) ≡ false → NonePass (is_due t) (owned id l)
-none_later t id f [] up late = tt
-none_later t id f (q ∷ l) up late =
-    (late_too (instant f) (instant q) t (not_later (instant f) (civil_second f) (instant q) (civil_second q) up.0) late, none_later t id f l up.1 late)
+-- past a fire that isn't due none is
+pub none_later : (t : ℤ) (f : EntryFire) (l : List EntryFire) → IsEarlierThan f l → rules.is_by instant t f ≡ false → NonePass (rules.is_by instant t) l
+none_later t f [] up late = tt
+none_later t f (q ∷ l) up late =
+    (late_too (instant f) (instant q) t (not_later (instant f) (civil_second f) (instant q) (civil_second q) up.0) late, none_later t f l up.1 late)
 
-not_first : {A : Type 0} (p : A → Bool) (x : A) (l : List A) (b : Bool) → p x ≡ b → cond b (x ∷ filter p l) (filter p l) ≡ [] → (b ≡ false) × (filter p l ≡ [])
+none_owned : (t : ℤ) (id : ℕ) (l : List EntryFire) → NonePass (rules.is_by instant t) l → NonePass (is_due t) (owned id l)
+none_owned t id [] none = tt
+none_owned t id (f ∷ l) none = (none.0, none_owned t id l none.1)
+
+pub not_first : {A : Type 0} (p : A → Bool) (x : A) (l : List A) (b : Bool) → p x ≡ b → cond b (x ∷ filter p l) (filter p l) ≡ [] → (b ≡ false) × (filter p l ≡ [])
 not_first p x l true is none = cc
 not_first p x l false is none = (refl, none)
 
@@ -84,9 +90,9 @@ none_left schedules zones t [] none up = tt
 none_left schedules zones t (e ∷ es) none up =
     let parts = not_first (is_by t) e es (is_by t e) refl none in
     none_both (is_due t) (owned e.id (left schedules zones e)) (all_of schedules zones es)
-    (parts.0, none_later t e.id e.fire (rest_in (schedules e.table) (slice_get zones e.zone) e.fire) up.0.0 parts.0) (none_left schedules zones t es parts.1 up.1)
+    (parts.0, none_owned t e.id (rest_in (schedules e.table) (slice_get zones e.zone) e.fire) (none_later t e.fire _ up.0.0 parts.0)) (none_left schedules zones t es parts.1 up.1)
 
-ended : {T : Type 0} (schedules : T → List Sets) (zones : List TimeZone) (t : ℤ) (left length : ℕ) (a a' : Listed T) → 0 < left → length < 2 ^ 64 - 1
+pub ended : {T : Type 0} (schedules : T → List Sets) (zones : List TimeZone) (t : ℤ) (left length : ℕ) (a a' : Listed T) → 0 < left → length < 2 ^ 64 - 1
     → TakesDue schedules zones t a (Ok None) a' ⊎ ((a' ≡ a) × ((left ≡ 0) ⊎ (length ≡ 2 ^ 64 - 1))) → filter (is_by t) a.entries ≡ []
 ended schedules zones t left length a a' some fewer (inl due) = due.0
 ended schedules zones t left length a a' some fewer (inr (same, inl none)) = absurd (omega arith)

@@ -2,3 +2,8 @@ pub mod LateLemmas
 pub mod TurnLemmas
 pub mod LawLemmas
 pub mod RunLemmas
+pub mod PlanLemmas
+pub mod EntryLemmas
+pub mod StayLemmas
+pub mod LateLawLemmas
+pub mod CountLemmas

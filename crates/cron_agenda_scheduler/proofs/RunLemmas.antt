@@ -1,21 +1,26 @@
 -- What the turns of a whole run are of all fires that entries have.
-use Rattle.std.proofs.Common.{◌≡◌, ◌⊎◌, ℕ, ℤ, List, [], ◌∷◌, ◌++◌, inl, inr, sym, ap, subst, ◌∙◌}
-use Rattle.std.specs.Prelude.{Ok, Err, Some, Result}
+use Rattle.std.proofs.Common.{ℕ, ℤ, List, [], ◌∷◌, ◌++◌, length, inl, inr, refl, sym, ap, subst, ◌∙◌, map, append_assoc}
+use Rattle.std.specs.Prelude.{Ok, Err, Result, ⊤}
 use Rattle.std.proofs.lemmas.List.{map-append}
+use Rattle.std.proofs.lemmas.Simd.{map-map}
 use Rattle.jiff_core.specs.declared.Timestamp.{Timestamp}
 use Rattle.jiff_tz.specs.declared.timezone.TimeZone.{TimeZone}
 use Rattle.cron_units.specs.Sets.{Sets}
 use Rattle.cron_agenda.specs.declared.entry.Entry.{Entry}
 use Rattle.cron_agenda.specs.declared.fire.AgendaFire.{AgendaFire}
-use Rattle.cron_agenda.specs.Entries.{Listed}
-use Rattle.cron_agenda.specs.Merged.{AreTaken, merged, own_of}
+use Rattle.cron_agenda.specs.Entries.{IsTaken, Listed}
+use Rattle.cron_agenda.specs.Merged.{AreTaken, merged, own_of, OwnFire}
+use Rattle.cron_agenda.proofs.AnewLemmas.{restart_of_all_goes_on}
 use Rattle.cron_agenda.proofs.MergeLemmas.{one_is_its_fires}
 use Rattle.cron_agenda.proofs.RestLemmas.{taken_are_the_front}
 use Rattle.cron_scheduler.specs.Runs.{ClockCalls}
+use Rattle.cron_agenda_scheduler.specs.declared.stop.AgendaStop.{AgendaStop}
+use Rattle.cron_agenda_scheduler.specs.declared.stop.AgendaStop.TheVariants.{Clock, Zone, Job}
 use Rattle.cron_agenda_scheduler.specs.Late.{Tables}
-use Rattle.cron_agenda_scheduler.specs.Laws.{LeavesAgenda, OneEntryIsAPlan, RunsThatMeetAreOne, TurnsAreTaken}
-use Rattle.cron_agenda_scheduler.specs.Turns.{Deed, JobCalls, Looks, RunsDue, Turns, all_taken, taken}
+use Rattle.cron_agenda_scheduler.specs.Laws.{CutTurnIsTaken, IsCut, LeavesAgenda, OneEntryIsAPlan, RunsThatMeetAreOne, TookLast, TurnsAreTaken, WhatWasTaken, RestartedRunsAreOne}
+use Rattle.cron_agenda_scheduler.specs.Turns.{Deed, EndsRun, EndsTurn, JobCalls, Looks, all_taken, taken}
 use Rattle.cron_agenda_scheduler.proofs.LawLemmas.{deeds_are_taken}
+use Rattle.cron_agenda_scheduler.proofs.TurnLemmas.{turn_is_done}
 
 taken_too : {T : Type 0} (schedules : T → List Sets) (zones : List TimeZone) (fs gs : List AgendaFire) (old mid new : List (Entry T))
     → AreTaken schedules zones fs old mid → AreTaken schedules zones gs mid new → AreTaken schedules zones (fs ++ gs) old new
@@ -23,32 +28,13 @@ taken_too schedules zones [] gs old mid new same more = subst (λ es. AreTaken s
 taken_too schedules zones (f ∷ fs) gs old mid new first more =
     (first.0, first.1, taken_too schedules zones fs gs first.0 mid new first.2 more)
 
-ends_as_it_was : {T : Type 0} (P Q : Type 0) (a b : Listed T) → (P × (b ≡ a)) ⊎ ((b ≡ a) × Q) → b ≡ a
-ends_as_it_was P Q a b (inl none) = none.1
-ends_as_it_was P Q a b (inr ended) = ended.0
-
-due_is_taken : {T J E F : Type 0} (ts : Tables T) (js : JobCalls T J F) (t : ℤ) (most left : ℕ) (ds : List Deed) (a : Listed T) (j : J) (b : Listed T) (k : J)
-    → LeavesAgenda js → RunsDue {E = E} ts js t most ds a j (Ok left) b k → AreTaken ts.schedules ts.zones (taken ds) a.entries b.entries
-due_is_taken ts js t most left ds a j b k leaves runs =
-    let front = deeds_are_taken ts js t ds a j runs.agenda runs.job leaves runs.are_done in
-    subst (λ (x : Listed _). AreTaken ts.schedules ts.zones (taken ds) a.entries x.entries) (sym (ends_as_it_was _ _ runs.agenda b runs.ends.2)) front
-
-look_is_taken : {T J E F : Type 0} (ts : Tables T) (js : JobCalls T J F) (most left : ℕ) (ds : List Deed) (look : Result Timestamp E) (a : Listed T) (j : J) (b : Listed T) (k : J)
-    → LeavesAgenda js → Looks ts js most ds look a j (Ok (Some left)) b k → AreTaken ts.schedules ts.zones (taken ds) a.entries b.entries
-look_is_taken ts js most left ds (Ok now) a j b k leaves runs = due_is_taken ts js now.nanosecond most left ds a j b k leaves runs
-look_is_taken ts js most left ds (Err e) a j b k leaves failed = absurd (let no = failed.0 in cc)
-
-turn_is_taken : {T C J E F : Type 0} (ts : Tables T) (cs : ClockCalls C E) (js : JobCalls T J F) (most left : ℕ) (ds : List Deed) (c : C) (a : Listed T) (j : J) (d : C) (b : Listed T) (k : J)
-    → LeavesAgenda js → Turns ts cs js most ds c a j (Ok (Some left)) d b k → AreTaken ts.schedules ts.zones (taken ds) a.entries b.entries
-turn_is_taken ts cs js most left ds c a j d b k leaves (inl none) = absurd (let no = none.0 in cc)
-turn_is_taken ts cs js most left ds c a j d b k leaves (inr turn) = look_is_taken ts js most left ds turn.look a j b k leaves turn.looks
-
 pub turns_are_taken : {T C J E F : Type 0} (ts : Tables T) (cs : ClockCalls C E) (js : JobCalls T J F) → TurnsAreTaken ts cs js
 turns_are_taken ts cs js [] most left c a j c' a' j' leaves none = ap (λ (x : Listed _). x.entries) none.2
 turns_are_taken ts cs js (ds ∷ dss) most left c a j c' a' j' leaves turns =
-    taken_too ts.schedules ts.zones (taken ds) (all_taken dss) a.entries turns.2.entries a'.entries
-    (turn_is_taken ts cs js most turns.0 ds c a j turns.1 turns.2 turns.3 leaves turns.4)
-    (turns_are_taken ts cs js dss turns.0 left turns.1 turns.2 turns.3 c' a' j' leaves turns.5)
+    let done = turn_is_done ts cs js most turns.1 ds c a j turns.2 turns.3 turns.4 turns.5 in
+    taken_too ts.schedules ts.zones (taken ds) (all_taken dss) a.entries turns.3.entries a'.entries
+    (deeds_are_taken ts js done.0 ds a j turns.3 turns.4 leaves done.1)
+    (turns_are_taken ts cs js dss turns.1 left turns.2 turns.3 turns.4 c' a' j' leaves turns.6)
 
 pub runs_that_meet : {T C J E F : Type 0} (ts : Tables T) (cs : ClockCalls C E) (js : JobCalls T J F) → RunsThatMeetAreOne ts cs js
 runs_that_meet ts cs js first second most left more rest c d e g a b z j k l m leaves up one two =
@@ -57,8 +43,77 @@ runs_that_meet ts cs js first second most left more rest c d e g a b z j k l m l
     (taken_are_the_front ts.schedules ts.zones (all_taken first ++ all_taken second) a.entries z.entries up all).0
     ∙ ap (λ fires. fires ++ merged ts.schedules ts.zones z.entries) (map-append own_of (all_taken first) (all_taken second))
 
+pub restarted_runs : {T C J E F : Type 0} (ts : Tables T) (cs : ClockCalls C E) (js : JobCalls T J F) → RestartedRunsAreOne ts cs js
+restarted_runs ts cs js first second most left more rest low high from end c d e g a b n z j k l m leaves up ids ids_new one anew two =
+    let fire_of = λ (o : OwnFire). o.fire in
+    let fires = map (λ (f : AgendaFire). f.fire) in
+    let taken_first = turns_are_taken ts cs js first most left c a j d b k leaves one in
+    let front = taken_are_the_front ts.schedules ts.zones (all_taken first) a.entries b.entries up taken_first in
+    let goes = restart_of_all_goes_on ts.schedules ts.zones (all_taken first) a.entries b.entries n.entries low high from end ids ids_new taken_first anew in
+    let then_front = taken_are_the_front ts.schedules ts.zones (all_taken second) n.entries z.entries (goes.ascend front.1)
+    (turns_are_taken ts cs js second more rest e n l g z m leaves two) in
+    ap (map fire_of) front.0
+    ∙ map-append fire_of (map own_of (all_taken first)) (merged ts.schedules ts.zones b.entries)
+    ∙ ap (λ l. l ++ map fire_of (merged ts.schedules ts.zones b.entries)) (map-map fire_of own_of (all_taken first))
+    ∙ ap (λ l. fires (all_taken first) ++ l)
+    (sym goes.fires ∙ ap (map fire_of) then_front.0
+    ∙ map-append fire_of (map own_of (all_taken second)) (merged ts.schedules ts.zones z.entries)
+    ∙ ap (λ l. l ++ map fire_of (merged ts.schedules ts.zones z.entries)) (map-map fire_of own_of (all_taken second)))
+    ∙ sym (append_assoc (fires (all_taken first)) (fires (all_taken second)) (map fire_of (merged ts.schedules ts.zones z.entries)))
+
 pub one_entry_is_a_plan : {T C J E F : Type 0} (ts : Tables T) (cs : ClockCalls C E) (js : JobCalls T J F) → OneEntryIsAPlan ts cs js
 one_entry_is_a_plan ts cs js turns most runs added room c d e b j k leaves up all =
     sym (one_is_its_fires ts.schedules ts.zones e up)
     ∙ (taken_are_the_front ts.schedules ts.zones (all_taken turns) (e ∷ []) b.entries (up, tt)
     (turns_are_taken ts cs js turns most runs c _ j d b k leaves all)).0
+
+-- ---- runs that are cut
+
+-- what ends a turn, behind what its deeds took
+cut_end : {T J E F : Type 0} (ts : Tables T) (js : JobCalls T J F) (t : ℤ) (most : ℕ) (ds : List Deed) (old : List (Entry T)) (a : Listed T) (j : J)
+    (stop : AgendaStop E F) (a' : Listed T) (j' : J) → LeavesAgenda js → AreTaken ts.schedules ts.zones (taken ds) old a.entries
+    → EndsTurn ts js t most ds a j (Err stop) a' j'
+    → (fires : List AgendaFire) × IsCut js ds stop fires a' j' × AreTaken ts.schedules ts.zones fires old a'.entries
+cut_end ts js t most ds old a j (Clock e) a' j' leaves done ends = absurd ends
+cut_end ts js t most ds old a j (Zone why) a' j' leaves done ends =
+    (taken ds, refl, subst (λ (x : Listed _). AreTaken ts.schedules ts.zones (taken ds) old x.entries) (sym ends.2.1) done)
+cut_end ts js t most ds old a j (Job e) a' j' leaves done ends =
+    let same = leaves j ends.1 ends.2 (Err e) j' a' ends.4 in
+    let last = subst (λ (x : Listed _). IsTaken ts.schedules ts.zones a.entries ends.1 x.entries) (sym same) ends.3.takes.0.0 in (
+      taken ds ++ ends.1 ∷ [],
+      (ends.1, refl, (j, ends.2, ends.4)),
+      taken_too ts.schedules ts.zones (taken ds) (ends.1 ∷ []) old a.entries a'.entries done (a'.entries, last, refl),
+    )
+
+cut_look : {T J E F : Type 0} (ts : Tables T) (js : JobCalls T J F) (most : ℕ) (ds : List Deed) (look : Result Timestamp E) (a : Listed T) (j : J)
+    (stop : AgendaStop E F) (a' : Listed T) (j' : J) → LeavesAgenda js → Looks ts js most ds look a j (Err stop) a' j'
+    → (fires : List AgendaFire) × IsCut js ds stop fires a' j' × AreTaken ts.schedules ts.zones fires a.entries a'.entries
+cut_look ts js most ds (Err e) a j (Clock why) a' j' leaves failed = (
+  taken ds,
+  refl,
+  subst (λ (l : List Deed). AreTaken ts.schedules ts.zones (taken l) a.entries a'.entries) (sym failed.1) (ap (λ (x : Listed _). x.entries) failed.2),
+)
+cut_look ts js most ds (Err e) a j (Zone why) a' j' leaves failed = absurd (let no = failed.0 in cc)
+cut_look ts js most ds (Err e) a j (Job why) a' j' leaves failed = absurd (let no = failed.0 in cc)
+cut_look ts js most ds (Ok now) a j stop a' j' leaves runs =
+    cut_end ts js now.nanosecond most ds a.entries runs.agenda runs.job stop a' j' leaves
+    (deeds_are_taken ts js now.nanosecond ds a j runs.agenda runs.job leaves runs.are_done) runs.ends
+
+pub cut_turn_is_taken : {T C J E F : Type 0} (ts : Tables T) (cs : ClockCalls C E) (js : JobCalls T J F) → CutTurnIsTaken ts cs js
+cut_turn_is_taken ts cs js most ds c a j stop c' a' j' leaves (inl none) = absurd (let no = none.0 in cc)
+cut_turn_is_taken ts cs js most ds c a j stop c' a' j' leaves (inr turn) = cut_look ts js most ds turn.look a j stop a' j' leaves turn.looks
+
+cut_run : {T C J E F : Type 0} (ts : Tables T) (cs : ClockCalls C E) (js : JobCalls T J F) (turns left : ℕ) (c : C) (a : Listed T) (j : J)
+    (answer : Result ⊤ (AgendaStop E F)) (c' : C) (a' : Listed T) (j' : J) → LeavesAgenda js → (ends : EndsRun ts cs js turns left c a j answer c' a' j')
+    → (last : List AgendaFire) × TookLast ts cs js turns left c a j answer c' a' j' ends last × AreTaken ts.schedules ts.zones last a.entries a'.entries
+cut_run ts cs js turns left c a j (Ok done) c' a' j' leaves ends = ([], refl, ap (λ (x : Listed _). x.entries) ends.1)
+cut_run ts cs js turns left c a j (Err stop) c' a' j' leaves ends = cut_turn_is_taken ts cs js left ends.1 c a j stop c' a' j' leaves ends.2
+
+pub what_was_taken : {T C J E F : Type 0} (ts : Tables T) (cs : ClockCalls C E) (js : JobCalls T J F) → WhatWasTaken ts cs js
+what_was_taken ts cs js most c a j answer c' a' j' leaves run =
+    let cut = cut_run ts cs js (length run.deeds) run.left run.clock run.agenda run.job answer c' a' j' leaves run.ends in (
+      cut.0,
+      cut.1,
+      taken_too ts.schedules ts.zones (all_taken run.deeds) cut.0 a.entries run.agenda.entries a'.entries
+          (turns_are_taken ts cs js run.deeds most run.left c a j run.clock run.agenda run.job leaves run.are_turns) cut.2,
+    )

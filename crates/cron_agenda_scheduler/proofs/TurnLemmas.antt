@@ -1,5 +1,5 @@
 -- Deeds one after another, and turns.
-use Rattle.std.proofs.Common.{◌≡◌, ℕ, ◌+◌, ℤ, Bool, Some, None, List, [], ◌∷◌, ◌++◌, refl, subst, inl, inr, arith}
+use Rattle.std.proofs.Common.{◌≡◌, ℕ, ◌+◌, ◌<◌, ℤ, Bool, Some, None, List, [], ◌∷◌, ◌++◌, refl, subst, inl, inr, sym, ◌⊎◌, arith}
 use Rattle.std.specs.Prelude.{Option, Result, Ok, Err, ⊤, ◌*ℤ◌, pos, length}
 use Rattle.jiff_core.specs.declared.Timestamp.{Timestamp}
 use Rattle.cron_agenda.specs.declared.entry.Entry.{Entry}
@@ -10,7 +10,7 @@ use Rattle.cron_agenda_scheduler.specs.declared.stop.AgendaStop.{AgendaStop}
 use Rattle.cron_agenda_scheduler.specs.declared.picks.Pick.{Pick}
 use Rattle.cron_agenda_scheduler.specs.Inner.Picks.{Picks}
 use Rattle.cron_agenda_scheduler.specs.Late.{IsPicked, Tables}
-use Rattle.cron_agenda_scheduler.specs.Turns.{AreDone, AreTurns, Deed, EndsRun, IsDone, JobCalls, Looks, Passed, Ran, RunsLoop, Turn, Turns, all_runs, runs_in}
+use Rattle.cron_agenda_scheduler.specs.Turns.{AreDone, AreTurns, Deed, EndsRun, IsDone, JobCalls, Looks, Passed, Ran, RunsDue, RunsLoop, Turn, Turns, all_runs, runs_in}
 
 pub done_on : {T J F : Type 0} (ts : Tables T) (js : JobCalls T J F) (t : ℤ) (ds : List Deed) (a : Listed T) (j : J) (b : Listed T) (k : J) (d : Deed)
     (c : Listed T) (m : J) → AreDone ts js t ds a j b k → IsDone ts js t d b k c m → AreDone ts js t (ds ++ d ∷ []) a j c m
@@ -34,8 +34,9 @@ turned {entry = entry} first until is look wakes looks =
 
 pub turns_on : {T C J E F : Type 0} (ts : Tables T) (cs : ClockCalls C E) (js : JobCalls T J F) (dss : List (List Deed)) (most : ℕ) (c : C) (a : Listed T) (j : J)
     (rest : ℕ) (d : C) (b : Listed T) (k : J) (ds : List Deed) (left : ℕ) (c' : C) (a' : Listed T) (j' : J) → AreTurns ts cs js dss most c a j rest d b k
-    → Turns ts cs js rest ds d b k (Ok (Some left)) c' a' j' → AreTurns ts cs js (dss ++ ds ∷ []) most c a j left c' a' j'
-turns_on ts cs js [] most c a j rest d b k ds left c' a' j' was turn = (
+    → 0 < rest → Turns ts cs js rest ds d b k (Ok (Some left)) c' a' j' → AreTurns ts cs js (dss ++ ds ∷ []) most c a j left c' a' j'
+turns_on ts cs js [] most c a j rest d b k ds left c' a' j' was some turn = (
+  subst (λ n. 0 < n) was.0 some,
   left,
   c',
   a',
@@ -46,8 +47,8 @@ turns_on ts cs js [] most c a j rest d b k ds left c' a' j' was turn = (
       (subst (λ x. Turns ts cs js rest ds d b x (Ok (Some left)) c' a' j') was.3 turn))),
   (refl, refl, refl, refl),
 )
-turns_on ts cs js (here ∷ dss) most c a j rest d b k ds left c' a' j' was turn =
-    (was.0, was.1, was.2, was.3, was.4, turns_on ts cs js dss was.0 was.1 was.2 was.3 rest d b k ds left c' a' j' was.5 turn)
+turns_on ts cs js (here ∷ dss) most c a j rest d b k ds left c' a' j' was some turn =
+    (was.0, was.1, was.2, was.3, was.4, was.5, turns_on ts cs js dss was.1 was.2 was.3 was.4 rest d b k ds left c' a' j' was.6 some turn)
 
 -- how often the job was run in a turn
 looked : {T J E F : Type 0} (ts : Tables T) (js : JobCalls T J F) (most : ℕ) (ds : List Deed) (look : Result Timestamp E) (a : Listed T) (j : J) (left : ℕ)
@@ -87,3 +88,26 @@ pub picked_as : {T : Type 0} (ts : Tables T) (t : ℤ) (a : Listed T) (o : Optio
     → pick.is_run ≡ run → Picks ts t a (Ok o) b → IsPicked ts t a pick.due run b
 picked_as ts t a o pick b run is told picks =
     subst (λ (r : Bool). IsPicked ts t a pick.due r b) told (subst (λ (q : Option Pick). Picks ts t a (Ok q) b) is picks)
+
+-- ---- the deeds of a turn
+
+pub ends_as_it_was : {T : Type 0} (P Q : Type 0) (a b : Listed T) → (P × (b ≡ a)) ⊎ ((b ≡ a) × Q) → b ≡ a
+ends_as_it_was P Q a b (inl none) = none.1
+ends_as_it_was P Q a b (inr ended) = ended.0
+
+due_is_done : {T J E F : Type 0} (ts : Tables T) (js : JobCalls T J F) (t : ℤ) (most left : ℕ) (ds : List Deed) (a : Listed T) (j : J) (b : Listed T) (k : J)
+    → RunsDue {E = E} ts js t most ds a j (Ok left) b k → AreDone ts js t ds a j b k
+due_is_done ts js t most left ds a j b k runs =
+    subst (λ x. AreDone ts js t ds a j x k) (sym (ends_as_it_was _ _ runs.agenda b runs.ends.2))
+    (subst (λ y. AreDone ts js t ds a j runs.agenda y) (sym runs.ends.1) runs.are_done)
+
+look_is_done : {T J E F : Type 0} (ts : Tables T) (js : JobCalls T J F) (most left : ℕ) (ds : List Deed) (look : Result Timestamp E) (a : Listed T) (j : J)
+    (b : Listed T) (k : J) → Looks ts js most ds look a j (Ok (Some left)) b k → (t : ℤ) × AreDone ts js t ds a j b k
+look_is_done ts js most left ds (Ok now) a j b k runs = (now.nanosecond, due_is_done ts js now.nanosecond most left ds a j b k runs)
+look_is_done ts js most left ds (Err e) a j b k failed = absurd (let no = failed.0 in cc)
+
+-- the deeds of a turn that goes well were done by the time that its look showed
+pub turn_is_done : {T C J E F : Type 0} (ts : Tables T) (cs : ClockCalls C E) (js : JobCalls T J F) (most left : ℕ) (ds : List Deed) (c : C) (a : Listed T) (j : J)
+    (d : C) (b : Listed T) (k : J) → Turns ts cs js most ds c a j (Ok (Some left)) d b k → (t : ℤ) × AreDone ts js t ds a j b k
+turn_is_done ts cs js most left ds c a j d b k (inl none) = absurd (let no = none.0 in cc)
+turn_is_done ts cs js most left ds c a j d b k (inr turn) = look_is_done ts js most left ds turn.look a j b k turn.looks

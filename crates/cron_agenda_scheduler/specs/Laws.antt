@@ -1,12 +1,14 @@
 -- What the deeds of a look at the clock are of all fires that the entries have, where the job leaves the agenda as it is.
-use Rattle.std.specs.Prelude.{◌≡◌, ◌<◌, ◌-◌, ◌^◌, ◌*ℤ◌, ℕ, ℤ, pos, Bool, int_le, List, [], ◌∷◌, ◌++◌, Result, Ok, ⊤, filter, length, map}
+use Rattle.std.specs.Prelude.{◌≡◌, ◌<◌, ◌-◌, ◌^◌, ◌*ℤ◌, ℕ, ℤ, pos, Bool, int_le, List, [], ◌∷◌, ◌++◌, Result, Ok, Err, ⊤, filter, length, map}
 use Rattle.cron_agenda.specs.declared.entry.Entry.{Entry}
 use Rattle.cron_agenda.specs.declared.fire.AgendaFire.{AgendaFire}
-use Rattle.cron_agenda.specs.Entries.{Listed, listed}
+use Rattle.cron_agenda.specs.Entries.{HaveIds, Listed, listed}
 use Rattle.cron_agenda.specs.Fires.{instant}
-use Rattle.cron_agenda.specs.Merged.{AllAscend, AreTaken, Ascend, OwnFire, left, merged, own_of, owned}
+use Rattle.cron_agenda.specs.Merged.{AllAscend, AreTaken, Ascend, OwnFire, left, merged, own_of, owned, IsAnew}
+use Rattle.cron_agenda_scheduler.specs.declared.stop.AgendaStop.{AgendaStop}
+use Rattle.cron_agenda_scheduler.specs.declared.stop.AgendaStop.TheVariants.{Clock, Zone, Job}
 use Rattle.cron_agenda_scheduler.specs.Late.{Tables}
-use Rattle.cron_agenda_scheduler.specs.Turns.{AreDone, AreTurns, Deed, JobCalls, RunsDue, all_taken, taken}
+use Rattle.cron_agenda_scheduler.specs.Turns.{AreDone, AreTurns, Deed, EndsRun, JobCalls, RunsDue, RunsLoop, Turns, all_taken, taken}
 use Rattle.cron_scheduler.specs.Runs.{ClockCalls}
 
 -- a run of the job leaves the agenda as it is
@@ -44,8 +46,8 @@ TurnsAreTaken {T} {C} {J} ts cs js =
     → AreTurns ts cs js turns most c a j left c' a' j'
     → AreTaken ts.schedules ts.zones (all_taken turns) a.entries a'.entries
 
--- .. so a run that ends anywhere, and one that goes on from the entries as they were then, take what a run that isn't cut would
--- take: a front of all that the entries have, in order, each once ..
+-- .. so a run that ends behind any turn, and one that goes on from the entries as they were then, take what a run that isn't cut
+-- would take: a front of all that the entries have, in order, each once ..
 abbrev pub RunsThatMeetAreOne : {T C J E F : Type 0} → (ts : Tables T) → ClockCalls C E → JobCalls T J F → Type 0
 RunsThatMeetAreOne {T} {C} {J} ts cs js =
     (first second : List (List Deed)) (most left more rest : ℕ) (c d e g : C) (a b z : Listed T) (j k l m : J)
@@ -55,6 +57,20 @@ RunsThatMeetAreOne {T} {C} {J} ts cs js =
     → AreTurns ts cs js second more e b l rest g z m
     → merged ts.schedules ts.zones a.entries ≡ (map own_of (all_taken first) ++ map own_of (all_taken second)) ++ merged ts.schedules ts.zones z.entries
 
+-- .. and so does one that goes on after a restart, fire for fire, from entries that are added anew past all that was run or passed over ..
+abbrev pub RestartedRunsAreOne : {T C J E F : Type 0} → (ts : Tables T) → ClockCalls C E → JobCalls T J F → Type 0
+RestartedRunsAreOne {T} {C} {J} ts cs js =
+    (first second : List (List Deed)) (most left more rest low high from end : ℕ) (c d e g : C) (a b n z : Listed T) (j k l m : J)
+    → LeavesAgenda js
+    → AllAscend ts.schedules ts.zones a.entries
+    → HaveIds low a.entries high
+    → HaveIds from n.entries end
+    → AreTurns ts cs js first most c a j left d b k
+    → IsAnew ts.schedules ts.zones (all_taken first) a.entries n.entries
+    → AreTurns ts cs js second more e n l rest g z m
+    → map (λ o. o.fire) (merged ts.schedules ts.zones a.entries)
+    ≡ (map (λ f. f.fire) (all_taken first) ++ map (λ f. f.fire) (all_taken second)) ++ map (λ o. o.fire) (merged ts.schedules ts.zones z.entries)
+
 -- .. and of one entry its own fires as they stand, as a plan of one schedule has them.
 abbrev pub OneEntryIsAPlan : {T C J E F : Type 0} → (ts : Tables T) → ClockCalls C E → JobCalls T J F → Type 0
 OneEntryIsAPlan {T} {C} {J} ts cs js =
@@ -63,3 +79,38 @@ OneEntryIsAPlan {T} {C} {J} ts cs js =
     → Ascend (left ts.schedules ts.zones e)
     → AreTurns ts cs js turns most c (listed (e ∷ []) added room) j runs d b k
     → owned e.id (left ts.schedules ts.zones e) ≡ map own_of (all_taken turns) ++ merged ts.schedules ts.zones b.entries
+
+-- the job failed for this fire with this error, and that left the agenda and the job so
+abbrev pub FailsFor : {T J F : Type 0} → JobCalls T J F → AgendaFire → F → Listed T → J → Type 0
+FailsFor {T} {J} js f e a' j' = (k : J) × (b : Listed T) × js.runs k f b (Err e) j' a'
+
+-- A turn that was cut took just these fires: those of its deeds, and behind them, where the job failed, the one for which it failed.
+abbrev pub IsCut : {T J E F : Type 0} → JobCalls T J F → List Deed → AgendaStop E F → List AgendaFire → Listed T → J → Type 0
+IsCut js ds (Clock e) fires a' j' = fires ≡ taken ds
+IsCut js ds (Zone why) fires a' j' = fires ≡ taken ds
+IsCut js ds (Job e) fires a' j' = (f : AgendaFire) × (fires ≡ taken ds ++ f ∷ []) × FailsFor js f e a' j'
+
+-- Behind its whole turns a run took just these fires: none where it ended well, and else those of the turn that was cut.
+abbrev pub TookLast : {T C J E F : Type 0} (ts : Tables T) (cs : ClockCalls C E) (js : JobCalls T J F) (turns left : ℕ) (c : C) (a : Listed T) (j : J)
+    (answer : Result ⊤ (AgendaStop E F)) (c' : C) (a' : Listed T) (j' : J) → EndsRun ts cs js turns left c a j answer c' a' j' → List AgendaFire → Type 0
+TookLast ts cs js turns left c a j (Ok done) c' a' j' ends fires = fires ≡ []
+TookLast ts cs js turns left c a j (Err stop) c' a' j' ends fires = IsCut js ends.1 stop fires a' j'
+
+-- So where the clock or the job failed, or a zone was missing, just these fires were taken, one after another.
+abbrev pub CutTurnIsTaken : {T C J E F : Type 0} → (ts : Tables T) → ClockCalls C E → JobCalls T J F → Type 0
+CutTurnIsTaken {T} {C} {J} {E} {F} ts cs js =
+    (most : ℕ) (ds : List Deed) (c : C) (a : Listed T) (j : J) (stop : AgendaStop E F) (c' : C) (a' : Listed T) (j' : J)
+    → LeavesAgenda js
+    → Turns ts cs js most ds c a j (Err stop) c' a' j'
+    → (fires : List AgendaFire) × IsCut js ds stop fires a' j' × AreTaken ts.schedules ts.zones fires a.entries a'.entries
+
+-- However a run ends, its fires were taken one after another. First come those of its whole turns, and then just those of the turn that
+-- was cut. So it can be gone on with.
+abbrev pub WhatWasTaken : {T C J E F : Type 0} → (ts : Tables T) → ClockCalls C E → JobCalls T J F → Type 0
+WhatWasTaken {T} {C} {J} {E} {F} ts cs js =
+    (most : ℕ) (c : C) (a : Listed T) (j : J) (answer : Result ⊤ (AgendaStop E F)) (c' : C) (a' : Listed T) (j' : J)
+    → LeavesAgenda js
+    → (run : RunsLoop ts cs js most c a j answer c' a' j')
+    → (last : List AgendaFire)
+    × TookLast ts cs js (length run.deeds) run.left run.clock run.agenda run.job answer c' a' j' run.ends last
+    × AreTaken ts.schedules ts.zones (all_taken run.deeds ++ last) a.entries a'.entries

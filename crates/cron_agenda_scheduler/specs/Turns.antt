@@ -104,11 +104,12 @@ pub record Steps {T C J E F : Type 0} (ts : Tables T) (cs : ClockCalls C E) (js 
   pub turns : Turns ts cs js (2 ^ 64 - 1) deeds c a j turned c' a' j'
   pub told : answer ≡ went turned
 
--- turn after turn, each with its deeds, from so many runs to what is left of them
+-- turn after turn, each where a run was left, with its deeds, from so many runs to what is left of them
 abbrev pub AreTurns : {T C J E F : Type 0} → Tables T → ClockCalls C E → JobCalls T J F → List (List Deed) → ℕ → C → Listed T → J → ℕ → C → Listed T → J → Type 0
 AreTurns ts cs js [] most c a j left c' a' j' = (left ≡ most) × (c' ≡ c) × (a' ≡ a) × (j' ≡ j)
 AreTurns {T} {C} {J} ts cs js (ds ∷ dss) most c a j left c' a' j' =
-    (rest : ℕ) × (d : C) × (b : Listed T) × (k : J) × Turns ts cs js most ds c a j (Ok (Some rest)) d b k × AreTurns ts cs js dss rest d b k left c' a' j'
+    (0 < most) × (rest : ℕ) × (d : C) × (b : Listed T) × (k : J) × Turns ts cs js most ds c a j (Ok (Some rest)) d b k
+    × AreTurns ts cs js dss rest d b k left c' a' j'
 
 -- the fires that were taken in all of them, in order
 abbrev pub all_taken : List (List Deed) → List AgendaFire
@@ -120,12 +121,13 @@ abbrev pub all_runs : List (List Deed) → ℕ
 all_runs [] = 0
 all_runs (ds ∷ dss) = runs_in ds + all_runs dss
 
--- What came behind the turns: no run was left, or there were no entries, or there were 2^64 - 1 turns; or a turn ended with an error.
+-- What came behind the turns: no run was left, or there were no entries, or there were 2^64 - 1 turns. Or a run was left, and its turn
+-- ended with an error.
 abbrev pub EndsRun : {T C J E F : Type 0} → Tables T → ClockCalls C E → JobCalls T J F → ℕ → ℕ → C → Listed T → J → Result ⊤ (AgendaStop E F) → C → Listed T → J
     → Type 0
 EndsRun ts cs js turns left c a j (Ok done) c' a' j' =
     (c' ≡ c) × (a' ≡ a) × (j' ≡ j) × ((left ≡ 0) ⊎ ((a.entries ≡ []) ⊎ (turns ≡ 2 ^ 64 - 1)))
-EndsRun ts cs js turns left c a j (Err stop) c' a' j' = (ds : List Deed) × Turns ts cs js left ds c a j (Err stop) c' a' j'
+EndsRun ts cs js turns left c a j (Err stop) c' a' j' = (0 < left) × (ds : List Deed) × Turns ts cs js left ds c a j (Err stop) c' a' j'
 
 -- a run of the loop: its turns, in which the job was run so often at the most, and what ended it
 pub record RunsLoop {T C J E F : Type 0} (ts : Tables T) (cs : ClockCalls C E) (js : JobCalls T J F) (most : ℕ) (c : C) (a : Listed T) (j : J)

@@ -68,6 +68,10 @@ impl<'a> HasLateness for Union<'a> {
 impl<T: Timetable> Timetable for Timely<T> {
     ghost schedules = { λ t. T.schedules t.table };
 
+    fn schedules(&self) -> &[ScheduleFields] {
+        self.table.schedules()
+    }
+
     fn first_after(&self, now: Timestamp, zone: &TimeZone<'_>) -> Option<Moment> {
         self.table.first_after(now, zone)
     }

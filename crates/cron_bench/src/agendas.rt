@@ -53,12 +53,18 @@ fn entry_at(plan: &Plan<'_>, at: usize) -> Result<(ScheduleFields, usize)> {
     Ok((*table, at % 3))
 }
 
+/// Adds the entry with this number.
+fn add(agenda: &mut Agenda<ScheduleFields>, plan: &Plan<'_>, at: u32) -> Result<()> {
+    let (table, zone) = entry_at(plan, at as usize)?;
+    let changes = ClockChanges::AsShown;
+    agenda.add(table, changes, plan.start, plan.zones, zone)?;
+    Ok(())
+}
+
 /// Adds so many entries, whose memory was taken before.
 fn fill(agenda: &mut Agenda<ScheduleFields>, plan: &Plan<'_>, count: u32) -> Result<()> {
-    for at in 0..count as usize {
-        let (table, zone) = entry_at(plan, at)?;
-        let changes = ClockChanges::AsShown;
-        agenda.add(table, changes, plan.start, plan.zones, zone)?;
+    for at in 0..count {
+        add(agenda, plan, at)?;
     }
     Ok(())
 }
@@ -161,8 +167,9 @@ fn time_adds(
     Ok(())
 }
 
-/// Prints the longest call that takes a fire, and the longest one that removes an entry, while all
-/// are removed.
+/// Prints the longest call that takes a fire, the longest one that removes an entry, while all are
+/// removed, and the longest one that adds one, whose memory was taken before, while as many are
+/// added again.
 fn time_pauses(
     rt: &HostRuntime,
     agenda: &mut Agenda<ScheduleFields>,
@@ -173,6 +180,11 @@ fn time_pauses(
     println!(rt; "agenda | {count} | longest next | {next}")?;
     let remove = longest_call(rt, count, |at| agenda.remove(u64::from(at)))?;
     println!(rt; "agenda | {count} | longest remove | {remove}")?;
+    agenda.reserve(count as usize)?;
+    let mut is_whole = true;
+    let added = longest_call(rt, count, |at| is_whole &= add(agenda, plan, at).is_ok())?;
+    ensure!(is_whole, "agenda: an entry is refused");
+    println!(rt; "agenda | {count} | longest add | {added}")?;
     Ok(())
 }
 

@@ -10,7 +10,7 @@ use Rattle.cron_clocks.specs.Clocks.{shown_offset}
 use Rattle.cron_clocks.proofs.Windows.{le_yes}
 use Rattle.cron_time.proofs.PlaceLemmas.{nothing_in_nil}
 use Rattle.cron_dues.specs.Clock.Due.{Clock, clock_of}
-use Rattle.cron_dues.specs.Inner.Steady.{IsKept}
+use Rattle.cron_dues.specs.Steady.{IsKept}
 use Rattle.cron_c.specs.Histories.{IsHistory, IsZoneAt, has_started}
 use Rattle.cron_c.specs.HistoryClocks.{InHistory, IsClockOf, era_at}
 use Rattle.cron_c.specs.Inner.HistoryClocks.{Held, held_by, held_clock, held_of, held_once, history_clock, seconds_set, zone_held}

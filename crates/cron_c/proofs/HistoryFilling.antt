@@ -6,10 +6,10 @@ use Rattle.cron_clocks.proofs.Windows.{le_yes, lt_yes}
 use Rattle.cron_units.specs.Sets.{Sets}
 use Rattle.cron_moments.specs.Readings.{Reading, instant}
 use Rattle.cron_instants.specs.Fires.{fires, fires_after, fires_past, is_after, is_by}
-use Rattle.cron_instants.specs.Instants.{IsAfter, IsAmong, IsBy, IsItem as IsOnTimeline}
+use Rattle.cron_instants.specs.Instants.{Ascends, IsAfter, IsAmong, IsBy, IsItem as IsOnTimeline}
 use Rattle.cron_instants.specs.Order.{is_earlier}
 use Rattle.cron_time.proofs.ListLemmas.{among-filter, among-join, among-none, filter-among}
-use Rattle.cron_instants.proofs.AscentLemmas.{Ascends, ascends-filter}
+use Rattle.cron_instants.proofs.AscentLemmas.{ascends-filter}
 use Rattle.cron_instants.proofs.FireLemmas.{fires-ascend, fires-of_item, int_le-true, int_lt-true, item-of_fires}
 use Rattle.cron_instants.proofs.OrderLemmas.{before-less}
 use Rattle.cron_c.specs.Calls.{IsInstant}

@@ -1,10 +1,10 @@
 -- Readings that come one after the other, as a list of all that have a property begins with them.
 use Rattle.std.proofs.Common.{◌≡◌, true, List, [], ◌∷◌, ◌++◌, Option, Some, None, ◌⊎◌, inl, inr, sym, ap, subst, ◌∙◌}
 use Rattle.cron_moments.specs.Readings.{Reading}
-use Rattle.cron_instants.specs.Instants.{IsAmong, IsEarliest}
+use Rattle.cron_instants.specs.Instants.{Ascends, IsAmong, IsEarliest}
 use Rattle.cron_instants.specs.Order.{is_earlier}
 use Rattle.cron_time.proofs.ListLemmas.{among-cases, among-first, among-none, among-rest}
-use Rattle.cron_instants.proofs.AscentLemmas.{Ascends, earlier-not_back, earlier-not_itself}
+use Rattle.cron_instants.proofs.AscentLemmas.{earlier-not_back, earlier-not_itself}
 use Rattle.cron_c.specs.Histories.{Leads}
 use Rattle.cron_c.proofs.Eras.{alike}
 

@@ -5,7 +5,7 @@ use Rattle.cron_units.specs.Sets.{Sets}
 use Rattle.cron_units.specs.declared.way.Way.{Way}
 use Rattle.cron_units.specs.declared.way.Way.TheVariants.{Ahead, Back}
 use Rattle.cron_moments.specs.Readings.{Reading}
-use Rattle.cron_instants.specs.Inner.Beyond.{IsBest}
+use Rattle.cron_instants.specs.Beyond.{IsBest}
 use Rattle.cron_instants.specs.Instants.{IsAfter, IsBy}
 use Rattle.cron_instants.specs.Order.{is_earlier}
 use Rattle.cron_instants.proofs.BestLemmas.{best_of_more}

@@ -9,7 +9,7 @@ use Rattle.cron_units.specs.declared.way.Way.{Way}
 use Rattle.cron_units.specs.Sets.{Sets}
 use Rattle.cron_moments.specs.Readings.{Reading, instant}
 use Rattle.cron_instants.specs.Instants.{IsAmong, IsBy, IsEarliest}
-use Rattle.cron_instants.specs.Inner.Beyond.{IsBest, is_nearer, nearer_of}
+use Rattle.cron_instants.specs.Beyond.{IsBest, is_nearer, nearer_of}
 use Rattle.cron_instants.specs.Order.{is_earlier}
 use Rattle.cron_instants.proofs.BestLemmas.{best_of_both, best_of_more}
 use Rattle.cron_instants.proofs.FireLemmas.{int_lt-true}

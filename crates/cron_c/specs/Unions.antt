@@ -6,7 +6,7 @@ use Rattle.cron_instants.specs.Instants.{IsAfter, IsBy, IsEarliest, IsLatest}
 use Rattle.cron_dues.specs.Clock.Due.{Clock, Due, due}
 use Rattle.cron_dues.specs.Clock.Dues.{is_due_after, is_due_by, is_past}
 use Rattle.cron_dues.specs.Clock.FirstDues.{IsFirst, IsLast}
-use Rattle.cron_dues.specs.Inner.Left.{left_from}
+use Rattle.cron_dues.specs.Left.{left_from}
 use Rattle.cron_unions.specs.Unions.{seconds_of_any}
 use Rattle.cron_c.specs.Histories.{IsFound, IsHistoryItem}
 use Rattle.cron_c.specs.Structs.{sets_of}

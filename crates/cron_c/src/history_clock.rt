@@ -2,7 +2,7 @@
 
 ghost use Rattle.std.specs.Prelude.{◌≡◌, ◌+◌, ◌<◌, ◌<ℤ◌, ◌≤ℤ◌, ℤ, neg_ℤ, pos, false, [], MatchOption, length};
 ghost use Rattle.jiff_core.specs.Calendar.{IsBetween};
-ghost use Rattle.cron_dues.specs.Inner.Steady.{IsKept};
+ghost use Rattle.cron_dues.specs.Steady.{IsKept};
 ghost use Rattle.jiff_tz.specs.declared.timezone.TimeZone.{TimeZone};
 ghost use Rattle.cron_dues.specs.Clock.Due.{clock_of};
 ghost use Rattle.cron_c.specs.Histories.{IsHistory, IsZoneAt, has_started};

@@ -3,9 +3,9 @@
 ghost use Rattle.std.specs.Prelude.{◌≡◌, ◌<◌, ◌∷◌, ◌+ℤ◌, [], pos, IfSome, MatchOption};
 ghost use Rattle.cron_units.specs.Nearest.{IsNearest};
 ghost use Rattle.cron_moments.specs.Civil.{seconds_in_range};
-ghost use Rattle.cron_dues.specs.Inner.Nearest.{IsNearestDue};
-ghost use Rattle.cron_unions.specs.Inner.Nearest.{is_match_any};
-ghost use Rattle.cron_unions.specs.Inner.Nearest as unions;
+ghost use Rattle.cron_dues.specs.Nearest.{IsNearestDue};
+ghost use Rattle.cron_unions.specs.Nearest.{is_match_any};
+ghost use Rattle.cron_unions.specs.Nearest as unions;
 ghost use Rattle.cron_c.specs.Arrays.{Fills};
 ghost use Rattle.cron_c.specs.Dues.{IsDueItem};
 ghost use Rattle.cron_c.specs.Unions.{dues_left, sets_of_all};

@@ -7,7 +7,7 @@ ghost use Rattle.cron_instants.specs.Instants.{IsFirstAfter};
 
 use cron::Schedule;
 use cron::schedule::Moment;
-use cron_fires::{first_fire_after, missed};
+use cron_fires::{first_fire_after, laws, missed};
 use jiff::Timestamp;
 use jiff::tz::TimeZone;
 use std::alloc::{AllocError, Global};
@@ -18,6 +18,7 @@ use std::alloc::{AllocError, Global};
 pub fn next_fire(schedule: &Schedule, now: Timestamp, zone: &TimeZone<'_>) -> Option<Moment>
     ensures { IsFirstAfter schedule.now.sets (plain_zone zone.now) now.nanosecond result }
 {
+    laws::one_schedule();
     first_fire_after(schedule, now, zone)
 }
 
@@ -33,5 +34,6 @@ pub fn missed_runs(
     ensures { IfOk result (λ missed. missed.items
         ≡ fires_between schedule.now.sets (plain_zone zone.now) last.nanosecond now.nanosecond) }
 {
+    laws::one_schedule();
     missed(alloc, schedule, last, now, zone)
 }

@@ -9,6 +9,7 @@ ghost use Rattle.cron_instants.specs.Instants.{IsFirstPast};
 use cron::schedule::Moment;
 use cron::{Schedule, laws};
 use cron_fires::first_fire_past;
+use cron_fires::laws::one_schedule;
 use jiff::civil::DateTime;
 use jiff::tz::{Offset, TimeZone};
 
@@ -34,6 +35,7 @@ pub fn fire_after(schedule: &Schedule, noted: Noted, zone: &TimeZone<'_>) -> Opt
     let Some(fire) = Moment::from_parts(noted.shown, noted.offset) else {
         return None;
     };
+    one_schedule();
     first_fire_past(schedule, &fire, zone)
 }
 

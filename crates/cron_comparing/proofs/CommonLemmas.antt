@@ -16,7 +16,7 @@ use Rattle.cron_moments.specs.Civil.{civil, seconds_in_range}
 use Rattle.cron_time.specs.Matches.{is_match, matches}
 use Rattle.cron_time.proofs.Searches.LastDayLemmas.{same_nearest}
 use Rattle.cron_unions.specs.Unions.{matches_any}
-use Rattle.cron_unions.specs.Inner.Nearest.{is_match_any, nearer_second}
+use Rattle.cron_unions.specs.Nearest.{is_match_any, nearer_second}
 use Rattle.cron_unions.proofs.NearestLemmas.{nearest-of_both}
 use Rattle.cron_comparing.specs.Comparisons.{IsFirst, is_common}
 use Rattle.cron_comparing.specs.Inner.Common.{IsLeast, both_match, both_match_any, in_shorter, matches_with, month_length}

@@ -18,13 +18,13 @@ use Rattle.cron_units.proofs.SetLemmas.{filter_none}
 use Rattle.cron_time.specs.Matches.{contains_year, is_candidate, is_match, matches, matches_time}
 use Rattle.cron_time.proofs.Searches.DayLemmas.{by_number_alone}
 use Rattle.cron_unions.specs.Unions.{matches_any}
-use Rattle.cron_unions.specs.Inner.Nearest.{is_match_any, nearer_second}
+use Rattle.cron_unions.specs.Nearest.{is_match_any, nearer_second}
 use Rattle.cron_unions.specs.declared.units.Unit.{Unit}
 use Rattle.cron_unions.specs.declared.units.Unit.TheVariants.{Year, Month, Day, Weekday, Hour, Minute, Second}
 use Rattle.cron_comparing.specs.Comparisons.{IsFirst, differ, is_difference}
 use Rattle.cron_comparing.specs.Inner.Common.{IsLeast, in_shorter, month_length}
 use Rattle.cron_comparing.specs.Inner.Differences.{AreInMonthsOf, NoneBefore, matches_alone, matches_outside, matches_without}
-use Rattle.cron_unions.specs.Inner.Units.{has_unit, has_units}
+use Rattle.cron_unions.specs.Units.{has_unit, has_units}
 use Rattle.cron_comparing.proofs.CommonLemmas.{either_least, first_of_least, longer, match-more, match-none, none_least, or_and, same_least, take-whole}
 
 -- ---- where nothing comes before the first one so far

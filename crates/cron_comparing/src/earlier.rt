@@ -1,7 +1,7 @@
 //! The earlier of two civil seconds.
 ghost use Rattle.std.specs.Prelude.{◌≡◌};
 ghost use Rattle.cron_units.specs.declared.way.Way.TheVariants.{Ahead};
-ghost use Rattle.cron_unions.specs.Inner.Nearest.{nearer_second};
+ghost use Rattle.cron_unions.specs.Nearest.{nearer_second};
 
 /// The earlier one, or the one that is there.
 #[inline(always)]

@@ -9,9 +9,9 @@ use Rattle.cron_units.specs.declared.way.Way.TheVariants.{Ahead}
 use Rattle.cron_time.specs.Matches.{is_match}
 use Rattle.cron_moments.specs.Civil.{seconds_in_range}
 use Rattle.cron_dues.specs.Clock.Due.{CanBeDue, Clock, Due, due, due_instant, shows}
-use Rattle.cron_dues.specs.Inner.Known.{AreDueFrom, IsNextDue}
-use Rattle.cron_dues.specs.Inner.Nearest.{IsNearestDue}
-use Rattle.cron_dues.specs.Inner.Reached.{IsAhead}
+use Rattle.cron_dues.specs.Known.{AreDueFrom, IsNextDue}
+use Rattle.cron_dues.specs.Nearest.{IsNearestDue}
+use Rattle.cron_dues.specs.Reached.{IsAhead}
 use Rattle.cron_dues.specs.declared.ahead.Known.{Known}
 use Rattle.cron_dues.specs.declared.steady.Steady.{Steady}
 use Rattle.cron_clocks.proofs.Windows.{le_no}

@@ -4,7 +4,7 @@ use Rattle.std.proofs.lemmas.Int.{by_lt_z}
 use Rattle.jiff_core.proofs.SignedLemmas.{signed_arith}
 use Rattle.cron_clocks.proofs.Windows.{le_yes, le_no}
 use Rattle.cron_dues.specs.Clock.Due.{Clock, IsDueAt, shows, due_instant, first_reaching, DueInstantsAreFirst, FiresAreDue}
-use Rattle.cron_dues.specs.Inner.Reached.{IsUnreachedBefore, IsGreatestBy, IsReachedBy}
+use Rattle.cron_dues.specs.Reached.{IsUnreachedBefore, IsGreatestBy, IsReachedBy}
 
 -- ---- a clock is nearer than 26 hours to UTC
 

@@ -12,7 +12,7 @@ use Rattle.jiff_tz.specs.PosixRule.{transition_view}
 use Rattle.jiff_tz.specs.declared.timezone.TimeZone.{TimeZone}
 use Rattle.jiff_tz.specs.Zone.{next_at, offset_at}
 use Rattle.cron_dues.specs.Clock.Due.{clock_of}
-use Rattle.cron_dues.specs.Inner.Steady.{IsKept, IsOneYear, IsShortOf}
+use Rattle.cron_dues.specs.Steady.{IsKept, IsOneYear, IsShortOf}
 use Rattle.cron_dues.proofs.ZoneLemmas.{zone_kept}
 
 -- before the whole second of the next transition

@@ -18,7 +18,8 @@ use Rattle.cron_dues.specs.Clock.FirstDues.{IsDue}
 use Rattle.cron_dues.specs.DueLaws.{IsFirstReading, FiresAreTheMatches, NominalSecondsAscend, DueInstantsNeverDecrease, FirstReadingsAreDue, GapsArePassedOver, CutListsGoOn}
 use Rattle.cron_dues.proofs.DueLemmas.{as_natural, due_ascends, due_by, due_is, fire_due}
 use Rattle.cron_time.proofs.ListLemmas.{map-back}
-use Rattle.cron_dues.proofs.ListLemmas.{Ascends, ascends-at, cut-behind}
+use Rattle.cron_dues.specs.Ascent.{Ascends}
+use Rattle.cron_dues.proofs.ListLemmas.{ascends-at, cut-behind}
 use Rattle.cron_dues.proofs.MemberLemmas.{all-ascend, own-of, sets-match}
 use Rattle.cron_dues.proofs.WayLemmas.{back}
 

@@ -4,11 +4,7 @@ use Rattle.std.specs.Prelude.{filter, map, slice_get}
 use Rattle.cron_time.proofs.ListLemmas.{Among, among-below, among-cases, among-filter, among-first, among-join, among-map, among-none, among-rest, filter-all, filter-within, join-among}
 use Rattle.cron_time.proofs.PlaceLemmas.{nothing_in_nil}
 use Rattle.cron_time.specs.Timeline.{numbers_below}
-
--- the key of each element is less than that of those behind it
-abbrev pub Ascends : {A : Type 0} → (A → ℕ) → List A → Type 0
-Ascends key [] = Unit {0}
-Ascends key (x ∷ l) = ((y : _) → Among l y → key x < key y) × Ascends key l
+use Rattle.cron_dues.specs.Ascent.{Ascends}
 
 pub ascends-at : {A : Type 0} (key : A → ℕ) (l : List A) (i j : ℕ) (x y : A) → Ascends key l → i < j → slice_get l i ≡ Some x → slice_get l j ≡ Some y
     → key x < key y

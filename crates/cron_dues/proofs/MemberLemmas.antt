@@ -16,11 +16,12 @@ use Rattle.cron_clocks.proofs.Windows.{le_yes, lt_yes}
 use Rattle.cron_dues.specs.Clock.Due.{Clock, Due, due, due_instant, instant}
 use Rattle.cron_dues.specs.Clock.Dues.{matching_seconds, is_due_after, is_due_by, is_past}
 use Rattle.cron_dues.specs.Clock.FirstDues.{IsFirst, IsLast}
-use Rattle.cron_dues.specs.Inner.Reached.{IsReachedBy}
-use Rattle.cron_dues.specs.Inner.Nearest.{IsNearestDue}
+use Rattle.cron_dues.specs.Reached.{IsReachedBy}
+use Rattle.cron_dues.specs.Nearest.{IsNearestDue}
 use Rattle.cron_dues.proofs.DueLemmas.{fire_due}
 use Rattle.cron_time.proofs.ListLemmas.{Among, among-below, among-filter, among-map, below-among, filter-among, map-among}
-use Rattle.cron_dues.proofs.ListLemmas.{Ascends, ascends-filter, ascends-map, numbers-ascend}
+use Rattle.cron_dues.specs.Ascent.{Ascends}
+use Rattle.cron_dues.proofs.ListLemmas.{ascends-filter, ascends-map, numbers-ascend}
 
 -- ---- the civil seconds that pass a test
 

@@ -3,8 +3,8 @@ use Rattle.std.proofs.Common.{◌≡◌, ℕ, Option, Some, None, ◌⊎◌, inl
 use Rattle.std.proofs.lemmas.Int.{by_lt_z}
 use Rattle.jiff_core.proofs.SignedLemmas.{signed_arith}
 use Rattle.cron_dues.specs.Clock.Due.{Clock, shows}
-use Rattle.cron_dues.specs.Inner.Steady.{IsKept}
-use Rattle.cron_dues.specs.Inner.Reached.{IsAhead, IsGathered, IsGreatestBy, IsShownBy, LeadsOn, left_to}
+use Rattle.cron_dues.specs.Steady.{IsKept}
+use Rattle.cron_dues.specs.Reached.{IsAhead, IsGathered, IsGreatestBy, IsShownBy, LeadsOn, left_to}
 use Rattle.std.specs.Prelude.{IfSome}
 use Rattle.cron_dues.specs.declared.steady.DueSpan.{DueSpan}
 use Rattle.cron_dues.specs.declared.steady.Steady.{Steady}

@@ -4,13 +4,13 @@ use Rattle.std.specs.Prelude.{filter}
 use Rattle.jiff_core.proofs.SignedLemmas.{signed_arith}
 use Rattle.cron_units.specs.declared.way.Way.TheVariants.{Ahead}
 use Rattle.cron_clocks.proofs.Windows.{le_yes, le_no}
-use Rattle.cron_instants.specs.Inner.Left.{is_within}
+use Rattle.cron_instants.specs.Left.{is_within}
 use Rattle.cron_instants.proofs.FireLemmas.{int_le-true, int_le-false}
 use Rattle.cron_dues.specs.Clock.Due.{Clock, Due, due, due_instant, instant}
 use Rattle.cron_dues.specs.Clock.Dues.{is_due_after, is_due_by, is_past}
-use Rattle.cron_dues.specs.Inner.Reached.{IsReachedBy}
-use Rattle.cron_dues.specs.Inner.Nearest.{IsNearestDue}
-use Rattle.cron_dues.specs.Inner.Left.{is_from, left_from, left_until}
+use Rattle.cron_dues.specs.Reached.{IsReachedBy}
+use Rattle.cron_dues.specs.Nearest.{IsNearestDue}
+use Rattle.cron_dues.specs.Left.{is_from, left_from, left_until}
 use Rattle.cron_dues.proofs.DueLemmas.{due_ascends, fire_due}
 use Rattle.cron_time.proofs.ListLemmas.{Among, among-filter, filter-alike, filter-none}
 use Rattle.cron_dues.proofs.ListLemmas.{first-passing}

@@ -5,8 +5,8 @@ use Rattle.jiff_core.proofs.SignedLemmas.{signed_arith}
 use Rattle.cron_clocks.proofs.TableLemmas.{same_offset}
 use Rattle.cron_instants.proofs.FireLemmas.{int_le-true, int_le-false}
 use Rattle.cron_dues.specs.Clock.Due.{Clock, IsDueAt, shows, due, due_instant, parts}
-use Rattle.cron_dues.specs.Inner.Steady.{IsKept}
-use Rattle.cron_dues.specs.Inner.Reached.{IsAhead, IsOnTheWay, IsUnreachedBefore, ends_before, left_until}
+use Rattle.cron_dues.specs.Steady.{IsKept}
+use Rattle.cron_dues.specs.Reached.{IsAhead, IsOnTheWay, IsUnreachedBefore, ends_before, left_until}
 use Rattle.cron_dues.specs.declared.steady.Steady.{Steady}
 use Rattle.cron_dues.proofs.DueLemmas.{as_natural, clock_near, due_is, due_once}
 

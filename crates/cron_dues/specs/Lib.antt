@@ -5,4 +5,10 @@ pub mod DueReading
 pub mod Dues
 pub mod FirstDues
 pub mod DueLaws
+pub mod Ascent
+pub mod Steady
+pub mod Reached
+pub mod Nearest
+pub mod Known
+pub mod Left
 pub mod Inner

@@ -6,8 +6,8 @@ ghost use Rattle.cron_time.specs.Search.Inner.MonthDays.{KnowsDays};
 ghost use Rattle.cron_units.specs.Nearest.{IsNearest};
 ghost use Rattle.cron_units.specs.declared.way.Way.TheVariants.{Ahead};
 ghost use Rattle.cron_dues.specs.Clock.Due.{due};
-ghost use Rattle.cron_dues.specs.Inner.Known.{AreDueFrom, IsKnown, IsNextDue, IsPastIfKnown};
-ghost use Rattle.cron_dues.specs.Inner.Reached.{IsAhead, ends_before};
+ghost use Rattle.cron_dues.specs.Known.{AreDueFrom, IsKnown, IsNextDue, IsPastIfKnown};
+ghost use Rattle.cron_dues.specs.Reached.{IsAhead, ends_before};
 
 use crate::clock::Clock;
 use crate::fire::{DueFire, due_fire};

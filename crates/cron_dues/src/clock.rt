@@ -2,7 +2,7 @@
 ghost use Rattle.std.specs.Prelude.{neg_ℤ, pos, ◌<ℤ◌};
 ghost use Rattle.jiff_core.specs.Calendar.{IsBetween};
 ghost use Rattle.cron_dues.specs.Clock.Due as due;
-ghost use Rattle.cron_dues.specs.Inner.Steady.{IsKept};
+ghost use Rattle.cron_dues.specs.Steady.{IsKept};
 
 use crate::steady::{Steady, steady_in, steady_near_transition};
 use jiff::tz::TimeZone;

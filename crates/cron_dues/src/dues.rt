@@ -1,7 +1,7 @@
 //! Due fires of seven sets by a clock, as that of a zone. None of these calls takes memory.
 ghost use Rattle.cron_time.specs.Matches.{is_match};
 ghost use Rattle.cron_dues.specs.Clock.FirstDues.{IsFirstDueAfter, IsFirstDuePast, IsLastDueBy};
-ghost use Rattle.cron_dues.specs.Inner.Nearest.{IsNearestDue};
+ghost use Rattle.cron_dues.specs.Nearest.{IsNearestDue};
 
 use crate::clock::Clock;
 use crate::fire::{DueFire, nominal_second};

@@ -2,7 +2,7 @@
 ghost use Rattle.std.specs.Prelude.{◌≡◌, neg_ℤ, pos};
 ghost use Rattle.jiff_core.specs.Calendar.{IsBetween};
 ghost use Rattle.std.specs.Int.{int_div_euclid};
-ghost use Rattle.cron_dues.specs.Inner.Reached.{IsGreatestBy, IsReachedBy, LeadsOn};
+ghost use Rattle.cron_dues.specs.Reached.{IsGreatestBy, IsReachedBy, LeadsOn};
 
 use crate::clock::Clock;
 use crate::numbers::greater;

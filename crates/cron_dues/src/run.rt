@@ -3,7 +3,7 @@ ghost use Rattle.std.specs.Prelude.{◌≡◌, neg_ℤ, pos};
 ghost use Rattle.std.specs.Iterator.{YieldsFirst};
 ghost use Rattle.jiff_core.specs.Calendar.{IsBetween};
 ghost use Rattle.cron_dues.specs.Clock.Dues.{dues, dues_after, dues_between, dues_past, dues_past_by};
-ghost use Rattle.cron_dues.specs.Inner.Left as left;
+ghost use Rattle.cron_dues.specs.Left as left;
 
 use crate::ahead::{Known, next_due};
 use crate::clock::Clock;
@@ -34,8 +34,8 @@ impl<'a, C: Clock> Model for Run<'a, C> {
     ghost use Rattle.std.specs.Prelude.{List};
     ghost use Rattle.cron_dues.specs.Clock.Due.{Due};
     ghost use Rattle.cron_dues.specs.Clock.Dues.{dues};
-    ghost use Rattle.cron_dues.specs.Inner.Known.{IsKnown};
-    ghost use Rattle.cron_dues.specs.Inner.Left.{left_from};
+    ghost use Rattle.cron_dues.specs.Known.{IsKnown};
+    ghost use Rattle.cron_dues.specs.Left.{left_from};
     ghost use Rattle.cron_time.specs.Search.Inner.MonthDays.{KnowsDays};
 
     ghost Value = { List Due };

@@ -7,7 +7,7 @@ ghost use Rattle.jiff_tz.specs.PosixRule.{first_day};
 ghost use Rattle.jiff_core.specs.Timestamp.{nanos_of_seconds};
 ghost use Rattle.jiff_tz.specs.Zone.{next_at};
 ghost use Rattle.cron_dues.specs.Clock.Due.{zone_clock};
-ghost use Rattle.cron_dues.specs.Inner.Steady.{IsKept, IsOneYear, IsShortOf};
+ghost use Rattle.cron_dues.specs.Steady.{IsKept, IsOneYear, IsShortOf};
 
 use crate::numbers::lesser;
 use cron_clocks::clock::{Kept, kept_by_rule, kept_by_transitions};

@@ -3,7 +3,7 @@ ghost use Rattle.std.specs.Prelude.{◌≡◌, ◌⊎◌, ◌<◌, ◌+ℤ◌, �
 ghost use Rattle.jiff_core.specs.Calendar.{IsBetween};
 ghost use Rattle.cron_moments.specs.Civil.{seconds_in_range};
 ghost use Rattle.cron_dues.specs.Clock.Due.{due};
-ghost use Rattle.cron_dues.specs.Inner.Reached.{IsAhead, IsUnreachedBefore, ends_before};
+ghost use Rattle.cron_dues.specs.Reached.{IsAhead, IsUnreachedBefore, ends_before};
 
 use crate::clock::Clock;
 use crate::fire::{DueFire, due_fire};

@@ -3,3 +3,4 @@ pub mod MeetLemmas
 pub mod DueLemmas
 pub mod AgreeLemmas
 pub mod MatchLemmas
+pub mod OneLemmas

@@ -9,7 +9,7 @@ use Rattle.cron_units.specs.Sets.{Sets}
 use Rattle.cron_moments.specs.Civil.{civil, seconds_in_range}
 use Rattle.cron_time.specs.Matches.{is_match, matches}
 use Rattle.cron_unions.specs.Unions.{matches_any}
-use Rattle.cron_unions.specs.Inner.Nearest.{is_match_any}
+use Rattle.cron_unions.specs.Nearest.{is_match_any}
 use Rattle.cron_unions.proofs.NearestLemmas.{nearest-none, nearest-step}
 use Rattle.cron_fires.specs.Matches.{IsNextMatch, MatchesAny}
 

@@ -1,86 +1,104 @@
--- What holds of the fires of every schedule in every zone.
-use Rattle.std.specs.Prelude.{◌≡◌, ℕ, ◌<◌, ◌↔◌, ℤ, pos, ◌*ℤ◌, ◌≤ℤ◌, true, List, [], ◌∷◌, ◌++◌, Some, length, take, filter, slice_get}
+-- What holds of the fires of every table in every zone: of several schedules as one.
+use Rattle.std.specs.Prelude.{◌≡◌, ℕ, ◌<◌, ◌↔◌, ℤ, pos, ◌*ℤ◌, ◌≤ℤ◌, true, List, [], ◌∷◌, ◌++◌, Option, Some, length, take, filter, slice_get}
 use Rattle.jiff_tz.specs.declared.timezone.TimeZone.{TimeZone}
 use Rattle.cron_clocks.specs.Clocks.{LookupsAgree}
 use Rattle.cron_units.specs.Sets.{Sets}
 use Rattle.cron_moments.specs.Readings.{Reading, instant}
-use Rattle.cron_instants.specs.Fires.{fires, fires_after, fires_past, fires_between, is_by}
-use Rattle.cron_instants.specs.Instants.{IsAmong, IsItem, IsAfter, IsBy, IsFirstAfter}
+use Rattle.cron_instants.specs.Fires.{is_by}
+use Rattle.cron_instants.specs.Instants.{IsAfter, IsAmong, IsBy, IsFirstAfter, IsFirstPast, IsLastBy}
 use Rattle.cron_instants.specs.Order.{is_earlier}
+use Rattle.cron_instants.specs.Fires as single
+use Rattle.cron_dues.specs.Dues as single_dues
+use Rattle.cron_dues.specs.Due.{Due}
+use Rattle.cron_dues.specs.FirstDues.{IsFirstDueAfter, IsFirstDuePast, IsLastDueBy}
+use Rattle.cron_unions.specs.UnionDues.{IsFirstDueAfterAny, IsFirstDuePastAny, IsLastDueByAny, dues_any}
+use Rattle.cron_unions.specs.Unions.{fires_any, fires_any_after, fires_any_between, fires_any_past}
+use Rattle.cron_unions.specs.FirstOfAny.{IsFirstAfterAny, IsFirstPastAny, IsItemOfAny, IsLastByAny}
 
 -- the fires are the items of the timeline ..
 abbrev pub FiresAreTheItems : Type 0
-FiresAreTheItems = (s : Sets) (z : TimeZone) (r : Reading) → IsAmong (fires s z) r ↔ IsItem s z r
+FiresAreTheItems = (ss : List Sets) (z : TimeZone) (r : Reading) → IsAmong (fires_any ss z) r ↔ IsItemOfAny ss z r
 
 -- .. each earlier than those behind it, so that none comes twice ..
 abbrev pub FiresAscend : Type 0
 FiresAscend =
-    (s : Sets) (z : TimeZone) (i j : ℕ) (r q : Reading)
+    (ss : List Sets) (z : TimeZone) (i j : ℕ) (r q : Reading)
     → i < j
-    → slice_get (fires s z) i ≡ Some r
-    → slice_get (fires s z) j ≡ Some q
+    → slice_get (fires_any ss z) i ≡ Some r
+    → slice_get (fires_any ss z) j ≡ Some q
     → is_earlier r q ≡ true
 
 -- .. and between two instants they are those items whose instant lies there
 abbrev pub StretchesHaveTheirItems : Type 0
 StretchesHaveTheirItems =
-    (s : Sets) (z : TimeZone) (last now : ℤ) (r : Reading)
-    → IsAmong (fires_between s z last now) r ↔ (IsItem s z r × IsAfter last r × IsBy now r)
+    (ss : List Sets) (z : TimeZone) (last now : ℤ) (r : Reading)
+    → IsAmong (fires_any_between ss z last now) r ↔ (IsItemOfAny ss z r × IsAfter last r × IsBy now r)
 
 -- the runs over two stretches that meet are the run over both
 abbrev pub StretchesAreJoined : Type 0
 StretchesAreJoined =
-    (s : Sets) (z : TimeZone) (a b c : ℤ)
+    (ss : List Sets) (z : TimeZone) (a b c : ℤ)
     → a ≤ℤ b
     → b ≤ℤ c
-    → fires_between s z a b ++ fires_between s z b c ≡ fires_between s z a c
+    → fires_any_between ss z a b ++ fires_any_between ss z b c ≡ fires_any_between ss z a c
 
 -- a run that is cut after an item goes on from that item as the run uncut
 abbrev pub CutRunsGoOn : Type 0
 CutRunsGoOn =
-    (s : Sets) (z : TimeZone) (t : ℤ) (done : List Reading) (item : Reading) (rest : List Reading)
-    → fires_after s z t ≡ done ++ item ∷ rest
-    → fires_past s z item ≡ rest
+    (ss : List Sets) (z : TimeZone) (t : ℤ) (done : List Reading) (item : Reading) (rest : List Reading)
+    → fires_any_after ss z t ≡ done ++ item ∷ rest
+    → fires_any_past ss z item ≡ rest
 
 -- also one past an item
 abbrev pub CutRunsPastGoOn : Type 0
 CutRunsPastGoOn =
-    (s : Sets) (z : TimeZone) (start : Reading) (done : List Reading) (item : Reading) (rest : List Reading)
-    → fires_past s z start ≡ done ++ item ∷ rest
-    → fires_past s z item ≡ rest
+    (ss : List Sets) (z : TimeZone) (start : Reading) (done : List Reading) (item : Reading) (rest : List Reading)
+    → fires_any_past ss z start ≡ done ++ item ∷ rest
+    → fires_any_past ss z item ≡ rest
 
 -- and one up to an instant
 abbrev pub CutStretchesGoOn : Type 0
 CutStretchesGoOn =
-    (s : Sets) (z : TimeZone) (last now : ℤ) (done : List Reading) (item : Reading) (rest : List Reading)
-    → fires_between s z last now ≡ done ++ item ∷ rest
-    → filter (is_by now) (fires_past s z item) ≡ rest
+    (ss : List Sets) (z : TimeZone) (last now : ℤ) (done : List Reading) (item : Reading) (rest : List Reading)
+    → fires_any_between ss z last now ≡ done ++ item ∷ rest
+    → filter (is_by now) (fires_any_past ss z item) ≡ rest
 
 -- no two items share an instant
-abbrev pub HaveOwnInstants : Sets → TimeZone → Type 0
-HaveOwnInstants s z = (r q : Reading) → IsItem s z r → IsItem s z q → instant r ≡ instant q → r ≡ q
+abbrev pub HaveOwnInstants : List Sets → TimeZone → Type 0
+HaveOwnInstants ss z = (r q : Reading) → IsItemOfAny ss z r → IsItemOfAny ss z q → instant r ≡ instant q → r ≡ q
 
 -- so where the zone's two look-ups agree
 abbrev pub AgreeingZonesTellApart : Type 0
-AgreeingZonesTellApart = (s : Sets) (z : TimeZone) → LookupsAgree z → HaveOwnInstants s z
+AgreeingZonesTellApart = (ss : List Sets) (z : TimeZone) → LookupsAgree z → HaveOwnInstants ss z
 
 -- there the first item after the instant of an item is the first one past it
 abbrev pub NextIsPast : Type 0
 NextIsPast =
-    (s : Sets) (z : TimeZone) (item : Reading)
-    → HaveOwnInstants s z
-    → IsItem s z item
-    → fires_after s z (instant item *ℤ pos 1_000_000_000) ≡ fires_past s z item
+    (ss : List Sets) (z : TimeZone) (item : Reading)
+    → HaveOwnInstants ss z
+    → IsItemOfAny ss z item
+    → fires_any_after ss z (instant item *ℤ pos 1_000_000_000) ≡ fires_any_past ss z item
 
 -- each of the answers is the first item after an instant: the first after t, each other after the instant of the one before
-abbrev pub AreAskedInTurn : Sets → TimeZone → ℤ → List Reading → Type 0
-AreAskedInTurn s z t [] = Unit {0}
-AreAskedInTurn s z t (r ∷ answers) = IsFirstAfter s z t (Some r) × AreAskedInTurn s z (instant r *ℤ pos 1_000_000_000) answers
+abbrev pub AreAskedInTurn : List Sets → TimeZone → ℤ → List Reading → Type 0
+AreAskedInTurn ss z t [] = Unit {0}
+AreAskedInTurn ss z t (r ∷ answers) = IsFirstAfterAny ss z t (Some r) × AreAskedInTurn ss z (instant r *ℤ pos 1_000_000_000) answers
 
 -- and a loop that asks so is a run
 abbrev pub LoopsAreRuns : Type 0
 LoopsAreRuns =
-    (s : Sets) (z : TimeZone) (t : ℤ) (answers : List Reading)
-    → HaveOwnInstants s z
-    → AreAskedInTurn s z t answers
-    → take (length answers) (fires_after s z t) ≡ answers
+    (ss : List Sets) (z : TimeZone) (t : ℤ) (answers : List Reading)
+    → HaveOwnInstants ss z
+    → AreAskedInTurn ss z t answers
+    → take (length answers) (fires_any_after ss z t) ≡ answers
+
+-- one schedule has what the union of that one has, by both rules, and its answers are those of the union
+pub record OneScheduleIsATable : Type 0 where
+  pub fires : (s : Sets) (z : TimeZone) → fires_any (s ∷ []) z ≡ single.fires s z
+  pub dues : (s : Sets) (z : TimeZone) → dues_any (s ∷ []) z ≡ single_dues.dues s z
+  pub first_after : (s : Sets) (z : TimeZone) (t : ℤ) (answer : Option Reading) → IsFirstAfterAny (s ∷ []) z t answer → IsFirstAfter s z t answer
+  pub first_past : (s : Sets) (z : TimeZone) (item : Reading) (answer : Option Reading) → IsFirstPastAny (s ∷ []) z item answer → IsFirstPast s z item answer
+  pub last_by : (s : Sets) (z : TimeZone) (t : ℤ) (answer : Option Reading) → IsLastByAny (s ∷ []) z t answer → IsLastBy s z t answer
+  pub first_due_after : (s : Sets) (z : TimeZone) (t : ℤ) (answer : Option Due) → IsFirstDueAfterAny (s ∷ []) z t answer → IsFirstDueAfter s z t answer
+  pub first_due_past : (s : Sets) (z : TimeZone) (fire : Due) (answer : Option Due) → IsFirstDuePastAny (s ∷ []) z fire answer → IsFirstDuePast s z fire answer
+  pub last_due_by : (s : Sets) (z : TimeZone) (t : ℤ) (answer : Option Due) → IsLastDueByAny (s ∷ []) z t answer → IsLastDueBy s z t answer

@@ -20,12 +20,12 @@ NeverDecreases {A} at fires =
 abbrev pub IsCut : {A : Type 0} → List A → (A → List A) → Type 0
 IsCut {A} fires past = (done : List A) (fire : A) (rest : List A) → fires ≡ done ++ fire ∷ rest → past fire ≡ rest
 
--- by a rule, which has the fires of sets in a zone after an instant and past a fire, instants never decrease ..
-abbrev pub FiresNeverDecrease : {A : Type 0} → (A → ℤ) → (Sets → TimeZone → ℤ → List A) → (Sets → TimeZone → A → List A) → Type 0
+-- by a rule, which has the fires of schedules in a zone after an instant and past a fire, instants never decrease ..
+abbrev pub FiresNeverDecrease : {A : Type 0} → (A → ℤ) → (List Sets → TimeZone → ℤ → List A) → (List Sets → TimeZone → A → List A) → Type 0
 FiresNeverDecrease {A} at after past =
-    ((s : Sets) (z : TimeZone) (t : ℤ) → NeverDecreases at (after s z t)) × ((s : Sets) (z : TimeZone) (fire : A) → NeverDecreases at (past s z fire))
+    ((ss : List Sets) (z : TimeZone) (t : ℤ) → NeverDecreases at (after ss z t)) × ((ss : List Sets) (z : TimeZone) (fire : A) → NeverDecreases at (past ss z fire))
 
 -- .. and fires that are cut behind one of them go on past it
-abbrev pub FiresGoOn : {A : Type 0} → (Sets → TimeZone → ℤ → List A) → (Sets → TimeZone → A → List A) → Type 0
+abbrev pub FiresGoOn : {A : Type 0} → (List Sets → TimeZone → ℤ → List A) → (List Sets → TimeZone → A → List A) → Type 0
 FiresGoOn {A} after past =
-    ((s : Sets) (z : TimeZone) (t : ℤ) → IsCut (after s z t) (past s z)) × ((s : Sets) (z : TimeZone) (fire : A) → IsCut (past s z fire) (past s z))
+    ((ss : List Sets) (z : TimeZone) (t : ℤ) → IsCut (after ss z t) (past ss z)) × ((ss : List Sets) (z : TimeZone) (fire : A) → IsCut (past ss z fire) (past ss z))

@@ -2,7 +2,13 @@
 //! contract says.
 
 ghost use Rattle.cron_fires.specs.DueLaws.{BothRulesAgree, CutDueRunsGoOn, CutDueRunsPastGoOn, CutDueStretchesGoOn, DueStretchesAreJoined};
-ghost use Rattle.cron_fires.specs.Laws.{AgreeingZonesTellApart, CutRunsGoOn, CutRunsPastGoOn, CutStretchesGoOn, FiresAreTheItems, FiresAscend, LoopsAreRuns, NextIsPast, StretchesAreJoined, StretchesHaveTheirItems};
+ghost use Rattle.cron_fires.specs.Laws.{AgreeingZonesTellApart, CutRunsGoOn, CutRunsPastGoOn, CutStretchesGoOn, FiresAreTheItems, FiresAscend, LoopsAreRuns, NextIsPast, OneScheduleIsATable, StretchesAreJoined, StretchesHaveTheirItems};
+
+/// One schedule has the fires, and the due fires, of the table that has it alone. So what a call
+/// tells of that table holds in the words of one schedule.
+pub fn one_schedule()
+    ensures { OneScheduleIsATable }
+{}
 
 /// The fires are the items of the timeline, no more and no fewer.
 pub fn fires_are_the_items()

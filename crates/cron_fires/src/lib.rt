@@ -1,5 +1,5 @@
-//! When a schedule fires, by instants: the first fire after now, the last one by now, all of them
-//! in order, and those that were missed.
+//! When a table fires, which is one schedule or several as one, by instants: the first fire after
+//! now, the last one by now, all of them in order, and those that were missed.
 //!
 //! ```text
 //! let mut fire = first_fire_after(&schedule, now, &zone);
@@ -15,11 +15,10 @@
 
 ghost use Rattle.std.specs.Prelude.{◌≡◌};
 ghost use Rattle.jiff.specs.Words.{plain_zone};
-ghost use Rattle.cron_instants.specs.Instants.{IsFirstAfter, IsFirstPast, IsLastBy};
+ghost use Rattle.cron_unions.specs.FirstOfAny.{IsFirstAfterAny, IsFirstPastAny, IsLastByAny};
 
 use cron::Schedule;
 use cron::schedule::Moment;
-use cron_instants::instants;
 use cron_units::fields::ScheduleFields;
 use jiff::Timestamp;
 use jiff::tz::TimeZone;
@@ -47,28 +46,36 @@ pub fn fields_of(schedule: &Schedule) -> ScheduleFields
     *schedule.fields()
 }
 
-/// The first fire after an instant, also in a fold. `None` where the schedule fires no more. A loop
+/// The first fire after an instant, also in a fold. `None` where the table fires no more. A loop
 /// goes on by [`first_fire_past`] from the fire that it ran, so that nothing that came due
 /// meanwhile is lost.
-pub fn first_fire_after(schedule: &Schedule, now: Timestamp, zone: &TimeZone<'_>) -> Option<Moment>
-    ensures { IsFirstAfter schedule.now.sets (plain_zone zone.now) now.nanosecond result }
+pub fn first_fire_after<T: Timetable>(
+    table: &T,
+    now: Timestamp,
+    zone: &TimeZone<'_>,
+) -> Option<Moment>
+    ensures { IsFirstAfterAny (T.schedules table.now) (plain_zone zone.now) now.nanosecond result }
 {
-    instants::first_after(schedule.fields(), now, zone)
+    table.first_after(now, zone)
 }
 
 /// The next fire after this one. Where two share an instant, the one with the lesser civil second
-/// comes first. `None` where the schedule fires no more. The moment may be one at which it doesn't
+/// comes first. `None` where the table fires no more. The moment may be one at which it doesn't
 /// fire.
-pub fn first_fire_past(schedule: &Schedule, fire: &Moment, zone: &TimeZone<'_>) -> Option<Moment>
-    ensures { IsFirstPast schedule.now.sets (plain_zone zone.now) fire.now result }
+pub fn first_fire_past<T: Timetable>(
+    table: &T,
+    fire: &Moment,
+    zone: &TimeZone<'_>,
+) -> Option<Moment>
+    ensures { IsFirstPastAny (T.schedules table.now) (plain_zone zone.now) fire.now result }
 {
-    instants::first_past(schedule.fields(), fire, zone)
+    table.first_past(fire, zone)
 }
 
 /// The last fire whose instant is `now` or comes before it. Where two share an instant, the one
-/// with the greater civil second is the later. `None` where the schedule hasn't fired yet.
-pub fn last_fire_by(schedule: &Schedule, now: Timestamp, zone: &TimeZone<'_>) -> Option<Moment>
-    ensures { IsLastBy schedule.now.sets (plain_zone zone.now) now.nanosecond result }
+/// with the greater civil second is the later. `None` where the table hasn't fired yet.
+pub fn last_fire_by<T: Timetable>(table: &T, now: Timestamp, zone: &TimeZone<'_>) -> Option<Moment>
+    ensures { IsLastByAny (T.schedules table.now) (plain_zone zone.now) now.nanosecond result }
 {
-    instants::last_by(schedule.fields(), now, zone)
+    table.last_by(now, zone)
 }

@@ -1,5 +1,5 @@
 //! What fires: one schedule, or several as one.
-ghost use Rattle.std.specs.Prelude.{List, [], ◌∷◌};
+ghost use Rattle.std.specs.Prelude.{◌≡◌, List, [], ◌∷◌};
 ghost use Rattle.jiff.specs.Words.{plain_zone};
 ghost use Rattle.cron_units.specs.Sets.{Sets};
 ghost use Rattle.cron_unions.specs.FirstOfAny.{IsFirstAfterAny, IsFirstPastAny, IsLastByAny};
@@ -16,11 +16,15 @@ use cron_unions::{dues, instants};
 use cron_units::fields::ScheduleFields;
 use jiff::Timestamp;
 use jiff::tz::TimeZone;
+use std::slice;
 
 /// What fires. Contracts see the schedules that it is made of.
 pub trait Timetable {
-    /// The schedules, each as seven sets.
     ghost schedules: { Self → List Sets };
+
+    /// The schedules, each as seven sets.
+    fn schedules(&self) -> &[ScheduleFields]
+        ensures { result.now ≡ schedules self.now };
 
     /// The earliest fire whose instant comes after `now`. `None` where there is none.
     fn first_after(&self, now: Timestamp, zone: &TimeZone<'_>) -> Option<Moment>
@@ -67,6 +71,10 @@ pub struct Union<'a> {
 impl Timetable for Schedule {
     ghost schedules = { λ s. s.sets ∷ [] };
 
+    fn schedules(&self) -> &[ScheduleFields] {
+        slice::from_ref(self.fields())
+    }
+
     fn first_after(&self, now: Timestamp, zone: &TimeZone<'_>) -> Option<Moment> {
         self.fields().first_after(now, zone)
     }
@@ -99,6 +107,10 @@ impl Timetable for Schedule {
 impl Timetable for ScheduleFields {
     ghost schedules = { λ s. s ∷ [] };
 
+    fn schedules(&self) -> &[ScheduleFields] {
+        slice::from_ref(self)
+    }
+
     fn first_after(&self, now: Timestamp, zone: &TimeZone<'_>) -> Option<Moment> {
         single::first_after(self, now, zone)
     }
@@ -130,6 +142,10 @@ impl Timetable for ScheduleFields {
 
 impl<'a> Timetable for Union<'a> {
     ghost schedules = { λ u. u.schedules.now };
+
+    fn schedules(&self) -> &[ScheduleFields] {
+        self.schedules
+    }
 
     fn first_after(&self, now: Timestamp, zone: &TimeZone<'_>) -> Option<Moment> {
         instants::first_after(self.schedules, now, zone)

@@ -9,7 +9,7 @@ use Rattle.cron_time.proofs.ListLemmas.{among-cases, among-filter, among-first, 
 use Rattle.cron_time.proofs.PlaceLemmas.{nothing_in_nil}
 use Rattle.cron_units.specs.declared.way.Way.TheVariants.{Ahead}
 use Rattle.cron_instants.specs.Fires.{insert, earliest_first}
-use Rattle.cron_instants.specs.Instants.{IsAmong, IsEarliest}
+use Rattle.cron_instants.specs.Instants.{Ascends, IsAmong, IsEarliest}
 use Rattle.cron_instants.specs.Order.{is_earlier}
 use Rattle.cron_instants.proofs.OrderLemmas.{before-false, before-not_shared, before-through, nearer-not_back}
 
@@ -49,11 +49,6 @@ earlier-other a b h apart = by_test (is_earlier b a) refl
     by_test : (t : Bool) → is_earlier b a ≡ t → t ≡ true
     by_test true is = refl
     by_test false is = absurd (apart (neither-earlier a b h is))
-
--- each reading is earlier than those behind it
-abbrev pub Ascends : List Reading → Type 0
-Ascends [] = Unit {0}
-Ascends (r ∷ l) = ((q : Reading) → IsAmong l q → is_earlier r q ≡ true) × Ascends l
 
 -- no reading stands in the list twice
 abbrev pub StandOnce : List Reading → Type 0

@@ -2,7 +2,7 @@
 use Rattle.std.proofs.Common.{◌≡◌, Bool, true, false, cond, Option, Some, None, ◌⊎◌, inl, inr, refl, sym, subst, ◌∙◌}
 use Rattle.cron_units.specs.declared.way.Way.{Way}
 use Rattle.cron_moments.specs.Readings.{Reading}
-use Rattle.cron_instants.specs.Inner.Beyond.{is_nearer, nearer_of, IsBest, IsBettered, IsNoBetter}
+use Rattle.cron_instants.specs.Beyond.{is_nearer, nearer_of, IsBest, IsBettered, IsNoBetter}
 use Rattle.cron_instants.proofs.OrderLemmas.{nearer-through, nearer-not_back}
 
 -- the nearest of some is the nearest of more, where no other is better

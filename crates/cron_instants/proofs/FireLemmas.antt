@@ -10,10 +10,10 @@ use Rattle.cron_moments.specs.Readings.{Reading, instant}
 use Rattle.cron_time.specs.Timeline.{timeline}
 use Rattle.cron_time.proofs.TimelineLaws.{stand_once}
 use Rattle.cron_instants.specs.Fires.{fires, fires_after, fires_past, is_after, is_by}
-use Rattle.cron_instants.specs.Instants.{IsAmong, IsItem, IsEarliest, IsFirstAfter, IsFirstPast}
+use Rattle.cron_instants.specs.Instants.{Ascends, IsAmong, IsEarliest, IsFirstAfter, IsFirstPast, IsItem}
 use Rattle.cron_instants.specs.Order.{is_earlier}
 use Rattle.cron_time.proofs.ListLemmas.{among-filter, filter-fails, filter-none, filter-passes}
-use Rattle.cron_instants.proofs.AscentLemmas.{Ascends, KeepsOn, ascends-at, ascends-earliest_first, among-earliest_first, earliest_first-among, earlier-through, first-left, once-of}
+use Rattle.cron_instants.proofs.AscentLemmas.{KeepsOn, ascends-at, ascends-earliest_first, among-earliest_first, earliest_first-among, earlier-through, first-left, once-of}
 use Rattle.cron_instants.proofs.OrderLemmas.{before-true}
 
 -- ---- the fires are the items, each once, and ascend

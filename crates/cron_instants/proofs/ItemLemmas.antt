@@ -16,7 +16,7 @@ use Rattle.cron_time.proofs.PlaceLemmas.{nothing_in_nil}
 use Rattle.cron_time.proofs.TimelineLemmas.{before, item_in, items_of-second, timeline-joined}
 use Rattle.cron_instants.specs.Instants.{IsItem, IsAfter, IsBy, IsFirstAfter, IsFirstPast, IsLastBefore, IsLastBy}
 use Rattle.cron_instants.specs.Order.{is_earlier}
-use Rattle.cron_instants.specs.Inner.Beyond.{beyond, IsBest, IsBeyond, Stands}
+use Rattle.cron_instants.specs.Beyond.{beyond, IsBest, IsBeyond, Stands}
 use Rattle.cron_instants.proofs.BestLemmas.{best_of_more}
 use Rattle.cron_instants.proofs.MatchLemmas.{match_in_range}
 use Rattle.cron_instants.proofs.OrderLemmas.{before-true, before-less, before-up_to}

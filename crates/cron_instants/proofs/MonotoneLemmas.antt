@@ -12,9 +12,9 @@ use Rattle.cron_moments.specs.Civil.{seconds_in_range}
 use Rattle.cron_moments.specs.Readings.{Reading, instant, reading, readings}
 use Rattle.cron_instants.specs.Order.{is_earlier}
 use Rattle.cron_time.specs.Matches.{is_match}
-use Rattle.cron_instants.specs.Inner.Beyond.{beyond, IsBest, IsBeyond}
-use Rattle.cron_instants.specs.Inner.Monotone.{IsMonotone, IsInOrder, IsKnownMonotone, IsNext, IsSettled}
-use Rattle.cron_instants.specs.Inner.OffsetRange.{IsRead}
+use Rattle.cron_instants.specs.Beyond.{beyond, IsBest, IsBeyond}
+use Rattle.cron_instants.specs.Monotone.{IsMonotone, IsInOrder, IsKnownMonotone, IsNext, IsSettled}
+use Rattle.cron_instants.specs.OffsetRange.{IsRead}
 use Rattle.cron_instants.specs.declared.monotone.Monotone.{Monotone}
 use Rattle.cron_instants.proofs.BestLemmas.{best_of_more}
 use Rattle.cron_instants.proofs.MatchLemmas.{match_in_range}

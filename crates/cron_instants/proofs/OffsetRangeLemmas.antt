@@ -18,7 +18,7 @@ use Rattle.cron_moments.specs.Civil.{civil}
 use Rattle.cron_moments.specs.Readings.{Reading, reading, readings, readings_by}
 use Rattle.cron_moments.proofs.ReadingLemmas.{utc_once, fixed_once}
 use Rattle.cron_time.proofs.PlaceLemmas.{nothing_in_nil}
-use Rattle.cron_instants.specs.Inner.OffsetRange.{HasOffsets, IsAmongOffsets, IsRead, IsOffsetRange}
+use Rattle.cron_instants.specs.OffsetRange.{HasOffsets, IsAmongOffsets, IsRead, IsOffsetRange}
 use Rattle.cron_instants.specs.declared.offset_range.OffsetRange.{OffsetRange}
 
 -- each reading that this tells is at one offset or the other

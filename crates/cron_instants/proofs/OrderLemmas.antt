@@ -8,7 +8,7 @@ use Rattle.cron_units.specs.declared.way.Way.TheVariants.{Ahead, Back}
 use Rattle.cron_units.specs.Nearest.{LiesFrom, Precedes}
 use Rattle.cron_moments.specs.Readings.{Reading, instant}
 use Rattle.cron_instants.specs.Order.{comes_before, is_earlier}
-use Rattle.cron_instants.specs.Inner.Beyond.{beyond, is_nearer, entry_of}
+use Rattle.cron_instants.specs.Beyond.{beyond, is_nearer, entry_of}
 
 -- an instant and a civil second come before others
 abbrev pub Before : ℤ → ℕ → ℤ → ℕ → Type 0

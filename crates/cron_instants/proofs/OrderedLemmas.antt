@@ -13,8 +13,8 @@ use Rattle.cron_clocks.specs.declared.stretch.Stretch.{Stretch}
 use Rattle.cron_moments.specs.Civil.{seconds_in_range}
 use Rattle.cron_moments.specs.Readings.{Reading, reading, readings}
 use Rattle.cron_time.proofs.PlaceLemmas.{nothing_in_nil}
-use Rattle.cron_instants.specs.Inner.Monotone.{IsMonotone, IsInOrder, IsSettled}
-use Rattle.cron_instants.specs.Inner.OffsetRange.{IsRead, IsOffsetRange, width}
+use Rattle.cron_instants.specs.Monotone.{IsMonotone, IsInOrder, IsSettled}
+use Rattle.cron_instants.specs.OffsetRange.{IsRead, IsOffsetRange, width}
 use Rattle.cron_instants.specs.declared.monotone.Monotone.{Monotone}
 use Rattle.cron_instants.specs.declared.offset_range.OffsetRange.{OffsetRange}
 

@@ -16,9 +16,9 @@ use Rattle.cron_time.proofs.PlaceLemmas.{nothing_in_nil}
 use Rattle.cron_time.proofs.TimelineLemmas.{readings-second}
 use Rattle.cron_clocks.specs.Clocks.{IsKeptUpTo, LookupsAgree}
 use Rattle.cron_clocks.specs.declared.clock.Kept.{Kept}
-use Rattle.cron_instants.specs.Inner.Beyond.{IsBest, Stands}
-use Rattle.cron_instants.specs.Inner.Monotone.{IsInOrder}
-use Rattle.cron_instants.specs.Inner.OffsetRange.{IsOnce, IsRead}
+use Rattle.cron_instants.specs.Beyond.{IsBest, Stands}
+use Rattle.cron_instants.specs.Monotone.{IsInOrder}
+use Rattle.cron_instants.specs.OffsetRange.{IsOnce, IsRead}
 use Rattle.cron_instants.specs.Inner.Periods.{IsPeriod, IsReadFrom}
 use Rattle.cron_instants.specs.Inner.Shown.{HasNone, IsFrom, IsItemIn}
 use Rattle.cron_instants.proofs.AgreementLemmas.{same_offset, same_reading}

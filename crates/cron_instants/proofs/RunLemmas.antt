@@ -12,8 +12,8 @@ use Rattle.cron_moments.specs.Readings.{Reading, instant}
 use Rattle.cron_instants.specs.Fires.{fires, fires_after, fires_past, fires_past_by, fires_between, is_after, is_by}
 use Rattle.cron_instants.specs.Instants.{IsItem, IsEarliest}
 use Rattle.cron_instants.specs.Order.{is_earlier}
-use Rattle.cron_instants.specs.Inner.Beyond.{beyond, IsBest, IsBeyond}
-use Rattle.cron_instants.specs.Inner.Left.{is_within, left_until, left_beyond}
+use Rattle.cron_instants.specs.Beyond.{beyond, IsBest, IsBeyond}
+use Rattle.cron_instants.specs.Left.{is_within, left_until, left_beyond}
 use Rattle.cron_time.proofs.ListLemmas.{among-filter, filter-alike, filter-fails, filter-none, filter-passes}
 use Rattle.cron_instants.proofs.AscentLemmas.{KeepsOn}
 use Rattle.cron_instants.proofs.BestLemmas.{best_of_more}

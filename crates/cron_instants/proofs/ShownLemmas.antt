@@ -15,7 +15,7 @@ use Rattle.cron_time.specs.Matches.{is_match}
 use Rattle.cron_time.proofs.TimelineLemmas.{readings-second}
 use Rattle.cron_clocks.specs.Clocks.{IsKeptUpTo, LookupsAgree, shown_offset}
 use Rattle.cron_clocks.specs.declared.clock.Kept.{Kept}
-use Rattle.cron_instants.specs.Inner.Beyond.{IsBest, IsBeyond, Stands}
+use Rattle.cron_instants.specs.Beyond.{IsBest, IsBeyond, Stands}
 use Rattle.cron_instants.specs.Inner.Shown.{HasNone, IsFirstShown, IsFrom, IsItemIn, IsShownAt}
 use Rattle.cron_instants.proofs.AgreementLemmas.{same_offset, same_reading}
 use Rattle.cron_instants.proofs.BestLemmas.{best_of_more}

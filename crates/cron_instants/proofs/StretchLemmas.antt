@@ -11,7 +11,7 @@ use Rattle.cron_units.specs.Sets.{Sets}
 use Rattle.cron_moments.specs.Readings.{Reading, reading}
 use Rattle.cron_clocks.specs.declared.stretch.Stretch.{Stretch}
 use Rattle.cron_time.specs.Matches.{is_match}
-use Rattle.cron_instants.specs.Inner.Beyond.{entry_of, IsBest, IsBettered, IsBeyond, IsEntered, IsPassed, IsSought, IsGoneOn, LiesPast, IsNotPast, IsInside, IsStartAt, IsMatchAt, IsMatchIn}
+use Rattle.cron_instants.specs.Beyond.{entry_of, IsBest, IsBettered, IsBeyond, IsEntered, IsPassed, IsSought, IsGoneOn, LiesPast, IsNotPast, IsInside, IsStartAt, IsMatchAt, IsMatchIn}
 use Rattle.cron_clocks.specs.Steady.{IsSteady, readings_at}
 use Rattle.cron_instants.proofs.MatchLemmas.{match_in_range}
 use Rattle.cron_instants.proofs.OrderLemmas.{past_entry, entry_past, not_nearer}

@@ -24,7 +24,7 @@ use Rattle.cron_clocks.proofs.TableLemmas.{last_type, past_all, transitions_leng
 use Rattle.cron_clocks.specs.Tables.{offsets_around, transitions_of}
 use Rattle.cron_moments.specs.Civil.{civil, seconds_in_range}
 use Rattle.cron_moments.specs.Readings.{Reading, instant, readings, readings_by}
-use Rattle.cron_instants.specs.Inner.OffsetRange.{HasOffsets, IsAmongOffsets, IsOnce, IsRead, IsOffsetRange, width}
+use Rattle.cron_instants.specs.OffsetRange.{HasOffsets, IsAmongOffsets, IsOnce, IsRead, IsOffsetRange, width}
 use Rattle.cron_instants.specs.declared.offset_range.OffsetRange.{OffsetRange}
 use Rattle.cron_instants.proofs.OffsetRangeLemmas.{rule_among, offset_range_by}
 use Rattle.cron_instants.proofs.TransitionLemmas.{size, count, inside, edges_of, transitions_rise, count_bound, ahead, counts_rise, inside_end, outside_end, IsInPeriod, periods_order, Stand, Alone, Earlier, Later, stand_of, Tells, told_around}

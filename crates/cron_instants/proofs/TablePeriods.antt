@@ -22,7 +22,7 @@ use Rattle.cron_clocks.proofs.TableLemmas.{last_type}
 use Rattle.cron_clocks.specs.Tables.{offsets_around, transitions_of}
 use Rattle.cron_moments.specs.Civil.{civil, seconds_in_range}
 use Rattle.cron_moments.specs.Readings.{Reading, instant, reading, readings, readings_by}
-use Rattle.cron_instants.specs.Inner.OffsetRange.{IsRead}
+use Rattle.cron_instants.specs.OffsetRange.{IsRead}
 use Rattle.cron_instants.specs.Inner.Periods.{ArePassed, IsLastOf, IsPeriod, IsReadFrom}
 use Rattle.cron_instants.proofs.AgreementLemmas.{same_offset}
 use Rattle.cron_instants.proofs.TableOffsetRange.{rows_upto, stand}

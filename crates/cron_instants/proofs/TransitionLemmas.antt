@@ -24,7 +24,7 @@ use Rattle.cron_moments.proofs.CivilLemmas.{civil_seconds-civil}
 use Rattle.cron_moments.specs.Civil.{civil, seconds_in_range}
 use Rattle.cron_moments.specs.Readings.{Reading, instant, reading, readings, readings_by}
 use Rattle.cron_time.proofs.PlaceLemmas.{nothing_in_nil}
-use Rattle.cron_instants.specs.Inner.OffsetRange.{IsOnce, IsRead}
+use Rattle.cron_instants.specs.OffsetRange.{IsOnce, IsRead}
 
 abbrev pub size : Tzif → ℕ
 size z = length z.transitions.items

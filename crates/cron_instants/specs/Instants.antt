@@ -1,5 +1,5 @@
 -- Of the items of a timeline the earliest after an instant, and the latest by it.
-use Rattle.std.specs.Prelude.{◌≡◌, ℕ, ℤ, pos, ◌*ℤ◌, ◌≤ℤ◌, ◌<ℤ◌, true, false, List, Option, Some, MatchOption, slice_get}
+use Rattle.std.specs.Prelude.{◌≡◌, ℕ, ℤ, pos, ◌*ℤ◌, ◌≤ℤ◌, ◌<ℤ◌, true, false, List, [], ◌∷◌, Option, Some, MatchOption, slice_get}
 use Rattle.jiff_tz.specs.declared.timezone.TimeZone.{TimeZone}
 use Rattle.cron_units.specs.Sets.{Sets}
 use Rattle.cron_moments.specs.Readings.{Reading, instant}
@@ -9,6 +9,11 @@ use Rattle.cron_instants.specs.Order.{is_earlier}
 -- the reading stands in the list
 abbrev pub IsAmong : List Reading → Reading → Type 0
 IsAmong l r = (i : ℕ) × (slice_get l i ≡ Some r)
+
+-- each reading is earlier than those behind it
+abbrev pub Ascends : List Reading → Type 0
+Ascends [] = Unit {0}
+Ascends (r ∷ l) = ((q : Reading) → IsAmong l q → is_earlier r q ≡ true) × Ascends l
 
 -- the reading stands on the timeline
 abbrev pub IsItem : Sets → TimeZone → Reading → Type 0

@@ -2,4 +2,8 @@ pub mod Order
 pub mod Fires
 pub mod Instants
 pub mod ClockLaws
+pub mod Beyond
+pub mod Monotone
+pub mod Left
+pub mod OffsetRange
 pub mod Inner

@@ -6,8 +6,8 @@ ghost use Rattle.jiff.specs.Words.{plain_zone};
 ghost use Rattle.cron_clocks.specs.Steady.{IsKnown};
 ghost use Rattle.cron_moments.specs.Civil.{seconds_in_range};
 ghost use Rattle.cron_units.specs.declared.way.Way.TheVariants.{Ahead};
-ghost use Rattle.cron_instants.specs.Inner.Beyond.{IsBest, IsBeyond};
-ghost use Rattle.cron_instants.specs.Inner.Monotone.{IsMonotone};
+ghost use Rattle.cron_instants.specs.Beyond.{IsBest, IsBeyond};
+ghost use Rattle.cron_instants.specs.Monotone.{IsMonotone};
 
 use crate::mark::Mark;
 use crate::monotone::{Monotone, monotone_around, monotone_past};

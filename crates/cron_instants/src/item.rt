@@ -1,6 +1,6 @@
 //! Which of two items is nearer among the instants.
 ghost use Rattle.std.specs.Prelude.{◌≡◌};
-ghost use Rattle.cron_instants.specs.Inner.Beyond.{is_nearer, nearer_of};
+ghost use Rattle.cron_instants.specs.Beyond.{is_nearer, nearer_of};
 ghost use Rattle.cron_instants.specs.Order as order;
 
 use cron_moments::moment::{Moment, civil_second, instant_of};

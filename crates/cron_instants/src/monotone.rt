@@ -7,8 +7,8 @@ ghost use Rattle.jiff_tz.specs.declared.timezone.TimeZone.{TimeZone as Zone};
 ghost use Rattle.cron_clocks.specs.Steady.{IsKnown as IsKnownStretch};
 ghost use Rattle.cron_moments.specs.Civil.{seconds_in_range};
 ghost use Rattle.cron_time.specs.Search.Inner.MonthDays.{KnowsDays};
-ghost use Rattle.cron_instants.specs.Inner.Monotone.{IsMonotone, IsInOrder, IsKnown, IsNext};
-ghost use Rattle.cron_instants.specs.Inner.OffsetRange.{IsOffsetRange};
+ghost use Rattle.cron_instants.specs.Monotone.{IsMonotone, IsInOrder, IsKnown, IsNext};
+ghost use Rattle.cron_instants.specs.OffsetRange.{IsOffsetRange};
 
 use crate::joined::{join_around, one_offset};
 use crate::mark::Mark;

@@ -4,7 +4,7 @@ ghost use Rattle.jiff.specs.Words.{plain_zone};
 ghost use Rattle.cron_clocks.specs.Steady.{IsKnown, IsSteady};
 ghost use Rattle.cron_moments.specs.Civil.{seconds_in_range};
 ghost use Rattle.cron_moments.specs.Readings.{Reading};
-ghost use Rattle.cron_instants.specs.Inner.Beyond.{IsBest, IsBettered, IsBeyond, IsEntered, IsGoneOn, IsMatchAt, IsMatchIn, IsNoBetter, IsNotPast, IsSought, IsStart, entry_of, left_to_pass};
+ghost use Rattle.cron_instants.specs.Beyond.{IsBest, IsBettered, IsBeyond, IsEntered, IsGoneOn, IsMatchAt, IsMatchIn, IsNoBetter, IsNotPast, IsSought, IsStart, entry_of, left_to_pass};
 
 use crate::item::nearer;
 use crate::mark::Mark;

@@ -3,7 +3,7 @@ ghost use Rattle.std.specs.Prelude.{◌≡◌, ℤ, pos, ◌≤ℤ◌};
 ghost use Rattle.jiff.specs.Words.{plain_zone};
 ghost use Rattle.jiff_core.specs.Calendar.{IsBetween};
 ghost use Rattle.jiff_tz.specs.declared.timezone.TimeZone.TheVariants.{Tzif};
-ghost use Rattle.cron_instants.specs.Inner.OffsetRange.{HasOffsets, IsAmongOffsets, IsOffsetRange, width};
+ghost use Rattle.cron_instants.specs.OffsetRange.{HasOffsets, IsAmongOffsets, IsOffsetRange, width};
 
 use cron_moments::civil::{FURTHEST_OFFSET, SECONDS};
 use jiff::tz::TimeZone;

@@ -3,7 +3,7 @@ ghost use Rattle.std.specs.Prelude.{◌≡◌};
 ghost use Rattle.std.specs.Iterator.{YieldsFirst};
 ghost use Rattle.jiff.specs.Words.{plain_zone};
 ghost use Rattle.cron_instants.specs.Fires.{fires_after, fires_between, fires_past, fires_past_by};
-ghost use Rattle.cron_instants.specs.Inner.Left as left;
+ghost use Rattle.cron_instants.specs.Left as left;
 
 use crate::mark::Mark;
 use crate::monotone::{Monotone, next_item};
@@ -34,8 +34,8 @@ impl<'a> Model for Run<'a> {
     ghost use Rattle.jiff.specs.Words.{plain_zone};
     ghost use Rattle.cron_moments.specs.Readings.{Reading};
     ghost use Rattle.cron_time.specs.Search.Inner.MonthDays.{KnowsDays};
-    ghost use Rattle.cron_instants.specs.Inner.Monotone.{IsKnown};
-    ghost use Rattle.cron_instants.specs.Inner.Left.{left_beyond};
+    ghost use Rattle.cron_instants.specs.Monotone.{IsKnown};
+    ghost use Rattle.cron_instants.specs.Left.{left_beyond};
 
     ghost Value = { List Reading };
 

@@ -10,7 +10,7 @@ ghost use Rattle.cron_time.specs.Matches.{is_match};
 ghost use Rattle.cron_units.specs.declared.way.Way.TheVariants.{Ahead};
 ghost use Rattle.cron_units.specs.Nearest.{IsNearest};
 ghost use Rattle.cron_units.specs.Sets.{Sets};
-ghost use Rattle.cron_instants.specs.Inner.Beyond.{IsBest, IsBeyond};
+ghost use Rattle.cron_instants.specs.Beyond.{IsBest, IsBeyond};
 ghost use Rattle.cron_instants.specs.Inner.Periods.{IsLastOf};
 ghost use Rattle.cron_instants.specs.Inner.Shown.{IsFirstShown, IsFrom, IsItemIn};
 

@@ -3,6 +3,7 @@
 //! memory.
 #![tactic(auto)]
 
+mod agendas;
 mod fires;
 mod lines;
 mod readers;
@@ -18,5 +19,7 @@ fn main(rt: HostRuntime) -> Result<(), Error> {
     searches::run(&rt, &schedule)?;
     walks::run(&rt, &schedule)?;
     fires::run(&rt, &schedule)?;
+    fires::run_unions(&rt, &schedule)?;
+    agendas::run(&rt, &schedule)?;
     lines::run(&rt, &schedule)
 }

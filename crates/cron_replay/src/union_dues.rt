@@ -3,8 +3,7 @@
 use crate::unions::Union;
 use anyhow::Result;
 use cron_dues::fire::DueFire;
-use cron_unions::due_run::DueRun;
-use cron_unions::dues::{first_after, first_past, last_by};
+use cron_fires::{Dues, Union as Table, first_due_after, first_due_past, last_due_by, missed_dues};
 use jiff::Timestamp;
 use std::alloc::{AllocError, Global};
 use std::fmt::Write;
@@ -22,21 +21,18 @@ fn add_fire(text: &mut String, fire: &Option<DueFire>) -> Result<(), AllocError>
     write!(text, "{nominal} at {instant} {offset} {shown}")
 }
 
-// The due fire past one, if there is one.
-fn fire_past(union: Union<'_>, fire: &Option<DueFire>) -> Option<DueFire> {
-    match fire {
-        Some(due) => first_past(union.schedules, due, union.zone),
-        None => None,
-    }
-}
-
 // So many due fires after an instant, each past the one before it.
 fn calls_after(alloc: Global, union: Union<'_>, start: Timestamp, count: usize) -> Result<String> {
+    let schedules = union.schedules;
+    let table = Table { schedules };
     let mut text = String::new(alloc);
-    let mut next = first_after(union.schedules, start, union.zone);
+    let mut next = first_due_after(&table, start, union.zone);
     for _ in 0..count {
         add_fire(&mut text, &next)?;
-        next = fire_past(union, &next);
+        next = match &next {
+            Some(due) => first_due_past(&table, due, union.zone),
+            None => None,
+        };
     }
     Ok(text)
 }
@@ -54,7 +50,9 @@ pub(crate) fn after(
     if text.as_str() != wanted {
         return Ok(text);
     }
-    let mut run = DueRun::after(union.schedules, start, union.zone);
+    let schedules = union.schedules;
+    let table = Table { schedules };
+    let mut run = Dues::after(&table, start, union.zone);
     text.clear();
     for _ in 0..count {
         add_fire(&mut text, &run.next())?;
@@ -68,8 +66,10 @@ pub(crate) fn between(
     union: Union<'_>,
     (last, now): (Timestamp, Timestamp),
 ) -> Result<String> {
+    let schedules = union.schedules;
+    let table = Table { schedules };
     let mut text = String::new(alloc);
-    for fire in DueRun::between(union.schedules, last, now, union.zone) {
+    for fire in missed_dues(alloc, &table, last, now, union.zone)? {
         add_fire(&mut text, &Some(fire))?;
     }
     Ok(text)
@@ -77,7 +77,9 @@ pub(crate) fn between(
 
 /// The last due fire by an instant.
 pub(crate) fn by(alloc: Global, union: Union<'_>, now: Timestamp) -> Result<String> {
+    let schedules = union.schedules;
+    let table = Table { schedules };
     let mut text = String::new(alloc);
-    add_fire(&mut text, &last_by(union.schedules, now, union.zone))?;
+    add_fire(&mut text, &last_due_by(&table, now, union.zone))?;
     Ok(text)
 }

@@ -2,10 +2,12 @@
 
 use crate::unions::Union;
 use anyhow::{Result, ensure};
+use cron_fires::{Fires, Union as Table, first_fire_after, first_fire_past, last_fire_by, missed};
 use cron_moments::moment::Moment;
-use cron_unions::instants::{first_after, first_past, last_by};
 use cron_unions::run::Run;
+use cron_units::fields::ScheduleFields;
 use jiff::Timestamp;
+use jiff::tz::TimeZone;
 use std::alloc::{AllocError, Global};
 use std::fmt::Write;
 
@@ -25,27 +27,52 @@ fn add_fire(text: &mut String, fire: &Option<Moment>) -> Result<(), AllocError> 
     write!(text, "{shown} at {instant} {offset}")
 }
 
-// The fire past one, if there is one.
-fn fire_past(union: Union<'_>, fire: &Option<Moment>) -> Option<Moment> {
-    match fire {
-        Some(moment) => first_past(union.schedules, moment, union.zone),
-        None => None,
-    }
-}
-
 // So many fires after an instant, each past the one before it.
 fn calls_after(alloc: Global, union: Union<'_>, start: Timestamp, count: usize) -> Result<String> {
+    let schedules = union.schedules;
+    let table = Table { schedules };
     let mut text = String::new(alloc);
-    let mut next = first_after(union.schedules, start, union.zone);
+    let mut next = first_fire_after(&table, start, union.zone);
     for _ in 0..count {
         add_fire(&mut text, &next)?;
-        next = fire_past(union, &next);
+        next = match &next {
+            Some(moment) => first_fire_past(&table, moment, union.zone),
+            None => None,
+        };
+    }
+    Ok(text)
+}
+
+// So many fires after an instant, of a run that merges.
+fn run_after(alloc: Global, union: Union<'_>, start: Timestamp, count: usize) -> Result<String> {
+    ensure!(union.schedules.len() <= MOST, "too many schedules");
+    let mut text = String::new(alloc);
+    let mut run = Run::<MOST>::after(union.schedules, start, union.zone);
+    for _ in 0..count {
+        add_fire(&mut text, &run.next())?;
+    }
+    Ok(text)
+}
+
+// So many fires of a table after an instant.
+fn fires_after(
+    alloc: Global,
+    schedules: &[ScheduleFields],
+    zone: &TimeZone<'_>,
+    start: Timestamp,
+    count: usize,
+) -> Result<String> {
+    let table = Table { schedules };
+    let mut text = String::new(alloc);
+    let mut fires = Fires::after(&table, start, zone);
+    for _ in 0..count {
+        add_fire(&mut text, &fires.next())?;
     }
     Ok(text)
 }
 
 /// So many fires after an instant by calls one after another, or else, where these are what is
-/// wanted, those of a run.
+/// wanted, those of a run that merges, and of one over as many schedules as are searched.
 pub(crate) fn after(
     alloc: Global,
     union: Union<'_>,
@@ -53,25 +80,23 @@ pub(crate) fn after(
     wanted: &str,
     count: usize,
 ) -> Result<String> {
-    let mut text = calls_after(alloc, union, start, count)?;
+    let text = calls_after(alloc, union, start, count)?;
     if text.as_str() != wanted {
         return Ok(text);
     }
-    ensure!(union.schedules.len() <= MOST, "too many schedules");
-    let mut run = Run::<MOST>::after(union.schedules, start, union.zone);
-    text.clear();
-    for _ in 0..count {
-        add_fire(&mut text, &run.next())?;
+    let text = run_after(alloc, union, start, count)?;
+    if text.as_str() != wanted {
+        return Ok(text);
     }
-    Ok(text)
+    let text = fires_after(alloc, union.schedules, union.zone, start, count)?;
+    if text.as_str() != wanted {
+        return Ok(text);
+    }
+    fires_after(alloc, union.many, union.zone, start, count)
 }
 
-/// The fires between two instants.
-pub(crate) fn between(
-    alloc: Global,
-    union: Union<'_>,
-    (last, now): (Timestamp, Timestamp),
-) -> Result<String> {
+// The fires between two instants, of a run that merges.
+fn run_between(alloc: Global, union: Union<'_>, last: Timestamp, now: Timestamp) -> Result<String> {
     ensure!(union.schedules.len() <= MOST, "too many schedules");
     let mut text = String::new(alloc);
     for fire in Run::<MOST>::between(union.schedules, last, now, union.zone) {
@@ -80,9 +105,47 @@ pub(crate) fn between(
     Ok(text)
 }
 
+// The fires of a table between two instants.
+fn missed_between(
+    alloc: Global,
+    schedules: &[ScheduleFields],
+    zone: &TimeZone<'_>,
+    last: Timestamp,
+    now: Timestamp,
+) -> Result<String> {
+    let table = Table { schedules };
+    let mut text = String::new(alloc);
+    for fire in missed(alloc, &table, last, now, zone)? {
+        add_fire(&mut text, &Some(fire))?;
+    }
+    Ok(text)
+}
+
+/// The fires between two instants, by a run that merges or else by a list of what was missed, also
+/// over as many schedules as are searched.
+pub(crate) fn between(
+    alloc: Global,
+    union: Union<'_>,
+    last: Timestamp,
+    now: Timestamp,
+    wanted: &str,
+) -> Result<String> {
+    let text = run_between(alloc, union, last, now)?;
+    if text.as_str() != wanted {
+        return Ok(text);
+    }
+    let text = missed_between(alloc, union.schedules, union.zone, last, now)?;
+    if text.as_str() != wanted {
+        return Ok(text);
+    }
+    missed_between(alloc, union.many, union.zone, last, now)
+}
+
 /// The last fire by an instant.
 pub(crate) fn by(alloc: Global, union: Union<'_>, now: Timestamp) -> Result<String> {
+    let schedules = union.schedules;
+    let table = Table { schedules };
     let mut text = String::new(alloc);
-    add_fire(&mut text, &last_by(union.schedules, now, union.zone))?;
+    add_fire(&mut text, &last_fire_by(&table, now, union.zone))?;
     Ok(text)
 }

@@ -23,11 +23,25 @@ fn schedules_of(alloc: Global, expressions: &str) -> Result<Vec<ScheduleFields>>
     Ok(schedules)
 }
 
+// How often each schedule stands in the list of many, which has more than are merged then.
+const TIMES: usize = 9;
+
 /// Several schedules in a zone.
 #[derive(Clone, Copy)]
 pub(crate) struct Union<'a> {
     pub(crate) schedules: &'a [ScheduleFields],
+    /// The same schedules, each many times.
+    pub(crate) many: &'a [ScheduleFields],
     pub(crate) zone: &'a TimeZone<'a>,
+}
+
+// The schedules, and again, many times.
+fn repeat(alloc: Global, schedules: &[ScheduleFields]) -> Result<Vec<ScheduleFields>> {
+    let mut many = Vec::new(alloc);
+    for _ in 0..TIMES {
+        many.extend_from_slice(schedules)?;
+    }
+    Ok(many)
 }
 
 // Two instants.
@@ -54,7 +68,10 @@ fn answers_of(
             count,
         ),
         "fires by" => union_fires::by(alloc, union, instants.parse::<Timestamp>()?),
-        "fires between" => union_fires::between(alloc, union, instants_of(instants)?),
+        "fires between" => {
+            let (last, now) = instants_of(instants)?;
+            union_fires::between(alloc, union, last, now, wanted)
+        }
         "dues after" => union_dues::after(
             alloc,
             union,
@@ -76,8 +93,10 @@ fn compare(
     zone: &TimeZone<'_>,
 ) -> Result<()> {
     let schedules = schedules_of(report.alloc(), case.expression)?;
+    let many = repeat(report.alloc(), schedules.as_slice())?;
     let union = Union {
         schedules: schedules.as_slice(),
+        many: many.as_slice(),
         zone,
     };
     let told = answers_of(report.alloc(), union, asked, case.start, case.rest)?;

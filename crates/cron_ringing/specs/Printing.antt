@@ -1,5 +1,5 @@
 -- What a printer writes.
-use Rattle.std.specs.Prelude.{◌≡◌, ◌++◌, ℕ, ℤ, Bool, List, [], ◌∷◌, Option, Result, ⊤, codes, is_err}
+use Rattle.std.specs.Prelude.{◌≡◌, ◌++◌, ℕ, ℤ, List, [], ◌∷◌, Option, Result, ⊤, codes, is_err}
 use Rattle.std.specs.List.{flat_map}
 use Rattle.std.specs.declared.io.Error.{Error}
 use Rattle.cron_dues.specs.Due.{Due}

@@ -5,6 +5,7 @@ ghost use Rattle.cron_scheduler.specs.Runs.{clock_calls};
 ghost use Rattle.cron_ringing.specs.Printing.{Prints, PrintsText, writer_calls};
 
 use crate::lined::Lined;
+use cron_fires::Timetable;
 use cron_scheduler::{AlarmClock, Job, Plan, Stop};
 use cron_writer::watchable::Watchable;
 use cron_writer::watched::{Watched, send};
@@ -68,14 +69,14 @@ impl<F: Lined, W: Watchable> Job<F> for Printer<W> {
 }
 
 /// Prints the fires of a plan, each when the clock has come to it.
-pub(crate) fn print_fires<F: Lined, C: AlarmClock, W: Watchable>(
-    plan: &Plan<'_, F>,
+pub(crate) fn print_fires<T: Timetable, F: Lined, C: AlarmClock, W: Watchable>(
+    plan: &Plan<'_, T, F>,
     clock: &mut C,
     printer: &mut Printer<W>,
 ) -> Result<(), Stop<C::Error, WriteFailed>>
     ensures { Prints (clock_calls C.shows C.waits) (writer_calls W.writes W.flushes W.contents)
         (F.line, F.at)
-        (fires_of F.after F.past plan.now)
+        (fires_of T.schedules F.after F.past plan.now)
         (clock.old, printer.old)
         result
         (clock.new, printer.new) }

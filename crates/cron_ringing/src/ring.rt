@@ -1,6 +1,6 @@
 //! Rings at the fires that a request asks for.
 
-ghost use Rattle.std.specs.Prelude.{Some};
+ghost use Rattle.std.specs.Prelude.{Some, [], ◌∷◌};
 ghost use Rattle.jiff.specs.Words.{plain_zone};
 ghost use Rattle.cron_scheduler.specs.Plans.{planned};
 ghost use Rattle.cron_scheduler.specs.declared.plan.Start.TheVariants.{After};
@@ -58,7 +58,7 @@ fn print_after<F: Lined, C: AlarmClock, W: Watchable>(
 ) -> Result<(), Stop<C::Error, WriteFailed>>
     ensures { Prints (clock_calls C.shows C.waits) (writer_calls W.writes W.flushes W.contents)
         (F.line, F.at)
-        (planned F.after F.past schedule.now.sets
+        (planned F.after F.past (schedule.now.sets ∷ [])
         (plain_zone request.now.zone) (After now) (Some request.now.count))
         (clock.old, printer.old)
         result
@@ -66,7 +66,7 @@ fn print_after<F: Lined, C: AlarmClock, W: Watchable>(
 {
     let start: Start<F> = Start::After(now);
     let plan = Plan {
-        schedule,
+        table: schedule,
         zone: &request.zone,
         start,
         most: Some(u64::from(request.count)),

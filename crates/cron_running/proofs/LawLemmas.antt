@@ -11,20 +11,20 @@ use Rattle.cron_moments.specs.Readings as moments
 use Rattle.cron_moments.specs.Readings.{Reading}
 use Rattle.cron_time.proofs.ListLemmas.{Among, among-first, among-rest, filter-alike, filter-all, filter-none}
 use Rattle.cron_instants.specs.Fires as shown
-use Rattle.cron_instants.proofs.AscentLemmas as ascent
+use Rattle.cron_instants.specs.Instants as items
 use Rattle.cron_instants.proofs.FireLemmas.{after-keeps_on, int_lt-true}
 use Rattle.cron_dues.specs.Due as dues
 use Rattle.cron_dues.specs.Due.{Due, clock_of}
 use Rattle.cron_dues.specs.Dues.{is_due_after, is_due_by}
-use Rattle.cron_dues.proofs.ListLemmas as keyed
+use Rattle.cron_dues.specs.Ascent as ascent
 use Rattle.cron_dues.proofs.MemberLemmas.{all-ascend}
-use Rattle.cron_unions.specs.Inner.Nearest.{is_match_any}
+use Rattle.cron_unions.specs.Nearest.{is_match_any}
 use Rattle.cron_unions.specs.UnionDues.{dues_any}
 use Rattle.cron_unions.specs.Unions.{fires_any, seconds_of_any}
 use Rattle.cron_unions.proofs.UnionLemmas.{any-matches, fires_any-ascend}
 use Rattle.cron_agenda.specs.declared.fire.EntryFire.{EntryFire}
 use Rattle.cron_agenda.specs.declared.fire.EntryFire.TheVariants.{AsShown, Once}
-use Rattle.cron_agenda.proofs.FireLemmas.{due_no_later}
+use Rattle.cron_fires.proofs.DueLemmas.{due_no_later}
 use Rattle.cron_fires.specs.declared.changes.ClockChanges.{ClockChanges}
 use Rattle.cron_fires.specs.declared.changes.ClockChanges.TheVariants as rule
 use Rattle.cron_running.specs.Laws.{NotesLoseNothing, is_by}
@@ -83,13 +83,13 @@ mapped f noted p q r l same e =
     ∙ ap (λ m. map f m ++ map f (filter q l)) (sym (filter-alike (λ x. is_by noted (f x)) r (filter p l) (λ x h. same x)))
     ∙ ap (λ m. m ++ map f (filter q l)) (sym (filter-map (is_by noted) f (filter p l)))
 
-shown_stays : (s t : ℤ) (within : (x : Reading) → shown.is_after t x ≡ true → shown.is_after s x ≡ true) (l : List Reading) → ascent.Ascends l
+shown_stays : (s t : ℤ) (within : (x : Reading) → shown.is_after t x ≡ true → shown.is_after s x ≡ true) (l : List Reading) → items.Ascends l
     → Stays (shown.is_after s) (shown.is_after t) (shown.is_by t) within (λ x. not_after (moments.instant x *ℤ pos 1_000_000_000) t) l
 shown_stays s t within [] up = tt
 shown_stays s t within (x ∷ l) up = (λ is y h. after-keeps_on t x y is (up.0 y h), shown_stays s t within l up.1)
 
 due_stays : (ss : List Sets) (z : TimeZone) (s t : ℤ) (within : (x : Due) → is_due_after t x ≡ true → is_due_after s x ≡ true) (l : List Due)
-    → ((d : Due) → Among l d → Among (dues_any ss z) d) → keyed.Ascends (λ (d : Due). d.second) l
+    → ((d : Due) → Among l d → Among (dues_any ss z) d) → ascent.Ascends (λ (d : Due). d.second) l
     → Stays (is_due_after s) (is_due_after t) (is_due_by t) within (λ d. not_after (dues.instant d *ℤ pos 1_000_000_000) t) l
 due_stays ss z s t within [] all up = tt
 due_stays ss z s t within (x ∷ l) all up = (

@@ -6,7 +6,7 @@ use Rattle.std.proofs.lemmas.List.{append-nil}
 use Rattle.jiff_core.specs.declared.Timestamp.{Timestamp}
 use Rattle.cron_fires.specs.Rules.{is_by}
 use Rattle.cron_scheduler.specs.Runs.{is_due}
-use Rattle.cron_scheduler.specs.Inner.Passing.{AllPass, NonePass}
+use Rattle.cron_scheduler.specs.Passing.{AllPass, NonePass}
 
 or_true : (a b : Bool) → b ≡ true → (a || b) ≡ true
 or_true true b h = refl

@@ -56,8 +56,8 @@ due_up_to_the_greatest instant fires times g is = filter-alike (is_due instant t
 
 -- ---- restarts
 
-pub restarts_go_on : {A : Type 0} (after : Sets → TimeZone → ℤ → List A) (past : Sets → TimeZone → A → List A)
-    → ((s : Sets) (z : TimeZone) (t : ℤ) → IsCut (after s z t) (past s z)) → ((s : Sets) (z : TimeZone) (r : A) → IsCut (past s z r) (past s z))
+pub restarts_go_on : {A : Type 0} (after : List Sets → TimeZone → ℤ → List A) (past : List Sets → TimeZone → A → List A)
+    → ((ss : List Sets) (z : TimeZone) (t : ℤ) → IsCut (after ss z t) (past ss z)) → ((ss : List Sets) (z : TimeZone) (r : A) → IsCut (past ss z r) (past ss z))
     → RestartsGoOn after past
-restarts_go_on after past cut_after cut_past s z (After now) = cut_after s z now.nanosecond
-restarts_go_on after past cut_after cut_past s z (Past item) = cut_past s z item
+restarts_go_on after past cut_after cut_past ss z (After now) = cut_after ss z now.nanosecond
+restarts_go_on after past cut_after cut_past ss z (Past item) = cut_past ss z item

@@ -1,7 +1,7 @@
 -- A job that is run for what is due, fire by fire.
 use Rattle.std.proofs.Common.{◌≡◌, Bool, true, List, [], ◌∷◌, ◌++◌, refl, sym, ap, subst, ◌∙◌, append_assoc}
 use Rattle.std.specs.Prelude.{Result, Ok, ⊤}
-use Rattle.cron_scheduler.specs.Inner.Passing.{AllPass, RanFor}
+use Rattle.cron_scheduler.specs.Passing.{AllPass, RanFor}
 
 -- one more
 pub ran_on : {A J F : Type 0} (runs : J → A → Result ⊤ F → J → Type 0) (rs : List A) (r : A) (j mid j' : J) → RanFor runs rs j mid

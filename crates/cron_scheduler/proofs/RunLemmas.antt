@@ -7,7 +7,7 @@ use Rattle.jiff_core.specs.declared.Timestamp.{Timestamp}
 use Rattle.cron_scheduler.specs.declared.stop.Stop.{Stop}
 use Rattle.cron_scheduler.specs.declared.stop.Stop.TheVariants.{Clock, Job}
 use Rattle.cron_scheduler.specs.Runs.{Event, Wait, Look, Run, Happened, ran, shown, is_due, due, next, EndsBy, HasWaited, MayFollow, RunsWhole, IsRun, Wakes, clock_calls}
-use Rattle.cron_scheduler.specs.Inner.Passing.{AllPass, NonePass, RanFor, RunsDue}
+use Rattle.cron_scheduler.specs.Passing.{AllPass, NonePass, RanFor, RunsDue}
 use Rattle.cron_scheduler.proofs.CallLemmas.{InTurn, happened_on, ran-append, shown-append, ends_on, turn_on, none_in_turn, not_waited_yet, awake_by_look, awake_by_run}
 use Rattle.cron_scheduler.proofs.PassingLemmas.{left_on, pass_on}
 use Rattle.cron_scheduler.proofs.DueLemmas.{filter_begins, due-last, all_both, all_last, all_stay, filter_front, none_behind, none_stay, none_yet}

@@ -21,6 +21,6 @@ DueUpToTheGreatest {A} instant =
     → filter (is_due instant times) fires ≡ filter (is_by instant greatest.nanosecond) fires
 
 -- Past one of the fires from a start come those behind it: a run that is begun past the last fire of another goes on from there.
-abbrev pub RestartsGoOn : {A : Type 0} → (Sets → TimeZone → ℤ → List A) → (Sets → TimeZone → A → List A) → Type 0
+abbrev pub RestartsGoOn : {A : Type 0} → (List Sets → TimeZone → ℤ → List A) → (List Sets → TimeZone → A → List A) → Type 0
 RestartsGoOn {A} after past =
-    (s : Sets) (z : TimeZone) (start : Start A) → IsCut (fires_from (after s z) (past s z) start) (past s z)
+    (ss : List Sets) (z : TimeZone) (start : Start A) → IsCut (fires_from (after ss z) (past ss z) start) (past ss z)

@@ -1,4 +1,4 @@
 pub mod Plans
 pub mod Runs
 pub mod Laws
-pub mod Inner
+pub mod Passing

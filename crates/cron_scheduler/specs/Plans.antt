@@ -17,9 +17,10 @@ abbrev pub first_of : {A : Type 0} → Option ℕ → List A → List A
 first_of None fires = fires
 first_of (Some most) fires = take most fires
 
-abbrev pub planned : {A : Type 0} → (Sets → TimeZone → ℤ → List A) → (Sets → TimeZone → A → List A) → Sets → TimeZone → Start A → Option ℕ → List A
+-- those of schedules, or of one, that a plan has
+abbrev pub planned : {S A : Type 0} → (S → TimeZone → ℤ → List A) → (S → TimeZone → A → List A) → S → TimeZone → Start A → Option ℕ → List A
 planned after past s z start most = first_of most (fires_from (after s z) (past s z) start)
 
--- the fires of a plan, by its rule
-abbrev pub fires_of : {A : Type 0} → (Sets → TimeZone → ℤ → List A) → (Sets → TimeZone → A → List A) → Plan A → List A
-fires_of after past p = planned after past p.schedule.now.sets (plain_zone p.zone.now) p.start p.most
+-- the fires of a plan, whose table has these schedules, by its rule
+abbrev pub fires_of : {T A : Type 0} → (T → List Sets) → (List Sets → TimeZone → ℤ → List A) → (List Sets → TimeZone → A → List A) → Plan T A → List A
+fires_of schedules after past p = planned after past (schedules p.table.now) (plain_zone p.zone.now) p.start p.most

@@ -1,4 +1,4 @@
-//! Laws that tie the words of a run to a schedule's fires, for proofs: the functions do nothing.
+//! Laws that tie the words of a run to a table's fires, for proofs: the functions do nothing.
 
 ghost use Rattle.cron_scheduler.specs.Laws.{DueUpToTheGreatest, RestartsGoOn};
 

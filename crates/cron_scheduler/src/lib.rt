@@ -1,10 +1,10 @@
-//! Runs a job at each fire of a schedule, over any clock that can wait. Each fire is run once, in
+//! Runs a job at each fire of a table, over any clock that can wait. Each fire is run once, in
 //! order, none before its instant, and none is lost, however the clock goes.
 //!
 //! ```text
 //! let mut clock = MachineClock(&rt);
 //! let plan = Plan {
-//!     schedule: &schedule,
+//!     table: &schedule,
 //!     zone: &zone,
 //!     start: Start::After(clock.now()?),
 //!     most: None,

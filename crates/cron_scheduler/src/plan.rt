@@ -3,11 +3,10 @@
 ghost use Rattle.std.specs.Prelude.{◌≡◌, ◌-◌};
 ghost use Rattle.std.specs.Option.{option_map};
 ghost use Rattle.jiff.specs.Words.{plain_zone};
-ghost use Rattle.cron_scheduler.specs.Inner.Passing.{IsFirst, IsFirstDueLeft, IsFirstLeft};
+ghost use Rattle.cron_scheduler.specs.Passing.{IsFirst, IsFirstDueLeft, IsFirstLeft};
 ghost use Rattle.cron_scheduler.specs.declared.plan.Start.TheVariants.{Past};
 
-use cron::Schedule;
-use cron_fires::Fire;
+use cron_fires::{Fire, Timetable};
 use jiff::Timestamp;
 use jiff::tz::TimeZone;
 
@@ -20,14 +19,14 @@ pub enum Start<F> {
     Past(F),
 }
 
-/// Which fires are to be run: those of a schedule in a zone from a start on, all of them or the
-/// first so many. What the job takes is the rule by which they come: a `Moment` for each time that
-/// the clock shows a match, or a `DueFire` for each match.
+/// Which fires are to be run: those of a table in a zone from a start on, all of them or the first
+/// so many. What the job takes is the rule by which they come: a `Moment` for each time that the
+/// clock shows a match, or a `DueFire` for each match.
 #[derive(Clone, Copy)]
-pub struct Plan<'a, F> {
-    /// When to fire.
-    pub schedule: &'a Schedule,
-    /// Whose clock the schedule is read on.
+pub struct Plan<'a, T, F> {
+    /// What fires: a schedule, or several as one.
+    pub table: &'a T,
+    /// Whose clock it is read on.
     pub zone: &'a TimeZone<'a>,
     /// Where the fires begin.
     pub start: Start<F>,
@@ -43,25 +42,25 @@ pub(crate) struct Rest<F> {
     pub(crate) next: Option<F>,
 }
 
-impl<F: Fire> Plan<'_, F> {
+impl<T: Timetable, F: Fire> Plan<'_, T, F> {
     // The first of the fires from a start on, of which there are so many at most.
     pub(crate) fn first(&self, start: Start<F>, most: Option<u64>) -> Option<F>
-        ensures { IsFirst F.after F.past self.now.schedule.now.sets (plain_zone self.now.zone.now)
+        ensures { IsFirst F.after F.past (T.schedules self.now.table.now) (plain_zone self.now.zone.now)
             start most result }
     {
         if most == Some(0) {
             return None;
         }
         match start {
-            Start::After(now) => F::first_after(self.schedule, now, self.zone),
-            Start::Past(fire) => F::first_past(self.schedule, &fire, self.zone),
+            Start::After(now) => F::first_after(self.table, now, self.zone),
+            Start::Past(fire) => F::first_past(self.table, &fire, self.zone),
         }
     }
 
     // The first of the fires that are left, if its instant is now or came before.
     pub(crate) fn first_due(&self, rest: &Rest<F>, now: Timestamp) -> Option<F>
-        requires { IsFirstLeft F.after F.past self.now rest.now rest.now.next }
-        ensures { IsFirstDueLeft F.at F.after F.past self.now rest.now now.nanosecond result }
+        requires { IsFirstLeft T.schedules F.after F.past self.now rest.now rest.now.next }
+        ensures { IsFirstDueLeft F.at T.schedules F.after F.past self.now rest.now now.nanosecond result }
     {
         let Some(first) = rest.next else {
             return None;
@@ -77,7 +76,7 @@ impl<F: Fire> Plan<'_, F> {
     pub(crate) fn behind(&self, rest: &Rest<F>, first: F) -> Rest<F>
         ensures start { result.start ≡ Past first }
         ensures most { result.most ≡ option_map (λ n. n - 1) rest.now.most }
-        ensures next { IsFirstLeft F.after F.past self.now result result.next }
+        ensures next { IsFirstLeft T.schedules F.after F.past self.now result result.next }
     {
         let start = Start::Past(first);
         let most = rest.most.map(|most| most.saturating_sub(1));

@@ -3,30 +3,30 @@
 ghost use Rattle.std.specs.Prelude.{◌≡◌};
 ghost use Rattle.cron_scheduler.specs.Plans.{fires_of};
 ghost use Rattle.cron_scheduler.specs.Runs.{IsRun, clock_calls};
-ghost use Rattle.cron_scheduler.specs.Inner.Passing.{IsFirstLeft, RunsDue, left_of};
+ghost use Rattle.cron_scheduler.specs.Passing.{IsFirstLeft, RunsDue, left_of};
 
 use crate::clock::{AlarmClock, wake_at};
 use crate::job::Job;
 use crate::plan::{Plan, Rest};
 use crate::stop::Stop;
-use cron_fires::Fire;
+use cron_fires::{Fire, Timetable};
 use jiff::Timestamp;
 
 // Runs the job for each fire that is due by now, and leaves these fires out.
-fn run_due<F: Fire, J: Job<F>>(
-    plan: &Plan<'_, F>,
+fn run_due<T: Timetable, F: Fire, J: Job<F>>(
+    plan: &Plan<'_, T, F>,
     rest: &mut Rest<F>,
     now: Timestamp,
     job: &mut J,
 ) -> Result<(), J::Error>
     requires can { J.can_run job.old }
-    requires next { IsFirstLeft F.after F.past plan.now rest.old rest.old.next }
+    requires next { IsFirstLeft T.schedules F.after F.past plan.now rest.old rest.old.next }
     ensures due { RunsDue F.at J.runs now.nanosecond
-        (left_of F.after F.past plan.now rest.old, job.old)
+        (left_of T.schedules F.after F.past plan.now rest.old, job.old)
         result
-        (left_of F.after F.past plan.now rest.new, job.new) }
+        (left_of T.schedules F.after F.past plan.now rest.new, job.new) }
     ensures stays { J.can_run job.new }
-    ensures next { IsFirstLeft F.after F.past plan.now rest.new rest.new.next }
+    ensures next { IsFirstLeft T.schedules F.after F.past plan.now rest.new rest.new.next }
 {
     while let Some(fire) = plan.first_due(rest, now) {
         job.run(fire)?;
@@ -35,7 +35,7 @@ fn run_due<F: Fire, J: Job<F>>(
     Ok(())
 }
 
-impl<F: Fire> Plan<'_, F> {
+impl<T: Timetable, F: Fire> Plan<'_, T, F> {
     /// Runs the job for the fires of the plan, each once, in order, and none before its instant. It
     /// waits for the fire that comes next, reads the clock, runs all that is due by then, and
     /// again. The job must be one that may be called (`can_run`), as a closure without a condition
@@ -52,7 +52,7 @@ impl<F: Fire> Plan<'_, F> {
     ) -> Result<(), Stop<C::Error, J::Error>>
         requires { J.can_run job.old }
         ensures run { IsRun (clock_calls C.shows C.waits) J.runs F.at
-            (fires_of F.after F.past self.now)
+            (fires_of T.schedules F.after F.past self.now)
             (clock.old, job.old)
             result
             (clock.new, job.new) }

@@ -57,6 +57,10 @@ impl Timetable for TabEntry {
 
     ghost schedules = { schedules_of };
 
+    fn schedules(&self) -> &[ScheduleFields] {
+        self.as_slice()
+    }
+
     fn first_after(&self, now: Timestamp, zone: &TimeZone<'_>) -> Option<Moment> {
         let schedules = self.as_slice();
         Union { schedules }.first_after(now, zone)

@@ -10,7 +10,7 @@ use Rattle.cron_dues.proofs.DueLemmas.{due_ascends, fire_due}
 use Rattle.cron_dues.proofs.MemberLemmas as member
 use Rattle.cron_unions.specs.UnionDues.{IsDueOfAny, IsFirstDueAfterAny}
 use Rattle.cron_unions.specs.Unions.{seconds_of_any}
-use Rattle.cron_unions.specs.Inner.Nearest.{is_match_any}
+use Rattle.cron_unions.specs.Nearest.{is_match_any}
 use Rattle.cron_unions.proofs.UnionLemmas.{any-matches}
 use Rattle.cron_tool.specs.Lateness.{IsFirstAfter, IsFirstMissed, missed_at, missed_of, nanos}
 

@@ -17,10 +17,10 @@ use Rattle.cron_instants.proofs.FireLemmas.{int_le-true, not_later}
 use Rattle.cron_dues.specs.Clock.Due.{Clock, Due, due, due_instant, instant}
 use Rattle.cron_dues.specs.Clock.Dues.{is_due_by}
 use Rattle.cron_dues.specs.Clock.FirstDues.{IsLast}
-use Rattle.cron_dues.specs.Inner.Nearest.{IsNearestDue}
-use Rattle.cron_dues.specs.Inner.Reached.{IsReachedBy}
+use Rattle.cron_dues.specs.Nearest.{IsNearestDue}
+use Rattle.cron_dues.specs.Reached.{IsReachedBy}
 use Rattle.cron_dues.proofs.DueLemmas.{fire_due}
-use Rattle.cron_dues.proofs.ListLemmas.{Ascends}
+use Rattle.cron_dues.specs.Ascent.{Ascends}
 use Rattle.cron_dues.proofs.MemberLemmas.{AreMatches, all-ascend, last-of, less-true, own-of, second_of, true-less}
 use Rattle.cron_dues.proofs.RunLemmas.{same_tests}
 use Rattle.cron_unions.specs.FirstOfAny.{IsItemOfAny}

@@ -6,7 +6,7 @@ use Rattle.cron_units.specs.declared.way.Way.{Way}
 use Rattle.cron_units.specs.Sets.{Sets}
 use Rattle.cron_moments.specs.Readings.{Reading}
 use Rattle.cron_instants.specs.Instants.{IsItem}
-use Rattle.cron_instants.specs.Inner.Beyond.{IsBest, nearer_of}
+use Rattle.cron_instants.specs.Beyond.{IsBest, nearer_of}
 use Rattle.cron_instants.proofs.BestLemmas.{best_of_both, best_of_more}
 use Rattle.cron_unions.specs.FirstOfAny.{IsItemOfAny}
 use Rattle.cron_unions.proofs.AnyLemmas.{any-before, any-last, any-last_cases, any-none}

@@ -17,7 +17,7 @@ use Rattle.cron_time.specs.Matches.{is_match, matches}
 use Rattle.cron_time.proofs.PlaceLemmas.{slice_get-append, slice_get-left}
 use Rattle.cron_unions.specs.Unions.{matches_any}
 use Rattle.cron_unions.specs.Inner.Heads.{AreHeads, ArePassing, IsHead, IsPassing, match_of}
-use Rattle.cron_unions.specs.Inner.Nearest.{is_match_any, nearer_second}
+use Rattle.cron_unions.specs.Nearest.{is_match_any, nearer_second}
 use Rattle.cron_unions.specs.declared.heads.Head.{Head}
 use Rattle.cron_unions.proofs.NearestLemmas.{nearest-end, nearest-none, nearest-of_both, nearest-step}
 use Rattle.cron_unions.proofs.UnionLemmas.{match-of_any}

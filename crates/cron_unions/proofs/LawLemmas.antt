@@ -14,13 +14,14 @@ use Rattle.cron_dues.specs.Due.{Due, clock_of}
 use Rattle.cron_dues.specs.Dues.{matching_seconds}
 use Rattle.cron_dues.specs.FirstDues.{IsDue}
 use Rattle.cron_time.proofs.ListLemmas.{filter-alike}
-use Rattle.cron_dues.proofs.ListLemmas.{Ascends, ascends-at, cut-behind}
+use Rattle.cron_dues.specs.Ascent.{Ascends}
+use Rattle.cron_dues.proofs.ListLemmas.{ascends-at, cut-behind}
 use Rattle.cron_dues.proofs.MemberLemmas.{all-ascend, nearest-own, own-of, sets-match}
 use Rattle.cron_dues.proofs.RunLemmas.{same_tests}
 use Rattle.cron_unions.specs.Unions.{fires_any, matches_any, seconds_of_any, timeline_any}
 use Rattle.cron_unions.specs.UnionDues.{IsDueOfAny, dues_any}
 use Rattle.cron_unions.specs.UnionLaws.{CutDuesGoOn, CutFiresGoOn, DuesAreOfTheSchedules, DuesComeOnce, FiresAreOfTheSchedules, FiresAscend, ItemsAreOfTheSchedules, OneIsItsUnion, OrderDoesNotMatter, SecondsAreOfTheSchedules}
-use Rattle.cron_unions.specs.Inner.Nearest.{is_match_any}
+use Rattle.cron_unions.specs.Nearest.{is_match_any}
 use Rattle.cron_unions.proofs.UnionLemmas.{any-matches, any_of-match, any_of_one, fires_any-ascend, fires_any-of_item, item-of_fires_any, match-of_any, one_of_any}
 
 -- ---- they are those of the schedules
@@ -57,7 +58,7 @@ dues_are_of ss z d = (due-of_one ss z d, one-of_due ss z d)
 pub fires_ascend : FiresAscend
 fires_ascend ss z i j r q less e f = ascent.ascends-at (fires_any ss z) i j r q (fires_any-ascend ss z) less e f
 
-dues_any-ascend : (ss : List Sets) (z : TimeZone) → Ascends (λ (d : Due). d.second) (dues_any ss z)
+pub dues_any-ascend : (ss : List Sets) (z : TimeZone) → Ascends (λ (d : Due). d.second) (dues_any ss z)
 dues_any-ascend ss z = all-ascend (seconds_of_any ss) (is_match_any ss) (clock_of z) (any-matches ss)
 
 pub dues_once : DuesComeOnce

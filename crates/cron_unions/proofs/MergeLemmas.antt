@@ -15,9 +15,9 @@ use Rattle.cron_moments.specs.Readings.{Reading, instant, reading}
 use Rattle.cron_instants.specs.Fires.{is_after, is_by}
 use Rattle.cron_instants.specs.Instants.{IsEarliest}
 use Rattle.cron_instants.specs.Order.{is_earlier}
-use Rattle.cron_instants.specs.Inner.Left.{is_within, left_until}
-use Rattle.cron_instants.specs.Inner.Monotone.{IsMonotone}
-use Rattle.cron_instants.specs.Inner.OffsetRange.{IsRead}
+use Rattle.cron_instants.specs.Left.{is_within, left_until}
+use Rattle.cron_instants.specs.Monotone.{IsMonotone}
+use Rattle.cron_instants.specs.OffsetRange.{IsRead}
 use Rattle.cron_instants.specs.declared.monotone.Monotone.{Monotone}
 use Rattle.cron_instants.proofs.AscentLemmas.{KeepsOn, among-earliest_first, earliest_first-among, first-left}
 use Rattle.cron_instants.proofs.BestLemmas.{best_of_more}
@@ -28,7 +28,7 @@ use Rattle.cron_instants.proofs.RunLemmas.{first_until, late_until, nothing_unti
 use Rattle.cron_unions.specs.FirstOfAny.{IsFirstAfterAny, IsFirstPastAny, IsItemOfAny}
 use Rattle.cron_unions.specs.Unions.{fires_any, fires_any_past, seconds_of_any, timeline_any}
 use Rattle.cron_unions.specs.Inner.Heads.{AreHeads, match_of}
-use Rattle.cron_unions.specs.Inner.Nearest.{is_match_any}
+use Rattle.cron_unions.specs.Nearest.{is_match_any}
 use Rattle.cron_unions.specs.Inner.Merges.{AreFrom, IsKnownFrom, left_with, read_at}
 use Rattle.cron_unions.specs.declared.heads.Head.{Head}
 use Rattle.cron_unions.specs.declared.merge.Merge.{Merge}
@@ -40,7 +40,7 @@ use Rattle.cron_unions.proofs.UnionLemmas.{any_read, fires_any-ascend, item_read
 -- ---- what is left, by its first
 
 -- the earliest of the items that pass a test is the first of the fires that do
-first-of_any : (ss : List Sets) (z : TimeZone) (p : Reading → Bool) (answer : Option Reading) → KeepsOn p
+pub first-of_any : (ss : List Sets) (z : TimeZone) (p : Reading → Bool) (answer : Option Reading) → KeepsOn p
     → IsEarliest (λ r. IsItemOfAny ss z r × (p r ≡ true)) answer
     → MatchOption answer (filter p (fires_any ss z) ≡ []) (λ r. filter p (fires_any ss z) ≡ r ∷ fires_any_past ss z r)
 first-of_any ss z p None on none =

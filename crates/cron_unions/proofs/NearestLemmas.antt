@@ -11,7 +11,7 @@ use Rattle.cron_moments.specs.Civil.{civil, seconds_in_range}
 use Rattle.cron_time.specs.Matches.{is_match, matches}
 use Rattle.cron_dues.proofs.MemberLemmas.{range_of}
 use Rattle.cron_unions.specs.Unions.{matches_any}
-use Rattle.cron_unions.specs.Inner.Nearest.{is_before, is_match_any, nearer_second}
+use Rattle.cron_unions.specs.Nearest.{is_before, is_match_any, nearer_second}
 
 -- ---- the nearer of two
 

@@ -17,8 +17,14 @@ use Rattle.cron_unions.proofs.LawLemmas.{one_seconds, one_timeline}
 pub one_after : (s : Sets) (z : TimeZone) (t : ℤ) (answer : Option Reading) → IsFirstAfter s z t answer → IsFirstAfterAny (s ∷ []) z t answer
 one_after s z t answer h = subst (λ l. IsEarliest (λ r. IsAmong l r × IsAfter t r) answer) (sym (one_timeline s z)) h
 
+pub after_one : (s : Sets) (z : TimeZone) (t : ℤ) (answer : Option Reading) → IsFirstAfterAny (s ∷ []) z t answer → IsFirstAfter s z t answer
+after_one s z t answer h = subst (λ l. IsEarliest (λ r. IsAmong l r × IsAfter t r) answer) (one_timeline s z) h
+
 pub one_past : (s : Sets) (z : TimeZone) (item : Reading) (answer : Option Reading) → IsFirstPast s z item answer → IsFirstPastAny (s ∷ []) z item answer
 one_past s z item answer h = subst (λ l. IsEarliest (λ r. IsAmong l r × (is_earlier item r ≡ true)) answer) (sym (one_timeline s z)) h
+
+pub past_one : (s : Sets) (z : TimeZone) (item : Reading) (answer : Option Reading) → IsFirstPastAny (s ∷ []) z item answer → IsFirstPast s z item answer
+past_one s z item answer h = subst (λ l. IsEarliest (λ r. IsAmong l r × (is_earlier item r ≡ true)) answer) (one_timeline s z) h
 
 pub one_by : (s : Sets) (z : TimeZone) (t : ℤ) (answer : Option Reading) → IsLastBy s z t answer → IsLastByAny (s ∷ []) z t answer
 one_by s z t answer h = subst (λ l. IsLatest (λ r. IsAmong l r × IsBy t r) answer) (sym (one_timeline s z)) h

@@ -14,15 +14,15 @@ use Rattle.cron_time.proofs.JoinedLemmas.{Owner, owner, joined, flat_map-filter,
 use Rattle.cron_time.proofs.PlaceLemmas.{nothing_in_nil}
 use Rattle.cron_time.proofs.TimelineLaws.{stand_once}
 use Rattle.cron_time.proofs.TimelineLemmas.{before, item_in, items_of-second}
-use Rattle.cron_instants.specs.Instants.{IsAmong, IsItem}
-use Rattle.cron_instants.specs.Inner.OffsetRange.{IsRead}
-use Rattle.cron_instants.proofs.AscentLemmas.{Ascends, ascends-earliest_first, among-earliest_first, earliest_first-among, once-of}
+use Rattle.cron_instants.specs.Instants.{Ascends, IsAmong, IsItem}
+use Rattle.cron_instants.specs.OffsetRange.{IsRead}
+use Rattle.cron_instants.proofs.AscentLemmas.{ascends-earliest_first, among-earliest_first, earliest_first-among, once-of}
 use Rattle.cron_instants.proofs.ItemLemmas.{item_of, stands_of}
 use Rattle.cron_instants.proofs.MatchLemmas.{match_in_range}
 use Rattle.cron_dues.proofs.MemberLemmas.{AreMatches, filter-matches, passes_in, passes_of, range_of}
 use Rattle.cron_unions.specs.Unions.{fires_any, matches_any, seconds_of_any, timeline_any}
 use Rattle.cron_unions.specs.FirstOfAny.{IsItemOfAny}
-use Rattle.cron_unions.specs.Inner.Nearest.{is_match_any}
+use Rattle.cron_unions.specs.Nearest.{is_match_any}
 
 -- ---- civil seconds
 

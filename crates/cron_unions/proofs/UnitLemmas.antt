@@ -11,7 +11,7 @@ use Rattle.cron_time.specs.Matches.{contains_year, has_day, is_candidate, matche
 use Rattle.cron_time.proofs.Searches.DayLemmas.{by_number_alone}
 use Rattle.cron_unions.specs.declared.units.Unit.{Unit}
 use Rattle.cron_unions.specs.declared.units.Unit.TheVariants.{Year, Month, Day, Weekday, Hour, Minute, Second}
-use Rattle.cron_unions.specs.Inner.Units.{has_unit}
+use Rattle.cron_unions.specs.Units.{has_unit}
 
 -- ---- a test more, wherever it stands
 

@@ -2,7 +2,7 @@
 ghost use Rattle.std.specs.Prelude.{◌≡◌};
 ghost use Rattle.std.specs.Iterator.{YieldsFirst};
 ghost use Rattle.jiff.specs.Words.{plain_zone};
-ghost use Rattle.cron_dues.specs.Inner.Left.{left_from};
+ghost use Rattle.cron_dues.specs.Left.{left_from};
 ghost use Rattle.cron_unions.specs.UnionDues.{dues_any, dues_any_after, dues_any_between, dues_any_past, dues_any_past_by};
 
 use crate::heads::{HEADS, Head, NO_MATCH, heads_of, nearest_head, pass_heads};
@@ -34,12 +34,12 @@ impl<'a> Model for DueRun<'a> {
     ghost use Rattle.std.specs.Prelude.{◌≡◌, List, length};
     ghost use Rattle.jiff.specs.Words.{plain_zone};
     ghost use Rattle.cron_dues.specs.Due.{Due, zone_clock};
-    ghost use Rattle.cron_dues.specs.Inner.Known.{AreDueFrom};
-    ghost use Rattle.cron_dues.specs.Inner.Left.{left_from};
+    ghost use Rattle.cron_dues.specs.Known.{AreDueFrom};
+    ghost use Rattle.cron_dues.specs.Left.{left_from};
     ghost use Rattle.cron_units.specs.Nearest.{IsNearest};
     ghost use Rattle.cron_units.specs.declared.way.Way.TheVariants.{Ahead};
     ghost use Rattle.cron_unions.specs.Inner.Heads.{AreHeads, match_of};
-    ghost use Rattle.cron_unions.specs.Inner.Nearest.{is_match_any};
+    ghost use Rattle.cron_unions.specs.Nearest.{is_match_any};
     ghost use Rattle.cron_unions.specs.Inner.Searched.{list_of};
     ghost use Rattle.cron_unions.specs.UnionDues.{dues_any};
 

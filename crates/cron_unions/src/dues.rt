@@ -1,9 +1,9 @@
 //! Due fires of several schedules as one in a zone. None of these calls takes memory.
 ghost use Rattle.jiff.specs.Words.{plain_zone};
 ghost use Rattle.cron_dues.specs.Due.{zone_clock};
-ghost use Rattle.cron_dues.specs.Inner.Nearest.{IsNearestDue};
+ghost use Rattle.cron_dues.specs.Nearest.{IsNearestDue};
 ghost use Rattle.cron_unions.specs.UnionDues.{IsFirstDueAfterAny, IsFirstDuePastAny, IsLastDueByAny};
-ghost use Rattle.cron_unions.specs.Inner.Nearest.{is_match_any};
+ghost use Rattle.cron_unions.specs.Nearest.{is_match_any};
 
 use crate::nearest::nearest_match;
 use cron_dues::fire::{DueFire, nominal_second};

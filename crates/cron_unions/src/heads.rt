@@ -5,7 +5,7 @@ ghost use Rattle.cron_units.specs.Sets.{Sets};
 ghost use Rattle.cron_units.specs.declared.way.Way.TheVariants.{Ahead};
 ghost use Rattle.cron_moments.specs.Civil.{seconds_in_range};
 ghost use Rattle.cron_unions.specs.Inner.Heads.{AreHeads, ArePassing, IsHead, IsPassing, match_of};
-ghost use Rattle.cron_unions.specs.Inner.Nearest.{is_match_any};
+ghost use Rattle.cron_unions.specs.Nearest.{is_match_any};
 
 use crate::nearest::nearest_match;
 use arrayvec::ArrayVec;

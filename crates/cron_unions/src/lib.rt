@@ -15,5 +15,6 @@ pub mod members;
 mod merge;
 pub mod nearest;
 pub mod run;
+pub mod search_run;
 mod searched;
 pub mod units;

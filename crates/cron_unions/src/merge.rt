@@ -3,7 +3,7 @@ ghost use Rattle.std.specs.Prelude.{◌≡◌, ◌≤◌, ◌<◌, IfSome, Match
 ghost use Rattle.jiff.specs.Words.{plain_zone};
 ghost use Rattle.cron_moments.specs.Civil.{seconds_in_range};
 ghost use Rattle.cron_moments.specs.Readings.{reading};
-ghost use Rattle.cron_instants.specs.Inner.OffsetRange.{IsRead};
+ghost use Rattle.cron_instants.specs.OffsetRange.{IsRead};
 ghost use Rattle.cron_unions.specs.FirstOfAny.{IsFirstPastAny};
 ghost use Rattle.cron_unions.specs.Inner.Heads.{match_of};
 ghost use Rattle.cron_unions.specs.Inner.Merges.{IsKnownFrom, IsMerge, IsPassed, next_of, schedules_of};

@@ -3,7 +3,7 @@
 ghost use Rattle.std.specs.Prelude.{◌≡◌, ◌<◌, IfSome};
 ghost use Rattle.cron_units.specs.Nearest.{IsNearest};
 ghost use Rattle.cron_moments.specs.Civil.{seconds_in_range};
-ghost use Rattle.cron_unions.specs.Inner.Nearest.{is_match_any, nearer_second};
+ghost use Rattle.cron_unions.specs.Nearest.{is_match_any, nearer_second};
 
 use cron_time::search::civil_seconds;
 use cron_units::fields::ScheduleFields;

@@ -2,7 +2,7 @@
 ghost use Rattle.std.specs.Prelude.{◌≡◌, ◌≤◌, IfSome, length};
 ghost use Rattle.std.specs.Iterator.{YieldsFirst};
 ghost use Rattle.jiff.specs.Words.{plain_zone};
-ghost use Rattle.cron_instants.specs.Inner.OffsetRange.{IsRead};
+ghost use Rattle.cron_instants.specs.OffsetRange.{IsRead};
 ghost use Rattle.cron_unions.specs.Unions.{fires_any_after, fires_any_between, fires_any_past, fires_any_past_by};
 ghost use Rattle.cron_unions.specs.Inner.Merges.{left_with};
 

@@ -2,7 +2,7 @@
 ghost use Rattle.std.specs.Prelude.{◌≡◌, ◌&&◌, not, false};
 ghost use Rattle.jiff_core.specs.declared.civil.datetime.DateTime.{DateTime};
 ghost use Rattle.cron_time.specs.Matches.{matches};
-ghost use Rattle.cron_unions.specs.Inner.Units.{has_unit};
+ghost use Rattle.cron_unions.specs.Units.{has_unit};
 
 use crate::members::{common_days, common_members, common_years, own_days, own_members, own_years};
 use cron_units::fields::ScheduleFields;

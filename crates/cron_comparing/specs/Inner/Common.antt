@@ -6,7 +6,7 @@ use Rattle.cron_units.specs.Sets.{Sets}
 use Rattle.cron_units.specs.declared.way.Way.TheVariants.{Ahead}
 use Rattle.cron_moments.specs.Civil.{civil}
 use Rattle.cron_time.specs.Matches.{is_match}
-use Rattle.cron_unions.specs.Inner.Nearest.{is_match_any}
+use Rattle.cron_unions.specs.Nearest.{is_match_any}
 
 -- the least number that passes a test
 abbrev pub IsLeast : (ℕ → Bool) → Option ℕ → Type 0

@@ -4,7 +4,7 @@ use Rattle.jiff_core.specs.Calendar.{days_in_month}
 use Rattle.jiff_core.specs.declared.civil.datetime.DateTime.{DateTime}
 use Rattle.cron_units.specs.Sets.{Sets}
 use Rattle.cron_time.specs.Matches.{is_match, matches}
-use Rattle.cron_unions.specs.Inner.Nearest.{is_match_any}
+use Rattle.cron_unions.specs.Nearest.{is_match_any}
 
 -- all that the schedule matches lies in months of this length
 abbrev pub AreInMonthsOf : ℕ → Sets → Type 0

@@ -6,7 +6,7 @@ use Rattle.jiff_tz.specs.declared.tzif.Tzif.{Tzif}
 use Rattle.jiff_tz.specs.Tzif.{transition_at}
 use Rattle.cron_moments.specs.Civil.{seconds_in_range}
 use Rattle.cron_moments.specs.Readings.{Reading, instant, reading}
-use Rattle.cron_instants.specs.Inner.OffsetRange.{IsRead}
+use Rattle.cron_instants.specs.OffsetRange.{IsRead}
 
 -- from an instant on, up to another, that one left out, all civil seconds of the range are read at one offset, and none at another
 pub record IsPeriod (z : TimeZone) (a end : ℤ) (o : Offset) : Type 0 where

@@ -5,7 +5,7 @@ use Rattle.cron_units.specs.Sets.{Sets}
 use Rattle.cron_moments.specs.Readings.{Reading, instant}
 use Rattle.cron_clocks.specs.Clocks.{shown_offset}
 use Rattle.cron_clocks.specs.declared.clock.Kept.{Kept}
-use Rattle.cron_instants.specs.Inner.Beyond.{Stands}
+use Rattle.cron_instants.specs.Beyond.{Stands}
 
 -- an item whose instant is this one or a later one
 abbrev pub IsFrom : Sets → TimeZone → ℤ → Reading → Type 0

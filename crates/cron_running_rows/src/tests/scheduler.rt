@@ -38,7 +38,7 @@ fn run_told(
     let schedule = Schedule::from_str(rt.alloc(), expression).expect(rt, "a schedule");
     let zone = TimeZone::posix(CHICAGO).expect(rt, "a zone");
     let plan = Plan {
-        schedule: &schedule,
+        table: &schedule,
         zone: &zone,
         start,
         most,

@@ -7,12 +7,12 @@ use Rattle.cron_units.specs.Sets.{Sets}
 use Rattle.cron_units.specs.declared.way.Way.TheVariants.{Ahead}
 use Rattle.cron_moments.specs.Civil.{seconds_in_range}
 use Rattle.cron_moments.specs.Readings.{Reading, reading}
-use Rattle.cron_instants.specs.Inner.Left.{left_until}
-use Rattle.cron_instants.specs.Inner.Monotone.{IsMonotone}
+use Rattle.cron_instants.specs.Left.{left_until}
+use Rattle.cron_instants.specs.Monotone.{IsMonotone}
 use Rattle.cron_instants.specs.declared.monotone.Monotone.{Monotone}
 use Rattle.cron_unions.specs.Unions.{fires_any_past}
 use Rattle.cron_unions.specs.Inner.Heads.{AreHeads, match_of}
-use Rattle.cron_unions.specs.Inner.Nearest.{is_match_any}
+use Rattle.cron_unions.specs.Nearest.{is_match_any}
 use Rattle.cron_unions.specs.declared.merge.Merge.{Merge}
 
 -- the next fire and those past it, up to an instant if there is a last one

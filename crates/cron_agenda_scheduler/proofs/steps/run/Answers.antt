@@ -11,7 +11,8 @@ pub returns-then-left-eq0 : goal.returns-then-left-eq0
 returns-then-left-eq0 g c = loop_ends c.loop.invariant.0 c.loop.left c.loop.clock c.loop.agenda c.loop.job c.loop.invariant.3 c.loop.invariant.2 (refl, refl, refl, inl c.if-left-eq0.true)
 
 pub returns-in-Err : goal.returns-in-Err
-returns-in-Err g c = loop_ends c.loop.invariant.0 c.loop.left c.loop.clock c.loop.agenda c.loop.job c.loop.invariant.3 c.loop.invariant.2 c.in-Err.ensures
+returns-in-Err g c = loop_ends c.loop.invariant.0 c.loop.left c.loop.clock c.loop.agenda c.loop.job c.loop.invariant.3 c.loop.invariant.2
+    (let some = c.if-left-eq0.false in omega arith, c.in-Err.ensures.0, c.in-Err.ensures.1)
 
 pub returns-in_default : goal.returns-in_default
 returns-in_default g c =
@@ -36,7 +37,7 @@ loop-preserved g c =
       length-append c.loop.invariant.0 (deeds ∷ []) ∙ ap (λ n. n + 1) c.loop.invariant.1,
       omega arith,
       turns_on ts cs js c.loop.invariant.0 c.args.most c.args.clock.now c.args.agenda.now c.args.job.now c.loop.left c.loop.clock c.loop.agenda c.loop.job
-          deeds c.in-Some.rest c.turn.new.clock c.turn.new.agenda c.turn.new.job c.loop.invariant.3 turn,
+          deeds c.in-Some.rest c.turn.new.clock c.turn.new.agenda c.turn.new.job c.loop.invariant.3 (let some = c.if-left-eq0.false in omega arith) turn,
     )
 
 pub returns : goal.returns

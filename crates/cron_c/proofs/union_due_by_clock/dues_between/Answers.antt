@@ -1,7 +1,7 @@
 use Rattle.std.proofs.Common.{rules, ◌+ℤ◌, pos, FitsSigned, w64, to_z-of_z}
 use Rattle.cron_dues.proofs.RunLemmas.{left-between}
 use Rattle.cron_unions.specs.Unions.{seconds_of_any}
-use Rattle.cron_unions.specs.Inner.Nearest.{is_match_any}
+use Rattle.cron_unions.specs.Nearest.{is_match_any}
 use Rattle.cron_unions.proofs.UnionLemmas.{any-matches}
 use Rattle.cron_c.specs.Calls.{IsInstant}
 use Rattle.cron_c.specs.Unions.{dues_any_between, sets_of_all}

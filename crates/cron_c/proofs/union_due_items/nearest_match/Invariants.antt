@@ -1,6 +1,6 @@
 use Rattle.std.proofs.Common.{take}
 use Rattle.cron_units.specs.Nearest.{IsNearest}
-use Rattle.cron_unions.specs.Inner.Nearest.{is_match_any}
+use Rattle.cron_unions.specs.Nearest.{is_match_any}
 use Rattle.cron_c.specs.Unions.{sets_of_all}
 use Rattle.cron_c.proofs.union_due_items.nearest_match.Given as goal
 

@@ -1,9 +1,9 @@
 use Rattle.std.proofs.Common.{rules, ◌≡◌, ◌∙◌, ◌+ℤ◌, pos, true, false, refl, sym, Some, FitsSigned, w64, to_z-of_z}
-use Rattle.cron_instants.specs.Inner.Left.{is_within}
+use Rattle.cron_instants.specs.Left.{is_within}
 use Rattle.cron_dues.specs.Clock.Due.{instant}
 use Rattle.cron_dues.proofs.RunLemmas.{left-none, left-first, left-late}
 use Rattle.cron_unions.specs.Unions.{seconds_of_any}
-use Rattle.cron_unions.specs.Inner.Nearest.{is_match_any}
+use Rattle.cron_unions.specs.Nearest.{is_match_any}
 use Rattle.cron_unions.proofs.UnionLemmas.{any-matches}
 use Rattle.cron_c.specs.Unions.{sets_of_all}
 use Rattle.cron_c.proofs.union_due_items.next_due.Goals as goal

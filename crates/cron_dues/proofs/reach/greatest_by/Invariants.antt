@@ -1,4 +1,4 @@
-use Rattle.cron_dues.specs.Inner.Reached.{IsGathered, left_to}
+use Rattle.cron_dues.specs.Reached.{IsGathered, left_to}
 use Rattle.cron_dues.proofs.reach.greatest_by.Given as goal
 
 abbrev pub invariant-loop-steady : goal.invariant-loop-steady

@@ -1,4 +1,4 @@
-use Rattle.cron_dues.specs.Inner.Reached.{IsOnTheWay, left_until}
+use Rattle.cron_dues.specs.Reached.{IsOnTheWay, left_until}
 use Rattle.cron_dues.proofs.way_to.span_from.Given as goal
 
 abbrev pub invariant-loop-from : goal.invariant-loop-from

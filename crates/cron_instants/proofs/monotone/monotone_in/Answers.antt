@@ -1,7 +1,7 @@
 use Rattle.std.proofs.Common.{◌≡◌, ◌∙◌, ◌+ℤ◌, ◌-ℤ◌, ◌≤ℤ◌, pos, of_z, to_z, w64, FitsSigned, to_z-of_z, arith, rules}
 use Rattle.jiff_core.proofs.SignedLemmas.{signed_arith, signed_casts}
 use Rattle.cron_moments.specs.Civil.{seconds_in_range}
-use Rattle.cron_instants.specs.Inner.OffsetRange.{width}
+use Rattle.cron_instants.specs.OffsetRange.{width}
 use Rattle.cron_instants.proofs.OrderedLemmas.{at_most_lesser, monotone_before, monotone_far, monotone_past}
 use Rattle.cron_instants.proofs.monotone.monotone_in.Goals as goal
 

@@ -1,5 +1,5 @@
 use Rattle.std.proofs.Common.{◌≡◌, Bool, true, IsTrue, rules}
-use Rattle.cron_instants.specs.Inner.Beyond.{IsMatchAt}
+use Rattle.cron_instants.specs.Beyond.{IsMatchAt}
 use Rattle.cron_instants.proofs.BestLemmas.{best_found, best_kept}
 use Rattle.cron_instants.proofs.nearest.best_at.Goals as goal
 

@@ -1,5 +1,5 @@
 use Rattle.jiff.specs.Words.{plain_zone}
-use Rattle.cron_instants.specs.Inner.Beyond.{IsSought, left_to_pass}
+use Rattle.cron_instants.specs.Beyond.{IsSought, left_to_pass}
 use Rattle.cron_instants.proofs.nearest.nearest_item.Given as goal
 
 abbrev pub invariant-loop-next : goal.invariant-loop-next

@@ -3,7 +3,7 @@ use Rattle.std.proofs.lemmas.Bool.Decides.{nat_tests}
 use Rattle.jiff_tz.specs.Tzif.{transition_at}
 use Rattle.jiff_tz.specs.TzifText.{TransitionText, civil_end, transition_text}
 use Rattle.cron_clocks.proofs.TableLemmas.{transition_of, transitions_length}
-use Rattle.cron_instants.specs.Inner.OffsetRange.{IsAmongOffsets}
+use Rattle.cron_instants.specs.OffsetRange.{IsAmongOffsets}
 use Rattle.cron_instants.proofs.TransitionLemmas.{size}
 use Rattle.cron_instants.proofs.TableOffsetRange.{sizes, offset_range_of_rows, offset_range_of_rule, offset_range_of_both}
 use Rattle.cron_instants.proofs.offset_range.offset_range_in.Goals as goal

@@ -49,7 +49,7 @@ fn it_wakes_each_minute_until_the_fire(rt: HostRuntime) {
         1790,
     );
     let plan = Plan {
-        schedule: &schedule,
+        table: &schedule,
         zone: &TimeZone::UTC,
         start: Start::After(clock.now().expect(&rt, "a time")),
         most: Some(2),

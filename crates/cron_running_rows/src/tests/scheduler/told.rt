@@ -231,7 +231,7 @@ fn a_job_that_fails_ends_the_run(rt: HostRuntime) {
     let schedule = Schedule::from_str(rt.alloc(), HALF_PAST_ONE).expect(&rt, "a schedule");
     let zone = TimeZone::posix(CHICAGO).expect(&rt, "a zone");
     let plan = Plan {
-        schedule: &schedule,
+        table: &schedule,
         zone: &zone,
         start: after(&rt, FIRST - 1),
         most: None,

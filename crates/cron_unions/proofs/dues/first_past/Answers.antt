@@ -2,7 +2,7 @@ use Rattle.std.proofs.Common.{rules, ◌≡◌, ◌+ℤ◌, pos, w64, FitsSigned
 use Rattle.cron_dues.specs.Due.{zone_clock}
 use Rattle.cron_dues.proofs.MemberLemmas as member
 use Rattle.cron_unions.specs.Unions.{seconds_of_any}
-use Rattle.cron_unions.specs.Inner.Nearest.{is_match_any}
+use Rattle.cron_unions.specs.Nearest.{is_match_any}
 use Rattle.cron_unions.proofs.UnionLemmas.{any-matches}
 use Rattle.cron_unions.proofs.dues.first_past.Goals as goal
 

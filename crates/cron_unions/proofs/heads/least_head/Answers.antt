@@ -2,7 +2,7 @@ use Rattle.std.proofs.Common.{◌≡◌, ℕ, length, subst, take, arith}
 use Rattle.cron_units.specs.Nearest.{IsNearest}
 use Rattle.cron_units.specs.declared.way.Way.TheVariants.{Ahead}
 use Rattle.cron_unions.specs.Inner.Heads.{match_of}
-use Rattle.cron_unions.specs.Inner.Nearest.{is_match_any}
+use Rattle.cron_unions.specs.Nearest.{is_match_any}
 use Rattle.cron_unions.proofs.HeadLemmas.{least-more, match-min}
 use Rattle.cron_unions.proofs.NearestLemmas.{nearest-none}
 use Rattle.cron_unions.proofs.heads.least_head.Goals as goal

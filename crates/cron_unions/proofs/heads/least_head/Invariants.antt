@@ -3,7 +3,7 @@ use Rattle.cron_units.specs.Nearest.{IsNearest}
 use Rattle.cron_units.specs.Sets.{Sets}
 use Rattle.cron_units.specs.declared.way.Way.TheVariants.{Ahead}
 use Rattle.cron_unions.specs.Inner.Heads.{AreHeads, match_of}
-use Rattle.cron_unions.specs.Inner.Nearest.{is_match_any}
+use Rattle.cron_unions.specs.Nearest.{is_match_any}
 use Rattle.cron_unions.proofs.heads.least_head.Given as goal
 
 abbrev pub invariant-loop-head : goal.invariant-loop-head

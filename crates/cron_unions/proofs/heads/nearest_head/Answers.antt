@@ -1,7 +1,7 @@
 use Rattle.std.proofs.Common.{rules, ap, ◌∙◌, length, FitsSigned, w64, to_z-of_z}
 use Rattle.cron_units.specs.declared.way.Way.TheVariants.{Ahead}
 use Rattle.cron_unions.specs.Inner.Heads.{match_of}
-use Rattle.cron_unions.specs.Inner.Nearest.{nearer_second}
+use Rattle.cron_unions.specs.Nearest.{nearer_second}
 use Rattle.cron_unions.proofs.HeadLemmas.{match-min, nearest-parted, others_whole}
 use Rattle.cron_unions.proofs.NearestLemmas.{nearest-end}
 use Rattle.cron_unions.proofs.heads.nearest_head.Goals as goal

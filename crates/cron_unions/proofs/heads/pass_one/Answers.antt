@@ -4,7 +4,7 @@ use Rattle.cron_unions.specs.Inner.Heads.{IsPassing, match_of}
 use Rattle.cron_unions.specs.declared.heads.Head.{Head}
 use Rattle.cron_units.specs.Nearest.{IsNearest}
 use Rattle.cron_units.specs.declared.way.Way.TheVariants.{Ahead}
-use Rattle.cron_unions.specs.Inner.Nearest.{is_match_any}
+use Rattle.cron_unions.specs.Nearest.{is_match_any}
 use Rattle.cron_unions.proofs.HeadLemmas.{one-least, one-set, passing-at, passing-of}
 use Rattle.cron_unions.proofs.heads.pass_one.Goals as goal
 

@@ -2,7 +2,7 @@ use Rattle.std.proofs.Common.{rules, ◌≡◌, true, false, ◌∙◌, sym, ap,
 use Rattle.cron_time.specs.Matches.{is_match}
 use Rattle.cron_dues.specs.Clock.Dues.{matching_seconds}
 use Rattle.cron_dues.specs.Clock.Due.{instant}
-use Rattle.cron_instants.specs.Inner.Left.{is_within}
+use Rattle.cron_instants.specs.Left.{is_within}
 use Rattle.cron_dues.proofs.MemberLemmas.{sets-match}
 use Rattle.cron_dues.proofs.RunLemmas.{left-none, left-first, left-late}
 use Rattle.cron_dues.proofs.run.Run.take_first.Goals as goal

@@ -3,5 +3,5 @@ use Rattle.cron_fires.proofs.DueLemmas.{first-past}
 use Rattle.cron_fires.proofs.fire.DueFireFire.first_past.Goals as goal
 
 pub returns : goal.returns
-returns c =
-    first-past c.args.schedule.now.sets (plain_zone c.args.zone.now) c.args.fire.now c.first_due_past.result c.first_due_past.ensures
+returns g c =
+    first-past (g.T.Timetable.schedules c.args.table.now) (plain_zone c.args.zone.now) c.args.fire.now c.first_due_past.result c.first_due_past.ensures

@@ -1,7 +1,7 @@
 use Rattle.jiff.specs.Words.{plain_zone}
-use Rattle.cron_instants.proofs.FireLemmas.{first-past}
+use Rattle.cron_fires.proofs.LawLemmas.{first-past}
 use Rattle.cron_fires.proofs.fire.MomentFire.first_past.Goals as goal
 
 pub returns : goal.returns
-returns c =
-    first-past c.args.schedule.now.sets (plain_zone c.args.zone.now) c.args.fire.now c.first_fire_past.result c.first_fire_past.ensures
+returns g c =
+    first-past (g.T.Timetable.schedules c.args.table.now) (plain_zone c.args.zone.now) c.args.fire.now c.first_past.result c.first_past.ensures

@@ -1,7 +1,7 @@
 use Rattle.std.proofs.Common.{◌≡◌, true, false, ◌∙◌, sym, rules, FitsSigned, w64, to_z-of_z}
 use Rattle.jiff.specs.Words.{plain_zone}
 use Rattle.cron_moments.specs.Readings.{instant}
-use Rattle.cron_instants.specs.Inner.Left.{is_within}
+use Rattle.cron_instants.specs.Left.{is_within}
 use Rattle.cron_instants.proofs.RunLemmas.{left-none, left-first, left-late, late-left}
 use Rattle.cron_instants.proofs.run.Run.take_first.Goals as goal
 

@@ -1,7 +1,7 @@
 use Rattle.std.proofs.Common.{rules, FitsSigned, w64, to_z-of_z}
 use Rattle.cron_dues.specs.Due.{zone_clock}
 use Rattle.cron_unions.specs.Unions.{seconds_of_any}
-use Rattle.cron_unions.specs.Inner.Nearest.{is_match_any}
+use Rattle.cron_unions.specs.Nearest.{is_match_any}
 use Rattle.cron_unions.proofs.BackLemmas.{dues-by}
 use Rattle.cron_unions.proofs.UnionLemmas.{any-matches}
 use Rattle.cron_unions.proofs.back_due_run.BackDueRun.by.Goals as goal

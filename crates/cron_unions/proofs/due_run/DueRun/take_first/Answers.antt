@@ -3,12 +3,12 @@ use Rattle.jiff_core.proofs.SignedLemmas.{signed_arith}
 use Rattle.cron_units.specs.Nearest.{IsNearest}
 use Rattle.cron_units.specs.declared.way.Way.TheVariants.{Ahead}
 use Rattle.cron_dues.specs.Due.{instant, zone_clock}
-use Rattle.cron_instants.specs.Inner.Left.{is_within}
+use Rattle.cron_instants.specs.Left.{is_within}
 use Rattle.cron_dues.proofs.AheadLemmas.{nearest_is}
 use Rattle.cron_dues.proofs.RunLemmas.{left-none, left-first, left-late}
 use Rattle.cron_unions.specs.Unions.{seconds_of_any}
 use Rattle.cron_unions.specs.Inner.Heads.{match_of}
-use Rattle.cron_unions.specs.Inner.Nearest.{is_match_any}
+use Rattle.cron_unions.specs.Nearest.{is_match_any}
 use Rattle.cron_unions.specs.Inner.Searched.{list_of}
 use Rattle.cron_unions.proofs.HeadLemmas.{heads-up, match-some, nearest-up, refill_whole}
 use Rattle.cron_unions.proofs.UnionLemmas.{any-matches}

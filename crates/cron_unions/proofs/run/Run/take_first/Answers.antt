@@ -1,7 +1,7 @@
 use Rattle.std.proofs.Common.{rules, ◌≡◌, true, false, ◌∷◌, sym, ap, ◌∙◌, subst, FitsSigned, w64, to_z-of_z}
 use Rattle.jiff.specs.Words.{plain_zone}
 use Rattle.cron_moments.specs.Readings.{instant}
-use Rattle.cron_instants.specs.Inner.Left.{is_within}
+use Rattle.cron_instants.specs.Left.{is_within}
 use Rattle.cron_unions.specs.FirstOfAny.{IsFirstPastAny}
 use Rattle.cron_unions.specs.Inner.Merges.{left_with, next_of, schedules_of}
 use Rattle.cron_unions.proofs.MergeLemmas.{read_some, with_first, with_late}

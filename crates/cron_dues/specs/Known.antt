@@ -4,7 +4,7 @@ use Rattle.cron_units.specs.Sets.{Sets}
 use Rattle.cron_units.specs.declared.way.Way.TheVariants.{Ahead}
 use Rattle.cron_time.specs.Matches.{is_match}
 use Rattle.cron_dues.specs.Clock.Due.{Clock, Due, due, parts}
-use Rattle.cron_dues.specs.Inner.Nearest.{IsNearestDue}
+use Rattle.cron_dues.specs.Nearest.{IsNearestDue}
 use Rattle.cron_dues.specs.declared.ahead.Known.{Known}
 
 -- each civil second from a number on, up to the end, is due at this offset: when the clock shows it, or the first one if that is later

@@ -12,8 +12,8 @@ use Rattle.cron_scheduler.specs.declared.plan.Start.TheVariants.{Past}
 use Rattle.cron_scheduler.specs.Plans.{planned}
 
 -- the fires of a plan behind one of them
-abbrev pub planned_past : {A : Type 0} → (Sets → TimeZone → ℤ → List A) → (Sets → TimeZone → A → List A) → Sets → TimeZone → A → Option ℕ → List A
-planned_past after past s z r most = planned after past s z (Past r) (option_map (λ n. n - 1) most)
+abbrev pub planned_past : {A : Type 0} → (List Sets → TimeZone → ℤ → List A) → (List Sets → TimeZone → A → List A) → List Sets → TimeZone → A → Option ℕ → List A
+planned_past after past ss z r most = planned after past ss z (Past r) (option_map (λ n. n - 1) most)
 
 -- each of the fires passes the test, or none does
 abbrev pub AllPass : {A : Type 0} → (A → Bool) → List A → Type 0
@@ -25,29 +25,30 @@ NonePass p [] = Unit {0}
 NonePass p (r ∷ l) = (p r ≡ false) × NonePass p l
 
 -- the first of a plan's fires, none exactly where it has none
-abbrev pub IsFirst : {A : Type 0} → (Sets → TimeZone → ℤ → List A) → (Sets → TimeZone → A → List A) → Sets → TimeZone → Start A → Option ℕ
+abbrev pub IsFirst : {A : Type 0} → (List Sets → TimeZone → ℤ → List A) → (List Sets → TimeZone → A → List A) → List Sets → TimeZone → Start A → Option ℕ
     → Option A → Type 0
-IsFirst after past s z start most = IsFirstOf (planned after past s z start most) (λ r. planned_past after past s z r most)
+IsFirst after past ss z start most = IsFirstOf (planned after past ss z start most) (λ r. planned_past after past ss z r most)
 
 -- the same, where it is due by an instant; none exactly where no fire of the plan is
-abbrev pub IsFirstDue : {A : Type 0} → (A → ℤ) → (Sets → TimeZone → ℤ → List A) → (Sets → TimeZone → A → List A) → Sets → TimeZone → Start A
+abbrev pub IsFirstDue : {A : Type 0} → (A → ℤ) → (List Sets → TimeZone → ℤ → List A) → (List Sets → TimeZone → A → List A) → List Sets → TimeZone → Start A
     → Option ℕ → ℤ → Option A → Type 0
-IsFirstDue instant after past s z start most now answer =
-    MatchOption answer (NonePass (is_by instant now) (planned after past s z start most))
-    (λ r. (planned after past s z start most ≡ r ∷ planned_past after past s z r most) × (is_by instant now r ≡ true))
+IsFirstDue instant after past ss z start most now answer =
+    MatchOption answer (NonePass (is_by instant now) (planned after past ss z start most))
+    (λ r. (planned after past ss z start most ≡ r ∷ planned_past after past ss z r most) × (is_by instant now r ≡ true))
 
 -- what is left of the fires of a plan
-abbrev pub left_of : {A : Type 0} → (Sets → TimeZone → ℤ → List A) → (Sets → TimeZone → A → List A) → Plan A → Rest A → List A
-left_of after past p rest = planned after past p.schedule.now.sets (plain_zone p.zone.now) rest.start rest.most
+abbrev pub left_of : {T A : Type 0} → (T → List Sets) → (List Sets → TimeZone → ℤ → List A) → (List Sets → TimeZone → A → List A) → Plan T A → Rest A → List A
+left_of schedules after past p rest = planned after past (schedules p.table.now) (plain_zone p.zone.now) rest.start rest.most
 
 -- the first of what is left, and the first where it is due by an instant
-abbrev pub IsFirstLeft : {A : Type 0} → (Sets → TimeZone → ℤ → List A) → (Sets → TimeZone → A → List A) → Plan A → Rest A → Option A → Type 0
-IsFirstLeft after past p rest answer = IsFirst after past p.schedule.now.sets (plain_zone p.zone.now) rest.start rest.most answer
-
-abbrev pub IsFirstDueLeft : {A : Type 0} → (A → ℤ) → (Sets → TimeZone → ℤ → List A) → (Sets → TimeZone → A → List A) → Plan A → Rest A → ℤ
+abbrev pub IsFirstLeft : {T A : Type 0} → (T → List Sets) → (List Sets → TimeZone → ℤ → List A) → (List Sets → TimeZone → A → List A) → Plan T A → Rest A
     → Option A → Type 0
-IsFirstDueLeft instant after past p rest now answer =
-    IsFirstDue instant after past p.schedule.now.sets (plain_zone p.zone.now) rest.start rest.most now answer
+IsFirstLeft schedules after past p rest answer = IsFirst after past (schedules p.table.now) (plain_zone p.zone.now) rest.start rest.most answer
+
+abbrev pub IsFirstDueLeft : {T A : Type 0} → (A → ℤ) → (T → List Sets) → (List Sets → TimeZone → ℤ → List A) → (List Sets → TimeZone → A → List A)
+    → Plan T A → Rest A → ℤ → Option A → Type 0
+IsFirstDueLeft instant schedules after past p rest now answer =
+    IsFirstDue instant after past (schedules p.table.now) (plain_zone p.zone.now) rest.start rest.most now answer
 
 -- the job was run for these fires, one after another, and did well each time
 abbrev pub RanFor : {A J F : Type 0} → (J → A → Result ⊤ F → J → Type 0) → List A → J → J → Type 0

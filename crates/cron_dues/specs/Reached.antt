@@ -2,7 +2,7 @@
 use Rattle.std.specs.Prelude.{◌≡◌, ◌↔◌, ◌⊎◌, ℕ, ◌<◌, ℤ, pos, ◌+ℤ◌, ◌-ℤ◌, ◌≤ℤ◌, ◌<ℤ◌, Bool, int_le, unsigned_abs, Option, IfSome}
 use Rattle.cron_moments.specs.Civil.{seconds_in_range}
 use Rattle.cron_dues.specs.Clock.Due.{Clock, due_instant, shows}
-use Rattle.cron_dues.specs.Inner.Steady.{IsKept}
+use Rattle.cron_dues.specs.Steady.{IsKept}
 use Rattle.cron_dues.specs.declared.steady.Steady.{Steady}
 use Rattle.cron_dues.specs.declared.steady.DueSpan.{DueSpan}
 

@@ -1,6 +1,6 @@
 -- What a run has left of due fires: those from a civil second on, and up to an instant if there is a last one.
 use Rattle.std.specs.Prelude.{ℤ, pos, Bool, int_le, Option, Some, None, List, filter}
-use Rattle.cron_instants.specs.Inner.Left.{is_within}
+use Rattle.cron_instants.specs.Left.{is_within}
 use Rattle.cron_dues.specs.Clock.Due.{Due, instant}
 
 -- the nominal second is this one or a later one

@@ -5,7 +5,7 @@ use Rattle.cron_units.specs.Sets.{Sets}
 use Rattle.cron_units.specs.declared.way.Way.TheVariants.{Ahead}
 use Rattle.cron_moments.specs.Readings.{Reading, instant}
 use Rattle.cron_instants.specs.Fires.{fires}
-use Rattle.cron_instants.specs.Inner.Beyond.{beyond}
+use Rattle.cron_instants.specs.Beyond.{beyond}
 
 -- an instant, in seconds, isn't past the last one
 abbrev pub is_within : Option ℤ → ℤ → Bool

@@ -6,8 +6,8 @@ use Rattle.cron_units.specs.declared.way.Way.TheVariants.{Ahead}
 use Rattle.cron_units.specs.Sets.{Sets}
 use Rattle.cron_moments.specs.Readings.{Reading, instant, reading}
 use Rattle.cron_time.specs.Matches.{is_match}
-use Rattle.cron_instants.specs.Inner.Beyond.{IsBest, IsBeyond}
-use Rattle.cron_instants.specs.Inner.OffsetRange.{IsOnce, IsRead}
+use Rattle.cron_instants.specs.Beyond.{IsBest, IsBeyond}
+use Rattle.cron_instants.specs.OffsetRange.{IsOnce, IsRead}
 use Rattle.cron_instants.specs.declared.monotone.Monotone.{Monotone}
 
 -- the civil second is read once, at this offset, and what the clock shows before it is read earlier

@@ -1,0 +1,252 @@
+-- The fires of one entry, while jobs add and remove others.
+use Rattle.std.proofs.Common.{◌≡◌, ℕ, ◌+◌, ◌<◌, ◌≤◌, ℤ, Bool, true, false, cond, eqb, List, [], ◌∷◌, ◌++◌, length, map, Option, Some, None, refl, sym, ap, subst, ◌∙◌, append_assoc, append-nil, length-append, arith}
+use Rattle.std.specs.Prelude.{◌==◌, filter, flat_map, slice_get}
+use Rattle.std.proofs.lemmas.Bool.{eqb-true}
+use Rattle.std.proofs.lemmas.Grind.{flat_map-append}
+use Rattle.std.proofs.lemmas.List.{map-append}
+use Rattle.std.proofs.lemmas.List.Elements.{filter-append}
+use Rattle.jiff_tz.specs.declared.timezone.TimeZone.{TimeZone}
+use Rattle.cron_agenda.specs.declared.entry.Entry.{Entry}
+use Rattle.cron_agenda.specs.declared.fire.AgendaFire.{AgendaFire}
+use Rattle.cron_agenda.specs.declared.fire.EntryFire.{EntryFire}
+use Rattle.cron_agenda.specs.Entries.{HaveIds, IsTaken, Listed, gone_on}
+use Rattle.cron_agenda.specs.Entries as entries
+use Rattle.cron_agenda.specs.Fires.{fires_past, instant}
+use Rattle.cron_agenda.specs.Merged.{AllAscend, Ascend, left, own_of, rest_in}
+use Rattle.cron_fires.specs.Rules.{IsFirstOf, is_by}
+use Rattle.cron_scheduler.specs.Passing.{AllPass, NonePass}
+use Rattle.cron_scheduler.specs.Runs.{ClockCalls}
+use Rattle.cron_scheduler.proofs.DueLemmas.{filter_begins, filter_front}
+use Rattle.cron_agenda_scheduler.specs.EntryLaws.{EntryDeedsAreAllDue, EntryDeedsAreItsFires, EntryDeedsBeginThat, EntryFailureIsTaken, EntryTurnsAreItsFires, IsOneAtMost, OneAmongAll, fires_with, keeping, left_with, with_id}
+use Rattle.cron_agenda_scheduler.specs.Late.{Tables}
+use Rattle.cron_agenda_scheduler.specs.Laws.{is_due}
+use Rattle.cron_agenda_scheduler.specs.Turns.{AreDone, Deed, JobCalls, Passed, Ran, all_taken, taken}
+use Rattle.cron_agenda_scheduler.proofs.LateLemmas.{unlike}
+use Rattle.cron_agenda_scheduler.proofs.LawLemmas.{all_due, ended, none_later, not_first}
+use Rattle.cron_agenda_scheduler.proofs.TurnLemmas.{turn_is_done}
+
+-- ---- the entry with an id
+
+none_with : {T : Type 0} (id : ℕ) (es : List (Entry T)) (low high : ℕ) → id < low → HaveIds low es high → with_id id es ≡ []
+none_with id [] low high less ids = refl
+none_with id (e ∷ es) low high less ids =
+    let first = ids.0 in
+    ap (λ b. cond b (e ∷ with_id id es) (with_id id es)) (unlike e.id id (λ same. omega arith)) ∙ none_with id es (e.id + 1) high (omega arith) ids.1
+
+one_there : {T : Type 0} (id : ℕ) (es : List (Entry T)) (low high : ℕ) → HaveIds low es high → IsOneAtMost id es
+one_there id [] low high ids = omega arith
+one_there id (e ∷ es) low high ids = by_test (eqb e.id id) refl (one_there id es (e.id + 1) high ids.1)
+  where
+    by_test : (b : Bool) → eqb e.id id ≡ b → IsOneAtMost id es → IsOneAtMost id (e ∷ es)
+    by_test true is rest =
+        let same = eqb-true e.id id is in
+        let size = ap length (ap (λ b. cond b (e ∷ with_id id es) (with_id id es)) is ∙ ap (λ l. e ∷ l) (none_with id es (e.id + 1) high (omega arith) ids.1)) in
+        omega arith
+    by_test false is rest =
+        let size = ap length (ap (λ b. cond b (e ∷ with_id id es) (with_id id es)) is) in omega arith
+
+nothing : {A : Type 0} (l : List A) → length l ≤ 0 → l ≡ []
+nothing [] le = refl
+nothing (x ∷ l) le = absurd (omega arith)
+
+ascend_there : {T : Type 0} (ts : Tables T) (id : ℕ) (es : List (Entry T)) → IsOneAtMost id es → AllAscend ts.schedules ts.zones es → Ascend (left_with ts id es)
+ascend_there ts id [] one up = tt
+ascend_there ts id (e ∷ es) one up = by_test (eqb e.id id) refl (λ less. ascend_there ts id es less up.1)
+  where
+    by_test : (b : Bool) → eqb e.id id ≡ b → (IsOneAtMost id es → Ascend (left_with ts id es)) → Ascend (left_with ts id (e ∷ es))
+    by_test true is rest =
+        let there = ap (λ b. cond b (e ∷ with_id id es) (with_id id es)) is in
+        let size = ap length there in
+        subst Ascend (sym (ap (flat_map (left ts.schedules ts.zones)) (there ∙ ap (λ l. e ∷ l) (nothing (with_id id es) (omega arith)))
+        ∙ append-nil (left ts.schedules ts.zones e))) up.0
+    by_test false is rest =
+        let there = ap (λ b. cond b (e ∷ with_id id es) (with_id id es)) is in
+        subst Ascend (sym (ap (flat_map (left ts.schedules ts.zones)) there)) (rest (subst (λ l. length l ≤ 1) there one))
+
+pub one_among_all : {T : Type 0} (ts : Tables T) (id : ℕ) → OneAmongAll ts id
+one_among_all ts id = record { one = one_there id; ascends = ascend_there ts id }
+
+-- ---- one fire
+
+fires-append : (id : ℕ) (fs gs : List AgendaFire) → fires_with id (fs ++ gs) ≡ fires_with id fs ++ fires_with id gs
+fires-append id fs gs =
+    ap (map (λ (f : AgendaFire). f.fire)) (filter-append (λ (f : AgendaFire). f.id == id) fs gs)
+    ∙ map-append (λ (f : AgendaFire). f.fire) (filter (λ (f : AgendaFire). f.id == id) fs) (filter (λ (f : AgendaFire). f.id == id) gs)
+
+-- the first fires of some, and the first of those that were left then
+taken_on : (id : ℕ) (fs gs : List AgendaFire) (was mid now : List EntryFire) → was ≡ fires_with id fs ++ mid → mid ≡ fires_with id gs ++ now
+    → was ≡ fires_with id (fs ++ gs) ++ now
+taken_on id fs gs was mid now first more =
+    first ∙ ap (λ l. fires_with id fs ++ l) more ∙ sym (append_assoc (fires_with id fs) (fires_with id gs) now) ∙ ap (λ l. l ++ now) (sym (fires-append id fs gs))
+
+with_gone : {T : Type 0} (id : ℕ) (e : Entry T) (next : Option EntryFire) (b : Bool) → (e.id == id) ≡ b → with_id id (gone_on e next) ≡ cond b (gone_on e next) []
+with_gone id e None true is = refl
+with_gone id e None false is = refl
+with_gone id e (Some q) b is = ap (λ t. cond t (gone_on e (Some q)) []) is
+
+with_beside : {T : Type 0} (id : ℕ) (a m b : List (Entry T)) → with_id id (a ++ (m ++ b)) ≡ with_id id a ++ (with_id id m ++ with_id id b)
+with_beside id a m b =
+    filter-append (λ (e : Entry _). e.id == id) a (m ++ b) ∙ ap (λ l. with_id id a ++ l) (filter-append (λ (e : Entry _). e.id == id) m b)
+
+-- the entry whose next fire is taken has the others left
+gone_left : {T : Type 0} (ts : Tables T) (e : Entry T) (z : TimeZone) (next : Option EntryFire) → slice_get ts.zones e.zone ≡ Some z
+    → IsFirstOf (fires_past (ts.schedules e.table) z e.fire) (fires_past (ts.schedules e.table) z) next
+    → left ts.schedules ts.zones e ≡ e.fire ∷ flat_map (left ts.schedules ts.zones) (gone_on e next)
+gone_left ts e z None lent goes = ap (λ o. e.fire ∷ rest_in (ts.schedules e.table) o e.fire) lent ∙ ap (λ l. e.fire ∷ l) goes
+gone_left ts e z (Some q) lent goes =
+    ap (λ o. e.fire ∷ rest_in (ts.schedules e.table) o e.fire) lent ∙ ap (λ l. e.fire ∷ l) goes
+    ∙ ap (λ o. e.fire ∷ q ∷ rest_in (ts.schedules e.table) o q) (sym lent)
+    ∙ sym (append-nil (e.fire ∷ q ∷ rest_in (ts.schedules e.table) (slice_get ts.zones e.zone) q))
+
+gone_size : {T : Type 0} (e : Entry T) (next : Option EntryFire) → length (gone_on e next) ≤ 1
+gone_size e None = omega arith
+gone_size e (Some q) = omega arith
+
+module _ {T : Type 0} (ts : Tables T) (id : ℕ) (f : AgendaFire) (old new : List (Entry T)) (is : IsTaken ts.schedules ts.zones old f new) where
+  abbrev e : Entry T
+  e = is.entry
+
+  abbrev a : List (Entry T)
+  a = is.first.before
+
+  abbrev b : List (Entry T)
+  b = is.first.after
+
+  abbrev lefts : List (Entry T) → List EntryFire
+  lefts es = flat_map (left ts.schedules ts.zones) es
+
+  pub with_old : (t : Bool) → (e.id == id) ≡ t → with_id id old ≡ with_id id a ++ (cond t (e ∷ []) [] ++ with_id id b)
+  with_old t told =
+      ap (with_id id) is.first.is ∙ with_beside id a (e ∷ []) b ∙ ap (λ s. with_id id a ++ (cond s (e ∷ []) [] ++ with_id id b)) told
+
+  pub with_new : (t : Bool) → (e.id == id) ≡ t → with_id id new ≡ with_id id a ++ (cond t (gone_on e is.next) [] ++ with_id id b)
+  with_new t told =
+      ap (with_id id) is.now ∙ with_beside id a (gone_on e is.next) b ∙ ap (λ l. with_id id a ++ (l ++ with_id id b)) (with_gone id e is.next t told)
+
+  fires_is : (t : Bool) → (e.id == id) ≡ t → fires_with id (f ∷ []) ≡ cond t (e.fire ∷ []) []
+  fires_is t told =
+      mapped (f.id == id) ∙ ap (λ (v : AgendaFire). cond (v.id == id) (v.fire ∷ []) []) is.is ∙ ap (λ s. cond s (e.fire ∷ []) []) told
+    where
+      mapped : (s : Bool) → map (λ (v : AgendaFire). v.fire) (cond s (f ∷ []) []) ≡ cond s (f.fire ∷ []) []
+      mapped true = refl
+      mapped false = refl
+
+  -- what is taken is the first of its fires, where it is one of them
+  entry_taken : IsOneAtMost id old → (left_with ts id old ≡ fires_with id (f ∷ []) ++ left_with ts id new) × IsOneAtMost id new
+  entry_taken one = by_test (eqb e.id id) refl
+    where
+      by_test : (t : Bool) → eqb e.id id ≡ t → (left_with ts id old ≡ fires_with id (f ∷ []) ++ left_with ts id new) × IsOneAtMost id new
+      by_test true told =
+          let size = ap length (with_old true told) in
+          let parts = length-append (with_id id a) (e ∷ with_id id b) in
+          let none = nothing (with_id id a) (omega arith) in
+          let was = with_old true told ∙ ap (λ l. l ++ (e ∷ with_id id b)) none in
+          let now = with_new true told ∙ ap (λ l. l ++ (gone_on e is.next ++ with_id id b)) none in
+          let gone = gone_size e is.next in
+          let size_now = ap length now ∙ length-append (gone_on e is.next) (with_id id b) in (
+            ap lefts was
+                ∙ ap (λ l. l ++ lefts (with_id id b)) (gone_left ts e is.zone is.next is.lent is.goes_on)
+                ∙ ap (λ l. e.fire ∷ l) (sym (ap lefts now ∙ flat_map-append (left ts.schedules ts.zones) (gone_on e is.next) (with_id id b)))
+                ∙ ap (λ l. l ++ left_with ts id new) (sym (fires_is true told)),
+            omega arith,
+          )
+      by_test false told =
+          let same = with_old false told ∙ sym (with_new false told) in (
+            ap lefts same ∙ ap (λ l. l ++ left_with ts id new) (sym (fires_is false told)),
+            subst (λ l. length l ≤ 1) same one,
+          )
+
+-- ---- deeds
+
+-- they are the first of its fires, and still one entry at the most has the id
+entry_deeds : {T J F : Type 0} (ts : Tables T) (js : JobCalls T J F) (id : ℕ) (t : ℤ) (ds : List Deed) (a : Listed T) (j : J) (a' : Listed T) (j' : J)
+    → IsOneAtMost id a.entries → AreDone ts (keeping id js) t ds a j a' j'
+    → (left_with ts id a.entries ≡ fires_with id (taken ds) ++ left_with ts id a'.entries) × IsOneAtMost id a'.entries
+entry_deeds ts js id t [] a j a' j' one done =
+    (ap (λ (x : Listed _). left_with ts id x.entries) (sym done.0), subst (λ (x : Listed _). IsOneAtMost id x.entries) (sym done.0) one)
+entry_deeds ts js id t (Ran f ∷ ds) a j a' j' one done =
+    let kept = done.2.2.1 in
+    let here = entry_taken ts id f a.entries done.2.0.entries done.2.1.takes.0.0 one in
+    let rest = entry_deeds ts js id t ds done.0 done.1 a' j' (subst (λ l. length l ≤ 1) (sym kept) here.1) done.3 in (
+      taken_on id (f ∷ []) (taken ds) (left_with ts id a.entries) (left_with ts id done.2.0.entries) (left_with ts id a'.entries) here.0
+          (ap (flat_map (left ts.schedules ts.zones)) (sym kept) ∙ rest.0),
+      rest.1,
+    )
+entry_deeds ts js id t (Passed f ∷ ds) a j a' j' one done =
+    let here = entry_taken ts id f a.entries done.0.entries done.2.0.takes.0.0 one in
+    let rest = entry_deeds ts js id t ds done.0 done.1 a' j' here.1 done.3 in
+    (taken_on id (f ∷ []) (taken ds) (left_with ts id a.entries) (left_with ts id done.0.entries) (left_with ts id a'.entries) here.0 rest.0, rest.1)
+
+pub entry_deeds_are_its_fires : {T J F : Type 0} (ts : Tables T) (js : JobCalls T J F) (id : ℕ) → EntryDeedsAreItsFires ts js id
+entry_deeds_are_its_fires ts js id t ds a j a' j' one done = (entry_deeds ts js id t ds a j a' j' one done).0
+
+-- and so with the fire for which the job failed
+pub entry_failure_is_taken : {T J F E : Type 0} (ts : Tables T) (js : JobCalls T J F) (id : ℕ) → EntryFailureIsTaken ts js id E
+entry_failure_is_taken ts js id t most ds a j e a' j' one runs =
+    let f = runs.ends.1 in
+    let b = runs.ends.2 in
+    let done = entry_deeds ts js id t ds a j runs.agenda runs.job one runs.are_done in
+    let last = entry_taken ts id f runs.agenda.entries b.entries runs.ends.3.takes.0.0 done.1 in
+    let kept = ap (flat_map (left ts.schedules ts.zones)) (sym runs.ends.4.1) in (
+      f,
+      taken_on id (taken ds) (f ∷ []) (left_with ts id a.entries) (left_with ts id runs.agenda.entries) (left_with ts id a'.entries) done.0
+          (last.0 ∙ ap (λ l. fires_with id (f ∷ []) ++ l) kept),
+      (runs.job, b, runs.ends.4.0),
+    )
+
+-- ---- what was due
+
+-- each is due
+own_due : (id : ℕ) (t : ℤ) (fs : List AgendaFire) → AllPass (is_due t) (map own_of fs) → AllPass (is_by instant t) (fires_with id fs)
+own_due id t [] all = tt
+own_due id t (f ∷ fs) all = by_test (f.id == id) (own_due id t fs all.1)
+  where
+    by_test : (b : Bool) → AllPass (is_by instant t) (fires_with id fs)
+        → AllPass (is_by instant t) (map (λ (v : AgendaFire). v.fire)
+        (cond b (f ∷ filter (λ (v : AgendaFire). v.id == id) fs) (filter (λ (v : AgendaFire). v.id == id) fs)))
+    by_test true rest = (all.0, rest)
+    by_test false rest = rest
+
+-- and nothing that is left
+filter-less : {A : Type 0} (p q : A → Bool) (l : List A) → filter p l ≡ [] → filter p (filter q l) ≡ []
+filter-less p q [] none = refl
+filter-less p q (x ∷ l) none = let parts = not_first p x l (p x) refl none in by_test (q x) parts.0 (filter-less p q l parts.1)
+  where
+    by_test : (b : Bool) → p x ≡ false → filter p (filter q l) ≡ [] → filter p (cond b (x ∷ filter q l) (filter q l)) ≡ []
+    by_test true fails rest = rw fails rest
+    by_test false fails rest = rest
+
+none_of_left : {T : Type 0} (ts : Tables T) (t : ℤ) (es : List (Entry T)) → filter (entries.is_by t) es ≡ [] → Ascend (flat_map (left ts.schedules ts.zones) es)
+    → NonePass (is_by instant t) (flat_map (left ts.schedules ts.zones) es)
+none_of_left ts t [] none up = tt
+none_of_left ts t (e ∷ es) none up =
+    let late = (not_first (entries.is_by t) e es (entries.is_by t e) refl none).0 in
+    (late, none_later t e.fire (rest_in (ts.schedules e.table) (slice_get ts.zones e.zone) e.fire ++ flat_map (left ts.schedules ts.zones) es) up.0 late)
+
+ascend-behind : (l m : List EntryFire) → Ascend (l ++ m) → Ascend m
+ascend-behind [] m up = up
+ascend-behind (f ∷ l) m up = ascend-behind l m up.1
+
+pub entry_deeds_are_all_due : {T J F E : Type 0} (ts : Tables T) (js : JobCalls T J F) (id : ℕ) → EntryDeedsAreAllDue ts js id E
+entry_deeds_are_all_due ts js id t most left ds a j a' j' one up runs some fewer =
+    let front = (entry_deeds ts js id t ds a j runs.agenda runs.job one runs.are_done).0 in
+    let none = ended ts.schedules ts.zones t left (length ds) runs.agenda a' some fewer runs.ends.2 in
+    filter_front (is_by instant t) (left_with ts id a.entries) (fires_with id (taken ds)) (left_with ts id runs.agenda.entries) front
+    (own_due id t (taken ds) (all_due ts (keeping id js) t ds a j runs.agenda runs.job runs.are_done))
+    (none_of_left ts t (with_id id runs.agenda.entries) (filter-less (entries.is_by t) (λ (e : Entry _). e.id == id) runs.agenda.entries none)
+    (ascend-behind (fires_with id (taken ds)) (left_with ts id runs.agenda.entries) (subst Ascend front up)))
+
+pub entry_deeds_begin_that : {T J F : Type 0} (ts : Tables T) (js : JobCalls T J F) (id : ℕ) → EntryDeedsBeginThat ts js id
+entry_deeds_begin_that ts js id t ds a j a' j' one done =
+    filter_begins (is_by instant t) (left_with ts id a.entries) (fires_with id (taken ds)) (left_with ts id a'.entries)
+    (entry_deeds ts js id t ds a j a' j' one done).0 (own_due id t (taken ds) (all_due ts (keeping id js) t ds a j a' j' done))
+
+-- ---- turns
+
+pub entry_turns_are_its_fires : {T C J E F : Type 0} (ts : Tables T) (cs : ClockCalls C E) (js : JobCalls T J F) (id : ℕ) → EntryTurnsAreItsFires ts cs js id
+entry_turns_are_its_fires ts cs js id [] most left c a j c' a' j' one none = ap (λ (x : Listed _). left_with ts id x.entries) (sym none.2)
+entry_turns_are_its_fires ts cs js id (ds ∷ dss) most left c a j c' a' j' one turns =
+    let done = turn_is_done ts cs (keeping id js) most turns.1 ds c a j turns.2 turns.3 turns.4 turns.5 in
+    let here = entry_deeds ts js id done.0 ds a j turns.3 turns.4 one done.1 in
+    taken_on id (taken ds) (all_taken dss) (left_with ts id a.entries) (left_with ts id turns.3.entries) (left_with ts id a'.entries) here.0
+    (entry_turns_are_its_fires ts cs js id dss turns.1 left turns.2 turns.3 turns.4 c' a' j' here.1 turns.6)

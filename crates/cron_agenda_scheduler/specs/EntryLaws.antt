@@ -1,0 +1,126 @@
+-- What the deeds of looks and of whole runs are of the fires of one entry, while jobs add and remove others.
+use Rattle.std.specs.Prelude.{◌≡◌, ◌<◌, ◌≤◌, ◌-◌, ◌^◌, ◌==◌, ℕ, ℤ, List, [], ◌∷◌, ◌++◌, Result, Ok, Err, ⊤, filter, flat_map, length, map}
+use Rattle.jiff_tz.specs.declared.timezone.TimeZone.{TimeZone}
+use Rattle.cron_units.specs.Sets.{Sets}
+use Rattle.cron_agenda.specs.declared.entry.Entry.{Entry}
+use Rattle.cron_agenda.specs.declared.error.AddError.{AddError}
+use Rattle.cron_agenda.specs.declared.fire.AgendaFire.{AgendaFire}
+use Rattle.cron_agenda.specs.declared.fire.EntryFire.{EntryFire}
+use Rattle.cron_agenda.specs.Entries.{Adds, HaveIds, Listed, without}
+use Rattle.cron_agenda.specs.Fires.{instant}
+use Rattle.cron_agenda.specs.Merged.{AllAscend, Ascend, left}
+use Rattle.cron_agenda_scheduler.specs.declared.stop.AgendaStop.TheVariants.{Job}
+use Rattle.cron_agenda_scheduler.specs.Late.{Tables}
+use Rattle.cron_agenda_scheduler.specs.Laws.{FailsFor}
+use Rattle.cron_agenda_scheduler.specs.Turns.{AreDone, AreTurns, Deed, JobCalls, RunsDue, all_taken, job_calls, taken}
+use Rattle.cron_fires.specs.Rules.{is_by}
+use Rattle.cron_scheduler.specs.Runs.{ClockCalls}
+
+-- the entry with this id, where it is there
+abbrev pub with_id : {T : Type 0} → ℕ → List (Entry T) → List (Entry T)
+with_id id es = filter (λ e. e.id == id) es
+
+-- one entry at the most has this id
+abbrev pub IsOneAtMost : {T : Type 0} → ℕ → List (Entry T) → Type 0
+IsOneAtMost id es = length (with_id id es) ≤ 1
+
+-- a job's calls, but for the runs that change the entry with this id: they may add others and remove them
+abbrev pub keeping : {T J F : Type 0} → ℕ → JobCalls T J F → JobCalls T J F
+keeping id js = job_calls (λ j f a answer j' a'. js.runs j f a answer j' a' × (with_id id a'.entries ≡ with_id id a.entries)) js.passes
+
+-- the fires of the entry with this id among some that were taken, in order
+abbrev pub fires_with : ℕ → List AgendaFire → List EntryFire
+fires_with id fires = map (λ f. f.fire) (filter (λ f. f.id == id) fires)
+
+-- what the entry with this id has left, and nothing where it isn't there
+abbrev pub left_with : {T : Type 0} → Tables T → ℕ → List (Entry T) → List EntryFire
+left_with ts id es = flat_map (left ts.schedules ts.zones) (with_id id es)
+
+-- Where ids ascend, as in each agenda, one entry at the most has an id; and where the fires of all entries ascend, so do those of that one.
+pub record OneAmongAll {T : Type 0} (ts : Tables T) (id : ℕ) : Type 0 where
+  pub one : (es : List (Entry T)) (low high : ℕ) → HaveIds low es high → IsOneAtMost id es
+  pub ascends : (es : List (Entry T)) → IsOneAtMost id es → AllAscend ts.schedules ts.zones es → Ascend (left_with ts id es)
+
+-- What was run and what was passed over of an entry that stays are the first of its fires, in order, each once. It has the others left ..
+abbrev pub EntryDeedsAreItsFires : {T J F : Type 0} → Tables T → JobCalls T J F → ℕ → Type 0
+EntryDeedsAreItsFires {T} {J} ts js id =
+    (t : ℤ) (deeds : List Deed) (a : Listed T) (j : J) (a' : Listed T) (j' : J)
+    → IsOneAtMost id a.entries
+    → AreDone ts (keeping id js) t deeds a j a' j'
+    → left_with ts id a.entries ≡ fires_with id (taken deeds) ++ left_with ts id a'.entries
+
+-- .. where the job failed, so are they with the fire behind them for which it failed ..
+abbrev pub EntryFailureIsTaken : {T J F : Type 0} → Tables T → JobCalls T J F → ℕ → Type 0 → Type 0
+EntryFailureIsTaken {T} {J} {F} ts js id E =
+    (t : ℤ) (most : ℕ) (deeds : List Deed) (a : Listed T) (j : J) (e : F) (a' : Listed T) (j' : J)
+    → IsOneAtMost id a.entries
+    → RunsDue {E = E} ts (keeping id js) t most deeds a j (Err (Job e)) a' j'
+    → (f : AgendaFire) × (left_with ts id a.entries ≡ fires_with id (taken deeds ++ f ∷ []) ++ left_with ts id a'.entries) × FailsFor js f e a' j'
+
+-- .. they are all that was due of it, where runs were left and fewer than 2^64 - 1 fires were taken ..
+abbrev pub EntryDeedsAreAllDue : {T J F : Type 0} → Tables T → JobCalls T J F → ℕ → Type 0 → Type 0
+EntryDeedsAreAllDue {T} {J} {F} ts js id E =
+    (t : ℤ) (most left : ℕ) (deeds : List Deed) (a : Listed T) (j : J) (a' : Listed T) (j' : J)
+    → IsOneAtMost id a.entries
+    → Ascend (left_with ts id a.entries)
+    → RunsDue {E = E} ts (keeping id js) t most deeds a j (Ok left) a' j'
+    → 0 < left
+    → length deeds < 2 ^ 64 - 1
+    → fires_with id (taken deeds) ≡ filter (is_by instant t) (left_with ts id a.entries)
+
+-- .. and however a look ends, what was due of it begins with them, and what it still has due comes behind.
+abbrev pub EntryDeedsBeginThat : {T J F : Type 0} → Tables T → JobCalls T J F → ℕ → Type 0
+EntryDeedsBeginThat {T} {J} ts js id =
+    (t : ℤ) (deeds : List Deed) (a : Listed T) (j : J) (a' : Listed T) (j' : J)
+    → IsOneAtMost id a.entries
+    → AreDone ts (keeping id js) t deeds a j a' j'
+    → filter (is_by instant t) (left_with ts id a.entries) ≡ fires_with id (taken deeds) ++ filter (is_by instant t) (left_with ts id a'.entries)
+
+-- Over whole turns too they are the first of its fires. An entry that isn't there has none left, so one that was removed fires no more.
+abbrev pub EntryTurnsAreItsFires : {T C J E F : Type 0} → Tables T → ClockCalls C E → JobCalls T J F → ℕ → Type 0
+EntryTurnsAreItsFires {T} {C} {J} ts cs js id =
+    (turns : List (List Deed)) (most left : ℕ) (c : C) (a : Listed T) (j : J) (c' : C) (a' : Listed T) (j' : J)
+    → IsOneAtMost id a.entries
+    → AreTurns ts cs (keeping id js) turns most c a j left c' a' j'
+    → left_with ts id a.entries ≡ fires_with id (all_taken turns) ++ left_with ts id a'.entries
+
+-- a run of the job leaves the entry with this id as it is, where that id was given before, and the id stays given
+abbrev pub KeepsEntry : {T J F : Type 0} → ℕ → JobCalls T J F → Type 0
+KeepsEntry {T} {J} {F} id js =
+    (j : J) (f : AgendaFire) (a : Listed T) (answer : Result ⊤ F) (j' : J) (a' : Listed T)
+    → id < a.added
+    → js.runs j f a answer j' a'
+    → (with_id id a'.entries ≡ with_id id a.entries) × (id < a'.added)
+
+-- An entry stays as it is while others are added and removed; and once it is removed it isn't there.
+pub record StaysBesideOthers {T : Type 0} (schedules : T → List Sets) (id : ℕ) : Type 0 where
+  pub added :
+      (zones : List TimeZone) (table : T) (zone : ℕ) (fires : TimeZone → List EntryFire) (old : Listed T) (answer : Result ℕ AddError) (new : Listed T)
+      → id < old.added
+      → Adds schedules zones table zone fires old answer new
+      → (with_id id new.entries ≡ with_id id old.entries) × (id < new.added)
+  pub removed : (other : ℕ) (es : List (Entry T)) → (other ≡ id → ⊥) → with_id id (without other es) ≡ with_id id es
+  pub gone : (es : List (Entry T)) → with_id id (without id es) ≡ []
+
+-- Where a job keeps an entry, its deeds, looks and turns are those of its calls that leave the entry as it is. So the laws above hold.
+pub record StaysThroughout {T C J E F : Type 0} (ts : Tables T) (cs : ClockCalls C E) (js : JobCalls T J F) (id : ℕ) : Type 0 where
+  pub deeds :
+      (t : ℤ) (deeds : List Deed) (a : Listed T) (j : J) (a' : Listed T) (j' : J)
+      → id < a.added
+      → AreDone ts js t deeds a j a' j'
+      → AreDone ts (keeping id js) t deeds a j a' j'
+  pub look :
+      (t : ℤ) (most left : ℕ) (deeds : List Deed) (a : Listed T) (j : J) (a' : Listed T) (j' : J)
+      → id < a.added
+      → RunsDue {E = E} ts js t most deeds a j (Ok left) a' j'
+      → RunsDue {E = E} ts (keeping id js) t most deeds a j (Ok left) a' j'
+  pub failed :
+      (t : ℤ) (most : ℕ) (deeds : List Deed) (a : Listed T) (j : J) (e : F) (a' : Listed T) (j' : J)
+      → id < a.added
+      → RunsDue {E = E} ts js t most deeds a j (Err (Job e)) a' j'
+      → RunsDue {E = E} ts (keeping id js) t most deeds a j (Err (Job e)) a' j'
+  pub turns :
+      (turns : List (List Deed)) (most left : ℕ) (c : C) (a : Listed T) (j : J) (c' : C) (a' : Listed T) (j' : J)
+      → id < a.added
+      → AreTurns ts cs js turns most c a j left c' a' j'
+      → AreTurns ts cs (keeping id js) turns most c a j left c' a' j'
