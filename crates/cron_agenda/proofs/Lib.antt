@@ -6,6 +6,7 @@ pub mod LookLemmas
 pub mod LeastLemmas
 pub mod TreeLemmas
 pub mod FirstLemmas
+pub mod AheadLemmas
 pub mod IdLemmas
 pub mod EntryLemmas
 pub mod FireLemmas

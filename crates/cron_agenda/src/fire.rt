@@ -7,7 +7,10 @@ ghost use Rattle.cron_agenda.specs.Inner.Words.{CanBeKept};
 
 use cron::schedule::Moment;
 use cron_dues::fire::due_second;
-use cron_fires::{ClockChanges, DueFire, Timetable};
+use cron_fires::{
+    ClockChanges, DueFire, Timetable, first_due_after, first_due_past, first_fire_after,
+    first_fire_past,
+};
 use cron_moments::moment::instant_of;
 use jiff::Timestamp;
 use jiff::tz::TimeZone;
@@ -87,11 +90,11 @@ pub(crate) fn first_after<T: Timetable>(
         result }
 {
     match changes {
-        ClockChanges::AsShown => match table.first_after(now, zone) {
+        ClockChanges::AsShown => match first_fire_after(table, now, zone) {
             Some(moment) => Some(EntryFire::AsShown(moment)),
             None => None,
         },
-        ClockChanges::Once => match table.first_due_after(now, zone) {
+        ClockChanges::Once => match first_due_after(table, now, zone) {
             Some(due) => Some(EntryFire::Once(due)),
             None => None,
         },
@@ -107,11 +110,11 @@ pub(crate) fn first_past<T: Timetable>(
     ensures { IsNextFire (T.schedules table.now) (plain_zone zone.now) fire.now result }
 {
     match fire {
-        EntryFire::AsShown(moment) => match table.first_past(moment, zone) {
+        EntryFire::AsShown(moment) => match first_fire_past(table, moment, zone) {
             Some(next) => Some(EntryFire::AsShown(next)),
             None => None,
         },
-        EntryFire::Once(due) => match table.first_due_past(due, zone) {
+        EntryFire::Once(due) => match first_due_past(table, due, zone) {
             Some(next) => Some(EntryFire::Once(next)),
             None => None,
         },

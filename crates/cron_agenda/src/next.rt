@@ -15,7 +15,7 @@ use cron::schedule::Moment;
 use cron_clocks::clock::{Kept, kept_by_rule};
 use cron_dues::fire::nominal_second;
 use cron_dues::way_to::due_of;
-use cron_fires::{DueFire, Timetable};
+use cron_fires::{DueFire, Timetable, next_match};
 use cron_moments::moment::{civil_second, instant_of, moment_numbered};
 use jiff::tz::{Offset, TimeZone};
 
@@ -57,7 +57,7 @@ fn next_while_kept<T: Timetable>(table: &T, fire: &Moment, zone: &TimeZone<'_>) 
     if kept.offset.seconds() != fire.offset().seconds() {
         return None;
     }
-    let next = moment_numbered(table.next_match(civil_second(fire))?, kept.offset);
+    let next = moment_numbered(next_match(table, civil_second(fire))?, kept.offset);
     if instant_of(&next) < i64::from(kept.end) {
         Some(next)
     } else {
@@ -70,7 +70,7 @@ fn next_due<T: Timetable>(table: &T, fire: &DueFire, zone: &TimeZone<'_>) -> Opt
     requires { MatchesAny (T.schedules table.now) fire.now.second }
     ensures { IsFirstDuePastAny (T.schedules table.now) (plain_zone zone.now) fire.now result }
 {
-    let second = table.next_match(nominal_second(fire))?;
+    let second = next_match(table, nominal_second(fire))?;
     Some(due_of(zone, second))
 }
 

@@ -2,6 +2,7 @@ pub mod LateLemmas
 pub mod TurnLemmas
 pub mod LawLemmas
 pub mod RunLemmas
+pub mod AloneLemmas
 pub mod PlanLemmas
 pub mod EntryLemmas
 pub mod StayLemmas

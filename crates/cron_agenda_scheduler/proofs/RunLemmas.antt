@@ -17,7 +17,7 @@ use Rattle.cron_scheduler.specs.Runs.{ClockCalls}
 use Rattle.cron_agenda_scheduler.specs.declared.stop.AgendaStop.{AgendaStop}
 use Rattle.cron_agenda_scheduler.specs.declared.stop.AgendaStop.TheVariants.{Clock, Zone, Job}
 use Rattle.cron_agenda_scheduler.specs.Late.{Tables}
-use Rattle.cron_agenda_scheduler.specs.Laws.{CutTurnIsTaken, IsCut, LeavesAgenda, OneEntryIsAPlan, RunsThatMeetAreOne, TookLast, TurnsAreTaken, WhatWasTaken, RestartedRunsAreOne}
+use Rattle.cron_agenda_scheduler.specs.Laws.{CutTurnIsTaken, IsCut, LeavesAgenda, OneEntryTakesItsFires, RunsThatMeetAreOne, TookLast, TurnsAreTaken, WhatWasTaken, RestartedRunsAreOne}
 use Rattle.cron_agenda_scheduler.specs.Turns.{Deed, EndsRun, EndsTurn, JobCalls, Looks, all_taken, taken}
 use Rattle.cron_agenda_scheduler.proofs.LawLemmas.{deeds_are_taken}
 use Rattle.cron_agenda_scheduler.proofs.TurnLemmas.{turn_is_done}
@@ -61,8 +61,8 @@ restarted_runs ts cs js first second most left more rest low high from end c d e
     ∙ ap (λ l. l ++ map fire_of (merged ts.schedules ts.zones z.entries)) (map-map fire_of own_of (all_taken second)))
     ∙ sym (append_assoc (fires (all_taken first)) (fires (all_taken second)) (map fire_of (merged ts.schedules ts.zones z.entries)))
 
-pub one_entry_is_a_plan : {T C J E F : Type 0} (ts : Tables T) (cs : ClockCalls C E) (js : JobCalls T J F) → OneEntryIsAPlan ts cs js
-one_entry_is_a_plan ts cs js turns most runs added room c d e b j k leaves up all =
+pub one_entry_takes_its_fires : {T C J E F : Type 0} (ts : Tables T) (cs : ClockCalls C E) (js : JobCalls T J F) → OneEntryTakesItsFires ts cs js
+one_entry_takes_its_fires ts cs js turns most runs added room c d e b j k leaves up all =
     sym (one_is_its_fires ts.schedules ts.zones e up)
     ∙ (taken_are_the_front ts.schedules ts.zones (all_taken turns) (e ∷ []) b.entries (up, tt)
     (turns_are_taken ts cs js turns most runs c _ j d b k leaves all)).0

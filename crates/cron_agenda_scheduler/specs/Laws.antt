@@ -72,8 +72,8 @@ RestartedRunsAreOne {T} {C} {J} ts cs js =
     ≡ (map (λ f. f.fire) (all_taken first) ++ map (λ f. f.fire) (all_taken second)) ++ map (λ o. o.fire) (merged ts.schedules ts.zones z.entries)
 
 -- .. and of one entry its own fires as they stand, as a plan of one schedule has them.
-abbrev pub OneEntryIsAPlan : {T C J E F : Type 0} → (ts : Tables T) → ClockCalls C E → JobCalls T J F → Type 0
-OneEntryIsAPlan {T} {C} {J} ts cs js =
+abbrev pub OneEntryTakesItsFires : {T C J E F : Type 0} → (ts : Tables T) → ClockCalls C E → JobCalls T J F → Type 0
+OneEntryTakesItsFires {T} {C} {J} ts cs js =
     (turns : List (List Deed)) (most runs added room : ℕ) (c d : C) (e : Entry T) (b : Listed T) (j k : J)
     → LeavesAgenda js
     → Ascend (left ts.schedules ts.zones e)

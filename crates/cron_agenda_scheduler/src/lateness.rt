@@ -4,11 +4,8 @@ ghost use Rattle.std.specs.Prelude.{◌≡◌};
 ghost use Rattle.cron_agenda_scheduler.specs.declared.lateness.Lateness.{Lateness};
 ghost use Rattle.cron_agenda_scheduler.specs.declared.lateness.Lateness.TheVariants.{Each};
 
-use cron::schedule::Moment;
-use cron_fires::{DueFire, Timetable, Union};
+use cron_fires::{Timetable, Union};
 use cron_units::fields::ScheduleFields;
-use jiff::Timestamp;
-use jiff::tz::TimeZone;
 
 /// Which due fires of an entry are run when the clock is looked at. The others are passed over.
 #[derive(Clone, Copy, Debug, PartialEq, Eq)]
@@ -70,33 +67,5 @@ impl<T: Timetable> Timetable for Timely<T> {
 
     fn schedules(&self) -> &[ScheduleFields] {
         self.table.schedules()
-    }
-
-    fn first_after(&self, now: Timestamp, zone: &TimeZone<'_>) -> Option<Moment> {
-        self.table.first_after(now, zone)
-    }
-
-    fn first_past(&self, fire: &Moment, zone: &TimeZone<'_>) -> Option<Moment> {
-        self.table.first_past(fire, zone)
-    }
-
-    fn next_match(&self, second: u32) -> Option<u32> {
-        self.table.next_match(second)
-    }
-
-    fn last_by(&self, now: Timestamp, zone: &TimeZone<'_>) -> Option<Moment> {
-        self.table.last_by(now, zone)
-    }
-
-    fn first_due_after(&self, now: Timestamp, zone: &TimeZone<'_>) -> Option<DueFire> {
-        self.table.first_due_after(now, zone)
-    }
-
-    fn first_due_past(&self, fire: &DueFire, zone: &TimeZone<'_>) -> Option<DueFire> {
-        self.table.first_due_past(fire, zone)
-    }
-
-    fn last_due_by(&self, now: Timestamp, zone: &TimeZone<'_>) -> Option<DueFire> {
-        self.table.last_due_by(now, zone)
     }
 }

@@ -5,7 +5,7 @@ ghost use Rattle.std.specs.Prelude.{ℕ};
 ghost use Rattle.cron_agenda_scheduler.specs.Late.{Tables};
 ghost use Rattle.cron_agenda_scheduler.specs.EntryLaws.{EntryDeedsAreAllDue, EntryDeedsAreItsFires, EntryDeedsBeginThat, EntryFailureIsTaken, EntryTurnsAreItsFires, KeepsEntry, OneAmongAll, StaysBesideOthers, StaysThroughout};
 ghost use Rattle.cron_agenda_scheduler.specs.LateLaws.{AllAreByAge, AllAreRun, EachIsRun, LatestRunsTheLast, WithinIsByAge};
-ghost use Rattle.cron_agenda_scheduler.specs.Laws.{CutTurnIsTaken, DeedsAreAllDue, DeedsAreTaken, OneEntryIsAPlan, RunsThatMeetAreOne, TurnsAreTaken, WhatWasTaken, RestartedRunsAreOne};
+ghost use Rattle.cron_agenda_scheduler.specs.Laws.{CutTurnIsTaken, DeedsAreAllDue, DeedsAreTaken, OneEntryTakesItsFires, RunsThatMeetAreOne, TurnsAreTaken, WhatWasTaken, RestartedRunsAreOne};
 ghost use Rattle.cron_agenda_scheduler.specs.PlanLaws.{LoopIsAPlansRun, NoneIsCut, OneEntryHasAPlansFires};
 ghost use Rattle.cron_agenda_scheduler.specs.Turns.{job_calls};
 ghost use Rattle.cron_scheduler.specs.Runs.{clock_calls};
@@ -34,7 +34,7 @@ pub fn whole_runs<T: Timetable, C: AlarmClock, J: AgendaJob<T>>()
     ensures restart { (ts : Tables T)
         → RestartedRunsAreOne ts (clock_calls C.shows C.waits) (job_calls J.runs J.passes) }
     ensures one { (ts : Tables T)
-        → OneEntryIsAPlan ts (clock_calls C.shows C.waits) (job_calls J.runs J.passes) }
+        → OneEntryTakesItsFires ts (clock_calls C.shows C.waits) (job_calls J.runs J.passes) }
 {}
 
 /// A `Plan` is the case of one entry. An entry that is added alone has a plan's fires. A run of the

@@ -3,7 +3,7 @@
 
 use anyhow::{Context, Result};
 use cron::schedule::Moment;
-use cron_fires::Timetable;
+use cron_fires::{first_fire_after, first_fire_past};
 use cron_moments::moment::instant_of;
 use cron_units::fields::ScheduleFields;
 use jiff::Timestamp;
@@ -44,7 +44,7 @@ impl Sorted {
         zone: usize,
     ) -> Result<()> {
         let lent = zones.get(zone).context("no zone")?;
-        let fire = table.first_after(start, lent).context("no fire")?;
+        let fire = first_fire_after(&table, start, lent).context("no fire")?;
         self.instants
             .insert((instant_of(&fire), self.entries.len()))?;
         self.entries.push(SortedEntry { table, zone, fire })?;
@@ -56,7 +56,7 @@ impl Sorted {
         let (_, place) = self.instants.pop_first().context("no entry is left")?;
         let entry = self.entries.get_mut(place).context("no entry")?;
         let zone = zones.get(entry.zone).context("no zone")?;
-        let fire = entry.table.first_past(&entry.fire, zone);
+        let fire = first_fire_past(&entry.table, &entry.fire, zone);
         if let Some(fire) = fire {
             entry.fire = fire;
             self.instants.insert((instant_of(&fire), place))?;

@@ -1,13 +1,15 @@
 -- What is written of the lines of a file.
-use Rattle.std.specs.Prelude.{◌≡◌, ◌+◌, ◌||◌, ℕ, Bool, true, false, List, [], ◌∷◌, ◌++◌, ◌⊎◌, Option, Some, None, IsUtf8, codes}
+use Rattle.std.specs.Prelude.{◌≡◌, ◌+◌, ◌||◌, ℕ, ℤ, Bool, true, false, List, [], ◌∷◌, ◌++◌, ◌⊎◌, Option, Some, None, IsUtf8, codes}
 use Rattle.std.specs.Fmt.{decimal}
 use Rattle.jiff.specs.Words.{plain_zone}
+use Rattle.jiff_tz.specs.declared.timezone.TimeZone.{TimeZone}
 use Rattle.cron_units.specs.Sets.{Sets}
 use Rattle.cron_moments.specs.MomentText.{moment_text}
 use Rattle.cron_moments.specs.Readings.{Reading}
 use Rattle.cron_text.specs.Meaning.{Means}
 use Rattle.cron_text.specs.Fault.{IsRefusal}
 use Rattle.cron_instants.specs.Instants.{IsFirstAfter}
+use Rattle.cron_unions.specs.FirstOfAny.{IsFirstAfterAny}
 use Rattle.cron_checking.specs.Lines.{is_passed_over}
 use Rattle.cron_canonical.specs.Short.{sets_text}
 use Rattle.cron_checking.specs.declared.line.Mode.{Mode}
@@ -21,6 +23,10 @@ told front number text = front ++ (decimal number ++ (codes ": " ++ (text ++ 10 
 abbrev pub item_text : Option Reading → List ℕ
 item_text None = codes "none"
 item_text (Some r) = moment_text r
+
+-- the first fire of several schedules as one after an instant, which is in nanoseconds since 1970
+abbrev pub TellsFirst : List Sets → TimeZone → ℤ → List ℕ → ℕ → List ℕ → Type 0
+TellsFirst ss z t front number text = (first : Option Reading) × IsFirstAfterAny ss z t first × (text ≡ told front number (item_text first))
 
 -- what a mode tells of an expression that means these sets
 abbrev pub TellsSets : Mode → List ℕ → ℕ → Sets → List ℕ → Type 0

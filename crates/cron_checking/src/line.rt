@@ -4,11 +4,12 @@ ghost use Rattle.std.specs.Prelude.{◌≡◌, [], IfOk, OnOk};
 ghost use Rattle.std.specs.String.{string_bytes};
 ghost use Rattle.cron_checking.specs.Inner.{TellsBytes};
 ghost use Rattle.cron_checking.specs.Lines.{is_passed_over};
-ghost use Rattle.cron_checking.specs.Reports.{TellsSets, TellsText, told};
+ghost use Rattle.cron_checking.specs.Reports.{TellsFirst, TellsSets, TellsText, told};
 ghost use Rattle.cron_canonical.specs.Short.{sets_text};
+ghost use Rattle.jiff.specs.Words.{plain_zone};
 
 use crate::short::push_sets;
-use cron_instants::instants::first_after;
+use cron_fires::{Timetable, first_fire_after};
 use cron_moments::line::text_of;
 use cron_text::{fault_of, is_space, no_ordinals, read_into};
 use cron_units::fields::ScheduleFields;
@@ -62,6 +63,26 @@ fn tell_short(
     write!(text, "\n")
 }
 
+/// Makes the line that tells the first fire of a table after an instant, or `none`: of one
+/// schedule, or of several as one, whose first fire is that of any.
+pub fn tell_first<T: Timetable>(
+    front: &str,
+    number: u64,
+    table: &T,
+    start: Timestamp,
+    zone: &TimeZone<'_>,
+    text: &mut String,
+) -> Result<(), AllocError>
+    requires { string_bytes text.old ≡ [] }
+    ensures { OnOk result (TellsFirst (T.schedules table.now) (plain_zone zone.now)
+        start.nanosecond front.now number (string_bytes text.new)) }
+{
+    match first_fire_after(table, start, zone) {
+        Some(first) => writeln!(text, "{front}{number}: {first}"),
+        None => writeln!(text, "{front}{number}: none"),
+    }
+}
+
 // Tells what a mode tells of an expression that means these sets.
 fn tell_sets(
     how: &Telling<'_>,
@@ -77,10 +98,7 @@ fn tell_sets(
     match &how.mode {
         Mode::Faults => Ok(()),
         Mode::Short => tell_short(front, number, fields, text),
-        Mode::Next(start, zone) => match first_after(fields, *start, zone) {
-            Some(first) => writeln!(text, "{front}{number}: {first}"),
-            None => writeln!(text, "{front}{number}: none"),
-        },
+        Mode::Next(start, zone) => tell_first(front, number, fields, *start, zone, text),
     }
 }
 

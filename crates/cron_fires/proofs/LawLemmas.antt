@@ -13,7 +13,7 @@ use Rattle.cron_instants.specs.Instants.{Ascends}
 use Rattle.cron_instants.specs.Order.{is_earlier}
 use Rattle.cron_instants.proofs.AgreementLemmas.{same_offset, same_reading}
 use Rattle.cron_time.proofs.ListLemmas.{among-filter, filter-alike, filter-among, filter-swap, filter-within}
-use Rattle.cron_instants.proofs.AscentLemmas.{KeepsOn, among-cut, among-earliest_first, ascends-at, ascends-filter, cut-behind, earlier-not_itself, earliest_first-among}
+use Rattle.cron_instants.proofs.AscentLemmas.{KeepsOn, among-cut, among-earliest_first, ascends-filter, cut-behind, earlier-not_itself, earliest_first-among}
 use Rattle.cron_instants.proofs.FireLemmas.{after-keeps_on, not_later, int_le-true, int_lt-true, past-keeps_on}
 use Rattle.cron_instants.proofs.OrderLemmas.{before-less, before-not_less}
 use Rattle.cron_unions.specs.FirstOfAny.{IsFirstAfterAny, IsFirstPastAny}
@@ -22,13 +22,10 @@ use Rattle.cron_unions.proofs.MergeLemmas.{after_of, first-of_any}
 use Rattle.cron_unions.proofs.UnionLemmas.{fires_any-ascend, item_read}
 use Rattle.cron_fires.specs.Rules.{IsFirstOf, NeverDecreases}
 use Rattle.cron_fires.proofs.MeetLemmas.{KeepsUp, keeps-at, meet}
-use Rattle.cron_fires.specs.Laws.{AgreeingZonesTellApart, CutRunsGoOn, CutRunsPastGoOn, CutStretchesGoOn, FiresAreTheItems, FiresAscend, LoopsAreRuns, NextIsPast, StretchesAreJoined, StretchesHaveTheirItems}
+use Rattle.cron_fires.specs.Laws.{AgreeingZonesTellApart, CutRunsGoOn, CutRunsPastGoOn, CutStretchesGoOn, FiresAreTheItems, LoopsAreRuns, NextIsPast, StretchesAreJoined, StretchesHaveTheirItems}
 
 pub are_the_items : FiresAreTheItems
 are_the_items ss z r = (among-earliest_first (timeline_any ss z) r, earliest_first-among (timeline_any ss z) r)
-
-pub ascend : FiresAscend
-ascend ss z i j r q lt e f = ascends-at (fires_any ss z) i j r q (fires_any-ascend ss z) lt e f
 
 pub have_their_items : StretchesHaveTheirItems
 have_their_items ss z last now r = (

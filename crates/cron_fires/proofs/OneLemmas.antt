@@ -4,7 +4,7 @@ use Rattle.std.specs.Prelude.{filter}
 use Rattle.jiff_tz.specs.declared.timezone.TimeZone.{TimeZone}
 use Rattle.cron_units.specs.Sets.{Sets}
 use Rattle.cron_moments.specs.Readings.{Reading}
-use Rattle.cron_instants.specs.Fires.{earliest_first, fires, fires_after, fires_between, fires_past, is_after, is_by}
+use Rattle.cron_instants.specs.Fires.{earliest_first, fires, fires_after, fires_between, fires_past, fires_past_by, is_after, is_by}
 use Rattle.cron_instants.specs.Instants.{IsAmong, IsBy, IsLatest, IsLastBy}
 use Rattle.cron_instants.specs.Order.{is_earlier}
 use Rattle.cron_dues.specs.Due.{Due, due}
@@ -13,7 +13,7 @@ use Rattle.cron_dues.specs.FirstDues.{IsFirst, IsFirstDueAfter, IsFirstDuePast, 
 use Rattle.cron_time.proofs.ListLemmas.{Among}
 use Rattle.cron_unions.specs.FirstOfAny.{IsLastByAny}
 use Rattle.cron_unions.specs.UnionDues.{IsFirstDueAfterAny, IsFirstDuePastAny, IsLastDueByAny, dues_any, dues_any_after, dues_any_between, dues_any_past, dues_any_past_by}
-use Rattle.cron_unions.specs.Unions.{fires_any, fires_any_after, fires_any_between, fires_any_past}
+use Rattle.cron_unions.specs.Unions.{fires_any, fires_any_after, fires_any_between, fires_any_past, fires_any_past_by}
 use Rattle.cron_unions.proofs.LawLemmas.{one_seconds, one_timeline}
 use Rattle.cron_unions.proofs.OneLemmas.{after_one, past_one}
 use Rattle.cron_fires.specs.Laws.{OneScheduleIsATable}
@@ -35,6 +35,9 @@ one_past s z item = ap (filter (is_earlier item)) (one_fires s z)
 
 pub one_between : (s : Sets) (z : TimeZone) (last now : ℤ) → fires_any_between (s ∷ []) z last now ≡ fires_between s z last now
 one_between s z last now = ap (filter (is_by now)) (one_after s z last)
+
+pub one_past_by : (s : Sets) (z : TimeZone) (item : Reading) (now : ℤ) → fires_any_past_by (s ∷ []) z item now ≡ fires_past_by s z item now
+one_past_by s z item now = ap (filter (is_by now)) (one_past s z item)
 
 pub one_dues : (s : Sets) (z : TimeZone) → dues_any (s ∷ []) z ≡ dues s z
 one_dues s z = ap (map (due z)) (one_seconds s)
@@ -67,6 +70,7 @@ due_by_one s z t answer h = subst (λ l. IsLast (λ d. Among l d × (is_due_by t
 
 pub one_is_a_table : OneScheduleIsATable
 one_is_a_table = record {
+  items = λ s z r. (subst (λ l. IsAmong l r) (one_timeline s z), subst (λ l. IsAmong l r) (sym (one_timeline s z)));
   fires = one_fires;
   dues = one_dues;
   first_after = after_one;

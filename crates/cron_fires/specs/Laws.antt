@@ -1,32 +1,21 @@
 -- What holds of the fires of every table in every zone: of several schedules as one.
-use Rattle.std.specs.Prelude.{◌≡◌, ℕ, ◌<◌, ◌↔◌, ℤ, pos, ◌*ℤ◌, ◌≤ℤ◌, true, List, [], ◌∷◌, ◌++◌, Option, Some, length, take, filter, slice_get}
+use Rattle.std.specs.Prelude.{◌≡◌, ◌↔◌, ℤ, pos, ◌*ℤ◌, ◌≤ℤ◌, List, [], ◌∷◌, ◌++◌, Option, Some, length, take}
 use Rattle.jiff_tz.specs.declared.timezone.TimeZone.{TimeZone}
 use Rattle.cron_clocks.specs.Clocks.{LookupsAgree}
 use Rattle.cron_units.specs.Sets.{Sets}
 use Rattle.cron_moments.specs.Readings.{Reading, instant}
-use Rattle.cron_instants.specs.Fires.{is_by}
-use Rattle.cron_instants.specs.Instants.{IsAfter, IsAmong, IsBy, IsFirstAfter, IsFirstPast, IsLastBy}
-use Rattle.cron_instants.specs.Order.{is_earlier}
+use Rattle.cron_instants.specs.Instants.{IsAfter, IsAmong, IsBy, IsFirstAfter, IsFirstPast, IsItem, IsLastBy}
 use Rattle.cron_instants.specs.Fires as single
 use Rattle.cron_dues.specs.Dues as single_dues
 use Rattle.cron_dues.specs.Due.{Due}
 use Rattle.cron_dues.specs.FirstDues.{IsFirstDueAfter, IsFirstDuePast, IsLastDueBy}
 use Rattle.cron_unions.specs.UnionDues.{IsFirstDueAfterAny, IsFirstDuePastAny, IsLastDueByAny, dues_any}
-use Rattle.cron_unions.specs.Unions.{fires_any, fires_any_after, fires_any_between, fires_any_past}
+use Rattle.cron_unions.specs.Unions.{fires_any, fires_any_after, fires_any_between, fires_any_past, fires_any_past_by}
 use Rattle.cron_unions.specs.FirstOfAny.{IsFirstAfterAny, IsFirstPastAny, IsItemOfAny, IsLastByAny}
 
 -- the fires are the items of the timeline ..
 abbrev pub FiresAreTheItems : Type 0
 FiresAreTheItems = (ss : List Sets) (z : TimeZone) (r : Reading) → IsAmong (fires_any ss z) r ↔ IsItemOfAny ss z r
-
--- .. each earlier than those behind it, so that none comes twice ..
-abbrev pub FiresAscend : Type 0
-FiresAscend =
-    (ss : List Sets) (z : TimeZone) (i j : ℕ) (r q : Reading)
-    → i < j
-    → slice_get (fires_any ss z) i ≡ Some r
-    → slice_get (fires_any ss z) j ≡ Some q
-    → is_earlier r q ≡ true
 
 -- .. and between two instants they are those items whose instant lies there
 abbrev pub StretchesHaveTheirItems : Type 0
@@ -61,7 +50,7 @@ abbrev pub CutStretchesGoOn : Type 0
 CutStretchesGoOn =
     (ss : List Sets) (z : TimeZone) (last now : ℤ) (done : List Reading) (item : Reading) (rest : List Reading)
     → fires_any_between ss z last now ≡ done ++ item ∷ rest
-    → filter (is_by now) (fires_any_past ss z item) ≡ rest
+    → fires_any_past_by ss z item now ≡ rest
 
 -- no two items share an instant
 abbrev pub HaveOwnInstants : List Sets → TimeZone → Type 0
@@ -94,6 +83,7 @@ LoopsAreRuns =
 
 -- one schedule has what the union of that one has, by both rules, and its answers are those of the union
 pub record OneScheduleIsATable : Type 0 where
+  pub items : (s : Sets) (z : TimeZone) (r : Reading) → IsItemOfAny (s ∷ []) z r ↔ IsItem s z r
   pub fires : (s : Sets) (z : TimeZone) → fires_any (s ∷ []) z ≡ single.fires s z
   pub dues : (s : Sets) (z : TimeZone) → dues_any (s ∷ []) z ≡ single_dues.dues s z
   pub first_after : (s : Sets) (z : TimeZone) (t : ℤ) (answer : Option Reading) → IsFirstAfterAny (s ∷ []) z t answer → IsFirstAfter s z t answer

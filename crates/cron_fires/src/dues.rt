@@ -4,9 +4,11 @@ ghost use Rattle.jiff.specs.Words.{plain_zone};
 ghost use Rattle.cron_unions.specs.UnionDues.{IsFirstDueAfterAny, IsFirstDuePastAny, IsLastDueByAny, dues_any_after, dues_any_between, dues_any_past, dues_any_past_by};
 
 use crate::timetables::Timetable;
+use cron_dues::dues;
 use cron_dues::fire::DueFire;
 use cron_dues::run::Run as OneRun;
 use cron_unions::due_run::DueRun as MergedRun;
+use cron_unions::dues as any_dues;
 use jiff::Timestamp;
 use jiff::tz::TimeZone;
 use std::alloc::{AllocError, Global};
@@ -23,7 +25,10 @@ pub fn first_due_after<T: Timetable>(
     ensures { IsFirstDueAfterAny
         (T.schedules table.now) (plain_zone zone.now) now.nanosecond result }
 {
-    table.first_due_after(now, zone)
+    match table.schedules() {
+        [one] => dues::first_after(one, now, zone),
+        several => any_dues::first_after(several, now, zone),
+    }
 }
 
 /// The next due fire after this one, whose nominal time alone counts. `None` where nothing is due
@@ -35,7 +40,10 @@ pub fn first_due_past<T: Timetable>(
 ) -> Option<DueFire>
     ensures { IsFirstDuePastAny (T.schedules table.now) (plain_zone zone.now) fire.now result }
 {
-    table.first_due_past(fire, zone)
+    match table.schedules() {
+        [one] => dues::first_past(one, fire, zone),
+        several => any_dues::first_past(several, fire, zone),
+    }
 }
 
 /// The last due fire whose instant is `now` or comes before it. `None` where nothing has been due
@@ -43,7 +51,10 @@ pub fn first_due_past<T: Timetable>(
 pub fn last_due_by<T: Timetable>(table: &T, now: Timestamp, zone: &TimeZone<'_>) -> Option<DueFire>
     ensures { IsLastDueByAny (T.schedules table.now) (plain_zone zone.now) now.nanosecond result }
 {
-    table.last_due_by(now, zone)
+    match table.schedules() {
+        [one] => dues::last_by(one, now, zone),
+        several => any_dues::last_by(several, now, zone),
+    }
 }
 
 // A run over one schedule, or over several that are merged.

@@ -6,7 +6,9 @@ ghost use Rattle.jiff_tz.specs.declared.timezone.TimeZone.{TimeZone};
 ghost use Rattle.cron_units.specs.Sets.{Sets};
 ghost use Rattle.cron_fires.specs.Rules.{FiresGoOn, FiresNeverDecrease, IsFirstOf};
 
+use crate::dues::{first_due_after, first_due_past};
 use crate::timetables::Timetable;
+use crate::{first_fire_after, first_fire_past};
 use cron::schedule::Moment;
 use cron_dues::fire::DueFire;
 use jiff::Timestamp;
@@ -65,11 +67,11 @@ impl Fire for Moment {
     }
 
     fn first_after<T: Timetable>(table: &T, now: Timestamp, zone: &TimeZone<'_>) -> Option<Moment> {
-        table.first_after(now, zone)
+        first_fire_after(table, now, zone)
     }
 
     fn first_past<T: Timetable>(table: &T, fire: &Moment, zone: &TimeZone<'_>) -> Option<Moment> {
-        table.first_past(fire, zone)
+        first_fire_past(table, fire, zone)
     }
 
     fn never_decrease() {}
@@ -97,11 +99,11 @@ impl Fire for DueFire {
         now: Timestamp,
         zone: &TimeZone<'_>,
     ) -> Option<DueFire> {
-        table.first_due_after(now, zone)
+        first_due_after(table, now, zone)
     }
 
     fn first_past<T: Timetable>(table: &T, fire: &DueFire, zone: &TimeZone<'_>) -> Option<DueFire> {
-        table.first_due_past(fire, zone)
+        first_due_past(table, fire, zone)
     }
 
     fn never_decrease() {}

@@ -19,6 +19,8 @@ ghost use Rattle.cron_unions.specs.FirstOfAny.{IsFirstAfterAny, IsFirstPastAny, 
 
 use cron::Schedule;
 use cron::schedule::Moment;
+use cron_instants::instants;
+use cron_unions::instants as any_instants;
 use cron_units::fields::ScheduleFields;
 use jiff::Timestamp;
 use jiff::tz::TimeZone;
@@ -35,6 +37,7 @@ pub use changes::ClockChanges;
 pub use cron_dues::fire::DueFire;
 pub use dues::{Dues, first_due_after, first_due_past, last_due_by, missed_dues};
 pub use fire::Fire;
+pub use matches::next_match;
 pub use runs::{Fires, missed};
 pub use timetables::{Timetable, Union};
 
@@ -56,7 +59,10 @@ pub fn first_fire_after<T: Timetable>(
 ) -> Option<Moment>
     ensures { IsFirstAfterAny (T.schedules table.now) (plain_zone zone.now) now.nanosecond result }
 {
-    table.first_after(now, zone)
+    match table.schedules() {
+        [one] => instants::first_after(one, now, zone),
+        several => any_instants::first_after(several, now, zone),
+    }
 }
 
 /// The next fire after this one. Where two share an instant, the one with the lesser civil second
@@ -69,7 +75,10 @@ pub fn first_fire_past<T: Timetable>(
 ) -> Option<Moment>
     ensures { IsFirstPastAny (T.schedules table.now) (plain_zone zone.now) fire.now result }
 {
-    table.first_past(fire, zone)
+    match table.schedules() {
+        [one] => instants::first_past(one, fire, zone),
+        several => any_instants::first_past(several, fire, zone),
+    }
 }
 
 /// The last fire whose instant is `now` or comes before it. Where two share an instant, the one
@@ -77,5 +86,8 @@ pub fn first_fire_past<T: Timetable>(
 pub fn last_fire_by<T: Timetable>(table: &T, now: Timestamp, zone: &TimeZone<'_>) -> Option<Moment>
     ensures { IsLastByAny (T.schedules table.now) (plain_zone zone.now) now.nanosecond result }
 {
-    table.last_by(now, zone)
+    match table.schedules() {
+        [one] => instants::last_by(one, now, zone),
+        several => any_instants::last_by(several, now, zone),
+    }
 }

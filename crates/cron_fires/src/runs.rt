@@ -1,7 +1,9 @@
 //! Fires one after another, in the order of their instants.
 ghost use Rattle.std.specs.Prelude.{◌≡◌, IfOk};
 ghost use Rattle.jiff.specs.Words.{plain_zone};
-ghost use Rattle.cron_unions.specs.Unions.{fires_any_after, fires_any_between, fires_any_past};
+ghost use Rattle.cron_unions.specs.Unions.{fires_any_after, fires_any_between, fires_any_past, fires_any_past_by};
+ghost use Rattle.cron_fires.specs.Inner.Runs.{left_in};
+ghost use Rattle.std.specs.Iterator.{YieldsFirst};
 
 use crate::timetables::Timetable;
 use cron::schedule::Moment;
@@ -13,8 +15,8 @@ use jiff::tz::TimeZone;
 use std::alloc::{AllocError, Global};
 use std::marker::Model;
 
-/// How many schedules are merged. More are searched, each for each fire.
-const MERGED: usize = 8;
+/// How many schedules are merged. Of a longer list each schedule is searched once a fire.
+const MERGED: usize = 12;
 
 // A run over one schedule, over a few that are merged, or over more.
 #[derive(Drop)]
@@ -22,6 +24,21 @@ enum FireRun<'a> {
     One(OneRun<'a>),
     Merged(MergedRun<'a, MERGED>),
     Many(SearchRun<'a>),
+}
+
+impl<'a> FireRun<'a> {
+    // A call, since a loop over one schedule's fires takes up to a third longer where the code for
+    // several stands in it.
+    #[inline(never)]
+    fn take_first(&mut self) -> Option<Moment>
+        ensures { YieldsFirst left_in self.old result self.new }
+    {
+        match self {
+            FireRun::One(run) => run.next(),
+            FireRun::Merged(run) => run.next(),
+            FireRun::Many(run) => run.next(),
+        }
+    }
 }
 
 /// Fires of a table in a zone, the earliest first: each once, none left out, also in a fold. Where
@@ -93,6 +110,28 @@ impl<'a> Fires<'a> {
         };
         Fires { run }
     }
+
+    /// Those past a fire and up to and with an instant: what was missed since a fire that was
+    /// noted.
+    pub fn past_by<T: Timetable>(
+        table: &'a T,
+        fire: &Moment,
+        now: Timestamp,
+        zone: &'a TimeZone<'a>,
+    ) -> Fires<'a>
+        ensures { result
+            ≡ fires_any_past_by (T.schedules table.now) (plain_zone zone.now)
+            fire.now now.nanosecond }
+    {
+        let run = match table.schedules() {
+            [fields] => FireRun::One(OneRun::past_by(*fields, fire, now, zone)),
+            few if few.len() <= MERGED => {
+                FireRun::Merged(MergedRun::past_by(few, fire, now, zone))
+            }
+            many => FireRun::Many(SearchRun::past_by(many, fire, now, zone)),
+        };
+        Fires { run }
+    }
 }
 
 impl<'a> Iterator for Fires<'a> {
@@ -109,8 +148,7 @@ impl<'a> Iterator for Fires<'a> {
     fn next(&mut self) -> Option<Moment> {
         match &mut self.run {
             FireRun::One(run) => run.next(),
-            FireRun::Merged(run) => run.next(),
-            FireRun::Many(run) => run.next(),
+            several => several.take_first(),
         }
     }
 }

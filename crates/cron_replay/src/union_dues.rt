@@ -5,6 +5,7 @@ use anyhow::Result;
 use cron_dues::fire::DueFire;
 use cron_fires::{Dues, Union as Table, first_due_after, first_due_past, last_due_by, missed_dues};
 use jiff::Timestamp;
+use jiff::tz::TimeZone;
 use std::alloc::{AllocError, Global};
 use std::fmt::Write;
 
@@ -60,19 +61,55 @@ pub(crate) fn after(
     Ok(text)
 }
 
-/// The due fires between two instants.
+// The due fires between two instants, as a list of what was missed.
+fn missed_between(
+    alloc: Global,
+    table: &Table<'_>,
+    zone: &TimeZone<'_>,
+    last: Timestamp,
+    now: Timestamp,
+) -> Result<String> {
+    let mut text = String::new(alloc);
+    for fire in missed_dues(alloc, table, last, now, zone)? {
+        add_fire(&mut text, &Some(fire))?;
+    }
+    Ok(text)
+}
+
+// The first due fire between two instants, and those past it.
+fn first_and_past(
+    alloc: Global,
+    table: &Table<'_>,
+    zone: &TimeZone<'_>,
+    last: Timestamp,
+    now: Timestamp,
+) -> Result<String> {
+    let mut text = String::new(alloc);
+    let Some(first) = Dues::between(table, last, now, zone).next() else {
+        return Ok(text);
+    };
+    add_fire(&mut text, &Some(first))?;
+    for fire in Dues::past_by(table, &first, now, zone) {
+        add_fire(&mut text, &Some(fire))?;
+    }
+    Ok(text)
+}
+
+/// The due fires between two instants, as a list of what was missed or else by those past the
+/// first.
 pub(crate) fn between(
     alloc: Global,
     union: Union<'_>,
     (last, now): (Timestamp, Timestamp),
+    wanted: &str,
 ) -> Result<String> {
     let schedules = union.schedules;
     let table = Table { schedules };
-    let mut text = String::new(alloc);
-    for fire in missed_dues(alloc, &table, last, now, union.zone)? {
-        add_fire(&mut text, &Some(fire))?;
+    let text = missed_between(alloc, &table, union.zone, last, now)?;
+    if text.as_str() != wanted {
+        return Ok(text);
     }
-    Ok(text)
+    first_and_past(alloc, &table, union.zone, last, now)
 }
 
 /// The last due fire by an instant.

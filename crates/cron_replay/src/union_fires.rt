@@ -121,8 +121,27 @@ fn missed_between(
     Ok(text)
 }
 
-/// The fires between two instants, by a run that merges or else by a list of what was missed, also
-/// over as many schedules as are searched.
+// The first fire between two instants, and those past it.
+fn first_and_past(
+    alloc: Global,
+    table: &Table<'_>,
+    zone: &TimeZone<'_>,
+    last: Timestamp,
+    now: Timestamp,
+) -> Result<String> {
+    let mut text = String::new(alloc);
+    let Some(first) = Fires::between(table, last, now, zone).next() else {
+        return Ok(text);
+    };
+    add_fire(&mut text, &Some(first))?;
+    for fire in Fires::past_by(table, &first, now, zone) {
+        add_fire(&mut text, &Some(fire))?;
+    }
+    Ok(text)
+}
+
+/// The fires between two instants, by a run that merges, by a list of what was missed or else by
+/// those past the first, also over as many schedules as are searched.
 pub(crate) fn between(
     alloc: Global,
     union: Union<'_>,
@@ -138,7 +157,17 @@ pub(crate) fn between(
     if text.as_str() != wanted {
         return Ok(text);
     }
-    missed_between(alloc, union.many, union.zone, last, now)
+    let text = missed_between(alloc, union.many, union.zone, last, now)?;
+    if text.as_str() != wanted {
+        return Ok(text);
+    }
+    let schedules = union.schedules;
+    let text = first_and_past(alloc, &Table { schedules }, union.zone, last, now)?;
+    if text.as_str() != wanted {
+        return Ok(text);
+    }
+    let schedules = union.many;
+    first_and_past(alloc, &Table { schedules }, union.zone, last, now)
 }
 
 /// The last fire by an instant.

@@ -80,7 +80,7 @@ fn answers_of(
             count,
         ),
         "dues by" => union_dues::by(alloc, union, instants.parse::<Timestamp>()?),
-        "dues between" => union_dues::between(alloc, union, instants_of(instants)?),
+        "dues between" => union_dues::between(alloc, union, instants_of(instants)?, wanted),
         _ => bail!("{asked:?} is no question"),
     }
 }

@@ -44,7 +44,7 @@ impl<T: Timetable, F: Fire> Plan<'_, T, F> {
     ///
     /// It ends when all of the fires were run, and where the clock or the job fails. Where the
     /// clock fails, all was run that was due by the greatest time it had shown. Else it goes on for
-    /// as long as the schedule fires, up to 2^64 - 1 readings of the clock.
+    /// as long as the table fires, up to 2^64 - 1 readings of the clock.
     pub fn run<C: AlarmClock, J: Job<F>>(
         &self,
         clock: &mut C,

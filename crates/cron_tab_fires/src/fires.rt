@@ -1,12 +1,10 @@
 //! The fires of schedules between two instants, by either rule at clock changes.
-ghost use Rattle.std.specs.Prelude.{◌≡◌, ◌≤◌, IfOk, length, map};
+ghost use Rattle.std.specs.Prelude.{◌≡◌, IfOk, map};
 ghost use Rattle.jiff.specs.Words.{plain_zone};
 ghost use Rattle.cron_tab_fires.specs.Fires.{dues_between, fires_between, shown_between};
 
 use cron_agenda::EntryFire;
-use cron_fires::ClockChanges;
-use cron_unions::due_run::DueRun;
-use cron_unions::run::Run;
+use cron_fires::{ClockChanges, Dues, Fires, Union};
 use cron_units::fields::ScheduleFields;
 use jiff::Timestamp;
 use jiff::tz::TimeZone;
@@ -20,13 +18,12 @@ fn shown_between(
     end: Timestamp,
     zone: &TimeZone<'_>,
 ) -> Result<Vec<EntryFire>, AllocError>
-    requires { length schedules.now ≤ 2 }
     ensures { IfOk result (λ fires. fires.items
         ≡ shown_between schedules.now (plain_zone zone.now) start.nanosecond end.nanosecond) }
 {
     let mut fires = Vec::new(alloc);
-    let run: Run<'_, 2> = Run::between(schedules, start, end, zone);
-    for moment in run {
+    let table = Union { schedules };
+    for moment in Fires::between(&table, start, end, zone) {
         fires.push(EntryFire::AsShown(moment))?;
     }
     Ok(fires)
@@ -44,13 +41,14 @@ fn dues_between(
         ≡ dues_between schedules.now (plain_zone zone.now) start.nanosecond end.nanosecond) }
 {
     let mut fires = Vec::new(alloc);
-    for due in DueRun::between(schedules, start, end, zone) {
+    let table = Union { schedules };
+    for due in Dues::between(&table, start, end, zone) {
         fires.push(EntryFire::Once(due))?;
     }
     Ok(fires)
 }
 
-/// The fires of at most two schedules as one after an instant, up to and with another, by a rule.
+/// The fires of several schedules as one after an instant, up to and with another, by a rule.
 pub(crate) fn fires_between(
     alloc: Global,
     schedules: &[ScheduleFields],
@@ -59,7 +57,6 @@ pub(crate) fn fires_between(
     end: Timestamp,
     zone: &TimeZone<'_>,
 ) -> Result<Vec<EntryFire>, AllocError>
-    requires { length schedules.now ≤ 2 }
     ensures { IfOk result (λ fires. fires.items ≡ fires_between
         schedules.now (plain_zone zone.now) changes start.nanosecond end.nanosecond) }
 {

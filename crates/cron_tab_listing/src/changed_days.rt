@@ -13,7 +13,7 @@ use crate::adding::{Clock, changes_of};
 use crate::tab_entry::TabEntry;
 use cron_clocks::clock::shown_at;
 use cron_clocks::stretch::Stretch;
-use cron_fires::ClockChanges;
+use cron_fires::{ClockChanges, Timetable};
 use cron_moments::civil::{DAYS, SECONDS_PER_DAY, civil_of};
 use cron_tab_lines::FileLine;
 use cron_time::search::civil_seconds::nearest_match;
@@ -253,5 +253,5 @@ pub fn list_changes(
     }
     let first = first_day(zone, start);
     let end = (first + DAYS_AHEAD).min(DAYS);
-    push_changes(days, entry.as_slice(), zone, first, end)
+    push_changes(days, entry.schedules(), zone, first, end)
 }

@@ -1,6 +1,6 @@
 //! What the words of `explain` are answered.
 
-ghost use Rattle.std.specs.Prelude.{◌≡◌, ◌≤◌, ◌||◌, ◌++◌, ℕ, List, Option, IfOk, false, length};
+ghost use Rattle.std.specs.Prelude.{◌≡◌, ◌||◌, ◌++◌, ℕ, List, Option, IfOk, false};
 ghost use Rattle.std.specs.String.{string_bytes};
 ghost use Rattle.jiff.specs.Words.{plain_zone};
 ghost use Rattle.cron_writer.specs.Calls.{AreWrites, AreWritesFlushed};
@@ -96,7 +96,6 @@ fn send_more<W: Watchable>(
     form: Form,
     out: &mut Watched<W>,
 )
-    requires few { length schedules.now ≤ 12 }
     ensures sent { (origin : Option (List ℕ)) (before : List ℕ)
         → IsSent origin (W.contents (writer_of out.old)) (has_failed out.old) before
         → IsSent origin (W.contents (writer_of out.new)) (has_failed out.new)
@@ -120,8 +119,7 @@ fn send_between<W: Watchable>(
     form: Form,
     out: &mut Watched<W>,
 ) -> Status
-    requires few { length schedules.now ≤ 12 }
-    requires fresh { has_failed out.old ≡ false }
+    requires { has_failed out.old ≡ false }
     ensures ends { Ends Done
         ((string_bytes texts.now.head
         ++ rows_by changes form asked.now schedules.now (plain_zone zone.now))

@@ -1,7 +1,7 @@
 //! The fires of an expression as rows: the next ones after an instant, the last ones before it, and
 //! those between two.
 
-ghost use Rattle.std.specs.Prelude.{◌≡◌, ◌≤◌, [], false, length};
+ghost use Rattle.std.specs.Prelude.{◌≡◌, [], false};
 ghost use Rattle.jiff.specs.Words.{plain_zone};
 ghost use Rattle.cron_dues.specs.Due as dues;
 ghost use Rattle.cron_dues.specs.DueText.{due_text};
@@ -20,9 +20,7 @@ use crate::expression::Expression;
 use crate::left::Left;
 use crate::row::{Form, Told, row_of};
 use crate::status::{Status, finish};
-use cron_fires::ClockChanges;
-use cron_unions::due_run::DueRun;
-use cron_unions::run::Run;
+use cron_fires::{ClockChanges, Dues, Fires, Union};
 use cron_units::fields::ScheduleFields;
 use cron_writer::gathered::Gathered;
 use cron_writer::watchable::Watchable;
@@ -119,8 +117,7 @@ fn send_moments<W: Watchable>(
     form: Form,
     out: &mut Watched<W>,
 )
-    requires few { length schedules.now ≤ 12 }
-    requires fresh { has_failed out.old ≡ false }
+    requires { has_failed out.old ≡ false }
     ensures rows { IsSent
         (W.contents (writer_of out.old)) (W.contents (writer_of out.new)) (has_failed out.new)
         (rows form moment_text moments.instant
@@ -129,9 +126,10 @@ fn send_moments<W: Watchable>(
         (writer_of out.old) (has_failed out.old) (writer_of out.new) (has_failed out.new) }
     ensures gathers { HandsOnRows W.writes form moment_text moments.instant out.old out.new }
 {
+    let table = Union { schedules };
     match *asked {
         Asked::Next(start, count) => {
-            let mut run: Run<'_, 12> = Run::after(schedules, start, zone);
+            let mut run = Fires::after(&table, start, zone);
             send_rows(&mut run, Some(count), form, out);
         }
         Asked::Back(end, count) => {
@@ -139,7 +137,7 @@ fn send_moments<W: Watchable>(
             send_rows(&mut run, Some(count), form, out);
         }
         Asked::Between(start, end) => {
-            let mut run: Run<'_, 12> = Run::between(schedules, start, end, zone);
+            let mut run = Fires::between(&table, start, end, zone);
             send_rows(&mut run, None, form, out);
         }
     }
@@ -162,9 +160,10 @@ fn send_dues<W: Watchable>(
         (writer_of out.old) (has_failed out.old) (writer_of out.new) (has_failed out.new) }
     ensures gathers { HandsOnRows W.writes form due_text dues.instant out.old out.new }
 {
+    let table = Union { schedules };
     match *asked {
         Asked::Next(start, count) => {
-            let mut run = DueRun::after(schedules, start, zone);
+            let mut run = Dues::after(&table, start, zone);
             send_rows(&mut run, Some(count), form, out);
         }
         Asked::Back(end, count) => {
@@ -172,7 +171,7 @@ fn send_dues<W: Watchable>(
             send_rows(&mut run, Some(count), form, out);
         }
         Asked::Between(start, end) => {
-            let mut run = DueRun::between(schedules, start, end, zone);
+            let mut run = Dues::between(&table, start, end, zone);
             send_rows(&mut run, None, form, out);
         }
     }
@@ -187,8 +186,7 @@ pub(crate) fn send_fires<W: Watchable>(
     form: Form,
     out: &mut Watched<W>,
 )
-    requires few { length schedules.now ≤ 12 }
-    requires fresh { has_failed out.old ≡ false }
+    requires { has_failed out.old ≡ false }
     ensures rows { IsSent
         (W.contents (writer_of out.old)) (W.contents (writer_of out.new)) (has_failed out.new)
         (rows_by changes form asked.now schedules.now (plain_zone zone.now)) }

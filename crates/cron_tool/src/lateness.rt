@@ -16,9 +16,8 @@ use crate::expression::Expression;
 use crate::missed::{missed_of, say};
 use crate::status::Status;
 use cron_dues::fire::DueFire;
-use cron_fires::ClockChanges;
+use cron_fires::{ClockChanges, Union, first_due_after, first_fire_after};
 use cron_moments::moment::Moment;
-use cron_unions::{dues, instants};
 use cron_units::fields::ScheduleFields;
 use cron_writer::watchable::Watchable;
 use cron_writer::watched::Watched;
@@ -43,7 +42,7 @@ fn first_moment(
     ensures { IsFirstAfter (IsItemOfAny schedules.now (plain_zone zone.now))
         moments.instant last.nanosecond result }
 {
-    instants::first_after(schedules, last, zone)
+    first_fire_after(&Union { schedules }, last, zone)
 }
 
 // By the rule that each match is a fire once.
@@ -51,7 +50,7 @@ fn first_due(schedules: &[ScheduleFields], last: Timestamp, zone: &TimeZone<'_>)
     ensures { IsFirstAfter (IsDueOfAny schedules.now (plain_zone zone.now))
         dues.instant last.nanosecond result }
 {
-    dues::first_after(schedules, last, zone)
+    first_due_after(&Union { schedules }, last, zone)
 }
 
 /// Says in one sentence whether a fire was missed, by the rule that was chosen, or the expression's

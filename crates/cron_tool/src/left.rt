@@ -4,11 +4,10 @@ ghost use Rattle.std.specs.Prelude.{List};
 ghost use Rattle.std.specs.Iterator.{YieldsFirst};
 
 use cron_dues::fire::DueFire;
+use cron_fires::{Dues, Fires};
 use cron_moments::moment::Moment;
 use cron_unions::back_due_run::BackDueRun;
 use cron_unions::back_run::BackRun;
-use cron_unions::due_run::DueRun;
-use cron_unions::run::Run;
 
 /// Fires that are taken one after another.
 pub(crate) trait Left<F> {
@@ -20,7 +19,7 @@ pub(crate) trait Left<F> {
         ensures { YieldsFirst left self.old result self.new };
 }
 
-impl<'a, const N: usize> Left<Moment> for Run<'a, N> {
+impl<'a> Left<Moment> for Fires<'a> {
     ghost left = { λ run. run };
 
     fn take_first(&mut self) -> Option<Moment> {
@@ -28,7 +27,7 @@ impl<'a, const N: usize> Left<Moment> for Run<'a, N> {
     }
 }
 
-impl<'a> Left<DueFire> for DueRun<'a> {
+impl<'a> Left<DueFire> for Dues<'a> {
     ghost left = { λ run. run };
 
     fn take_first(&mut self) -> Option<DueFire> {

@@ -1,6 +1,6 @@
 //! The fires that are pending: they came due, and no stamp says that they are done.
 
-ghost use Rattle.std.specs.Prelude.{◌≡◌, ◌≤◌, ◌*ℤ◌, ◌≤ℤ◌, pos, length, false, true};
+ghost use Rattle.std.specs.Prelude.{◌≡◌, ◌*ℤ◌, ◌≤ℤ◌, pos, false, true};
 ghost use Rattle.std.specs.Option.{option_to_list};
 ghost use Rattle.jiff.specs.Words.{plain_zone};
 ghost use Rattle.cron_dues.specs.Due as dues;
@@ -26,13 +26,9 @@ use crate::left::Left;
 use crate::row::{Form, Told, row_of};
 use crate::status::{Status, finish};
 use cron_dues::fire::{DueFire, nominal_second};
-use cron_fires::ClockChanges;
+use cron_fires::{ClockChanges, Dues, Fires, Union, last_due_by, last_fire_by};
 use cron_instants::item::is_earlier;
 use cron_moments::moment::{Moment, moment_numbered};
-use cron_unions::due_run::DueRun;
-use cron_unions::run::Run;
-use cron_unions::{dues, instants};
-use cron_units::fields::ScheduleFields;
 use cron_writer::watchable::Watchable;
 use cron_writer::watched::{Watched, send};
 use jiff::Timestamp;
@@ -99,15 +95,15 @@ fn list_left<F: Told, L: Left<F>, W: Watchable>(
 
 // Of the times up to now at which the clock shows a match the last, if it is past the noted one.
 fn latest_moment(
-    schedules: &[ScheduleFields],
+    table: &Union<'_>,
     noted: &Moment,
     now: Timestamp,
     zone: &TimeZone<'_>,
 ) -> Option<Moment>
-    ensures { IsLatest (λ r. IsItemOfAny schedules.now (plain_zone zone.now) r
+    ensures { IsLatest (λ r. IsItemOfAny table.now.schedules.now (plain_zone zone.now) r
         × (orders.is_earlier noted.now r ≡ true) × IsBy now.nanosecond r) result }
 {
-    let last = instants::last_by(schedules, now, zone)?;
+    let last = last_fire_by(table, now, zone)?;
     if is_earlier(noted, &last) {
         Some(last)
     } else {
@@ -117,15 +113,15 @@ fn latest_moment(
 
 // Of the matches that are due by now the last, if it is past the noted one.
 fn latest_due(
-    schedules: &[ScheduleFields],
+    table: &Union<'_>,
     noted: &DueFire,
     now: Timestamp,
     zone: &TimeZone<'_>,
 ) -> Option<DueFire>
-    ensures { IsLast (λ d. IsDueOfAny schedules.now (plain_zone zone.now) d
+    ensures { IsLast (λ d. IsDueOfAny table.now.schedules.now (plain_zone zone.now) d
         × (is_past noted.now d ≡ true) × (is_due_by now.nanosecond d ≡ true)) result }
 {
-    let last = dues::last_by(schedules, now, zone)?;
+    let last = last_due_by(table, now, zone)?;
     if nominal_second(noted) < nominal_second(&last) {
         Some(last)
     } else {
@@ -135,41 +131,7 @@ fn latest_due(
 
 // By the rule that each time is a fire at which the clock shows a match.
 fn list_moments<W: Watchable>(
-    schedules: &[ScheduleFields],
-    pending: &Pending,
-    now: Timestamp,
-    zone: &TimeZone<'_>,
-    form: Form,
-    out: &mut Watched<W>,
-) -> Status
-    requires few { length schedules.now ≤ 12 }
-    requires fresh { has_failed out.old ≡ false }
-    ensures lists { ListsPending AsShown form schedules.now (plain_zone zone.now)
-        now.nanosecond pending.now
-        (W.contents (writer_of out.old)) (W.contents (writer_of out.new)) result }
-    ensures mark { has_failed out.new ≡ is_write_failure result }
-    ensures calls { AreWritesFlushed W.writes W.flushes
-        (writer_of out.old) (has_failed out.old) (writer_of out.new) (has_failed out.new) }
-{
-    match pending {
-        Pending::Last => list_one(instants::last_by(schedules, now, zone), form, out),
-        Pending::Past(fire) => {
-            let noted = shown_of(fire);
-            let mut run: Run<'_, 12> = Run::past_by(schedules, &noted, now, zone);
-            let first = run.next();
-            let mut run: Run<'_, 12> = Run::past_by(schedules, &noted, now, zone);
-            list_left(first, &mut run, form, out)
-        }
-        Pending::LatestPast(fire) => {
-            let last = latest_moment(schedules, &shown_of(fire), now, zone);
-            list_one(last, form, out)
-        }
-    }
-}
-
-// By the rule that each match is a fire once.
-fn list_dues<W: Watchable>(
-    schedules: &[ScheduleFields],
+    table: &Union<'_>,
     pending: &Pending,
     now: Timestamp,
     zone: &TimeZone<'_>,
@@ -177,7 +139,7 @@ fn list_dues<W: Watchable>(
     out: &mut Watched<W>,
 ) -> Status
     requires { has_failed out.old ≡ false }
-    ensures lists { ListsPending Once form schedules.now (plain_zone zone.now)
+    ensures lists { ListsPending AsShown form table.now.schedules.now (plain_zone zone.now)
         now.nanosecond pending.now
         (W.contents (writer_of out.old)) (W.contents (writer_of out.new)) result }
     ensures mark { has_failed out.new ≡ is_write_failure result }
@@ -185,14 +147,45 @@ fn list_dues<W: Watchable>(
         (writer_of out.old) (has_failed out.old) (writer_of out.new) (has_failed out.new) }
 {
     match pending {
-        Pending::Last => list_one(dues::last_by(schedules, now, zone), form, out),
+        Pending::Last => list_one(last_fire_by(table, now, zone), form, out),
         Pending::Past(fire) => {
-            let mut run = DueRun::past_by(schedules, fire, now, zone);
-            let first = run.next();
-            let mut run = DueRun::past_by(schedules, fire, now, zone);
+            let noted = shown_of(fire);
+            let first = Fires::past_by(table, &noted, now, zone).next();
+            let mut run = Fires::past_by(table, &noted, now, zone);
             list_left(first, &mut run, form, out)
         }
-        Pending::LatestPast(fire) => { list_one(latest_due(schedules, fire, now, zone), form, out) }
+        Pending::LatestPast(fire) => {
+            let last = latest_moment(table, &shown_of(fire), now, zone);
+            list_one(last, form, out)
+        }
+    }
+}
+
+// By the rule that each match is a fire once.
+fn list_dues<W: Watchable>(
+    table: &Union<'_>,
+    pending: &Pending,
+    now: Timestamp,
+    zone: &TimeZone<'_>,
+    form: Form,
+    out: &mut Watched<W>,
+) -> Status
+    requires { has_failed out.old ≡ false }
+    ensures lists { ListsPending Once form table.now.schedules.now (plain_zone zone.now)
+        now.nanosecond pending.now
+        (W.contents (writer_of out.old)) (W.contents (writer_of out.new)) result }
+    ensures mark { has_failed out.new ≡ is_write_failure result }
+    ensures calls { AreWritesFlushed W.writes W.flushes
+        (writer_of out.old) (has_failed out.old) (writer_of out.new) (has_failed out.new) }
+{
+    match pending {
+        Pending::Last => list_one(last_due_by(table, now, zone), form, out),
+        Pending::Past(fire) => {
+            let first = Dues::past_by(table, fire, now, zone).next();
+            let mut run = Dues::past_by(table, fire, now, zone);
+            list_left(first, &mut run, form, out)
+        }
+        Pending::LatestPast(fire) => { list_one(latest_due(table, fire, now, zone), form, out) }
     }
 }
 
@@ -216,9 +209,11 @@ pub fn list_pending<W: Watchable>(
     ensures calls { AreWritesFlushed W.writes W.flushes
         (writer_of out.old) (has_failed out.old) (writer_of out.new) (has_failed out.new) }
 {
-    let schedules = expression.as_slice();
+    let table = Union {
+        schedules: expression.as_slice(),
+    };
     match expression.changes(chosen) {
-        ClockChanges::AsShown => list_moments(schedules, pending, now, zone, form, out),
-        ClockChanges::Once => list_dues(schedules, pending, now, zone, form, out),
+        ClockChanges::AsShown => list_moments(&table, pending, now, zone, form, out),
+        ClockChanges::Once => list_dues(&table, pending, now, zone, form, out),
     }
 }

@@ -1,15 +1,13 @@
 //! How many fires there are, and the waits between them.
 
-ghost use Rattle.std.specs.Prelude.{◌≡◌, ◌≤◌, length, map, min};
+ghost use Rattle.std.specs.Prelude.{◌≡◌, map, min};
 ghost use Rattle.jiff.specs.Words.{plain_zone};
 ghost use Rattle.cron_tool.specs.Tallies.{IsTally, IsTallyBy};
 ghost use Rattle.cron_tool.specs.Inner.Tallies.{with_fire, with_wait};
 
 use crate::left::Left;
 use crate::row::Told;
-use cron_fires::ClockChanges;
-use cron_unions::due_run::DueRun;
-use cron_unions::run::Run;
+use cron_fires::{ClockChanges, Dues, Fires, Union};
 use cron_units::fields::ScheduleFields;
 use jiff::Timestamp;
 use jiff::tz::TimeZone;
@@ -85,18 +83,12 @@ pub fn count_fires(
     end: Timestamp,
     zone: &TimeZone<'_>,
 ) -> Tally
-    requires { length schedules.now ≤ 12 }
     ensures { IsTallyBy changes schedules.now (plain_zone zone.now)
         start.nanosecond end.nanosecond result }
 {
+    let table = Union { schedules };
     match changes {
-        ClockChanges::AsShown => {
-            let mut run: Run<'_, 12> = Run::between(schedules, start, end, zone);
-            count_left(&mut run)
-        }
-        ClockChanges::Once => {
-            let mut run = DueRun::between(schedules, start, end, zone);
-            count_left(&mut run)
-        }
+        ClockChanges::AsShown => count_left(&mut Fires::between(&table, start, end, zone)),
+        ClockChanges::Once => count_left(&mut Dues::between(&table, start, end, zone)),
     }
 }

@@ -2,7 +2,8 @@
 ghost use Rattle.std.specs.Prelude.{◌≡◌};
 ghost use Rattle.std.specs.Iterator.{YieldsFirst};
 ghost use Rattle.jiff.specs.Words.{plain_zone};
-ghost use Rattle.cron_unions.specs.Unions.{fires_any_after, fires_any_between, fires_any_past};
+ghost use Rattle.cron_unions.specs.Unions.{fires_any_after, fires_any_between, fires_any_past, fires_any_past_by};
+ghost use Rattle.cron_unions.specs.Inner.Merges.{left_with};
 
 use crate::instants::{first_after, first_past};
 use cron_instants::run::is_within;
@@ -14,7 +15,7 @@ use std::marker::Model;
 
 /// Some of the fires of several schedules in a zone, the earliest first: each once, also where
 /// several of them match its civil second. Contracts see those that are left. It takes no memory.
-/// A run that merges its schedules is faster; it holds so many at the most.
+/// [`Run`](crate::run::Run), which merges at most N schedules, is faster.
 #[derive(Drop)]
 pub struct SearchRun<'a> {
     schedules: &'a [ScheduleFields],
@@ -35,6 +36,23 @@ impl<'a> Model for SearchRun<'a> {
 }
 
 impl<'a> SearchRun<'a> {
+    // The fires from one on, if there is one, up to and with an instant if there is a last one.
+    fn from(
+        schedules: &'a [ScheduleFields],
+        next: Option<Moment>,
+        until: Option<i64>,
+        zone: &'a TimeZone<'a>,
+    ) -> SearchRun<'a>
+        ensures { result ≡ left_with schedules.now (plain_zone zone.now) next until }
+    {
+        SearchRun {
+            schedules,
+            zone,
+            next,
+            until,
+        }
+    }
+
     /// The fires whose instant comes after `start`.
     pub fn after(
         schedules: &'a [ScheduleFields],
@@ -43,12 +61,7 @@ impl<'a> SearchRun<'a> {
     ) -> SearchRun<'a>
         ensures { result ≡ fires_any_after schedules.now (plain_zone zone.now) start.nanosecond }
     {
-        SearchRun {
-            schedules,
-            zone,
-            next: first_after(schedules, start, zone),
-            until: None,
-        }
+        SearchRun::from(schedules, first_after(schedules, start, zone), None, zone)
     }
 
     /// The fires that are later than this one, which may be none of the schedules.
@@ -59,12 +72,7 @@ impl<'a> SearchRun<'a> {
     ) -> SearchRun<'a>
         ensures { result ≡ fires_any_past schedules.now (plain_zone zone.now) fire.now }
     {
-        SearchRun {
-            schedules,
-            zone,
-            next: first_past(schedules, fire, zone),
-            until: None,
-        }
+        SearchRun::from(schedules, first_past(schedules, fire, zone), None, zone)
     }
 
     /// The fires whose instant comes after `last` and not after `now`.
@@ -77,12 +85,23 @@ impl<'a> SearchRun<'a> {
         ensures { result
             ≡ fires_any_between schedules.now (plain_zone zone.now) last.nanosecond now.nanosecond }
     {
-        SearchRun {
-            schedules,
-            zone,
-            next: first_after(schedules, last, zone),
-            until: Some(now.to_plain().floor_second()),
-        }
+        let until = Some(now.to_plain().floor_second());
+        SearchRun::from(schedules, first_after(schedules, last, zone), until, zone)
+    }
+
+    /// The fires that are later than this one, which may be none of the schedules, and whose
+    /// instant doesn't come after `now`.
+    pub fn past_by(
+        schedules: &'a [ScheduleFields],
+        fire: &Moment,
+        now: Timestamp,
+        zone: &'a TimeZone<'a>,
+    ) -> SearchRun<'a>
+        ensures { result
+            ≡ fires_any_past_by schedules.now (plain_zone zone.now) fire.now now.nanosecond }
+    {
+        let until = Some(now.to_plain().floor_second());
+        SearchRun::from(schedules, first_past(schedules, fire, zone), until, zone)
     }
 
     // Takes the earliest fire that is left.

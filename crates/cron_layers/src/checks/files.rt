@@ -1,8 +1,10 @@
 //! Files of each kind, and readers that fail.
 
 use crate::compared::{check_same, check_same_at};
+use cron::Schedule;
 use cron_checking::check::{Outcome, check};
-use cron_checking::line::{Mode, Telling};
+use cron_checking::line::{Mode, Telling, tell_first};
+use cron_fires::{Union, fields_of};
 use cron_writer::watched::Watched;
 use jiff::tz::TimeZone;
 use std::io::{self, BufReader, ErrorKind, Read};
@@ -83,6 +85,27 @@ fn the_first_fire_or_none_is_told(rt: HostRuntime) {
     let file = b"0 0 12 L 2 *\n0 0 0 30 2 *\n0 0 0 L 2 Fri\n";
     let told = "1: 2024-02-29 12:00:00 +00:00\n2: none\n3: 2025-02-28 00:00:00 +00:00\n";
     check_told(&rt, &how, file, Outcome::AllRead, told);
+}
+
+// Of a crontab's 13th or Friday: the second of February in 2024 is a Friday, the thirteenth a
+// Tuesday.
+#[test]
+fn the_first_fire_of_any_is_told(rt: HostRuntime) {
+    let thirteenth = Schedule::from_str(rt.alloc(), "0 0 0 13 * *").expect(&rt, "a schedule");
+    let friday = Schedule::from_str(rt.alloc(), "0 0 0 * * Fri").expect(&rt, "a schedule");
+    let schedules = &[fields_of(&thirteenth), fields_of(&friday)];
+    let table = Union { schedules };
+    let rows = [
+        ("2024-02-01T00:00:00Z", "a:7: 2024-02-02 00:00:00 +00:00\n"),
+        ("2024-02-09T00:00:00Z", "a:7: 2024-02-13 00:00:00 +00:00\n"),
+        ("2100-12-31T00:00:00Z", "a:7: none\n"),
+    ];
+    for (start, told) in rows {
+        let now = start.parse().expect(&rt, "an instant");
+        let mut text = String::new(rt.alloc());
+        tell_first("a:", 7, &table, now, &TimeZone::UTC, &mut text).expect(&rt, "memory");
+        check_same_at(&rt, &start, text.as_str(), told);
+    }
 }
 
 #[test]

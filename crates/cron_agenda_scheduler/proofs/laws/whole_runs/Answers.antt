@@ -1,6 +1,6 @@
 use Rattle.cron_agenda_scheduler.specs.Turns.{job_calls}
 use Rattle.cron_scheduler.specs.Runs.{clock_calls}
-use Rattle.cron_agenda_scheduler.proofs.RunLemmas.{one_entry_is_a_plan, restarted_runs, runs_that_meet, turns_are_taken}
+use Rattle.cron_agenda_scheduler.proofs.RunLemmas.{one_entry_takes_its_fires, restarted_runs, runs_that_meet, turns_are_taken}
 use Rattle.cron_agenda_scheduler.proofs.laws.whole_runs.Goals as goal
 
 pub returns-clause-taken : goal.returns-clause-taken
@@ -13,4 +13,4 @@ pub returns-clause-restart : goal.returns-clause-restart
 returns-clause-restart g c = λ ts. restarted_runs ts (clock_calls g.C.AlarmClock.shows g.C.AlarmClock.waits) (job_calls g.J.AgendaJob.runs g.J.AgendaJob.passes)
 
 pub returns-clause-one : goal.returns-clause-one
-returns-clause-one g c = λ ts. one_entry_is_a_plan ts (clock_calls g.C.AlarmClock.shows g.C.AlarmClock.waits) (job_calls g.J.AgendaJob.runs g.J.AgendaJob.passes)
+returns-clause-one g c = λ ts. one_entry_takes_its_fires ts (clock_calls g.C.AlarmClock.shows g.C.AlarmClock.waits) (job_calls g.J.AgendaJob.runs g.J.AgendaJob.passes)
