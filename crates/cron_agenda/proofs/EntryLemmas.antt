@@ -73,18 +73,19 @@ due_next schedules zones t old (Ok (Some taken)) new first comes due takes = (
   takes,
   ap (λ (f : AgendaFire). int_le (instant f.fire *ℤ pos 1_000_000_000) t) takes.0.is ∙ due_first t old.entries first takes.0.entry comes due takes.0.first,
 )
-due_next schedules zones t old (Err why) new first comes due takes = takes
+due_next schedules zones t old (Err why) new first comes due takes =
+    (takes.0, due_first t old.entries first takes.0.entry comes due takes.0.first, takes.1)
 
 -- ---- what an insertion adds
 
 pub added : {T : Type 0} (schedules : T → List Sets) (zones : List TimeZone) (table : T) (zone : ℕ) (fires : TimeZone → List EntryFire) (old : Listed T)
     (answer : Result ℕ AddError) (new : Listed T) (z : TimeZone) (fire : EntryFire) → slice_get zones zone ≡ Some z
     → fires z ≡ fire ∷ fires_past (schedules table) z fire → Inserts table zone fire old answer new → Adds schedules zones table zone fires old answer new
-added schedules zones table zone fires old (Ok id) new z fire lent first inserts = (z, fire, lent, first, inserts.0, inserts.1)
+added schedules zones table zone fires old (Ok id) new z fire lent first inserts = (z, fire, lent, first, inserts.0, inserts.1, inserts.2)
 added schedules zones table zone fires old (Err why) new z fire lent first inserts = (
   elim inserts.0 [
     | inl e ↦ subst (IsRefused zones zone fires old.added old.room) (sym e.0) e.1
-    | inr e ↦ subst (IsRefused zones zone fires old.added old.room) (sym e.0) e.1
+    | inr e ↦ subst (IsRefused zones zone fires old.added old.room) (sym e.0) (e.1, e.2)
   ],
   inserts.1,
 )

@@ -1,5 +1,5 @@
 -- The entries of an agenda, and what is added to them and taken from them.
-use Rattle.std.specs.Prelude.{◌≡◌, ◌≤◌, ℕ, ◌+◌, ◌-◌, ◌^◌, ℤ, pos, ◌*ℤ◌, Bool, true, false, not, ◌==◌, int_le, List, [], ◌∷◌, ◌++◌, filter, slice_get, Option, Some, None, MatchOption, Result, Ok, Err, ⊤, max}
+use Rattle.std.specs.Prelude.{◌≡◌, ◌<◌, ◌≤◌, ℕ, ◌+◌, ◌-◌, ◌^◌, ℤ, pos, ◌*ℤ◌, Bool, true, false, not, ◌==◌, int_le, List, [], ◌∷◌, ◌++◌, filter, slice_get, Option, Some, None, MatchOption, Result, Ok, Err, ⊤, max}
 use Rattle.std.specs.declared.alloc.AllocError.{AllocError}
 use Rattle.std.specs.List.{list_any}
 use Rattle.std.specs.Option.{is_none}
@@ -101,25 +101,26 @@ TakesNext schedules zones old (Err why) new = LacksZone zones old.entries why ×
 abbrev pub is_by : {T : Type 0} → ℤ → Entry T → Bool
 is_by t e = int_le (instant e.fire *ℤ pos 1_000_000_000) t
 
--- the same, if it is due by an instant; else no entry's next fire is due
+-- the same, if it is due by an instant, also where its zone isn't lent; else no entry's next fire is due
 abbrev pub TakesDue : {T : Type 0} → (T → List Sets) → List TimeZone → ℤ → Listed T → Result (Option AgendaFire) ZoneMissing → Listed T → Type 0
 TakesDue schedules zones t old (Ok None) new = (filter (is_by t) old.entries ≡ []) × (new ≡ old)
 TakesDue schedules zones t old (Ok (Some taken)) new =
     TakesNext schedules zones old (Ok (Some taken)) new × (int_le (instant taken.fire *ℤ pos 1_000_000_000) t ≡ true)
-TakesDue schedules zones t old (Err why) new = TakesNext schedules zones old (Err why) new
+TakesDue schedules zones t old (Err why) new = (lacks : LacksZone zones old.entries why) × (is_by t lacks.entry ≡ true) × (new ≡ old)
 
--- Why nothing was added: for want of the zone, of fires in it, of ids, of which there are 2^64 - 1, or of memory that wasn't there already.
+-- Why nothing was added: for want of the zone, of fires in it, of ids, of which there are 2^64 - 1, or, where there is one, of memory
+-- that wasn't there already.
 abbrev pub IsRefused : List TimeZone → ℕ → (TimeZone → List EntryFire) → ℕ → ℕ → AddError → Type 0
 IsRefused zones zone fires added room NoZone = slice_get zones zone ≡ None
 IsRefused zones zone fires added room NoFires = (z : TimeZone) × (slice_get zones zone ≡ Some z) × (fires z ≡ [])
 IsRefused zones zone fires added room NoIds = added ≡ 2 ^ 64 - 1
-IsRefused zones zone fires added room OutOfMemory = room ≡ 0
+IsRefused zones zone fires added room OutOfMemory = (added < 2 ^ 64 - 1) × (room ≡ 0)
 
 -- An entry is added whose fires these are in the zone with this number, under the next id; or nothing changes.
 abbrev pub Adds : {T : Type 0} → (T → List Sets) → List TimeZone → T → ℕ → (TimeZone → List EntryFire) → Listed T → Result ℕ AddError → Listed T → Type 0
 Adds schedules zones table zone fires old (Ok id) new =
     (z : TimeZone) × (fire : EntryFire) × (slice_get zones zone ≡ Some z) × (fires z ≡ fire ∷ fires_past (schedules table) z fire)
-    × (id ≡ old.added) × (new ≡ listed (old.entries ++ entry id table zone fire ∷ []) (old.added + 1) (old.room - 1))
+    × (id ≡ old.added) × (new ≡ listed (old.entries ++ entry id table zone fire ∷ []) (old.added + 1) (old.room - 1)) × (old.added < 2 ^ 64 - 1)
 Adds schedules zones table zone fires old (Err why) new = IsRefused zones zone fires old.added old.room why × (new ≡ old)
 
 -- Memory is taken for so many more entries; or nothing changes.

@@ -13,6 +13,9 @@ add_error_text NoFires = codes "it would never fire"
 add_error_text NoIds = codes "no id is left"
 add_error_text OutOfMemory = codes "out of memory"
 
+abbrev pub zone_missing_text : List ℕ
+zone_missing_text = codes "the zone of the entry that comes first is not lent"
+
 -- a fire as its own type prints it
 abbrev pub fire_text : EntryFire → List ℕ
 fire_text (AsShown moment) = moment_text moment

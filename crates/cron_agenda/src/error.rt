@@ -42,9 +42,10 @@ pub struct ZoneMissing {
 }
 
 impl fmt::Display for ZoneMissing {
-    ghost use Rattle.std.specs.Prelude.{Some, codes};
+    ghost use Rattle.std.specs.Prelude.{Some};
+    ghost use Rattle.cron_agenda.specs.Messages.{zone_missing_text};
 
-    ghost output = { λ _. Some (codes "the zone of the entry that comes first is not lent") };
+    ghost output = { λ _. Some zone_missing_text };
 
     fn fmt<W: fmt::Write>(&self, f: &mut fmt::Formatter<W>) -> fmt::Result {
         f.write_str("the zone of the entry that comes first is not lent")

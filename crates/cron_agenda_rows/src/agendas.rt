@@ -1,12 +1,12 @@
 //! Rows of agendas: zones, steps, and what each step answers.
 
-use crate::tables::{changes_named, schedules_of, zones_named};
+use crate::tables::{changes_named, first_zones, schedules_of, zones_named};
 use anyhow::{Context, Result, bail};
 use cron_agenda::{AddError, Agenda, AgendaFire, EntryFire, ZoneMissing};
 use cron_fires::Union;
 use cron_units::fields::ScheduleFields;
 use jiff::Timestamp;
-use jiff::tz::TimeZone;
+use jiff::tz::{TimeZone, Tzif};
 use std::alloc::Global;
 use std::fmt::Write;
 
@@ -62,7 +62,7 @@ fn write_taken(text: &mut String, taken: &Result<Option<AgendaFire>, ZoneMissing
 
 impl<'a> Scene<'a> {
     fn zones(&self) -> Result<&'a [TimeZone<'a>]> {
-        self.zones.get(..self.lent).context("too many zones")
+        first_zones(self.zones, self.lent)
     }
 
     // Adds the fires after an instant: `shown 0 2024-03-10T05:00:00Z`.
@@ -153,8 +153,8 @@ impl<'a> Scene<'a> {
 }
 
 /// What the steps answer.
-pub(crate) fn told(alloc: Global, names: &str, steps: &str) -> Result<String> {
-    let zones = zones_named(alloc, names)?;
+pub(crate) fn told(alloc: Global, names: &str, file: &Tzif, steps: &str) -> Result<String> {
+    let zones = zones_named(alloc, names, file)?;
     let mut tables = Vec::new(alloc);
     for step in steps.split(" ; ") {
         tables.push(schedules_of(alloc, step)?)?;

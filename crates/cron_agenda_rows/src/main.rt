@@ -10,6 +10,8 @@ mod tables;
 
 use anyhow::{Context, Result};
 use cron_rows::{Replay, Report, Row, replay_files};
+use jiff::tz::Tzif;
+use tables::zone_file;
 
 /// What the rows of a file hold.
 #[derive(Clone, Copy)]
@@ -27,28 +29,29 @@ fn parted(row: &str) -> Result<(&str, &str)> {
     row.split_once(" | ").context("the row lacks a field")
 }
 
-fn replay_agenda(report: &mut Report<'_>, row: Row<'_>) -> Result<()> {
+fn replay_agenda(report: &mut Report<'_>, row: Row<'_>, file: &Tzif) -> Result<()> {
     let (names, rest) = parted(row.text)?;
     let (steps, wanted) = parted(rest)?;
-    let told = agendas::told(report.alloc(), names, steps)?;
+    let told = agendas::told(report.alloc(), names, file, steps)?;
     report.compare(row, "the steps", wanted, told.as_str())
 }
 
-fn replay_run(report: &mut Report<'_>, row: Row<'_>) -> Result<()> {
+fn replay_run(report: &mut Report<'_>, row: Row<'_>, file: &Tzif) -> Result<()> {
     let (names, rest) = parted(row.text)?;
     let (steps, rest) = parted(rest)?;
     let (shown, rest) = parted(rest)?;
     let (job, rest) = parted(rest)?;
     let (most, wanted) = parted(rest)?;
-    let told = runs::told(report.alloc(), names, steps, (shown, job, most))?;
+    let told = runs::told(report.alloc(), names, file, steps, (shown, job, most))?;
     report.compare(row, "the run", wanted, told.as_str())
 }
 
 impl Replay for Kind {
     fn replay(&self, report: &mut Report<'_>, row: Row<'_>) -> Result<()> {
+        let file = zone_file(report.runtime())?;
         match self {
-            Kind::Agendas => replay_agenda(report, row),
-            Kind::Runs => replay_run(report, row),
+            Kind::Agendas => replay_agenda(report, row, &file),
+            Kind::Runs => replay_run(report, row, &file),
         }
     }
 }

@@ -1,8 +1,8 @@
 //! Rows of the loop over an agenda: zones, entries with their lateness, what the clock shows after
 //! each wait, what the job does, and how often it may be run; then the waits, the deeds and the end
-//! that these come to.
+//! that these come to. A step `lend 1` behind the entries lends the loop the first zone alone.
 
-use crate::tables::{changes_named, schedules_of, zones_named};
+use crate::tables::{changes_named, first_zones, schedules_of, zones_named};
 use anyhow::{Context, Error, Result, bail, ensure};
 use cron_agenda::{AddError, Agenda, AgendaFire};
 use cron_agenda_scheduler::{AgendaJob, AgendaStop, Lateness, Timely, run, step};
@@ -10,7 +10,7 @@ use cron_fires::Union;
 use cron_scheduler::AlarmClock;
 use cron_units::fields::ScheduleFields;
 use jiff::Timestamp;
-use jiff::tz::TimeZone;
+use jiff::tz::{TimeZone, Tzif};
 use std::alloc::Global;
 use std::fmt::Write;
 
@@ -212,7 +212,8 @@ fn play<'a>(
     bail!("the steps don't end")
 }
 
-// What a row comes to by the loop, or by its steps. The last table is that of the job.
+// What a row comes to by the loop, or by its steps. Its entries are added in any of the zones; the
+// loop and the job have those that are lent. The last table is that of the job.
 fn told_of<'a>(
     alloc: Global,
     zones: &'a [TimeZone<'a>],
@@ -222,8 +223,12 @@ fn told_of<'a>(
     by_steps: bool,
 ) -> Result<String> {
     let mut agenda = Agenda::new(alloc);
+    let mut lent = zones.len();
     for (step, schedules) in entries.split(" ; ").zip(tables) {
-        add(&mut agenda, zones, step, schedules.as_slice())?;
+        match step.strip_prefix("lend ") {
+            Some(count) => lent = count.parse::<usize>()?,
+            None => add(&mut agenda, zones, step, schedules.as_slice())?,
+        }
     }
     let words: Vec<&str> = shown.split(' ').collect(alloc)?;
     let mut clock = ScriptedClock {
@@ -232,6 +237,7 @@ fn told_of<'a>(
         count: 0,
     };
     let more = tables.last().context("no schedules")?;
+    let zones = first_zones(zones, lent)?;
     let mut job = job_named(alloc, job, more.as_slice(), zones)?;
     let ended = play(&mut agenda, &mut clock, &mut job, most, by_steps)?;
     let (waits, deeds) = (or_none(clock.waits.as_str()), or_none(job.deeds.as_str()));
@@ -244,10 +250,11 @@ fn told_of<'a>(
 pub(crate) fn told(
     alloc: Global,
     names: &str,
+    file: &Tzif,
     entries: &str,
     (shown, job, most): (&str, &str, &str),
 ) -> Result<String> {
-    let zones = zones_named(alloc, names)?;
+    let zones = zones_named(alloc, names, file)?;
     let mut tables = Vec::new(alloc);
     for step in entries.split(" ; ") {
         tables.push(schedules_of(alloc, step)?)?;

@@ -1,20 +1,18 @@
 -- What the lateness of an entry makes of its deeds at a look.
-use Rattle.std.proofs.Common.{◌≡◌, ℕ, ℤ, pos, ◌*ℤ◌, Bool, true, false, ◌&&◌, ◌||◌, cond, List, [], ◌∷◌, ◌++◌, length, map, Option, Some, None, refl, sym, ap, subst, ◌∙◌, arith}
+use Rattle.std.proofs.Common.{◌≡◌, ℕ, ℤ, pos, ◌*ℤ◌, Bool, true, false, ◌&&◌, ◌||◌, cond, List, [], ◌∷◌, ◌++◌, length, map, Option, Some, None, refl, sym, ap, subst, ◌∙◌}
 use Rattle.std.specs.Prelude.{◌==◌, filter, int_le, not}
 use Rattle.std.specs.List.{list_any}
 use Rattle.std.proofs.lemmas.Bool.{eqb-true}
-use Rattle.std.proofs.lemmas.Int.{ints}
-use Rattle.cron_instants.specs.Order.{comes_before}
 use Rattle.cron_agenda.specs.declared.entry.Entry.{Entry}
 use Rattle.cron_agenda.specs.declared.fire.AgendaFire.{AgendaFire}
-use Rattle.cron_agenda.specs.Entries.{ComesFirst, IsBeforeAll, IsTaken, Listed, gone_on, is_before, is_by}
+use Rattle.cron_agenda.specs.Entries.{IsTaken, Listed, gone_on, is_by}
 use Rattle.cron_agenda.specs.Fires.{instant}
 use Rattle.cron_agenda.proofs.AheadLemmas.{first-one}
 use Rattle.cron_agenda_scheduler.specs.declared.lateness.Lateness.{Lateness}
 use Rattle.cron_agenda_scheduler.specs.declared.lateness.Lateness.TheVariants.{Each, Within, Latest}
 use Rattle.cron_agenda_scheduler.specs.EntryLaws.{keeping, with_id}
 use Rattle.cron_agenda_scheduler.specs.Late.{IsPicked, Tables, has_due, is_run, is_within}
-use Rattle.cron_agenda_scheduler.specs.LateLaws.{AllAreByAge, AllAreRun, AllHave, EachIsRun, HaveLateness, LatestRunsTheLast, WithinIsByAge, deeds_with, done_if, last_ran}
+use Rattle.cron_agenda_scheduler.specs.LateLaws.{AllAreByAge, AllAreRun, AllHave, EachIsRun, HaveLateness, LatestRunsNoOther, LatestRunsTheLast, WithinIsByAge, deeds_with, done_if, last_ran_if_none}
 use Rattle.cron_agenda_scheduler.specs.Turns.{AreDone, Deed, IsDone, JobCalls, Passed, Ran, fire_of, taken}
 use Rattle.cron_agenda_scheduler.proofs.EntryLemmas.{with_new, with_old}
 use Rattle.cron_agenda_scheduler.proofs.LawLemmas.{ended, not_first}
@@ -189,15 +187,15 @@ abbrev is_some : {X : Type 0} → List X → Bool
 is_some [] = false
 is_some (x ∷ l) = true
 
--- an entry is due exactly if it has a deed, where in the end it isn't due
+-- an entry is due exactly if it has a deed, or is due in the end
 due_is_done : {T J F : Type 0} (ts : Tables T) (js : JobCalls T J F) (id : ℕ) (t : ℤ) (ds : List Deed) (a : Listed T) (j : J) (a' : Listed T) (j' : J)
-    → AreDone ts (keeping id js) t ds a j a' j' → has_due t id a'.entries ≡ false → has_due t id a.entries ≡ is_some (deeds_with id ds)
-due_is_done ts js id t [] a j a' j' done late = ap (λ (x : Listed _). has_due t id x.entries) (sym done.0) ∙ late
-due_is_done {T} ts js id t (d ∷ ds) a j a' j' done late =
-    by_test ((fire_of d).id == id) refl (due_is_done ts js id t ds done.0 done.1 a' j' done.3 late)
+    → AreDone ts (keeping id js) t ds a j a' j' → has_due t id a.entries ≡ (is_some (deeds_with id ds) || has_due t id a'.entries)
+due_is_done ts js id t [] a j a' j' done = ap (λ (x : Listed _). has_due t id x.entries) (sym done.0)
+due_is_done {T} ts js id t (d ∷ ds) a j a' j' done =
+    by_test ((fire_of d).id == id) refl (due_is_done ts js id t ds done.0 done.1 a' j' done.3)
   where
-    by_test : (s : Bool) → ((fire_of d).id == id) ≡ s → has_due t id done.0.entries ≡ is_some (deeds_with id ds)
-        → has_due t id a.entries ≡ is_some (cond s (d ∷ deeds_with id ds) (deeds_with id ds))
+    by_test : (s : Bool) → ((fire_of d).id == id) ≡ s → has_due t id done.0.entries ≡ (is_some (deeds_with id ds) || has_due t id a'.entries)
+        → has_due t id a.entries ≡ (is_some (cond s (d ∷ deeds_with id ds) (deeds_with id ds)) || has_due t id a'.entries)
     by_test true told rest =
         let is = picked_of ts js id t d a j done.0 done.1 done.2 in
         let first = is.2.takes.0.0 in
@@ -215,32 +213,41 @@ due_is_done {T} ts js id t (d ∷ ds) a j a' j' done late =
         ∙ rest
 
 -- one fire before the others
-last_on : (f : AgendaFire) (l : List Deed) → l ≡ last_ran (taken l) → done_if (not (is_some l)) f ∷ l ≡ last_ran (f ∷ taken l)
-last_on f [] rest = refl
-last_on f (d ∷ l) rest = ap (λ m. Passed f ∷ m) rest
+last_on : (late : Bool) (f : AgendaFire) (l : List Deed) → l ≡ last_ran_if_none late (taken l)
+    → done_if (not (is_some l || late)) f ∷ l ≡ last_ran_if_none late (f ∷ taken l)
+last_on true f [] rest = refl
+last_on false f [] rest = refl
+last_on true f (d ∷ l) rest = ap (λ m. Passed f ∷ m) rest
+last_on false f (d ∷ l) rest = ap (λ m. Passed f ∷ m) rest
 
-last_is_run : {T J F : Type 0} (ts : Tables T) (js : JobCalls T J F) (id : ℕ) (t : ℤ) (ds : List Deed) (a : Listed T) (j : J) (a' : Listed T) (j' : J)
-    → HaveLateness ts Latest (with_id id a.entries) → AreDone ts (keeping id js) t ds a j a' j' → has_due t id a'.entries ≡ false
-    → deeds_with id ds ≡ last_ran (taken (deeds_with id ds))
-last_is_run ts js id t [] a j a' j' have done late = refl
-last_is_run {T} ts js id t (d ∷ ds) a j a' j' have done late =
+none_ran : (late : Bool) → [] ≡ last_ran_if_none late []
+none_ran true = refl
+none_ran false = refl
+
+pub latest_runs_no_other : {T J F : Type 0} (ts : Tables T) (js : JobCalls T J F) (id : ℕ) → LatestRunsNoOther ts js id
+latest_runs_no_other ts js id t [] a j a' j' have done = none_ran (has_due t id a'.entries)
+latest_runs_no_other {T} ts js id t (d ∷ ds) a j a' j' have done =
     by_test ((fire_of d).id == id) refl
-    (last_is_run ts js id t ds done.0 done.1 a' j' (have_on ts js id t Latest d a j done.0 done.1 done.2 have) done.3 late)
+    (latest_runs_no_other ts js id t ds done.0 done.1 a' j' (have_on ts js id t Latest d a j done.0 done.1 done.2 have) done.3)
   where
-    by_test : (s : Bool) → ((fire_of d).id == id) ≡ s → deeds_with id ds ≡ last_ran (taken (deeds_with id ds))
-        → cond s (d ∷ deeds_with id ds) (deeds_with id ds) ≡ last_ran (taken (cond s (d ∷ deeds_with id ds) (deeds_with id ds)))
+    late : Bool
+    late = has_due t id a'.entries
+
+    by_test : (s : Bool) → ((fire_of d).id == id) ≡ s → deeds_with id ds ≡ last_ran_if_none late (taken (deeds_with id ds))
+        → cond s (d ∷ deeds_with id ds) (deeds_with id ds) ≡ last_ran_if_none late (taken (cond s (d ∷ deeds_with id ds) (deeds_with id ds)))
     by_test true told rest =
         let is = picked_of ts js id t d a j done.0 done.1 done.2 in
-        let again : has_due t (fire_of d).id is.0.entries ≡ is_some (deeds_with id ds) =
+        let again : has_due t (fire_of d).id is.0.entries ≡ (is_some (deeds_with id ds) || late) =
         ap (λ i. has_due t i is.0.entries) (eqb-true (fire_of d).id id told)
         ∙ due_same t id is.0.entries done.0.entries (sym is.3)
-        ∙ due_is_done ts js id t ds done.0 done.1 a' j' done.3 late in
+        ∙ due_is_done ts js id t ds done.0 done.1 a' j' done.3 in
         ap (λ x. x ∷ deeds_with id ds) (deed_is ts js id t Latest d a j done.0 done.1 done.2 have told
         ∙ ap (λ r. done_if (not r) (fire_of d)) again)
-        ∙ last_on (fire_of d) (deeds_with id ds) rest
+        ∙ last_on late (fire_of d) (deeds_with id ds) rest
     by_test false told rest = rest
 
 pub latest_runs_the_last : {T J E F : Type 0} (ts : Tables T) (js : JobCalls T J F) (id : ℕ) → LatestRunsTheLast ts js id E
 latest_runs_the_last ts js id t most left ds a j a' j' have runs some fewer =
-    last_is_run ts js id t ds a j runs.agenda runs.job have runs.are_done
+    latest_runs_no_other ts js id t ds a j runs.agenda runs.job have runs.are_done
+    ∙ ap (λ late. last_ran_if_none late (taken (deeds_with id ds)))
     (none_there t id runs.agenda.entries (ended ts.schedules ts.zones t left (length ds) runs.agenda a' some fewer runs.ends.2))

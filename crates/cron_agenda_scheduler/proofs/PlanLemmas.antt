@@ -1,5 +1,5 @@
 -- An agenda of one entry, turn by turn, is a plan over what the entry has left, round by round.
-use Rattle.std.proofs.Common.{◌≡◌, ◌⊎◌, ℕ, ◌+◌, ◌-◌, ◌<◌, ◌^◌, ℤ, pos, ◌*ℤ◌, Option, Some, None, List, [], ◌∷◌, map, take, length, inl, inr, refl, sym, ap, subst, ◌∙◌, arith}
+use Rattle.std.proofs.Common.{◌≡◌, ◌⊎◌, ℕ, ◌+◌, ◌-◌, ◌<◌, ◌^◌, pos, ◌*ℤ◌, Option, Some, None, List, [], ◌∷◌, map, take, length, inl, inr, refl, sym, ap, subst, ◌∙◌, arith}
 use Rattle.std.specs.Prelude.{Result, Ok, Err, ⊤, slice_get}
 use Rattle.std.proofs.Math.Seq.{take-nil}
 use Rattle.std.proofs.lemmas.List.{take-map}

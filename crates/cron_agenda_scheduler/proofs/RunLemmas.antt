@@ -17,7 +17,7 @@ use Rattle.cron_scheduler.specs.Runs.{ClockCalls}
 use Rattle.cron_agenda_scheduler.specs.declared.stop.AgendaStop.{AgendaStop}
 use Rattle.cron_agenda_scheduler.specs.declared.stop.AgendaStop.TheVariants.{Clock, Zone, Job}
 use Rattle.cron_agenda_scheduler.specs.Late.{Tables}
-use Rattle.cron_agenda_scheduler.specs.Laws.{CutTurnIsTaken, IsCut, LeavesAgenda, OneEntryTakesItsFires, RunsThatMeetAreOne, TookLast, TurnsAreTaken, WhatWasTaken, RestartedRunsAreOne}
+use Rattle.cron_agenda_scheduler.specs.Laws.{CutTurnIsTaken, IsCut, LeavesAgenda, OneEntryTakesItsFires, RunsThatMeetAreOne, TookLast, TurnsAreTaken, WhatWasTaken, RestartedAnywhereIsOne, RestartedRunsAreOne}
 use Rattle.cron_agenda_scheduler.specs.Turns.{Deed, EndsRun, EndsTurn, JobCalls, Looks, all_taken, taken}
 use Rattle.cron_agenda_scheduler.proofs.LawLemmas.{deeds_are_taken}
 use Rattle.cron_agenda_scheduler.proofs.TurnLemmas.{turn_is_done}
@@ -43,23 +43,27 @@ runs_that_meet ts cs js first second most left more rest c d e g a b z j k l m l
     (taken_are_the_front ts.schedules ts.zones (all_taken first ++ all_taken second) a.entries z.entries up all).0
     ∙ ap (λ fires. fires ++ merged ts.schedules ts.zones z.entries) (map-append own_of (all_taken first) (all_taken second))
 
-pub restarted_runs : {T C J E F : Type 0} (ts : Tables T) (cs : ClockCalls C E) (js : JobCalls T J F) → RestartedRunsAreOne ts cs js
-restarted_runs ts cs js first second most left more rest low high from end c d e g a b n z j k l m leaves up ids ids_new one anew two =
+pub restarted_anywhere : {T C J E F : Type 0} (ts : Tables T) (cs : ClockCalls C E) (js : JobCalls T J F) → RestartedAnywhereIsOne ts cs js
+restarted_anywhere ts cs js fires second more rest low high from end e g a b n z l m leaves up ids ids_new taken_first anew two =
     let fire_of = λ (o : OwnFire). o.fire in
-    let fires = map (λ (f : AgendaFire). f.fire) in
-    let taken_first = turns_are_taken ts cs js first most left c a j d b k leaves one in
-    let front = taken_are_the_front ts.schedules ts.zones (all_taken first) a.entries b.entries up taken_first in
-    let goes = restart_of_all_goes_on ts.schedules ts.zones (all_taken first) a.entries b.entries n.entries low high from end ids ids_new taken_first anew in
+    let told = map (λ (f : AgendaFire). f.fire) in
+    let front = taken_are_the_front ts.schedules ts.zones fires a.entries b.entries up taken_first in
+    let goes = restart_of_all_goes_on ts.schedules ts.zones fires a.entries b.entries n.entries low high from end ids ids_new taken_first anew in
     let then_front = taken_are_the_front ts.schedules ts.zones (all_taken second) n.entries z.entries (goes.ascend front.1)
     (turns_are_taken ts cs js second more rest e n l g z m leaves two) in
     ap (map fire_of) front.0
-    ∙ map-append fire_of (map own_of (all_taken first)) (merged ts.schedules ts.zones b.entries)
-    ∙ ap (λ l. l ++ map fire_of (merged ts.schedules ts.zones b.entries)) (map-map fire_of own_of (all_taken first))
-    ∙ ap (λ l. fires (all_taken first) ++ l)
+    ∙ map-append fire_of (map own_of fires) (merged ts.schedules ts.zones b.entries)
+    ∙ ap (λ l. l ++ map fire_of (merged ts.schedules ts.zones b.entries)) (map-map fire_of own_of fires)
+    ∙ ap (λ l. told fires ++ l)
     (sym goes.fires ∙ ap (map fire_of) then_front.0
     ∙ map-append fire_of (map own_of (all_taken second)) (merged ts.schedules ts.zones z.entries)
     ∙ ap (λ l. l ++ map fire_of (merged ts.schedules ts.zones z.entries)) (map-map fire_of own_of (all_taken second)))
-    ∙ sym (append_assoc (fires (all_taken first)) (fires (all_taken second)) (map fire_of (merged ts.schedules ts.zones z.entries)))
+    ∙ sym (append_assoc (told fires) (told (all_taken second)) (map fire_of (merged ts.schedules ts.zones z.entries)))
+
+pub restarted_runs : {T C J E F : Type 0} (ts : Tables T) (cs : ClockCalls C E) (js : JobCalls T J F) → RestartedRunsAreOne ts cs js
+restarted_runs ts cs js first second most left more rest low high from end c d e g a b n z j k l m leaves up ids ids_new one anew two =
+    restarted_anywhere ts cs js (all_taken first) second more rest low high from end e g a b n z l m leaves up ids ids_new
+    (turns_are_taken ts cs js first most left c a j d b k leaves one) anew two
 
 pub one_entry_takes_its_fires : {T C J E F : Type 0} (ts : Tables T) (cs : ClockCalls C E) (js : JobCalls T J F) → OneEntryTakesItsFires ts cs js
 one_entry_takes_its_fires ts cs js turns most runs added room c d e b j k leaves up all =
@@ -76,7 +80,7 @@ cut_end : {T J E F : Type 0} (ts : Tables T) (js : JobCalls T J F) (t : ℤ) (mo
     → (fires : List AgendaFire) × IsCut js ds stop fires a' j' × AreTaken ts.schedules ts.zones fires old a'.entries
 cut_end ts js t most ds old a j (Clock e) a' j' leaves done ends = absurd ends
 cut_end ts js t most ds old a j (Zone why) a' j' leaves done ends =
-    (taken ds, refl, subst (λ (x : Listed _). AreTaken ts.schedules ts.zones (taken ds) old x.entries) (sym ends.2.1) done)
+    (taken ds, refl, subst (λ (x : Listed _). AreTaken ts.schedules ts.zones (taken ds) old x.entries) (sym ends.2.2) done)
 cut_end ts js t most ds old a j (Job e) a' j' leaves done ends =
     let same = leaves j ends.1 ends.2 (Err e) j' a' ends.4 in
     let last = subst (λ (x : Listed _). IsTaken ts.schedules ts.zones a.entries ends.1 x.entries) (sym same) ends.3.takes.0.0 in (

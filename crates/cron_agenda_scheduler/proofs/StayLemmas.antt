@@ -84,6 +84,7 @@ module _ {T C J E F : Type 0} (ts : Tables T) (cs : ClockCalls C E) (js : JobCal
     agenda = runs.agenda;
     job = runs.job;
     are_done = (stays_done t ds a j runs.agenda runs.job less runs.are_done).0;
+    had_runs = runs.had_runs;
     ends = runs.ends;
   }
 
@@ -96,6 +97,7 @@ module _ {T C J E F : Type 0} (ts : Tables T) (cs : ClockCalls C E) (js : JobCal
         agenda = runs.agenda;
         job = runs.job;
         are_done = stays.0;
+        had_runs = runs.had_runs;
         ends = (runs.ends.0, runs.ends.1, runs.ends.2, runs.ends.3, (runs.ends.4, kept.0));
       }
 

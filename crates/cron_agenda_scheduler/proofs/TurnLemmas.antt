@@ -1,5 +1,5 @@
 -- Deeds one after another, and turns.
-use Rattle.std.proofs.Common.{◌≡◌, ℕ, ◌+◌, ◌<◌, ℤ, Bool, Some, None, List, [], ◌∷◌, ◌++◌, refl, subst, inl, inr, sym, ◌⊎◌, arith}
+use Rattle.std.proofs.Common.{◌≡◌, ℕ, ◌+◌, ◌-◌, ◌<◌, ℤ, Bool, Some, None, List, [], ◌∷◌, ◌++◌, refl, subst, inl, inr, sym, ◌⊎◌, arith}
 use Rattle.std.specs.Prelude.{Option, Result, Ok, Err, ⊤, ◌*ℤ◌, pos, length}
 use Rattle.jiff_core.specs.declared.Timestamp.{Timestamp}
 use Rattle.cron_agenda.specs.declared.entry.Entry.{Entry}
@@ -10,7 +10,7 @@ use Rattle.cron_agenda_scheduler.specs.declared.stop.AgendaStop.{AgendaStop}
 use Rattle.cron_agenda_scheduler.specs.declared.picks.Pick.{Pick}
 use Rattle.cron_agenda_scheduler.specs.Inner.Picks.{Picks}
 use Rattle.cron_agenda_scheduler.specs.Late.{IsPicked, Tables}
-use Rattle.cron_agenda_scheduler.specs.Turns.{AreDone, AreTurns, Deed, EndsRun, IsDone, JobCalls, Looks, Passed, Ran, RunsDue, RunsLoop, Turn, Turns, all_runs, runs_in}
+use Rattle.cron_agenda_scheduler.specs.Turns.{AreDone, AreTurns, Deed, EndsRun, HadRuns, IsDone, JobCalls, Looks, Passed, Ran, RunsDue, RunsLoop, Turn, Turns, all_runs, runs_in, shown_at, shown_by}
 
 pub done_on : {T J F : Type 0} (ts : Tables T) (js : JobCalls T J F) (t : ℤ) (ds : List Deed) (a : Listed T) (j : J) (b : Listed T) (k : J) (d : Deed)
     (c : Listed T) (m : J) → AreDone ts js t ds a j b k → IsDone ts js t d b k c m → AreDone ts js t (ds ++ d ∷ []) a j c m
@@ -22,6 +22,12 @@ pub runs_more : (ds : List Deed) (d : Deed) → runs_in (ds ++ d ∷ []) ≡ run
 runs_more [] d = omega arith
 runs_more (Ran f ∷ ds) d = let rest = runs_more ds d in omega arith
 runs_more (Passed f ∷ ds) d = runs_more ds d
+
+pub runs_on : (most left : ℕ) (ds : List Deed) (d : Deed) → runs_in ds + left ≡ most → 0 < left → HadRuns most ds → HadRuns most (ds ++ d ∷ [])
+runs_on most left [] (Ran f) count some had = (omega arith, tt)
+runs_on most left [] (Passed f) count some had = (omega arith, tt)
+runs_on most left (Ran g ∷ ds) d count some had = (had.0, runs_on (most - 1) left ds d (omega arith) some had.1)
+runs_on most left (Passed g ∷ ds) d count some had = (had.0, runs_on most left ds d count some had.1)
 
 -- a turn of an agenda that has entries
 pub turned : {T C J E F : Type 0} {ts : Tables T} {cs : ClockCalls C E} {js : JobCalls T J F} {most : ℕ} {ds : List Deed} {c : C} {a : Listed T} {j : J}
@@ -95,19 +101,35 @@ pub ends_as_it_was : {T : Type 0} (P Q : Type 0) (a b : Listed T) → (P × (b �
 ends_as_it_was P Q a b (inl none) = none.1
 ends_as_it_was P Q a b (inr ended) = ended.0
 
-due_is_done : {T J E F : Type 0} (ts : Tables T) (js : JobCalls T J F) (t : ℤ) (most left : ℕ) (ds : List Deed) (a : Listed T) (j : J) (b : Listed T) (k : J)
+pub due_is_done : {T J E F : Type 0} (ts : Tables T) (js : JobCalls T J F) (t : ℤ) (most left : ℕ) (ds : List Deed) (a : Listed T) (j : J) (b : Listed T) (k : J)
     → RunsDue {E = E} ts js t most ds a j (Ok left) b k → AreDone ts js t ds a j b k
 due_is_done ts js t most left ds a j b k runs =
     subst (λ x. AreDone ts js t ds a j x k) (sym (ends_as_it_was _ _ runs.agenda b runs.ends.2))
     (subst (λ y. AreDone ts js t ds a j runs.agenda y) (sym runs.ends.1) runs.are_done)
 
-look_is_done : {T J E F : Type 0} (ts : Tables T) (js : JobCalls T J F) (most left : ℕ) (ds : List Deed) (look : Result Timestamp E) (a : Listed T) (j : J)
-    (b : Listed T) (k : J) → Looks ts js most ds look a j (Ok (Some left)) b k → (t : ℤ) × AreDone ts js t ds a j b k
-look_is_done ts js most left ds (Ok now) a j b k runs = (now.nanosecond, due_is_done ts js now.nanosecond most left ds a j b k runs)
-look_is_done ts js most left ds (Err e) a j b k failed = absurd (let no = failed.0 in cc)
+look_shown : {T J E F : Type 0} (ts : Tables T) (js : JobCalls T J F) (most left : ℕ) (ds : List Deed) (look : Result Timestamp E) (a : Listed T) (j : J)
+    (b : Listed T) (k : J) → Looks ts js most ds look a j (Ok (Some left)) b k
+    → (now : Timestamp) × (shown_by look ≡ now ∷ []) × RunsDue {E = E} ts js now.nanosecond most ds a j (Ok left) b k
+look_shown ts js most left ds (Ok now) a j b k runs = (now, refl, runs)
+look_shown ts js most left ds (Err e) a j b k failed = absurd (let no = failed.0 in cc)
 
--- the deeds of a turn that goes well were done by the time that its look showed
+-- a turn that goes well did what was due by the time that its look showed
+pub turn_shown : {T C J E F : Type 0} (ts : Tables T) (cs : ClockCalls C E) (js : JobCalls T J F) (most left : ℕ) (ds : List Deed) (c : C) (a : Listed T) (j : J)
+    (d : C) (b : Listed T) (k : J) (turn : Turns ts cs js most ds c a j (Ok (Some left)) d b k)
+    → (now : Timestamp) × (shown_at ts cs js most ds c a j (Ok (Some left)) d b k turn ≡ now ∷ [])
+    × RunsDue {E = E} ts js now.nanosecond most ds a j (Ok left) b k
+turn_shown ts cs js most left ds c a j d b k (inl none) = absurd (let no = none.0 in cc)
+turn_shown ts cs js most left ds c a j d b k (inr turn) = look_shown ts js most left ds turn.look a j b k turn.looks
+
+-- so its deeds were done by that time
 pub turn_is_done : {T C J E F : Type 0} (ts : Tables T) (cs : ClockCalls C E) (js : JobCalls T J F) (most left : ℕ) (ds : List Deed) (c : C) (a : Listed T) (j : J)
     (d : C) (b : Listed T) (k : J) → Turns ts cs js most ds c a j (Ok (Some left)) d b k → (t : ℤ) × AreDone ts js t ds a j b k
-turn_is_done ts cs js most left ds c a j d b k (inl none) = absurd (let no = none.0 in cc)
-turn_is_done ts cs js most left ds c a j d b k (inr turn) = look_is_done ts js most left ds turn.look a j b k turn.looks
+turn_is_done ts cs js most left ds c a j d b k turn =
+    let looked = turn_shown ts cs js most left ds c a j d b k turn in
+    (looked.0.nanosecond, due_is_done ts js looked.0.nanosecond most left ds a j b k looked.2)
+
+-- where runs are left behind turns, some were left before them
+pub some_left : {T C J E F : Type 0} (ts : Tables T) (cs : ClockCalls C E) (js : JobCalls T J F) (dss : List (List Deed)) (most left : ℕ) (c : C) (a : Listed T)
+    (j : J) (c' : C) (a' : Listed T) (j' : J) → AreTurns ts cs js dss most c a j left c' a' j' → 0 < left → 0 < most
+some_left ts cs js [] most left c a j c' a' j' none some = subst (λ n. 0 < n) none.0 some
+some_left ts cs js (ds ∷ dss) most left c a j c' a' j' turns some = turns.0

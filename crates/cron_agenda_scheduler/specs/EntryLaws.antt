@@ -1,5 +1,6 @@
 -- What the deeds of looks and of whole runs are of the fires of one entry, while jobs add and remove others.
-use Rattle.std.specs.Prelude.{◌≡◌, ◌<◌, ◌≤◌, ◌-◌, ◌^◌, ◌==◌, ℕ, ℤ, List, [], ◌∷◌, ◌++◌, Result, Ok, Err, ⊤, filter, flat_map, length, map}
+use Rattle.std.specs.Prelude.{◌≡◌, ◌⊎◌, ◌<◌, ◌≤◌, ◌-◌, ◌^◌, ◌==◌, ℕ, ℤ, List, [], ◌∷◌, ◌++◌, Result, Ok, Err, ⊤, filter, flat_map, length, map}
+use Rattle.jiff_core.specs.declared.Timestamp.{Timestamp}
 use Rattle.jiff_tz.specs.declared.timezone.TimeZone.{TimeZone}
 use Rattle.cron_units.specs.Sets.{Sets}
 use Rattle.cron_agenda.specs.declared.entry.Entry.{Entry}
@@ -12,9 +13,9 @@ use Rattle.cron_agenda.specs.Merged.{AllAscend, Ascend, left}
 use Rattle.cron_agenda_scheduler.specs.declared.stop.AgendaStop.TheVariants.{Job}
 use Rattle.cron_agenda_scheduler.specs.Late.{Tables}
 use Rattle.cron_agenda_scheduler.specs.Laws.{FailsFor}
-use Rattle.cron_agenda_scheduler.specs.Turns.{AreDone, AreTurns, Deed, JobCalls, RunsDue, all_taken, job_calls, taken}
+use Rattle.cron_agenda_scheduler.specs.Turns.{AreDone, AreTurns, Deed, JobCalls, RunsDue, TakeFewer, all_taken, job_calls, shown_in, taken}
 use Rattle.cron_fires.specs.Rules.{is_by}
-use Rattle.cron_scheduler.specs.Runs.{ClockCalls}
+use Rattle.cron_scheduler.specs.Runs.{ClockCalls, is_due}
 
 -- the entry with this id, where it is there
 abbrev pub with_id : {T : Type 0} → ℕ → List (Entry T) → List (Entry T)
@@ -49,13 +50,15 @@ EntryDeedsAreItsFires {T} {J} ts js id =
     → AreDone ts (keeping id js) t deeds a j a' j'
     → left_with ts id a.entries ≡ fires_with id (taken deeds) ++ left_with ts id a'.entries
 
--- .. where the job failed, so are they with the fire behind them for which it failed ..
+-- .. where the job failed, so are they with the fire behind them for which it failed, which was due too if it was one of them ..
 abbrev pub EntryFailureIsTaken : {T J F : Type 0} → Tables T → JobCalls T J F → ℕ → Type 0 → Type 0
 EntryFailureIsTaken {T} {J} {F} ts js id E =
     (t : ℤ) (most : ℕ) (deeds : List Deed) (a : Listed T) (j : J) (e : F) (a' : Listed T) (j' : J)
     → IsOneAtMost id a.entries
     → RunsDue {E = E} ts (keeping id js) t most deeds a j (Err (Job e)) a' j'
-    → (f : AgendaFire) × (left_with ts id a.entries ≡ fires_with id (taken deeds ++ f ∷ []) ++ left_with ts id a'.entries) × FailsFor js f e a' j'
+    → (f : AgendaFire) × (left_with ts id a.entries ≡ fires_with id (taken deeds ++ f ∷ []) ++ left_with ts id a'.entries)
+    × (filter (is_by instant t) (left_with ts id a.entries) ≡ fires_with id (taken deeds ++ f ∷ []) ++ filter (is_by instant t) (left_with ts id a'.entries))
+    × FailsFor js f e a' j'
 
 -- .. they are all that was due of it, where runs were left and fewer than 2^64 - 1 fires were taken ..
 abbrev pub EntryDeedsAreAllDue : {T J F : Type 0} → Tables T → JobCalls T J F → ℕ → Type 0 → Type 0
@@ -76,6 +79,24 @@ EntryDeedsBeginThat {T} {J} ts js id =
     → AreDone ts (keeping id js) t deeds a j a' j'
     → filter (is_by instant t) (left_with ts id a.entries) ≡ fires_with id (taken deeds) ++ filter (is_by instant t) (left_with ts id a'.entries)
 
+-- a run of the job leaves the entry with this id as it is, or removes it, where that id was given before, and the id stays given
+abbrev pub MayRemove : {T J F : Type 0} → ℕ → JobCalls T J F → Type 0
+MayRemove {T} {J} {F} id js =
+    (j : J) (f : AgendaFire) (a : Listed T) (answer : Result ⊤ F) (j' : J) (a' : Listed T)
+    → id < a.added
+    → js.runs j f a answer j' a'
+    → ((with_id id a'.entries ≡ with_id id a.entries) ⊎ (with_id id a'.entries ≡ [])) × (id < a'.added)
+
+-- Of an entry that a run of the job may remove, they are the first that were due.
+abbrev pub RemovalCutsThat : {T J F : Type 0} → Tables T → JobCalls T J F → ℕ → Type 0
+RemovalCutsThat {T} {J} ts js id =
+    (t : ℤ) (deeds : List Deed) (a : Listed T) (j : J) (a' : Listed T) (j' : J)
+    → MayRemove id js
+    → id < a.added
+    → IsOneAtMost id a.entries
+    → AreDone ts js t deeds a j a' j'
+    → (rest : List EntryFire) × (filter (is_by instant t) (left_with ts id a.entries) ≡ fires_with id (taken deeds) ++ rest)
+
 -- Over whole turns too they are the first of its fires. An entry that isn't there has none left, so one that was removed fires no more.
 abbrev pub EntryTurnsAreItsFires : {T C J E F : Type 0} → Tables T → ClockCalls C E → JobCalls T J F → ℕ → Type 0
 EntryTurnsAreItsFires {T} {C} {J} ts cs js id =
@@ -83,6 +104,31 @@ EntryTurnsAreItsFires {T} {C} {J} ts cs js id =
     → IsOneAtMost id a.entries
     → AreTurns ts cs (keeping id js) turns most c a j left c' a' j'
     → left_with ts id a.entries ≡ fires_with id (all_taken turns) ++ left_with ts id a'.entries
+
+-- of some fires those up to the greatest of these times
+abbrev pub due_by : List Timestamp → List EntryFire → List EntryFire
+due_by times fires = filter (is_due instant times) fires
+
+-- However whole turns end, what was due of it by the times that the clock showed begins with them, and what it still has due comes behind ..
+abbrev pub EntryTurnsBeginThat : {T C J E F : Type 0} → Tables T → ClockCalls C E → JobCalls T J F → ℕ → Type 0
+EntryTurnsBeginThat {T} {C} {J} ts cs js id =
+    (turns : List (List Deed)) (most left : ℕ) (c : C) (a : Listed T) (j : J) (c' : C) (a' : Listed T) (j' : J)
+    → IsOneAtMost id a.entries
+    → (are : AreTurns ts cs (keeping id js) turns most c a j left c' a' j')
+    → (times : List Timestamp)
+    → times ≡ shown_in ts cs (keeping id js) turns most c a j left c' a' j' are
+    → due_by times (left_with ts id a.entries) ≡ fires_with id (all_taken turns) ++ due_by times (left_with ts id a'.entries)
+
+-- .. and they are all of that, where runs were left and fewer than 2^64 - 1 fires were taken in each turn.
+abbrev pub EntryTurnsAreAllDue : {T C J E F : Type 0} → Tables T → ClockCalls C E → JobCalls T J F → ℕ → Type 0
+EntryTurnsAreAllDue {T} {C} {J} ts cs js id =
+    (turns : List (List Deed)) (most left : ℕ) (c : C) (a : Listed T) (j : J) (c' : C) (a' : Listed T) (j' : J)
+    → IsOneAtMost id a.entries
+    → Ascend (left_with ts id a.entries)
+    → (are : AreTurns ts cs (keeping id js) turns most c a j left c' a' j')
+    → 0 < left
+    → TakeFewer turns
+    → fires_with id (all_taken turns) ≡ due_by (shown_in ts cs (keeping id js) turns most c a j left c' a' j' are) (left_with ts id a.entries)
 
 -- a run of the job leaves the entry with this id as it is, where that id was given before, and the id stays given
 abbrev pub KeepsEntry : {T J F : Type 0} → ℕ → JobCalls T J F → Type 0

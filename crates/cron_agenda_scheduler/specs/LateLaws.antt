@@ -6,7 +6,7 @@ use Rattle.cron_agenda.specs.Entries.{Listed}
 use Rattle.cron_agenda_scheduler.specs.declared.lateness.Lateness.{Lateness}
 use Rattle.cron_agenda_scheduler.specs.declared.lateness.Lateness.TheVariants.{Each, Within, Latest}
 use Rattle.cron_agenda_scheduler.specs.EntryLaws.{keeping, with_id}
-use Rattle.cron_agenda_scheduler.specs.Late.{Tables, is_within}
+use Rattle.cron_agenda_scheduler.specs.Late.{Tables, has_due, is_within}
 use Rattle.cron_agenda_scheduler.specs.Turns.{AreDone, Deed, JobCalls, Passed, Ran, RunsDue, fire_of, taken}
 
 -- the tables of these entries have this lateness
@@ -45,7 +45,20 @@ WithinIsByAge {T} {J} ts js id =
     → AreDone ts (keeping id js) t deeds a j a' j'
     → deeds_with id deeds ≡ map (λ f. done_if (is_within seconds t f.fire) f) (taken (deeds_with id deeds))
 
--- .. and where its last is run alone, for the last one at the look, where runs were left and fewer than 2^64 - 1 fires were taken.
+-- the same at a look, where nothing more is due; where something is, all were passed over
+abbrev pub last_ran_if_none : Bool → List AgendaFire → List Deed
+last_ran_if_none true fs = map Passed fs
+last_ran_if_none false fs = last_ran fs
+
+-- .. where its last is run alone, for the last one, if then none is due any more ..
+abbrev pub LatestRunsNoOther : {T J F : Type 0} → Tables T → JobCalls T J F → ℕ → Type 0
+LatestRunsNoOther {T} {J} ts js id =
+    (t : ℤ) (deeds : List Deed) (a : Listed T) (j : J) (a' : Listed T) (j' : J)
+    → HaveLateness ts Latest (with_id id a.entries)
+    → AreDone ts (keeping id js) t deeds a j a' j'
+    → deeds_with id deeds ≡ last_ran_if_none (has_due t id a'.entries) (taken (deeds_with id deeds))
+
+-- .. and so for the last one at the look, where runs were left and fewer than 2^64 - 1 fires were taken.
 abbrev pub LatestRunsTheLast : {T J F : Type 0} → Tables T → JobCalls T J F → ℕ → Type 0 → Type 0
 LatestRunsTheLast {T} {J} {F} ts js id E =
     (t : ℤ) (most left : ℕ) (deeds : List Deed) (a : Listed T) (j : J) (a' : Listed T) (j' : J)

@@ -114,3 +114,18 @@ WhatWasTaken {T} {C} {J} {E} {F} ts cs js =
     → (last : List AgendaFire)
     × TookLast ts cs js (length run.deeds) run.left run.clock run.agenda run.job answer c' a' j' run.ends last
     × AreTaken ts.schedules ts.zones (all_taken run.deeds ++ last) a.entries a'.entries
+
+-- Past all of these, each entry is added anew after a restart. So a run that was cut anywhere, and one from those entries, take together what
+-- one that isn't cut would take, fire for fire.
+abbrev pub RestartedAnywhereIsOne : {T C J E F : Type 0} → (ts : Tables T) → ClockCalls C E → JobCalls T J F → Type 0
+RestartedAnywhereIsOne {T} {C} {J} ts cs js =
+    (fires : List AgendaFire) (second : List (List Deed)) (more rest low high from end : ℕ) (e g : C) (a b n z : Listed T) (l m : J)
+    → LeavesAgenda js
+    → AllAscend ts.schedules ts.zones a.entries
+    → HaveIds low a.entries high
+    → HaveIds from n.entries end
+    → AreTaken ts.schedules ts.zones fires a.entries b.entries
+    → IsAnew ts.schedules ts.zones fires a.entries n.entries
+    → AreTurns ts cs js second more e n l rest g z m
+    → map (λ o. o.fire) (merged ts.schedules ts.zones a.entries)
+    ≡ (map (λ f. f.fire) fires ++ map (λ f. f.fire) (all_taken second)) ++ map (λ o. o.fire) (merged ts.schedules ts.zones z.entries)

@@ -1,5 +1,6 @@
 -- What the loop over an agenda does: turn after turn, each a wait, a look at the clock, and all that is due then.
 use Rattle.std.specs.Prelude.{◌≡◌, ◌⊎◌, ◌+◌, ◌-◌, ◌^◌, ◌<◌, ◌*ℤ◌, ℕ, ℤ, pos, Bool, true, false, Option, Some, None, List, [], ◌∷◌, ◌++◌, Result, Ok, Err, ⊤, length, map}
+use Rattle.std.proofs.Common.{inl, inr}
 use Rattle.std.specs.Option.{is_some}
 use Rattle.jiff_core.specs.declared.Timestamp.{Timestamp}
 use Rattle.cron_agenda.specs.declared.entry.Entry.{Entry}
@@ -48,6 +49,12 @@ abbrev pub AreDone : {T J F : Type 0} → Tables T → JobCalls T J F → ℤ �
 AreDone ts js t [] a j a' j' = (a' ≡ a) × (j' ≡ j)
 AreDone {T} {J} ts js t (d ∷ ds) a j a' j' = (b : Listed T) × (k : J) × IsDone ts js t d a j b k × AreDone ts js t ds b k a' j'
 
+-- before each of these deeds the job might still be run, of so many runs
+abbrev pub HadRuns : ℕ → List Deed → Type 0
+HadRuns most [] = Unit {0}
+HadRuns most (Ran f ∷ ds) = (0 < most) × HadRuns (most - 1) ds
+HadRuns most (Passed f ∷ ds) = (0 < most) × HadRuns most ds
+
 -- What came behind these deeds, where the job may be run so often: nothing was due any more, the job was run so often, or 2^64 - 1 fires
 -- were taken; or a zone was missing; or the job failed for one more.
 abbrev pub EndsTurn : {T J E F : Type 0} → Tables T → JobCalls T J F → ℤ → ℕ → List Deed → Listed T → J → Result ℕ (AgendaStop E F) → Listed T → J → Type 0
@@ -59,12 +66,19 @@ EndsTurn ts js t most ds a j (Err (Zone why)) a' j' = (runs_in ds < most) × (j'
 EndsTurn {T} ts js t most ds a j (Err (Job e)) a' j' =
     (runs_in ds < most) × (f : AgendaFire) × (b : Listed T) × IsPicked ts t a f true b × js.runs j f b (Err e) j' a'
 
--- these deeds with all that was due by t, from an agenda and a job to what they were afterwards, up to what ended it
+-- what an error prints, by what the errors in it print
+abbrev pub stop_text : {E F : Type 0} → (E → Option (List ℕ)) → Option (List ℕ) → (F → Option (List ℕ)) → AgendaStop E F → Option (List ℕ)
+stop_text clock missing job (Clock e) = clock e
+stop_text clock missing job (Zone why) = missing
+stop_text clock missing job (Job f) = job f
+
+-- these deeds with all that was due by t, from an agenda and a job to what they were afterwards, up to what ended it, or to the last run
 pub record RunsDue {T J E F : Type 0} (ts : Tables T) (js : JobCalls T J F) (t : ℤ) (most : ℕ) (ds : List Deed) (a : Listed T) (j : J)
     (answer : Result ℕ (AgendaStop E F)) (a' : Listed T) (j' : J) : Type 0 where
   pub agenda : Listed T
   pub job : J
   pub are_done : AreDone ts js t ds a j agenda job
+  pub had_runs : HadRuns most ds
   pub ends : EndsTurn ts js t most ds agenda job answer a' j'
 
 -- after a look at the clock
@@ -115,6 +129,28 @@ AreTurns {T} {C} {J} ts cs js (ds ∷ dss) most c a j left c' a' j' =
 abbrev pub all_taken : List (List Deed) → List AgendaFire
 all_taken [] = []
 all_taken (ds ∷ dss) = taken ds ++ all_taken dss
+
+-- in each of them fewer than 2^64 - 1 were taken
+abbrev pub TakeFewer : List (List Deed) → Type 0
+TakeFewer [] = Unit {0}
+TakeFewer (ds ∷ dss) = (length ds < 2 ^ 64 - 1) × TakeFewer dss
+
+-- the time that a look showed, if it went well
+abbrev pub shown_by : {E : Type 0} → Result Timestamp E → List Timestamp
+shown_by (Ok now) = now ∷ []
+shown_by (Err e) = []
+
+abbrev pub shown_at : {T C J E F : Type 0} (ts : Tables T) (cs : ClockCalls C E) (js : JobCalls T J F) (most : ℕ) (ds : List Deed) (c : C) (a : Listed T) (j : J)
+    (answer : Result (Option ℕ) (AgendaStop E F)) (c' : C) (a' : Listed T) (j' : J) → Turns ts cs js most ds c a j answer c' a' j' → List Timestamp
+shown_at ts cs js most ds c a j answer c' a' j' (inl none) = []
+shown_at ts cs js most ds c a j answer c' a' j' (inr turn) = shown_by turn.look
+
+-- the times that the clock showed in all of them, in order
+abbrev pub shown_in : {T C J E F : Type 0} (ts : Tables T) (cs : ClockCalls C E) (js : JobCalls T J F) (dss : List (List Deed)) (most : ℕ) (c : C) (a : Listed T)
+    (j : J) (left : ℕ) (c' : C) (a' : Listed T) (j' : J) → AreTurns ts cs js dss most c a j left c' a' j' → List Timestamp
+shown_in ts cs js [] most c a j left c' a' j' are = []
+shown_in ts cs js (ds ∷ dss) most c a j left c' a' j' are =
+    shown_at ts cs js most ds c a j (Ok (Some are.1)) are.2 are.3 are.4 are.5 ++ shown_in ts cs js dss are.1 are.2 are.3 are.4 left c' a' j' are.6
 
 -- how often the job was run in all of them
 abbrev pub all_runs : List (List Deed) → ℕ

@@ -18,6 +18,15 @@ pub enum AgendaStop<C, J> {
 }
 
 impl<C: fmt::Display, J: fmt::Display> fmt::Display for AgendaStop<C, J> {
+    ghost use Rattle.std.specs.Prelude.{None};
+    ghost use Rattle.cron_agenda.specs.Messages.{zone_missing_text};
+    ghost use Rattle.cron_agenda_scheduler.specs.Turns.{stop_text};
+
+    ghost output = { λ stop. stop_text C.output (Some zone_missing_text) J.output stop };
+
+    ghost styled_output = { λ stop spec.
+        stop_text (λ e. C.styled_output e spec) None (λ e. J.styled_output e spec) stop };
+
     fn fmt<W: fmt::Write>(&self, f: &mut fmt::Formatter<W>) -> fmt::Result {
         match self {
             AgendaStop::Clock(error) => error.fmt(f),

@@ -63,8 +63,8 @@ fn tell_short(
     write!(text, "\n")
 }
 
-/// Makes the line that tells the first fire of a table after an instant, or `none`: of one
-/// schedule, or of several as one, whose first fire is that of any.
+/// Makes the line that tells the first fire of a table after an instant, or `none` where it fires no
+/// more. It takes the place of what the text held. Out of memory the text may hold a part of it.
 pub fn tell_first<T: Timetable>(
     front: &str,
     number: u64,
@@ -73,10 +73,10 @@ pub fn tell_first<T: Timetable>(
     zone: &TimeZone<'_>,
     text: &mut String,
 ) -> Result<(), AllocError>
-    requires { string_bytes text.old ≡ [] }
     ensures { OnOk result (TellsFirst (T.schedules table.now) (plain_zone zone.now)
         start.nanosecond front.now number (string_bytes text.new)) }
 {
+    text.clear();
     match first_fire_after(table, start, zone) {
         Some(first) => writeln!(text, "{front}{number}: {first}"),
         None => writeln!(text, "{front}{number}: none"),

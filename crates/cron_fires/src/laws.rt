@@ -5,8 +5,8 @@ ghost use Rattle.cron_fires.specs.DueLaws.{BothRulesAgree, CutDueRunsGoOn, CutDu
 ghost use Rattle.cron_fires.specs.Laws.{AgreeingZonesTellApart, CutRunsGoOn, CutRunsPastGoOn, CutStretchesGoOn, FiresAreTheItems, LoopsAreRuns, NextIsPast, OneScheduleIsATable, StretchesAreJoined, StretchesHaveTheirItems};
 ghost use Rattle.cron_unions.specs.UnionLaws.{FiresAscend};
 
-/// One schedule has the items, the fires and the due fires of the table that has it alone. So what a call
-/// tells of that table holds in the words of one schedule.
+/// One schedule has the items, the fires and the due fires of the table that has it alone. So what
+/// a call tells of that table holds in the words of one schedule.
 pub fn one_schedule()
     ensures { OneScheduleIsATable }
 {}

@@ -6,8 +6,8 @@ use cron::Schedule;
 use cron_units::fields::ScheduleFields;
 use std::slice;
 
-/// What fires. Contracts see the schedules that it is made of, and all calls of this crate take
-/// one. A type of your own that keeps schedules lends them, and is a table too.
+/// A table, which is what fires. Contracts see its schedules, and the calls that tell fires take
+/// any table. A type of your own that lends its schedules is one too.
 ///
 /// ```text
 /// impl<'a> Timetable for Job<'a> {

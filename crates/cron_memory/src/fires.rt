@@ -43,8 +43,10 @@ pub fn run_unions(rt: &HostRuntime, schedule: &Schedule) -> Result<(), Error> {
     let both = Union { schedules: &two };
     let merged = Fires::between(&both, start, end, &zone).take(9).count();
     println!(rt; "Fires of a union: {merged}")?;
-    let nine = [fields_of(schedule); 9];
-    let many = Union { schedules: &nine };
+    let thirteen = [fields_of(schedule); 13];
+    let many = Union {
+        schedules: &thirteen,
+    };
     let searched = Fires::between(&many, start, end, &zone).take(9).count();
     println!(rt; "Fires of many schedules: {searched}")?;
     let dues = Dues::between(schedule, start, end, &zone).take(9).count();

@@ -4,6 +4,7 @@ use crate::unions::Union;
 use anyhow::Result;
 use cron_dues::fire::DueFire;
 use cron_fires::{Dues, Union as Table, first_due_after, first_due_past, last_due_by, missed_dues};
+use cron_units::fields::ScheduleFields;
 use jiff::Timestamp;
 use jiff::tz::TimeZone;
 use std::alloc::{AllocError, Global};
@@ -38,8 +39,25 @@ fn calls_after(alloc: Global, union: Union<'_>, start: Timestamp, count: usize) 
     Ok(text)
 }
 
+// So many due fires of a table after an instant.
+fn dues_after(
+    alloc: Global,
+    schedules: &[ScheduleFields],
+    zone: &TimeZone<'_>,
+    start: Timestamp,
+    count: usize,
+) -> Result<String> {
+    let table = Table { schedules };
+    let mut text = String::new(alloc);
+    let mut run = Dues::after(&table, start, zone);
+    for _ in 0..count {
+        add_fire(&mut text, &run.next())?;
+    }
+    Ok(text)
+}
+
 /// So many due fires after an instant by calls one after another, or else, where these are what is
-/// wanted, those of a run.
+/// wanted, those of a run, and of one over more schedules than are merged.
 pub(crate) fn after(
     alloc: Global,
     union: Union<'_>,
@@ -47,18 +65,15 @@ pub(crate) fn after(
     wanted: &str,
     count: usize,
 ) -> Result<String> {
-    let mut text = calls_after(alloc, union, start, count)?;
+    let text = calls_after(alloc, union, start, count)?;
     if text.as_str() != wanted {
         return Ok(text);
     }
-    let schedules = union.schedules;
-    let table = Table { schedules };
-    let mut run = Dues::after(&table, start, union.zone);
-    text.clear();
-    for _ in 0..count {
-        add_fire(&mut text, &run.next())?;
+    let text = dues_after(alloc, union.schedules, union.zone, start, count)?;
+    if text.as_str() != wanted {
+        return Ok(text);
     }
-    Ok(text)
+    dues_after(alloc, union.many, union.zone, start, count)
 }
 
 // The due fires between two instants, as a list of what was missed.
@@ -95,21 +110,37 @@ fn first_and_past(
     Ok(text)
 }
 
-/// The due fires between two instants, as a list of what was missed or else by those past the
-/// first.
+// The due fires of a table between two instants, as a list of what was missed or else by those past
+// the first.
+fn dues_between(
+    alloc: Global,
+    schedules: &[ScheduleFields],
+    zone: &TimeZone<'_>,
+    last: Timestamp,
+    now: Timestamp,
+    wanted: &str,
+) -> Result<String> {
+    let table = Table { schedules };
+    let text = missed_between(alloc, &table, zone, last, now)?;
+    if text.as_str() != wanted {
+        return Ok(text);
+    }
+    first_and_past(alloc, &table, zone, last, now)
+}
+
+/// The due fires between two instants, or else, where these are what is wanted, those over more
+/// schedules than are merged.
 pub(crate) fn between(
     alloc: Global,
     union: Union<'_>,
     (last, now): (Timestamp, Timestamp),
     wanted: &str,
 ) -> Result<String> {
-    let schedules = union.schedules;
-    let table = Table { schedules };
-    let text = missed_between(alloc, &table, union.zone, last, now)?;
+    let text = dues_between(alloc, union.schedules, union.zone, last, now, wanted)?;
     if text.as_str() != wanted {
         return Ok(text);
     }
-    first_and_past(alloc, &table, union.zone, last, now)
+    dues_between(alloc, union.many, union.zone, last, now, wanted)
 }
 
 /// The last due fire by an instant.

@@ -24,7 +24,7 @@ fn schedules_of(alloc: Global, expressions: &str) -> Result<Vec<ScheduleFields>>
 }
 
 // How often each schedule stands in the list of many, which has more than are merged then.
-const TIMES: usize = 9;
+const TIMES: usize = 13;
 
 /// Several schedules in a zone.
 #[derive(Clone, Copy)]
@@ -35,11 +35,14 @@ pub(crate) struct Union<'a> {
     pub(crate) zone: &'a TimeZone<'a>,
 }
 
-// The schedules, and again, many times.
+// Each of the schedules so many times, the first before all others: a run that merges some of them
+// merges that one alone.
 fn repeat(alloc: Global, schedules: &[ScheduleFields]) -> Result<Vec<ScheduleFields>> {
     let mut many = Vec::new(alloc);
-    for _ in 0..TIMES {
-        many.extend_from_slice(schedules)?;
+    for fields in schedules {
+        for _ in 0..TIMES {
+            many.push(*fields)?;
+        }
     }
     Ok(many)
 }

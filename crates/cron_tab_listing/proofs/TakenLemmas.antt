@@ -1,13 +1,10 @@
 -- Fires that were taken one after another.
-use Rattle.std.proofs.Common.{◌≡◌, ℕ, ℤ, true, List, [], ◌∷◌, ◌++◌, Some, inr, refl, sym, ap, subst, ◌∙◌, arith}
+use Rattle.std.proofs.Common.{◌≡◌, ℕ, ℤ, List, [], ◌∷◌, ◌++◌, Some, inr, refl, sym, ap, subst, ◌∙◌}
 use Rattle.std.specs.Prelude.{◌<◌, length, None, Result, Ok, Err, ⊤}
-use Rattle.std.proofs.lemmas.Int.{ints}
 use Rattle.jiff_tz.specs.declared.timezone.TimeZone.{TimeZone}
-use Rattle.cron_instants.specs.Order.{comes_before}
 use Rattle.cron_agenda.specs.declared.entry.Entry.{Entry}
 use Rattle.cron_agenda.specs.declared.fire.AgendaFire.{AgendaFire}
-use Rattle.cron_agenda.specs.Entries.{ComesFirst, IsBeforeAll, Listed, TakesDue, is_before}
-use Rattle.cron_agenda.specs.Fires.{instant}
+use Rattle.cron_agenda.specs.Entries.{ComesFirst, Listed, TakesDue}
 use Rattle.cron_agenda.specs.Merged.{AllAscend, merged}
 use Rattle.cron_agenda.proofs.AheadLemmas.{first-one}
 use Rattle.cron_agenda.proofs.MergeLemmas.{taken_is_first}
@@ -70,6 +67,6 @@ module _ (zones : List TimeZone) (t : ℤ) (limit : ℕ) (old : Listed TabEntry)
   pub lists-error : (error : ListError) → length more < limit → IsPushed zones t mid middle (Err error) after new
       → Lists zones t limit old before (Err error) after new
   lists-error (Zone why) less pushed =
-      lists-so zones t limit old before more (Err (Zone why)) after new (pushed.1 ∙ is) (still pushed.0.1)
-      (less, subst (λ a. TakesDue schedules_of zones t a (Err why) a) (sym pushed.0.1) (pushed.0.0, refl))
+      lists-so zones t limit old before more (Err (Zone why)) after new (pushed.1 ∙ is) (still pushed.0.2)
+      (less, subst (λ a. TakesDue schedules_of zones t a (Err why) a) (sym pushed.0.2) (pushed.0.0, pushed.0.1, refl))
   lists-error OutOfMemory less pushed = lists-so zones t limit old before more (Err OutOfMemory) after new (pushed.1 ∙ is) (still pushed.0) less

@@ -1,7 +1,7 @@
 -- What errors print.
 use Rattle.std.specs.Prelude.{ℕ, List, ◌++◌, codes}
 use Rattle.std.specs.Fmt.{decimal}
-use Rattle.cron_agenda.specs.Messages.{add_error_text}
+use Rattle.cron_agenda.specs.Messages.{add_error_text, zone_missing_text}
 use Rattle.cron_tab_listing.specs.declared.error.LineError.{LineError}
 use Rattle.cron_tab_listing.specs.declared.error.LineError.TheVariants.{ZoneLine, NotAdded}
 use Rattle.cron_tab_listing.specs.declared.error.ListError.{ListError}
@@ -13,5 +13,5 @@ line_error_text (ZoneLine number) =
 line_error_text (NotAdded number why) = codes "line " ++ (decimal number ++ (codes ": " ++ add_error_text why))
 
 abbrev pub list_error_text : ListError → List ℕ
-list_error_text (Zone missing) = codes "the zone of the entry that comes first is not lent"
+list_error_text (Zone missing) = zone_missing_text
 list_error_text OutOfMemory = codes "out of memory"

@@ -1,5 +1,5 @@
 //! When the entries of a crontab's file fire: its lines' entries in one agenda, and their fires in
-//! one order, by instant and then by line.
+//! one order, by instant, and of one instant as their entries were added.
 #![tactic(auto)]
 
 mod adding;

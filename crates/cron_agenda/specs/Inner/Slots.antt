@@ -1,5 +1,5 @@
 -- Slots of entries. One whose entry is gone stays for a while, and has no fire.
-use Rattle.std.specs.Prelude.{◌≡◌, ℕ, ◌+◌, ◌-◌, ◌^◌, ◌⊎◌, ◌≤◌, ℤ, Result, Ok, Err, Option, Some, None, IfSome, MatchOption, List, [], ◌∷◌, ◌++◌, length, map, slice_get}
+use Rattle.std.specs.Prelude.{◌≡◌, ℕ, ◌+◌, ◌-◌, ◌^◌, ◌⊎◌, ◌<◌, ◌≤◌, ℤ, Result, Ok, Err, Option, Some, None, IfSome, MatchOption, List, [], ◌∷◌, ◌++◌, length, map, slice_get}
 use Rattle.std.specs.Option.{option_map}
 use Rattle.cron_agenda.specs.declared.entry.Entry.{Entry}
 use Rattle.cron_agenda.specs.declared.fire.EntryFire.{EntryFire}
@@ -93,5 +93,6 @@ IsOwn s answer = MatchOption answer (s.head ≡ None) (λ e. (s.head ≡ Some e.
 -- an entry is added with this next fire; or nothing changes, for want of ids or of memory that wasn't there already
 abbrev pub Inserts : {T : Type 0} → T → ℕ → EntryFire → Listed T → Result ℕ AddError → Listed T → Type 0
 Inserts table zone fire old (Ok id) new =
-    (id ≡ old.added) × (new ≡ listed (old.entries ++ entry id table zone fire ∷ []) (old.added + 1) (old.room - 1))
-Inserts table zone fire old (Err why) new = (((why ≡ NoIds) × (old.added ≡ 2 ^ 64 - 1)) ⊎ ((why ≡ OutOfMemory) × (old.room ≡ 0))) × (new ≡ old)
+    (id ≡ old.added) × (new ≡ listed (old.entries ++ entry id table zone fire ∷ []) (old.added + 1) (old.room - 1)) × (old.added < 2 ^ 64 - 1)
+Inserts table zone fire old (Err why) new =
+    (((why ≡ NoIds) × (old.added ≡ 2 ^ 64 - 1)) ⊎ ((why ≡ OutOfMemory) × (old.added < 2 ^ 64 - 1) × (old.room ≡ 0))) × (new ≡ old)

@@ -100,9 +100,9 @@ fn the_first_fire_of_any_is_told(rt: HostRuntime) {
         ("2024-02-09T00:00:00Z", "a:7: 2024-02-13 00:00:00 +00:00\n"),
         ("2100-12-31T00:00:00Z", "a:7: none\n"),
     ];
+    let mut text = String::new(rt.alloc());
     for (start, told) in rows {
         let now = start.parse().expect(&rt, "an instant");
-        let mut text = String::new(rt.alloc());
         tell_first("a:", 7, &table, now, &TimeZone::UTC, &mut text).expect(&rt, "memory");
         check_same_at(&rt, &start, text.as_str(), told);
     }

@@ -4,7 +4,7 @@ use Rattle.jiff.specs.Words.{plain_zone}
 use Rattle.cron_agenda_scheduler.specs.Inner.Picks.{Picks}
 use Rattle.cron_agenda_scheduler.specs.Late.{tables}
 use Rattle.cron_agenda_scheduler.specs.Turns.{Passed, Ran, job_calls}
-use Rattle.cron_agenda_scheduler.proofs.TurnLemmas.{done_on, picked_as, runs_more}
+use Rattle.cron_agenda_scheduler.proofs.TurnLemmas.{done_on, picked_as, runs_more, runs_on}
 use Rattle.cron_agenda_scheduler.proofs.turns.run_due.Goals as goal
 use Rattle.cron_agenda_scheduler.proofs.turns.run_due.Goals.{then-pick+in_default-run, else-pick}
 
@@ -15,6 +15,7 @@ returns-then-left-eq0 g c = (
     agenda = c.loop.agenda;
     job = c.loop.job;
     are_done = c.loop.invariant.3;
+    had_runs = c.loop.invariant.4;
     ends = (let count = c.loop.invariant.2 in let none = c.if-left-eq0.true in omega arith, refl, inr (refl, inl refl));
   },
 )
@@ -27,6 +28,7 @@ returns-in_default g c =
         agenda = c.loop.agenda;
         job = c.loop.job;
         are_done = c.loop.invariant.3;
+        had_runs = c.loop.invariant.4;
         ends = (c.loop.invariant.2, refl, inl (subst (λ o. Picks ts c.args.now.nanosecond c.loop.agenda (Ok o) c.take_due.new.agenda) c.in_default.is c.in-Ok.ensures));
       },
     )
@@ -38,6 +40,7 @@ returns-in-Err g c = (
     agenda = c.loop.agenda;
     job = c.loop.job;
     are_done = c.loop.invariant.3;
+    had_runs = c.loop.invariant.4;
     ends = (let count = c.loop.invariant.2 in let some = c.if-left-eq0.false in omega arith, refl, c.in-Err.ensures);
   },
 )
@@ -50,6 +53,7 @@ returns-in-Err-run g c =
         agenda = c.loop.agenda;
         job = c.loop.job;
         are_done = c.loop.invariant.3;
+        had_runs = c.loop.invariant.4;
         ends = (
           let count = c.loop.invariant.2 in let some = c.if-left-eq0.false in omega arith,
           c.in-Some.pick.due,
@@ -81,6 +85,7 @@ loop-preserved g c =
               picked_as ts c.args.now.nanosecond c.loop.agenda _ c.in-Some.pick c.take_due.new.agenda true c.in-Some.is w.if-pick.true c.in-Ok.ensures,
               w.in_default-run.ensures,
             ),
+        runs_on c.args.most c.loop.left ds (Ran f) count (omega (arith, some)) c.loop.invariant.4,
       )
       | else-pick w ↦ rw (w.left-is, w.agenda-is, w.job-is) (
         ds ++ Passed f ∷ [],
@@ -91,6 +96,7 @@ loop-preserved g c =
               picked_as ts c.args.now.nanosecond c.loop.agenda _ c.in-Some.pick c.take_due.new.agenda false c.in-Some.is w.if-pick.false c.in-Ok.ensures,
               w.pass_over.ensures,
             ),
+        runs_on c.args.most c.loop.left ds (Passed f) count (omega (arith, some)) c.loop.invariant.4,
       )
     ]
 
@@ -101,6 +107,7 @@ returns g c = (
     agenda = c.loop.agenda;
     job = c.loop.job;
     are_done = c.loop.invariant.3;
+    had_runs = c.loop.invariant.4;
     ends = (c.loop.invariant.2, refl, inr (refl, inr (omega (arith, c.loop.invariant.1))));
   },
 )

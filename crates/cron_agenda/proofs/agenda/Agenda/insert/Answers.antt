@@ -64,4 +64,4 @@ returns g c =
     let items : c.push-2.new.self.items ≡ c.self.inside.slots.items ++ slot ∷ [] =
     c.push-2.ensures.items ∙ ap (λ b. cond b (c.try_reserve.new.self.items ++ slot ∷ []) c.try_reserve.new.self.items) went
     ∙ ap (λ l. l ++ slot ∷ []) c.try_reserve.ensures.items in
-    rw (← c.self.view_is, c.skip_added.ensures, c.saturating_sub-self-inside.ensures) (refl, ap (λ es. listed es (c.self.inside.added + 1) (c.self.inside.room - 1)) (ap entries_of items ∙ entries-more c.self.inside.slots.items c.self.inside.added c.args.table c.args.zone c.args.fire))
+    rw (← c.self.view_is, c.skip_added.ensures, c.saturating_sub-self-inside.ensures) (refl, ap (λ es. listed es (c.self.inside.added + 1) (c.self.inside.room - 1)) (ap entries_of items ∙ entries-more c.self.inside.slots.items c.self.inside.added c.args.table c.args.zone c.args.fire), omega (arith, c.if-self.false))
