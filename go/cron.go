@@ -46,7 +46,10 @@ func Parse(text string) (*Schedule, error) {
 
 // ParseCrontab reads an expression of a crontab, five fields as "30 9 * * mon-fri", or a nickname.
 // Where neither the third nor the fifth field begins with a star one kind of day suffices. The
-// error is a TextError, also of `@reboot`, which no clock fires.
+// error is a TextError, also of `@reboot`, which no clock fires, and of a text of two lines.
+//
+// Both crons let it follow the clock where its minute or hour begins with a star, or it is
+// `@hourly`; take any other one Under(Once). The zone of a crontab's CRON_TZ isn't told.
 func ParseCrontab(text string) (*Schedule, error) {
 	read, err := parseCrontab(text)
 	if err != nil {

@@ -17,7 +17,7 @@ import (
 const (
 	replayed = "../crates/cron_replay/data/"
 	crontabs = "../crates/cron_tab_rows/data/"
-	shell    = "../crates/crontool/data/"
+	shell    = "../crates/crontool/cases/"
 )
 
 // The zones that rows of the years from 2008 on name otherwise than the zone database.

@@ -201,7 +201,7 @@ func TestPagesOfFiresThatShareAMoment(t *testing.T) {
 func TestRefusals(t *testing.T) {
 	for text, read := range map[string]func(string) (*cron.Schedule, error){
 		"": cron.Parse, "\xff": cron.Parse, "30 9 * * 1": cron.Parse,
-		"@reboot": cron.ParseCrontab, "0 9 * * \xff": cron.ParseCrontab,
+		"@reboot": cron.ParseCrontab, "0 9 * * \xff": cron.ParseCrontab, "0\n9 * * *": cron.ParseCrontab,
 	} {
 		var refusal *cron.TextError
 		if _, err := read(text); !errors.As(err, &refusal) || refusal.Text != text || refusal.Message == "" {

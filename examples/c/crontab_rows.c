@@ -190,12 +190,40 @@ static void arguments(void)
     CHECK(read_text("* * * * \xff", 9, ROOM) == CRON_C_NOT_UTF8 && count == 0 && needed == 0 && nothing_is_written());
 }
 
+/* Reads a text of two lines or more, and compares the message that refuses it. */
+static void are_lines(const char *text, const char *told)
+{
+    CHECK(read_text(text, strlen(text), ROOM) == CRON_C_REFUSED && count == 0 && nothing_is_written());
+    CHECK(needed == strlen(told) && memcmp(message, told, needed) == 0);
+}
+
+/* A line feed, or a carriage return, stands in an expression at its end alone, and a line feed in a line. */
+static void lines(void)
+{
+    static const char *const two[] = { "0 9 * * * a\n0 10 * * * b", "# a\n0 10 * * * b", "\n0 10 * * * b", "A=b\nc", "0 9 * * * a\n\n" };
+    static const char told[] = "a line feed stands within the line: each line is read by itself";
+    are_lines("0\n9 * * *", "'9' stands behind a line break: an expression is one line");
+    are_lines("0\r9 * * *", "'9' stands behind a line break: an expression is one line");
+    are_lines("0 9 * * *\n0 10 * * *", "'0' stands behind a line break: an expression is one line");
+    are_lines("\r\n@daily", "'@daily' stands behind a line break: an expression is one line");
+    CHECK(read_text("0 9 * * *\r\n \n", 13, ROOM) == CRON_C_OK && count == 1 && needed == 0);
+    for (uint32_t is_system = 0; is_system < 2; is_system++) {
+        for (size_t at = 0; at < sizeof two / sizeof *two; at++) {
+            CHECK(read_line(two[at], strlen(two[at]), is_system) == CRON_C_REFUSED && count == 0);
+            CHECK(needed == strlen(told) && memcmp(message, told, needed) == 0);
+        }
+        CHECK(read_line("0 9 * * * a b\n", 14, is_system) == CRON_C_OK && count == 1 && needed == 0);
+        CHECK(read_line("A=b\n", 4, is_system) == CRON_C_NO_ITEM && count == 0 && needed == 0);
+    }
+}
+
 int main(void)
 {
     replay_file(ROWS "lines.tsv", replay_crons);
     replay_file(ROWS "messages.txt", replay_messages);
     replay_file(ROWS "files.tsv", replay_line);
     arguments();
+    lines();
     tell_held("crontabs");
     return 0;
 }

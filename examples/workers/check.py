@@ -19,13 +19,15 @@ import time
 from contextlib import closing
 from datetime import datetime, timezone
 from glob import glob
-from typing import Any, Dict, Iterator, List, Set, Tuple
+from itertools import groupby
+from typing import Any, Dict, Iterable, Iterator, List, NamedTuple, Set, Tuple
 from zoneinfo import ZoneInfo
 
 import psycopg2
+from psycopg2.extras import execute_values
 
-from cron_c import DueFire
-from workers import Job, Worker, add_jobs, schedule_of
+from cron_c import Schedule
+from workers import Fire, Worker
 
 HERE = pathlib.Path(__file__).resolve().parent
 WORKERS, JOBS, KILLS = 4, 2_000, 30
@@ -35,7 +37,17 @@ BATCH, PAUSE = 50, 0.02
 START, END = datetime(2022, 3, 12, tzinfo=timezone.utc), datetime(2022, 11, 8, tzinfo=timezone.utc)
 SECONDS = 10
 
+ADD = "insert into jobs (id, expression, zone, rule, last) values %s"
 ZONES = 5 * ["America/Chicago"] + ["America/New_York", "Europe/Berlin", "Australia/Lord_Howe", "UTC"]
+
+
+class Job(NamedTuple):
+    """What is run, and when."""
+
+    id: int
+    expression: str
+    zone: str
+    rule: str
 
 
 def jobs() -> Iterator[Job]:
@@ -113,13 +125,13 @@ def work(folder: pathlib.Path, name: str, began: float) -> None:
     """One worker. What its jobs do is a line of a file each, and so no part of the database."""
     with open(folder / f"{name}.done", "a", buffering=1) as done:
 
-        def deed(cursor: Any, job: Job, fire: DueFire) -> None:
-            done.write(f"{job.id} {fire.moment.timestamp():.0f} {fire.nominal}\n")
+        def deed(cursor: Any, fire: Fire) -> None:
+            done.write(f"{fire.job} {fire.moment.timestamp():.0f} {fire.place}\n")
 
         worker = Worker(lambda: connect(folder), lambda: made_up_clock(began), deed, BATCH)
         signal.signal(signal.SIGTERM, worker.stop)
         worker.run(PAUSE)
-    print(worker.seconds, worker.database_seconds)
+    print(worker.seconds, worker.seconds - worker.deed_seconds)
 
 
 class Team:
@@ -192,25 +204,33 @@ def run(folder: pathlib.Path, server: Server) -> str:
     )
 
 
-Note = Tuple[int, int, str]
+Note = Tuple[int, int, int]
+
+
+def schedule_of(expression: str) -> Schedule:
+    """The schedule of six fields, or of a crontab's five or its nickname."""
+    return Schedule.crontab(expression) if len(expression.split()) <= 5 else Schedule(expression)
+
+
+def placed(moments: Iterable[datetime]) -> Iterator[Tuple[int, int]]:
+    """Moments in order, each with its place among those that are the same."""
+    for moment, same in groupby(int(it.timestamp()) for it in moments):
+        yield from ((moment, place) for place, _ in enumerate(same, 1))
 
 
 def expected(job: Job) -> Set[Note]:
-    """The fires of a job by one list of the library."""
+    """The fires of a job by one list of the library for Python."""
     start = START.astimezone(ZoneInfo(job.zone))
-    schedule = schedule_of(job.expression)
-    if job.rule == "once":
-        return {(job.id, int(it.moment.timestamp()), str(it.nominal)) for it in schedule.dues(start, END)}
-    return {(job.id, int(it.timestamp()), str(it.replace(tzinfo=None))) for it in schedule.between(start, END)}
+    moments = schedule_of(job.expression).fires(start, END, clock_changes=job.rule)
+    return {(job.id, *it) for it in placed(moments)}
 
 
 def compare(folder: pathlib.Path) -> str:
     """Holds the notes, and what was done, against the lists. Returns how many fires there were."""
     wanted = set().union(*map(expected, jobs()))
-    rows = ask(folder, "select job, extract(epoch from moment), nominal from fires")
-    noted = [(job, int(moment), str(nominal)) for job, moment, nominal in rows]
-    lines = [line.split(" ", 2) for path in folder.glob("*.done") for line in path.read_text().splitlines()]
-    done = [(int(job), int(moment), nominal) for job, moment, nominal in lines]
+    noted = ask(folder, "select job, extract(epoch from moment)::bigint, place from fires")
+    lines = [line.split() for path in folder.glob("*.done") for line in path.read_text().splitlines()]
+    done = [(int(job), int(moment), int(place)) for job, moment, place in lines]
     missing, other, undone = wanted - set(noted), set(noted) - wanted, wanted - set(done)
     if len(noted) != len(set(noted)) or missing or other or undone:
         sys.exit(f"{len(noted)} notes: {len(missing)} are missing, {len(other)} are of no fire, {len(undone)} weren't run")
@@ -227,7 +247,7 @@ def main() -> None:
         try:
             with closing(connect(folder)) as database, database.cursor() as cursor:
                 cursor.execute((HERE / "schema.sql").read_text())
-                add_jobs(cursor, jobs(), START)
+                execute_values(cursor, ADD, [(*job, START) for job in jobs()])
                 database.commit()
             figures = run(folder, server)
             print(compare(folder))

@@ -1,14 +1,14 @@
 -- Beside the tables of a database that is there already: jobs, and a note of each fire that was run.
 
+create extension if not exists varpsilt;
+
 create table jobs (
     id bigint primary key,
-    expression text not null,                 -- five fields are a crontab's, six or seven are not
-    zone text not null,                       -- its name in the zone database
+    expression cron not null,
+    zone text not null,
     rule text not null check (rule in ('as_shown', 'once')),
-    last_moment timestamptz,                  -- the last fire that was noted
-    last_nominal timestamp,
-    due timestamptz,                          -- the next fire; null where it fires no more
-    nominal timestamp                         -- what its clock shows then, or by the rule `once` what it passed over
+    last timestamptz not null,                -- the last fire that was noted, or where the job begins
+    due timestamptz generated always as (next(expression, last, zone, rule)) stored -- null where it fires no more
 );
 
 create index on jobs (due);
@@ -16,6 +16,6 @@ create index on jobs (due);
 create table fires (
     job bigint not null references jobs,
     moment timestamptz not null,
-    nominal timestamp not null,
-    primary key (job, moment, nominal)
+    place bigint not null,                    -- by the rule `once` matches that a clock passes over together share their moment
+    primary key (job, moment, place)
 );

@@ -1,4 +1,4 @@
-"""Workers over a table of jobs. Each claims what is due, does it, notes the fire, and moves the job on, in one transaction.
+"""Workers over a table of jobs. Each claims what is due, notes it, moves the jobs on, and does it, in one transaction.
 
     python3 workers.py 'dbname=mine'    is one worker, whose jobs print a line; begin as many as you like
 """
@@ -8,68 +8,35 @@ from __future__ import annotations
 import signal
 import sys
 import time
-from contextlib import closing, contextmanager
+from contextlib import closing
 from datetime import datetime, timezone
-from functools import lru_cache
-from typing import Any, Callable, Iterable, Iterator, List, NamedTuple, Optional
-from zoneinfo import ZoneInfo
+from typing import Any, Callable, List, NamedTuple
 
 import psycopg2
-from psycopg2.extras import execute_values
 
-from cron_c import DueFire, Schedule
-
+# A job that was moved on is due by its next fire, since the server knows it by the column `last`.
 CLAIM = """
-    select id, expression, zone, rule, due, nominal from jobs
-    where due <= %s order by due limit %s for update skip locked
+    with claimed as (
+        select id, expression, zone, rule, last, due from jobs where due <= %s order by due limit %s for update skip locked
+    ), moved as (
+        update jobs set last = claimed.due from claimed where jobs.id = claimed.id
+    )
+    insert into fires
+    select id, moment, place from claimed, fires(expression, last, due, zone, rule) with ordinality as it (moment, place)
+    returning job, moment, place
 """
-NOTE = "insert into fires (job, moment, nominal) values %s"
-MOVE_ON = """
-    update jobs set last_moment = jobs.due, last_nominal = jobs.nominal, due = told.due, nominal = told.nominal
-    from (values %s) as told (id, due, nominal) where jobs.id = told.id
-"""
-ADD = "insert into jobs (id, expression, zone, rule, due, nominal) values %s"
 
 
-class Job(NamedTuple):
-    """What is run, and when."""
+class Fire(NamedTuple):
+    """What is run, and when: of the fires that share their moment the first is 1."""
 
-    id: int
-    expression: str
-    zone: str
-    rule: str
+    job: int
+    moment: datetime
+    place: int
 
 
 # What a job does at a fire. It may use the cursor: what it does in the database counts with the note.
-Deed = Callable[[Any, Job, DueFire], None]
-
-
-@lru_cache(maxsize=None)
-def schedule_of(expression: str) -> Schedule:
-    """The schedule of six fields, or of a crontab's five."""
-    return Schedule.crontab(expression) if len(expression.split()) == 5 else Schedule(expression)
-
-
-def fire_at(moment: Optional[datetime]) -> Optional[DueFire]:
-    """The fire of a match that the clock shows."""
-    return None if moment is None else DueFire(moment, moment.replace(tzinfo=None, fold=0))
-
-
-def first_fire(job: Job, start: datetime) -> Optional[DueFire]:
-    """The first fire after an instant."""
-    schedule, shown = schedule_of(job.expression), start.astimezone(ZoneInfo(job.zone))
-    return next(schedule.dues(shown), None) if job.rule == "once" else fire_at(schedule.after(shown))
-
-
-def next_fire(job: Job, fire: DueFire) -> Optional[DueFire]:
-    """The fire that comes after one of this job."""
-    schedule = schedule_of(job.expression)
-    return next(schedule.dues(fire), None) if job.rule == "once" else fire_at(schedule.after(fire.moment))
-
-
-def add_jobs(cursor: Any, jobs: Iterable[Job], start: datetime) -> None:
-    """Adds jobs that fire after an instant."""
-    execute_values(cursor, ADD, [(*job, *(first_fire(job, start) or (None, None))) for job in jobs])
+Deed = Callable[[Any, Fire], None]
 
 
 def is_broken(error: psycopg2.Error) -> bool:
@@ -83,40 +50,24 @@ class Worker:
     def __init__(self, connect: Callable[[], Any], now: Callable[[], datetime], deed: Deed, batch: int = 1) -> None:
         self._connect, self._now, self._deed, self._batch = connect, now, deed, batch
         self.is_stopped = False
-        self.seconds, self.database_seconds = 0.0, 0.0
+        self.seconds, self.deed_seconds = 0.0, 0.0
 
-    @contextmanager
-    def _database(self) -> Iterator[None]:
-        """Counts the time in here as the database's."""
+    def _do(self, cursor: Any, fires: List[Fire]) -> None:
         begun = time.perf_counter()
-        try:
-            yield
-        finally:
-            self.database_seconds += time.perf_counter() - begun
-
-    def _claim(self, cursor: Any) -> List[tuple[Job, DueFire]]:
-        """Locks jobs that are due and that no other worker has locked."""
-        with self._database():
-            cursor.execute(CLAIM, (self._now(), self._batch))
-            rows = cursor.fetchall()
-        return [(Job(*job), DueFire(due.astimezone(ZoneInfo(job[2])), nominal)) for *job, due, nominal in rows]
+        for fire in fires:
+            self._deed(cursor, fire)
+        self.deed_seconds += time.perf_counter() - begun
 
     def run_due(self, database: Any) -> int:
-        """Runs one fire of each of some jobs that are due, and returns how many."""
+        """Runs what is due first of some jobs that no other worker has locked, and returns how many fires there were."""
         begun = time.perf_counter()
         cursor = database.cursor()
-        claimed = self._claim(cursor)
-        moves = []
-        for job, fire in claimed:
-            self._deed(cursor, job, fire)
-            moves.append((job.id, *(next_fire(job, fire) or (None, None))))
-        with self._database():
-            if claimed:
-                execute_values(cursor, NOTE, [(job.id, *fire) for job, fire in claimed], page_size=self._batch)
-                execute_values(cursor, MOVE_ON, moves, "(%s, %s::timestamptz, %s::timestamp)", self._batch)
-            database.commit()
+        cursor.execute(CLAIM, (self._now(), self._batch))
+        fires = [Fire(*row) for row in cursor.fetchall()]
+        self._do(cursor, fires)
+        database.commit()
         self.seconds += time.perf_counter() - begun
-        return len(claimed)
+        return len(fires)
 
     def run(self, pause: float) -> None:
         """Runs what comes due until it is stopped, and connects anew where a connection breaks. Then the jobs without a note
@@ -139,8 +90,8 @@ class Worker:
 def main() -> None:
     """One worker over the clock of the machine."""
 
-    def say(cursor: Any, job: Job, fire: DueFire) -> None:
-        print(job.id, fire, flush=True)
+    def say(cursor: Any, fire: Fire) -> None:
+        print(fire.job, fire.moment, flush=True)
 
     worker = Worker(lambda: psycopg2.connect(sys.argv[1]), lambda: datetime.now(timezone.utc), say)
     signal.signal(signal.SIGTERM, worker.stop)

@@ -85,6 +85,10 @@ class Answers(unittest.TestCase):
         self.assertEqual(schedule.after(chicago(2026, 3, 8, 1, 50), clock_changes="once"), moments[2])
         self.assertEqual(schedule.before(chicago(2026, 3, 8, 3, 10), clock_changes="once"), moments[3])
 
+    def test_line_breaks_at_the_end(self):
+        for end in ("\n", "\r\n", " \n\n", "\r \t\r\n"):
+            self.assertEqual(Schedule.crontab("\t0 9  * * *" + end), Schedule.crontab("0 9 * * *"))
+
     def test_nicknames(self):
         self.assertEqual(Schedule.crontab("@daily"), Schedule("0 0 0 * * *"))
         self.assertEqual(Schedule.crontab("@weekly"), Schedule("0 0 0 * * Sun"))
@@ -103,6 +107,9 @@ class Answers(unittest.TestCase):
             Schedule.crontab_line("* * * * *")
         with self.assertRaisesRegex(TextError, "no user"):
             Schedule.crontab_line("* * * * *", system=True)
+        for lines in ("0 9 * * * a\n0 10 * * * b", "# a\n0 10 * * * b", "A=b\n0 10 * * * b", "\n0 10 * * * b"):
+            with self.assertRaisesRegex(TextError, "^a line feed stands within the line: each line is read by itself$"):
+                Schedule.crontab_line(lines)
 
     def test_it_is_pickled_as_its_text(self):
         schedule = Schedule.crontab("0 0 13 * fri")
@@ -117,6 +124,9 @@ class Refusals(unittest.TestCase):
     def test_a_text_is_refused_with_its_message(self):
         with self.assertRaisesRegex(TextError, "^minute: '60': 60 is not one of 0 to 59$"):
             Schedule.crontab("60 * * * *")
+        for text in ("0\n9 * * *", "0\r9 * * *", "0 8 * * *\n9", "\r\n9 * * * *"):
+            with self.assertRaisesRegex(TextError, "^'9' stands behind a line break: an expression is one line$"):
+                Schedule.crontab(text)
         for text in ("", "0 0 9 * * Mon-Fri", "0 9 * *", "@Daily", "0 9 ? * *", "\udc80"):
             with self.assertRaises(ValueError, msg=text):
                 Schedule.crontab(text)

@@ -22,6 +22,7 @@ mod parses;
 mod quartz;
 mod rounds;
 mod sorted;
+mod starts;
 mod tabs;
 mod turns;
 mod unions;

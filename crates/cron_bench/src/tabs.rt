@@ -1,8 +1,9 @@
-//! What crontabs cost: expressions of five fields beside those of six, a file of 100,000 lines, and
-//! the next fires of many entries.
+//! What crontabs cost: expressions of five fields beside those of six, a file of 100,000 lines,
+//! the next fires of many entries, and the start of a run of them.
 
 use crate::lines::{LINES, varied_lines};
 use crate::rounds::least_cost;
+use crate::starts::time_start;
 use crate::walks::CHICAGO;
 use anyhow::{Context, Result, ensure};
 use cron_agenda::Agenda;
@@ -76,7 +77,7 @@ fn count_entries(file: &[u8]) -> u32 {
 fn count_of_text(text: &str, expression: &Expression) -> u32 {
     let mut count: u32 = 0;
     for warning in WARNINGS {
-        if warns(warning, text, expression) {
+        if warns(Crontab::User, warning, text, expression) {
             count = count.wrapping_add(1);
         }
     }
@@ -174,5 +175,6 @@ pub fn run(rt: &HostRuntime) -> Result<()> {
     let file = crontab_of(rt.alloc(), lines.as_slice(), LINES)?;
     time_lines(rt, file.as_slice())?;
     let entries = crontab_of(rt.alloc(), lines.as_slice(), ENTRIES)?;
-    time_fires(rt, entries.as_slice())
+    time_fires(rt, entries.as_slice())?;
+    time_start(rt, entries.as_slice(), ENTRIES)
 }

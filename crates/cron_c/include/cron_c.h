@@ -161,7 +161,11 @@ uint32_t cron_c_parse(const char *text, size_t text_length,
  * any of them does: give all of them to the calls over several schedules (below). Each is read at
  * second 0, in all years. `@reboot`, which no clock fires, is read into none: `*count` is 0 with
  * CRON_C_OK for this word alone. An expression that never fires, as `0 22-2 * * *`, is read as any
- * other. What Debian's cron and cronie read otherwise than each other is refused.
+ * other. What Debian's cron and cronie read otherwise than each other is refused, and so is a text of
+ * two lines.
+ *
+ * Not told is whether an entry follows the clock: both crons let one do so whose minute or hour begins
+ * with `*`, and `@hourly`. Fire those by the fires, and all others by the due fires.
  *
  * CRON_C_OK, CRON_C_REFUSED, CRON_C_NOT_UTF8 or CRON_C_UNTOLD, and the message as by `cron_c_parse`; or
  * CRON_C_MORE where they are more than `schedules_length`, and nothing is written but their number in
@@ -187,7 +191,11 @@ uint32_t cron_c_quartz_parse(const char *text, size_t text_length,
 /*
  * Reads a line of a crontab, without its line feed, into the schedules of its entry, as
  * `cron_c_crontab_parse` reads an expression. With `is_system` 0 the crontab is a user's own; with any
- * other number its entries name a user behind the fields. Any bytes but NUL may stand in a command.
+ * other number its entries name a user behind the fields. Any bytes but NUL may stand in a command,
+ * and a line feed at its end alone: a text of two lines is refused.
+ *
+ * `CRON_TZ=ZONE` is answered as any other setting, and its zone isn't told: find such a line by its
+ * name, since in cronie the entries below it fire in that zone.
  *
  * CRON_C_OK, CRON_C_REFUSED, CRON_C_UNTOLD or CRON_C_MORE, with `*count` and the message as by
  * `cron_c_crontab_parse`; or CRON_C_NO_ITEM where the line is blank, a comment or a setting, with

@@ -1,12 +1,10 @@
 -- Changes one after another.
-use Rattle.std.proofs.Common.{◌≡◌, ℕ, ◌<◌, ◌≤◌, true, false, ◌&&◌, cond, List, [], ◌∷◌, ◌++◌, length, inl, inr, refl, sym, ap, ◌∙◌, nat_lt, arith}
+use Rattle.std.proofs.Common.{◌≡◌, ◌≢◌, ℕ, ◌<◌, ◌≤◌, true, false, ◌&&◌, cond, List, [], ◌∷◌, ◌++◌, length, inl, inr, refl, sym, ap, ◌∙◌, subst, nat_lt, arith}
 use Rattle.std.proofs.lemmas.Bool.{cases_lt, le-leb, le-ltb, lt-leb, lt-ltb}
 use Rattle.jiff_tz.specs.declared.timezone.TimeZone.{TimeZone}
-use Rattle.cron_clocks.specs.Steady.{IsKnown, readings_at}
-use Rattle.cron_clocks.specs.declared.stretch.Stretch.{Stretch}
 use Rattle.cron_moments.specs.Readings.{readings}
 use Rattle.cron_calendar.specs.declared.changes.Change.{Change}
-use Rattle.cron_calendar.specs.Changes.{has_second, times_told}
+use Rattle.cron_calendar.specs.Changes.{AreChanges, AreShown, IsChange, has_second, times_told}
 
 -- none of the changes has it
 abbrev pub none_has : List Change → ℕ → Type 0
@@ -50,12 +48,9 @@ told_none : (xs : List Change) (c : ℕ) → none_has xs c → times_told xs c �
 told_none [] c none = refl
 told_none (x ∷ xs) c none = ap (λ b. cond b x.times (times_told xs c)) none.0 ∙ told_none xs c none.1
 
-module _ (z : TimeZone) (first : ℕ) (xs : List Change) (x : Change) (st : Stretch) (known : IsKnown z st) (from : st.first ≤ x.first)
-    (to : x.end ≤ st.end) (times : (c : ℕ) → x.times ≡ length (readings_at c st.earlier st.later)) (told : AreToldTo z first x.first xs) (some : x.first ≤ x.end) where
-  here : (c : ℕ) → x.first ≤ c → c < x.end → length (readings z c) ≡ x.times
-  here c low high = ap length (known c (omega arith) (omega arith)) ∙ sym (times c)
-
-  -- one that is no single reading is told ..
+module _ (z : TimeZone) (first : ℕ) (xs : List Change) (x : Change) (here : AreShown z x.times x.first x.end) (told : AreToldTo z first x.first xs)
+    (some : x.first ≤ x.end) where
+  -- one that isn't shown once is told ..
   pub told-more : (ys : List Change) → ys ≡ xs ++ x ∷ [] → AreToldTo z first x.end ys
   told-more ys e = rw e (record {
     told = λ c low high. elim (cases_lt c x.first) [
@@ -67,7 +62,7 @@ module _ (z : TimeZone) (first : ℕ) (xs : List Change) (x : Change) (st : Stre
     behind = λ c low. none-more xs x c (told.behind c (omega arith)) (past x c low);
   })
 
-  -- .. and of a single one nothing is
+  -- .. and of others nothing is
   pub told-kept : (ys : List Change) → ys ≡ xs → x.times ≡ 1 → AreToldTo z first x.end ys
   told-kept ys e single = rw e (record {
     told = λ c low high. elim (cases_lt c x.first) [
@@ -76,3 +71,56 @@ module _ (z : TimeZone) (first : ℕ) (xs : List Change) (x : Change) (st : Stre
     ];
     behind = λ c low. told.behind c (omega arith);
   })
+
+-- ---- all changes up to a civil second
+
+-- those of an end that begin before another civil second
+abbrev pub AreChangesTo : TimeZone → ℕ → ℕ → ℕ → List Change → Type 0
+AreChangesTo z end to at [] = (at ≤ to) × AreShown z 1 at to
+AreChangesTo z end to at (x ∷ xs) = (at ≤ x.first) × AreShown z 1 at x.first × IsChange z end x × AreChangesTo z end to x.end xs
+
+pub changes-more : (z : TimeZone) (end at : ℕ) (xs : List Change) (x : Change) → AreChangesTo z end x.first at xs → IsChange z end x
+    → AreChangesTo z end x.end at (xs ++ x ∷ [])
+changes-more z end at [] x are is = (are.0, are.1, is, (omega arith, λ c low high. absurd (omega arith)))
+changes-more z end at (y ∷ xs) x are is = (are.0, are.1, are.2, changes-more z end y.end xs x are.3 is)
+
+pub changes-kept : (z : TimeZone) (end to more at : ℕ) (xs : List Change) → to ≤ more → AreChangesTo z end to at xs → AreShown z 1 to more
+    → AreChangesTo z end more at xs
+changes-kept z end to more at [] on are once = (
+  omega (arith, are.0),
+  λ c low high. elim (cases_lt c to) [
+    | inl less ↦ are.1 c low less
+    | inr past_it ↦ once c past_it high
+  ],
+)
+changes-kept z end to more at (x ∷ xs) on are once = (are.0, are.1, are.2, changes-kept z end to more x.end xs on are.3 once)
+
+pub changes-all : (z : TimeZone) (end to at : ℕ) (xs : List Change) → end ≤ to → AreChangesTo z end to at xs → AreChanges z end at xs
+changes-all z end to at [] past_it are = λ c low high. are.1 c low (omega arith)
+changes-all z end to at (x ∷ xs) past_it are = (are.0, are.1, are.2, changes-all z end to x.end xs past_it are.3)
+
+-- what is known up to a civil second
+abbrev pub Known : TimeZone → ℕ → ℕ → ℕ → List Change → Type 0
+Known z end first at xs = AreToldTo z first at xs × AreChangesTo z end at first xs
+
+-- a change more
+pub known-more : (z : TimeZone) (end first at : ℕ) (xs : List Change) (x : Change) → x.first ≡ at → at < x.end → x.end ≤ end → x.times ≢ 1
+    → AreShown z x.times at x.end → (x.end < end → length (readings z x.end) ≢ x.times) → Known z end first at xs
+    → (ys : List Change) → ys ≡ xs ++ x ∷ [] → Known z end first x.end ys
+known-more z end first at xs x e some within other shown whole known ys is =
+    let here : AreShown z x.times x.first x.end = subst (λ (k : ℕ). AreShown z x.times k x.end) (sym e) shown in
+    let before : Known z end first x.first xs = subst (λ (k : ℕ). Known z end first k xs) (sym e) known in
+    let change : IsChange z end x = record { some = omega (arith, e, some); within = within; not_once = other; shown = here; whole = whole } in (
+      told-more z first xs x here before.0 (omega (arith, e, some)) ys is,
+      subst (AreChangesTo z end x.end first) (sym is) (changes-more z end first xs x before.1 change),
+    )
+
+-- civil seconds that are shown once
+pub known-kept : (z : TimeZone) (end first at : ℕ) (xs : List Change) (x : Change) → x.first ≡ at → at < x.end → x.times ≡ 1 → AreShown z x.times at x.end
+    → Known z end first at xs → Known z end first x.end xs
+known-kept z end first at xs x e some single shown known =
+    let here : AreShown z x.times x.first x.end = subst (λ (k : ℕ). AreShown z x.times k x.end) (sym e) shown in
+    let before : Known z end first x.first xs = subst (λ (k : ℕ). Known z end first k xs) (sym e) known in (
+      told-kept z first xs x here before.0 (omega (arith, e, some)) xs refl single,
+      changes-kept z end x.first x.end first xs (omega (arith, e, some)) before.1 (subst (λ (n : ℕ). AreShown z n x.first x.end) single here),
+    )

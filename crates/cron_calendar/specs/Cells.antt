@@ -21,15 +21,26 @@ abbrev pub day_cell : Option ℕ → List ℕ
 day_cell None = blank_cell
 day_cell (Some day) = 32 ∷ four_columns day
 
--- from 10,000 on the thousands, as `86k`; a point for none
+-- tenths as a number with one place, `1.0` of 10
+abbrev pub tenths : ℕ → List ℕ
+tenths n = (48 + n / 10 % 10) ∷ 46 ∷ (48 + n % 10) ∷ []
+
+-- a number of 32 bits in four columns: from 10,000 on cut to `86k`, `1.0M`, ` 10M` or `1.0G`
+abbrev pub number_columns : ℕ → List ℕ
+number_columns n =
+    if nat_lt n 10_000 then four_columns n
+    else (if nat_lt n 1_000_000 then three_columns (n / 1000) ++ codes "k"
+    else (if nat_lt n 10_000_000 then tenths (n / 100_000) ++ codes "M"
+    else (if nat_lt n 1_000_000_000 then three_columns (n / 1_000_000) ++ codes "M" else tenths (n / 100_000_000) ++ codes "G")))
+
 abbrev pub number_cell : ℕ → List ℕ
-number_cell n = if nat_lt n 10_000 then 32 ∷ four_columns n else (32 ∷ three_columns (n / 1000)) ++ codes "k"
+number_cell n = 32 ∷ number_columns n
 
 -- green where colours are wanted
 abbrev pub coloured : Bool → List ℕ → List ℕ
 coloured colour text = if colour then (27 ∷ codes "[32m") ++ (text ++ 27 ∷ codes "[0m") else text
 
--- the number of fires of a day
+-- the number of fires of a day, a point for none
 abbrev pub fires_cell : Bool → ℕ → List ℕ
 fires_cell colour n = if nat_lt 0 n then coloured colour (number_cell n) else codes "    ."
 

@@ -5,3 +5,5 @@ pub mod Changes
 pub mod Html
 pub mod Plans
 pub mod HtmlLaws
+pub mod Shapes
+pub mod Pages

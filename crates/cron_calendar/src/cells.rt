@@ -1,6 +1,6 @@
 //! The cells of a grid: five columns, with a number on the right.
-ghost use Rattle.std.specs.Prelude.{◌≡◌, ◌++◌, ◌<◌, OnOk};
-ghost use Rattle.cron_calendar.specs.Cells.{count_cell, day_cell, digit_from, fires_cell, four_columns, number_cell, three_columns};
+ghost use Rattle.std.specs.Prelude.{◌≡◌, ◌++◌, ◌∷◌, ◌<◌, [], OnOk};
+ghost use Rattle.cron_calendar.specs.Cells.{count_cell, day_cell, digit_from, fires_cell, four_columns, number_cell, number_columns, tenths, three_columns};
 
 use std::alloc::AllocError;
 
@@ -50,17 +50,47 @@ pub(crate) fn push_day(page: &mut Vec<u8>, day: Option<u32>) -> Result<(), Alloc
     page.extend_from_slice(&four_columns(day))
 }
 
-// Pushes a number, from 10,000 on its thousands.
+// Tenths as a number with one place, `1.0` of 10.
+fn tenths(number: u32) -> [u8; 3]
+    ensures { result ≡ tenths number }
+{
+    [
+        b'0' + (number / 10 % 10) as u8,
+        b'.',
+        b'0' + (number % 10) as u8,
+    ]
+}
+
+// Three columns and a unit.
+fn with_unit(columns: [u8; 3], unit: u8) -> [u8; 4]
+    ensures { result ≡ columns ++ unit ∷ [] }
+{
+    [columns[0], columns[1], columns[2], unit]
+}
+
+// A number in four columns, from 10,000 on cut to its thousands, millions or billions.
+fn number_columns(number: u32) -> [u8; 4]
+    ensures { result ≡ number_columns number }
+{
+    if number < 10_000 {
+        four_columns(number)
+    } else if number < 1_000_000 {
+        with_unit(three_columns(number / 1000), b'k')
+    } else if number < 10_000_000 {
+        with_unit(tenths(number / 100_000), b'M')
+    } else if number < 1_000_000_000 {
+        with_unit(three_columns(number / 1_000_000), b'M')
+    } else {
+        with_unit(tenths(number / 100_000_000), b'G')
+    }
+}
+
+// Pushes a number.
 fn push_number(page: &mut Vec<u8>, number: u32) -> Result<(), AllocError>
     ensures { OnOk result (page.new.items ≡ page.old.items ++ number_cell number) }
 {
     page.push(b' ')?;
-    if number < 10_000 {
-        return page.extend_from_slice(&four_columns(number));
-    }
-    page.extend_from_slice(&three_columns(number / 1000))?;
-    page.push(b'k')?;
-    Ok(())
+    page.extend_from_slice(&number_columns(number))
 }
 
 // Pushes a number of fires, which is a point where it is none.

@@ -1,10 +1,10 @@
 //! The civil seconds that a zone skips, or shows twice.
-ghost use Rattle.std.specs.Prelude.{◌≡◌, ◌<◌, ◌≤◌, ℕ, IfOk, length};
+ghost use Rattle.std.specs.Prelude.{◌≡◌, ◌≢◌, ◌<◌, ◌≤◌, ℕ, IfOk, length};
 ghost use Rattle.jiff.specs.Words.{plain_zone};
 ghost use Rattle.cron_clocks.specs.Steady.{readings_at};
 ghost use Rattle.cron_moments.specs.Civil.{seconds_in_range};
 ghost use Rattle.cron_moments.specs.Readings.{readings};
-ghost use Rattle.cron_calendar.specs.Changes.{times_told};
+ghost use Rattle.cron_calendar.specs.Changes.{AreChanges, AreShown, times_told};
 
 use cron_clocks::stretch::Stretch;
 use jiff::tz::TimeZone;
@@ -31,8 +31,41 @@ fn times_of(stretch: &Stretch) -> u32
     }
 }
 
-/// The changes of a zone's clock from a civil second up to an end, which is left out: each civil
-/// second there has as many readings as the first of them tells that holds it, and else one.
+// The end of the civil seconds from one on that a clock shows this often each.
+fn run_end(zone: &TimeZone<'_>, first: u32, end: u32, times: u32) -> u32
+    requires { (first ≤ end) × (end ≤ seconds_in_range) }
+    ensures bounds { (first ≤ result) × (result ≤ end) }
+    ensures shown { AreShown (plain_zone zone.now) times first result }
+    ensures whole { result < end → length (readings (plain_zone zone.now) result) ≢ times }
+{
+    let mut at = first;
+    while at < end {
+        let stretch = Stretch::at(zone, at);
+        if times_of(&stretch) != times {
+            return at;
+        }
+        at = stretch.end.min(end);
+    }
+    at
+}
+
+// The civil seconds from one on that a clock shows as often as it.
+fn change_from(zone: &TimeZone<'_>, first: u32, end: u32) -> Change
+    requires { (first < end) × (end ≤ seconds_in_range) }
+    ensures first { result.first ≡ first }
+    ensures bounds { (first < result.end) × (result.end ≤ end) }
+    ensures shown { AreShown (plain_zone zone.now) result.times first result.end }
+    ensures whole { result.end < end
+        → length (readings (plain_zone zone.now) result.end) ≢ result.times }
+{
+    let stretch = Stretch::at(zone, first);
+    let times = times_of(&stretch);
+    let end = run_end(zone, stretch.end.min(end), end, times);
+    Change { first, end, times }
+}
+
+/// The changes of a zone's clock from a civil second up to an end, which is left out: each is whole,
+/// and the clock shows all other civil seconds there once.
 pub fn changes(
     alloc: Global,
     zone: &TimeZone<'_>,
@@ -40,18 +73,15 @@ pub fn changes(
     end: u32,
 ) -> Result<Vec<Change>, AllocError>
     requires { end ≤ seconds_in_range }
-    ensures { IfOk result (λ changes. (c : ℕ) → first ≤ c → c < end
+    ensures told { IfOk result (λ changes. (c : ℕ) → first ≤ c → c < end
         → length (readings (plain_zone zone.now) c) ≡ times_told changes.items c) }
+    ensures are { IfOk result
+        (λ changes. AreChanges (plain_zone zone.now) end first changes.items) }
 {
     let mut changes = Vec::new(alloc);
     let mut at = first;
     while at < end {
-        let stretch = Stretch::at(zone, at);
-        let change = Change {
-            first: at,
-            end: stretch.end.min(end),
-            times: times_of(&stretch),
-        };
+        let change = change_from(zone, at, end);
         if change.times != 1 {
             changes.push(change)?;
         }

@@ -1,18 +1,28 @@
 //! The page of a year: heat maps by day and by hour, its entries, and a table of its days. It needs
-//! no network and no script. That the texts of entries are escaped and the table holds each day's
-//! number is proved; how the page looks is only tested.
+//! no network and no script. What it holds is proved, but for which numbers its drawings show and
+//! where: these are only tested.
 
-ghost use Rattle.std.specs.Prelude.{◌≤◌};
+ghost use Rattle.std.specs.Prelude.{◌≡◌, ◌+◌, ◌++◌, ◌≤◌, List, IfOk, OnOk, length};
+ghost use Rattle.cron_moments.specs.Civil.{days_in_range};
+ghost use Rattle.cron_calendar.specs.Pages.{IsPage, clock_text, days_text, head_text, hours_text};
+ghost use Rattle.cron_calendar.specs.declared.html.shapes.Shape.{Shape};
 
 mod escape;
+mod frames;
 mod maps;
-mod pieces;
+pub(crate) mod pieces;
+mod shapes;
 mod style;
 mod tables;
 
 use crate::html::escape::push_escaped;
-use crate::html::maps::{push_days_map, push_hours_map};
+use crate::html::frames::{
+    CLOCK_END, CLOCK_START, DAYS_END, DAYS_SCALE, DAYS_START, HEAD_END, HEAD_START, HEAD_STYLE,
+    HEAD_TITLE, HEAD_ZONE, HOURS_END, HOURS_START, PAGE_END,
+};
+use crate::html::maps::{days_map, hours_map, most_of};
 use crate::html::pieces::{push_number, push_text};
+use crate::html::shapes::push_drawing;
 use crate::html::style::STYLE;
 use crate::html::tables::{push_entries, push_table};
 use std::alloc::{AllocError, Global};
@@ -32,6 +42,8 @@ pub struct Year<'a> {
     pub year: u32,
     /// What the page calls the zone.
     pub zone: &'a [u8],
+    /// The number of its first day, counted from 1970-01-01.
+    pub first: u32,
     /// How many fires each of its days has, from the first on.
     pub days: &'a [u32],
     /// How many fires each of its hours has, 24 for a day.
@@ -42,42 +54,73 @@ pub struct Year<'a> {
     pub changes: &'a [u8],
 }
 
-fn push_head(page: &mut Vec<u8>, year: &Year<'_>) -> Result<(), AllocError> {
-    push_text(
-        page,
-        "<!DOCTYPE html>\n<html lang=\"en\">\n<head>\n<meta charset=\"utf-8\">\n",
-    )?;
-    push_text(
-        page,
-        "<meta name=\"viewport\" content=\"width=device-width\">\n<title>Fires of ",
-    )?;
+// Pushes what stands before the entries.
+fn push_head(page: &mut Vec<u8>, year: &Year<'_>) -> Result<(), AllocError>
+    ensures { OnOk result (page.new.items ≡ page.old.items ++ head_text year.now) }
+{
+    push_text(page, HEAD_START)?;
     push_number(page, year.year)?;
-    push_text(page, "</title>\n<style>")?;
+    push_text(page, HEAD_STYLE)?;
     push_text(page, STYLE)?;
-    push_text(page, "</style>\n</head>\n<body>\n<h1>Fires of ")?;
+    push_text(page, HEAD_TITLE)?;
     push_number(page, year.year)?;
-    push_text(page, "</h1>\n<p>Zone: ")?;
+    push_text(page, HEAD_ZONE)?;
     push_escaped(page, year.zone)?;
-    push_text(page, "</p>\n")
+    push_text(page, HEAD_END)?;
+    Ok(())
 }
 
-fn push_changes(page: &mut Vec<u8>, year: &Year<'_>) -> Result<(), AllocError> {
-    push_text(page, "<h2>The clock</h2>\n<pre>")?;
+// Pushes the heat map by day.
+fn push_days_map(alloc: Global, page: &mut Vec<u8>, year: &Year<'_>) -> Result<(), AllocError>
+    requires { (1970 ≤ year.now.year) × (year.now.year ≤ 2100) }
+    ensures { OnOk result ((shapes : List Shape)
+        × (page.new.items ≡ page.old.items ++ days_text year.now shapes)) }
+{
+    let shapes = days_map(alloc, year)?;
+    push_text(page, DAYS_START)?;
+    push_drawing(page, shapes.as_slice())?;
+    push_text(page, DAYS_SCALE)?;
+    push_number(page, most_of(year.days))?;
+    push_text(page, DAYS_END)?;
+    Ok(())
+}
+
+// Pushes the heat map by hour and weekday, which is a table.
+fn push_hours_map(alloc: Global, page: &mut Vec<u8>, year: &Year<'_>) -> Result<(), AllocError>
+    requires { (1970 ≤ year.now.year) × (year.now.year ≤ 2100) }
+    ensures { OnOk result ((shapes : List Shape)
+        × (page.new.items ≡ page.old.items ++ hours_text shapes)) }
+{
+    let shapes = hours_map(alloc, year)?;
+    push_text(page, HOURS_START)?;
+    push_drawing(page, shapes.as_slice())?;
+    push_text(page, HOURS_END)?;
+    Ok(())
+}
+
+// Pushes what is told of the zone's clock.
+fn push_changes(page: &mut Vec<u8>, year: &Year<'_>) -> Result<(), AllocError>
+    ensures { OnOk result (page.new.items ≡ page.old.items ++ clock_text year.now) }
+{
+    push_text(page, CLOCK_START)?;
     push_escaped(page, year.changes)?;
-    push_text(page, "</pre>\n")
+    push_text(page, CLOCK_END)?;
+    Ok(())
 }
 
 /// The page of a year, whose number is between 1970 and 2100.
 pub fn page(alloc: Global, year: &Year<'_>) -> Result<Vec<u8>, AllocError>
-    requires { (1970 ≤ year.now.year) × (year.now.year ≤ 2100) }
+    requires year { (1970 ≤ year.now.year) × (year.now.year ≤ 2100) }
+    requires days { year.now.first + length year.now.days.now ≤ days_in_range }
+    ensures { IfOk result (λ page. IsPage year.now page.items) }
 {
     let mut page = Vec::new(alloc);
     push_head(&mut page, year)?;
-    push_entries(&mut page, year)?;
-    push_days_map(&mut page, year)?;
-    push_hours_map(&mut page, year)?;
+    push_entries(alloc, &mut page, year)?;
+    push_days_map(alloc, &mut page, year)?;
+    push_hours_map(alloc, &mut page, year)?;
     push_changes(&mut page, year)?;
     push_table(&mut page, year)?;
-    push_text(&mut page, "</body>\n</html>\n")?;
+    push_text(&mut page, PAGE_END)?;
     Ok(page)
 }

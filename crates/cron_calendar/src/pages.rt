@@ -1,15 +1,21 @@
 //! The calendar of plans, as text and as a page of HTML.
-ghost use Rattle.std.specs.Prelude.{◌≡◌, ◌+◌, ◌*◌, ◌-◌, ◌<◌, ◌≤◌};
-ghost use Rattle.cron_moments.specs.Calendar.{first_month, months_end};
+ghost use Rattle.std.specs.Prelude.{◌≡◌, ◌+◌, ◌*◌, ◌-◌, ◌++◌, ◌<◌, ◌≤◌, IfOk, OnOk, length, map};
+ghost use Rattle.std.specs.List.{flat_map};
+ghost use Rattle.jiff.specs.Words.{plain_zone};
+ghost use Rattle.cron_moments.specs.Calendar.{day_number, first_month, months_end};
 ghost use Rattle.cron_moments.specs.Civil.{days_in_range};
+ghost use Rattle.cron_calendar.specs.Pages.{IsTextPage, IsYearPage, TellsClock, change_line, day_count, time_of, told_of};
+ghost use Rattle.cron_calendar.specs.Plans.{counts_of};
 
 use crate::changes::{Change, changes};
 use crate::grid::grid;
+use crate::html::pieces::{push_date, push_text, time_text};
 use crate::html::{Entry, Year, page};
 use crate::months::Months;
 use crate::plans::{Plan, counts_of, hour_totals, totals};
 use cron_moments::calendar::KnownMonth;
 use cron_moments::civil::{DAYS, SECONDS_PER_DAY, civil_of};
+use jiff::civil::DateTime;
 use jiff::tz::TimeZone;
 use std::alloc::{AllocError, Global};
 
@@ -34,7 +40,9 @@ fn days_of(first: u32, end: u32) -> (u32, u32)
     requires low { first_month ≤ first }
     requires order { first < end }
     requires high { end ≤ months_end }
-    ensures { result.0 + result.1 ≤ days_in_range }
+    ensures first { result.0 ≡ day_number first 1 }
+    ensures days { result.1 ≡ day_count first end }
+    ensures range { result.0 + result.1 ≤ days_in_range }
 {
     let start = KnownMonth::of_number(first).first_day();
     let behind = if end < MONTHS_END {
@@ -45,16 +53,47 @@ fn days_of(first: u32, end: u32) -> (u32, u32)
     (start, behind.saturating_sub(start))
 }
 
-// Pushes what is told of a change.
-fn push_change(alloc: Global, text: &mut Vec<u8>, change: Change) -> Result<(), AllocError> {
-    let (first, end) = (civil_of(change.first), civil_of(change.end));
-    let what = if change.times == 0 {
-        "the clock skips these times"
+// Pushes what a clock shows, as `2024-03-10T02:00:00`.
+fn push_time(text: &mut Vec<u8>, at: DateTime) -> Result<(), AllocError>
+    ensures { OnOk result (text.new.items ≡ text.old.items ++ time_of at) }
+{
+    push_date(text, at.date())?;
+    push_text(text, "T")?;
+    text.extend_from_slice(&time_text(at.time()))?;
+    Ok(())
+}
+
+// What is told of civil seconds that a clock shows this often.
+fn told_of(times: u32) -> &'static str
+    ensures { result.now ≡ told_of times }
+{
+    if times == 0 {
+        ": the clock skips these times\n"
     } else {
-        "the clock shows these times twice"
-    };
-    let line = format!(in alloc; "{first} to {end}: {what}\n")?;
-    text.extend_from_slice(line.as_bytes())
+        ": the clock shows these times twice\n"
+    }
+}
+
+// Pushes what is told of a change.
+fn push_change(text: &mut Vec<u8>, change: Change) -> Result<(), AllocError>
+    ensures { OnOk result (text.new.items ≡ text.old.items ++ change_line change) }
+{
+    push_time(text, civil_of(change.first))?;
+    push_text(text, " to ")?;
+    push_time(text, civil_of(change.end))?;
+    push_text(text, told_of(change.times))?;
+    Ok(())
+}
+
+// Pushes what is told of changes.
+fn push_changes(text: &mut Vec<u8>, changes: &[Change]) -> Result<(), AllocError>
+    ensures { OnOk result
+        (text.new.items ≡ text.old.items ++ flat_map change_line changes.now) }
+{
+    for change in changes {
+        push_change(text, *change)?;
+    }
+    Ok(())
 }
 
 // What is told of the zone's clock on some days.
@@ -65,13 +104,12 @@ fn changes_text(
     days: u32,
 ) -> Result<Vec<u8>, AllocError>
     requires { first + days ≤ days_in_range }
+    ensures { IfOk result (λ text. TellsClock (plain_zone zone.now) first days text.items) }
 {
     let (start, end) = (first * SECONDS_PER_DAY, (first + days) * SECONDS_PER_DAY);
     let found = changes(alloc, zone, start, end)?;
     let mut text = Vec::new(alloc);
-    for change in found.as_slice() {
-        push_change(alloc, &mut text, *change)?;
-    }
+    push_changes(&mut text, found.as_slice())?;
     Ok(text)
 }
 
@@ -86,6 +124,8 @@ pub fn text_page(
     requires order { shown.first < shown.end }
     requires high { shown.end ≤ months_end }
     requires across { (0 < shown.across) × (shown.across ≤ 12) }
+    ensures { IfOk result
+        (λ text. IsTextPage plans.now shown (plain_zone zone.now) text.items) }
 {
     let (first_day, days) = days_of(shown.first, shown.end);
     let counts = totals(alloc, plans, first_day, days, zone)?;
@@ -109,6 +149,8 @@ fn counts_of_each(
     zone: &TimeZone<'_>,
 ) -> Result<Vec<Vec<u32>>, AllocError>
     requires { first + days ≤ days_in_range }
+    ensures { IfOk result (λ each. map (λ counts. counts.items) each.items
+        ≡ map (counts_of (plain_zone zone.now) first days) plans.now) }
 {
     let mut each = Vec::new(alloc);
     for plan in plans {
@@ -117,17 +159,23 @@ fn counts_of_each(
     Ok(each)
 }
 
-// The entries of a page.
+// The entries of a page: plans with the numbers of their fires.
 fn entries_of<'a>(
     alloc: Global,
     plans: &'a [Plan<'a>],
     each: &'a [Vec<u32>],
-) -> Result<Vec<Entry<'a>>, AllocError> {
+) -> Result<Vec<Entry<'a>>, AllocError>
+    requires { length each.now ≡ length plans.now }
+    ensures names { IfOk result (λ entries. map (λ entry. entry.name.now) entries.items
+        ≡ map (λ plan. plan.name.now) plans.now) }
+    ensures counts { IfOk result (λ entries. map (λ entry. entry.counts.now) entries.items
+        ≡ map (λ counts. counts.items) each.now) }
+{
     let mut entries = Vec::new(alloc);
-    for (plan, counts) in plans.iter().zip(each.iter()) {
+    for place in 0..plans.len() {
         entries.push(Entry {
-            name: plan.name,
-            counts: counts.as_slice(),
+            name: plans[place].name,
+            counts: each[place].as_slice(),
         })?;
     }
     Ok(entries)
@@ -142,6 +190,8 @@ pub fn html_page<'a>(
     zone_name: &'a [u8],
 ) -> Result<Vec<u8>, AllocError>
     requires { (1970 ≤ year) × (year ≤ 2100) }
+    ensures { IfOk result (λ text. IsYearPage plans.now year (plain_zone zone.now)
+        zone_name.now text.items) }
 {
     let (first, days) = days_of(year * 12, year * 12 + 12);
     let totals = totals(alloc, plans, first, days, zone)?;
@@ -152,6 +202,7 @@ pub fn html_page<'a>(
     let year = Year {
         year,
         zone: zone_name,
+        first,
         days: totals.as_slice(),
         hours: hours.as_slice(),
         entries: entries.as_slice(),

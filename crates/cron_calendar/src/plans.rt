@@ -1,8 +1,8 @@
 //! What is planned, and how many fires it has on each day.
-ghost use Rattle.std.specs.Prelude.{◌≡◌, ◌+◌, ◌≤◌, IfOk, replicate, slice_index};
+ghost use Rattle.std.specs.Prelude.{◌≡◌, ◌+◌, ◌*◌, ◌≤◌, IfOk, replicate, slice_index};
 ghost use Rattle.jiff.specs.Words.{plain_zone};
 ghost use Rattle.cron_moments.specs.Civil.{days_in_range};
-ghost use Rattle.cron_calendar.specs.Plans.{counts_of, sums_with, totals};
+ghost use Rattle.cron_calendar.specs.Plans.{counts_of, hour_counts_of, sums_with, totals};
 
 use cron_counting::counts::{fires_by_day, fires_by_hour};
 use cron_units::fields::ScheduleFields;
@@ -46,6 +46,8 @@ fn hours_of(
     zone: &TimeZone<'_>,
 ) -> Result<Vec<u32>, AllocError>
     requires { first + days ≤ days_in_range }
+    ensures { IfOk result (λ counts. counts.items
+        ≡ hour_counts_of (plain_zone zone.now) first days plan.now) }
 {
     if plan.once {
         return fires_by_hour(alloc, plan.schedules, first, days, &TimeZone::UTC);
@@ -110,6 +112,8 @@ pub fn hour_totals(
     zone: &TimeZone<'_>,
 ) -> Result<Vec<u32>, AllocError>
     requires { first + days ≤ days_in_range }
+    ensures { IfOk result (λ counts. counts.items
+        ≡ totals (hour_counts_of (plain_zone zone.now) first days) (days * 24) plans.now) }
 {
     let mut counts = zeros(alloc, days * 24)?;
     for plan in plans {

@@ -1,5 +1,5 @@
-//! What callers of `cron` promise, proved from its public contracts alone, and each run once.
-//! `cron_layers` has its tests.
+//! What callers of `cron` promise, proved from its public contracts alone. Rows of `cron_vectors` ask
+//! each of them.
 #![tactic(auto)]
 
 mod check;

@@ -10,7 +10,7 @@ use Rattle.std.proofs.lemmas.List.{get_or-drop, drop-drop, length-drop, length-t
 use Rattle.std.proofs.Math.Nat.{min-eq_left}
 use Rattle.std.proofs.lemmas.Bool.{cases_lt, eqb-true, true≢false}
 use Rattle.cron_text.specs.Tokens.{is_space}
-use Rattle.cron_crontab.specs.Crontab.{is_filled, words}
+use Rattle.cron_crontab.specs.Crontab.{is_break, is_filled, words}
 use Rattle.cron_crontab.specs.Items.{pieces}
 
 -- the first piece of a text ends at the index, and the words behind it are those from the index on
@@ -106,11 +106,11 @@ not_not : (b : Bool) → not b ≡ false → b ≡ true
 not_not true is = refl
 not_not false is = absurd cc
 
+passes_at : (p : ℕ → Bool) (text : List ℕ) → position_or_len p text < length text → p (get_or text (position_or_len p text) 0) ≡ true
+passes_at p text lt = not_not (p (get_or text (position_or_len p text) 0)) (prefix_len_stops (λ b. not (p b)) text 0 lt)
+
 mark_at : (mark : ℕ) (text : List ℕ) → position_or_len (λ b. b == mark) text < length text → get_or text (position_or_len (λ b. b == mark) text) 0 ≡ mark
-mark_at mark text lt =
-    let stops = prefix_len_stops (λ b. not (b == mark)) text 0 lt in
-    let at = get_or text (position_or_len (λ b. b == mark) text) 0 in
-    eqb-true at mark (not_not (at == mark) stops)
+mark_at mark text lt = eqb-true (get_or text (position_or_len (λ b. b == mark) text) 0) mark (passes_at (λ b. b == mark) text lt)
 
 space_ascii : (c : ℕ) → is_space c ≡ true → c < 128
 space_ascii c h = grind arith
@@ -135,3 +135,12 @@ boundary-mark mark text at low is lt = IsCharBoundary-before_ascii text at lt (m
 pub boundary-behind : (mark : ℕ) (text : List ℕ) (at : ℕ) → mark < 128 → IsUtf8 text → at ≡ position_or_len (λ b. b == mark) text → at < length text
     → IsCharBoundary text (at + 1)
 boundary-behind mark text at low utf8 is lt = IsCharBoundary-after_ascii text at utf8 lt (mark_ascii mark text at low is lt)
+
+break_ascii : (c : ℕ) → is_break c ≡ true → c < 128
+break_ascii c h = grind arith
+
+-- behind the first line break
+pub boundary-break : (text : List ℕ) (at : ℕ) → IsUtf8 text → at ≡ position_or_len is_break text → at < length text → IsCharBoundary text (at + 1)
+boundary-break text at utf8 is lt =
+    let low : get_or text (position_or_len is_break text) 0 < 128 = break_ascii (get_or text (position_or_len is_break text) 0) (passes_at is_break text (omega arith)) in
+    IsCharBoundary-after_ascii text at utf8 lt (rw is low)

@@ -1,6 +1,6 @@
 -- What a crontab's expression means: one schedule, or two of which one suffices, or a run at the start of the machine.
 use Rattle.std.specs.Prelude.{◌≡◌, ◌&&◌, ◌||◌, ◌==◌, ◌-◌, ◌++◌, ℕ, Bool, List, [], ◌∷◌, Result, Ok, Err, Option, Some, None, filter, codes, length, nat_lt, slice_index, if◌then◌else◌}
-use Rattle.std.specs.List.{list_any, slice_split}
+use Rattle.std.specs.List.{after_first, list_any, slice_split}
 use Rattle.std.specs.Str.{bytes_eq, str_eq_ignore_ascii_case}
 use Rattle.cron_units.specs.Sets.{Sets}
 use Rattle.cron_units.specs.Steps.{Progression}
@@ -8,7 +8,7 @@ use Rattle.cron_units.specs.Units.{set_of, unmarked, whole}
 use Rattle.cron_units.specs.Units as units
 use Rattle.cron_text.specs.Tokens.{is_space}
 use Rattle.cron_crontab.specs.Items.{and_then, begins_with_star, in_items, item_of, pieces}
-use Rattle.cron_crontab.specs.Refusals.{Reason, Fault, refused, no_field, sixth_field, no_nickname, capital_nickname, behind_nickname}
+use Rattle.cron_crontab.specs.Refusals.{Reason, Fault, refused, no_field, sixth_field, no_nickname, capital_nickname, behind_nickname, second_line}
 use Rattle.cron_crontab.specs.declared.field.Field.{Field}
 use Rattle.cron_crontab.specs.declared.field.Field.TheVariants.{Minute, Hour, DayOfMonth, Month, DayOfWeek}
 
@@ -20,6 +20,18 @@ is_filled word = nat_lt 0 (length word)
 -- what stands between white space
 abbrev pub words : List ℕ → List (List ℕ)
 words text = filter is_filled (slice_split is_space text)
+
+-- a line feed, or a carriage return
+abbrev pub is_break : ℕ → Bool
+is_break c = c == 10 || c == 13
+
+abbrev pub first_of : List (List ℕ) → Option (List ℕ)
+first_of [] = None
+first_of (word ∷ more) = Some word
+
+-- the first word behind the first line break; a text that has one is more than one line
+abbrev pub further_word : List ℕ → Option (List ℕ)
+further_word text = first_of (words (after_first is_break text))
 
 -- ---- fields
 
@@ -156,10 +168,19 @@ abbrev pub outcome_of : List (List ℕ) → Result Meaning Fault
 outcome_of [] = meant_by []
 outcome_of (word ∷ more) = if begins_with_at word then and_then (nickname_of word) (last_word more) else meant_by (word ∷ more)
 
+-- the outcome of a text that has no further word
+abbrev pub on_one_line : Option (List ℕ) → Result Meaning Fault → Result Meaning Fault
+on_one_line None outcome = outcome
+on_one_line (Some word) outcome = Err (second_line word)
+
+-- An expression is one line. White space at its end may have line breaks.
+abbrev pub text_outcome : List ℕ → Result Meaning Fault
+text_outcome text = on_one_line (further_word text) (outcome_of (words text))
+
 -- the text means this
 abbrev pub Means : List ℕ → Meaning → Type 0
-Means text meaning = outcome_of (words text) ≡ Ok meaning
+Means text meaning = text_outcome text ≡ Ok meaning
 
 -- the text is refused for this
 abbrev pub Refuses : List ℕ → Fault → Type 0
-Refuses text fault = outcome_of (words text) ≡ Err fault
+Refuses text fault = text_outcome text ≡ Err fault

@@ -17,7 +17,7 @@ pub data Reason : Type 0 where
   zero_step : Reason
 
 -- Why a text is refused: an item of a field, a field that isn't there, a word behind the fifth field, a word that begins with `@` and is
--- no nickname, or is one in capital letters, and a word behind a nickname.
+-- no nickname, or is one in capital letters, a word behind a nickname, and one behind a line break.
 pub data Fault : Type 0 where
   refused : Field → List ℕ → Reason → Fault
   no_field : Field → Fault
@@ -25,6 +25,7 @@ pub data Fault : Type 0 where
   no_nickname : List ℕ → Fault
   capital_nickname : List ℕ → Fault
   behind_nickname : List ℕ → Fault
+  second_line : List ℕ → Fault
 
 -- what is told of a text that is no number, behind the text
 abbrev pub no_number_text : Field → List ℕ
@@ -49,3 +50,4 @@ fault_text (sixth_field word) = codes "'" ++ (word ++ codes "' is a sixth field:
 fault_text (no_nickname word) = codes "'" ++ (word ++ codes "' is no nickname")
 fault_text (capital_nickname word) = codes "'" ++ (word ++ codes "': nicknames are written in small letters")
 fault_text (behind_nickname word) = codes "'" ++ (word ++ codes "' stands behind a nickname")
+fault_text (second_line word) = codes "'" ++ (word ++ codes "' stands behind a line break: an expression is one line")

@@ -3,14 +3,14 @@ use Rattle.std.specs.Prelude.{ℕ, List, map}
 use Rattle.std.specs.Borrow.{Bor}
 use Rattle.cron_units.specs.Steps.{Progression}
 use Rattle.cron_crontab.specs.Refusals as refusals
-use Rattle.cron_crontab.specs.Refusals.{missing, no_number, long_number, outside, ignored, lone_step, no_step, zero_step, refused, no_field, sixth_field, no_nickname, capital_nickname, behind_nickname}
+use Rattle.cron_crontab.specs.Refusals.{missing, no_number, long_number, outside, ignored, lone_step, no_step, zero_step, refused, no_field, sixth_field, no_nickname, capital_nickname, behind_nickname, second_line}
 use Rattle.cron_crontab.specs.Crontab as crontab
 use Rattle.cron_crontab.specs.Crontab.{schedules, reboot}
 use Rattle.cron_crontab.specs.declared.steps.Item.{Item}
 use Rattle.cron_crontab.specs.declared.faults.Reason.{Reason}
 use Rattle.cron_crontab.specs.declared.faults.Reason.TheVariants.{Missing, NoNumber, LongNumber, Outside, Ignored, LoneStep, NoStep, ZeroStep}
 use Rattle.cron_crontab.specs.declared.faults.Fault.{Fault}
-use Rattle.cron_crontab.specs.declared.faults.Fault.TheVariants.{Refused, NoField, SixthField, NoNickname, CapitalNickname, BehindNickname}
+use Rattle.cron_crontab.specs.declared.faults.Fault.TheVariants.{Refused, NoField, SixthField, NoNickname, CapitalNickname, BehindNickname, SecondLine}
 use Rattle.cron_crontab.specs.declared.texts.Expression.{Expression}
 use Rattle.cron_crontab.specs.declared.texts.Expression.TheVariants.{Fires, Reboot}
 
@@ -31,6 +31,7 @@ fault_view (SixthField word) = sixth_field word.now
 fault_view (NoNickname word) = no_nickname word.now
 fault_view (CapitalNickname word) = capital_nickname word.now
 fault_view (BehindNickname word) = behind_nickname word.now
+fault_view (SecondLine word) = second_line word.now
 
 abbrev pub expression_view : Expression → crontab.Meaning
 expression_view (Fires some) = schedules some

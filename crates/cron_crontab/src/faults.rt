@@ -52,6 +52,8 @@ pub enum Fault<'a> {
     CapitalNickname(&'a str),
     /// This word stands behind a nickname.
     BehindNickname(&'a str),
+    /// This is the first word behind a line feed, or a carriage return.
+    SecondLine(&'a str),
 }
 
 // The words for a reason, which name the numbers and the names of the field.
@@ -138,6 +140,10 @@ impl<'a> fmt::Display for Fault<'a> {
                 write!(f, "'{word}': nicknames are written in small letters")
             }
             Fault::BehindNickname(word) => write!(f, "'{word}' stands behind a nickname"),
+            Fault::SecondLine(word) => write!(
+                f,
+                "'{word}' stands behind a line break: an expression is one line"
+            ),
         }
     }
 }

@@ -2,14 +2,14 @@
 
 ghost use Rattle.std.specs.Prelude.{◌≡◌, MatchResult, Ok, Err};
 ghost use Rattle.std.specs.Option.{option_map};
-ghost use Rattle.cron_crontab.specs.Crontab.{Means, Refuses, begins_with_at, is_capital, meant_by, nickname_of, has_word, nicknames, text_in, words};
+ghost use Rattle.cron_crontab.specs.Crontab.{Means, Refuses, begins_with_at, is_capital, meant_by, nickname_of, has_word, nicknames, outcome_of, text_in, words};
 ghost use Rattle.cron_crontab.specs.Views.{expression_view, fault_view, table_view};
 
 use crate::faults::Fault;
 use crate::field::{Field, is_same_name};
 use crate::fields::read_five;
 use crate::schedules::Schedules;
-use crate::words::next_word;
+use crate::words::{next_word, word_behind_break};
 
 const REBOOT: &str = "@reboot";
 
@@ -110,11 +110,11 @@ pub fn begins_with_at(word: &str) -> bool
     }
 }
 
-/// Reads an expression of a crontab: five fields, or a nickname, with white space around and
-/// between them.
-pub fn read(text: &str) -> Result<Expression, Fault<'_>>
+/// Reads the words of a text, on whatever lines they stand.
+fn read_words(text: &str) -> Result<Expression, Fault<'_>>
     ensures { MatchResult result
-        (λ e. Means text.now (expression_view e)) (λ fault. Refuses text.now (fault_view fault)) }
+        (λ e. outcome_of (words text.now) ≡ Ok (expression_view e))
+        (λ fault. outcome_of (words text.now) ≡ Err (fault_view fault)) }
 {
     let Some((word, rest)) = next_word(text) else {
         return Err(Fault::NoField(Field::Minute));
@@ -127,4 +127,16 @@ pub fn read(text: &str) -> Result<Expression, Fault<'_>>
         return Err(Fault::BehindNickname(other));
     }
     Ok(read)
+}
+
+/// Reads an expression of a crontab: five fields, or a nickname, on one line, with spaces and tabs
+/// around and between them. Line breaks may stand at its end alone.
+pub fn read(text: &str) -> Result<Expression, Fault<'_>>
+    ensures { MatchResult result
+        (λ e. Means text.now (expression_view e)) (λ fault. Refuses text.now (fault_view fault)) }
+{
+    match word_behind_break(text) {
+        Some(word) => Err(Fault::SecondLine(word)),
+        None => read_words(text),
+    }
 }

@@ -2,9 +2,10 @@
 
 ghost use Rattle.std.specs.Prelude.{◌≡◌, ◌==◌, ◌<◌, ◌≤◌, ◌∷◌, [], ℕ, IfSome, MatchOption, length, slice_index, true, false};
 ghost use Rattle.std.specs.List.{position_or_len};
+ghost use Rattle.std.specs.Option.{option_map};
 ghost use Rattle.std.specs.Str.{IsUtf8};
 ghost use Rattle.cron_text.specs.Tokens.{is_space};
-ghost use Rattle.cron_crontab.specs.Crontab.{words};
+ghost use Rattle.cron_crontab.specs.Crontab.{further_word, is_break, words};
 ghost use Rattle.cron_crontab.specs.Items.{pieces};
 
 use cron_text::is_space;
@@ -85,4 +86,37 @@ pub fn next_word(text: &str) -> Option<(&str, &str)>
     }
     let end = word_end(bytes, start);
     Some((&text[start..end], &text[end..]))
+}
+
+#[inline(always)]
+fn is_break(byte: u8) -> bool
+    ensures { result ≡ is_break byte }
+{
+    byte == b'\n' || byte == b'\r'
+}
+
+/// The index of the first line break, or the length where there is none.
+#[inline(always)]
+fn break_at(text: &[u8]) -> usize
+    ensures { result ≡ position_or_len is_break text.now }
+{
+    for (at, byte) in text.iter().enumerate() {
+        if is_break(*byte) {
+            return at;
+        }
+    }
+    text.len()
+}
+
+/// The first word behind the first line break.
+#[inline(always)]
+pub(crate) fn word_behind_break(text: &str) -> Option<&str>
+    ensures { option_map (λ word. word.now) result ≡ further_word text.now }
+{
+    let end = break_at(text.as_bytes());
+    if end >= text.len() {
+        return None;
+    }
+    let (word, _) = next_word(&text[end + 1..])?;
+    Some(word)
 }

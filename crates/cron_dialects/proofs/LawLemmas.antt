@@ -8,7 +8,7 @@ use Rattle.cron_units.specs.Sets.{Sets}
 use Rattle.cron_text.specs.Meaning.{IsLonghand, IsShorthand, daily, hourly, meaning_in, monthly, shorthand_of, shorthands, trimmed_end, trimmed_front, weekly, yearly}
 use Rattle.cron_text.specs.Tokens.{symbol_of, tokens}
 use Rattle.cron_crontab.specs.Crontab as tabs
-use Rattle.cron_crontab.specs.Crontab.{Meaning, begins_with_at, expanded, five_of, is_reboot, last_word, meant_by, nickname_of, nicknames, outcome_of, reboot, schedules, schedules_of, text_in, unknown, words}
+use Rattle.cron_crontab.specs.Crontab.{Meaning, begins_with_at, expanded, five_of, further_word, is_reboot, last_word, meant_by, nickname_of, nicknames, on_one_line, outcome_of, reboot, schedules, schedules_of, text_in, unknown, words}
 use Rattle.cron_crontab.specs.Items.{and_then}
 use Rattle.cron_dialects.specs.Dialects.{MeaningsAgree, NicknamesAloneAreBoth, NicknamesAreBoth}
 use Rattle.cron_dialects.proofs.Alone.{IsSolid, trimmed_word, word_trimmed}
@@ -219,8 +219,20 @@ last_alone : (more : List (List ℕ)) (meaning m : Meaning) → last_word more m
 last_alone [] meaning m h = refl
 last_alone (w ∷ more) meaning m h = absurd (cc)
 
+-- what a text of one line means its words mean
+record IsOneLine (text : List ℕ) (m : Meaning) : Type 0 where
+  alone : further_word text ≡ None
+  is : outcome_of (words text) ≡ Ok m
+
+one_line : (text : List ℕ) (m : Meaning) → tabs.Means text m → IsOneLine text m
+one_line text m h = by_word (further_word text) refl h
+  where
+    by_word : (o : Option (List ℕ)) → further_word text ≡ o → on_one_line o (outcome_of (words text)) ≡ Ok m → IsOneLine text m
+    by_word None alone is = record { alone = alone; is = is }
+    by_word (Some word) alone is = absurd (cc)
+
 no_tab : (text : List ℕ) (s : Sets) (m : Meaning) → IsLonghand text s → tabs.Means text m → ⊥
-no_tab text s m long h = by_words (words text) refl h
+no_tab text s m long h = by_words (words text) refl (one_line text m h).is
   where
     by_first : (nick : List ℕ) (more : List (List ℕ)) (b : Bool) → words text ≡ nick ∷ more
         → (if b then and_then (nickname_of nick) (last_word more) else meant_by (nick ∷ more)) ≡ Ok m → ⊥
@@ -256,16 +268,19 @@ shorthand_known text s h =
 
 pub nicknames_alone : NicknamesAloneAreBoth
 nicknames_alone text s m (inl long) tab = absurd (no_tab text s m long tab)
-nicknames_alone text s m (inr short) tab = let k = shorthand_known text s short in (k.nick, k.known.expression, k.is, k.known.stands)
+nicknames_alone text s m (inr short) tab = let k = shorthand_known text s short in (k.nick, k.known.expression, k.is, k.known.stands, (one_line text m tab).alone)
 
 pub meanings_agree : MeaningsAgree
 meanings_agree text s m (inl long) tab = absurd (no_tab text s m long tab)
 meanings_agree text s m (inr short) tab =
     let k = shorthand_known text s short in
-    let same : Ok m ≡ Ok (schedules (s ∷ [])) = sym tab ∙ (ap outcome_of k.is ∙ k.known.tab) in
+    let same : Ok m ≡ Ok (schedules (s ∷ [])) = sym (one_line text m tab).is ∙ (ap outcome_of k.is ∙ k.known.tab) in
     cc
 
 pub nicknames_both : NicknamesAreBoth
 nicknames_both text nickname =
-    let k = tab_nickname nickname.0 nickname.1 nickname.3 in
-    (k.sets, inr (ap shorthand_of (trimmed_word text nickname.0 nickname.2) ∙ k.known.own), ap outcome_of nickname.2 ∙ k.known.tab)
+    let k = tab_nickname nickname.0 nickname.1 nickname.3 in (
+      k.sets,
+      inr (ap shorthand_of (trimmed_word text nickname.0 nickname.2) ∙ k.known.own),
+      ap (λ o. on_one_line o (outcome_of (words text))) nickname.4 ∙ (ap outcome_of nickname.2 ∙ k.known.tab),
+    )

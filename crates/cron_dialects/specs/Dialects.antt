@@ -1,13 +1,13 @@
 -- Texts that mean something to a crontab and to this library too.
-use Rattle.std.specs.Prelude.{◌≡◌, ℕ, List, [], ◌∷◌, Some}
+use Rattle.std.specs.Prelude.{◌≡◌, ℕ, List, [], ◌∷◌, Some, None}
 use Rattle.cron_units.specs.Sets.{Sets}
 use Rattle.cron_text.specs.Meaning.{Means}
 use Rattle.cron_crontab.specs.Crontab as tabs
-use Rattle.cron_crontab.specs.Crontab.{Meaning, nicknames, schedules, text_in, words}
+use Rattle.cron_crontab.specs.Crontab.{Meaning, further_word, nicknames, schedules, text_in, words}
 
--- The text is one word that stands for an expression in a crontab, with white space around it or none.
+-- The text is one word that stands for an expression in a crontab, with white space around it or none, and no line break in front of it.
 abbrev pub IsNickname : List ℕ → Type 0
-IsNickname text = (word expression : List ℕ) × (words text ≡ word ∷ []) × (text_in nicknames word ≡ Some expression)
+IsNickname text = (word expression : List ℕ) × (words text ≡ word ∷ []) × (text_in nicknames word ≡ Some expression) × (further_word text ≡ None)
 
 -- a text that means something to both is a nickname
 abbrev pub NicknamesAloneAreBoth : Type 0

@@ -9,3 +9,4 @@ pub mod PieceLaws
 pub mod LossyLemmas
 pub mod SummaryLaws
 pub mod BodyLemmas
+pub mod HeadingLemmas

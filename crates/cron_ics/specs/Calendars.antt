@@ -1,12 +1,14 @@
 -- A calendar of events.
 use Rattle.std.specs.Prelude.{◌≡◌, ◌<◌, ℕ, ◌+◌, List, [], ◌∷◌, ◌++◌, Some, codes, length, slice_get}
 use Rattle.std.specs.List.{flat_map}
-use Rattle.cron_ics.specs.Events.{copies, digest_text, event_text, folded_lines, summary_line}
+use Rattle.jiff_core.specs.DateTime.{civil_nanos}
+use Rattle.jiff_core.specs.declared.civil.datetime.DateTime.{DateTime}
+use Rattle.cron_ics.specs.Events.{Shared, copies, digest_text, event_text, folded_lines, summary_line}
 use Rattle.cron_ics.specs.Fires.{AreTold, Told, fires_of}
 use Rattle.cron_ics.specs.declared.calendar.Wanted.{Wanted}
 use Rattle.cron_ics.specs.declared.entry.Entry.{Entry}
 use Rattle.cron_ics.specs.declared.error.IcsError.{IcsError}
-use Rattle.cron_ics.specs.declared.error.IcsError.TheVariants.{OutOfMemory, TooMany, TooManySchedules}
+use Rattle.cron_ics.specs.declared.error.IcsError.TheVariants.{NoEvents, OutOfMemory, TooMany, TooManySchedules}
 use Rattle.cron_ics.specs.declared.fires.Fire.{Fire}
 
 abbrev pub wanted_fires : Wanted → Entry → List Told
@@ -17,13 +19,22 @@ abbrev pub total : Wanted → List Entry → ℕ
 total w [] = 0
 total w (e ∷ es) = length (wanted_fires w e) + total w es
 
--- the events of an entry that stands behind others: one a fire, in their order
-abbrev pub events_text : Wanted → List Entry → Entry → List Fire → List ℕ
-events_text w before e fires =
-    flat_map (event_text (digest_text e.text.now) (copies e.text.now before) (summary_line e.summary.now) w.minutes) fires
+-- what the events of an entry share that stands behind others
+abbrev pub shared_by : Wanted → List Entry → Entry → DateTime → Shared
+shared_by w before e stamp = record {
+  digest = digest_text e.text.now;
+  copy = copies e.text.now before;
+  domain = w.domain.text.now;
+  stamp = stamp;
+  minutes = w.minutes;
+  summary = summary_line e.summary.now;
+}
 
+-- its events: one a fire, in their order, with what UTC shows when they are written
 abbrev pub AreEvents : Wanted → List Entry → Entry → List ℕ → Type 0
-AreEvents w before e text = (fires : List Fire) × AreTold (wanted_fires w e) fires × (text ≡ events_text w before e fires)
+AreEvents w before e text =
+    (fires : List Fire) × (stamp : DateTime) × AreTold (wanted_fires w e) fires × (civil_nanos stamp ≡ w.written.nanosecond)
+    × (text ≡ flat_map (event_text (shared_by w before e stamp)) fires)
 
 -- the events of entries, one entry after another
 abbrev pub IsBody : Wanted → List Entry → List Entry → List ℕ → Type 0
@@ -45,8 +56,9 @@ IsCalendar w entries text = (body : List ℕ) × IsBody w [] entries body × (te
 abbrev pub IsCrowded : List Entry → Type 0
 IsCrowded entries = (place : ℕ) × (e : Entry) × (slice_get entries place ≡ Some e) × (12 < length e.schedules.now)
 
--- why there is none: it would have more events than are wanted, an entry has more than twelve schedules, or memory ran out
+-- why there is none: it would have no event or more than are wanted, an entry has more than twelve schedules, or memory ran out
 abbrev pub IsRefusal : Wanted → List Entry → IcsError → Type 0
+IsRefusal w entries NoEvents = total w entries ≡ 0
 IsRefusal w entries TooMany = w.most < total w entries
 IsRefusal w entries TooManySchedules = IsCrowded entries
 IsRefusal w entries OutOfMemory = Unit {0}

@@ -1,7 +1,7 @@
 -- What a reader finds in what is written.
 use Rattle.std.specs.Prelude.{◌≡◌, ◌<◌, ◌^◌, ℕ, nat_abs, List, ◌++◌}
 use Rattle.std.specs.Str.{IsUtf8}
-use Rattle.cron_ics.specs.Events.{summary_line, uid_line}
+use Rattle.cron_ics.specs.Events.{digest_text, summary_line, uid_line}
 use Rattle.cron_ics.specs.Folding.{HasNoReturn, IsFolded, folded, line_end, unfolded}
 use Rattle.cron_ics.specs.Texts.{escaped, unescaped}
 use Rattle.cron_ics.specs.declared.fires.Fire.{Fire}
@@ -22,13 +22,24 @@ FoldedIsFolded = (line : List ℕ) → IsUtf8 line → IsFolded line (folded lin
 abbrev pub SummariesAreLines : Type 0
 SummariesAreLines = (text : List ℕ) → IsUtf8 (summary_line text) × HasNoReturn (summary_line text)
 
--- The UIDs of an entry's events differ where their instants do, or the civil seconds that match: two fires of one gap share their instant.
-abbrev pub UidsTellFiresApart : Type 0
-UidsTellFiresApart =
-    (digest : List ℕ) (copy : ℕ) (f g : Fire)
+-- what two events share
+pub record IsOneEvent (text other : List ℕ) (copy another : ℕ) (f g : Fire) (domain place : List ℕ) : Type 0 where
+  pub same_digest : digest_text text ≡ digest_text other
+  pub same_copy : copy ≡ another
+  pub same_instant : f.second ≡ g.second
+  pub same_civil : f.civil ≡ g.civil
+  pub same_domain : domain ≡ place
+
+-- The UIDs of two events differ, unless these share their entry's digest and its copy, the instant, the civil second that matches, and the
+-- domain. Two fires of one gap share their instant.
+abbrev pub UidsTellEventsApart : Type 0
+UidsTellEventsApart =
+    (text other : List ℕ) (copy another : ℕ) (f g : Fire) (domain place : List ℕ)
+    → copy < 2 ^ 64
+    → another < 2 ^ 64
     → nat_abs f.second < 2 ^ 63
     → nat_abs g.second < 2 ^ 63
     → f.civil < 2 ^ 32
     → g.civil < 2 ^ 32
-    → uid_line digest copy f ≡ uid_line digest copy g
-    → (f.second ≡ g.second) × (f.civil ≡ g.civil)
+    → uid_line (digest_text text) copy f domain ≡ uid_line (digest_text other) another g place
+    → IsOneEvent text other copy another f g domain place

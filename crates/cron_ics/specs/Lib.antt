@@ -1,4 +1,5 @@
 pub mod Texts
+pub mod Domains
 pub mod Folding
 pub mod Stamps
 pub mod Fires

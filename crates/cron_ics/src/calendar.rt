@@ -1,8 +1,10 @@
 //! The calendar of entries.
 ghost use Rattle.std.specs.Prelude.{◌≡◌, ◌<◌, ◌≤◌, ◌+◌, ◌++◌, [], List, ℕ, IfErr, IfOk, OnOk, length, slice_get, take, Some, string_bytes};
+ghost use Rattle.jiff_core.specs.DateTime.{civil_nanos};
 ghost use Rattle.cron_ics.specs.Calendars.{AreEvents, IsBody, IsCalendar, IsRefusal, head_text, total, wanted_fires};
 ghost use Rattle.cron_ics.specs.Events.{copies, digest_text, summary_line};
 
+use crate::domain::Domain;
 use crate::entry::{Entry, copies};
 use crate::error::IcsError;
 use crate::escape::summary_line;
@@ -10,11 +12,12 @@ use crate::event::{Heading, digest_of, push_events};
 use crate::fires::fires_of;
 use crate::fold::push_line;
 use jiff::Timestamp;
+use jiff::tz::Offset;
 use std::alloc::{AllocError, Global};
 
-/// Which fires are events, and how long these are.
+/// Which fires are events, how long these are, and who writes them when.
 #[derive(Clone, Copy)]
-pub struct Wanted {
+pub struct Wanted<'a> {
     /// Fires come after it,
     pub start: Timestamp,
     /// up to and with it.
@@ -23,25 +26,33 @@ pub struct Wanted {
     pub minutes: u32,
     /// How many events there are at most.
     pub most: usize,
+    /// When the calendar is written.
+    pub written: Timestamp,
+    /// Who writes it.
+    pub domain: Domain<'a>,
 }
 
 // What the events of an entry share, which stands behind others.
-fn heading_of(
+fn heading_of<'a>(
     alloc: Global,
     before: &[Entry<'_>],
     entry: &Entry<'_>,
-    minutes: u32,
-) -> Result<Heading, AllocError>
+    wanted: &Wanted<'a>,
+) -> Result<Heading<'a>, AllocError>
     ensures digest { IfOk result (λ h. string_bytes h.digest ≡ digest_text entry.now.text.now) }
     ensures copy { IfOk result (λ h. h.copy ≡ copies entry.now.text.now before.now) }
+    ensures domain { IfOk result (λ h. h.domain.text.now ≡ wanted.now.domain.text.now) }
+    ensures stamp { IfOk result (λ h. civil_nanos h.stamp ≡ wanted.now.written.nanosecond) }
+    ensures minutes { IfOk result (λ h. h.minutes ≡ wanted.now.minutes) }
     ensures summary { IfOk result (λ h. h.summary.items ≡ summary_line entry.now.summary.now) }
-    ensures minutes { IfOk result (λ h. h.minutes ≡ minutes) }
 {
     Ok(Heading {
         digest: digest_of(alloc, entry.text)?,
         copy: copies(before, entry.text),
+        domain: wanted.domain,
+        stamp: Offset::UTC.to_datetime(wanted.written),
+        minutes: wanted.minutes,
         summary: summary_line(alloc, entry.summary)?,
-        minutes,
     })
 }
 
@@ -52,7 +63,7 @@ fn push_entry(
     page: &mut Vec<u8>,
     before: &[Entry<'_>],
     entry: &Entry<'_>,
-    wanted: &Wanted,
+    wanted: &Wanted<'_>,
     room: usize,
 ) -> Result<usize, IcsError>
     ensures pushed { OnOk result ((text : List ℕ) × AreEvents wanted.now before.now entry.now text
@@ -63,9 +74,10 @@ fn push_entry(
         → room < length (wanted_fires wanted.now entry.now)) }
     ensures crowded { IfErr result (λ why. why ≡ IcsError.TooManySchedules
         → 12 < length entry.now.schedules.now) }
+    ensures some { IfErr result (λ why. why ≡ IcsError.NoEvents → ⊥) }
 {
     let fires = fires_of(alloc, entry, wanted.start, wanted.end, room)?;
-    let Ok(heading) = heading_of(alloc, before, entry, wanted.minutes) else {
+    let Ok(heading) = heading_of(alloc, before, entry, wanted) else {
         return Err(IcsError::OutOfMemory);
     };
     let list = fires.as_slice();
@@ -86,15 +98,16 @@ fn page_head(alloc: Global) -> Result<Vec<u8>, AllocError>
     Ok(page)
 }
 
-// Pushes the events of all entries.
+// Pushes the events of all entries, and answers how many they are.
 fn push_body(
     alloc: Global,
     page: &mut Vec<u8>,
     entries: &[Entry<'_>],
-    wanted: &Wanted,
-) -> Result<(), IcsError>
+    wanted: &Wanted<'_>,
+) -> Result<usize, IcsError>
     ensures pushed { OnOk result ((body : List ℕ) × IsBody wanted.now [] entries.now body
         × (page.new.items ≡ page.old.items ++ body)) }
+    ensures count { IfOk result (λ n. n ≡ total wanted.now entries.now) }
     ensures few { OnOk result (total wanted.now entries.now ≤ wanted.now.most) }
     ensures refused { IfErr result (IsRefusal wanted.now entries.now) }
 {
@@ -103,21 +116,28 @@ fn push_body(
         let (before, entry) = (&entries[..place], &entries[place]);
         count += push_entry(alloc, page, before, entry, wanted, wanted.most - count)?;
     }
-    Ok(())
+    Ok(count)
 }
 
-/// The calendar of entries: an event a fire, of one entry after another, if they are no more than
-/// are wanted. Equal texts of entries are told apart by how many stand before. What stands in
-/// summaries and is no UTF-8, or a control character, is U+FFFD.
-pub fn calendar(alloc: Global, entries: &[Entry<'_>], wanted: &Wanted) -> Result<Vec<u8>, IcsError>
+/// The calendar of entries: an event a fire, of one entry after another, if there are some and no
+/// more than are wanted. Equal texts of entries are told apart by how many stand before. What
+/// stands in summaries and is no UTF-8, or a control character, is U+FFFD.
+pub fn calendar(
+    alloc: Global,
+    entries: &[Entry<'_>],
+    wanted: &Wanted<'_>,
+) -> Result<Vec<u8>, IcsError>
     ensures page { IfOk result (λ page. IsCalendar wanted.now entries.now page.items) }
+    ensures some { OnOk result (0 < total wanted.now entries.now) }
     ensures few { IfOk result (λ page. total wanted.now entries.now ≤ wanted.now.most) }
     ensures refused { IfErr result (IsRefusal wanted.now entries.now) }
 {
     let Ok(mut page) = page_head(alloc) else {
         return Err(IcsError::OutOfMemory);
     };
-    push_body(alloc, &mut page, entries, wanted)?;
+    if push_body(alloc, &mut page, entries, wanted)? == 0 {
+        return Err(IcsError::NoEvents);
+    }
     if push_line(&mut page, b"END:VCALENDAR").is_err() {
         return Err(IcsError::OutOfMemory);
     }

@@ -2,13 +2,16 @@
 ghost use Rattle.std.specs.Prelude.{◌≡◌, ◌++◌, IfOk, OnOk, codes, string_bytes};
 ghost use Rattle.std.specs.Fmt.{decimal, signed_decimal};
 ghost use Rattle.std.specs.List.{flat_map};
-ghost use Rattle.cron_ics.specs.Events.{digest_text, event_text, folded_lines, time_lines, uid_line};
+ghost use Rattle.cron_ics.specs.Events.{digest_text, event_text, folded_lines, shared, time_lines, uid_line};
 ghost use Rattle.cron_ics.specs.Folding.{folded};
+ghost use Rattle.cron_ics.specs.Stamps.{stamp_text};
 
+use crate::domain::Domain;
 use crate::fires::Fire;
 use crate::fold::push_line;
 use crate::stamp::stamp_of;
 use itoa::Buffer;
+use jiff::civil::DateTime;
 use sha2::{Digest, Sha256};
 use std::alloc::{AllocError, Global};
 
@@ -17,15 +20,19 @@ const TOLD: usize = 16;
 
 /// What all events of an entry share.
 #[derive(Drop)]
-pub(crate) struct Heading {
+pub(crate) struct Heading<'a> {
     /// What stands for its text.
     pub(crate) digest: String,
     /// How many entries before it have the same text.
     pub(crate) copy: usize,
-    /// The line of its summary.
-    pub(crate) summary: Vec<u8>,
+    /// Who writes them.
+    pub(crate) domain: Domain<'a>,
+    /// What UTC shows when they are written.
+    pub(crate) stamp: DateTime,
     /// How long an event is.
     pub(crate) minutes: u32,
+    /// The line of its summary.
+    pub(crate) summary: Vec<u8>,
 }
 
 /// What stands for a text.
@@ -51,9 +58,10 @@ fn push_count(line: &mut Vec<u8>, number: u64) -> Result<(), AllocError>
 }
 
 // The line by which an event is told from all others.
-fn uid_line(alloc: Global, heading: &Heading, fire: &Fire) -> Result<Vec<u8>, AllocError>
+fn uid_line(alloc: Global, heading: &Heading<'_>, fire: &Fire) -> Result<Vec<u8>, AllocError>
     ensures { IfOk result (λ line. line.items
-        ≡ uid_line (string_bytes heading.now.digest) heading.now.copy fire.now) }
+        ≡ uid_line (string_bytes heading.now.digest) heading.now.copy fire.now
+        heading.now.domain.text.now) }
 {
     let mut line = Vec::from_slice(alloc, b"UID:")?;
     line.extend_from_slice(heading.digest.as_str().as_bytes())?;
@@ -63,7 +71,8 @@ fn uid_line(alloc: Global, heading: &Heading, fire: &Fire) -> Result<Vec<u8>, Al
     push_number(&mut line, fire.second)?;
     line.extend_from_slice(b"-")?;
     push_count(&mut line, u64::from(fire.civil))?;
-    line.extend_from_slice(b"@crontool")?;
+    line.extend_from_slice(b"@")?;
+    line.extend_from_slice(heading.domain.text)?;
     Ok(line)
 }
 
@@ -71,11 +80,12 @@ fn uid_line(alloc: Global, heading: &Heading, fire: &Fire) -> Result<Vec<u8>, Al
 fn push_uid(
     alloc: Global,
     page: &mut Vec<u8>,
-    heading: &Heading,
+    heading: &Heading<'_>,
     fire: &Fire,
 ) -> Result<(), AllocError>
     ensures { OnOk result (page.new.items ≡ page.old.items
-        ++ folded (uid_line (string_bytes heading.now.digest) heading.now.copy fire.now)) }
+        ++ folded (uid_line (string_bytes heading.now.digest) heading.now.copy fire.now
+        heading.now.domain.text.now)) }
 {
     let line = uid_line(alloc, heading, fire)?;
     push_line(page, line.as_slice())
@@ -90,16 +100,18 @@ fn push_summary(page: &mut Vec<u8>, heading: &Heading) -> Result<(), AllocError>
 }
 
 // Pushes a line with a time of UTC.
-fn push_stamp(
+fn push_time(
     alloc: Global,
     page: &mut Vec<u8>,
     name: &[u8],
-    stamp: &[u8],
+    utc: DateTime,
 ) -> Result<(), AllocError>
-    ensures { OnOk result (page.new.items ≡ page.old.items ++ folded (name.now ++ stamp.now)) }
+    ensures { OnOk result
+        (page.new.items ≡ page.old.items ++ folded (name.now ++ stamp_text utc)) }
 {
+    let stamp = stamp_of(alloc, utc)?;
     let mut line = Vec::from_slice(alloc, name)?;
-    line.extend_from_slice(stamp)?;
+    line.extend_from_slice(stamp.as_slice())?;
     push_line(page, line.as_slice())
 }
 
@@ -118,32 +130,30 @@ fn push_duration(alloc: Global, page: &mut Vec<u8>, minutes: u32) -> Result<(), 
 fn push_times(
     alloc: Global,
     page: &mut Vec<u8>,
-    minutes: u32,
+    heading: &Heading<'_>,
     fire: &Fire,
 ) -> Result<(), AllocError>
-    ensures { OnOk result (page.new.items
-        ≡ page.old.items ++ folded_lines (time_lines minutes fire.now)) }
+    ensures { OnOk result (page.new.items ≡ page.old.items
+        ++ folded_lines (time_lines heading.now.stamp heading.now.minutes fire.now)) }
 {
-    let stamp = stamp_of(alloc, fire.utc)?;
-    push_stamp(alloc, page, b"DTSTAMP:", stamp.as_slice())?;
-    push_stamp(alloc, page, b"DTSTART:", stamp.as_slice())?;
-    push_duration(alloc, page, minutes)
+    push_time(alloc, page, b"DTSTAMP:", heading.stamp)?;
+    push_time(alloc, page, b"DTSTART:", fire.utc)?;
+    push_duration(alloc, page, heading.minutes)
 }
 
 // Pushes an event.
 fn push_event(
     alloc: Global,
     page: &mut Vec<u8>,
-    heading: &Heading,
+    heading: &Heading<'_>,
     fire: &Fire,
 ) -> Result<(), AllocError>
-    ensures { OnOk result (page.new.items ≡ page.old.items ++ event_text
-        (string_bytes heading.now.digest) heading.now.copy heading.now.summary.items
-        heading.now.minutes fire.now) }
+    ensures { OnOk result
+        (page.new.items ≡ page.old.items ++ event_text (shared heading.now) fire.now) }
 {
     push_line(page, b"BEGIN:VEVENT")?;
     push_uid(alloc, page, heading, fire)?;
-    push_times(alloc, page, heading.minutes, fire)?;
+    push_times(alloc, page, heading, fire)?;
     push_summary(page, heading)?;
     push_line(page, b"TRANSP:TRANSPARENT")?;
     push_line(page, b"END:VEVENT")?;
@@ -154,12 +164,11 @@ fn push_event(
 pub(crate) fn push_events(
     alloc: Global,
     page: &mut Vec<u8>,
-    heading: &Heading,
+    heading: &Heading<'_>,
     fires: &[Fire],
 ) -> Result<(), AllocError>
-    ensures { OnOk result (page.new.items ≡ page.old.items ++ flat_map (event_text
-        (string_bytes heading.now.digest) heading.now.copy heading.now.summary.items
-        heading.now.minutes) fires.now) }
+    ensures { OnOk result
+        (page.new.items ≡ page.old.items ++ flat_map (event_text (shared heading.now)) fires.now) }
 {
     for fire in fires {
         push_event(alloc, page, heading, fire)?;

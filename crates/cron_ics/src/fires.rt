@@ -89,6 +89,7 @@ fn collect<L: Left>(alloc: Global, left: &mut L, room: usize) -> Result<Vec<Fire
     ensures many { IfErr result
         (λ why. why ≡ IcsError.TooMany → room < length (L.left left.old)) }
     ensures crowded { IfErr result (λ why. why ≡ IcsError.TooManySchedules → ⊥) }
+    ensures some { IfErr result (λ why. why ≡ IcsError.NoEvents → ⊥) }
 {
     let mut fires = Vec::new(alloc);
     'fires: while let Some(fire) = left.take_first() {
@@ -119,6 +120,7 @@ pub(crate) fn fires_of(
         (fires_of start.nanosecond end.nanosecond entry.now)) }
     ensures crowded { IfErr result (λ why. why ≡ IcsError.TooManySchedules
         → 12 < length entry.now.schedules.now) }
+    ensures some { IfErr result (λ why. why ≡ IcsError.NoEvents → ⊥) }
 {
     if entry.once {
         let mut run = DueRun::between(entry.schedules, start, end, entry.zone);

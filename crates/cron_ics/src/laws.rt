@@ -1,7 +1,7 @@
 //! Laws over the definitions: the functions do nothing, and a caller calls one for what its
 //! contract says.
 
-ghost use Rattle.cron_ics.specs.Laws.{EscapedReadsBack, FoldedIsFolded, FoldedReadsBack, SummariesAreLines, UidsTellFiresApart};
+ghost use Rattle.cron_ics.specs.Laws.{EscapedReadsBack, FoldedIsFolded, FoldedReadsBack, SummariesAreLines, UidsTellEventsApart};
 ghost use Rattle.cron_ics.specs.Reading.{LinesReadBack};
 
 /// What is escaped and folded reads back.
@@ -17,7 +17,7 @@ pub fn lines_are_short()
     ensures summaries { SummariesAreLines }
 {}
 
-/// No two fires of an entry share their UID.
-pub fn uids_tell_fires_apart()
-    ensures { UidsTellFiresApart }
+/// No two events share their UID, unless they share entry, fire and domain.
+pub fn uids_tell_events_apart()
+    ensures { UidsTellEventsApart }
 {}

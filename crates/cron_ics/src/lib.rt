@@ -2,6 +2,7 @@
 #![tactic(auto)]
 
 pub mod calendar;
+pub mod domain;
 pub mod entry;
 pub mod error;
 mod escape;

@@ -1,5 +1,5 @@
 //! A calendar that is written.
-ghost use Rattle.std.specs.Prelude.{◌≡◌, ◌≤◌, List, ℕ, Option, IfErr, OnErr, OnOk, false};
+ghost use Rattle.std.specs.Prelude.{◌≡◌, ◌<◌, ◌≤◌, List, ℕ, Option, IfErr, OnErr, OnOk, false};
 ghost use Rattle.cron_ics.specs.Calendars.{IsCalendar, IsRefusal, total};
 ghost use Rattle.cron_writer.specs.Calls.{HandsOnFlushed, IsFlushed};
 ghost use Rattle.cron_writer.specs.Watching.{has_failed, writer_of, IsSent};
@@ -30,7 +30,7 @@ fn flush<W: Watchable>(out: &mut Watched<W>)
 pub fn write_calendar<W: Watchable>(
     alloc: Global,
     entries: &[Entry<'_>],
-    wanted: &Wanted,
+    wanted: &Wanted<'_>,
     out: &mut Watched<W>,
 ) -> Result<(), IcsError>
     requires { has_failed out.old ≡ false }
@@ -39,6 +39,7 @@ pub fn write_calendar<W: Watchable>(
         (has_failed out.new) text
         × HandsOnFlushed W.writes W.flushes
         (writer_of out.old) (has_failed out.old) (writer_of out.new) (has_failed out.new) text) }
+    ensures some { OnOk result (0 < total wanted.now entries.now) }
     ensures few { OnOk result (total wanted.now entries.now ≤ wanted.now.most) }
     ensures untouched { OnErr result (out.new ≡ out.old) }
     ensures refused { IfErr result (IsRefusal wanted.now entries.now) }

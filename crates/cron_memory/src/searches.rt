@@ -32,15 +32,11 @@ pub fn run(rt: &HostRuntime, schedule: &Schedule) -> Result<(), Error> {
         return Ok(());
     };
     println!(rt; "set up")?;
-    moments(rt, &item)
-}
-
-fn moments(rt: &HostRuntime, item: &Moment) -> Result<(), Error> {
     println!(rt; "datetime: {}", item.datetime().hour())?;
     println!(rt; "timestamp: {}", item.timestamp().as_second())?;
     println!(rt; "offset: {}", item.offset().seconds())?;
     let again = Moment::from_parts(item.datetime(), item.offset());
-    println!(rt; "from_parts: {}", again == Some(*item))?;
+    println!(rt; "from_parts: {}", again == Some(item))?;
     println!(rt; "Display of a moment: {item}")?;
     Ok(())
 }

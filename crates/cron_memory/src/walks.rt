@@ -27,15 +27,6 @@ pub fn run(rt: &HostRuntime, schedule: &Schedule) -> Result<(), Error> {
     };
     let resumed = schedule.resume(&item, &zone);
     println!(rt; "resume: {}", resumed.is_some())?;
-    run_owned(rt, schedule, start, zone)
-}
-
-fn run_owned(
-    rt: &HostRuntime,
-    schedule: &Schedule,
-    start: Timestamp,
-    zone: TimeZone<'_>,
-) -> Result<(), Error> {
     let other = Schedule::from_str(rt.alloc(), "@hourly")?;
     println!(rt; "set up")?;
     let answer = schedule.after_owned(start, zone)?.next();

@@ -7,8 +7,6 @@ mod tests;
 
 use cron_listing::answer::{Status, answer, usage};
 use cron_listing::run::refuse;
-pub use cron_listing::{page, run};
-pub use cron_writer::watched;
 use cron_writer::watched::Watched;
 use std::env;
 use std::io::{self, ErrorKind};

@@ -1,7 +1,9 @@
 pub mod RangeLemmas
 pub mod PartLemmas
+pub mod YearLemmas
 pub mod ComponentLemmas
 pub mod PushLemmas
 pub mod WeekdayLemmas
 pub mod LineLemmas
+pub mod ElapseLemmas
 pub mod UnionLemmas

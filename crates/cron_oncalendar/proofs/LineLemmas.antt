@@ -7,6 +7,7 @@ use Rattle.jiff_core.specs.Calendar.{days_in_month}
 use Rattle.jiff_core.specs.Date.{epoch_day}
 use Rattle.jiff_core.specs.declared.civil.date.Date.{Date}
 use Rattle.jiff_core.proofs.CalendarLemmas.{days_in_month_bounds, weekday_number_bound}
+use Rattle.cron_moments.specs.Civil.{civil}
 use Rattle.cron_units.specs.Sets.{Sets}
 use Rattle.cron_units.specs.Units.{contains, whole}
 use Rattle.cron_units.specs.Units as units
@@ -14,6 +15,7 @@ use Rattle.cron_time.specs.Matches.{contains_year}
 use Rattle.cron_oncalendar.specs.Calendars.{Component, Calendar, ranges, admits, admits_year, calendar_of, calendar_matches, counted_weekday, parts}
 use Rattle.cron_oncalendar.specs.Inner.Pieces.{level, is_under, matches_by, IsComponent, IsInYears, AreDates, AreLines, AreTimes, AreWeekdays}
 use Rattle.cron_oncalendar.proofs.PartLemmas.{first_part, one_part, under_append, under_more}
+use Rattle.cron_oncalendar.proofs.YearLemmas.{civil_in_years}
 
 -- ---- dates and times of day
 
@@ -88,11 +90,12 @@ day_times s hs ms ss h m d =
 turned : (w d t x y z : Bool) → w ≡ x → d ≡ y → t ≡ z → ((w && d) && t) ≡ ((y && x) && z)
 turned w d t x y z e f g = rw (e, f, g) (ap (λ (b : Bool). b && z) (and_comm x y))
 
-pub one_line : (s : Sets) (last_day : Bool) (ws ds ts : List ℕ) → AreWeekdays s.days_of_week ws → AreDates s last_day ds → AreTimes s ts
-    → AreLines 1 (matches_by s last_day) (ws ++ (ds ++ 32 ∷ (ts ++ 10 ∷ [])))
+pub one_line : (s : Sets) (last_day : Bool) (after ws ds ts : List ℕ) → AreWeekdays s.days_of_week ws → AreDates s last_day ds → AreTimes s ts
+    → AreLines after 1 (matches_by s last_day) (ws ++ (ds ++ 32 ∷ (ts ++ (after ++ 10 ∷ []))))
 unfolding level calendar_of
-one_line s last_day ws ds ts w d t =
+one_line s last_day after ws ds ts w d t =
     let rest = ds ++ 32 ∷ ts in
+    let end = after ++ 10 ∷ [] in
     let line = ws ++ rest in
     let cut : parts 32 rest ≡ ds ∷ ts ∷ [] =
     first_part 32 5 ds ts (omega arith) d.under ∙ ap (λ (ps : List (List ℕ)). ds ∷ ps) (one_part 32 4 ts (omega arith) t.under) in
@@ -103,10 +106,11 @@ one_line s last_day ws ds ts w d t =
     record {
       lines = line ∷ [];
       counted = refl;
-      ended = sym (append-nil (line ++ 10 ∷ []) ∙ (append_assoc ws rest (10 ∷ []) ∙ ap (λ (p : List ℕ). ws ++ p) (append_assoc ds (32 ∷ ts) (10 ∷ []))));
+      ended = sym (append-nil (line ++ end) ∙ (append_assoc ws rest end ∙ ap (λ (p : List ℕ). ws ++ p) (append_assoc ds (32 ∷ ts) end)));
       each = (record { under = under; read = rw read refl }, tt);
-      same = λ dt h.
+      same = λ c less.
+          let dt = civil c in
           let week = weekday_number_bound (epoch_day dt.date) in
           rw read (or-false (calendar_matches says dt)
-          ∙ turned _ _ _ _ _ _ (w.same (counted_weekday dt.date) (omega arith) (omega (arith, week))) (d.same dt.date h) (t.same dt.time));
+          ∙ turned _ _ _ _ _ _ (w.same (counted_weekday dt.date) (omega arith) (omega (arith, week))) (d.same dt.date (civil_in_years c less)) (t.same dt.time));
     }

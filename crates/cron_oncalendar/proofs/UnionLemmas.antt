@@ -1,47 +1,48 @@
 -- The lines of schedules, one after another.
-use Rattle.std.proofs.Common.{◌≡◌, ◌+◌, ◌≤◌, ◌<◌, ◌⊎◌, ℕ, ℤ, pos, negsuc, ◌<ℤ◌, ◌≤ℤ◌, ◌/◌, IsSome, Bool, true, false, ◌||◌, ◌&&◌, nat_eq, List, [], ◌∷◌, ◌++◌, length, cond, sum_by, take, take_all, get_or, refl, sym, ap, ◌∙◌, subst, append_assoc, inl, inr, arith, rules, unsigned_abs}
+use Rattle.std.proofs.Common.{◌≡◌, ◌+◌, ◌≤◌, ◌<◌, ◌⊎◌, ℕ, ℤ, pos, negsuc, IsSome, Bool, true, false, not, ◌||◌, ◌&&◌, nat_eq, nat_lt, List, [], ◌∷◌, ◌++◌, length, map, cond, sum_by, take, take_all, get_or, Option, Some, None, refl, sym, ap, ◌∙◌, subst, append_assoc, inl, inr, arith}
+use Rattle.std.specs.Prelude.{is_some, unwrap_or}
 use Rattle.std.proofs.Math.Bool.{and-false}
-use Rattle.std.proofs.lemmas.Bool.{eq-eqb, eqb-true, false≢true, ne_eqb}
-use Rattle.std.proofs.lemmas.Int.{by_lt_z}
+use Rattle.std.proofs.lemmas.Bool.{and_parts, eq-eqb, eqb-true, false≢true, ne_eqb}
 use Rattle.std.proofs.lemmas.List.{length-append, nil_from_length}
 use Rattle.std.proofs.lemmas.List.Folds.{list_any-append, list_any_more}
 use Rattle.std.proofs.lemmas.List.Sums.{sum_by_more}
 use Rattle.std.proofs.lemmas.Grind.{flat_map-append}
+use Rattle.std.proofs.lemmas.Option.{slice_get_within}
 use Rattle.std.specs.List.{AllByRecursion, flat_map, list_any}
-use Rattle.jiff_core.specs.Calendar.{day_count, days_from_civil, days_in_month, days_of_months, days_of_years}
-use Rattle.jiff_core.specs.Date.{epoch_day}
-use Rattle.jiff_core.specs.declared.civil.date.Date.{Date}
-use Rattle.jiff_core.specs.declared.civil.datetime.DateTime.{DateTime}
-use Rattle.jiff_core.proofs.DateLemmas.{epoch_day-lt}
+use Rattle.std.specs.Option.{ForSome, option_map}
 use Rattle.jiff_core.proofs.SignedLemmas.{signed_arith}
+use Rattle.jiff_core.specs.Calendar.{days_in_month}
+use Rattle.jiff_core.specs.declared.civil.datetime.DateTime.{DateTime}
 use Rattle.cron_moments.specs.Calendar.{weekday_number}
-use Rattle.cron_moments.specs.Civil.{civil, days_in_range, seconds_in_range}
-use Rattle.cron_moments.specs.CivilDates.{date_numbered}
-use Rattle.cron_moments.proofs.CivilLemmas.{date-civil}
-use Rattle.cron_moments.proofs.DateLemmas.{epoch_at, low_at, year_is}
+use Rattle.cron_moments.specs.Civil.{civil, seconds_in_range}
+use Rattle.cron_units.specs.declared.way.Way.TheVariants.{Ahead}
+use Rattle.cron_units.specs.Nearest.{IsNearest}
 use Rattle.cron_units.specs.Sets.{Sets}
 use Rattle.cron_units.specs.Units.{FieldSet, contains}
-use Rattle.cron_time.specs.Matches.{contains_year, has_day, matches, matches_time}
+use Rattle.cron_time.specs.Matches.{contains_year, has_day, is_match, matches, matches_time}
+use Rattle.cron_time.proofs.ListLemmas.{Among}
+use Rattle.cron_dues.specs.Clock.Dues.{matching_seconds}
+use Rattle.cron_dues.proofs.MemberLemmas.{not_both, passes_in, passes_of, sets-match}
 use Rattle.cron_unions.specs.Unions.{matches_any}
 use Rattle.cron_oncalendar.specs.Calendars.{calendar_of, line_matches, parts}
-use Rattle.cron_oncalendar.specs.Unions.{IsNever, SaysUnion, lacks_numbers, last_lines, line_count, numbered_lines}
-use Rattle.cron_oncalendar.specs.Inner.Pieces.{level, is_day, matches_by, matches_last, AreLines, IsInYears, IsLine, IsWhole}
+use Rattle.cron_oncalendar.specs.Unions.{IsNever, SaysUnion, last_lines, line_count, never_fires, numbered_lines}
+use Rattle.cron_oncalendar.specs.Zones.{is_word, zone_text}
+use Rattle.cron_oncalendar.specs.Inner.Pieces.{level, is_day, is_under, matches_by, matches_last, AreLines, IsLine, IsWhole}
 use Rattle.cron_oncalendar.specs.Inner.Written.{Pushes}
-use Rattle.cron_oncalendar.proofs.PartLemmas.{first_part}
+use Rattle.cron_oncalendar.proofs.ElapseLemmas.{elapses_when_due}
+use Rattle.cron_oncalendar.proofs.PartLemmas.{both_true, first_part, under_append}
 use Rattle.cron_oncalendar.proofs.PushLemmas.{pushed_on}
 
 -- ---- lines
 
-ended_line : List ℕ → List ℕ
-ended_line line = line ++ 10 ∷ []
+pub no_lines : (after : List ℕ) (number : ℕ) (test : DateTime → Bool) → number ≡ 0 → ((c : ℕ) → c < seconds_in_range → test (civil c) ≡ false)
+    → AreLines after number test []
+no_lines after number test e none = record { lines = []; counted = sym e; ended = refl; each = tt; same = λ c less. sym (none c less) }
 
-pub no_lines : (number : ℕ) (test : DateTime → Bool) → number ≡ 0 → ((dt : DateTime) → test dt ≡ false) → AreLines number test []
-no_lines number test e none = record { lines = []; counted = sym e; ended = refl; each = tt; same = λ dt h. sym (none dt) }
-
-pub same_lines : (m n : ℕ) (test other : DateTime → Bool) (piece : List ℕ) → m ≡ n → ((dt : DateTime) → test dt ≡ other dt) → AreLines m test piece
-    → AreLines n other piece
-same_lines m n test other piece c e h =
-    record { lines = h.lines; counted = h.counted ∙ c; ended = h.ended; each = h.each; same = λ dt y. h.same dt y ∙ e dt }
+pub same_lines : (after : List ℕ) (m n : ℕ) (test other : DateTime → Bool) (piece : List ℕ) → m ≡ n → ((dt : DateTime) → test dt ≡ other dt)
+    → AreLines after m test piece → AreLines after n other piece
+same_lines after m n test other piece c e h =
+    record { lines = h.lines; counted = h.counted ∙ c; ended = h.ended; each = h.each; same = λ k less. h.same k less ∙ e (civil k) }
 
 each_append : (P : List ℕ → Type 0) (xs ys : List (List ℕ)) → AllByRecursion P xs → AllByRecursion P ys → AllByRecursion P (xs ++ ys)
 each_append P [] ys a b = b
@@ -51,25 +52,26 @@ either : (a b x y : Bool) → a ≡ x → b ≡ y → (a || b) ≡ (x || y)
 either a b x y e f = rw (e, f) refl
 
 -- lines, and then more
-lines_on : (m n : ℕ) (test other both : DateTime → Bool) (p q : List ℕ) → ((dt : DateTime) → (test dt || other dt) ≡ both dt) → AreLines m test p
-    → AreLines n other q → AreLines (m + n) both (p ++ q)
-lines_on m n test other both p q e a b =
+lines_on : (after : List ℕ) (m n : ℕ) (test other both : DateTime → Bool) (p q : List ℕ) → ((dt : DateTime) → (test dt || other dt) ≡ both dt)
+    → AreLines after m test p → AreLines after n other q → AreLines after (m + n) both (p ++ q)
+lines_on after m n test other both p q e a b =
     record {
       lines = a.lines ++ b.lines;
       counted = omega (arith, length-append a.lines b.lines, a.counted, b.counted);
-      ended = rw (a.ended, b.ended) (sym (flat_map-append (λ (line : List ℕ). line ++ 10 ∷ []) a.lines b.lines));
+      ended = rw (a.ended, b.ended) (sym (flat_map-append (λ (line : List ℕ). line ++ (after ++ 10 ∷ [])) a.lines b.lines));
       each = each_append IsLine a.lines b.lines a.each b.each;
-      same = λ dt y. list_any-append (line_matches dt) a.lines b.lines ∙ (either _ _ _ _ (a.same dt y) (b.same dt y) ∙ e dt);
+      same = λ c less.
+          list_any-append (line_matches (civil c)) a.lines b.lines ∙ (either _ _ _ _ (a.same c less) (b.same c less) ∙ e (civil c));
     }
 
-pub lines_pushed : (m n number : ℕ) (test other both : DateTime → Bool) (old mid new : List ℕ) → m + n ≡ number
-    → ((dt : DateTime) → (test dt || other dt) ≡ both dt) → Pushes (AreLines m test) old mid → Pushes (AreLines n other) mid new
-    → Pushes (AreLines number both) old new
-lines_pushed m n number test other both old mid new c e a b =
+pub lines_pushed : (after : List ℕ) (m n number : ℕ) (test other both : DateTime → Bool) (old mid new : List ℕ) → m + n ≡ number
+    → ((dt : DateTime) → (test dt || other dt) ≡ both dt) → Pushes (AreLines after m test) old mid → Pushes (AreLines after n other) mid new
+    → Pushes (AreLines after number both) old new
+lines_pushed after m n number test other both old mid new c e a b =
     record {
       piece = a.piece ++ b.piece;
       pushed = pushed_on old mid new a.piece b.piece a.pushed b.pushed;
-      is = subst (λ (k : ℕ). AreLines k both (a.piece ++ b.piece)) c (lines_on m n test other both a.piece b.piece e a.is b.is);
+      is = subst (λ (k : ℕ). AreLines after k both (a.piece ++ b.piece)) c (lines_on after m n test other both a.piece b.piece e a.is b.is);
     }
 
 -- ---- a schedule
@@ -114,11 +116,17 @@ two_lines s dt =
     in_two (contains_year s.years dt.date.year && contains s.months dt.date.month) (is_day s false dt.date) s.days_of_month.last_day (is_day s true dt.date)
     (contains s.days_of_week (weekday_number dt.date)) (matches_time s dt.time)
 
-pub no_line : (s : Sets) → lacks_numbers s ≡ true → line_count s ≡ 0
+pub no_line : (s : Sets) → never_fires s ≡ true → line_count s ≡ 0
 no_line s e = rw e refl
 
-pub both_lines : (s : Sets) → lacks_numbers s ≡ false → numbered_lines s + last_lines s ≡ line_count s
+pub both_lines : (s : Sets) → never_fires s ≡ false → numbered_lines s + last_lines s ≡ line_count s
 both_lines s e = rw e refl
+
+-- a set has no number, besides that of the days of the month
+abbrev lacks_numbers : Sets → Bool
+lacks_numbers s =
+    nat_eq (length s.seconds) 0 || nat_eq (length s.minutes) 0 || nat_eq (length s.hours) 0 || nat_eq (length s.months) 0
+    || nat_eq (length s.days_of_week) 0 || nat_eq (length s.years) 0
 
 or_parts : (a b : Bool) → (a || b) ≡ false → (a ≡ false) × (b ≡ false)
 or_parts true b e = absurd (false≢true (sym e))
@@ -127,7 +135,7 @@ or_parts false b e = (refl, e)
 nonempty : (xs : List ℕ) → nat_eq (length xs) 0 ≡ false → xs ≡ [] → ⊥
 nonempty xs e none = false≢true (sym e ∙ eq-eqb (length xs) 0 (ap (λ (ys : List ℕ). length ys) none))
 
-pub whole_from : (s : Sets) → lacks_numbers s ≡ false → IsWhole s
+whole_from : (s : Sets) → lacks_numbers s ≡ false → IsWhole s
 whole_from s e =
     let a = or_parts _ _ e in
     let b = or_parts _ _ a.0 in
@@ -160,7 +168,7 @@ seven : (y m d w h n s : Bool) → (y ≡ false) ⊎ (m ≡ false) ⊎ (w ≡ fa
 seven y m d w h n s e = grind arith
 
 -- nothing matches a schedule of which a set is empty
-pub none_matched : (s : Sets) → lacks_numbers s ≡ true → (dt : DateTime) → matches s dt ≡ false
+none_matched : (s : Sets) → lacks_numbers s ≡ true → (dt : DateTime) → matches s dt ≡ false
 unfolding matches
 none_matched s e dt =
     let none = seven (contains_year s.years dt.date.year) (contains s.months dt.date.month)
@@ -179,72 +187,105 @@ none_matched s e dt =
     (λ h. none (inr (inr (inl (none_in s.days_of_week (weekday_number dt.date) h))))))
     (λ h. none (inl (no_year s.years dt.date.year h))) e
 
+-- ---- what never fires
+
+empty_length : (xs : List ℕ) → ((x : ℕ) → Among xs x → ⊥) → length xs ≡ 0
+empty_length [] none = refl
+empty_length (x ∷ xs) none = absurd (none x (0, refl))
+
+never_of : (s : Sets) → ((c : ℕ) → matches s (civil c) ≡ false) → never_fires s ≡ true
+never_of s none =
+    eq-eqb (length (matching_seconds s)) 0
+    (empty_length (matching_seconds s) (λ c there. not_both (matches s (civil c)) (passes_of c (matches s (civil c)) ((sets-match s).passing c there)) (none c)))
+
+-- as a search from the first civil second on finds
+pub never_found : (s : Sets) (found : Option ℕ) (never : Bool) → IsNearest Ahead (is_match s) (pos 0) found → is_some found ≡ not never
+    → never ≡ never_fires s
+never_found s None false near e = absurd (false≢true e)
+never_found s (Some n) true near e = absurd (false≢true (sym e))
+never_found s None true none e =
+    sym (eq-eqb (length (matching_seconds s)) 0
+    (empty_length (matching_seconds s) (λ c there. not_both (is_match s c) ((sets-match s).passing c there) (none c (omega (arith, signed_arith))))))
+never_found s (Some n) false near e =
+    let there = (sets-match s).among n near.passes in
+    sym (ne_eqb (length (matching_seconds s)) 0 (λ empty. let less = slice_get_within (matching_seconds s) there.0 n there.1 in omega arith))
+
+isnt_true : (b : Bool) → (b ≡ true → ⊥) → b ≡ false
+isnt_true true h = absurd (h refl)
+isnt_true false h = refl
+
+pub none_matching : (s : Sets) → never_fires s ≡ true → (c : ℕ) → c < seconds_in_range → matches s (civil c) ≡ false
+none_matching s never c less =
+    isnt_true (matches s (civil c)) (λ match.
+    let there = (sets-match s).among c (passes_in c (matches s (civil c)) less match) in
+    let within = slice_get_within (matching_seconds s) there.0 c there.1 in
+    let none : length (matching_seconds s) ≡ 0 = eqb-true (length (matching_seconds s)) 0 never in omega arith)
+
+pub whole_where_it_fires : (s : Sets) → never_fires s ≡ false → IsWhole s
+whole_where_it_fires s e =
+    whole_from s (isnt_true (lacks_numbers s) (λ lacks. not_both (never_fires s) (never_of s (λ c. none_matched s lacks (civil c))) e))
+
 -- ---- a union
 
-pub one_more : (ss : List Sets) (i : ℕ) (old mid new : List ℕ) (s : Sets) → i < length ss → s ≡ get_or ss i s
-    → Pushes (AreLines (sum_by line_count (take i ss)) (matches_any (take i ss))) old mid → Pushes (AreLines (line_count s) (matches s)) mid new
-    → Pushes (AreLines (sum_by line_count (take (i + 1) ss)) (matches_any (take (i + 1) ss))) old new
-one_more ss i old mid new s less is a b =
-    lines_pushed _ _ _ _ _ _ old mid new
+pub one_more : (after : List ℕ) (ss : List Sets) (i : ℕ) (old mid new : List ℕ) (s : Sets) → i < length ss → s ≡ get_or ss i s
+    → Pushes (AreLines after (sum_by line_count (take i ss)) (matches_any (take i ss))) old mid
+    → Pushes (AreLines after (line_count s) (matches s)) mid new
+    → Pushes (AreLines after (sum_by line_count (take (i + 1) ss)) (matches_any (take (i + 1) ss))) old new
+one_more after ss i old mid new s less is a b =
+    lines_pushed after _ _ _ _ _ _ old mid new
     (sym (sum_by_more line_count ss i s less ∙ ap (λ (t : Sets). sum_by line_count (take i ss) + line_count t) (sym is)))
     (λ dt. sym (list_any_more (λ (t : Sets). matches t dt) ss i s less ∙ ap (λ (t : Sets). matches_any (take i ss) dt || matches t dt) (sym is))) a b
 
-pub all_taken : (ss : List Sets) (i : ℕ) (old new : List ℕ) → length ss ≤ i
-    → Pushes (AreLines (sum_by line_count (take i ss)) (matches_any (take i ss))) old new
-    → Pushes (AreLines (sum_by line_count ss) (matches_any ss)) old new
-all_taken ss i old new g h = subst (λ (ts : List Sets). Pushes (AreLines (sum_by line_count ts) (matches_any ts)) old new) (take_all i ss g) h
-
--- ---- the years of the range
-
-last_date : Date
-last_date = record { year = pos 2100; month = 12; day = 31; year_in = search rules; month_in = search rules; day_in = search rules }
-
-last_epoch : epoch_day last_date ≡ pos 47_846
-unfolding last_date day_count days_from_civil days_of_months days_of_years
-last_epoch = refl
-
-no_later_year : (d : Date) → pos 2100 <ℤ d.year → pos 47_846 <ℤ epoch_day d
-unfolding last_date
-no_later_year d late = omega (arith, signed_arith, last_epoch, epoch_day-lt last_date d (inl late))
-
-in_years : (d : Date) (n : ℕ) → n < days_in_range → epoch_day d ≡ pos n → pos 1970 ≤ℤ d.year → IsInYears d
-in_years d n less e low =
-    let number : d.year ≡ pos (unsigned_abs d.year) = year_is d.year low in
-    by_lt_z (pos 2100) d.year
-    (λ late. absurd (omega (arith, signed_arith, e, no_later_year d late)))
-    (λ high. record {
-      number = unsigned_abs d.year;
-      is = number;
-      low = omega (arith, signed_arith, number);
-      high = omega (arith, signed_arith, number);
-    })
-
-civil_in_years : (c : ℕ) → c < seconds_in_range → IsInYears (civil c).date
-civil_in_years c less =
-    let day : c / 86_400 < days_in_range = omega arith in
-    subst IsInYears (sym (date-civil c)) (in_years (date_numbered (c / 86_400)).0 (c / 86_400) day (epoch_at (c / 86_400) day) (low_at (c / 86_400) day))
+pub all_taken : (after : List ℕ) (ss : List Sets) (i : ℕ) (old new : List ℕ) → length ss ≤ i
+    → Pushes (AreLines after (sum_by line_count (take i ss)) (matches_any (take i ss))) old new
+    → Pushes (AreLines after (sum_by line_count ss) (matches_any ss)) old new
+all_taken after ss i old new g h =
+    subst (λ (ts : List Sets). Pushes (AreLines after (sum_by line_count ts) (matches_any ts)) old new) (take_all i ss g) h
 
 -- ---- the text
 
-ended_parts : (lines : List (List ℕ)) → AllByRecursion IsLine lines → parts 10 (flat_map (λ line. line ++ 10 ∷ []) lines) ≡ lines ++ [] ∷ []
+word_byte_under : (b : ℕ) → (not (nat_eq b 32 || nat_eq b 10)) ≡ true → nat_lt (level b) 6 ≡ true
 unfolding level
-ended_parts [] a = refl
-ended_parts (line ∷ lines) a =
-    let rest = flat_map (λ (text : List ℕ). text ++ 10 ∷ []) lines in
-    ap (parts 10) (append_assoc line (10 ∷ []) rest)
-    ∙ (first_part 10 6 line rest (omega arith) a.0.under ∙ ap (λ (ls : List (List ℕ)). line ∷ ls) (ended_parts lines a.1))
+word_byte_under b h = grind arith
+
+word_under : (text : List ℕ) → is_word text ≡ true → is_under 6 text ≡ true
+word_under [] h = refl
+word_under (b ∷ bs) h =
+    let both = and_parts (not (nat_eq b 32 || nat_eq b 10)) (is_word bs) h in
+    both_true (nat_lt (level b) 6) (is_under 6 bs) (word_byte_under b both.0) (word_under bs both.1)
+
+pub named_by_word : {A : Type 0} (f : A → List ℕ) (o : Option A) → ForSome o (λ x. is_word (f x) ≡ true)
+    → ForSome (option_map f o) (λ name. is_word name ≡ true)
+named_by_word f None h x e = absurd (cc)
+named_by_word f (Some a) h x e = subst (λ (n : List ℕ). is_word n ≡ true) (ap (λ o. unwrap_or o (f a)) e) (h a refl)
+
+pub zone_under : (zone : Option (List ℕ)) → ForSome zone (λ name. is_word name ≡ true) → is_under 6 (zone_text zone) ≡ true
+unfolding level
+zone_under None h = refl
+zone_under (Some name) h = word_under name (h name refl)
+
+ended_parts : (after : List ℕ) (lines : List (List ℕ)) → is_under 6 after ≡ true → AllByRecursion IsLine lines
+    → parts 10 (flat_map (λ line. line ++ (after ++ 10 ∷ [])) lines) ≡ map (λ line. line ++ after) lines ++ [] ∷ []
+unfolding level
+ended_parts after [] u a = refl
+ended_parts after (line ∷ lines) u a =
+    let rest = flat_map (λ (text : List ℕ). text ++ (after ++ 10 ∷ [])) lines in
+    ap (parts 10) (append_assoc line (after ++ 10 ∷ []) rest ∙ (ap (λ (t : List ℕ). line ++ t) (append_assoc after (10 ∷ []) rest) ∙ sym (append_assoc line after (10 ∷ rest))))
+    ∙ (first_part 10 6 (line ++ after) rest (omega arith) (under_append 6 line after a.0.under u)
+    ∙ ap (λ (ls : List (List ℕ)). (line ++ after) ∷ ls) (ended_parts after lines u a.1))
 
 each_read : (lines : List (List ℕ)) → AllByRecursion IsLine lines → AllByRecursion (λ line. IsSome (calendar_of line)) lines
 each_read [] a = tt
 each_read (line ∷ lines) a = (a.0.read, each_read lines a.1)
 
-some_bytes : (line rest : List ℕ) → (line ++ 10 ∷ []) ++ rest ≡ [] → ⊥
-some_bytes [] rest e = absurd (cc)
-some_bytes (b ∷ line) rest e = absurd (cc)
+some_bytes : (line after rest : List ℕ) → (line ++ (after ++ 10 ∷ [])) ++ rest ≡ [] → ⊥
+some_bytes [] [] rest e = absurd (cc)
+some_bytes [] (b ∷ after) rest e = absurd (cc)
+some_bytes (b ∷ line) after rest e = absurd (cc)
 
-no_bytes : (lines : List (List ℕ)) → flat_map (λ line. line ++ 10 ∷ []) lines ≡ [] → lines ≡ []
-no_bytes [] e = refl
-no_bytes (line ∷ lines) e = absurd (some_bytes line (flat_map (λ (text : List ℕ). text ++ 10 ∷ []) lines) e)
+no_bytes : (after : List ℕ) (lines : List (List ℕ)) → flat_map (λ line. line ++ (after ++ 10 ∷ [])) lines ≡ [] → lines ≡ []
+no_bytes after [] e = refl
+no_bytes after (line ∷ lines) e = absurd (some_bytes line after (flat_map (λ (text : List ℕ). text ++ (after ++ 10 ∷ [])) lines) e)
 
 pub is_empty_text : (text : List ℕ) (len : ℕ) → len ≡ length text → nat_eq len 0 ≡ true → text ≡ []
 is_empty_text text len e empty = nil_from_length text (sym e ∙ eqb-true len 0 empty)
@@ -253,22 +294,25 @@ pub isnt_empty : (text : List ℕ) (len : ℕ) → len ≡ length text → nat_e
 isnt_empty text len e some none = false≢true (sym some ∙ eq-eqb len 0 (e ∙ ap (λ (t : List ℕ). length t) none))
 
 -- lines were pushed to an empty text
-pub says_union : (ss : List Sets) (old new : List ℕ) → old ≡ [] → (new ≡ [] → ⊥) → Pushes (AreLines (sum_by line_count ss) (matches_any ss)) old new → SaysUnion ss new
-says_union ss old new e some h =
-    let is : new ≡ flat_map (λ line. line ++ 10 ∷ []) h.is.lines = h.pushed ∙ (ap (λ (t : List ℕ). t ++ h.piece) e ∙ h.is.ended) in
+pub says_union : (ss : List Sets) (zone : Option (List ℕ)) (after old new : List ℕ) → after ≡ zone_text zone
+    → ForSome zone (λ name. is_word name ≡ true) → old ≡ [] → (new ≡ [] → ⊥)
+    → Pushes (AreLines after (sum_by line_count ss) (matches_any ss)) old new → SaysUnion ss zone new
+says_union ss zone after old new z word e some h =
+    let is : new ≡ flat_map (λ line. line ++ (after ++ 10 ∷ [])) h.is.lines = h.pushed ∙ (ap (λ (t : List ℕ). t ++ h.piece) e ∙ h.is.ended) in
+    let under : is_under 6 after ≡ true = rw z (zone_under zone word) in
     record {
       lines = h.is.lines;
-      some = λ none. some (is ∙ ap (λ (ls : List (List ℕ)). flat_map (λ line. line ++ 10 ∷ []) ls) none);
+      some = λ none. some (is ∙ ap (λ (ls : List (List ℕ)). flat_map (λ line. line ++ (after ++ 10 ∷ [])) ls) none);
       counted = h.is.counted;
-      ended = ap (parts 10) is ∙ ended_parts h.is.lines h.is.each;
+      ended = ap (parts 10) is ∙ (ended_parts after h.is.lines under h.is.each
+          ∙ ap (λ (t : List ℕ). map (λ (line : List ℕ). line ++ t) h.is.lines ++ [] ∷ []) z);
       read = each_read h.is.lines h.is.each;
-      same = λ c less. h.is.same (civil c) (civil_in_years c less);
+      same = h.is.same;
+      elapses = elapses_when_due ss h.is.lines h.is.same;
     }
 
-pub says_never : (ss : List Sets) (old new : List ℕ) → old ≡ [] → new ≡ [] → Pushes (AreLines (sum_by line_count ss) (matches_any ss)) old new → IsNever ss
-says_never ss old new e none h =
-    let lines : h.is.lines ≡ [] = no_bytes h.is.lines (sym (h.pushed ∙ (ap (λ (t : List ℕ). t ++ h.piece) e ∙ h.is.ended)) ∙ none) in
-    record {
-      counted = sym h.is.counted ∙ ap (λ (ls : List (List ℕ)). length ls) lines;
-      same = λ c less. sym (h.is.same (civil c) (civil_in_years c less)) ∙ ap (λ (ls : List (List ℕ)). list_any (line_matches (civil c)) ls) lines;
-    }
+pub says_never : (ss : List Sets) (after old new : List ℕ) → old ≡ [] → new ≡ []
+    → Pushes (AreLines after (sum_by line_count ss) (matches_any ss)) old new → IsNever ss
+says_never ss after old new e none h =
+    let lines : h.is.lines ≡ [] = no_bytes after h.is.lines (sym (h.pushed ∙ (ap (λ (t : List ℕ). t ++ h.piece) e ∙ h.is.ended)) ∙ none) in
+    λ c less. sym (h.is.same c less) ∙ ap (λ (ls : List (List ℕ)). list_any (line_matches (civil c)) ls) lines

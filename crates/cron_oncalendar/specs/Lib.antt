@@ -1,3 +1,5 @@
 pub mod Calendars
+pub mod Zones
+pub mod Elapses
 pub mod Unions
 pub mod Inner

@@ -1,15 +1,18 @@
 -- The lines of a union of schedules.
-use Rattle.std.specs.Prelude.{◌≡◌, ℕ, ◌<◌, ◌+◌, ◌==◌, Bool, false, ◌||◌, List, [], ◌∷◌, ◌++◌, IsSome, length, sum_by, if◌then◌else◌}
+use Rattle.std.specs.Prelude.{◌≡◌, ◌↔◌, ℕ, ◌<◌, ◌+◌, ◌==◌, ℤ, Bool, false, List, [], ◌∷◌, ◌++◌, Option, IsSome, length, map, sum_by, if◌then◌else◌}
 use Rattle.std.specs.List.{AllByRecursion, list_any}
+use Rattle.jiff_tz.specs.declared.timezone.TimeZone.{TimeZone}
 use Rattle.cron_moments.specs.Civil.{civil, seconds_in_range}
 use Rattle.cron_units.specs.Sets.{Sets}
+use Rattle.cron_dues.specs.Dues.{matching_seconds}
 use Rattle.cron_unions.specs.Unions.{matches_any}
 use Rattle.cron_oncalendar.specs.Calendars.{parts, calendar_of, line_matches}
+use Rattle.cron_oncalendar.specs.Elapses.{ElapsesAt, IsShownAt}
+use Rattle.cron_oncalendar.specs.Zones.{zone_text}
 
--- a set has no number, besides that of the days of the month
-abbrev pub lacks_numbers : Sets → Bool
-lacks_numbers s =
-    length s.seconds == 0 || length s.minutes == 0 || length s.hours == 0 || length s.months == 0 || length s.days_of_week == 0 || length s.years == 0
+-- no civil second of the range matches
+abbrev pub never_fires : Sets → Bool
+never_fires s = length (matching_seconds s) == 0
 
 -- a line for the days of the month by number, if there are any
 abbrev pub numbered_lines : Sets → ℕ
@@ -19,21 +22,22 @@ numbered_lines s = if length s.days_of_month.ordinals == 0 then 0 else 1
 abbrev pub last_lines : Sets → ℕ
 last_lines s = if s.days_of_month.last_day then 1 else 0
 
--- the lines of a schedule: both of these, but none where a set is empty
+-- the lines of a schedule: both of these, but none where it never fires
 abbrev pub line_count : Sets → ℕ
-line_count s = if lacks_numbers s then 0 else numbered_lines s + last_lines s
+line_count s = if never_fires s then 0 else numbered_lines s + last_lines s
 
--- The lines of each schedule, each with its line feed. systemd reads each of them. A civil second of the range matches one of them
--- exactly if it matches one of the schedules.
-pub record SaysUnion (ss : List Sets) (text : List ℕ) : Type 0 where
+-- The lines of each schedule, each with the name of the zone, if one is given, and its line feed. systemd reads each of them. A civil second
+-- of the range matches one of them exactly if it matches one of the schedules. In each zone they elapse exactly when a due fire comes whose
+-- time the clock shows.
+pub record SaysUnion (ss : List Sets) (zone : Option (List ℕ)) (text : List ℕ) : Type 0 where
   pub lines : List (List ℕ)
   pub some : lines ≡ [] → ⊥
   pub counted : length lines ≡ sum_by line_count ss
-  pub ended : parts 10 text ≡ lines ++ [] ∷ []
+  pub ended : parts 10 text ≡ map (λ line. line ++ zone_text zone) lines ++ [] ∷ []
   pub read : AllByRecursion (λ line. IsSome (calendar_of line)) lines
   pub same : (c : ℕ) → c < seconds_in_range → list_any (line_matches (civil c)) lines ≡ matches_any ss (civil c)
+  pub elapses : (z : TimeZone) (n : ℤ) → ElapsesAt lines z n ↔ IsShownAt ss z n
 
--- no schedule has a line, and no civil second of the range matches one of them
-pub record IsNever (ss : List Sets) : Type 0 where
-  pub counted : sum_by line_count ss ≡ 0
-  pub same : (c : ℕ) → c < seconds_in_range → matches_any ss (civil c) ≡ false
+-- no civil second of the range matches one of the schedules
+abbrev pub IsNever : List Sets → Type 0
+IsNever ss = (c : ℕ) → c < seconds_in_range → matches_any ss (civil c) ≡ false

@@ -1,16 +1,20 @@
 //! The lines of schedules, and of their unions.
 
-ghost use Rattle.std.specs.Prelude.{◌≡◌, [], true, false, ℕ, OnOk, IfOk, MatchOption, sum_by};
+ghost use Rattle.std.specs.Prelude.{◌≡◌, ◌≤◌, [], true, false, ℕ, OnOk, IfOk, MatchOption, sum_by};
+ghost use Rattle.std.specs.Option.{ForSome, option_map};
 ghost use Rattle.std.specs.String.{string_bytes};
 ghost use Rattle.cron_time.specs.Matches.{matches};
 ghost use Rattle.cron_unions.specs.Unions.{matches_any};
-ghost use Rattle.cron_oncalendar.specs.Inner.Pieces.{AreDates, AreTimes, AreLines, IsWhole, matches_by, matches_last};
+ghost use Rattle.cron_oncalendar.specs.Inner.Pieces.{is_under, AreDates, AreTimes, AreLines, IsWhole, matches_by, matches_last};
 ghost use Rattle.cron_oncalendar.specs.Inner.Written.{Pushes};
-ghost use Rattle.cron_oncalendar.specs.Unions.{IsNever, SaysUnion, lacks_numbers, last_lines, line_count, numbered_lines};
+ghost use Rattle.cron_oncalendar.specs.Unions.{IsNever, SaysUnion, last_lines, line_count, never_fires, numbered_lines};
+ghost use Rattle.cron_oncalendar.specs.Zones.{is_word, zone_text};
 
 use crate::components::{push_component, push_weekdays};
+use cron_time::search::civil_seconds::nearest_match;
 use cron_units::fields::ScheduleFields;
 use cron_units::time_unit::TimeUnitSpec;
+use cron_units::way::Way;
 use std::alloc::{AllocError, Global};
 
 // Pushes the years, the months and the days of the month: those by number, or else the last one.
@@ -42,94 +46,130 @@ fn push_time(text: &mut String, fields: &ScheduleFields) -> Result<(), AllocErro
     push_component(text, &fields.seconds)
 }
 
-// Pushes the line of the days by number, or else of the last day of the month.
-fn push_line(text: &mut String, fields: &ScheduleFields, last_day: bool) -> Result<(), AllocError>
+// Pushes the line of the days by number, or else of the last day of the month, and what stands
+// after each line.
+fn push_line(
+    text: &mut String,
+    fields: &ScheduleFields,
+    last_day: bool,
+    after: &str,
+) -> Result<(), AllocError>
     requires whole { IsWhole fields.now }
     requires numbered { last_day ≡ false → fields.now.days_of_month.ordinals ≡ [] → ⊥ }
-    ensures { OnOk result (Pushes (AreLines 1 (matches_by fields.now last_day))
+    ensures { OnOk result (Pushes (AreLines after.now 1 (matches_by fields.now last_day))
         (string_bytes text.old) (string_bytes text.new)) }
 {
     push_weekdays(text, &fields.days_of_week)?;
     push_date(text, fields, last_day)?;
     text.push_str(" ")?;
     push_time(text, fields)?;
+    text.push_str(after)?;
     writeln!(text)
 }
 
 // Pushes the line of the days by number, if there are any.
-fn push_numbered(text: &mut String, fields: &ScheduleFields) -> Result<(), AllocError>
+fn push_numbered(text: &mut String, fields: &ScheduleFields, after: &str) -> Result<(), AllocError>
     requires whole { IsWhole fields.now }
     ensures { OnOk result (Pushes
-        (AreLines (numbered_lines fields.now) (matches_by fields.now false))
+        (AreLines after.now (numbered_lines fields.now) (matches_by fields.now false))
         (string_bytes text.old) (string_bytes text.new)) }
 {
     if fields.days_of_month.count() == 0 {
         return Ok(());
     }
-    push_line(text, fields, false)
+    push_line(text, fields, false, after)
 }
 
 // Pushes the line of the last day of the month, if it is marked.
-fn push_last(text: &mut String, fields: &ScheduleFields) -> Result<(), AllocError>
+fn push_last(text: &mut String, fields: &ScheduleFields, after: &str) -> Result<(), AllocError>
     requires whole { IsWhole fields.now }
-    ensures { OnOk result (Pushes (AreLines (last_lines fields.now) (matches_last fields.now))
+    ensures { OnOk result (Pushes
+        (AreLines after.now (last_lines fields.now) (matches_last fields.now))
         (string_bytes text.old) (string_bytes text.new)) }
 {
     if !fields.days_of_month.last_day() {
         return Ok(());
     }
-    push_line(text, fields, true)
+    push_line(text, fields, true, after)
 }
 
-// Whether a set is empty besides the days of the month.
-fn lacks_numbers(fields: &ScheduleFields) -> bool
-    ensures { result ≡ lacks_numbers fields.now }
+// Whether no civil second matches.
+fn never_fires(fields: &ScheduleFields) -> bool
+    ensures { result ≡ never_fires fields.now }
 {
-    fields.seconds.count() == 0
-        || fields.minutes.count() == 0
-        || fields.hours.count() == 0
-        || fields.months.count() == 0
-        || fields.days_of_week.count() == 0
-        || fields.years.count() == 0
+    nearest_match(fields, Way::Ahead, 0).is_none()
 }
 
-// Pushes the lines of a schedule, of which there are none where a set is empty.
-fn push_lines(text: &mut String, fields: &ScheduleFields) -> Result<(), AllocError>
-    ensures { OnOk result (Pushes (AreLines (line_count fields.now) (matches fields.now))
+// Pushes the lines of a schedule, of which there are none where it never fires.
+fn push_lines(text: &mut String, fields: &ScheduleFields, after: &str) -> Result<(), AllocError>
+    ensures { OnOk result (Pushes (AreLines after.now (line_count fields.now) (matches fields.now))
         (string_bytes text.old) (string_bytes text.new)) }
 {
-    if lacks_numbers(fields) {
+    if never_fires(fields) {
         return Ok(());
     }
-    push_numbered(text, fields)?;
-    push_last(text, fields)
+    push_numbered(text, fields, after)?;
+    push_last(text, fields, after)
 }
 
-fn push_union(text: &mut String, schedules: &[ScheduleFields]) -> Result<(), AllocError>
+fn push_union(
+    text: &mut String,
+    schedules: &[ScheduleFields],
+    after: &str,
+) -> Result<(), AllocError>
     ensures { OnOk result (Pushes
-        (AreLines (sum_by line_count schedules.now) (matches_any schedules.now))
+        (AreLines after.now (sum_by line_count schedules.now) (matches_any schedules.now))
         (string_bytes text.old) (string_bytes text.new)) }
 {
     for fields in schedules {
-        push_lines(text, fields)?;
+        push_lines(text, fields, after)?;
     }
     Ok(())
 }
 
+/// Whether a text is one word of a line, as the name of each zone is: it has neither a space nor a
+/// line feed.
+pub fn is_word(text: &str) -> bool
+    ensures { result ≡ is_word text.now }
+{
+    text.as_bytes()
+        .iter()
+        .all(|byte| !(*byte == b' ' || *byte == b'\n'))
+}
+
+// What stands after each line: a space and the name of a zone, or nothing.
+fn zone_text(alloc: Global, zone: Option<&str>) -> Result<String, AllocError>
+    ensures { IfOk result (λ after. string_bytes after
+        ≡ zone_text (option_map (λ name. name.now) zone.entry)) }
+{
+    let mut after = String::new(alloc);
+    if let Some(name) = zone {
+        after.push_str(" ")?;
+        after.push_str(name)?;
+    }
+    Ok(after)
+}
+
 /// The lines of systemd's `OnCalendar` for a union: from 1970 to 2100 they match just what it does.
 /// A schedule has one line, or two where the last day of the month is marked beside numbers, and
-/// none where a set is empty. A star among the years means those after 2100 too. `None` says that
-/// there is no line. `AllocError` comes where the allocator refuses memory for the text.
+/// none where it never fires. The name of a zone stands after each line, if one is given; else a
+/// line elapses by the machine's clock. A star among the years means those after 2100 too. `None`
+/// says that the union never fires. `AllocError` comes where the allocator refuses memory for the
+/// text.
 pub fn calendar_lines(
     alloc: Global,
     schedules: &[ScheduleFields],
+    zone: Option<&str>,
 ) -> Result<Option<String>, AllocError>
+    requires { ForSome zone (λ name. is_word name.now ≡ true) }
     ensures { IfOk result (λ lines. MatchOption lines
         (IsNever schedules.now)
-        (λ text. SaysUnion schedules.now (string_bytes text))) }
+        (λ text. SaysUnion schedules.now (option_map (λ name. name.now) zone.entry)
+        (string_bytes text))) }
 {
+    let after = zone_text(alloc, zone)?;
     let mut text = String::new(alloc);
-    push_union(&mut text, schedules)?;
+    push_union(&mut text, schedules, after.as_str())?;
     if text.is_empty() {
         return Ok(None);
     }

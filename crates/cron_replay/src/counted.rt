@@ -1,78 +1,72 @@
-//! The fires of a year. A row has five parts: the expression, the zone, two instants, and of the
-//! fires after the first and not after the second their number and the sum that is made of all of
-//! them in order.
+//! The fires and due fires of long stretches. A row has five parts: the expression, the zone, two
+//! instants, and of the fires after the first and not after the second their number and the sum that
+//! is made of all of them in order.
 //!
-//! The numbers were made from the zone database of an ordinary system (2025b), of which it was
-//! asked for each second what the clock shows.
+//! The numbers of fires were made from the zone database of an ordinary system (2025b), of which it
+//! was asked for each second what the clock shows. Those of due fires were made as the answers of
+//! `dues_between.txt`. São Paulo stands by the rule that it had in 2018. The last two rows are of
+//! fixed times, which Debian's cron, cronie and bcron run once on each day of the year.
 
-use crate::settings::{Setting, case_of, cut, setting_of, start_at};
+use crate::instants::start_at;
 use anyhow::Result;
-use cron::schedule::Moment;
-use cron_fires::Fires;
-use cron_rows::{Report, Row};
+use cron::Schedule;
+use cron_fires::{Dues, Fires};
+use cron_rows::{Row, zone_file, zone_named};
+use jiff::tz::TimeZone;
 use jiff::{SignedDuration, Timestamp};
 
-/// What a sum is multiplied by before a fire is added to it.
+/// What a sum is multiplied by before a number is added to it.
 const FACTOR: i64 = 1_000_003;
 
 /// Sums are less, or greater than its negative. It is prime, as the factor is.
 const MODULUS: i64 = 2_147_483_647;
 
-/// The number of some fires, and the sum that tells which they are and in what order.
-#[derive(Clone, Copy)]
-struct Tally {
-    count: u64,
-    sum: i64,
-}
-
-impl Tally {
-    /// No fires.
-    fn new() -> Tally {
-        Tally { count: 0, sum: 0 }
+/// Compares how many fires there are, and the sum of their numbers.
+fn check(row: &mut Row<'_>, asked: &str, count: usize, numbers: &[i64]) -> Result<()> {
+    let mut sum = 0_i64;
+    for number in numbers {
+        sum = sum.wrapping_mul(FACTOR).wrapping_add(*number) % MODULUS;
     }
-
-    fn add(self, fire: Moment) -> Tally {
-        let moved = self.sum.wrapping_mul(FACTOR);
-        Tally {
-            count: self.count.saturating_add(1),
-            sum: moved.wrapping_add(fire.timestamp().as_second()) % MODULUS,
-        }
-    }
+    row.add("", &count)?;
+    row.add(", ", &sum)?;
+    row.check(asked)
 }
 
-/// A tally with the fires after one instant and not after another added.
-fn add_fires(tally: Tally, setting: &Setting, from: Timestamp, to: Timestamp) -> Tally {
-    let mut tally = tally;
-    for fire in Fires::between(&setting.schedule, from, to, &setting.zone) {
-        tally = tally.add(fire);
-    }
-    tally
-}
-
-/// The fires of one run.
-fn tally_whole(setting: &Setting, end: Timestamp) -> Tally {
-    add_fires(Tally::new(), setting, setting.start, end)
-}
-
-/// The fires of runs over an hour each.
-fn hour_by_hour(setting: &Setting, end: Timestamp) -> Result<Tally> {
-    let mut tally = Tally::new();
-    let mut from = setting.start;
+/// The fires of runs over so many hours each.
+fn ask_hours<'x>(
+    row: &mut Row<'_>,
+    schedule: &'x Schedule,
+    zone: &'x TimeZone<'x>,
+    (start, end): (Timestamp, Timestamp),
+    hours: i64,
+) -> Result<()> {
+    let mut numbers = Vec::new(row.alloc());
+    let mut from = start;
     for _ in 0..u64::MAX {
         if from >= end {
             break;
         }
-        let to = from.saturating_add(SignedDuration::from_hours(1))?.min(end);
-        tally = add_fires(tally, setting, from, to);
+        let to = from
+            .saturating_add(SignedDuration::from_secs(hours.saturating_mul(3_600)))?
+            .min(end);
+        for fire in Fires::between(schedule, from, to, zone) {
+            numbers.push(fire.timestamp().as_second())?;
+        }
         from = to;
     }
-    Ok(tally)
+    let asked = format!(in row.alloc(); "runs over {hours} hours")?;
+    check(row, asked.as_str(), numbers.len(), numbers.as_slice())
 }
 
 /// The fires of runs that are cut after ten, each gone on with from its last fire.
-fn ten_by_ten(setting: &Setting, end: Timestamp) -> Tally {
-    let mut tally = Tally::new();
-    let mut run = Fires::after(&setting.schedule, setting.start, &setting.zone);
+fn ask_tens<'x>(
+    row: &mut Row<'_>,
+    schedule: &'x Schedule,
+    zone: &'x TimeZone<'x>,
+    (start, end): (Timestamp, Timestamp),
+) -> Result<()> {
+    let mut numbers = Vec::new(row.alloc());
+    let mut run = Fires::after(schedule, start, zone);
     for count in 1..u64::MAX {
         let Some(fire) = run.next() else {
             break;
@@ -80,45 +74,41 @@ fn ten_by_ten(setting: &Setting, end: Timestamp) -> Tally {
         if fire.timestamp() > end {
             break;
         }
-        tally = tally.add(fire);
+        numbers.push(fire.timestamp().as_second())?;
         if count % 10 == 0 {
-            run = Fires::past(&setting.schedule, &fire, &setting.zone);
+            run = Fires::past(schedule, &fire, zone);
         }
     }
-    tally
+    check(row, "ten by ten", numbers.len(), numbers.as_slice())
 }
 
-/// Compares a tally with that of a row.
-fn compare_tally(
-    report: &mut Report<'_>,
-    row: Row<'_>,
-    cut_by: &str,
-    answers: &str,
-    tally: Tally,
-) -> Result<()> {
-    let (count, sum) = (tally.count, tally.sum);
-    let told = format!(in report.alloc(); "{count}, {sum}")?;
-    report.compare(row, cut_by, answers, told.as_str())
+/// Asks for fires: by one run over ten years, hour by hour, and ten by ten.
+pub(crate) fn ask_fires(row: &mut Row<'_>) -> Result<()> {
+    let (text, name) = (row.cell(), row.cell());
+    let file = zone_file(row, name)?;
+    let zone = zone_named(name, &file)?;
+    let schedule = Schedule::from_str(row.alloc(), text)?;
+    let stretch = (start_at(row.cell(), &zone)?, start_at(row.cell(), &zone)?);
+    ask_hours(row, &schedule, &zone, stretch, 87_600)?;
+    ask_hours(row, &schedule, &zone, stretch, 1)?;
+    ask_tens(row, &schedule, &zone, stretch)
 }
 
-/// Compares the tallies of runs that are cut in each way.
-fn compare_tallies(
-    report: &mut Report<'_>,
-    row: Row<'_>,
-    setting: &Setting,
-    end: Timestamp,
-    answers: &str,
-) -> Result<()> {
-    let by_hour = hour_by_hour(setting, end)?;
-    compare_tally(report, row, "one run", answers, tally_whole(setting, end))?;
-    compare_tally(report, row, "hour by hour", answers, by_hour)?;
-    compare_tally(report, row, "ten by ten", answers, ten_by_ten(setting, end))
-}
-
-pub(crate) fn replay(report: &mut Report<'_>, row: Row<'_>) -> Result<()> {
-    let case = case_of(row.text)?;
-    let (end, answers) = cut(case.rest)?;
-    let setting = setting_of(report.alloc(), case)?;
-    let end = start_at(end, &setting.zone)?;
-    compare_tallies(report, row, &setting, end, answers)
+/// Asks for due fires, of each of which the instant and the number of the nominal second are added.
+pub(crate) fn ask_dues(row: &mut Row<'_>) -> Result<()> {
+    let (text, name) = (row.cell(), row.cell());
+    let file = zone_file(row, name)?;
+    let zone = zone_named(name, &file)?;
+    let schedule = Schedule::from_str(row.alloc(), text)?;
+    let (start, end) = (start_at(row.cell(), &zone)?, start_at(row.cell(), &zone)?);
+    let mut numbers = Vec::new(row.alloc());
+    let mut count = 0_usize;
+    for fire in Dues::between(&schedule, start, end, &zone) {
+        let instant = fire.timestamp().as_second();
+        let shown = instant.wrapping_add(i64::from(fire.offset().seconds()));
+        numbers.push(instant)?;
+        numbers.push(shown.wrapping_sub(i64::from(fire.seconds_past())))?;
+        count = count.saturating_add(1);
+    }
+    check(row, "Dues::between", count, numbers.as_slice())
 }

@@ -1,63 +1,137 @@
-//! Replays the rows of `data/`: texts and what they mean, walks and what they answer, fires and due
-//! fires by instants, also those of several schedules as one. It prints each answer that isn't the
-//! one of its row, for each file how many rows it has, and how many texts one change away from an
-//! accepted one were tried. Where an answer differs, a file is missing or a row can't be taken
-//! apart, it ends with a status other than 0.
+//! Asks the rows of `data/`: of texts and what they mean, of walks and what they answer, of fires
+//! and due fires by instants, also those of several schedules as one, of runs by a clock, and of
+//! agendas and their loop. It prints each answer that isn't the one of its row, and for each file
+//! how many rows it has.
 #![tactic(auto)]
 
-mod answers;
-mod characters;
+mod agendas;
+mod clocks;
 mod counted;
-mod due_texts;
 mod dues;
-mod dues_counted;
-mod files;
+mod entries;
 mod fires;
-mod long_texts;
-mod makers;
-mod mutations;
-mod readers;
-mod searches;
-mod settings;
-mod short_texts;
-mod stretches;
+mod instants;
+mod made_texts;
+mod plans;
+mod runs;
 mod texts;
-mod union_dues;
-mod union_fires;
-mod unions;
 mod walks;
-mod zone_files;
 
 use anyhow::Result;
-use cron_rows::{Replay, Report, Row, replay_files};
-use files::{FILES, Kind};
+use cron_rows::{Ask, Row, ask_files};
 
-impl Replay for Kind {
-    fn replay(&self, report: &mut Report<'_>, row: Row<'_>) -> Result<()> {
+/// What the rows of a file hold.
+#[derive(Clone, Copy)]
+enum Kind {
+    /// A text and its answer.
+    Texts,
+    /// A form, and the short texts that are read in it.
+    ShortTexts,
+    /// A long text, told by its pieces, and its answer.
+    LongTexts,
+    /// A text, and how many texts are one change away from it.
+    Changes,
+    /// A walk: expression, zone, start, calls and answers.
+    Walks,
+    /// A search ahead or back: expression, zone, datetime and answer.
+    Searches(&'static str),
+    /// What is asked, as `fires after` or `dues between`: expression, zone, an instant or two, and
+    /// the answers.
+    Instants(&'static str),
+    /// The same of several schedules as one, which the row tells behind what is asked.
+    Unions,
+    /// The fires between two instants, their number and one number that is made of all of them.
+    FiresCounted,
+    /// The same of due fires.
+    DuesCounted,
+    /// A text, and the due fire that it is.
+    DueTexts,
+    /// A run of a plan on a clock that is told what to show.
+    Plans,
+    /// Steps of an agenda.
+    Agendas,
+    /// The loop over one.
+    Runs,
+}
+
+/// The files, each with its kind.
+const FILES: [(Kind, &str); 53] = [
+    (Kind::Texts, "texts_accepted.txt"),
+    (Kind::Texts, "texts_refused.txt"),
+    (Kind::Texts, "texts_beginnings.txt"),
+    (Kind::Texts, "texts_shorthands.txt"),
+    (Kind::Texts, "texts_units_seconds.txt"),
+    (Kind::Texts, "texts_units_minutes.txt"),
+    (Kind::Texts, "texts_units_hours.txt"),
+    (Kind::Texts, "texts_units_days_of_month.txt"),
+    (Kind::Texts, "texts_units_months.txt"),
+    (Kind::Texts, "texts_units_days_of_week.txt"),
+    (Kind::Texts, "texts_units_years.txt"),
+    (Kind::Texts, "texts_names_first_half_year.txt"),
+    (Kind::Texts, "texts_names_second_half_year.txt"),
+    (Kind::Texts, "texts_names_days_of_week.txt"),
+    (Kind::Texts, "texts_names_other_units.txt"),
+    (Kind::Texts, "texts_faults.txt"),
+    (Kind::Texts, "texts_spaces.txt"),
+    (Kind::Texts, "texts_random_read.txt"),
+    (Kind::Texts, "texts_random_outside_the_grammar.txt"),
+    (Kind::Texts, "texts_random_refused_values.txt"),
+    (Kind::ShortTexts, "short_texts.txt"),
+    (Kind::LongTexts, "long_texts.txt"),
+    (Kind::Walks, "walks_ahead.txt"),
+    (Kind::Walks, "walks_back.txt"),
+    (Kind::Walks, "walks_that_turn.txt"),
+    (Kind::Walks, "walks_in_folds_and_gaps.txt"),
+    (Kind::Walks, "walks_at_the_ends_of_time.txt"),
+    (Kind::Walks, "walks_at_fixed_offsets.txt"),
+    (Kind::Walks, "walks_of_eight_calls.txt"),
+    (Kind::Walks, "walks_utc.txt"),
+    (Kind::Walks, "walks_fixed.txt"),
+    (Kind::Walks, "walks_rules.txt"),
+    (Kind::Walks, "walks_zone_turns.txt"),
+    (Kind::Walks, "walks_mended_late_starts.txt"),
+    (Kind::Walks, "walks_mended_early_starts.txt"),
+    (Kind::Walks, "walks_mended_turns.txt"),
+    (Kind::Searches("ahead"), "searches_ahead.txt"),
+    (Kind::Searches("back"), "searches_back.txt"),
+    (Kind::Instants("fires after"), "fires_after.txt"),
+    (Kind::Instants("fires by"), "fires_by.txt"),
+    (Kind::Instants("fires between"), "fires_between.txt"),
+    (Kind::Instants("fires between"), "fires_counted_by_hand.txt"),
+    (Kind::FiresCounted, "fires_of_a_year.txt"),
+    (Kind::Instants("dues after"), "dues_after.txt"),
+    (Kind::Instants("dues by"), "dues_by.txt"),
+    (Kind::Instants("dues between"), "dues_between.txt"),
+    (Kind::DuesCounted, "dues_of_days.txt"),
+    (Kind::DueTexts, "due_texts.txt"),
+    (Kind::Unions, "unions.txt"),
+    (Kind::Plans, "plans.txt"),
+    (Kind::Agendas, "agendas.txt"),
+    (Kind::Runs, "runs.txt"),
+    (Kind::Changes, "changes.txt"),
+];
+
+impl Ask for Kind {
+    fn ask(&self, row: &mut Row<'_>) -> Result<()> {
         match self {
-            Kind::Texts => texts::replay(report, row),
-            Kind::ShortTexts => short_texts::replay(report, row),
-            Kind::LongTexts => long_texts::replay(report, row),
-            Kind::Walks => walks::replay(report, row),
-            Kind::SearchesAhead => searches::replay_ahead(report, row),
-            Kind::SearchesBack => searches::replay_back(report, row),
-            Kind::FiresAfter => fires::replay_after(report, row),
-            Kind::FiresBy => fires::replay_by(report, row),
-            Kind::FiresBetween => stretches::replay(report, row),
-            Kind::FiresCounted => counted::replay(report, row),
-            Kind::DuesAfter => dues::replay_after(report, row),
-            Kind::DuesBy => dues::replay_by(report, row),
-            Kind::DuesBetween => dues::replay_between(report, row),
-            Kind::DuesCounted => dues_counted::replay(report, row),
-            Kind::DueTexts => due_texts::replay(report, row),
-            Kind::Unions => unions::replay(report, row),
+            Kind::Texts => texts::ask(row),
+            Kind::ShortTexts => made_texts::ask_short(row),
+            Kind::LongTexts => made_texts::ask_long(row),
+            Kind::Changes => made_texts::ask_changes(row),
+            Kind::Walks => walks::ask(row),
+            Kind::Searches(way) => walks::ask_search(row, way),
+            Kind::Instants(asked) => instants::ask(row, asked),
+            Kind::Unions => instants::ask_union(row),
+            Kind::FiresCounted => counted::ask_fires(row),
+            Kind::DuesCounted => counted::ask_dues(row),
+            Kind::DueTexts => dues::ask_text(row),
+            Kind::Plans => plans::ask(row),
+            Kind::Agendas => agendas::ask(row),
+            Kind::Runs => runs::ask(row),
         }
     }
 }
 
 fn main(rt: HostRuntime) -> Result<()> {
-    let mut report = Report::new(&rt);
-    replay_files(&mut report, &FILES)?;
-    mutations::replay(&mut report)?;
-    report.end()
+    ask_files(&rt, &FILES)
 }

@@ -15,73 +15,147 @@
 //! The random ones were made by chance, half of them by changing a few characters of a text that is
 //! read.
 
-use crate::answers::{kept_text, outcome};
-use crate::characters::text_of_row;
-use crate::readers::{READERS, Reader};
-use crate::settings::cut;
 use anyhow::Result;
-use cron::Schedule;
-use cron::error::Error;
-use cron_rows::{Report, Row};
+use cron::error::{Error, ErrorKind};
+use cron::{Schedule, TimeUnitSpec};
+use cron_rows::Row;
 use std::alloc::{AllocError, Global};
+use std::borrow::CowStr;
 
-fn compare_outcome(
-    report: &mut Report<'_>,
-    row: Row<'_>,
-    reader: Reader,
-    read: &Result<Schedule, Error>,
-    answer: &str,
-) -> Result<()> {
-    let told = outcome(report.alloc(), read)?;
-    report.compare(row, reader.name(), answer, told.as_str())
+/// The readers. `try_from_cow` counts twice: it takes texts that are borrowed and texts that are
+/// owned.
+pub(crate) const READERS: [&str; 5] = [
+    "from_str",
+    "try_from_str",
+    "try_from_string",
+    "try_from_cow, borrowed",
+    "try_from_cow, owned",
+];
+
+/// What a reader makes of a text.
+pub(crate) fn read(alloc: Global, reader: &str, text: &str) -> Result<Schedule, Error> {
+    match reader {
+        "try_from_str" => Schedule::try_from_str(alloc, text),
+        "try_from_string" => Schedule::try_from_string(alloc, String::from_str(alloc, text)?),
+        "try_from_cow, borrowed" => Schedule::try_from_cow(alloc, CowStr::Borrowed(text)),
+        "try_from_cow, owned" => {
+            let owned = String::from_str(alloc, text)?;
+            Schedule::try_from_cow(alloc, CowStr::Owned(owned))
+        }
+        _ => Schedule::from_str(alloc, text),
+    }
 }
 
-/// Compares what a reader makes of a text, and what is kept of it: a schedule keeps the text, and a
-/// refusal its message.
-pub(crate) fn compare_reader(
-    report: &mut Report<'_>,
-    row: Row<'_>,
-    reader: Reader,
-    text: &str,
-    answer: &str,
-) -> Result<()> {
-    let read = reader.read(report.alloc(), text);
-    compare_outcome(report, row, reader, &read, answer)?;
-    let wanted = if read.is_ok() { text } else { answer };
-    report.compare(row, "what is kept", wanted, kept_text(&read))
+/// The text that a row shows. It shows some characters by others.
+pub(crate) fn text_of_row(alloc: Global, row: &str) -> Result<String, AllocError> {
+    let mut text = String::new(alloc);
+    for character in row.chars() {
+        text.push(match character {
+            '␀' => '\0',
+            '␉' => '\t',
+            '␊' => '\n',
+            '␋' => '\x0b',
+            '␌' => '\x0c',
+            '␍' => '\r',
+            '␠' => ' ',
+            '␤' => '\u{85}',
+            '⍽' => '\u{a0}',
+            '⎵' => '\u{2003}',
+            '〿' => '\u{3000}',
+            '⌷' => '\u{feff}',
+            other => other,
+        })?;
+    }
+    Ok(text)
 }
 
-/// What `from_str` makes of a text.
-fn answer_of(alloc: Global, text: &str) -> Result<String, AllocError> {
-    outcome(alloc, &Reader::FromStr.read(alloc, text))
+/// Writes a set as `0-4,7`, or a star in place of the whole range.
+fn add_set<T: TimeUnitSpec>(text: &mut String, unit: &T, whole: &str) -> Result<(), AllocError> {
+    let mut set = String::new(*text.allocator());
+    let mut next = None;
+    for ordinal in unit.iter() {
+        let follows = next == Some(ordinal);
+        let behind = ordinal.saturating_add(1);
+        if !follows {
+            let comma = if set.is_empty() { "" } else { "," };
+            write!(set, "{comma}{ordinal}")?;
+        } else if !unit.includes(behind) {
+            write!(set, "-{ordinal}")?;
+        }
+        next = Some(behind);
+    }
+    text.push_str(if set.as_str() == whole {
+        "*"
+    } else {
+        set.as_str()
+    })
 }
 
-/// Compares what the other readers make of a text with what `from_str` makes of it.
-pub(crate) fn compare_readers(report: &mut Report<'_>, row: Row<'_>, text: &str) -> Result<()> {
-    let answer = answer_of(report.alloc(), text)?;
+/// The seven sets, from the seconds to the years, or the message of a refusal.
+fn outcome(alloc: Global, read: &Result<Schedule, Error>) -> Result<String, AllocError> {
+    let schedule = match read {
+        Ok(schedule) => schedule,
+        Err(error) => return error.to_string(alloc),
+    };
+    let days = schedule.days_of_month();
+    let mut text = String::new(alloc);
+    add_set(&mut text, schedule.seconds(), "0-59")?;
+    text.push(' ')?;
+    add_set(&mut text, schedule.minutes(), "0-59")?;
+    text.push(' ')?;
+    add_set(&mut text, schedule.hours(), "0-23")?;
+    text.push(' ')?;
+    add_set(&mut text, days, "1-31")?;
+    if days.last_day() {
+        text.push_str(if days.count() > 0 { ",L" } else { "L" })?;
+    }
+    text.push(' ')?;
+    add_set(&mut text, schedule.months(), "1-12")?;
+    text.push(' ')?;
+    add_set(&mut text, schedule.days_of_week(), "1-7")?;
+    text.push(' ')?;
+    add_set(&mut text, schedule.years(), "1970-2100")?;
+    Ok(text)
+}
+
+/// Compares what the readers make of a text, and what is kept of it: a schedule keeps the text, and
+/// a refusal its message.
+pub(crate) fn compare_readers(row: &Row<'_>, text: &str, answer: &str) -> Result<()> {
     for reader in READERS {
-        if !matches!(reader, Reader::FromStr) {
-            compare_reader(report, row, reader, text, answer.as_str())?;
+        let read = read(row.alloc(), reader, text);
+        let told = outcome(row.alloc(), &read)?;
+        row.compare(reader, answer, told.as_str())?;
+        match &read {
+            Ok(schedule) => row.compare("what is kept", text, schedule.source())?,
+            Err(error) => match error.kind() {
+                ErrorKind::Expression(kept) => {
+                    row.compare("what is kept", answer, kept.as_str())?;
+                }
+                ErrorKind::OutOfMemory => row.compare(reader, "a refusal", "out of memory")?,
+            },
         }
     }
     Ok(())
 }
 
-/// Compares the readers at every beginning of a text, and at the text.
-pub(crate) fn compare_beginnings(report: &mut Report<'_>, row: Row<'_>, text: &str) -> Result<()> {
-    for (length, _) in text.char_indices() {
-        if let Some(beginning) = text.get(..length) {
-            compare_readers(report, row, beginning)?;
-        }
-    }
-    compare_readers(report, row, text)
+/// Compares what the readers make of a text with what `from_str` makes of it.
+pub(crate) fn compare_same(row: &Row<'_>, text: &str) -> Result<()> {
+    let answer = outcome(row.alloc(), &Schedule::from_str(row.alloc(), text))?;
+    compare_readers(row, text, answer.as_str())
 }
 
-pub(crate) fn replay(report: &mut Report<'_>, row: Row<'_>) -> Result<()> {
-    let (text, answer) = cut(row.text)?;
-    let text = text_of_row(report.alloc(), text)?;
-    for reader in READERS {
-        compare_reader(report, row, reader, text.as_str(), answer)?;
+/// Compares the readers at every beginning of a text, and at the text.
+pub(crate) fn compare_beginnings(row: &Row<'_>, text: &str) -> Result<()> {
+    for (length, _) in text.char_indices() {
+        if let Some(beginning) = text.get(..length) {
+            compare_same(row, beginning)?;
+        }
     }
-    compare_beginnings(report, row, text.as_str())
+    compare_same(row, text)
+}
+
+pub(crate) fn ask(row: &mut Row<'_>) -> Result<()> {
+    let text = text_of_row(row.alloc(), row.cell())?;
+    compare_readers(row, text.as_str(), row.wanted())?;
+    compare_beginnings(row, text.as_str())
 }

@@ -1,4 +1,4 @@
-//! Walks and their answers. A row has five parts:
+//! Walks and their answers, and single searches. A row of a walk has five parts:
 //!
 //! - the expression;
 //! - the zone, as `UTC`, a place, `fixed` and the seconds ahead of UTC, or a rule text;
@@ -27,73 +27,138 @@
 //! `walks_of_eight_calls.txt` has every list of eight calls from four starts about a fold of four
 //! items, with what an index answers that is moved along these items.
 
-use crate::makers::{MAKERS, Maker};
-use crate::settings::{Case, Setting, case_of, cut, list_answers, setting_of};
+use crate::fires::add;
+use crate::instants::start_at;
 use crate::texts::compare_beginnings;
 use anyhow::{Result, bail};
 use cron::schedule::Turn;
-use cron_rows::{Report, Row};
-use std::alloc::{AllocError, Global};
+use cron::{OwnedScheduleIterator, Schedule, ScheduleIterator};
+use cron_rows::{Row, zone_file, zone_named};
+use jiff::Timestamp;
+use jiff::civil::DateTime;
+use jiff::tz::TimeZone;
 
-/// The call that a character stands for.
-fn turn_of(call: char) -> Result<Turn> {
-    match call {
-        '>' => Ok(Turn::Next),
-        '<' => Ok(Turn::NextBack),
-        other => bail!("{other:?} is no call"),
-    }
-}
-
-/// The calls that a text lists.
-fn turns_of(alloc: Global, calls: &str) -> Result<Vec<Turn>> {
-    let mut turns = Vec::new(alloc);
+fn ask_walk(row: &mut Row<'_>, maker: &str, walk: ScheduleIterator<'_>, calls: &str) -> Result<()> {
+    let mut walk = walk;
     for call in calls.chars() {
-        turns.push(turn_of(call)?)?;
+        let answer = if call == '<' {
+            walk.next_back()
+        } else {
+            walk.next()
+        };
+        add(row, &answer)?;
     }
-    Ok(turns)
+    row.check(maker)
 }
 
-/// What a walk of one maker answers to these calls.
-fn answers_of(
-    alloc: Global,
-    maker: Maker,
-    setting: &Setting,
-    turns: &[Turn],
-) -> Result<String, AllocError> {
-    let answers = maker.answers(alloc, setting, turns)?;
-    list_answers(alloc, answers.as_slice())
-}
-
-fn compare_makers(
-    report: &mut Report<'_>,
-    row: Row<'_>,
-    setting: &Setting,
-    turns: &[Turn],
-    answers: &str,
-) -> Result<()> {
-    for maker in MAKERS {
-        let told = answers_of(report.alloc(), maker, setting, turns)?;
-        report.compare(row, maker.name(), answers, told.as_str())?;
-    }
-    Ok(())
-}
-
-/// Compares what the walks of all makers answer.
-fn compare_walks(
-    report: &mut Report<'_>,
-    row: Row<'_>,
-    case: Case<'_>,
+fn ask_owned(
+    row: &mut Row<'_>,
+    maker: &str,
+    walk: OwnedScheduleIterator<'_>,
     calls: &str,
-    answers: &str,
 ) -> Result<()> {
-    let turns = turns_of(report.alloc(), calls)?;
-    let setting = setting_of(report.alloc(), case)?;
-    compare_makers(report, row, &setting, turns.as_slice(), answers)
+    let mut walk = walk;
+    for call in calls.chars() {
+        let answer = if call == '<' {
+            walk.next_back()
+        } else {
+            walk.next()
+        };
+        add(row, &answer)?;
+    }
+    row.check(maker)
 }
 
-pub(crate) fn replay(report: &mut Report<'_>, row: Row<'_>) -> Result<()> {
-    let case = case_of(row.text)?;
-    let (calls, answers) = cut(case.rest)?;
-    compare_walks(report, row, case, calls, answers)?;
-    compare_beginnings(report, row, case.expression)
+/// Asks reversed walks, each by its other call.
+fn ask_reversed<'x>(
+    row: &mut Row<'_>,
+    schedule: &'x Schedule,
+    zone: &'x TimeZone<'x>,
+    start: Timestamp,
+    calls: &str,
+) -> Result<()> {
+    let mut walk = schedule.after(start, zone).rev();
+    for call in calls.chars() {
+        let answer = if call == '<' {
+            walk.next()
+        } else {
+            walk.next_back()
+        };
+        add(row, &answer)?;
+    }
+    row.check("rev")?;
+    let mut walk = schedule.after_owned(start, *zone)?.rev();
+    for call in calls.chars() {
+        let answer = if call == '<' {
+            walk.next()
+        } else {
+            walk.next_back()
+        };
+        add(row, &answer)?;
+    }
+    row.check("rev, owned")
+}
+
+/// Asks each walk; one of them by one call of `play`, and all others by calls one by one.
+pub(crate) fn ask(row: &mut Row<'_>) -> Result<()> {
+    let (text, name) = (row.cell(), row.cell());
+    let file = zone_file(row, name)?;
+    let zone = zone_named(name, &file)?;
+    let start = start_at(row.cell(), &zone)?;
+    let calls = row.cell();
+    let schedule = Schedule::from_str(row.alloc(), text)?;
+    ask_walk(row, "after", schedule.after(start, &zone), calls)?;
+    ask_walk(row, "upcoming", schedule.upcoming(start, &zone), calls)?;
+    ask_owned(
+        row,
+        "after_owned",
+        schedule.after_owned(start, zone)?,
+        calls,
+    )?;
+    let walk = schedule.upcoming_owned(start, zone)?;
+    ask_owned(row, "upcoming_owned", walk, calls)?;
+    let walk = OwnedScheduleIterator::new(schedule.clone()?, start, zone);
+    ask_owned(row, "new", walk, calls)?;
+    ask_reversed(row, &schedule, &zone, start, calls)?;
+    let mut turns = Vec::new(row.alloc());
+    for call in calls.chars() {
+        turns.push(match call {
+            '>' => Turn::Next,
+            '<' => Turn::NextBack,
+            other => bail!("{other:?} is no call"),
+        })?;
+    }
+    let mut walk = schedule.after(start, &zone);
+    for answer in walk.play(row.alloc(), turns.as_slice())? {
+        add(row, &answer)?;
+    }
+    row.check("play")?;
+    compare_beginnings(row, text)
+}
+
+/// Asks a single search, with its counts of dates and of look-ups of readings.
+pub(crate) fn ask_search(row: &mut Row<'_>, way: &str) -> Result<()> {
+    let (text, name) = (row.cell(), row.cell());
+    let file = zone_file(row, name)?;
+    let zone = zone_named(name, &file)?;
+    let from = row.cell().parse::<DateTime>()?;
+    let schedule = Schedule::from_str(row.alloc(), text)?;
+    let search = if way == "back" {
+        schedule.last_at_or_before(from, &zone)
+    } else {
+        schedule.first_at_or_after(from, &zone)
+    };
+    match &search.found {
+        Some(found) => {
+            row.add("", &found.first)?;
+            if let Some(second) = &found.second {
+                row.add(", ", second)?;
+            }
+        }
+        None => row.add("", &"none")?,
+    }
+    row.add(", conversions ", &search.conversions)?;
+    row.add(", days ", &search.days)?;
+    row.check(way)?;
+    compare_beginnings(row, text)
 }

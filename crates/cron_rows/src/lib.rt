@@ -1,130 +1,128 @@
-//! Rows of files that a program replays: where a row stands, and what is told of an answer that
-//! differs.
+//! Rows of files, which a program asks for their answers: each answer that isn't the one of its row
+//! is printed.
 #![tactic(auto)]
 
-use anyhow::{Context, Result, ensure};
+mod tables;
+
+use anyhow::{Context, Result};
 use std::alloc::{AllocError, Global};
-use std::{fmt, fs};
+use std::fmt::{Display, Write};
+use std::fs;
+pub use tables::{sets_of, zone_file, zone_named};
 
-/// A row of a file.
-#[derive(Clone, Copy)]
+/// A row of a file: cells, the last of which is the answer that is wanted.
+#[derive(Drop)]
 pub struct Row<'r> {
-    /// The file's name.
-    pub file: &'r str,
-    /// The row's line, from 1.
-    pub line: usize,
-    /// What stands in the line.
-    pub text: &'r str,
-}
-
-impl<'r> fmt::Display for Row<'r> {
-    fn fmt<W: fmt::Write>(&self, f: &mut fmt::Formatter<W>) -> fmt::Result {
-        write!(f, "{}:{}", self.file, self.line)
-    }
+    /// What prints, and opens files.
+    pub rt: &'r HostRuntime,
+    file: &'r str,
+    line: usize,
+    separator: &'static str,
+    rest: &'r str,
+    answer: String,
 }
 
 impl<'r> Row<'r> {
-    /// What is asked, and the answer behind the first separator.
-    pub fn parts(&self, separator: &str) -> Result<(&'r str, &'r str)> {
-        self.text
-            .split_once(separator)
-            .context("the row lacks an answer")
-    }
-}
-
-// The message of a refusal, or `read`.
-fn message_of<T, E: fmt::Display>(
-    alloc: Global,
-    read: &Result<T, E>,
-) -> Result<String, AllocError> {
-    match read {
-        Ok(_) => String::from_str(alloc, "read"),
-        Err(fault) => format!(in alloc; "{fault}"),
-    }
-}
-
-/// Prints what differs, and counts it.
-#[derive(Drop)]
-pub struct Report<'r> {
-    rt: &'r HostRuntime,
-    differences: usize,
-}
-
-impl<'r> Report<'r> {
-    /// Counts from nothing on.
-    pub fn new(rt: &'r HostRuntime) -> Report<'r> {
-        Report { rt, differences: 0 }
-    }
-
-    /// The runtime that it prints by.
-    pub fn runtime(&self) -> &'r HostRuntime {
-        self.rt
-    }
-
-    /// The memory of that runtime.
+    /// Its memory.
     pub fn alloc(&self) -> Global {
         self.rt.alloc()
     }
 
-    /// Compares the answer to what was asked, which has a name, with what a row has.
-    pub fn compare(&mut self, row: Row<'_>, asked: &str, expected: &str, got: &str) -> Result<()> {
-        if got != expected {
-            self.differences = self.differences.saturating_add(1);
-            println!(self.rt; "{row}: {asked}: expected {expected:?}, got {got:?}")?;
+    /// Takes the first of the cells that are left. The last cell is all that is left.
+    pub fn cell(&mut self) -> &'r str {
+        let (cell, rest) = self
+            .rest
+            .split_once(self.separator)
+            .unwrap_or((self.rest, ""));
+        self.rest = rest;
+        cell
+    }
+
+    /// The cells that are left: the answer that is wanted, once all others were taken.
+    pub fn wanted(&self) -> &'r str {
+        self.rest
+    }
+
+    /// Adds an item to the answer, after a separator where it isn't the first.
+    pub fn add<D: Display>(&mut self, separator: &str, item: &D) -> Result<(), AllocError> {
+        if !self.answer.is_empty() {
+            self.answer.push_str(separator)?;
+        }
+        write!(self.answer, "{item}")
+    }
+
+    /// The answer that was added.
+    pub fn answer(&self) -> &str {
+        self.answer.as_str()
+    }
+
+    /// Prints an answer that isn't the one that is wanted, with what was asked.
+    pub fn compare(&self, asked: &str, wanted: &str, answer: &str) -> Result<()> {
+        if answer != wanted {
+            let (file, line) = (self.file, self.line);
+            println!(self.rt; "{file}:{line}: {asked}: {wanted:?} is wanted, and not {answer:?}")?;
         }
         Ok(())
     }
 
-    /// Compares what became of a text with the message that a row has, `read` where it is taken.
-    pub fn compare_message<T, E: fmt::Display>(
-        &mut self,
-        row: Row<'_>,
-        expected: &str,
-        read: &Result<T, E>,
-    ) -> Result<()> {
-        let got = message_of(self.alloc(), read)?;
-        self.compare(row, "its refusal", expected, got.as_str())
+    /// Compares what became of a text with the message of its refusal, `read` where it is taken.
+    pub fn check_refusal<T, E: Display>(&mut self, read: &Result<T, E>) -> Result<()> {
+        match read {
+            Ok(_) => self.add("", &"read")?,
+            Err(fault) => self.add("", fault)?,
+        }
+        self.check("its refusal")
     }
 
-    /// Fails where an answer differed.
-    pub fn end(&self) -> Result<()> {
-        let differences = self.differences;
-        ensure!(differences == 0, "{differences} answers differ");
+    /// Compares the answer that was added, `none` where it has no item, with the one of the row, and
+    /// begins anew.
+    pub fn check(&mut self, asked: &str) -> Result<()> {
+        if self.answer.is_empty() {
+            self.answer.push_str("none")?;
+        }
+        self.compare(asked, self.rest, self.answer.as_str())?;
+        self.answer.clear();
         Ok(())
     }
 }
 
-/// What the rows of a file hold, which says how they are replayed.
-pub trait Replay {
-    /// Asks what a row tells, and compares the answers with it. It fails where the row can't be
-    /// taken apart.
-    fn replay(&self, report: &mut Report<'_>, row: Row<'_>) -> Result<()>;
+/// What the rows of a file ask.
+pub trait Ask {
+    /// Asks what a row asks, and compares the answers. It fails where a cell can't be read.
+    fn ask(&self, row: &mut Row<'_>) -> Result<()>;
 }
 
-// Replays the rows of a file, and prints how many they are. Where the first line begins with `# `,
-// it says what the rows hold.
-fn replay_file<K: Replay>(report: &mut Report<'_>, kind: &K, file: &str) -> Result<()> {
-    let rt = report.runtime();
-    let rows = fs::read_to_string(rt, file).context(file)?;
-    let mut line = 0_usize;
-    let mut count = 0_usize;
-    for text in rows.as_str().lines() {
+// Asks the rows of a file, and prints how many they are. Where the first line begins with `# `, it
+// says what the rows hold. Tabs stand between the cells of a `.tsv` file, and bars else.
+fn ask_file<K: Ask>(rt: &HostRuntime, kind: &K, file: &str) -> Result<()> {
+    let text = fs::read_to_string(rt, file).context(file)?;
+    let separator = if file.ends_with(".tsv") { "\t" } else { " | " };
+    let (mut line, mut count) = (0_usize, 0_usize);
+    for rest in text.as_str().lines() {
         line = line.saturating_add(1);
-        if line > 1 || !text.starts_with("# ") {
+        if line > 1 || !rest.starts_with("# ") {
             count = count.saturating_add(1);
-            let row = Row { file, line, text };
-            kind.replay(report, row).context(row)?;
+            let answer = String::new(rt.alloc());
+            let mut row = Row {
+                rt,
+                file,
+                line,
+                separator,
+                rest,
+                answer,
+            };
+            kind.ask(&mut row).context(rest)?;
         }
     }
     println!(rt; "{file}: {count}")?;
     Ok(())
 }
 
-/// Replays the rows of files, prints each answer that isn't the one of its row, and for each file
-/// how many rows it has. It fails where a file can't be read, or a row can't be taken apart.
-pub fn replay_files<K: Replay>(report: &mut Report<'_>, files: &[(K, &str)]) -> Result<()> {
+/// Asks the rows of files, each of which has its kind. It prints each answer that isn't the one of
+/// its row, and for each file how many rows it has.
+pub fn ask_files<K: Ask>(rt: &HostRuntime, files: &[(K, &str)]) -> Result<()> {
     for (kind, file) in files {
-        replay_file(report, kind, file)?;
+        ask_file(rt, kind, file)?;
     }
     Ok(())
 }

@@ -1,3 +1,8 @@
 pub mod LoadLemmas
 pub mod AlarmLemmas
 pub mod LawLemmas
+pub mod NoteLemmas
+pub mod NoteTexts
+pub mod CountLemmas
+pub mod EndLemmas
+pub mod FollowLemmas

@@ -22,8 +22,8 @@ adds-append g (x ∷ xs) ys a b c one more = (one.0, one.1, adds-append g xs ys 
 
 -- a line, and those below it
 pub more-lines : (g : Given) (o : Orders) (here : Option ℕ) (vs vs' : List (List ℕ × List ℕ)) (line : FileLine) (lines : List FileLine) (a b after : State)
-    → vs' ≡ vs ++ variables_in line.outcome → AddsTasks g (task_in line here (text_in o vs' line.outcome)) a b
+    → vs' ≡ vs ++ variables_in line.outcome → AddsTasks g (task_in line here (text_in o vs' line)) a b
     → AddsTasks g (tasks_below o (zone_below o.names here line.outcome) vs' lines) b after → AddsTasks g (tasks_below o here vs (line ∷ lines)) a after
 more-lines g o here vs vs' line lines a b after is one more =
-    subst (λ v. AddsTasks g (task_in line here (text_in o v line.outcome) ++ tasks_below o (zone_below o.names here line.outcome) v lines) a after) is
-    (adds-append g (task_in line here (text_in o vs' line.outcome)) (tasks_below o (zone_below o.names here line.outcome) vs' lines) a b after one more)
+    subst (λ v. AddsTasks g (task_in line here (text_in o v line) ++ tasks_below o (zone_below o.names here line.outcome) v lines) a after) is
+    (adds-append g (task_in line here (text_in o vs' line)) (tasks_below o (zone_below o.names here line.outcome) vs' lines) a b after one more)

@@ -37,7 +37,7 @@ NotesIn {S} does n (Some old) answer new = (book : Notebook S) × (new ≡ Some 
 
 -- everything else stays
 abbrev pub KeepsAll : {C F S : Type 0} → RunClock C F S → RunClock C F S → Type 0
-KeepsAll old new = (new.clock ≡ old.clock) × (new.files ≡ old.files) × (new.noted ≡ old.noted)
+KeepsAll old new = (new.clock ≡ old.clock) × (new.files ≡ old.files) × (new.noted ≡ old.noted) × (new.seen ≡ old.seen)
 
 -- what the clock knows of the run was noted, and nothing else was done
 abbrev pub NotesOnce : {C F S : Type 0} → Does S → RunClock C F S → Result ⊤ Error → RunClock C F S → Type 0
@@ -56,32 +56,51 @@ is_due n t = int_le t.nanosecond n.until.nanosecond
 abbrev pub is_settled : {C F S : Type 0} → RunClock C F S → Timestamp → Bool
 is_settled clock t = is_waited clock.until t || is_due clock.noted t
 
--- Before a wait it was noted by when all was run; or there was nothing to note, and nothing was done.
+-- a note that was written stands for the waits until t
+abbrev pub until_behind : Result ⊤ Error → Option Timestamp → Timestamp → Option Timestamp
+until_behind (Ok done) old t = Some t
+until_behind (Err e) old t = old
+
+-- Before a wait it was noted by when all was run, where there is something to note; else nothing was done.
 abbrev pub IsTold : {C F S : Type 0} → Does S → Timestamp → RunClock C F S → Result ⊤ Error → RunClock C F S → Type 0
 IsTold does t old answer new =
-    ((is_settled old t ≡ true) × (answer ≡ Ok tt) × (new ≡ old)) ⊎ (NotesIn does old.noted old.notebook answer new.notebook × KeepsAll old new)
+    ((is_settled old t ≡ true) × (answer ≡ Ok tt) × (new ≡ old))
+    ⊎ ((is_settled old t ≡ false) × NotesIn does old.noted old.notebook answer new.notebook × KeepsAll old new
+    × (new.until ≡ until_behind answer old.until t))
 
 -- what the answer of the files makes of a run
 abbrev pub went_on : {E : Type 0} → Bool → Result ⊤ (Interruption E)
 went_on true = Err Changed
 went_on false = Ok tt
 
--- The clock waited, and then the files were looked at, unless what fires at t is due already; or it couldn't wait. No note was written.
-abbrev pub WaitsOn : {C F S E : Type 0} → (C → Timestamp → Result ⊤ E → C → Type 0) → (F → Bool → F → Type 0) → Timestamp → RunClock C F S
+-- the instant of the last look that found the files as they are run
+abbrev pub seen_at : {C F S : Type 0} → Bool → RunClock C F S → Timestamp → Timestamp
+seen_at true old now = old.seen
+seen_at false old now = later old.noted.until now
+
+-- The clock was read, and then the files were looked at; or it couldn't be read.
+abbrev pub Glances : {C F S E : Type 0} → (C → Result Timestamp E → C → Type 0) → (F → Bool → F → Type 0) → RunClock C F S
     → Result ⊤ (Interruption E) → RunClock C F S → Type 0
-WaitsOn {E = E} waits changes t old answer new =
-    (new.notebook ≡ old.notebook) × (new.noted ≡ old.noted)
-    × (((e : E) × waits old.clock t (Err e) new.clock × (new.files ≡ old.files) × (answer ≡ Err (Clock e)))
-    ⊎ (((is_due old.noted t ≡ true) × waits old.clock t (Ok tt) new.clock × (new.files ≡ old.files) × (answer ≡ Ok tt))
-    ⊎ ((changed : Bool) × (is_due old.noted t ≡ false) × waits old.clock t (Ok tt) new.clock × changes old.files changed new.files
-    × (answer ≡ went_on changed))))
+Glances {E = E} shows changes old answer new =
+    (new.notebook ≡ old.notebook) × (new.noted ≡ old.noted) × (new.until ≡ old.until)
+    × (((e : E) × shows old.clock (Err e) new.clock × (new.files ≡ old.files) × (new.seen ≡ old.seen) × (answer ≡ Err (Clock e)))
+    ⊎ ((now : Timestamp) × (changed : Bool) × shows old.clock (Ok now) new.clock × changes old.files changed new.files
+    × (new.seen ≡ seen_at changed old now) × (answer ≡ went_on changed)))
+
+-- The clock waited, and then the files were looked at, unless what fires at t is due already; or it couldn't wait. No note was written.
+abbrev pub WaitsOn : {C F S E : Type 0} → (C → Result Timestamp E → C → Type 0) → (C → Timestamp → Result ⊤ E → C → Type 0) → (F → Bool → F → Type 0)
+    → Timestamp → RunClock C F S → Result ⊤ (Interruption E) → RunClock C F S → Type 0
+WaitsOn {C} {E = E} shows waits changes t old answer new =
+    ((e : E) × waits old.clock t (Err e) new.clock × (new ≡ record old { clock = new.clock }) × (answer ≡ Err (Clock e)))
+    ⊎ (((is_due old.noted t ≡ true) × waits old.clock t (Ok tt) new.clock × (new ≡ record old { clock = new.clock }) × (answer ≡ Ok tt))
+    ⊎ ((woken : C) × (is_due old.noted t ≡ false) × waits old.clock t (Ok tt) woken × Glances shows changes (record old { clock = woken }) answer new))
 
 -- A wait: first what was run is noted; where that failed nothing follows, and else the clock waits.
-abbrev pub Waits : {C F S E : Type 0} → (C → Timestamp → Result ⊤ E → C → Type 0) → (F → Bool → F → Type 0) → Does S
-    → RunClock C F S → Timestamp → Result ⊤ (Interruption E) → RunClock C F S → Type 0
-Waits {C} {F} {S} waits changes does old t answer new =
+abbrev pub Waits : {C F S E : Type 0} → (C → Result Timestamp E → C → Type 0) → (C → Timestamp → Result ⊤ E → C → Type 0) → (F → Bool → F → Type 0)
+    → Does S → RunClock C F S → Timestamp → Result ⊤ (Interruption E) → RunClock C F S → Type 0
+Waits {C} {F} {S} shows waits changes does old t answer new =
     ((e : Error) × IsTold does t old (Err e) new × (answer ≡ Err (Unnoted e)))
-    ⊎ ((between : RunClock C F S) × IsTold does t old (Ok tt) between × WaitsOn waits changes t between answer new)
+    ⊎ ((between : RunClock C F S) × IsTold does t old (Ok tt) between × WaitsOn shows waits changes t between answer new)
 
 -- the latest that it showed is kept
 abbrev pub Sees : {C F S E : Type 0} → RunClock C F S → Result Timestamp (Interruption E) → Result Timestamp E → RunClock C F S → Type 0
@@ -93,13 +112,13 @@ Sees old answer (Err e) new = (answer ≡ Err (Clock e)) × (new.noted ≡ old.n
 abbrev pub Shows : {C F S E : Type 0} → (C → Result Timestamp E → C → Type 0) → RunClock C F S → Result Timestamp (Interruption E) → RunClock C F S → Type 0
 Shows {E = E} shows old answer new =
     (look : Result Timestamp E) × shows old.clock look new.clock × Sees old answer look new
-    × (new.files ≡ old.files) × (new.notebook ≡ old.notebook) × (new.until ≡ old.until)
+    × (new.files ≡ old.files) × (new.notebook ≡ old.notebook) × (new.until ≡ old.until) × (new.seen ≡ old.seen)
 
 -- It is told the entries of a run, and by when all that they had was run.
 abbrev pub TakesEntries : {C F S : Type 0} → RunClock C F S → Timestamp → List (List ℕ) → RunClock C F S → Type 0
 TakesEntries old until entries new =
     (map (λ e. e.items) new.noted.entries.items ≡ entries) × (new.noted.until ≡ until) × (new.clock ≡ old.clock)
-    × (new.files ≡ old.files) × (new.notebook ≡ old.notebook) × (new.until ≡ None)
+    × (new.files ≡ old.files) × (new.notebook ≡ old.notebook) × (new.until ≡ None) × (new.seen ≡ old.seen)
 
 -- ---- a run to its end
 

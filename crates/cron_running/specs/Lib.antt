@@ -1,7 +1,10 @@
 pub mod Noted
+pub mod Ended
 pub mod Clocks
 pub mod Loading
 pub mod Writing
 pub mod Running
+pub mod Looks
+pub mod Following
 pub mod Alarms
 pub mod Laws

@@ -1,5 +1,5 @@
 -- The entries of crontabs in an agenda, with what is written of each.
-use Rattle.std.specs.Prelude.{◌≡◌, ◌⊎◌, ◌++◌, ℕ, ℤ, List, [], ◌∷◌, None, Result, Ok, Err, if◌then◌else◌, map}
+use Rattle.std.specs.Prelude.{◌≡◌, ◌⊎◌, ◌++◌, ◌-◌, ◌^◌, ◌==◌, ℕ, ℤ, List, [], ◌∷◌, None, Result, Ok, Err, ⊤, codes, if◌then◌else◌, length, map, slice_get}
 use Rattle.std.specs.List.{flat_map}
 use Rattle.jiff_tz.specs.declared.timezone.TimeZone.{TimeZone}
 use Rattle.cron_agenda.specs.Entries.{Adds, Listed, listed}
@@ -18,7 +18,10 @@ use Rattle.cron_tab_listing.specs.declared.adding.Clock.{Clock}
 use Rattle.cron_tab_listing.specs.declared.tab_entry.TabEntry.{TabEntry}
 use Rattle.cron_tab_tasks.specs.Tasks.{Task, orders_view, tasks_of}
 use Rattle.cron_tab_tasks.specs.Told.{told_lines}
+use Rattle.cron_running.specs.Ended.{ended}
 use Rattle.cron_running.specs.Noted.{Noted, entry_of, is_noted}
+use Rattle.cron_running.specs.declared.failure.LoadError.{LoadError}
+use Rattle.cron_running.specs.declared.failure.LoadError.TheVariants.{NoZone, NoIds, OutOfMemory}
 use Rattle.cron_running.specs.declared.loading.Loaded.{Loaded}
 use Rattle.cron_running.specs.declared.orders.RunOrders.{RunOrders}
 use Rattle.cron_running.specs.declared.orders.TabFile.{TabFile}
@@ -77,18 +80,31 @@ AddsTask g task old new =
     × (((schedules_in task.line.outcome ≡ None) × (new.agenda ≡ old.agenda) × (new.texts ≡ old.texts) × (new.at_reboot ≡ old.at_reboot ++ task.text))
     ⊎ ((table : TabEntry) × IsTab task.line table × AddsTimed g (start_of g old.known (entry_of g.names task)) task.zone (changes_of g.clock task.line.bytes) table task.text old new))
 
+-- Why an entry can't be added to what was loaded: its zone isn't lent, so many were added as there are ids, or memory ran out.
+abbrev pub IsLoadError : Given → State → LoadError → Type 0
+IsLoadError g s (NoZone zone) = slice_get g.zones zone ≡ None
+IsLoadError g s NoIds = s.agenda.added ≡ 2 ^ 64 - 1
+IsLoadError g s OutOfMemory = ⊤
+
 -- one after another
 abbrev pub AddsTasks : Given → List Task → State → State → Type 0
 AddsTasks g [] old new = new ≡ old
 AddsTasks g (task ∷ tasks) old new = (between : State) × AddsTask g task old between × AddsTasks g tasks between new
 
--- those of a crontab, and of several
+-- those of a crontab, but for a last line that no line feed ends, and of several
 abbrev pub file_tasks : RunOrders → TabFile → List Task
-file_tasks o file = tasks_of (orders_view o.tasks) (file_lines o.tasks.kind file.bytes.now)
+file_tasks o file = tasks_of (orders_view o.tasks) (file_lines o.tasks.kind (ended file.bytes.now))
 
 abbrev pub files_tasks : RunOrders → List TabFile → List Task
 files_tasks o files = flat_map (file_tasks o) files
 
+-- that a last line is left out
+abbrev pub told_end : List ℕ → List ℕ → List ℕ
+told_end name bytes =
+    if length (ended bytes) == length bytes then []
+    else name ++ codes ": no line feed ends the last line, which is left out until one does\n"
+
 -- what is told of the lines of several crontabs
 abbrev pub told_files : Crontab → List NamedZone → List TabFile → List ℕ
-told_files kind names files = flat_map (λ file. told_lines file.name.now names (file_lines kind file.bytes.now)) files
+told_files kind names files =
+    flat_map (λ file. told_lines file.name.now names (file_lines kind (ended file.bytes.now)) ++ told_end file.name.now file.bytes.now) files

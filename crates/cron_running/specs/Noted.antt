@@ -1,14 +1,19 @@
 -- What is noted of a run: by when all that was due was run, and of which entries this holds.
-use Rattle.std.specs.Prelude.{◌++◌, ℕ, ◌+◌, ℤ, pos, Bool, ◌==◌, int_lt, nat_lt, List, [], ◌∷◌, codes, if◌then◌else◌, map}
+use Rattle.std.specs.Prelude.{◌≡◌, ◌++◌, ℕ, ◌+◌, ℤ, pos, neg_ℤ, Bool, ◌-◌, ◌==◌, int_lt, nat_lt, List, [], ◌∷◌, codes, if◌then◌else◌, map, unwrap_or, All, Contains}
+use Rattle.std.specs.BTreeMap.{BTreeMap, get_by}
+use Rattle.std.specs.Cmp.Lexicographic.{slice_cmp}
 use Rattle.std.specs.Fmt.{signed_decimal}
 use Rattle.std.specs.Int.{int_div_euclid}
 use Rattle.std.specs.List.{flat_map}
+use Rattle.std.specs.Ordering.{nat_cmp}
 use Rattle.std.specs.Str.{bytes_eq}
+use Rattle.jiff_core.specs.Timestamp.{IsTimestampNanos, nanos_of_seconds}
 use Rattle.jiff_core.specs.declared.Timestamp.{Timestamp}
-use Rattle.cron_tab_lines.specs.Files.{FileLine, without_feed}
+use Rattle.cron_tab_lines.specs.Files.{without_feed}
 use Rattle.cron_tab_lines.specs.declared.zones.NamedZone.{NamedZone}
 use Rattle.cron_tab_tasks.specs.Tasks.{Task}
 use Rattle.cron_running.specs.declared.noted.Noted as code
+use denote.Ref.{Bor}
 
 -- up to and with an instant, in nanoseconds since 1970, all that these entries had was run
 pub record Noted : Type 0 where
@@ -17,6 +22,10 @@ pub record Noted : Type 0 where
 
 abbrev pub noted_view : code.Noted → Noted
 noted_view n = record { until = n.until.nanosecond; entries = map (λ e. e.items) n.entries.items }
+
+-- the least instant that there is: -9999-01-02T01:59:59Z
+abbrev pub least_instant : ℤ
+least_instant = neg_ℤ (pos 377_705_023_201_000_000_000)
 
 -- the name of the zone with this number: the first that has it
 abbrev pub zone_name : List NamedZone → ℕ → List ℕ
@@ -36,10 +45,34 @@ count_of e (f ∷ fs) = if bytes_eq f e then 1 + count_of e fs else count_of e f
 abbrev pub is_noted : List (List ℕ) → List (List ℕ) → List ℕ → Bool
 is_noted noted before e = nat_lt (count_of e before) (count_of e noted)
 
+-- how often a map has an entry
+abbrev pub left_of : BTreeMap (Bor (List ℕ)) ℕ → List ℕ → ℕ
+left_of m e = unwrap_or (get_by (λ k. slice_cmp nat_cmp e k.now) m) 0
+
+-- of each entry it has as many as are noted, less those that stand before
+abbrev pub AreLeft : List (List ℕ) → List (List ℕ) → BTreeMap (Bor (List ℕ)) ℕ → Type 0
+AreLeft noted before m = (e : List ℕ) → left_of m e ≡ count_of e noted - count_of e before
+
 -- a head with the version, the instant in whole seconds, a line for each entry, and a line that ends it
 abbrev pub note_text : Noted → List ℕ
 note_text n =
     codes "crontool state 1\n" ++ (signed_decimal (int_div_euclid n.until (pos 1_000_000_000)) ++ 10 ∷ (flat_map (λ e. e ++ 10 ∷ []) n.entries ++ codes ".\n"))
+
+-- an entry that can be noted: it has a tab and no line feed, as `entry_of` makes it of a zone's name and a line
+abbrev pub IsEntry : List ℕ → Type 0
+IsEntry e = Contains e 9 × ¬ Contains e 10
+
+-- a note that can be: its instant is one that `Timestamp` has
+abbrev pub CanBeNoted : Noted → Type 0
+CanBeNoted n = IsTimestampNanos n.until × All IsEntry n.entries
+
+-- these bytes are the text of a note that can be
+abbrev pub IsNote : List ℕ → Noted → Type 0
+IsNote bytes n = CanBeNoted n × (note_text n ≡ bytes)
+
+-- what a note's text tells of it: the instant's whole second, and each entry
+abbrev pub in_seconds : Noted → Noted
+in_seconds n = record { until = nanos_of_seconds (int_div_euclid n.until (pos 1_000_000_000)); entries = n.entries }
 
 abbrev pub later : Timestamp → Timestamp → Timestamp
 later a b = if int_lt a.nanosecond b.nanosecond then b else a

@@ -1,5 +1,5 @@
 -- What it is to run crontabs.
-use Rattle.std.specs.Prelude.{◌≡◌, ◌⊎◌, ℕ, ℤ, int_lt, List, Result, Ok, Err, ⊤, if◌then◌else◌, map}
+use Rattle.std.specs.Prelude.{◌≡◌, ◌⊎◌, ◌-ℤ◌, ℕ, ℤ, pos, int_lt, List, Option, Some, None, Result, Ok, Err, ⊤, if◌then◌else◌, map}
 use Rattle.jiff_core.specs.declared.Timestamp.{Timestamp}
 use Rattle.jiff_tz.specs.declared.timezone.TimeZone.{TimeZone}
 use Rattle.cron_agenda.specs.Entries.{Listed}
@@ -14,11 +14,14 @@ use Rattle.cron_ringing.specs.declared.printer.WriteFailed.{WriteFailed}
 use Rattle.cron_scheduler.specs.Runs.{ClockCalls}
 use Rattle.cron_tab_listing.specs.Tabs.{schedules_of}
 use Rattle.cron_tab_listing.specs.declared.tab_entry.TabEntry.{TabEntry}
-use Rattle.cron_running.specs.Loading.{AddsTasks, State, files_tasks, given, nothing, told_files}
+use Rattle.cron_tab_tasks.specs.Tasks.{names_fires}
+use Rattle.cron_running.specs.Loading.{AddsTasks, IsLoadError, State, files_tasks, given, nothing, told_files}
 use Rattle.cron_running.specs.Noted.{Noted}
 use Rattle.cron_running.specs.Writing.{WritesStart, WritesText}
 use Rattle.cron_running.specs.declared.failure.Failure.{Failure}
-use Rattle.cron_running.specs.declared.failure.Failure.TheVariants.{OutOfMemory, Untold, Stopped}
+use Rattle.cron_running.specs.declared.failure.Failure.TheVariants.{OutOfMemory, NoZone, NoIds, Untold, Stopped}
+use Rattle.cron_running.specs.declared.failure.LoadError.{LoadError}
+use Rattle.cron_running.specs.declared.failure.LoadError.TheVariants as load
 use Rattle.cron_running.specs.declared.orders.RunOrders.{RunOrders}
 use Rattle.cron_running.specs.declared.orders.TabFile.{TabFile}
 use Rattle.cron_running.specs.declared.writer.TabWriter.{TabWriter}
@@ -41,14 +44,15 @@ abbrev pub GoesOn : {C W E : Type 0} → ClockCalls C E → WriterCalls W → Li
 GoesOn cs calls zones most agenda (Err e) old answer new = (answer ≡ Err (Job e)) × (new.0 ≡ old.0) × (new.1 ≡ old.1)
 GoesOn cs calls zones most agenda (Ok done) old answer new = RunsTexts cs calls zones most old.0 agenda old.1 answer new.0 new.1
 
--- What was loaded is run: the clock is told its entries, the writer has its texts, what is run at the start is written, and the loop goes on.
-pub record RunsLoaded {C W E : Type 0} (cs : ClockCalls C E) (begins : C → Timestamp → List (List ℕ) → C → Type 0) (calls : WriterCalls W) (o : RunOrders) (zones : List TimeZone) (start : Timestamp) (s : State) (old : C × TabWriter W)
+-- What was loaded is run: the clock is told its entries, the writer has its texts, and names fires where lines want that; what is run at the start is written, and the loop goes on.
+pub record RunsLoaded {C W E : Type 0} (cs : ClockCalls C E) (begins : C → Timestamp → List (List ℕ) → C → Type 0) (calls : WriterCalls W) (o : RunOrders) (zones : List TimeZone) (until : Timestamp) (s : State) (old : C × TabWriter W)
     (answer : Result ⊤ (AgendaStop E WriteFailed)) (new : C × TabWriter W) : Type 0 where
   pub started : Result ⊤ WriteFailed
   pub clock : C
-  pub told : begins old.0 start s.known clock
+  pub told : begins old.0 until s.known clock
   pub writer : TabWriter W
   pub texts : map (λ t. t.items) writer.texts.items ≡ s.texts
+  pub names : writer.names_fires ≡ names_fires o.tasks.form
   pub starts : WritesStart calls o.reboot s.at_reboot old.1.printer started writer.printer
   pub goes_on : GoesOn cs calls zones o.most s.agenda started (clock, writer) answer new
 
@@ -58,12 +62,21 @@ pub record RunsLoaded {C W E : Type 0} (cs : ClockCalls C E) (begins : C → Tim
 abbrev pub later_of : ℤ → ℤ → ℤ
 later_of a b = if int_lt a b then b else a
 
--- the clock was looked at, and the entries of the crontabs were added, which fire after what it showed, or after what is noted of them
-pub record Begins {C E : Type 0} (cs : ClockCalls C E) (o : RunOrders) (files : List TabFile) (zones : List TimeZone) (noted : Noted) (old new : C) : Type 0 where
+-- Where entries begin that don't go on: at the start of all, after what the clock shows and after what is noted. Behind a look at the files,
+-- after that look, but at most a minute before what the clock shows.
+abbrev pub begin_at : Option Timestamp → ℤ → ℤ → ℤ
+begin_at None now until = later_of now until
+begin_at (Some look) now until = later_of look.nanosecond (now -ℤ pos 60_000_000_000)
+
+-- The clock was looked at, and the entries of the crontabs were added: those that are noted fire after what is noted, and the others from
+-- their beginning on. The clock is told the later of both.
+pub record Begins {C E : Type 0} (cs : ClockCalls C E) (o : RunOrders) (files : List TabFile) (zones : List TimeZone) (noted : Noted) (since : Option Timestamp) (old new : C) : Type 0 where
   pub now : Timestamp
   pub looks : cs.shows old (Ok now) new
   pub start : Timestamp
-  pub is : start.nanosecond ≡ later_of now.nanosecond noted.until
+  pub is : start.nanosecond ≡ begin_at since now.nanosecond noted.until
+  pub until : Timestamp
+  pub is_later : until.nanosecond ≡ later_of start.nanosecond noted.until
   pub state : State
   pub adds : AddsTasks (given o zones start.nanosecond noted) (files_tasks o files) nothing state
 
@@ -74,30 +87,37 @@ outcome_of (Err stop) = Err (Stopped stop)
 -- they are run where what was to be told could be written
 abbrev pub EndsBy : {C W E : Type 0} → ClockCalls C E → (C → Timestamp → List (List ℕ) → C → Type 0) → WriterCalls W → RunOrders → List TimeZone → Timestamp → State → Result ⊤ WriteFailed → C × TabWriter W
     → Result ⊤ (Failure E) → C × TabWriter W → Type 0
-EndsBy cs begins calls o zones start s (Err e) old answer new = (answer ≡ Err Untold) × (new.0 ≡ old.0) × (new.1 ≡ old.1)
-EndsBy {E = E} cs begins calls o zones start s (Ok done) old answer new =
-    (stopped : Result ⊤ (AgendaStop E WriteFailed)) × RunsLoaded cs begins calls o zones start s old stopped new × (answer ≡ outcome_of stopped)
+EndsBy cs begins calls o zones until s (Err e) old answer new = (answer ≡ Err Untold) × (new.0 ≡ old.0) × (new.1 ≡ old.1)
+EndsBy {E = E} cs begins calls o zones until s (Ok done) old answer new =
+    (stopped : Result ⊤ (AgendaStop E WriteFailed)) × RunsLoaded cs begins calls o zones until s old stopped new × (answer ≡ outcome_of stopped)
 
 -- The entries were added, what is refused was told, and then they were run.
 pub record RunsAll {C W D E : Type 0} (cs : ClockCalls C E) (begin : C → Timestamp → List (List ℕ) → C → Type 0) (calls : WriterCalls W) (complaints : WriterCalls D) (o : RunOrders) (files : List TabFile) (zones : List TimeZone) (noted : Noted)
-    (old : C × TabWriter W × Printer D) (answer : Result ⊤ (Failure E)) (new : C × TabWriter W × Printer D) : Type 0 where
+    (since : Option Timestamp) (old : C × TabWriter W × Printer D) (answer : Result ⊤ (Failure E)) (new : C × TabWriter W × Printer D) : Type 0 where
   pub looked : C
-  pub begins : Begins cs o files zones noted old.0 looked
+  pub begins : Begins cs o files zones noted since old.0 looked
   pub told : Result ⊤ WriteFailed
   pub tells : PrintsText complaints old.2 (told_files o.tasks.kind o.tasks.names.now files) told new.2
-  pub ends : EndsBy cs begin calls o zones begins.start begins.state told (looked, old.1) answer (new.0, new.1)
+  pub ends : EndsBy cs begin calls o zones begins.until begins.state told (looked, old.1) answer (new.0, new.1)
 
--- the clock couldn't be read, or memory ran out after a look at it ..
-abbrev pub unstarted : {E : Type 0} → Result Timestamp E → Result ⊤ (Failure E)
-unstarted (Ok start) = Err OutOfMemory
-unstarted (Err e) = Err (Stopped (Clock e))
+abbrev pub failure_of : {E : Type 0} → LoadError → Failure E
+failure_of (load.NoZone zone) = NoZone zone
+failure_of load.NoIds = NoIds
+failure_of load.OutOfMemory = OutOfMemory
+
+-- the clock couldn't be read; or it was looked at, and an entry couldn't be added ..
+abbrev pub CannotStart : {C E : Type 0} → ClockCalls C E → RunOrders → List TimeZone → Noted → C → Result ⊤ (Failure E) → C → Type 0
+CannotStart {E = E} cs o zones noted old answer new =
+    ((e : E) × cs.shows old (Err e) new × (answer ≡ Err (Stopped (Clock e))))
+    ⊎ ((now : Timestamp) × (start : ℤ) × (s : State) × (why : LoadError) × cs.shows old (Ok now) new
+    × IsLoadError (given o zones start noted) s why × (answer ≡ Err (failure_of why)))
 
 -- .. and nothing was written
-abbrev pub IsUnstarted : {C W D E : Type 0} → ClockCalls C E → C × TabWriter W × Printer D → Result ⊤ (Failure E) → C × TabWriter W × Printer D → Type 0
-IsUnstarted {E = E} cs old answer new =
-    (look : Result Timestamp E) × cs.shows old.0 look new.0 × (answer ≡ unstarted look) × (new.1 ≡ old.1) × (new.2 ≡ old.2)
+abbrev pub IsUnstarted : {C W D E : Type 0} → ClockCalls C E → RunOrders → List TimeZone → Noted
+    → C × TabWriter W × Printer D → Result ⊤ (Failure E) → C × TabWriter W × Printer D → Type 0
+IsUnstarted cs o zones noted old answer new = CannotStart cs o zones noted old.0 answer new.0 × (new.1 ≡ old.1) × (new.2 ≡ old.2)
 
 abbrev pub RunsFiles : {C W D E : Type 0} → ClockCalls C E → (C → Timestamp → List (List ℕ) → C → Type 0) → WriterCalls W → WriterCalls D → RunOrders → List TabFile → List TimeZone → Noted
-    → C × TabWriter W × Printer D → Result ⊤ (Failure E) → C × TabWriter W × Printer D → Type 0
-RunsFiles cs begins calls complaints o files zones noted old answer new =
-    IsUnstarted cs old answer new ⊎ RunsAll cs begins calls complaints o files zones noted old answer new
+    → Option Timestamp → C × TabWriter W × Printer D → Result ⊤ (Failure E) → C × TabWriter W × Printer D → Type 0
+RunsFiles cs begins calls complaints o files zones noted since old answer new =
+    IsUnstarted cs o zones noted old answer new ⊎ RunsAll cs begins calls complaints o files zones noted since old answer new

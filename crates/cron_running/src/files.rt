@@ -1,15 +1,17 @@
 //! Runs crontabs.
 
-ghost use Rattle.std.specs.Prelude.{◌≡◌, IfOk, map};
+ghost use Rattle.std.specs.Prelude.{◌≡◌, ◌++◌, [], IfErr, IfOk, OnOk, map};
 ghost use Rattle.std.specs.String.{string_bytes};
 ghost use Rattle.jiff.specs.Words.{plain_zone};
 ghost use Rattle.cron_ringing.specs.Printing.{writer_calls};
 ghost use Rattle.cron_scheduler.specs.Runs.{clock_calls};
-ghost use Rattle.cron_running.specs.Loading.{AddsTasks, files_tasks, given, nothing, state_of, told_files};
+ghost use Rattle.cron_running.specs.Ended.{ended};
+ghost use Rattle.cron_running.specs.Loading.{AddsTasks, IsLoadError, State, files_tasks, given, nothing, state_of, told_end, told_files};
 ghost use Rattle.cron_running.specs.Noted.{noted_view};
-ghost use Rattle.cron_running.specs.Running.{RunsFiles};
+ghost use Rattle.cron_running.specs.Running.{RunsFiles, begin_at};
 
-use crate::failure::{Failure, outcome_of};
+use crate::endings::ended;
+use crate::failure::{Failure, LoadError, failure_of, outcome_of};
 use crate::loading::{Loaded, Start, load_files};
 use crate::loop_over::run_loaded;
 use crate::noted::{Noted, later};
@@ -21,10 +23,24 @@ use cron_ringing::printer::Printer;
 use cron_tab_lines::Lines;
 use cron_tab_tasks::{Orders, push_refusals};
 use cron_writer::watchable::Watchable;
+use jiff::Timestamp;
 use jiff::tz::TimeZone;
 use std::alloc::{AllocError, Global};
 
-// What is told of the lines that are refused.
+// Tells that the last line of a file is left out, where no line feed ends it.
+fn push_end(told: &mut String, file: &TabFile<'_>, whole: &[u8]) -> Result<(), AllocError>
+    requires { whole.now ≡ ended file.now.bytes.now }
+    ensures { OnOk result (string_bytes told.new
+        ≡ string_bytes told.old ++ told_end file.now.name.now file.now.bytes.now) }
+{
+    if whole.len() == file.bytes.len() {
+        return Ok(());
+    }
+    told.push_str(file.name)?;
+    told.push_str(": no line feed ends the last line, which is left out until one does\n")
+}
+
+// What is told of the lines that are refused, and of a last line that is left out.
 fn refusals_of(
     alloc: Global,
     tasks: &Orders<'_>,
@@ -35,8 +51,14 @@ fn refusals_of(
 {
     let mut told = String::new(alloc);
     for file in files {
-        let lines = Lines::of(tasks.kind, file.bytes);
-        push_refusals(&mut told, file.name, tasks.names, lines)?;
+        let whole = ended(file.bytes);
+        push_refusals(
+            &mut told,
+            file.name,
+            tasks.names,
+            Lines::of(tasks.kind, whole),
+        )?;
+        push_end(&mut told, file, whole)?;
     }
     Ok(told)
 }
@@ -54,39 +76,61 @@ fn begin(
     orders: &RunOrders<'_>,
     files: &[TabFile<'_>],
     start: &Start<'_, '_>,
-) -> Result<Begun, AllocError>
+) -> Result<Begun, LoadError>
     ensures adds { IfOk result (λ b. AddsTasks
         (given orders.now (map plain_zone start.now.zones.now) start.now.instant.nanosecond
         (noted_view start.now.noted.now))
         (files_tasks orders.now files.now) nothing (state_of b.loaded)) }
     ensures told { IfOk result (λ b. string_bytes b.told
         ≡ told_files orders.now.tasks.kind orders.now.tasks.names.now files.now) }
+    ensures err { IfErr result (λ why. (s : State) × IsLoadError
+        (given orders.now (map plain_zone start.now.zones.now) start.now.instant.nanosecond
+        (noted_view start.now.noted.now)) s why) }
 {
     let mut loaded = Loaded::new(alloc);
-    load_files(&mut loaded, orders, files, start, alloc)?;
+    let mut counts = start.noted.counts(alloc)?;
+    load_files(&mut loaded, &mut counts, orders, files, start, alloc)?;
     let told = refusals_of(alloc, &orders.tasks, files)?;
     Ok(Begun { loaded, told })
 }
 
+/// A minute, in nanoseconds.
+const MINUTE: i128 = 60_000_000_000;
+
+// Where entries begin that don't go on.
+fn begin_at(since: Option<Timestamp>, now: Timestamp, until: Timestamp) -> Timestamp
+    ensures { result.nanosecond ≡ begin_at since now.nanosecond until.nanosecond }
+{
+    let Some(look) = since else {
+        return later(now, until);
+    };
+    match Timestamp::from_nanosecond(now.as_nanosecond() - MINUTE) {
+        Ok(back) => later(look, back),
+        Err(_) => look,
+    }
+}
+
 /// Tells of the lines that are refused, and then runs the other entries, in the first of the zones,
-/// or below a line that sets `CRON_TZ` in the one that it names. An entry that is noted fires after
-/// the instant noted, and every other after the later of that and the time that the clock shows
-/// first. What is written of an entry is handed on at its fire, and flushed, before the clock is
-/// waited for again. It ends where no entry fires any more, or after so many runs; else by a
-/// failure.
+/// or below a line that sets `CRON_TZ` in the one that it names. A last line that no line feed ends
+/// may be half written: it is left out, which is told. An entry that is noted fires after the
+/// instant noted. Every other fires after that and after the time that the clock shows first; or
+/// since the look at files before, where there was one, but at most a minute back. What is written
+/// of an entry is handed on at its fire, and flushed, before the clock is waited for again. It ends
+/// where no entry fires any more, or after so many runs; else by a failure.
 pub fn run_files<C: EntryClock, W: Watchable, E: Watchable>(
     alloc: Global,
     orders: &RunOrders<'_>,
     files: &[TabFile<'_>],
     zones: &[TimeZone<'_>],
     noted: &Noted,
+    since: Option<Timestamp>,
     clock: &mut C,
     writer: &mut TabWriter<W>,
     complaints: &mut Printer<E>,
 ) -> Result<(), Failure<C::Error>>
     ensures { RunsFiles (clock_calls C.shows C.waits) C.begins
         (writer_calls W.writes W.flushes W.contents) (writer_calls E.writes E.flushes E.contents)
-        orders.now files.now (map plain_zone zones.now) (noted_view noted.now)
+        orders.now files.now (map plain_zone zones.now) (noted_view noted.now) since
         (clock.old, writer.old, complaints.old) result (clock.new, writer.new, complaints.new) }
 {
     let now = match clock.now() {
@@ -95,15 +139,17 @@ pub fn run_files<C: EntryClock, W: Watchable, E: Watchable>(
     };
     let start = Start {
         zones,
-        instant: later(now, noted.until),
+        instant: begin_at(since, now, noted.until),
         noted,
     };
-    let Ok(begun) = begin(alloc, orders, files, &start) else {
-        return Err(Failure::OutOfMemory);
+    let begun = match begin(alloc, orders, files, &start) {
+        Ok(begun) => begun,
+        Err(why) => return Err(failure_of(why)),
     };
     let Begun { loaded, told } = begun;
+    let until = later(start.instant, noted.until);
     match complaints.print(told.as_bytes()) {
-        Ok(()) => outcome_of(run_loaded(loaded, orders, &start, clock, writer)),
+        Ok(()) => outcome_of(run_loaded(loaded, orders, &start, until, clock, writer)),
         Err(_) => Err(Failure::Untold),
     }
 }

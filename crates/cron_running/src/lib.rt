@@ -3,10 +3,15 @@
 #![tactic(auto)]
 
 mod alarm;
+mod crontabs;
+mod endings;
 mod failure;
 mod files;
+mod following;
+mod fronts;
 pub mod laws;
 mod loading;
+mod looks;
 mod loop_over;
 mod noted;
 mod noted_run;
@@ -15,8 +20,11 @@ mod run_clock;
 mod writer;
 
 pub use alarm::{Alarm, FireWriter, ring_at};
+pub use crontabs::{Crontabs, NamedOpen, Tab, ZoneOpener};
 pub use failure::Failure;
 pub use files::run_files;
+pub use following::follow;
+pub use looks::FollowError;
 pub use noted::{Noted, read_note};
 pub use noted_run::run_noted;
 pub use orders::{RunOrders, TabFile};

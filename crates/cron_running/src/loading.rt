@@ -1,15 +1,18 @@
 //! The entries of crontabs, added to an agenda with what is written of each.
 
-ghost use Rattle.std.specs.Prelude.{◌≡◌, ◌++◌, ◌∷◌, [], OnOk, if◌then◌else◌, map};
+ghost use Rattle.std.specs.Prelude.{◌≡◌, ◌++◌, ◌∷◌, ◌-◌, ℕ, List, [], IfErr, OnOk, if◌then◌else◌, map, nat_lt};
+ghost use Rattle.std.specs.Str.{bytes_eq};
 ghost use Rattle.jiff.specs.Words.{plain_zone};
 ghost use Rattle.cron_shell.specs.Lines.{variable_view};
 ghost use Rattle.cron_tab_lines.specs.Views.{file_line_view};
 ghost use Rattle.cron_tab_listing.specs.Adding as adding;
 ghost use Rattle.cron_tab_tasks.specs.Tasks as tasks;
-ghost use Rattle.cron_running.specs.Noted.{is_noted, noted_view};
-ghost use Rattle.cron_running.specs.Loading.{AddsTask, AddsTasks, AddsTimed, file_tasks, files_tasks, given, nothing, state_of, task};
+ghost use Rattle.cron_running.specs.Noted.{AreLeft, left_of, noted_view};
+ghost use Rattle.cron_running.specs.Loading.{AddsTask, AddsTasks, AddsTimed, IsLoadError, file_tasks, files_tasks, given, nothing, state_of, task};
 
-use crate::noted::{Noted, entry_of};
+use crate::endings::ended;
+use crate::failure::LoadError;
+use crate::noted::{Counts, Noted, entry_of, take_one};
 use crate::orders::{RunOrders, TabFile};
 use cron_agenda::{AddError, Agenda};
 use cron_agenda_scheduler::Timely;
@@ -64,13 +67,15 @@ fn push_text(texts: &mut Vec<Vec<u8>>, text: Vec<u8>) -> Result<(), AllocError>
     Ok(())
 }
 
-// From when on an entry fires: after what is noted of it, or after the run's start.
-fn start_of(start: &Start<'_, '_>, before: &[Vec<u8>], entry: &[u8]) -> Timestamp
-    ensures { result.nanosecond
-        ≡ if is_noted (noted_view start.now.noted.now).entries (map (λ e. e.items) before.now)
-        entry.now then start.now.noted.now.until.nanosecond else start.now.instant.nanosecond }
+// From when on an entry fires: after what is noted of it, or after the run's start. Of equal entries
+// the first go on, as many as are noted.
+fn start_of(start: &Start<'_, '_>, counts: &mut Counts<'_>, entry: &[u8]) -> Timestamp
+    ensures is { result.nanosecond ≡ if nat_lt 0 (left_of counts.old entry.now)
+        then start.now.noted.now.until.nanosecond else start.now.instant.nanosecond }
+    ensures now { (e : List ℕ) → left_of counts.new e
+        ≡ (if bytes_eq entry.now e then left_of counts.old e - 1 else left_of counts.old e) }
 {
-    if start.noted.has(before, entry) {
+    if take_one(counts, entry) {
         start.noted.until
     } else {
         start.instant
@@ -87,12 +92,15 @@ fn add_table(
     start: &Start<'_, '_>,
     after: Timestamp,
     zone: usize,
-) -> Result<(), AllocError>
-    ensures { OnOk result ((loaded.new.known ≡ loaded.old.known) × AddsTimed
+) -> Result<(), LoadError>
+    ensures adds { OnOk result ((loaded.new.known ≡ loaded.old.known) × AddsTimed
         (given orders.now (map plain_zone start.now.zones.now) start.now.instant.nanosecond
         (noted_view start.now.noted.now))
         after.nanosecond zone (adding.changes_of orders.now.clock line.now.bytes.now) table
         text.items (state_of loaded.old) (state_of loaded.new)) }
+    ensures err { IfErr result (IsLoadError
+        (given orders.now (map plain_zone start.now.zones.now) start.now.instant.nanosecond
+        (noted_view start.now.noted.now)) (state_of loaded.new)) }
 {
     let changes = changes_of(orders.clock, line.bytes);
     let timely = Timely {
@@ -100,32 +108,40 @@ fn add_table(
         lateness: orders.lateness,
     };
     match loaded.agenda.add(timely, changes, after, start.zones, zone) {
-        Ok(_) => push_text(&mut loaded.texts, text),
+        Ok(_) => Ok(push_text(&mut loaded.texts, text)?),
         Err(AddError::NoFires) => Ok(()),
-        Err(_) => Err(AllocError),
+        Err(AddError::NoZone) => Err(LoadError::NoZone(zone)),
+        Err(AddError::NoIds) => Err(LoadError::NoIds),
+        Err(AddError::OutOfMemory) => Err(LoadError::OutOfMemory),
     }
 }
 
 // Adds the entry of a line, with what is written of it.
 fn add_task(
     loaded: &mut Loaded,
+    counts: &mut Counts<'_>,
     orders: &RunOrders<'_>,
     line: &FileLine<'_>,
     text: Vec<u8>,
     start: &Start<'_, '_>,
     zone: usize,
     alloc: Global,
-) -> Result<(), AllocError>
-    ensures { OnOk result (AddsTask
+) -> Result<(), LoadError>
+    requires { AreLeft (noted_view start.now.noted.now).entries
+        (state_of loaded.old).known counts.old }
+    ensures adds { OnOk result (AddsTask
         (given orders.now (map plain_zone start.now.zones.now) start.now.instant.nanosecond
         (noted_view start.now.noted.now))
         (task (file_line_view line.now) zone text.items)
         (state_of loaded.old) (state_of loaded.new)) }
+    ensures left { OnOk result (AreLeft (noted_view start.now.noted.now).entries
+        (state_of loaded.new).known counts.new) }
+    ensures err { IfErr result (IsLoadError
+        (given orders.now (map plain_zone start.now.zones.now) start.now.instant.nanosecond
+        (noted_view start.now.noted.now)) (state_of loaded.new)) }
 {
     let entry = entry_of(alloc, orders.tasks.names, zone, line.bytes)?;
-    let before = loaded.known.as_slice();
-    let bytes = entry.as_slice();
-    let after = start_of(start, before, bytes);
+    let after = start_of(start, counts, entry.as_slice());
     push_text(&mut loaded.known, entry)?;
     let Some(table) = TabEntry::of(line) else {
         loaded.at_reboot.extend_from_slice(text.as_slice())?;
@@ -137,13 +153,16 @@ fn add_task(
 // Adds what a line is: a variable, or an entry.
 fn load_line<'a>(
     loaded: &mut Loaded,
+    counts: &mut Counts<'_>,
     variables: &mut Vec<Variable<'a>>,
     orders: &RunOrders<'_>,
     line: &FileLine<'a>,
     start: &Start<'_, '_>,
     here: Option<usize>,
     alloc: Global,
-) -> Result<(), AllocError>
+) -> Result<(), LoadError>
+    requires { AreLeft (noted_view start.now.noted.now).entries
+        (state_of loaded.old).known counts.old }
     ensures variables { OnOk result (map variable_view variables.new.items
         ≡ map variable_view variables.old.items
         ++ tasks.variables_in (file_line_view line.now).outcome) }
@@ -152,13 +171,20 @@ fn load_line<'a>(
         (noted_view start.now.noted.now))
         (tasks.task_in (file_line_view line.now) here
         (tasks.text_in (tasks.orders_view orders.now.tasks) (map variable_view variables.new.items)
-        (file_line_view line.now).outcome))
+        (file_line_view line.now)))
         (state_of loaded.old) (state_of loaded.new)) }
+    ensures left { OnOk result (AreLeft (noted_view start.now.noted.now).entries
+        (state_of loaded.new).known counts.new) }
+    ensures err { IfErr result (IsLoadError
+        (given orders.now (map plain_zone start.now.zones.now) start.now.instant.nanosecond
+        (noted_view start.now.noted.now)) (state_of loaded.new)) }
 {
     push_variable(variables, line)?;
     let text = text_in(alloc, &orders.tasks, variables.as_slice(), line)?;
     match (here, text) {
-        (Some(zone), Some(text)) => add_task(loaded, orders, line, text, start, zone, alloc),
+        (Some(zone), Some(text)) => {
+            add_task(loaded, counts, orders, line, text, start, zone, alloc)
+        },
         _ => Ok(()),
     }
 }
@@ -166,21 +192,38 @@ fn load_line<'a>(
 // Adds the entries of a crontab.
 fn load_file(
     loaded: &mut Loaded,
+    counts: &mut Counts<'_>,
     orders: &RunOrders<'_>,
     file: &TabFile<'_>,
     start: &Start<'_, '_>,
     alloc: Global,
-) -> Result<(), AllocError>
-    ensures { OnOk result (AddsTasks
+) -> Result<(), LoadError>
+    requires { AreLeft (noted_view start.now.noted.now).entries
+        (state_of loaded.old).known counts.old }
+    ensures adds { OnOk result (AddsTasks
         (given orders.now (map plain_zone start.now.zones.now) start.now.instant.nanosecond
         (noted_view start.now.noted.now))
         (file_tasks orders.now file.now) (state_of loaded.old) (state_of loaded.new)) }
+    ensures left { OnOk result (AreLeft (noted_view start.now.noted.now).entries
+        (state_of loaded.new).known counts.new) }
+    ensures err { IfErr result (IsLoadError
+        (given orders.now (map plain_zone start.now.zones.now) start.now.instant.nanosecond
+        (noted_view start.now.noted.now)) (state_of loaded.new)) }
 {
     let mut variables = Vec::new(alloc);
     push_defaults(&mut variables)?;
     let mut here = Some(0);
-    for line in Lines::of(orders.tasks.kind, file.bytes) {
-        load_line(loaded, &mut variables, orders, &line, start, here, alloc)?;
+    for line in Lines::of(orders.tasks.kind, ended(file.bytes)) {
+        load_line(
+            loaded,
+            counts,
+            &mut variables,
+            orders,
+            &line,
+            start,
+            here,
+            alloc,
+        )?;
         here = zone_below(orders.tasks.names, here, &line);
     }
     Ok(())
@@ -189,18 +232,26 @@ fn load_file(
 /// Adds the entries of crontabs.
 pub(crate) fn load_files(
     loaded: &mut Loaded,
+    counts: &mut Counts<'_>,
     orders: &RunOrders<'_>,
     files: &[TabFile<'_>],
     start: &Start<'_, '_>,
     alloc: Global,
-) -> Result<(), AllocError>
-    ensures { OnOk result (AddsTasks
+) -> Result<(), LoadError>
+    requires { AreLeft (noted_view start.now.noted.now).entries
+        (state_of loaded.old).known counts.old }
+    ensures adds { OnOk result (AddsTasks
         (given orders.now (map plain_zone start.now.zones.now) start.now.instant.nanosecond
         (noted_view start.now.noted.now))
         (files_tasks orders.now files.now) (state_of loaded.old) (state_of loaded.new)) }
+    ensures left { OnOk result (AreLeft (noted_view start.now.noted.now).entries
+        (state_of loaded.new).known counts.new) }
+    ensures err { IfErr result (IsLoadError
+        (given orders.now (map plain_zone start.now.zones.now) start.now.instant.nanosecond
+        (noted_view start.now.noted.now)) (state_of loaded.new)) }
 {
     for file in files {
-        load_file(loaded, orders, file, start, alloc)?;
+        load_file(loaded, counts, orders, file, start, alloc)?;
     }
     Ok(())
 }

@@ -14,7 +14,9 @@ use crate::run_clock::EntryClock;
 use crate::writer::TabWriter;
 use cron_agenda_scheduler::{AgendaStop, run};
 use cron_ringing::printer::WriteFailed;
+use cron_tab_tasks::names_fires;
 use cron_writer::watchable::Watchable;
+use jiff::Timestamp;
 
 // Writes what is run at the start.
 fn write_start<W: Watchable>(
@@ -25,6 +27,7 @@ fn write_start<W: Watchable>(
     ensures starts { WritesStart (writer_calls W.writes W.flushes W.contents) orders.now.reboot
         at_reboot.now writer.old.printer result writer.new.printer }
     ensures texts { writer.new.texts ≡ writer.old.texts }
+    ensures names { writer.new.names_fires ≡ writer.old.names_fires }
 {
     if orders.reboot {
         writer.printer.print(at_reboot)
@@ -39,12 +42,13 @@ pub(crate) fn run_loaded<C: EntryClock, W: Watchable>(
     loaded: Loaded,
     orders: &RunOrders<'_>,
     start: &Start<'_, '_>,
+    until: Timestamp,
     clock: &mut C,
     writer: &mut TabWriter<W>,
 ) -> Result<(), AgendaStop<C::Error, WriteFailed>>
     ensures { RunsLoaded (clock_calls C.shows C.waits) C.begins
         (writer_calls W.writes W.flushes W.contents)
-        orders.now (map plain_zone start.now.zones.now) start.now.instant (state_of loaded)
+        orders.now (map plain_zone start.now.zones.now) until (state_of loaded)
         (clock.old, writer.old) result (clock.new, writer.new) }
 {
     let Loaded {
@@ -54,7 +58,8 @@ pub(crate) fn run_loaded<C: EntryClock, W: Watchable>(
         at_reboot,
     } = loaded;
     writer.texts = texts;
-    clock.begin(start.instant, known);
+    writer.names_fires = names_fires(&orders.tasks.form);
+    clock.begin(until, known);
     match write_start(writer, orders, at_reboot.as_slice()) {
         Ok(()) => run(&mut agenda, start.zones, clock, writer, orders.most),
         Err(error) => Err(AgendaStop::Job(error)),

@@ -1,14 +1,19 @@
 //! What is noted of a run: by when all that was due was run, and of which entries this holds.
 
-ghost use Rattle.std.specs.Prelude.{◌≡◌, ◌++◌, ◌∷◌, [], IfOk, IfSome, OnOk, map};
+ghost use Rattle.std.specs.Prelude.{◌≡◌, ◌++◌, ◌∷◌, ◌-◌, ℕ, ℤ, List, [], All, IfOk, IfSome, IsSomeAnd, OnOk, Some, if◌then◌else◌, map, nat_lt, option_map};
+ghost use Rattle.std.specs.Fmt.{signed_decimal};
 ghost use Rattle.std.specs.List.{flat_map};
+ghost use Rattle.std.specs.Str.{bytes_eq};
+ghost use Rattle.jiff_core.specs.Timestamp.{IsTimestampNanos, nanos_of_seconds};
 ghost use Rattle.cron_tab_lines.specs.Files.{without_feed};
-ghost use Rattle.cron_running.specs.Noted.{count_of, is_noted, later, note_text, noted_view, zone_name};
+ghost use Rattle.cron_running.specs.Noted as notes;
+ghost use Rattle.cron_running.specs.Noted.{AreLeft, CanBeNoted, IsEntry, IsNote, count_of, in_seconds, later, least_instant, left_of, note_text, noted_view, zone_name};
 
 use cron_tab_lines::NamedZone;
 use itoa::Buffer;
 use jiff::Timestamp;
 use std::alloc::{AllocError, Global};
+use std::collections::BTreeMap;
 
 const HEAD: &[u8] = b"crontool state 1\n";
 
@@ -72,23 +77,43 @@ pub(crate) fn entry_of(
     Ok(entry)
 }
 
-// How often an entry stands among others.
-fn count_of(entry: &[u8], entries: &[Vec<u8>]) -> usize
-    ensures { result ≡ count_of entry.now (map (λ e. e.items) entries.now) }
+/// How often entries stand among others. They are lent.
+pub(crate) type Counts<'n> = BTreeMap<&'n [u8], usize>;
+
+// How often each entry stands among some.
+fn counts_of<'n>(alloc: Global, entries: &'n [Vec<u8>]) -> Result<Counts<'n>, AllocError>
+    ensures { IfOk result (λ m. (e : List ℕ)
+        → left_of m e ≡ count_of e (map (λ e. e.items) entries.now)) }
 {
-    let mut count = 0;
-    for other in entries {
-        if other.as_slice() == entry {
-            count += 1;
-        }
+    let mut counts = BTreeMap::new(alloc);
+    for entry in entries {
+        let count = counts.get(entry.as_slice()).copied().unwrap_or(0);
+        counts.insert(entry.as_slice(), count + 1)?;
     }
-    count
+    Ok(counts)
+}
+
+/// Takes one of an entry, and tells whether there was one.
+pub(crate) fn take_one(counts: &mut Counts<'_>, entry: &[u8]) -> bool
+    ensures was { result ≡ nat_lt 0 (left_of counts.old entry.now) }
+    ensures now { (e : List ℕ) → left_of counts.new e
+        ≡ (if bytes_eq entry.now e then left_of counts.old e - 1 else left_of counts.old e) }
+{
+    let Some(count) = counts.get_mut(entry) else {
+        return false;
+    };
+    if *count == 0 {
+        return false;
+    }
+    *count -= 1;
+    true
 }
 
 impl Noted {
     /// By the first of all instants, of no entry.
     pub fn nothing(alloc: Global) -> Noted
-        ensures { (noted_view result).entries ≡ [] }
+        ensures until { result.until.nanosecond ≡ least_instant }
+        ensures entries { (noted_view result).entries ≡ [] }
     {
         Noted {
             until: Timestamp::MIN,
@@ -96,12 +121,11 @@ impl Noted {
         }
     }
 
-    /// Whether an entry is noted that stands behind others. Of equal ones the first are.
-    pub(crate) fn has(&self, before: &[Vec<u8>], entry: &[u8]) -> bool
-        ensures { result ≡ is_noted (noted_view self.now).entries
-            (map (λ e. e.items) before.now) entry.now }
+    /// How often each entry is noted.
+    pub(crate) fn counts(&self, alloc: Global) -> Result<Counts<'_>, AllocError>
+        ensures { IfOk result (λ m. AreLeft (noted_view self.now).entries [] m) }
     {
-        count_of(entry, before) < count_of(entry, self.entries.as_slice())
+        counts_of(alloc, self.entries.as_slice())
     }
 
     /// The text of a note.
@@ -133,15 +157,33 @@ fn push_entries(text: &mut Vec<u8>, entries: &[Vec<u8>]) -> Result<(), AllocErro
     Ok(())
 }
 
-// The second that stands in front of a line feed, and what stands behind it.
-fn cut_instant(bytes: &[u8]) -> Option<(Timestamp, &[u8])> {
+// The instant whose second a text tells.
+fn instant_of(text: &[u8]) -> Option<Timestamp>
+    ensures { (s : ℤ) → IsTimestampNanos (nanos_of_seconds s) → text.now ≡ signed_decimal s
+        → IsSomeAnd result (λ t. t.nanosecond ≡ nanos_of_seconds s) }
+{
+    let second = str::from_utf8(text).ok()?.parse::<i64>().ok()?;
+    Timestamp::from_second(second).ok()
+}
+
+// The instant that stands in front of a line feed, and what stands behind it.
+fn cut_instant(bytes: &[u8]) -> Option<(Timestamp, &[u8])>
+    ensures { (s : ℤ) (rest : List ℕ) → IsTimestampNanos (nanos_of_seconds s)
+        → bytes.now ≡ signed_decimal s ++ 10 ∷ rest
+        → IsSomeAnd result (λ r. (r.0.nanosecond ≡ nanos_of_seconds s) × (r.1.now ≡ rest)) }
+{
     let end = bytes.iter().position(|byte| *byte == b'\n')?;
-    let second = str::from_utf8(&bytes[..end]).ok()?.parse::<i64>().ok()?;
-    Some((Timestamp::from_second(second).ok()?, &bytes[end + 1..]))
+    Some((instant_of(&bytes[..end])?, &bytes[end + 1..]))
 }
 
 // The entries of lines, or `None` where one of them is none.
-fn read_entries(alloc: Global, lines: &[u8]) -> Result<Option<Vec<Vec<u8>>>, AllocError> {
+fn read_entries(alloc: Global, lines: &[u8]) -> Result<Option<Vec<Vec<u8>>>, AllocError>
+    ensures entries { IfOk result (λ read. IfSome read
+        (λ entries. All IsEntry (map (λ e. e.items) entries.items))) }
+    ensures only { (es : List (List ℕ)) → All IsEntry es
+        → lines.now ≡ flat_map (λ e. e ++ 10 ∷ []) es
+        → IfOk result (λ read. IsSomeAnd read (λ entries. map (λ e. e.items) entries.items ≡ es)) }
+{
     let mut entries = Vec::new(alloc);
     for line in lines.split(|byte| *byte == b'\n') {
         if line.contains(&b'\t') {
@@ -154,13 +196,18 @@ fn read_entries(alloc: Global, lines: &[u8]) -> Result<Option<Vec<Vec<u8>>>, All
 }
 
 // The note whose text it is, if it is one's. Of other bytes it is some note or none.
-fn guess(alloc: Global, bytes: &[u8]) -> Result<Option<Noted>, AllocError> {
+fn guess(alloc: Global, bytes: &[u8]) -> Result<Option<Noted>, AllocError>
+    ensures can { IfOk result (λ note. IfSome note (λ n. CanBeNoted (noted_view n))) }
+    ensures only { (n : notes.Noted) → IsNote bytes.now n
+        → IfOk result (λ note. option_map noted_view note ≡ Some (in_seconds n)) }
+{
     let Some(rest) = bytes.strip_prefix(HEAD) else {
         return Ok(None);
     };
-    let Some((until, rest)) = cut_instant(rest) else {
+    let Some(cut) = cut_instant(rest) else {
         return Ok(None);
     };
+    let (until, rest) = cut;
     let Some(lines) = rest.strip_suffix(END) else {
         return Ok(None);
     };
@@ -172,7 +219,9 @@ fn guess(alloc: Global, bytes: &[u8]) -> Result<Option<Noted>, AllocError> {
 
 /// Reads a note. Other bytes are refused, also where a note is cut short or more stands behind it.
 pub fn read_note(alloc: Global, bytes: &[u8]) -> Result<Option<Noted>, AllocError>
-    ensures { IfOk result (λ note. IfSome note (λ n. note_text (noted_view n) ≡ bytes.now)) }
+    ensures text { IfOk result (λ note. IfSome note (λ n. IsNote bytes.now (noted_view n))) }
+    ensures only { (n : notes.Noted) → IsNote bytes.now n
+        → IfOk result (λ note. option_map noted_view note ≡ Some (in_seconds n)) }
 {
     let Some(noted) = guess(alloc, bytes)? else {
         return Ok(None);

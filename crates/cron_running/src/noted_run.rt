@@ -20,6 +20,7 @@ use cron_notes::store::Store;
 use cron_ringing::printer::Printer;
 use cron_scheduler::AlarmClock;
 use cron_writer::watchable::Watchable;
+use jiff::Timestamp;
 use jiff::tz::TimeZone;
 use std::alloc::Global;
 
@@ -45,19 +46,20 @@ pub fn run_noted<C: AlarmClock, F: Changing, S: Store, W: Watchable, E: Watchabl
     files: &[TabFile<'_>],
     zones: &[TimeZone<'_>],
     noted: &Noted,
+    since: Option<Timestamp>,
     clock: &mut RunClock<'_, C, F, S>,
     writer: &mut TabWriter<W>,
     complaints: &mut Printer<E>,
 ) -> Result<(), Failure<Interruption<C::Error>>>
     requires { orders.now.most ≡ 18_446_744_073_709_551_615 }
     ensures { RunsNoted (RunsFiles
-        (clock_calls (Shows C.shows) (Waits C.waits F.changes S.does)) TakesEntries
+        (clock_calls (Shows C.shows) (Waits C.shows C.waits F.changes S.does)) TakesEntries
         (writer_calls W.writes W.flushes W.contents) (writer_calls E.writes E.flushes E.contents)
-        orders.now files.now (map plain_zone zones.now) (noted_view noted.now)) S.does
+        orders.now files.now (map plain_zone zones.now) (noted_view noted.now) since) S.does
         (clock.old, writer.old, complaints.old) result (clock.new, writer.new, complaints.new) }
 {
     match run_files(
-        alloc, orders, files, zones, noted, clock, writer, complaints,
+        alloc, orders, files, zones, noted, since, clock, writer, complaints,
     ) {
         Ok(()) => note_end(clock),
         Err(failure) => Err(failure),

@@ -2,7 +2,7 @@
 
 ghost use Rattle.std.specs.Prelude.{◌≡◌, Bool, List, ℕ, map};
 ghost use Rattle.jiff_core.specs.declared.Timestamp.{Timestamp};
-ghost use Rattle.cron_running.specs.Clocks.{IsTold, Notes, NotesOnce, WaitsOn, is_due, is_settled, is_waited};
+ghost use Rattle.cron_running.specs.Clocks.{Glances, IsTold, Notes, NotesOnce, WaitsOn, is_due, is_settled, is_waited};
 
 use crate::noted::{Noted, later};
 use cron_notes::replace::replace;
@@ -63,6 +63,9 @@ pub struct RunClock<'a, C, F, S> {
     /// Until when it waited last. Until the same instant it waits again without a note, since
     /// nothing was run.
     pub until: Option<Timestamp>,
+    /// What it showed at the last look that found the files as they are run. Where it goes back,
+    /// that is the latest that it showed.
+    pub seen: Timestamp,
 }
 
 // Whether a clock waited until this instant before.
@@ -122,14 +125,33 @@ impl<C: AlarmClock, F: Changing, S: Store> RunClock<'_, C, F, S> {
         if self.is_settled(instant) {
             return Ok(());
         }
-        self.note()?;
-        self.until = Some(instant);
+        match self.note() {
+            Ok(()) => {
+                self.until = Some(instant);
+                Ok(())
+            }
+            Err(error) => Err(error),
+        }
+    }
+
+    /// Looks at the files, once it has read the clock.
+    pub(crate) fn glance(&mut self) -> Result<(), Interruption<C::Error>>
+        ensures { Glances C.shows F.changes self.old result self.new }
+    {
+        let now = match self.clock.now() {
+            Ok(now) => now,
+            Err(error) => return Err(Interruption::Clock(error)),
+        };
+        if self.files.have_changed() {
+            return Err(Interruption::Changed);
+        }
+        self.seen = later(self.noted.until, now);
         Ok(())
     }
 
     // Waits, and then looks at the files, unless something is due already and is to be run first.
     fn wait(&mut self, instant: Timestamp) -> Result<(), Interruption<C::Error>>
-        ensures { WaitsOn C.waits F.changes instant self.old result self.new }
+        ensures { WaitsOn C.shows C.waits F.changes instant self.old result self.new }
     {
         if let Err(error) = self.clock.sleep_until(instant) {
             return Err(Interruption::Clock(error));
@@ -137,11 +159,7 @@ impl<C: AlarmClock, F: Changing, S: Store> RunClock<'_, C, F, S> {
         if is_due(&self.noted, instant) {
             return Ok(());
         }
-        if self.files.have_changed() {
-            Err(Interruption::Changed)
-        } else {
-            Ok(())
-        }
+        self.glance()
     }
 }
 
@@ -152,7 +170,7 @@ impl<C: AlarmClock, F: Changing, S: Store> AlarmClock for RunClock<'_, C, F, S> 
 
     ghost shows = { Shows C.shows };
 
-    ghost waits = { Waits C.waits F.changes S.does };
+    ghost waits = { Waits C.shows C.waits F.changes S.does };
 
     fn now(&mut self) -> Result<Timestamp, Interruption<C::Error>> {
         match self.clock.now() {

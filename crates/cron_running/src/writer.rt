@@ -1,9 +1,13 @@
 //! What is written at the fires of an agenda.
 
-ghost use Rattle.std.specs.Prelude.{◌≡◌, []};
-ghost use Rattle.cron_running.specs.Writing.{text_at};
+ghost use Rattle.std.specs.Prelude.{◌≡◌, [], false};
+ghost use Rattle.cron_ringing.specs.Printing.{writer_calls};
+ghost use Rattle.cron_agenda.specs.Messages.{fire_text};
+ghost use Rattle.cron_shell.specs.Lines.{log_front};
+ghost use Rattle.cron_running.specs.Writing.{PrintsWhere, text_at};
 
-use cron_agenda::{Agenda, AgendaFire};
+use crate::fronts::front_of;
+use cron_agenda::{Agenda, AgendaFire, EntryFire};
 use cron_agenda_scheduler::AgendaJob;
 use cron_fires::Timetable;
 use cron_ringing::printer::{Printer, WriteFailed};
@@ -19,6 +23,8 @@ pub struct TabWriter<W> {
     pub printer: Printer<W>,
     /// The texts, each at the id of its entry.
     pub(crate) texts: Vec<Vec<u8>>,
+    /// Whether what writes a fire stands in front of its text.
+    pub(crate) names_fires: bool,
 }
 
 impl<W: Watchable> TabWriter<W> {
@@ -26,10 +32,12 @@ impl<W: Watchable> TabWriter<W> {
     pub fn new(alloc: Global, out: Watched<W>) -> TabWriter<W>
         ensures printer { result.printer.out ≡ out }
         ensures texts { result.texts.items ≡ [] }
+        ensures names { result.names_fires ≡ false }
     {
         TabWriter {
             printer: Printer { out },
             texts: Vec::new(alloc),
+            names_fires: false,
         }
     }
 }
@@ -44,6 +52,22 @@ fn text_at(texts: &[Vec<u8>], id: u64) -> &[u8]
     }
 }
 
+// Writes what writes a fire into the file of its entry's output, where that is asked for.
+fn write_front<W: Watchable>(
+    printer: &mut Printer<W>,
+    names_fires: bool,
+    fire: &EntryFire,
+) -> Result<(), WriteFailed>
+    ensures { PrintsWhere (writer_calls W.writes W.flushes W.contents) names_fires printer.old
+        (log_front (fire_text fire.now)) result printer.new }
+{
+    if names_fires {
+        printer.print(front_of(fire).as_slice())
+    } else {
+        Ok(())
+    }
+}
+
 impl<T: Timetable, W: Watchable> AgendaJob<T> for TabWriter<W> {
     type Error = WriteFailed;
 
@@ -55,6 +79,7 @@ impl<T: Timetable, W: Watchable> AgendaJob<T> for TabWriter<W> {
     ghost passes = { λ old _ new. new ≡ old };
 
     fn run(&mut self, due: AgendaFire, _agenda: &mut Agenda<T>) -> Result<(), WriteFailed> {
+        write_front(&mut self.printer, self.names_fires, &due.fire)?;
         self.printer.print(text_at(self.texts.as_slice(), due.id))
     }
 

@@ -1,10 +1,12 @@
 //! Rings and runs on clocks that wake late: what `cron_ringing` answers to some arguments at the
 //! fold and the gap of Chicago's 2022, and what `cron_running` runs of a crontab by each lateness.
-//! `stdout` has the lines that are wanted. The tests of `cron_scheduler`, of `cron_ringing` and of
+//! `stdout` has the lines that are wanted. Rows of `data/looks.txt` are crontabs that change, of
+//! which a model in Python counted what is written. The tests of `cron_scheduler`, of `cron_ringing` and of
 //! the notes of `cron_running` stand here.
 #![tactic(auto)]
 
 mod late_clock;
+mod looks;
 mod runs;
 #[cfg(test)]
 mod tests;
@@ -12,8 +14,10 @@ mod tests;
 use anyhow::Result;
 use cron_ringing::answer::answer;
 use cron_ringing::printer::Printer;
+use cron_rows::ask_files;
 use cron_writer::watched::Watched;
 use late_clock::LateClock;
+use looks::Looks;
 use std::io;
 
 /// The rule of Chicago, where the clock goes from 02:00 to 03:00 on 2022-03-13, and from 02:00 back
@@ -52,5 +56,6 @@ fn ring(rt: &HostRuntime) -> Result<()> {
 
 fn main(rt: HostRuntime) -> Result<()> {
     ring(&rt)?;
-    runs::run(&rt)
+    runs::run(&rt)?;
+    ask_files(&rt, &[(Looks, "looks.txt")])
 }

@@ -8,7 +8,7 @@ use cron_ringing::printer::Printer;
 use cron_running::{Noted, RunOrders, TabFile, TabWriter, run_files};
 use cron_tab_lines::{Crontab, NamedZone};
 use cron_tab_listing::Clock;
-use cron_tab_tasks::{Form, Orders};
+use cron_tab_tasks::{Form, Orders, PLAIN, Ways};
 use cron_writer::watched::Watched;
 use jiff::tz::TimeZone;
 use std::io;
@@ -30,7 +30,7 @@ const NAMES: [NamedZone<'static>; 1] = [NamedZone {
 /// The lateness of each run. The clock shows 05:00Z first, and then 06:40Z and 08:10Z.
 const RUNS: [Lateness; 3] = [Lateness::Each, Lateness::Latest, Lateness::Within(2400)];
 
-fn orders(form: Form, lateness: Lateness, most: u64) -> RunOrders<'static> {
+fn orders(form: Form<'static>, lateness: Lateness, most: u64) -> RunOrders<'static> {
     RunOrders {
         tasks: Orders {
             kind: Crontab::User,
@@ -63,6 +63,7 @@ fn run_one(rt: &HostRuntime, tab: &str, orders: &RunOrders<'_>) -> Result<()> {
         &files,
         &zones,
         &Noted::nothing(rt.alloc()),
+        None,
         &mut clock,
         &mut writer,
         &mut complaints,
@@ -72,11 +73,22 @@ fn run_one(rt: &HostRuntime, tab: &str, orders: &RunOrders<'_>) -> Result<()> {
     }
 }
 
-/// Runs a crontab by each lateness, then as lines for a shell, and then one of two zones.
+// Each command ends within a minute, runs alone, and writes into its file.
+fn logged() -> Ways<'static> {
+    Ways {
+        timeout: Some(60),
+        locks: Some(b"locks".as_slice()),
+        logs: Some(b"logs".as_slice()),
+    }
+}
+
+/// Runs a crontab by each lateness, then as lines for a shell, without ways and with all, and then
+/// one of two zones.
 pub(crate) fn run(rt: &HostRuntime) -> Result<()> {
     for lateness in RUNS {
         run_one(rt, TAB, &orders(Form::Command, lateness, 4))?;
     }
-    run_one(rt, TAB, &orders(Form::Shell, Lateness::Each, 1))?;
+    run_one(rt, TAB, &orders(Form::Shell(PLAIN), Lateness::Each, 1))?;
+    run_one(rt, TAB, &orders(Form::Shell(logged()), Lateness::Each, 1))?;
     run_one(rt, ZONED, &orders(Form::Command, Lateness::Each, 2))
 }

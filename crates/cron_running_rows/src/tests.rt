@@ -1,4 +1,4 @@
-//! Schedulers on clocks that are handed in, notes in a store that fails, and what failures print.
+//! The machine's clock, notes in a store that fails, and what failures print.
 
 mod notes;
 mod ringing;

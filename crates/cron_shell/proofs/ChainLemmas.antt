@@ -1,12 +1,12 @@
 -- What is pushed one after another, put together.
-use Rattle.std.proofs.Common.{◌≡◌, ℕ, ◌<◌, List, [], ◌∷◌, ◌++◌, length, refl, sym, ap, ◌∙◌, append_assoc, arith}
-use Rattle.std.specs.Prelude.{codes}
+use Rattle.std.proofs.Common.{◌≡◌, ℕ, ◌<◌, List, [], ◌∷◌, ◌++◌, length, refl, sym, subst, ap, ◌∙◌, append_assoc, arith}
+use Rattle.std.specs.Prelude.{Option, codes}
 use Rattle.std.proofs.lemmas.List.Concat.{flat_map-append}
 use Rattle.std.proofs.lemmas.List.{append-nil}
 use Rattle.cron_shell.specs.Quoted.{quoted, words}
-use Rattle.cron_shell.specs.Lines.{IsJobLine, Work, arguments, fed, input_lines, job_line}
+use Rattle.cron_shell.specs.Lines.{IsJobLine, IsLogged, Work, arguments, fed, front, input_lines, job_line, line_end, lock_end, lock_front, timed}
 use Rattle.cron_shell.proofs.CutLemmas.{first-line}
-use Rattle.cron_shell.proofs.WordLemmas.{is-fed, read-back}
+use Rattle.cron_shell.proofs.WordLemmas.{is-alone, is-fed, is-logged, is-timed, read-back}
 
 three : (s d c : List ℕ) → words (s ∷ d ∷ c ∷ []) ≡ (32 ∷ quoted s) ++ ((32 ∷ quoted d) ++ (32 ∷ quoted c))
 three s d c = ap (λ t. (32 ∷ quoted s) ++ ((32 ∷ quoted d) ++ t)) (append-nil (32 ∷ quoted c))
@@ -51,7 +51,34 @@ unfed-chain old one two command [] none a b =
     b ∙ ap (λ t. t ++ codes " </dev/null") a ∙ append_assoc old command (codes " </dev/null")
 unfed-chain old one two command (c ∷ cs) none a b = absurd (omega (arith, none))
 
+-- four texts, pushed one after another
+pub end-chain : (old one two three' four a b word : List ℕ) → one ≡ old ++ a → two ≡ one ++ word → three' ≡ two ++ b → four ≡ three' ++ word
+    → four ≡ old ++ (a ++ (word ++ (b ++ word)))
+end-chain old one two three' four a b word is1 is2 is3 is4 =
+    is4
+    ∙ ap (λ t. t ++ word) (is3 ∙ ap (λ t. t ++ b) (is2 ∙ ap (λ t. t ++ word) is1))
+    ∙ append_assoc ((old ++ a) ++ word) b word
+    ∙ append_assoc (old ++ a) word (b ++ word)
+    ∙ append_assoc old a (word ++ (b ++ word))
+
+-- what stands behind a front, put together from inside out
+tail-chain : (a f e l : List ℕ) → a ++ (f ++ (e ++ l)) ≡ (a ++ (f ++ e)) ++ l
+tail-chain a f e l = sym (append_assoc a (f ++ e) l ∙ ap (λ t. a ++ t) (append_assoc f e l))
+
 -- a shell takes the line of a job for what it is
-pub is-job-line : (w : Work) → IsJobLine w (job_line w)
-is-job-line w =
-    (words (arguments w), fed (input_lines w.input) (codes "env --" ++ words (arguments w)), read-back (arguments w), is-fed (input_lines w.input) (codes "env --" ++ words (arguments w)), refl)
+pub is-job-line : (w : Work) (lock log : Option (List ℕ)) (fire : List ℕ) → IsJobLine w lock log fire (job_line w lock log fire)
+is-job-line w lock log fire =
+    let run = codes "env --" ++ words (arguments w) in
+    let input = fed (input_lines w.input) (timed w) in
+    let alone = lock_front lock ++ (input ++ lock_end lock) in (
+      words (arguments w),
+      timed w,
+      input,
+      alone,
+      read-back (arguments w),
+      is-timed w.timeout run,
+      is-fed (input_lines w.input) (timed w),
+      is-alone lock input,
+      subst (λ t. IsLogged log fire alone (front log fire ++ t)) (sym (tail-chain (lock_front lock) input (lock_end lock) (line_end log)))
+          (is-logged log fire alone),
+    )

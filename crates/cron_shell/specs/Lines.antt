@@ -1,7 +1,10 @@
 -- The line by which a POSIX shell runs a command in the background.
-use Rattle.std.specs.Prelude.{◌≡◌, ◌++◌, ◌==◌, ℕ, List, [], ◌∷◌, codes, map, if◌then◌else◌}
-use Rattle.cron_shell.specs.Quoted.{words}
-use Rattle.cron_shell.specs.Words.{AreWords}
+use Rattle.std.specs.Prelude.{◌≡◌, ◌++◌, ◌==◌, ℕ, List, [], ◌∷◌, Option, Some, None, codes, map, if◌then◌else◌}
+use Rattle.std.specs.Borrow.{Bor}
+use Rattle.std.specs.Fmt.{decimal}
+use Rattle.std.specs.Option.{option_map}
+use Rattle.cron_shell.specs.Quoted.{word, words}
+use Rattle.cron_shell.specs.Words.{AreWords, IsWord}
 use Rattle.cron_shell.specs.declared.lines.ShellJob.{ShellJob}
 use Rattle.cron_shell.specs.declared.lines.Variable.{Variable}
 
@@ -9,18 +12,28 @@ use Rattle.cron_shell.specs.declared.lines.Variable.{Variable}
 abbrev pub assignment : List ℕ × List ℕ → List ℕ
 assignment v = v.0 ++ 61 ∷ v.1
 
--- what is run: names with their values, the shell, the command, and what it reads
+-- what is run: names with their values, the shell, the command, what it reads, and after how many seconds it is ended
 pub record Work : Type 0 where
   pub variables : List (List ℕ × List ℕ)
   pub shell : List ℕ
   pub command : List ℕ
   pub input : List ℕ
+  pub timeout : Option ℕ
 
 abbrev pub variable_view : Variable → List ℕ × List ℕ
 variable_view v = (v.name.now, v.value.now)
 
+abbrev pub path_view : Option (Bor (List ℕ)) → Option (List ℕ)
+path_view path = option_map (λ b. b.now) path
+
 abbrev pub work_of : ShellJob → Work
-work_of j = record { variables = map variable_view j.variables.now; shell = j.shell.now; command = j.command.now; input = j.input.now }
+work_of j = record {
+  variables = map variable_view j.variables.now;
+  shell = j.shell.now;
+  command = j.command.now;
+  input = j.input.now;
+  timeout = j.timeout;
+}
 
 -- what `env` is given
 abbrev pub arguments : Work → List (List ℕ)
@@ -43,18 +56,76 @@ IsFed [] command line = line ≡ command ++ codes " </dev/null"
 IsFed (first ∷ lines) command line =
     (words : List ℕ) × AreWords (first ∷ lines) words × (line ≡ codes "printf '%s\\n'" ++ (words ++ (codes " | " ++ command)))
 
--- `env` sets the variables, and runs the shell with the command, in the background.
-abbrev pub IsJobLine : Work → List ℕ → Type 0
-IsJobLine w line =
-    (words : List ℕ) × (fed : List ℕ) × AreWords (arguments w) words × IsFed (input_lines w.input) (codes "env --" ++ words) fed
-    × (line ≡ fed ++ codes " &\n")
+-- `timeout` ends the command after so many seconds
+abbrev pub IsTimed : Option ℕ → List ℕ → List ℕ → Type 0
+IsTimed None command line = line ≡ command
+IsTimed (Some seconds) command line =
+    (number : List ℕ) × IsWord (decimal seconds) number × (line ≡ codes "timeout" ++ (number ++ (codes " " ++ command)))
+
+-- `flock` locks the file, as long as the command runs. Where it is locked, that is told on standard error, and the command isn't run.
+abbrev pub IsAlone : Option (List ℕ) → List ℕ → List ℕ → Type 0
+IsAlone None command line = line ≡ command
+IsAlone (Some file) command line =
+    (path : List ℕ) × IsWord file path
+    × (line ≡ codes "if flock -n 9; then " ++ (command ++ (codes "; else printf 'crontool: passed over while its last command runs: %s\\n'" ++ (path ++ (codes " >&2; fi 9>>" ++ path)))))
+
+-- The command is run in the background. Behind what the file holds the fire is put, with a line feed, and then what the command writes.
+abbrev pub IsLogged : Option (List ℕ) → List ℕ → List ℕ → List ℕ → Type 0
+IsLogged None fire command line = line ≡ command ++ codes " &\n"
+IsLogged (Some file) fire command line =
+    (told : List ℕ) × (path : List ℕ) × IsWord fire told × IsWord file path
+    × (line ≡ codes "{ printf '%s\\n'" ++ (told ++ (codes "; " ++ (command ++ (codes "; } >>" ++ (path ++ codes " 2>&1 &\n"))))))
+
+-- At a fire: `env` sets the variables and runs the shell with the command, timed, fed, alone by the file that is locked, and logged in the
+-- file that the output is put behind.
+abbrev pub IsJobLine : Work → Option (List ℕ) → Option (List ℕ) → List ℕ → List ℕ → Type 0
+IsJobLine w lock log fire line =
+    (words : List ℕ) × (timed : List ℕ) × (fed : List ℕ) × (alone : List ℕ) × AreWords (arguments w) words
+    × IsTimed w.timeout (codes "env --" ++ words) timed × IsFed (input_lines w.input) timed fed × IsAlone lock fed alone
+    × IsLogged log fire alone line
 
 -- ---- the line that is written
+
+-- what stands in front of a command that is ended after so many seconds
+abbrev pub timer : Option ℕ → List ℕ
+timer None = []
+timer (Some seconds) = codes "timeout" ++ (word (decimal seconds) ++ codes " ")
+
+-- what is timed
+abbrev pub timed : Work → List ℕ
+timed w = timer w.timeout ++ (codes "env --" ++ words (arguments w))
 
 -- a command that reads these lines, or nothing
 abbrev pub fed : List (List ℕ) → List ℕ → List ℕ
 fed [] command = command ++ codes " </dev/null"
 fed (first ∷ lines) command = codes "printf '%s\\n'" ++ (words (first ∷ lines) ++ (codes " | " ++ command))
 
-abbrev pub job_line : Work → List ℕ
-job_line w = fed (input_lines w.input) (codes "env --" ++ words (arguments w)) ++ codes " &\n"
+-- what stands in front of a command that is run under a lock, and behind it
+abbrev pub lock_front : Option (List ℕ) → List ℕ
+lock_front None = []
+lock_front (Some file) = codes "if flock -n 9; then "
+
+abbrev pub lock_end : Option (List ℕ) → List ℕ
+lock_end None = []
+lock_end (Some file) =
+    codes "; else printf 'crontool: passed over while its last command runs: %s\\n'" ++ (word file ++ (codes " >&2; fi 9>>" ++ word file))
+
+-- what stands in front of a line whose output goes to a file: it writes the fire
+abbrev pub log_front : List ℕ → List ℕ
+log_front fire = codes "{ printf '%s\\n'" ++ (word fire ++ codes "; ")
+
+abbrev pub front : Option (List ℕ) → List ℕ → List ℕ
+front None fire = []
+front (Some file) fire = log_front fire
+
+-- how a line ends
+abbrev pub line_end : Option (List ℕ) → List ℕ
+line_end None = codes " &\n"
+line_end (Some file) = codes "; } >>" ++ (word file ++ codes " 2>&1 &\n")
+
+-- the line but for what stands in front of it
+abbrev pub job_tail : Work → Option (List ℕ) → Option (List ℕ) → List ℕ
+job_tail w lock log = lock_front lock ++ (fed (input_lines w.input) (timed w) ++ (lock_end lock ++ line_end log))
+
+abbrev pub job_line : Work → Option (List ℕ) → Option (List ℕ) → List ℕ → List ℕ
+job_line w lock log fire = front log fire ++ job_tail w lock log

@@ -25,6 +25,10 @@ taken_for behind_backslash (c ∷ cs) = if c == 10 then None else with_byte c (t
 abbrev pub IsTakenFor : List ℕ → List ℕ → Type 0
 IsTakenFor text word = taken_for outside word ≡ Some text
 
+-- such a word, with a blank in front
+abbrev pub IsWord : List ℕ → List ℕ → Type 0
+IsWord text line = (word : List ℕ) × (line ≡ 32 ∷ word) × IsTakenFor text word
+
 -- such a word stands behind what was there, and behind a blank
 abbrev pub PushesWord : List ℕ → List ℕ → List ℕ → Type 0
 PushesWord text old new = (word : List ℕ) × (new ≡ old ++ 32 ∷ word) × IsTakenFor text word

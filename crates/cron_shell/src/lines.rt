@@ -1,11 +1,12 @@
 //! The line of a job.
 
 ghost use Rattle.std.specs.Prelude.{◌≡◌, ◌<◌, ◌≤◌, ◌++◌, ◌∷◌, OnOk, codes, length, map};
-ghost use Rattle.cron_shell.specs.Lines.{arguments, assignment, fed, input_lines, job_line, variable_view, work_of};
+ghost use Rattle.cron_shell.specs.Lines.{arguments, assignment, fed, input_lines, job_tail, line_end, lock_end, lock_front, log_front, path_view, timed, timer, variable_view, work_of};
 ghost use Rattle.cron_shell.specs.Inner.Cuts.{front_len};
 ghost use Rattle.cron_shell.specs.Quoted.{quoted, words};
 
 use crate::words::{push_bytes, push_word};
+use itoa::Buffer;
 use std::alloc::AllocError;
 
 /// A variable of a job's environment.
@@ -26,6 +27,8 @@ pub struct ShellJob<'a> {
     pub command: &'a [u8],
     /// What the command reads, by lines. The last one may lack its line feed.
     pub input: &'a [u8],
+    /// After how many seconds the command is ended.
+    pub timeout: Option<u64>,
 }
 
 // Pushes `NAME=VALUE` as a word.
@@ -92,6 +95,19 @@ fn push_lines(line: &mut Vec<u8>, text: &[u8]) -> Result<(), AllocError>
     Ok(())
 }
 
+// Pushes what ends a command after so many seconds.
+fn push_timer(line: &mut Vec<u8>, timeout: Option<u64>) -> Result<(), AllocError>
+    ensures { OnOk result (line.new.items ≡ line.old.items ++ timer timeout) }
+{
+    let Some(seconds) = timeout else {
+        return Ok(());
+    };
+    line.extend_from_slice(b"timeout")?;
+    push_word(line, Buffer::new().format(seconds).as_bytes())?;
+    line.extend_from_slice(b" ")?;
+    Ok(())
+}
+
 // Pushes what runs the command, with its variables and its shell.
 fn push_command(line: &mut Vec<u8>, job: &ShellJob<'_>) -> Result<(), AllocError>
     ensures { OnOk result
@@ -106,33 +122,102 @@ fn push_command(line: &mut Vec<u8>, job: &ShellJob<'_>) -> Result<(), AllocError
     Ok(())
 }
 
+// Pushes what runs the command, and ends it after so many seconds.
+fn push_timed(line: &mut Vec<u8>, job: &ShellJob<'_>) -> Result<(), AllocError>
+    ensures { OnOk result (line.new.items ≡ line.old.items ++ timed (work_of job.now)) }
+{
+    push_timer(line, job.timeout)?;
+    push_command(line, job)?;
+    Ok(())
+}
+
 // Pushes the command, fed with its input.
 fn push_fed(line: &mut Vec<u8>, job: &ShellJob<'_>) -> Result<(), AllocError>
     ensures { OnOk result (line.new.items ≡ line.old.items
-        ++ fed (input_lines job.now.input.now)
-        (codes "env --" ++ words (arguments (work_of job.now)))) }
+        ++ fed (input_lines job.now.input.now) (timed (work_of job.now))) }
 {
     if job.input.is_empty() {
-        push_command(line, job)?;
+        push_timed(line, job)?;
         line.extend_from_slice(b" </dev/null")?;
         return Ok(());
     }
     line.extend_from_slice(b"printf '%s\\n'")?;
     push_lines(line, job.input)?;
     line.extend_from_slice(b" | ")?;
-    push_command(line, job)?;
+    push_timed(line, job)?;
+    Ok(())
+}
+
+// Pushes what stands in front of a command that is run under a lock.
+fn push_lock_front(line: &mut Vec<u8>, lock: Option<&[u8]>) -> Result<(), AllocError>
+    ensures { OnOk result (line.new.items ≡ line.old.items ++ lock_front (path_view lock.entry)) }
+{
+    match lock {
+        Some(_) => line.extend_from_slice(b"if flock -n 9; then "),
+        None => Ok(()),
+    }
+}
+
+// Pushes what stands behind it.
+fn push_lock_end(line: &mut Vec<u8>, lock: Option<&[u8]>) -> Result<(), AllocError>
+    ensures { OnOk result (line.new.items ≡ line.old.items ++ lock_end (path_view lock.entry)) }
+{
+    let Some(file) = lock else {
+        return Ok(());
+    };
+    line.extend_from_slice(
+        b"; else printf 'crontool: passed over while its last command runs: %s\\n'",
+    )?;
+    push_word(line, file)?;
+    line.extend_from_slice(b" >&2; fi 9>>")?;
+    push_word(line, file)?;
+    Ok(())
+}
+
+// Pushes the end of a line.
+fn push_end(line: &mut Vec<u8>, log: Option<&[u8]>) -> Result<(), AllocError>
+    ensures { OnOk result (line.new.items ≡ line.old.items ++ line_end (path_view log.entry)) }
+{
+    let Some(file) = log else {
+        return line.extend_from_slice(b" &\n");
+    };
+    line.extend_from_slice(b"; } >>")?;
+    push_word(line, file)?;
+    line.extend_from_slice(b" 2>&1 &\n")?;
+    Ok(())
+}
+
+/// Pushes what writes a fire into the file that the output is put behind. The rest of the line
+/// stands behind it.
+pub fn push_log_front(line: &mut Vec<u8>, fire: &[u8]) -> Result<(), AllocError>
+    ensures { OnOk result (line.new.items ≡ line.old.items ++ log_front fire.now) }
+{
+    line.extend_from_slice(b"{ printf '%s\\n'")?;
+    push_word(line, fire)?;
+    line.extend_from_slice(b"; ")?;
     Ok(())
 }
 
 /// Pushes the line of a job, which a shell runs in the background: `env` with the variables, the
-/// shell and the command, each as one word, fed by `printf` with the input, or by nothing. Without
-/// line feeds in the variables, the shell and the command it is one line.
+/// shell and the command, each as one word, fed by `printf` with the input, or by nothing; ended by
+/// `timeout`. Where a file is to be locked, `flock` does so while the command runs, and it isn't
+/// run where the file is locked already. Where there is a file for the output, that is put behind
+/// it, and a [front](push_log_front) is to stand before the line. Without line feeds in the
+/// variables, the shell, the command and the files it is one line.
 /// [`lines_are_taken_as_they_are`](crate::laws::lines_are_taken_as_they_are) says what a shell
 /// takes it for.
-pub fn push_line(line: &mut Vec<u8>, job: &ShellJob<'_>) -> Result<(), AllocError>
-    ensures { OnOk result (line.new.items ≡ line.old.items ++ job_line (work_of job.now)) }
+pub fn push_line(
+    line: &mut Vec<u8>,
+    job: &ShellJob<'_>,
+    lock: Option<&[u8]>,
+    log: Option<&[u8]>,
+) -> Result<(), AllocError>
+    ensures { OnOk result (line.new.items ≡ line.old.items
+        ++ job_tail (work_of job.now) (path_view lock.entry) (path_view log.entry)) }
 {
+    push_lock_front(line, lock)?;
     push_fed(line, job)?;
-    line.extend_from_slice(b" &\n")?;
+    push_lock_end(line, lock)?;
+    push_end(line, log)?;
     Ok(())
 }

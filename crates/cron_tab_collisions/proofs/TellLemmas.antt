@@ -1,5 +1,5 @@
 -- Reports of entries, so far.
-use Rattle.std.proofs.Common.{◌≡◌, ◌<◌, ◌≤◌, ◌+◌, ℕ, zero, suc, Some, List, [], ◌∷◌, ◌++◌, map, drop, length, get_or, take, ◌-◌, ℤ, ap, sym, ◌∙◌, refl, subst, append_assoc, append-nil, add-one, arith, length-drop}
+use Rattle.std.proofs.Common.{inr, ◌≡◌, ◌<◌, ◌≤◌, ◌+◌, ℕ, zero, suc, Some, List, [], ◌∷◌, ◌++◌, map, drop, length, get_or, take, ◌-◌, ℤ, ap, sym, ◌∙◌, refl, subst, append_assoc, append-nil, add-one, arith, length-drop}
 use Rattle.std.proofs.Math.Seq.{drop-cons}
 use Rattle.std.proofs.lemmas.List.{drop_all, length-map, take_all}
 use Rattle.std.proofs.lemmas.Option.{slice_get_read, slice_get_within}
@@ -10,11 +10,12 @@ use Rattle.cron_collisions.specs.declared.collisions.Collisions.{Collisions}
 use Rattle.cron_tab_fires.specs.Entries.{Given, TabFires, entries_in, seconds, view}
 use Rattle.cron_tab_fires.specs.Laws.{AllAscend}
 use Rattle.cron_tab_fires.specs.declared.entries.TabFires as code
+use Rattle.cron_tab_fires.specs.declared.error.FiresError.TheVariants.{OutOfMemory}
 use Rattle.cron_tab_fires.proofs.AscendLemmas.{all_ascend-append, entries_ascend}
 use Rattle.cron_tab_lines.specs.Files.{file_lines}
 use Rattle.cron_tab_lines.specs.Views.{bytes_view}
-use Rattle.cron_tool.specs.declared.tab_files.TabFile.{TabFile}
-use Rattle.cron_tab_collisions.specs.Collisions.{TellsAll, TellsPair, TellsWith, entries_of}
+use Rattle.cron_tab_listing.specs.declared.tab_file.TabFile.{TabFile}
+use Rattle.cron_tab_collisions.specs.Collisions.{IsFilesError, TellsAll, TellsPair, TellsWith, entries_of}
 use Rattle.cron_tab_collisions.specs.Inner.Telling.{Adds}
 use Rattle.cron_tab_collisions.specs.Rows.{later, row}
 
@@ -111,3 +112,8 @@ file_added g all old new left rest f so_far cut is =
 pub files_from : (files : List TabFile) (i : ℕ) (f : TabFile) → i < length files → f ≡ get_or files i f → drop i files ≡ f ∷ drop (i + 1) files
 files_from files i f short is =
     drop-cons files i f short ∙ (ap (λ (x : TabFile). x ∷ drop (suc i) files) (sym is) ∙ ap (λ (j : ℕ). f ∷ drop j files) (sym (add-one i)))
+
+-- memory may run out, whatever the files hold
+pub memory_runs_out : (g : Given) (files : List TabFile) → IsFilesError g files OutOfMemory
+memory_runs_out g [] = refl
+memory_runs_out g (f ∷ files) = inr (memory_runs_out g files)

@@ -1,5 +1,5 @@
 -- What is told of entries that collide, where each fire lasts so many seconds.
-use Rattle.std.specs.Prelude.{◌≡◌, ◌⊎◌, ◌++◌, ◌*◌, ℕ, List, [], ◌∷◌, Option, Some, None, slice_get}
+use Rattle.std.specs.Prelude.{◌≡◌, ◌⊎◌, ◌++◌, ◌*◌, ℕ, Bool, false, List, [], ◌∷◌, Option, Some, None, Result, Ok, Err, slice_get}
 use Rattle.std.specs.List.{flat_map}
 use Rattle.cron_agenda.specs.declared.fire.EntryFire.{EntryFire}
 use Rattle.cron_collisions.specs.Collisions.{AreCollisions}
@@ -7,10 +7,13 @@ use Rattle.cron_collisions.specs.declared.collisions.Collisions.{Collisions}
 use Rattle.cron_tab_fires.specs.Entries.{Given, TabFires, entries_in, seconds}
 use Rattle.cron_tab_lines.specs.Files.{file_lines}
 use Rattle.cron_tab_lines.specs.Views.{bytes_view}
-use Rattle.cron_tool.specs.Statuses.{Ends, Reporting}
-use Rattle.cron_tool.specs.declared.status.Status.{Status}
-use Rattle.cron_tool.specs.declared.status.Status.TheVariants.{Done, No, Unreadable}
-use Rattle.cron_tool.specs.declared.tab_files.TabFile.{TabFile}
+use Rattle.cron_tab_fires.specs.Errors.{IsFiresError}
+use Rattle.cron_tab_fires.specs.declared.error.FiresError.{FiresError}
+use Rattle.cron_tab_fires.specs.declared.error.FiresError.TheVariants.{OutOfMemory}
+use Rattle.cron_replies.specs.Statuses.{Ends, Reporting, is_write_failure}
+use Rattle.cron_replies.specs.declared.status.Status.{Status}
+use Rattle.cron_replies.specs.declared.status.Status.TheVariants.{Done, No}
+use Rattle.cron_tab_listing.specs.declared.tab_file.TabFile.{TabFile}
 use Rattle.cron_tab_collisions.specs.Rows.{later, row}
 
 -- the entries of crontabs, one file after another
@@ -50,8 +53,18 @@ pub record AreTold (length : ℕ) (es : List TabFires) (was is : Option (List �
   pub tells : TellsAll length es report
   pub ends : Ends (found_status report) report was is status
 
--- The rows of all that collide were written, where each fire lasts so many minutes; or nothing was written, since memory ran out or a zone
--- wasn't lent.
-abbrev pub TellsCollisions : {W : Type 0} → ℕ → List TabFires → Reporting W → W → Status → W → Type 0
-TellsCollisions minutes es out old status new =
-    out (AreTold (60 * minutes) es) old status new ⊎ ((status ≡ Unreadable) × (new ≡ old))
+-- why the fires of some file's entries can't be listed
+abbrev pub IsFilesError : Given → List TabFile → FiresError → Type 0
+IsFilesError g [] why = why ≡ OutOfMemory
+IsFilesError g (f ∷ files) why = IsFiresError g (Some 0) (file_lines f.kind f.bytes.now) why ⊎ IsFilesError g files why
+
+-- The rows of all that collide were written, where each fire lasts so many minutes; or nothing was written, since a zone isn't lent or memory
+-- ran out.
+abbrev pub TellsCollisions : {W : Type 0} → ℕ → Given → List TabFile → Reporting W → W → Result Status FiresError → W → Type 0
+TellsCollisions minutes g files out old (Ok status) new = out (AreTold (60 * minutes) (entries_of g files)) old status new
+TellsCollisions minutes g files out old (Err why) new = IsFilesError g files why × (new ≡ old)
+
+-- whether a write failed
+abbrev pub is_failed : Result Status FiresError → Bool
+is_failed (Ok status) = is_write_failure status
+is_failed (Err why) = false

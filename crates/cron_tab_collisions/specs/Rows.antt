@@ -4,7 +4,7 @@ use Rattle.std.specs.Fmt.{decimal}
 use Rattle.cron_agenda.specs.Fires.{instant}
 use Rattle.cron_agenda.specs.declared.fire.EntryFire.{EntryFire}
 use Rattle.cron_tab_fires.specs.Entries.{TabFires}
-use Rattle.cron_tool.specs.TabRows.{fire_text}
+use Rattle.cron_agenda.specs.Messages.{fire_text}
 
 -- the later of two fires, and the first of them where they share an instant
 abbrev pub later : EntryFire → EntryFire → EntryFire

@@ -11,7 +11,7 @@ use crate::rows::{later, push_row};
 use cron_agenda::EntryFire;
 use cron_collisions::collisions_of;
 use cron_tab_fires::TabFires;
-use cron_tool::row::Told;
+use cron_tab_listing::fire_second;
 use std::alloc::{AllocError, Global};
 
 // The instants of fires, in seconds.
@@ -20,7 +20,7 @@ fn seconds_of(alloc: Global, fires: &[EntryFire]) -> Result<Vec<i64>, AllocError
 {
     let mut seconds = Vec::new(alloc);
     for fire in fires {
-        seconds.push(fire.second())?;
+        seconds.push(fire_second(fire))?;
     }
     Ok(seconds)
 }

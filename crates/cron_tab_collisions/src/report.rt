@@ -1,21 +1,21 @@
 //! The report of the entries of crontabs that collide.
-ghost use Rattle.std.specs.Prelude.{◌≡◌, ◌*◌, IfOk, false, map};
+ghost use Rattle.std.specs.Prelude.{◌≡◌, ◌*◌, IfErr, IfOk, false, map};
 ghost use Rattle.jiff.specs.Words.{plain_zone};
 ghost use Rattle.cron_tab_fires.specs.Entries.{given, view};
-ghost use Rattle.cron_tab_collisions.specs.Collisions.{TellsAll, TellsCollisions, entries_of, found_status};
-ghost use Rattle.cron_tool.specs.Statuses.{Reports, is_write_failure};
+ghost use Rattle.cron_tab_collisions.specs.Collisions.{IsFilesError, TellsAll, TellsCollisions, entries_of, found_status, is_failed};
+ghost use Rattle.cron_replies.specs.Statuses.{Reports, is_write_failure};
 ghost use Rattle.cron_writer.specs.Watching.{has_failed};
 
 use crate::pairs::tell_all;
-use cron_tab_fires::{Asked, TabFires, add_fires};
+use cron_replies::sending::send_bytes;
+use cron_replies::status::Status;
+use cron_tab_fires::{Asked, FiresError, TabFires, add_fires};
 use cron_tab_lines::Lines;
-use cron_tool::pair::send_bytes;
-use cron_tool::status::Status;
-use cron_tool::tab_files::TabFile;
+use cron_tab_listing::TabFile;
 use cron_writer::watchable::Watchable;
 use cron_writer::watched::Watched;
 use jiff::tz::TimeZone;
-use std::alloc::{AllocError, Global};
+use std::alloc::Global;
 
 // The entries of crontabs, each with its fires.
 fn entries_of<'a>(
@@ -23,9 +23,11 @@ fn entries_of<'a>(
     files: &[TabFile<'a>],
     asked: &Asked<'_>,
     zones: &[TimeZone<'_>],
-) -> Result<Vec<TabFires<'a>>, AllocError>
-    ensures { IfOk result (λ entries. map view entries.items
+) -> Result<Vec<TabFires<'a>>, FiresError>
+    ensures ok { IfOk result (λ entries. map view entries.items
         ≡ entries_of (given (map plain_zone zones.now) asked.now) files.now) }
+    ensures err { IfErr result
+        (IsFilesError (given (map plain_zone zones.now) asked.now) files.now) }
 {
     let mut entries = Vec::new(alloc);
     for file in files {
@@ -42,19 +44,19 @@ fn report_of(
     files: &[TabFile<'_>],
     asked: &Asked<'_>,
     zones: &[TimeZone<'_>],
-) -> Result<Vec<u8>, AllocError>
-    ensures { IfOk result (λ report. TellsAll (60 * minutes)
+) -> Result<Vec<u8>, FiresError>
+    ensures ok { IfOk result (λ report. TellsAll (60 * minutes)
         (entries_of (given (map plain_zone zones.now) asked.now) files.now) report.items) }
+    ensures err { IfErr result
+        (IsFilesError (given (map plain_zone zones.now) asked.now) files.now) }
 {
     let entries = entries_of(alloc, files, asked, zones)?;
     let mut report = Vec::new(alloc);
-    tell_all(
-        alloc,
-        60 * u64::from(minutes),
-        entries.as_slice(),
-        &mut report,
-    )?;
-    Ok(report)
+    let seconds = 60 * u64::from(minutes);
+    match tell_all(alloc, seconds, entries.as_slice(), &mut report) {
+        Ok(()) => Ok(report),
+        Err(_) => Err(FiresError::OutOfMemory),
+    }
 }
 
 // How it ends: whether a row is told.
@@ -71,8 +73,8 @@ fn found_status(report: &[u8]) -> Status
 
 /// Writes a row for each two entries of crontabs that collide, where each fire lasts so many
 /// minutes: where both stand, their first collision and the number of collisions. The status is
-/// `Done`, or no two collide, and it is `No`. It is `Unreadable` where memory runs out, or a zone
-/// that is named isn't lent; nothing is written then. No call of the writer may have failed before.
+/// `Done`, or no two collide, and it is `No`. An error writes nothing. No call of the writer may
+/// have failed before.
 pub fn tell_collisions<W: Watchable>(
     alloc: Global,
     minutes: u32,
@@ -80,15 +82,14 @@ pub fn tell_collisions<W: Watchable>(
     asked: &Asked<'_>,
     zones: &[TimeZone<'_>],
     out: &mut Watched<W>,
-) -> Status
+) -> Result<Status, FiresError>
     requires { has_failed out.old ≡ false }
-    ensures tells { TellsCollisions minutes
-        (entries_of (given (map plain_zone zones.now) asked.now) files.now)
+    ensures tells { TellsCollisions minutes (given (map plain_zone zones.now) asked.now) files.now
         (Reports W.contents W.writes W.flushes) out.old result out.new }
-    ensures mark { has_failed out.new ≡ is_write_failure result }
+    ensures mark { has_failed out.new ≡ is_failed result }
 {
     match report_of(alloc, minutes, files, asked, zones) {
-        Ok(report) => send_bytes(report.as_slice(), found_status(report.as_slice()), out),
-        Err(_) => Status::Unreadable,
+        Ok(report) => Ok(send_bytes(report.as_slice(), found_status(report.as_slice()), out)),
+        Err(error) => Err(error),
     }
 }

@@ -6,7 +6,7 @@ ghost use Rattle.cron_tab_collisions.specs.Rows.{file_cell, later, row};
 
 use cron_agenda::EntryFire;
 use cron_tab_fires::TabFires;
-use cron_tool::row::Told;
+use cron_tab_listing::{fire_second, fire_text};
 use itoa::Buffer;
 use std::alloc::AllocError;
 
@@ -14,7 +14,7 @@ use std::alloc::AllocError;
 pub(crate) fn later(first: EntryFire, second: EntryFire) -> EntryFire
     ensures { result ≡ later first second }
 {
-    if first.second() < second.second() {
+    if fire_second(&first) < fire_second(&second) {
         second
     } else {
         first
@@ -56,6 +56,6 @@ pub(crate) fn push_row(
     push_cell(report, Buffer::new().format(first.line).as_bytes(), b'\t')?;
     push_file(report, second.file)?;
     push_cell(report, Buffer::new().format(second.line).as_bytes(), b'\t')?;
-    push_cell(report, fire.text().as_slice(), b'\t')?;
+    push_cell(report, fire_text(fire).as_slice(), b'\t')?;
     push_cell(report, Buffer::new().format(pairs).as_bytes(), b'\n')
 }

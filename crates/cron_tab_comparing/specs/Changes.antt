@@ -9,7 +9,7 @@ abbrev pub difference_text : Entry → Entry → Option ℕ → List ℕ
 difference_text a b None = []
 difference_text a b (Some c) = difference_row a b c
 
--- a row where two entries fire otherwise, with the first civil second that one of them matches and the other doesn't
+-- a row where two entries match other civil seconds, with the first civil second that one of them matches and the other doesn't
 abbrev pub TellsDifference : Entry → Entry → List ℕ → Type 0
 TellsDifference a b text = (found : Option ℕ) × IsFirstDifference a.schedules b.schedules found × (text ≡ difference_text a b found)
 
@@ -33,6 +33,6 @@ abbrev pub new_rows : List Entry → List Entry → List Entry → List ℕ
 new_rows others before [] = []
 new_rows others before (a ∷ es) = new_row a (other_of others before a) ++ new_rows others (before ++ a ∷ []) es
 
--- the first crontab's entries that went or fire otherwise, and then the second's that came
+-- the first crontab's entries that went or match other civil seconds, and then the second's that came
 abbrev pub TellsAll : List Entry → List Entry → List ℕ → Type 0
 TellsAll es fs text = (old : List ℕ) × TellsOld fs [] es old × (text ≡ old ++ new_rows es [] fs)

@@ -1,8 +1,10 @@
 -- How what differs between two crontabs is reported.
 use Rattle.std.specs.Prelude.{◌≡◌, ◌⊎◌, ℕ, List, [], ◌∷◌, Option}
-use Rattle.cron_tool.specs.Statuses.{Ends, Reporting}
-use Rattle.cron_tool.specs.declared.status.Status.{Status}
-use Rattle.cron_tool.specs.declared.status.Status.TheVariants.{Done, No, Unreadable}
+use Rattle.cron_controls.specs.Controls.{shown_by}
+use Rattle.cron_controls.specs.declared.Controls.{Controls}
+use Rattle.cron_replies.specs.Statuses.{Ends, Reporting}
+use Rattle.cron_replies.specs.declared.status.Status.{Status}
+use Rattle.cron_replies.specs.declared.status.Status.TheVariants.{Done, No, Unreadable}
 use Rattle.cron_tab_comparing.specs.Changes.{TellsAll}
 use Rattle.cron_tab_comparing.specs.Entries.{Entry}
 
@@ -11,12 +13,12 @@ abbrev pub changed_status : List ℕ → Status
 changed_status [] = Done
 changed_status (c ∷ cs) = No
 
--- the rows were written
-pub record AreTold (es fs : List Entry) (was is : Option (List ℕ)) (status : Status) : Type 0 where
+-- the rows were written, with control characters as they are wanted
+pub record AreTold (controls : Controls) (es fs : List Entry) (was is : Option (List ℕ)) (status : Status) : Type 0 where
   pub report : List ℕ
   pub tells : TellsAll es fs report
-  pub ends : Ends (changed_status report) report was is status
+  pub ends : Ends (changed_status report) (shown_by controls report) was is status
 
 -- What differs was written; or nothing was, since memory ran out.
-abbrev pub TellsChanges : {W : Type 0} → List Entry → List Entry → Reporting W → W → Status → W → Type 0
-TellsChanges es fs out old status new = out (AreTold es fs) old status new ⊎ ((status ≡ Unreadable) × (new ≡ old))
+abbrev pub TellsChanges : {W : Type 0} → Controls → List Entry → List Entry → Reporting W → W → Status → W → Type 0
+TellsChanges controls es fs out old status new = out (AreTold controls es fs) old status new ⊎ ((status ≡ Unreadable) × (new ≡ old))

@@ -1,4 +1,5 @@
-//! What differs between two crontabs: which entries went, which came, and which fire otherwise.
+//! What differs between two crontabs: which entries went, which came, and which match other
+//! civil seconds.
 #![tactic(auto)]
 
 mod entries;

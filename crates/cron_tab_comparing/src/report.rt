@@ -4,14 +4,15 @@ ghost use Rattle.cron_tab_lines.specs.Files.{file_lines};
 ghost use Rattle.cron_tab_comparing.specs.Changes.{TellsAll};
 ghost use Rattle.cron_tab_comparing.specs.Entries.{entries_in};
 ghost use Rattle.cron_tab_comparing.specs.Reports.{TellsChanges, changed_status};
-ghost use Rattle.cron_tool.specs.Statuses.{Reports, is_write_failure};
+ghost use Rattle.cron_replies.specs.Statuses.{Reports, is_write_failure};
 ghost use Rattle.cron_writer.specs.Watching.{has_failed};
 
 use crate::entries::entries_of;
 use crate::telling::{tell_new, tell_old};
+use cron_controls::{Controls, shown_as};
+use cron_replies::sending::send_bytes;
+use cron_replies::status::Status;
 use cron_tab_lines::{Crontab, Lines};
-use cron_tool::pair::send_bytes;
-use cron_tool::status::Status;
 use cron_writer::watchable::Watchable;
 use cron_writer::watched::Watched;
 use std::alloc::{AllocError, Global};
@@ -41,26 +42,31 @@ fn changed_status(report: &[u8]) -> Status
     }
 }
 
-/// Writes a row for each entry of the first crontab that went or fires otherwise, and then for each
-/// of the second that came. An entry of the one is the entry of the other that runs the same: of
+/// Writes a row for each entry of the first crontab that went or matches other civil seconds, and
+/// then for each of the second that came. An entry of the one is the entry of the other that runs the same: of
 /// those that do, each is that at the same place among them. The status is `Done` where there is no
 /// row, else `No`. It is `Unreadable` where memory runs out; nothing is written then. No call of
 /// the writer may have failed before.
 pub fn tell_changes<W: Watchable>(
     alloc: Global,
+    controls: Controls,
     kind: Crontab,
     old: &[u8],
     new: &[u8],
     out: &mut Watched<W>,
 ) -> Status
     requires { has_failed out.old ≡ false }
-    ensures tells { TellsChanges (entries_in [] (file_lines kind old.now))
+    ensures tells { TellsChanges controls (entries_in [] (file_lines kind old.now))
         (entries_in [] (file_lines kind new.now))
         (Reports W.contents W.writes W.flushes) out.old result out.new }
     ensures mark { has_failed out.new ≡ is_write_failure result }
 {
-    match report_of(alloc, kind, old, new) {
-        Ok(report) => send_bytes(report.as_slice(), changed_status(report.as_slice()), out),
+    let Ok(report) = report_of(alloc, kind, old, new) else {
+        return Status::Unreadable;
+    };
+    let status = changed_status(report.as_slice());
+    match shown_as(alloc, controls, report) {
+        Ok(text) => send_bytes(text.as_slice(), status, out),
         Err(_) => Status::Unreadable,
     }
 }

@@ -10,7 +10,7 @@ use crate::rows::{push_difference, push_entry};
 use cron_comparing::difference::first_difference;
 use std::alloc::{AllocError, Global};
 
-// Tells of two entries that run the same, where they fire otherwise.
+// Tells of two entries that run the same, where they match other civil seconds.
 fn tell_difference(
     alloc: Global,
     one: &Known<'_>,

@@ -1,3 +1,4 @@
 pub mod Fires
 pub mod Entries
 pub mod Laws
+pub mod Errors

@@ -1,9 +1,11 @@
 //! The entries of crontabs with their fires.
-ghost use Rattle.std.specs.Prelude.{◌≡◌, ◌++◌, OnOk, Some, map};
+ghost use Rattle.std.specs.Prelude.{◌≡◌, ◌++◌, IfErr, OnOk, Some, map};
 ghost use Rattle.jiff.specs.Words.{plain_zone};
 ghost use Rattle.cron_tab_lines.specs.Views.{bytes_view, file_line_view};
+ghost use Rattle.cron_tab_fires.specs.Errors.{IsFiresError, IsLineError};
 ghost use Rattle.cron_tab_fires.specs.Entries.{entries_in, entry_at, entry_in, given, view};
 
+use crate::error::FiresError;
 use crate::fires::fires_between;
 use cron_agenda::EntryFire;
 use cron_crontab::Expression;
@@ -11,7 +13,7 @@ use cron_tab_lines::{FileLine, Line, Lines, NamedZone, zone_below};
 use cron_tab_listing::{Clock, changes_of};
 use jiff::Timestamp;
 use jiff::tz::TimeZone;
-use std::alloc::{AllocError, Global};
+use std::alloc::Global;
 
 /// An entry of a crontab, with its fires.
 #[derive(Drop)]
@@ -46,10 +48,12 @@ fn push_entry<'a>(
     asked: &Asked<'_>,
     zones: &[TimeZone<'_>],
     number: usize,
-) -> Result<(), AllocError>
-    ensures { OnOk result (map view entries.new.items ≡ map view entries.old.items
+) -> Result<(), FiresError>
+    ensures ok { OnOk result (map view entries.new.items ≡ map view entries.old.items
         ++ entry_at (given (map plain_zone zones.now) asked.now) (bytes_view file.entry)
         (file_line_view line.now) number) }
+    ensures err { IfErr result (IsLineError (given (map plain_zone zones.now) asked.now)
+        (Some number) (file_line_view line.now)) }
 {
     let Ok(Line::Entry(entry)) = &line.read else {
         return Ok(());
@@ -58,13 +62,18 @@ fn push_entry<'a>(
         return Ok(());
     };
     let Some(zone) = zones.get(number) else {
-        return Err(AllocError);
+        return Err(FiresError::NoZone(line.number));
     };
     let (start, end) = (asked.start, asked.end);
     let changes = changes_of(asked.clock, line.bytes);
-    let fires = fires_between(alloc, schedules.as_slice(), changes, start, end, zone)?;
+    let schedules = schedules.as_slice();
+    let Ok(fires) = fires_between(alloc, schedules, changes, start, end, zone) else {
+        return Err(FiresError::OutOfMemory);
+    };
     let line = line.number;
-    entries.push(TabFires { file, line, fires })?;
+    let Ok(()) = entries.push(TabFires { file, line, fires }) else {
+        return Err(FiresError::OutOfMemory);
+    };
     Ok(())
 }
 
@@ -77,10 +86,12 @@ fn push_line<'a>(
     asked: &Asked<'_>,
     zones: &[TimeZone<'_>],
     here: Option<usize>,
-) -> Result<(), AllocError>
-    ensures { OnOk result (map view entries.new.items ≡ map view entries.old.items
+) -> Result<(), FiresError>
+    ensures ok { OnOk result (map view entries.new.items ≡ map view entries.old.items
         ++ entry_in (given (map plain_zone zones.now) asked.now) (bytes_view file.entry)
         (file_line_view line.now) here) }
+    ensures err { IfErr result (IsLineError (given (map plain_zone zones.now) asked.now)
+        here (file_line_view line.now)) }
 {
     match here {
         Some(number) => push_entry(alloc, entries, file, line, asked, zones, number),
@@ -91,7 +102,7 @@ fn push_line<'a>(
 /// Puts the entries of a file's lines behind others, each with its fires in the first of the zones,
 /// or below a line that sets `CRON_TZ` in the one that it names. Where that is none of the names,
 /// the entries below it are left out, as are lines that are refused and entries that no clock
-/// fires. It fails where memory runs out, or a zone that is named isn't lent.
+/// fires. An error leaves the entries of the lines before it.
 pub fn add_fires<'a>(
     alloc: Global,
     entries: &mut Vec<TabFires<'a>>,
@@ -99,9 +110,11 @@ pub fn add_fires<'a>(
     lines: Lines<'_>,
     asked: &Asked<'_>,
     zones: &[TimeZone<'_>],
-) -> Result<(), AllocError>
-    ensures { OnOk result (map view entries.new.items ≡ map view entries.old.items
+) -> Result<(), FiresError>
+    ensures ok { OnOk result (map view entries.new.items ≡ map view entries.old.items
         ++ entries_in (given (map plain_zone zones.now) asked.now) (bytes_view file.entry)
+        (Some 0) lines.entry) }
+    ensures err { IfErr result (IsFiresError (given (map plain_zone zones.now) asked.now)
         (Some 0) lines.entry) }
 {
     let mut here = Some(0);

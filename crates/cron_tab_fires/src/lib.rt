@@ -2,7 +2,9 @@
 #![tactic(auto)]
 
 mod entries;
+mod error;
 mod fires;
 pub mod laws;
 
 pub use entries::{Asked, TabFires, add_fires};
+pub use error::FiresError;

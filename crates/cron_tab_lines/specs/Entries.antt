@@ -1,7 +1,8 @@
 -- Entries: fields, in system crontabs a user, a command, and perhaps its input.
 use Rattle.std.specs.Prelude.{ℕ, zero, suc, Bool, true, false, not, ◌==◌, ◌&&◌, ◌-◌, ◌+◌, nat_lt, List, [], ◌∷◌, Option, Some, None, Result, Ok, Err, length, take, drop, slice_index, if◌then◌else◌}
 use Rattle.std.specs.List.{list_all, take_while}
-use Rattle.cron_crontab.specs.Crontab.{Meaning, outcome_of, words}
+use Rattle.cron_crontab.specs.Crontab as crontabs
+use Rattle.cron_crontab.specs.Crontab.{Meaning}
 use Rattle.cron_crontab.specs.Refusals as crontab
 use Rattle.cron_crontab.specs.Items.{and_then}
 use Rattle.cron_tab_lines.specs.Bytes.{behind, first, is_blank, no_blank, is_plain}
@@ -67,7 +68,7 @@ meaning_or_refusal (Ok meaning) = Ok meaning
 meaning_or_refusal (Err fault) = Err (expression fault)
 
 abbrev pub meaning_of : List ℕ → Result Meaning Refusal
-meaning_of fields = if list_all is_plain fields then meaning_or_refusal (outcome_of (words fields)) else Err strange_byte
+meaning_of fields = if list_all is_plain fields then meaning_or_refusal (crontabs.text_outcome fields) else Err strange_byte
 
 -- the task as it stands in the line, where `core` is the line without its carriage return
 abbrev pub as_it_stands : List ℕ → List ℕ → List ℕ → List ℕ

@@ -1,12 +1,12 @@
 -- What a line is, without its line feed.
-use Rattle.std.specs.Prelude.{◌≡◌, ℕ, ◌==◌, List, Option, Some, None, Result, Ok, Err, codes, length, if◌then◌else◌}
+use Rattle.std.specs.Prelude.{◌≡◌, ℕ, ◌==◌, ◌-◌, List, Option, Some, None, Result, Ok, Err, codes, length, take, if◌then◌else◌}
 use Rattle.std.specs.List.{list_any}
 use Rattle.std.specs.Str.{bytes_eq}
 use Rattle.cron_crontab.specs.Items.{and_then}
 use Rattle.cron_tab_lines.specs.Bytes.{behind, first, is_blank}
 use Rattle.cron_tab_lines.specs.Settings.{name_of, value_of}
 use Rattle.cron_tab_lines.specs.Entries.{Entry, entry_of}
-use Rattle.cron_tab_lines.specs.Refusals.{Refusal, nul, lone_return, no_value}
+use Rattle.cron_tab_lines.specs.Refusals.{Refusal, nul, second_line, lone_return, no_value}
 use Rattle.cron_tab_lines.specs.declared.kinds.Crontab.{Crontab}
 
 pub data Meaning : Type 0 where
@@ -47,9 +47,15 @@ text_outcome kind text =
     else if bytes_eq text (codes "\r") then Err lone_return
     else setting_or_entry kind text (name_of text)
 
--- what a line is, or why it is refused
+abbrev pub without_last : List ℕ → List ℕ
+without_last line = take (length line - 1) line
+
+-- What a line is, or why it is refused. A line feed may stand at its end alone.
 abbrev pub outcome_of : Crontab → List ℕ → Result Meaning Refusal
-outcome_of kind line = if list_any (λ c. c == 0) line then Err nul else text_outcome kind (behind is_blank line)
+outcome_of kind line =
+    if list_any (λ c. c == 0) line then Err nul
+    else if list_any (λ c. c == 10) (without_last line) then Err second_line
+    else text_outcome kind (behind is_blank line)
 
 -- the line is this
 abbrev pub IsLine : Crontab → List ℕ → Meaning → Type 0

@@ -6,6 +6,7 @@ use Rattle.cron_crontab.specs.Refusals.{fault_text}
 pub data Refusal : Type 0 where
   nul : Refusal
   byte_order_mark : Refusal
+  second_line : Refusal
   lone_return : Refusal
   no_value : Refusal
   open_quote : Refusal
@@ -19,6 +20,7 @@ pub data Refusal : Type 0 where
 abbrev pub refusal_text : Refusal → List ℕ
 refusal_text nul = codes "the line has a NUL"
 refusal_text byte_order_mark = codes "a byte order mark stands at the front of the file"
+refusal_text second_line = codes "a line feed stands within the line: each line is read by itself"
 refusal_text lone_return = codes "the line is a carriage return alone"
 refusal_text no_value = codes "no value stands behind the =; an empty one is written \"\""
 refusal_text open_quote = codes "the quotation mark in front of the value is not closed"

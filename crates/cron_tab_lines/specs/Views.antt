@@ -8,17 +8,18 @@ use Rattle.cron_tab_lines.specs.Files as files
 use Rattle.cron_tab_lines.specs.Lines as lines
 use Rattle.cron_tab_lines.specs.Lines.{blank, comment, setting, zone, entry}
 use Rattle.cron_tab_lines.specs.Refusals as refusals
-use Rattle.cron_tab_lines.specs.Refusals.{nul, byte_order_mark, lone_return, no_value, open_quote, behind_quote, strange_byte, expression, sixth_field, no_user, no_command}
+use Rattle.cron_tab_lines.specs.Refusals.{nul, byte_order_mark, second_line, lone_return, no_value, open_quote, behind_quote, strange_byte, expression, sixth_field, no_user, no_command}
 use Rattle.cron_tab_lines.specs.declared.kinds.Entry.{Entry}
 use Rattle.cron_tab_lines.specs.declared.kinds.Line.{Line}
 use Rattle.cron_tab_lines.specs.declared.kinds.Line.TheVariants.{Blank, Comment, Setting, Zone, Entry as Read}
 use Rattle.cron_tab_lines.specs.declared.files.FileLine.{FileLine}
 use Rattle.cron_tab_lines.specs.declared.refusals.Refusal.{Refusal}
-use Rattle.cron_tab_lines.specs.declared.refusals.Refusal.TheVariants.{Nul, ByteOrderMark, LoneReturn, NoValue, OpenQuote, BehindQuote, StrangeByte, Expression, SixthField, NoUser, NoCommand}
+use Rattle.cron_tab_lines.specs.declared.refusals.Refusal.TheVariants.{Nul, ByteOrderMark, SecondLine, LoneReturn, NoValue, OpenQuote, BehindQuote, StrangeByte, Expression, SixthField, NoUser, NoCommand}
 
 abbrev pub refusal_view : Refusal → refusals.Refusal
 refusal_view Nul = nul
 refusal_view ByteOrderMark = byte_order_mark
+refusal_view SecondLine = second_line
 refusal_view LoneReturn = lone_return
 refusal_view NoValue = no_value
 refusal_view OpenQuote = open_quote

@@ -3,7 +3,7 @@
 ghost use Rattle.std.specs.Prelude.{◌≡◌, ◌==◌, Ok, Err, MatchResult};
 ghost use Rattle.std.specs.List.{list_any};
 ghost use Rattle.cron_tab_lines.specs.Entries.{entry_of};
-ghost use Rattle.cron_tab_lines.specs.Lines.{IsLine, IsRefused, if_no_setting, no_setting, setting_of, text_outcome};
+ghost use Rattle.cron_tab_lines.specs.Lines.{IsLine, IsRefused, if_no_setting, no_setting, setting_of, text_outcome, without_last};
 ghost use Rattle.cron_tab_lines.specs.Views.{line_view, refusal_view};
 
 use crate::bytes::{Class, behind};
@@ -12,15 +12,21 @@ use crate::kinds::{Crontab, Line, Setting};
 use crate::refusals::Refusal;
 use crate::settings::{read_name, read_value};
 
-fn has_nul(line: &[u8]) -> bool
-    ensures { result ≡ list_any (λ c. c == 0) line.now }
+fn has_byte(line: &[u8], sought: u8) -> bool
+    ensures { result ≡ list_any (λ c. c == sought) line.now }
 {
     for byte in line {
-        if *byte == 0 {
+        if *byte == sought {
             return true;
         }
     }
     false
+}
+
+fn without_last(line: &[u8]) -> &[u8]
+    ensures { result.now ≡ without_last line.now }
+{
+    &line[..line.len().saturating_sub(1)]
 }
 
 /// Reads the value of a setting.
@@ -101,13 +107,16 @@ fn read_text(kind: Crontab, text: &[u8]) -> Result<Line<'_>, Refusal<'_>>
     }
 }
 
-/// Reads a line without its line feed.
+/// Reads a line without its line feed. A line feed in front of its last byte is refused.
 pub fn read_line(kind: Crontab, line: &[u8]) -> Result<Line<'_>, Refusal<'_>>
     ensures { MatchResult result
         (λ l. IsLine kind line.now (line_view l)) (λ r. IsRefused kind line.now (refusal_view r)) }
 {
-    if has_nul(line) {
+    if has_byte(line, 0) {
         return Err(Refusal::Nul);
+    }
+    if has_byte(without_last(line), b'\n') {
+        return Err(Refusal::SecondLine);
     }
     read_text(kind, behind(line, Class::Blank))
 }

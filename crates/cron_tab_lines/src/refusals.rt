@@ -15,6 +15,8 @@ pub enum Refusal<'a> {
     Nul,
     /// A byte order mark stands at the front of the file.
     ByteOrderMark,
+    /// A line feed stands in front of its last byte.
+    SecondLine,
     /// It is a carriage return alone.
     LoneReturn,
     /// Nothing stands behind the `=` of a setting.
@@ -47,6 +49,12 @@ impl<'a> fmt::Display for Refusal<'a> {
             Refusal::Nul => write!(f, "the line has a NUL"),
             Refusal::ByteOrderMark => {
                 write!(f, "a byte order mark stands at the front of the file")
+            }
+            Refusal::SecondLine => {
+                write!(
+                    f,
+                    "a line feed stands within the line: each line is read by itself"
+                )
             }
             Refusal::LoneReturn => write!(f, "the line is a carriage return alone"),
             Refusal::NoValue => {

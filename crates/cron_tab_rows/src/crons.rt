@@ -1,128 +1,137 @@
 //! Expressions, and what Debian's cron 3.0pl1-162 and cronie 1.7.2 make of each: `OK`, the sets of
 //! its minutes, hours, days, months and weekdays, where bit i is number i and Sunday is 0 and 7,
 //! whether its third and its fifth field begin with a star, and whether it is `@reboot`; or `BAD`.
-//! Tabs stand between the three.
 //!
 //! What both make of an expression alike is what it means. Every other one must be refused.
 
-use crate::masks::{Days, bits_of, bits_read};
-use anyhow::{Context, Result, ensure};
+use anyhow::Result;
 use cron_crontab::{Expression, read};
-use cron_rows::{Report, Row};
+use cron_rows::{Row, sets_of};
 use cron_units::fields::ScheduleFields;
-use cron_units::time_unit::{Years, whole};
+use cron_units::time_unit::{TimeUnitField, Years, whole};
+use std::alloc::Global;
 
-// What a row tells of an expression that is read.
-#[derive(Clone, Copy)]
-struct Told {
-    minutes: u64,
-    hours: u64,
-    months: u64,
-    days: Days,
-    reboot: bool,
-}
-
-// The next word of a row's answer.
-fn next_word(text: &str) -> (&str, &str) {
-    match text.split_once(' ') {
-        Some(cut) => cut,
-        None => (text, ""),
+// The bits of a set.
+fn bits_of<T: TimeUnitField>(set: &T) -> u64 {
+    let mut bits = 0_u64;
+    for number in 0..64_u32 {
+        if set.contains(number) {
+            bits |= 1_u64 << number;
+        }
     }
+    bits
 }
 
-fn told_by(sets: &str) -> Result<Told> {
-    let (minutes, rest) = next_word(sets);
-    let (hours, rest) = next_word(rest);
-    let (month_days, rest) = next_word(rest);
-    let (months, rest) = next_word(rest);
-    let (weekdays, rest) = next_word(rest);
-    let (month_star, rest) = next_word(rest);
-    let (week_star, reboot) = next_word(rest);
-    let days = Days {
-        month: bits_read(month_days)?,
-        week: bits_read(weekdays)?,
-        both: month_star == "1" || week_star == "1",
-    };
-    Ok(Told {
-        minutes: bits_read(minutes)?,
-        hours: bits_read(hours)?,
-        months: bits_read(months)?,
-        days,
-        reboot: reboot == "1",
-    })
-}
-
-// Whether a schedule has the row's times of day and months, in all years at the first second.
-fn has_times(fields: &ScheduleFields, told: Told) -> bool {
+// Whether a schedule has these minutes, hours and months, in all years at the first second.
+fn has_times(fields: &ScheduleFields, [minutes, hours, months]: [u64; 3]) -> bool {
     let years: Years = whole();
     bits_of(&fields.seconds) == 1
-        && bits_of(&fields.minutes) == told.minutes
-        && bits_of(&fields.hours) == told.hours
-        && bits_of(&fields.months) == told.months
+        && bits_of(&fields.minutes) == minutes
+        && bits_of(&fields.hours) == hours
+        && bits_of(&fields.months) == months
         && fields.years == years
         && !fields.days_of_month.last_day()
 }
 
-// Whether the schedules match the row's days.
-fn have_days(schedules: &[ScheduleFields], told: Told) -> bool {
-    for day in 1..32_u32 {
-        for weekday in 0..8_u32 {
-            let mut found = false;
-            for fields in schedules {
-                found = found || Days::of(fields).has(day, weekday);
-            }
-            if found != told.days.has(day, weekday) {
-                return false;
-            }
+// The days of the month that match where they are this day of the week, from 0 for Sunday.
+fn days_on(schedules: &[ScheduleFields], weekday: u32) -> u64 {
+    let mut days = 0_u64;
+    for fields in schedules {
+        if fields.days_of_week.contains(weekday % 7 + 1) {
+            days |= bits_of(&fields.days_of_month);
         }
     }
-    true
+    days
 }
 
-fn have_all_times(schedules: &[ScheduleFields], told: Told) -> bool {
-    for fields in schedules {
-        if !has_times(fields, told) {
+// The same of sets of both kinds of day: both must match where one of the fields begins with a star,
+// and else one of them.
+fn told_days_on(month: u64, week: u64, has_star: bool, weekday: u32) -> u64 {
+    let is_in_week = weekday < 8 && week >> weekday & 1 == 1;
+    match (has_star, is_in_week) {
+        (true, true) | (false, false) => month,
+        (true, false) => 0,
+        (false, true) => 0xffff_fffe,
+    }
+}
+
+// Whether an expression is what these numbers tell.
+fn is_told(expression: &Expression, numbers: &[u64]) -> bool {
+    let [
+        minutes,
+        hours,
+        month,
+        months,
+        week,
+        month_star,
+        week_star,
+        reboot,
+    ] = numbers
+    else {
+        return false;
+    };
+    let Expression::Fires(schedules) = expression else {
+        return *reboot == 1;
+    };
+    for fields in schedules.as_slice() {
+        if !has_times(fields, [*minutes, *hours, *months]) {
             return false;
         }
     }
-    !schedules.is_empty()
-}
-
-// What is read, as the row would say it.
-fn is_as_told(expression: &Expression, told: Told) -> bool {
-    match expression {
-        Expression::Reboot => told.reboot,
-        Expression::Fires(schedules) => {
-            let list = schedules.as_slice();
-            !told.reboot && have_all_times(list, told) && have_days(list, told)
+    let has_star = *month_star == 1 || *week_star == 1;
+    for weekday in 0..8_u32 {
+        let told = told_days_on(*month, *week, has_star, weekday);
+        if days_on(schedules.as_slice(), weekday) != told {
+            return false;
         }
     }
+    *reboot == 0 && !schedules.as_slice().is_empty()
 }
 
-fn answer(text: &str, debian: &str, cronie: &str) -> Result<(&'static str, &'static str)> {
-    let expected = if debian == cronie && debian.starts_with("OK ") {
+// The numbers of an answer, in hexadecimal digits.
+fn numbers_of(alloc: Global, sets: &str) -> Result<Vec<u64>> {
+    let mut numbers = Vec::new(alloc);
+    for word in sets.split(' ') {
+        numbers.push(u64::from_str_radix(word, 16)?)?;
+    }
+    Ok(numbers)
+}
+
+/// Asks an expression.
+pub(crate) fn ask(row: &mut Row<'_>) -> Result<()> {
+    let (text, debian) = (row.cell(), row.cell());
+    let read = read(text);
+    let sets = debian.strip_prefix("OK ");
+    let wanted = if debian == row.wanted() && sets.is_some() {
         "read alike"
     } else {
         "refused"
     };
-    let got = match read(text) {
+    let got = match &read {
         Err(_) => "refused",
-        Ok(expression) => match debian.strip_prefix("OK ") {
-            Some(sets) if is_as_told(&expression, told_by(sets)?) => "read alike",
-            _ => "read otherwise",
-        },
+        Ok(expression) => {
+            let numbers = numbers_of(row.alloc(), sets.unwrap_or("0"))?;
+            if is_told(expression, numbers.as_slice()) {
+                "read alike"
+            } else {
+                "read otherwise"
+            }
+        }
     };
-    Ok((expected, got))
+    row.compare("both crons", wanted, got)
 }
 
-/// Replays a row.
-pub(crate) fn replay(report: &mut Report<'_>, row: Row<'_>) -> Result<()> {
-    let (text, rest) = row
-        .text
-        .split_once('\t')
-        .context("the row lacks an answer")?;
-    let (debian, cronie) = rest.split_once('\t').context("the row lacks an answer")?;
-    ensure!(!cronie.contains('\t'), "the row has an answer too many");
-    let (expected, got) = answer(text, debian, cronie)?;
-    report.compare(row, "both crons", expected, got)
+/// Asks an expression for its schedules, as one or two cron expressions of six fields.
+pub(crate) fn ask_schedules(row: &mut Row<'_>) -> Result<()> {
+    let read = read(row.cell());
+    let wanted = row.wanted();
+    let is_told = match &read {
+        Err(_) => false,
+        Ok(Expression::Reboot) => wanted == "reboot",
+        Ok(Expression::Fires(schedules)) => {
+            sets_of(row.alloc(), wanted, "+")?.as_slice() == schedules.as_slice()
+        }
+    };
+    let got = if is_told { wanted } else { "others" };
+    row.compare("schedules", wanted, got)
 }

@@ -1,9 +1,9 @@
 //! Files, and what each of their lines is, by number. What a row can't hold is written as a mark.
 
-use anyhow::{Context, Result, ensure};
+use anyhow::{Result, ensure};
 use cron_crontab::Expression;
-use cron_rows::{Report, Row};
-use cron_tab_lines::{Crontab, Entry, Line, Lines, Refusal, Unescaped};
+use cron_rows::Row;
+use cron_tab_lines::{Crontab, Entry, FileLine, Line, Lines, Unescaped};
 use std::alloc::{AllocError, Global};
 
 // Marks, and what each stands for.
@@ -19,10 +19,11 @@ const MARKS: [(&str, &str); 6] = [
     ("<BOM>", "\u{FEFF}"),
 ];
 
+/// A text of a row, with what its marks stand for.
 pub(crate) fn without_marks(alloc: Global, text: &str) -> Result<String, AllocError> {
     let mut plain = String::from_str(alloc, text)?;
-    for (mark, bytes) in MARKS {
-        plain = plain.as_str().replace(alloc, mark, bytes)?;
+    for (mark, meant) in MARKS {
+        plain = plain.as_str().replace(alloc, mark, meant)?;
     }
     Ok(plain)
 }
@@ -36,88 +37,69 @@ pub(crate) fn kind_of(kind: &str) -> Crontab {
     }
 }
 
-// The text of a command, or of its input.
-fn unescaped(alloc: Global, text: &[u8]) -> Result<String, AllocError> {
-    let bytes: Vec<u8> = Unescaped::of(text).collect(alloc)?;
-    String::from_utf8_lossy(alloc, bytes.as_slice())
+// Adds bytes behind a front.
+fn add(row: &mut Row<'_>, front: &str, bytes: &[u8]) -> Result<(), AllocError> {
+    let text = String::from_utf8_lossy(row.alloc(), bytes)?;
+    row.add(front, &text)
 }
 
-fn schedules_told(expression: &Expression) -> &'static str {
-    match expression {
+// Adds a command, or its input, behind a front.
+fn add_unescaped(row: &mut Row<'_>, front: &str, text: &[u8]) -> Result<(), AllocError> {
+    let bytes: Vec<u8> = Unescaped::of(text).collect(row.alloc())?;
+    add(row, front, bytes.as_slice())?;
+    row.add("]", &"")
+}
+
+fn add_entry(row: &mut Row<'_>, entry: &Entry<'_>) -> Result<(), AllocError> {
+    let schedules = match &entry.expression {
         Expression::Reboot => "reboot",
         Expression::Fires(schedules) if schedules.as_slice().len() == 1 => "one",
         Expression::Fires(_) => "two",
-    }
-}
-
-fn entry_told(alloc: Global, entry: &Entry<'_>) -> Result<String, AllocError> {
-    let schedules = schedules_told(&entry.expression);
-    let mut told = format!(in alloc; "entry {schedules}")?;
+    };
+    row.add(" entry ", &schedules)?;
     if let Some(user) = entry.user {
-        let user = String::from_utf8_lossy(alloc, user)?;
-        told.push_str(format!(in alloc; " for [{user}]")?.as_str())?;
+        add(row, " for [", user)?;
+        row.add("]", &"")?;
     }
-    let command = unescaped(alloc, entry.command)?;
-    told.push_str(format!(in alloc; " [{command}]")?.as_str())?;
-    if let Some(input) = entry.input {
-        let input = unescaped(alloc, input)?;
-        told.push_str(format!(in alloc; " input [{input}]")?.as_str())?;
-    }
-    Ok(told)
-}
-
-fn line_told(alloc: Global, line: &Line<'_>) -> Result<String, AllocError> {
-    match line {
-        Line::Blank => String::from_str(alloc, "blank"),
-        Line::Comment => String::from_str(alloc, "comment"),
-        Line::Setting(setting) => {
-            let name = String::from_utf8_lossy(alloc, setting.name)?;
-            let value = String::from_utf8_lossy(alloc, setting.value)?;
-            format!(in alloc; "setting [{name}] [{value}]")
-        }
-        Line::Zone(value) => {
-            let value = String::from_utf8_lossy(alloc, value)?;
-            format!(in alloc; "zone [{value}]")
-        }
-        Line::Entry(entry) => entry_told(alloc, entry),
+    add_unescaped(row, " [", entry.command)?;
+    match entry.input {
+        Some(input) => add_unescaped(row, " input [", input),
+        None => Ok(()),
     }
 }
 
-fn read_told(alloc: Global, read: &Result<Line<'_>, Refusal<'_>>) -> Result<String, AllocError> {
-    match read {
-        Ok(line) => line_told(alloc, line),
-        Err(refusal) => format!(in alloc; "refused {refusal}"),
+fn add_line(row: &mut Row<'_>, line: &FileLine<'_>) -> Result<(), AllocError> {
+    row.add("; ", &line.number)?;
+    match &line.read {
+        Err(refusal) => row.add(" refused ", refusal),
+        Ok(Line::Blank) => row.add(" ", &"blank"),
+        Ok(Line::Comment) => row.add(" ", &"comment"),
+        Ok(Line::Setting(setting)) => {
+            add(row, " setting [", setting.name)?;
+            add(row, "] [", setting.value)?;
+            row.add("]", &"")
+        }
+        Ok(Line::Zone(value)) => {
+            add(row, " zone [", value)?;
+            row.add("]", &"")
+        }
+        Ok(Line::Entry(entry)) => add_entry(row, entry),
     }
 }
 
-// What each line is, and the lines written out again.
-fn told(alloc: Global, kind: Crontab, file: &[u8]) -> Result<(String, Vec<u8>), AllocError> {
-    let mut text = String::new(alloc);
-    let mut written = Vec::new(alloc);
-    for line in Lines::of(kind, file) {
-        if line.number > 1 {
-            text.push_str("; ")?;
-        }
-        let read = read_told(alloc, &line.read)?;
-        let number = line.number;
-        text.push_str(format!(in alloc; "{number} {read}")?.as_str())?;
+/// Asks a file. Its lines, written out again, are the file.
+pub(crate) fn ask(row: &mut Row<'_>) -> Result<()> {
+    let kind = kind_of(row.cell());
+    let file = without_marks(row.alloc(), row.cell())?;
+    let wanted = without_marks(row.alloc(), row.wanted())?;
+    let mut written = Vec::new(row.alloc());
+    for line in Lines::of(kind, file.as_bytes()) {
+        add_line(row, &line)?;
         written.extend_from_slice(line.bytes)?;
     }
-    Ok((text, written))
-}
-
-/// Replays a row.
-pub(crate) fn replay(report: &mut Report<'_>, row: Row<'_>) -> Result<()> {
-    let (kind, rest) = row.text.split_once('\t').context("the row lacks a kind")?;
-    let (file, expected) = rest.split_once('\t').context("the row lacks an answer")?;
-    let kind = kind_of(kind);
-    let alloc = report.alloc();
-    let file = without_marks(alloc, file)?;
-    let expected = without_marks(alloc, expected)?;
-    let (got, written) = told(alloc, kind, file.as_bytes())?;
     ensure!(
         written.as_slice() == file.as_bytes(),
         "the lines are not the file"
     );
-    report.compare(row, "lines", expected.as_str(), got.as_str())
+    row.compare("lines", wanted.as_str(), row.answer())
 }

@@ -2,105 +2,70 @@
 //! many of their lines are of each kind.
 
 use crate::files::{kind_of, without_marks};
-use anyhow::{Context, Result, ensure};
-use cron_rows::{Report, Row};
-use cron_tab_lines::{Crontab, Line, Lines};
-use std::alloc::{AllocError, Global};
+use anyhow::{Result, ensure};
+use cron_rows::Row;
+use cron_tab_lines::{Line, Lines, Refusal};
 
 // The mark of a byte that is no text.
 const NO_TEXT: &str = "<FF>";
 
-/// How many lines are of each kind, and the bytes of the longest line.
-#[derive(Clone, Copy)]
-struct Counts {
-    blank: usize,
-    comment: usize,
-    setting: usize,
-    zone: usize,
-    entry: usize,
-    refused: usize,
-    longest: usize,
+// What lines are.
+const NAMES: [&str; 6] = [
+    "blank", "comments", "settings", "zones", "entries", "refused",
+];
+
+// Which of these a line is.
+fn place_of(read: &Result<Line<'_>, Refusal<'_>>) -> usize {
+    match read {
+        Ok(Line::Blank) => 0,
+        Ok(Line::Comment) => 1,
+        Ok(Line::Setting(_)) => 2,
+        Ok(Line::Zone(_)) => 3,
+        Ok(Line::Entry(_)) => 4,
+        Err(_) => 5,
+    }
 }
 
-// Puts the bytes of a part of a row behind others.
-fn push_part(file: &mut Vec<u8>, part: &str) -> Result<(), AllocError> {
+// A file, as a row describes it.
+fn file_of(row: &mut Row<'_>) -> Result<Vec<u8>> {
+    let alloc = row.alloc();
+    let front = without_marks(alloc, row.cell())?;
+    let count = row.cell().parse::<usize>()?;
+    let piece = without_marks(alloc, row.cell())?;
+    let back = without_marks(alloc, row.cell())?;
+    let pieces = piece.as_str().repeat(alloc, count)?;
+    let text = format!(in alloc; "{front}{pieces}{back}")?;
+    let mut file = Vec::new(alloc);
     let mut is_first = true;
-    for text in part.split(NO_TEXT) {
+    for part in text.as_str().split(NO_TEXT) {
         if !is_first {
             file.push(255)?;
         }
         is_first = false;
-        file.extend_from_slice(text.as_bytes())?;
+        file.extend_from_slice(part.as_bytes())?;
     }
-    Ok(())
-}
-
-// A file, as a row describes it.
-fn file_of(alloc: Global, row: &str) -> Result<Vec<u8>> {
-    let mut parts = row.split('\t');
-    let front = without_marks(alloc, parts.next().context("no front")?)?;
-    let count = parts.next().context("no count")?.parse::<u32>()?;
-    let piece = without_marks(alloc, parts.next().context("no piece")?)?;
-    let back = without_marks(alloc, parts.next().context("no back")?)?;
-    let mut file = Vec::new(alloc);
-    push_part(&mut file, front.as_str())?;
-    for _ in 0..count {
-        push_part(&mut file, piece.as_str())?;
-    }
-    push_part(&mut file, back.as_str())?;
     Ok(file)
 }
 
-// Counts one line more.
-fn count(number: &mut usize) {
-    *number = number.saturating_add(1);
-}
-
-// The lines of a file.
-fn counts_of(kind: Crontab, file: &[u8]) -> Result<Counts> {
-    let mut counts = Counts {
-        blank: 0,
-        comment: 0,
-        setting: 0,
-        zone: 0,
-        entry: 0,
-        refused: 0,
-        longest: 0,
-    };
-    let mut bytes = 0_usize;
-    for line in Lines::of(kind, file) {
-        match line.read {
-            Ok(Line::Blank) => count(&mut counts.blank),
-            Ok(Line::Comment) => count(&mut counts.comment),
-            Ok(Line::Setting(_)) => count(&mut counts.setting),
-            Ok(Line::Zone(_)) => count(&mut counts.zone),
-            Ok(Line::Entry(_)) => count(&mut counts.entry),
-            Err(_) => count(&mut counts.refused),
+/// Asks a large file. Its lines have all of its bytes.
+pub(crate) fn ask(row: &mut Row<'_>) -> Result<()> {
+    let kind = kind_of(row.cell());
+    let file = file_of(row)?;
+    let mut counts = [0_usize; 6];
+    let (mut bytes, mut longest) = (0_usize, 0_usize);
+    for line in Lines::of(kind, file.as_slice()) {
+        if let Some(count) = counts.get_mut(place_of(&line.read)) {
+            *count = count.saturating_add(1);
         }
-        counts.longest = counts.longest.max(line.bytes.len());
+        longest = longest.max(line.bytes.len());
         bytes = bytes.saturating_add(line.bytes.len());
     }
     ensure!(bytes == file.len(), "the lines are not the file");
-    Ok(counts)
-}
-
-/// Replays a row.
-pub(crate) fn replay(report: &mut Report<'_>, row: Row<'_>) -> Result<()> {
-    let (kind, rest) = row.text.split_once('\t').context("the row lacks a kind")?;
-    let (file, expected) = rest.rsplit_once('\t').context("the row lacks an answer")?;
-    let alloc = report.alloc();
-    let file = file_of(alloc, file)?;
-    let Counts {
-        blank,
-        comment,
-        setting,
-        zone,
-        entry,
-        refused,
-        longest,
-    } = counts_of(kind_of(kind), file.as_slice())?;
-    let got = format!(in alloc;
-        "{blank} blank, {comment} comments, {setting} settings, {zone} zones, {entry} entries, {refused} refused, {longest} bytes"
-    )?;
-    report.compare(row, "lines", expected, got.as_str())
+    for (count, name) in counts.iter().zip(NAMES.iter()) {
+        row.add(", ", count)?;
+        row.add(" ", name)?;
+    }
+    row.add(", ", &longest)?;
+    row.add(" ", &"bytes")?;
+    row.check("lines")
 }

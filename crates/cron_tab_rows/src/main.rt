@@ -1,22 +1,18 @@
-//! Replays the rows of `data/`: expressions of crontabs, and what two crons make of them; others
-//! and the schedules that they are; texts with the message of their refusal; files with what their
-//! lines are; the warnings of both; and the fires of entries. It prints each answer that isn't the
-//! one of its row, and for each file how many rows it has. Where an answer differs, or a row can't
-//! be taken apart, it ends with a status other than 0.
+//! Asks the rows of `data/`: expressions of crontabs, and what two crons make of them; others and
+//! the schedules that they are; texts with the message of their refusal; files with what their lines
+//! are; the warnings of both; and the fires of entries. It prints each answer that isn't the one of
+//! its row, and for each file how many rows it has.
 #![tactic(auto)]
 
 mod crons;
 mod files;
 mod large;
-mod line_warnings;
 mod listing;
-mod masks;
-mod messages;
-mod schedules;
 mod warnings;
 
 use anyhow::Result;
-use cron_rows::{Replay, Report, Row, replay_files};
+use cron_crontab::read;
+use cron_rows::{Ask, Row, ask_files};
 
 /// What the rows of a file hold.
 #[derive(Clone, Copy)]
@@ -39,9 +35,11 @@ enum Kind {
     Changes,
     /// A line, and the days on which a transition skips its time or doubles it.
     ChangedDays,
+    /// A crontab, and the file of its fires, or of their digests.
+    Tabs,
 }
 
-const FILES: [(Kind, &str); 9] = [
+const FILES: [(Kind, &str); 10] = [
     (Kind::Crons, "lines.tsv"),
     (Kind::Schedules, "schedules.txt"),
     (Kind::Messages, "messages.txt"),
@@ -51,27 +49,29 @@ const FILES: [(Kind, &str); 9] = [
     (Kind::Large, "large.tsv"),
     (Kind::Changes, "crons.tsv"),
     (Kind::ChangedDays, "changes.tsv"),
+    (Kind::Tabs, "tabs.tsv"),
 ];
 
-impl Replay for Kind {
-    fn replay(&self, report: &mut Report<'_>, row: Row<'_>) -> Result<()> {
+impl Ask for Kind {
+    fn ask(&self, row: &mut Row<'_>) -> Result<()> {
         match self {
-            Kind::Crons => crons::replay(report, row),
-            Kind::Schedules => schedules::replay(report, row),
-            Kind::Messages => messages::replay(report, row),
-            Kind::Files => files::replay(report, row),
-            Kind::Warnings => warnings::replay(report, row),
-            Kind::LineWarnings => line_warnings::replay(report, row),
-            Kind::Large => large::replay(report, row),
-            Kind::Changes => listing::replay_changes(report, row),
-            Kind::ChangedDays => listing::replay_changed_days(report, row),
+            Kind::Crons => crons::ask(row),
+            Kind::Schedules => crons::ask_schedules(row),
+            Kind::Messages => {
+                let read = read(row.cell());
+                row.check_refusal(&read)
+            }
+            Kind::Files => files::ask(row),
+            Kind::Warnings => warnings::ask(row),
+            Kind::LineWarnings => warnings::ask_lines(row),
+            Kind::Large => large::ask(row),
+            Kind::Changes => listing::ask_fires(row),
+            Kind::ChangedDays => listing::ask_changes(row),
+            Kind::Tabs => listing::ask_tab(row),
         }
     }
 }
 
 fn main(rt: HostRuntime) -> Result<()> {
-    let mut report = Report::new(&rt);
-    replay_files(&mut report, &FILES)?;
-    listing::replay_fires(&mut report)?;
-    report.end()
+    ask_files(&rt, &FILES)
 }

@@ -1,15 +1,16 @@
 //! Lines that begin with an expression, whether they follow the clock or have a fixed time, and
-//! their warnings. A small program of another language made them from the raw text, and counted the
-//! calendar day by day.
+//! their warnings; and files with the warnings of their lines, by number. A small program of
+//! another language made those of lines from the raw text, and counted the calendar day by day.
 
-use anyhow::{Context, Error, Result, anyhow};
-use cron_crontab::{Expression, next_word, read};
-use cron_rows::{Report, Row};
-use cron_tab_warnings::{WARNINGS, follows_clock, warns};
-use std::alloc::{AllocError, Global};
+use crate::files::{kind_of, without_marks};
+use anyhow::{Context, Result, bail};
+use cron_crontab::{next_word, read};
+use cron_rows::Row;
+use cron_tab_lines::{Crontab, Line, Lines};
+use cron_tab_warnings::{LINE_WARNINGS, WARNINGS, follows_clock, text_of, warns, warns_line};
 
-// The expression that a line begins with: a nickname, or five words.
-fn expression_of(line: &str) -> Result<Expression> {
+// The nickname, or the five words, that a line begins with.
+fn front_of(line: &str) -> Result<&str> {
     let count = if line.starts_with('@') { 1 } else { 5 };
     let mut rest = line;
     for _word in 0..count {
@@ -17,37 +18,58 @@ fn expression_of(line: &str) -> Result<Expression> {
             rest = more;
         }
     }
-    let front = line.strip_suffix(rest).context("no front")?;
-    read(front).map_err(|_fault| -> Error { anyhow!("no expression") })
+    line.strip_suffix(rest).context("no front")
 }
 
-fn warnings_told(alloc: Global, line: &str, expression: &Expression) -> Result<String, AllocError> {
-    let mut told = String::new(alloc);
-    for warning in WARNINGS {
-        if warns(warning, line, expression) {
-            if !told.is_empty() {
-                told.push_str("; ")?;
-            }
-            told.push_str(format!(in alloc; "{warning}")?.as_str())?;
-        }
+// Compares the warnings, `-` where there is none.
+fn check(row: &mut Row<'_>) -> Result<()> {
+    if row.answer().is_empty() {
+        row.add("", &"-")?;
     }
-    if told.is_empty() {
-        told.push_str("-")?;
-    }
-    Ok(told)
+    row.check("warnings")
 }
 
-/// Replays a row.
-pub(crate) fn replay(report: &mut Report<'_>, row: Row<'_>) -> Result<()> {
-    let (line, rest) = row.text.split_once('\t').context("the row lacks a clock")?;
-    let (clock, expected) = rest.split_once('\t').context("the row lacks an answer")?;
-    let follows = if follows_clock(line) {
+/// Asks a line.
+pub(crate) fn ask(row: &mut Row<'_>) -> Result<()> {
+    let (line, wanted) = (row.cell(), row.cell());
+    let clock = if follows_clock(line) {
         "follows"
     } else {
         "fixed"
     };
-    report.compare(row, "its clock", clock, follows)?;
-    let expression = expression_of(line)?;
-    let got = warnings_told(report.alloc(), line, &expression)?;
-    report.compare(row, "warnings", expected, got.as_str())
+    row.compare("its clock", wanted, clock)?;
+    let read = read(front_of(line)?);
+    let Ok(expression) = &read else {
+        bail!("no expression");
+    };
+    for warning in WARNINGS {
+        if warns(Crontab::User, warning, line, expression) {
+            row.add("; ", &warning)?;
+        }
+    }
+    check(row)
+}
+
+/// Asks a file.
+pub(crate) fn ask_lines(row: &mut Row<'_>) -> Result<()> {
+    let kind = kind_of(row.cell());
+    let file = without_marks(row.alloc(), row.cell())?;
+    for line in Lines::of(kind, file.as_bytes()) {
+        for warning in LINE_WARNINGS {
+            if warns_line(warning, &line) {
+                row.add("; ", &line.number)?;
+                row.add(" ", &warning)?;
+            }
+        }
+        let Ok(Line::Entry(entry)) = &line.read else {
+            continue;
+        };
+        for warning in WARNINGS {
+            if warns(kind, warning, text_of(line.bytes), &entry.expression) {
+                row.add("; ", &line.number)?;
+                row.add(" ", &warning)?;
+            }
+        }
+    }
+    check(row)
 }

@@ -1,17 +1,21 @@
 -- What is written of a file's entries.
-use Rattle.std.specs.Prelude.{◌++◌, ℕ, Bool, true, false, List, [], ◌∷◌, Option, Some, None, Result, Ok, codes, if◌then◌else◌}
+use Rattle.std.specs.Prelude.{◌++◌, ℕ, Bool, true, false, List, [], ◌∷◌, Option, Some, None, Result, Ok, codes, if◌then◌else◌, is_some, unwrap_or}
 use Rattle.std.specs.Str.{bytes_eq}
-use Rattle.cron_shell.specs.Lines.{Work, job_line}
+use Rattle.cron_crontab.specs.Crontab.{Meaning, schedules, reboot}
+use Rattle.cron_shell.specs.Lines.{Work, front, job_tail}
 use Rattle.cron_tab_lines.specs.Entries.{Entry, unescaped}
 use Rattle.cron_tab_lines.specs.Files.{FileLine}
-use Rattle.cron_tab_lines.specs.Lines.{Meaning, setting, entry}
+use Rattle.cron_tab_lines.specs.Lines as lines
+use Rattle.cron_tab_lines.specs.Lines.{setting, zone, entry}
 use Rattle.cron_tab_lines.specs.Refusals.{Refusal}
 use Rattle.cron_tab_lines.specs.Views.{bytes_view}
 use Rattle.cron_tab_lines.specs.Zones.{zone_below}
 use Rattle.cron_tab_lines.specs.declared.zones.NamedZone.{NamedZone}
+use Rattle.cron_tab_tasks.specs.Names.{file_in, value_in}
 use Rattle.cron_tab_tasks.specs.declared.orders.Form.{Form}
 use Rattle.cron_tab_tasks.specs.declared.orders.Form.TheVariants.{Command, Shell}
 use Rattle.cron_tab_tasks.specs.declared.orders.Orders as code
+use Rattle.cron_tab_tasks.specs.declared.orders.Ways as ways
 
 -- how entries are written, whose are taken, and the zones that `CRON_TZ` may name
 pub record Orders : Type 0 where
@@ -22,6 +26,15 @@ pub record Orders : Type 0 where
 abbrev pub orders_view : code.Orders → Orders
 orders_view o = record { form = o.form; user = bytes_view o.user; names = o.names.now }
 
+-- how a shell runs entries: after how many seconds it ends them, and the folders of their locks and of what they write
+pub record Ways : Type 0 where
+  pub timeout : Option ℕ
+  pub locks : Option (List ℕ)
+  pub logs : Option (List ℕ)
+
+abbrev pub ways_view : ways.Ways → Ways
+ways_view w = record { timeout = w.timeout; locks = bytes_view w.locks; logs = bytes_view w.logs }
+
 -- an entry's line, the number of its zone, and what is written of it
 pub record Task : Type 0 where
   pub line : FileLine
@@ -30,27 +43,39 @@ pub record Task : Type 0 where
 
 -- ---- an entry
 
--- the shell that the last of some variables names
-abbrev pub shell_in : List ℕ → List (List ℕ × List ℕ) → List ℕ
-shell_in shell [] = shell
-shell_in shell (v ∷ vs) = shell_in (if bytes_eq v.0 (codes "SHELL") then v.1 else shell) vs
-
 -- what a command reads: what stands behind its percent sign, without the backslashes
 abbrev pub input_text : Option (List ℕ) → List ℕ
 input_text None = []
 input_text (Some bytes) = unescaped bytes
 
-abbrev pub work : List (List ℕ × List ℕ) → Entry → Work
-work vs e =
-    record { variables = vs; shell = shell_in (codes "/bin/sh") vs; command = unescaped e.command; input = input_text e.input }
+-- what is run of an entry below these variables
+abbrev pub work : Option ℕ → List (List ℕ × List ℕ) → Entry → Work
+work timeout vs e = record {
+  variables = vs;
+  shell = unwrap_or (value_in (codes "SHELL") None vs) (codes "/bin/sh");
+  command = unescaped e.command;
+  input = input_text e.input;
+  timeout = timeout;
+}
 
--- the line by which a shell runs an entry below these variables
-abbrev pub shell_text : List (List ℕ × List ℕ) → Entry → List ℕ
-shell_text vs e = job_line (work vs e)
+-- an entry of `@reboot` is written at no fire: that it is one stands in front
+abbrev pub start_front : Option (List ℕ) → Meaning → List ℕ
+start_front logs reboot = front logs (codes "@reboot")
+start_front logs (schedules some) = []
 
-abbrev pub text_of : Form → List (List ℕ × List ℕ) → Entry → List ℕ
-text_of Command vs e = unescaped e.command ++ 10 ∷ []
-text_of Shell vs e = shell_text vs e
+-- the line by which a shell runs the entry of a line below these variables, but for what writes a fire
+abbrev pub shell_text : Ways → List (List ℕ × List ℕ) → List ℕ → Entry → List ℕ
+shell_text w vs line e =
+    start_front w.logs e.meaning ++ job_tail (work w.timeout vs e) (file_in w.locks vs line (codes ".lock")) (file_in w.logs vs line (codes ".log"))
+
+abbrev pub text_of : Form → List (List ℕ × List ℕ) → List ℕ → Entry → List ℕ
+text_of Command vs line e = unescaped e.command ++ 10 ∷ []
+text_of (Shell w) vs line e = shell_text (ways_view w) vs line e
+
+-- what writes a fire stands in front of each line, where output goes to files
+abbrev pub names_fires : Form → Bool
+names_fires Command = false
+names_fires (Shell w) = is_some w.logs
 
 -- ---- a file
 
@@ -60,24 +85,29 @@ is_wanted None user = true
 is_wanted (Some name) None = false
 is_wanted (Some name) (Some user) = bytes_eq name user
 
-abbrev pub variables_in : Result Meaning Refusal → List (List ℕ × List ℕ)
+-- a setting is a variable, and so is `CRON_TZ`
+abbrev pub variables_in : Result lines.Meaning Refusal → List (List ℕ × List ℕ)
 variables_in (Ok (setting name value)) = (name, value) ∷ []
+variables_in (Ok (zone value)) = (codes "CRON_TZ", value) ∷ []
 variables_in _ = []
 
-abbrev pub text_in : Orders → List (List ℕ × List ℕ) → Result Meaning Refusal → Option (List ℕ)
-text_in o vs (Ok (entry e)) = if is_wanted o.user e.user then Some (text_of o.form vs e) else None
-text_in o vs _ = None
+abbrev pub text_by : Orders → List (List ℕ × List ℕ) → List ℕ → Result lines.Meaning Refusal → Option (List ℕ)
+text_by o vs bytes (Ok (entry e)) = if is_wanted o.user e.user then Some (text_of o.form vs bytes e) else None
+text_by o vs bytes _ = None
+
+abbrev pub text_in : Orders → List (List ℕ × List ℕ) → FileLine → Option (List ℕ)
+text_in o vs line = text_by o vs line.bytes line.outcome
 
 -- an entry has a task where it is taken, and has a zone
 abbrev pub task_in : FileLine → Option ℕ → Option (List ℕ) → List Task
-task_in line (Some zone) (Some text) = record { line = line; zone = zone; text = text } ∷ []
+task_in line (Some place) (Some text) = record { line = line; zone = place; text = text } ∷ []
 task_in line _ _ = []
 
 -- the tasks of lines, below these variables and in this zone, or below a `CRON_TZ` that names none
 abbrev pub tasks_below : Orders → Option ℕ → List (List ℕ × List ℕ) → List FileLine → List Task
 tasks_below o here vs [] = []
 tasks_below o here vs (line ∷ lines) =
-    task_in line here (text_in o (vs ++ variables_in line.outcome) line.outcome)
+    task_in line here (text_in o (vs ++ variables_in line.outcome) line)
     ++ tasks_below o (zone_below o.names here line.outcome) (vs ++ variables_in line.outcome) lines
 
 -- the variables that entries have without a setting

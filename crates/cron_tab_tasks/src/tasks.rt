@@ -6,7 +6,8 @@ ghost use Rattle.cron_tab_lines.specs.Views.{file_line_view};
 ghost use Rattle.cron_tab_tasks.specs.Tasks.{defaults, orders_view, text_in, variables_in};
 
 use crate::orders::{Orders, is_wanted};
-use crate::texts::{SHELL, text_of};
+use crate::texts::text_of;
+use crate::values::SHELL;
 use cron_shell::Variable;
 use cron_tab_lines::{FileLine, Line};
 use std::alloc::{AllocError, Global};
@@ -23,7 +24,8 @@ pub fn push_defaults<'a>(variables: &mut Vec<Variable<'a>>) -> Result<(), AllocE
     Ok(())
 }
 
-/// Pushes the variable of a line, if it is a setting, behind those of the lines above it.
+/// Pushes the variable of a line, if it is a setting or sets `CRON_TZ`, behind those of the lines
+/// above it.
 pub fn push_variable<'a>(
     variables: &mut Vec<Variable<'a>>,
     line: &FileLine<'a>,
@@ -31,11 +33,16 @@ pub fn push_variable<'a>(
     ensures { OnOk result (map variable_view variables.new.items
         ≡ map variable_view variables.old.items ++ variables_in (file_line_view line.now).outcome) }
 {
-    if let Ok(Line::Setting(setting)) = &line.read {
-        variables.push(Variable {
+    match &line.read {
+        Ok(Line::Setting(setting)) => variables.push(Variable {
             name: setting.name,
             value: setting.value,
-        })?;
+        })?,
+        Ok(Line::Zone(value)) => variables.push(Variable {
+            name: b"CRON_TZ",
+            value: *value,
+        })?,
+        _ => {}
     }
     Ok(())
 }
@@ -49,11 +56,11 @@ pub fn text_in(
 ) -> Result<Option<Vec<u8>>, AllocError>
     ensures { IfOk result (λ text. option_map (λ t. t.items) text
         ≡ text_in (orders_view orders.now) (map variable_view variables.now)
-        (file_line_view line.now).outcome) }
+        (file_line_view line.now)) }
 {
     match &line.read {
         Ok(Line::Entry(entry)) if is_wanted(orders.user, entry) => {
-            Ok(Some(text_of(alloc, orders.form, variables, entry)?))
+            Ok(Some(text_of(alloc, &orders.form, variables, line.bytes, entry)?))
         }
         _ => Ok(None),
     }

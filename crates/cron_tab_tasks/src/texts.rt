@@ -1,31 +1,19 @@
 //! What is written of an entry.
 
-ghost use Rattle.std.specs.Prelude.{◌≡◌, ◌++◌, ◌∷◌, [], IfOk, codes, map};
+ghost use Rattle.std.specs.Prelude.{◌≡◌, ◌++◌, ◌∷◌, [], IfOk, OnOk, map, option_map};
+ghost use Rattle.cron_crontab.specs.Views.{expression_view};
 ghost use Rattle.cron_shell.specs.Lines.{variable_view};
 ghost use Rattle.cron_tab_lines.specs.Entries.{unescaped};
 ghost use Rattle.cron_tab_lines.specs.Views.{bytes_view, entry_view};
-ghost use Rattle.cron_tab_tasks.specs.Tasks.{input_text, shell_in, shell_text, text_of};
+ghost use Rattle.cron_tab_tasks.specs.Tasks.{input_text, shell_text, start_front, text_of, ways_view};
 
-use crate::orders::Form;
-use cron_shell::{ShellJob, Variable, push_line};
+use crate::names::file_in;
+use crate::orders::{Form, Ways};
+use crate::values::shell_of;
+use cron_crontab::Expression;
+use cron_shell::{ShellJob, Variable, push_line, push_log_front};
 use cron_tab_lines::{Entry, Unescaped};
 use std::alloc::{AllocError, Global};
-
-/// The shell of entries that set none.
-pub(crate) const SHELL: &[u8] = b"/bin/sh";
-
-// The shell that the variables name: the last one.
-fn shell_of<'a>(variables: &[Variable<'a>]) -> &'a [u8]
-    ensures { result.now ≡ shell_in (codes "/bin/sh") (map variable_view variables.now) }
-{
-    let mut shell: &'a [u8] = SHELL;
-    for variable in variables {
-        if variable.name == b"SHELL".as_slice() {
-            shell = variable.value;
-        }
-    }
-    shell
-}
 
 // What a command reads.
 fn input_text(alloc: Global, input: Option<&[u8]>) -> Result<Vec<u8>, AllocError>
@@ -37,25 +25,58 @@ fn input_text(alloc: Global, input: Option<&[u8]>) -> Result<Vec<u8>, AllocError
     }
 }
 
-// The line by which a shell runs an entry.
+// Where an entry is one of `@reboot`, pushes what writes that into the file of its output.
+fn push_start(
+    text: &mut Vec<u8>,
+    logs: Option<&[u8]>,
+    expression: &Expression,
+) -> Result<(), AllocError>
+    ensures { OnOk result (text.new.items ≡ text.old.items
+        ++ start_front (bytes_view logs.entry) (expression_view expression.now)) }
+{
+    match (logs, expression) {
+        (Some(_), Expression::Reboot) => push_log_front(text, b"@reboot"),
+        _ => Ok(()),
+    }
+}
+
+// A file's name, if there is a file.
+fn lent(file: &Option<Vec<u8>>) -> Option<&[u8]>
+    ensures { bytes_view result ≡ option_map (λ f. f.items) file.now }
+{
+    match file {
+        Some(name) => Some(name.as_slice()),
+        None => None,
+    }
+}
+
+// The line by which a shell runs the entry of a line, but for what writes a fire.
 fn shell_text(
     alloc: Global,
+    ways: &Ways<'_>,
     variables: &[Variable<'_>],
+    line: &[u8],
     entry: &Entry<'_>,
 ) -> Result<Vec<u8>, AllocError>
-    ensures { IfOk result (λ text. text.items
-        ≡ shell_text (map variable_view variables.now) (entry_view entry.now)) }
+    ensures { IfOk result (λ text. text.items ≡ shell_text (ways_view ways.now)
+        (map variable_view variables.now) line.now (entry_view entry.now)) }
 {
     let command: Vec<u8> = Unescaped::of(entry.command).collect(alloc)?;
     let input = input_text(alloc, entry.input)?;
+    let lock = file_in(alloc, ways.locks, variables, line, b".lock")?;
+    let log = file_in(alloc, ways.logs, variables, line, b".log")?;
     let job = ShellJob {
         variables,
         shell: shell_of(variables),
         command: command.as_slice(),
         input: input.as_slice(),
+        timeout: ways.timeout,
     };
+    let lock_path = lent(&lock);
+    let log_path = lent(&log);
     let mut text = Vec::new(alloc);
-    push_line(&mut text, &job)?;
+    push_start(&mut text, ways.logs, &entry.expression)?;
+    push_line(&mut text, &job, lock_path, log_path)?;
     Ok(text)
 }
 
@@ -68,18 +89,19 @@ fn command_text(alloc: Global, command: &[u8]) -> Result<Vec<u8>, AllocError>
     Ok(text)
 }
 
-/// What is written of an entry below these variables.
+/// What is written of the entry of a line below these variables.
 pub(crate) fn text_of(
     alloc: Global,
-    form: Form,
+    form: &Form<'_>,
     variables: &[Variable<'_>],
+    line: &[u8],
     entry: &Entry<'_>,
 ) -> Result<Vec<u8>, AllocError>
-    ensures { IfOk result (λ text. text.items
-        ≡ text_of form (map variable_view variables.now) (entry_view entry.now)) }
+    ensures { IfOk result (λ text. text.items ≡ text_of form.now
+        (map variable_view variables.now) line.now (entry_view entry.now)) }
 {
     match form {
         Form::Command => command_text(alloc, entry.command),
-        Form::Shell => shell_text(alloc, variables, entry),
+        Form::Shell(ways) => shell_text(alloc, ways, variables, line, entry),
     }
 }

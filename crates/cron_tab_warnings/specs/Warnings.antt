@@ -1,4 +1,5 @@
--- What of a crontab's line or expression may surprise. The text begins with the fields, and what follows the fifth is the rest of its line.
+-- What of a crontab's line or expression may surprise. The text begins with the fields, and what follows the fifth is the rest of its line, in a
+-- user's crontab or the system's.
 use Rattle.std.specs.Prelude.{codes, ◌≡◌, ℕ, zero, suc, ◌+◌, ◌<◌, ◌==◌, ◌&&◌, ◌||◌, Bool, false, not, nat_lt, nat_le, List, Contains, length, if◌then◌else◌, IsTrue, ◌↔◌}
 use Rattle.std.specs.List.{list_all}
 use Rattle.std.specs.Str.{bytes_eq}
@@ -7,6 +8,8 @@ use Rattle.cron_crontab.specs.Crontab.{Five, Meaning, schedules, reboot, schedul
 use Rattle.cron_crontab.specs.Items.{begins_with_star}
 use Rattle.cron_crontab.specs.declared.field.Field.{Field}
 use Rattle.cron_crontab.specs.declared.field.Field.TheVariants.{DayOfMonth, DayOfWeek, Month}
+use Rattle.cron_tab_lines.specs.declared.kinds.Crontab.{Crontab}
+use Rattle.cron_tab_lines.specs.declared.kinds.Crontab.TheVariants.{User, System}
 use Rattle.cron_tabs.specs.DayRule.{matches_one, runs_at}
 use Rattle.cron_tab_warnings.specs.Written.{field_word, has_fields, has_item, is_backward, is_field, is_past_end, is_uneven, names, names_all, word_at}
 use Rattle.cron_tab_warnings.specs.declared.warnings.Warning.{Warning}
@@ -60,35 +63,40 @@ is_star_step DayOfWeek text = stars_step DayOfWeek text
 is_star_step f text = false
 
 -- digits, commas, dashes, stars and slashes
-abbrev pub in_years : ℕ → Bool
-in_years c = (nat_le 48 c && nat_le c 57) || ((c == 44) || ((c == 45) || ((c == 42) || (c == 47))))
+abbrev pub in_numbers : ℕ → Bool
+in_numbers c = (nat_le 48 c && nat_le c 57) || ((c == 44) || ((c == 45) || ((c == 42) || (c == 47))))
 
-abbrev pub is_years : List ℕ → Bool
-is_years word = nat_lt 0 (length word) && list_all in_years word
+abbrev pub is_numbers : List ℕ → Bool
+is_numbers word = nat_lt 0 (length word) && list_all in_numbers word
 
--- what stands behind the fifth field is itself a field of days of the week, as behind one of seconds; `?` is one elsewhere
-abbrev pub has_sixth : List ℕ → Bool
-has_sixth text = bytes_eq (word_at text 5) (codes "?") || is_field DayOfWeek (word_at text 5)
+-- The word after the fifth field is itself a field of days of the week. In a system crontab the user stands there, who may have a day's name.
+abbrev pub is_sixth : Crontab → List ℕ → Bool
+is_sixth User word = is_field DayOfWeek word
+is_sixth System word = is_numbers word && is_field DayOfWeek word
 
-abbrev pub has_seventh : List ℕ → Bool
-has_seventh text = has_sixth text && is_years (word_at text 6)
+-- it is one, as after a field of seconds; `?` is one elsewhere
+abbrev pub has_sixth : Crontab → List ℕ → Bool
+has_sixth kind text = bytes_eq (word_at text 5) (codes "?") || is_sixth kind (word_at text 5)
+
+abbrev pub has_seventh : Crontab → List ℕ → Bool
+has_seventh kind text = has_sixth kind text && is_numbers (word_at text 6)
 
 -- what is so of fields
-abbrev pub is_so : Warning → List ℕ → Bool
-is_so NeverFires text = false
-is_so (Backward f) text = has_item is_backward f (field_word text f)
-is_so (StepPastEnd f) text = has_item is_past_end f (field_word text f)
-is_so (UnevenStep f) text = has_item (is_uneven f) f (field_word text f)
-is_so (StarStep f) text = is_star_step f text
-is_so LeftOutDays text = leaves_out text
-is_so SixFields text = has_sixth text && not (has_seventh text)
-is_so SevenFields text = has_seventh text
+abbrev pub is_so : Crontab → Warning → List ℕ → Bool
+is_so kind NeverFires text = false
+is_so kind (Backward f) text = has_item is_backward f (field_word text f)
+is_so kind (StepPastEnd f) text = has_item is_past_end f (field_word text f)
+is_so kind (UnevenStep f) text = has_item (is_uneven f) f (field_word text f)
+is_so kind (StarStep f) text = is_star_step f text
+is_so kind LeftOutDays text = leaves_out text
+is_so kind SixFields text = has_sixth kind text && not (has_seventh kind text)
+is_so kind SevenFields text = has_seventh kind text
 
 -- the warning is due of a text, and of what its fields mean
-abbrev pub Warns : Warning → List ℕ → Meaning → Type 0
-Warns NeverFires text meaning = NeverRuns meaning
-Warns w text meaning = IsTrue (has_fields text && is_so w text)
+abbrev pub Warns : Crontab → Warning → List ℕ → Meaning → Type 0
+Warns kind NeverFires text meaning = NeverRuns meaning
+Warns kind w text meaning = IsTrue (has_fields text && is_so kind w text)
 
 -- the warnings that are due of a text stand in a list of all
 abbrev pub AllAreListed : List Warning → Type 0
-AllAreListed all = (w : Warning) (text : List ℕ) (meaning : Meaning) → Warns w text meaning → Contains all w
+AllAreListed all = (kind : Crontab) (w : Warning) (text : List ℕ) (meaning : Meaning) → Warns kind w text meaning → Contains all w

@@ -85,6 +85,10 @@ abbrev pub divides_round : Field → ℕ → Bool
 divides_round DayOfMonth step = step == 1
 divides_round f step = size f % step == 0
 
+-- a range of all the numbers of a field, as 0-6, 1-7 and 0-7 of the days of the week
+abbrev pub is_whole : Field → Progression → Bool
+is_whole f p = nat_le (size f) (p.last - p.first + 1)
+
 -- the whole field by a step that doesn't divide it, so that it begins anew before it is done
 abbrev pub is_uneven : Field → Progression → Bool
-is_uneven f p = (p.first == least f && p.last == greatest f) && (nat_le p.every (p.last - p.first) && not (divides_round f p.every))
+is_uneven f p = is_whole f p && (nat_le p.every (p.last - p.first) && not (divides_round f p.every))

@@ -3,7 +3,7 @@
 ghost use Rattle.std.specs.Prelude.{◌≡◌, ◌<◌};
 ghost use Rattle.cron_crontab.specs.Items.{item_of};
 ghost use Rattle.cron_crontab.specs.Views.{item_view};
-ghost use Rattle.cron_tab_warnings.specs.Written.{divides_round, has_item, is_field, names, passed};
+ghost use Rattle.cron_tab_warnings.specs.Written.{divides_round, has_item, is_field, is_whole, names, passed};
 ghost use Rattle.cron_tab_warnings.specs.Tests.{test_of};
 
 use crate::words::size;
@@ -34,15 +34,20 @@ fn divides_round(field: Field, step: u32) -> bool
     }
 }
 
+/// Tells whether an item's range has all the numbers of a field.
+fn is_whole(field: Field, item: Item) -> bool
+    ensures { result ≡ is_whole field (item_view item) }
+{
+    item.first <= item.last && size(field) - 1 <= item.last - item.first
+}
+
 fn is_uneven(field: Field, item: Item) -> bool
     requires { 0 < item.every }
     ensures { result ≡ test_of Test.Uneven field (item_view item) }
 {
-    let Item { first, last, every } = item;
-    if first != field.least() || last != field.greatest() {
-        return false;
-    }
-    every <= last - first && !divides_round(field, every)
+    is_whole(field, item)
+        && item.every <= item.last - item.first
+        && !divides_round(field, item.every)
 }
 
 fn passes(test: Test, field: Field, item: Item) -> bool

@@ -2,13 +2,14 @@
 
 ghost use Rattle.std.specs.Prelude.{◌≡◌, ◌↔◌, IsTrue};
 ghost use Rattle.cron_crontab.specs.Views.{expression_view};
-ghost use Rattle.cron_tab_warnings.specs.Warnings.{AllAreListed, Warns, has_seventh, has_sixth, in_years, is_so, is_years};
+ghost use Rattle.cron_tab_warnings.specs.Warnings.{AllAreListed, Warns, has_seventh, has_sixth, in_numbers, is_numbers, is_sixth, is_so};
 
 use crate::days::{is_star_step, leaves_out};
 use crate::fires::never_runs;
 use crate::items::{Test, has_item, is_field};
 use crate::words::{field_word, has_fields, word_at};
 use cron_crontab::{Expression, Field};
+use cron_tab_lines::Crontab;
 
 /// What may not be meant.
 #[derive(Clone, Copy, Debug, PartialEq, Eq)]
@@ -26,10 +27,10 @@ pub enum Warning {
     StarStep(Field),
     /// Some month that is named lacks a day that is named: `0 0 31 * *`.
     LeftOutDays,
-    /// The first word behind five fields is itself a field, as behind one of seconds, or a question
-    /// mark.
+    /// The first word after five fields is itself a field, as after one of seconds, or a question
+    /// mark. A user's name is none, as `sun` in a system crontab.
     SixFields,
-    /// The first two words behind five fields are themselves fields, the second one of years.
+    /// The first two words after five fields are themselves fields, the second one of years.
     SevenFields,
 }
 
@@ -58,39 +59,49 @@ pub const WARNINGS: [Warning; 21] = [
     Warning::SevenFields,
 ];
 
-fn in_years(byte: u8) -> bool
-    ensures { result ≡ in_years byte }
+fn in_numbers(byte: u8) -> bool
+    ensures { result ≡ in_numbers byte }
 {
     byte.is_ascii_digit() || byte == b',' || byte == b'-' || byte == b'*' || byte == b'/'
 }
 
 /// Tells whether a word is digits, commas, dashes, stars and slashes.
-fn is_years(word: &str) -> bool
-    ensures { result ≡ is_years word.now }
+fn is_numbers(word: &str) -> bool
+    ensures { result ≡ is_numbers word.now }
 {
     for byte in word.as_bytes() {
-        if !in_years(*byte) {
+        if !in_numbers(*byte) {
             return false;
         }
     }
     !word.is_empty()
 }
 
-fn has_sixth(text: &str) -> bool
-    ensures { result ≡ has_sixth text.now }
+/// Tells whether the word after five fields is itself a field of days of the week.
+fn is_sixth(kind: Crontab, word: &str) -> bool
+    ensures { result ≡ is_sixth kind word.now }
+{
+    match kind {
+        Crontab::User => is_field(Field::DayOfWeek, word),
+        Crontab::System => is_numbers(word) && is_field(Field::DayOfWeek, word),
+    }
+}
+
+fn has_sixth(kind: Crontab, text: &str) -> bool
+    ensures { result ≡ has_sixth kind text.now }
 {
     let word = word_at(text, 5);
-    word == "?" || is_field(Field::DayOfWeek, word)
+    word == "?" || is_sixth(kind, word)
 }
 
-fn has_seventh(text: &str) -> bool
-    ensures { result ≡ has_seventh text.now }
+fn has_seventh(kind: Crontab, text: &str) -> bool
+    ensures { result ≡ has_seventh kind text.now }
 {
-    has_sixth(text) && is_years(word_at(text, 6))
+    has_sixth(kind, text) && is_numbers(word_at(text, 6))
 }
 
-fn is_so(warning: Warning, text: &str) -> bool
-    ensures { result ≡ is_so warning text.now }
+fn is_so(kind: Crontab, warning: Warning, text: &str) -> bool
+    ensures { result ≡ is_so kind warning text.now }
 {
     match warning {
         Warning::NeverFires => false,
@@ -99,20 +110,20 @@ fn is_so(warning: Warning, text: &str) -> bool
         Warning::UnevenStep(field) => has_item(Test::Uneven, field, field_word(text, field)),
         Warning::StarStep(field) => is_star_step(field, text),
         Warning::LeftOutDays => leaves_out(text),
-        Warning::SixFields => has_sixth(text) && !has_seventh(text),
-        Warning::SevenFields => has_seventh(text),
+        Warning::SixFields => has_sixth(kind, text) && !has_seventh(kind, text),
+        Warning::SevenFields => has_seventh(kind, text),
     }
 }
 
 /// Tells whether a warning is due of an expression, by its text and what it means. The text may
-/// also be a line that begins with the fields; what stands behind the fifth is looked at by
+/// also be a line of a crontab that begins with the fields; what follows the fifth is looked at by
 /// `SixFields` and `SevenFields` alone.
-pub fn warns(warning: Warning, text: &str, expression: &Expression) -> bool
-    ensures { IsTrue result ↔ Warns warning text.now (expression_view expression.now) }
+pub fn warns(kind: Crontab, warning: Warning, text: &str, expression: &Expression) -> bool
+    ensures { IsTrue result ↔ Warns kind warning text.now (expression_view expression.now) }
 {
     match warning {
         Warning::NeverFires => never_runs(expression),
-        _ => has_fields(text) && is_so(warning, text),
+        _ => has_fields(text) && is_so(kind, warning, text),
     }
 }
 

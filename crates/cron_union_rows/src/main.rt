@@ -1,36 +1,42 @@
-//! Replays the rows of `data/`, of what is asked of unions: which civil seconds two of them share,
-//! how many fires there are, sentences, lines of systemd's `OnCalendar`, and expressions of Quartz.
-//! It prints each answer that isn't the one of its row, and for each file how many rows it has.
-//! Where an answer differs, or a row can't be taken apart, it ends with a status other than 0.
+//! Asks the rows of `data/`, of unions: which civil seconds two of them share, how many fires there
+//! are, sentences, lines of systemd's `OnCalendar`, and expressions of Quartz. It prints each answer
+//! that isn't the one of its row, and for each file how many rows it has.
 #![tactic(auto)]
 
-mod calendar_lines;
-mod counts;
-mod firsts;
 mod quartz;
-mod sentences;
 mod unions;
 
-use anyhow::Result;
-use cron_rows::{Replay, Report, Row, replay_files};
+use anyhow::{Result, bail};
+use cron_crontab::{Expression, read};
+use cron_rows::{Ask, Row, ask_files, sets_of};
+use cron_text::no_ordinals;
+use unions::{Asked, Counts};
+
+/// How the expressions of a file are read.
+#[derive(Clone, Copy)]
+enum Form {
+    /// Six or seven fields; `none` stands for seven empty sets.
+    Cron,
+    /// Those of a crontab.
+    Crontab,
+}
 
 /// What the rows of a file hold.
 #[derive(Clone, Copy)]
 enum Kind {
-    /// Two unions, the first civil second that both match, and the first that one alone does.
+    /// Two unions, the first civil second that both match, and the first that one alone does. The
+    /// answers were counted apart, day by day.
     Firsts,
-    /// A zone, a civil day, a union, and how many fires it has on each day from that one on.
-    Days,
-    /// The same of the hours of a day.
-    Hours,
-    /// An expression, and its lines of `OnCalendar`.
-    CalendarLines,
-    /// The same of an expression of a crontab.
-    CalendarLinesOfCrontabs,
-    /// An expression, and its sentence.
-    Sentences,
-    /// The same of an expression of a crontab.
-    SentencesOfCrontabs,
+    /// A zone, a civil day, a union, and how many fires it has on each day, or in each hour, from
+    /// that one on. They were counted by a scan of civil seconds, of which Python's zoneinfo told
+    /// the readings. A zone `file NAME` is that of a file of the zone database (2025b).
+    Fires(Counts),
+    /// An expression, and its lines of `OnCalendar`, or its sentence. They were written by hand, and
+    /// systemd 252 read the lines.
+    Texts(Form, Asked),
+    /// The file of a zone (2025b), its name, a start, a union, its lines, which were written by hand,
+    /// and when systemd 252 tells that these elapse first after the start.
+    Elapses,
     /// An expression of Quartz, and its first fires; or `refused`.
     QuartzFires,
     /// A text that Quartz refuses.
@@ -41,17 +47,24 @@ enum Kind {
     QuartzMessages,
 }
 
-const FILES: [(Kind, &str); 12] = [
+const FILES: [(Kind, &str); 13] = [
     (Kind::Firsts, "firsts.tsv"),
-    (Kind::Days, "counts_by_day.tsv"),
-    (Kind::Hours, "counts_by_hour.tsv"),
-    (Kind::CalendarLines, "calendar_lines.tsv"),
+    (Kind::Fires(Counts::ByDay), "counts_by_day.tsv"),
+    (Kind::Fires(Counts::ByHour), "counts_by_hour.tsv"),
     (
-        Kind::CalendarLinesOfCrontabs,
+        Kind::Texts(Form::Cron, Asked::CalendarLines),
+        "calendar_lines.tsv",
+    ),
+    (
+        Kind::Texts(Form::Crontab, Asked::CalendarLines),
         "calendar_lines_of_crontabs.tsv",
     ),
-    (Kind::Sentences, "sentences.tsv"),
-    (Kind::SentencesOfCrontabs, "sentences_of_crontabs.tsv"),
+    (Kind::Elapses, "elapses.tsv"),
+    (Kind::Texts(Form::Cron, Asked::Sentence), "sentences.tsv"),
+    (
+        Kind::Texts(Form::Crontab, Asked::Sentence),
+        "sentences_of_crontabs.tsv",
+    ),
     (Kind::QuartzFires, "quartz_fires.tsv"),
     (Kind::QuartzFires, "quartz_mutations.tsv"),
     (Kind::QuartzRefused, "quartz_refused.txt"),
@@ -59,26 +72,40 @@ const FILES: [(Kind, &str); 12] = [
     (Kind::QuartzMessages, "quartz_messages.txt"),
 ];
 
-impl Replay for Kind {
-    fn replay(&self, report: &mut Report<'_>, row: Row<'_>) -> Result<()> {
+// Asks an expression for a text.
+fn ask_text(row: &mut Row<'_>, form: Form, asked: Asked) -> Result<()> {
+    let text = row.cell();
+    match form {
+        Form::Cron if text == "none" => unions::ask_text(row, asked, &[no_ordinals()]),
+        Form::Cron => {
+            let schedules = sets_of(row.alloc(), text, " ; ")?;
+            unions::ask_text(row, asked, schedules.as_slice())
+        }
+        Form::Crontab => {
+            let read = read(text);
+            let Ok(Expression::Fires(schedules)) = &read else {
+                bail!("no expression");
+            };
+            unions::ask_text(row, asked, schedules.as_slice())
+        }
+    }
+}
+
+impl Ask for Kind {
+    fn ask(&self, row: &mut Row<'_>) -> Result<()> {
         match self {
-            Kind::Firsts => firsts::replay(report, row),
-            Kind::Days => counts::replay_days(report, row),
-            Kind::Hours => counts::replay_hours(report, row),
-            Kind::CalendarLines => calendar_lines::replay(report, row),
-            Kind::CalendarLinesOfCrontabs => calendar_lines::replay_crontab(report, row),
-            Kind::Sentences => sentences::replay(report, row),
-            Kind::SentencesOfCrontabs => sentences::replay_crontab(report, row),
-            Kind::QuartzFires => quartz::fires::replay(report, row),
-            Kind::QuartzRefused => quartz::messages::replay_refused(report, row),
-            Kind::QuartzDays => quartz::days::replay(report, row),
-            Kind::QuartzMessages => quartz::messages::replay(report, row),
+            Kind::Firsts => unions::ask_firsts(row),
+            Kind::Fires(counts) => unions::ask_counts(row, *counts),
+            Kind::Texts(form, asked) => ask_text(row, *form, *asked),
+            Kind::Elapses => unions::ask_elapses(row),
+            Kind::QuartzFires => quartz::ask_fires(row),
+            Kind::QuartzRefused => quartz::ask_refused(row),
+            Kind::QuartzDays => quartz::ask_days(row),
+            Kind::QuartzMessages => quartz::ask_message(row),
         }
     }
 }
 
 fn main(rt: HostRuntime) -> Result<()> {
-    let mut report = Report::new(&rt);
-    replay_files(&mut report, &FILES)?;
-    report.end()
+    ask_files(&rt, &FILES)
 }

@@ -1,84 +1,106 @@
-//! Texts of errors, and of a schedule whose source is long; and texts under the options of a hole.
+//! What schedules, moments and errors show, and schedules as JSON.
 
-use crate::support::{check, check_same, check_text, read_instant, read_schedule};
+use crate::answers::add_bytes;
+use crate::scheduled::are_equal;
+use crate::words::{bytes_of, moment_of};
+use anyhow::Result;
 use cron::Schedule;
 use cron::error::{Error, ErrorKind};
-use cron::schedule::Moment;
-use jiff::tz::TimeZone;
-use std::process::Abort;
+use cron_rows::Row;
+use serde_json::Value;
 
-// An error of an expression shows its message.
-fn check_message(rt: &(impl Abort + AllocGlobal), text: &str) {
-    let message = String::from_str(rt.alloc(), text).expect(rt, "memory");
-    let error = Error::from(ErrorKind::Expression(message));
-    check_text(rt, &error, text, text);
+/// Adds what a schedule shows, and the source that it gives up.
+fn add_source(row: &mut Row<'_>, schedule: Schedule) -> Result<()> {
+    let text = schedule.to_string(row.alloc())?;
+    add_bytes(row, " ", text.as_bytes())?;
+    let source = String::from(schedule);
+    Ok(add_bytes(row, " ", source.as_bytes())?)
 }
 
-fn check_out_of_memory(rt: &(impl Abort + AllocGlobal), error: &Error) {
-    let is_its_kind = matches!(error.kind(), ErrorKind::OutOfMemory);
-    check(rt, is_its_kind, "of memory");
-    check_text(rt, error, "out of memory", "of memory");
+/// A row has a text. Its source is told as a copy shows it and gives it up, and as the schedule
+/// does; and whether both are equal.
+pub(crate) fn ask_sources(row: &mut Row<'_>) -> Result<()> {
+    let bytes = bytes_of(row.alloc(), row.cell())?;
+    let schedule = Schedule::from_str(row.alloc(), str::from_utf8(bytes.as_slice())?)?;
+    let copy = schedule.clone()?;
+    row.add(" ", &are_equal(&schedule, &copy))?;
+    add_source(row, copy)?;
+    add_source(row, schedule)
 }
 
-#[test]
-fn each_kind_of_error(rt: HostRuntime) {
-    check_message(&rt, "");
-    check_message(&rt, "Invalid cron expression.");
-    check_message(&rt, "'Foo' is not a valid month name.");
-    check_out_of_memory(&rt, &Error::from(ErrorKind::OutOfMemory));
-}
-
-// A text of 100,000 bytes.
-fn long(rt: &(impl Abort + AllocGlobal)) -> String {
-    let mut text = String::new(rt.alloc());
-    for _ in 0..99_994 {
-        text.push(' ').expect(rt, "memory");
+/// A row has a text, and why it is refused.
+pub(crate) fn ask_read(row: &mut Row<'_>) -> Result<()> {
+    match Schedule::from_str(row.alloc(), row.cell()) {
+        Ok(_) => row.add("", &"read")?,
+        Err(error) => row.add("", &error)?,
     }
-    text.push_str("@daily").expect(rt, "memory");
-    text
+    Ok(())
 }
 
-fn prints(rt: &(impl Abort + AllocGlobal), schedule: &Schedule, text: &str) -> bool {
-    schedule.to_string(rt.alloc()).expect(rt, "memory").as_str() == text
+/// A row has two texts, and which of these are equal: the sources, all sets, the days of the month,
+/// the days of the week and the years.
+pub(crate) fn ask_pair(row: &mut Row<'_>) -> Result<()> {
+    let one = Schedule::from_str(row.alloc(), row.cell())?;
+    let other = Schedule::from_str(row.alloc(), row.cell())?;
+    row.add(" ", &(one == other))?;
+    row.add(" ", &one.timeunitspec_eq(&other))?;
+    row.add(" ", &(one.days_of_month() == other.days_of_month()))?;
+    row.add(" ", &(one.days_of_week() == other.days_of_week()))?;
+    Ok(row.add(" ", &(one.years() == other.years()))?)
 }
 
-fn gives_up(schedule: Schedule, text: &str) -> bool {
-    String::from(schedule).as_str() == text
+pub(crate) fn ask_json(row: &mut Row<'_>, schedule: &Schedule) -> Result<()> {
+    let value = schedule.to_value(row.alloc())?;
+    let read = Schedule::from_value(row.alloc(), &value)?;
+    row.add(" ", &value)?;
+    Ok(row.add(" ", &are_equal(schedule, &read))?)
 }
 
-fn check_long(rt: &(impl Abort + AllocGlobal), text: &str) {
-    check(rt, text.len() == 100_000, "the length");
-    let schedule = read_schedule(rt, text);
-    let prints = prints(rt, &schedule, text);
-    let gives_up = gives_up(schedule, text);
-    check(rt, prints && gives_up, "the source");
+/// A row has a JSON value, and why no schedule is read of it.
+pub(crate) fn ask_value(row: &mut Row<'_>) -> Result<()> {
+    let value = Value::from_str(row.alloc(), row.cell())?;
+    match Schedule::from_value(row.alloc(), &value) {
+        Ok(_) => row.add("", &"read")?,
+        Err(error) => row.add("", &error)?,
+    }
+    Ok(())
 }
 
-#[test]
-fn a_source_of_a_hundred_thousand_bytes(rt: HostRuntime) {
-    let text = long(&rt);
-    check_long(&rt, text.as_str());
+/// A row has two moments, and whether their civil seconds, instants, offsets and they are equal.
+pub(crate) fn ask_moments(row: &mut Row<'_>) -> Result<()> {
+    let (one, other) = (moment_of(row.cell())?, moment_of(row.cell())?);
+    row.add(" ", &(one.datetime() == other.datetime()))?;
+    row.add(" ", &(one.timestamp() == other.timestamp()))?;
+    row.add(" ", &(one.offset() == other.offset()))?;
+    Ok(row.add(" ", &(one == other))?)
 }
 
-// What a schedule, its error and its moment show in holes with a width, an alignment and a
-// precision.
-fn shown_in_holes(rt: &(impl Abort + AllocGlobal), schedule: &Schedule, moment: Moment) -> String {
+/// A row has the parts of a moment, and its instant or why there is none.
+pub(crate) fn ask_parts(row: &mut Row<'_>) -> Result<()> {
+    match moment_of(row.cell()) {
+        Ok(moment) => row.add("", &moment.timestamp())?,
+        Err(error) => row.add("", &error)?,
+    }
+    Ok(())
+}
+
+/// A row has the message of an error, and what the error shows.
+pub(crate) fn ask_message(row: &mut Row<'_>) -> Result<()> {
+    let message = String::from_str(row.alloc(), row.cell())?;
+    let error = Error::from(ErrorKind::Expression(message));
+    let shown = format!(in row.alloc(); "<{error}>")?;
+    Ok(row.add("", &shown)?)
+}
+
+/// A row has a schedule and a moment, and what both and the error that memory ran out show in holes
+/// with a width, an alignment or a precision.
+pub(crate) fn ask_holes(row: &mut Row<'_>) -> Result<()> {
+    let schedule = Schedule::from_str(row.alloc(), row.cell())?;
+    let moment = moment_of(row.cell())?;
     let error = Error::from(ErrorKind::OutOfMemory);
-    format!(in rt.alloc(); "{schedule:>9}|{schedule:.2}|{error:^20}|{moment:<30}|").expect(
-        rt, "memory",
-    )
-}
-
-#[test]
-fn options_of_a_hole_change_no_text(rt: HostRuntime) {
-    let schedule = read_schedule(&rt, "@daily");
-    let start = read_instant(&rt, "2022-11-06T05:00:00Z");
-    let moment = schedule.after(start, &TimeZone::UTC).next();
-    let told = shown_in_holes(&rt, &schedule, moment.expect(&rt, "no moment"));
-    check_same(
-        &rt,
-        told.as_str(),
-        "@daily|@daily|out of memory|2022-11-07 00:00:00 +00:00|",
-        "options",
-    );
+    row.add("", &matches!(error.kind(), ErrorKind::OutOfMemory))?;
+    let shown = format!(in row.alloc(); "{schedule:>9}|{schedule:.2}")?;
+    row.add(" ", &shown)?;
+    let shown = format!(in row.alloc(); "{error}|{error:^20}|{moment:<30}|")?;
+    Ok(row.add("|", &shown)?)
 }

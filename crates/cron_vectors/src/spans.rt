@@ -1,109 +1,138 @@
-//! 250 spans of 8 to 72 hours through the slow twin: 50 in each of five zones, 655,200 civil
-//! seconds around each of ten dates, 32,760,000 in all.
+//! Searches on a timeline, and spans of civil seconds.
+//!
+//! The row of a span has the instants before and after it, how many items it has, and its first and
+//! last second. What is told:
+//!
+//! - the answers of a walk from the first instant over all items and to the next one, of a walk back
+//!   from the other one over all and to the one before, and of a third that goes at each item back
+//!   to the one before and ahead again;
+//! - what both searches find from nine seconds of the span;
+//! - how many are included of the seconds before the items, of the items and of those after them.
 
-use crate::slow_twin::{Span, check_span, midnight};
-use crate::support::{chicago, read_date};
-use jiff::tz::{Offset, TimeZone};
-use std::process::Abort;
+use crate::answers::{NOTHING, Tally, add_all, number};
+use crate::walks::{add_calls, turns_of};
+use crate::words::first_word;
+use crate::zoned::Case;
+use anyhow::Result;
+use cron::queries::Search;
+use cron::schedule::Moment;
+use cron_rows::Row;
+use jiff::Timestamp;
+use jiff::civil::DateTime;
+use jiff::tz::Offset;
 
-// The text of a span, how many hours it begins before a date, and how many it lasts. The turns of
-// the zones lie in the first hours of their dates.
-const SPANS: [(&str, i64, i64); 5] = [
-    ("* * * * * *", 3, 8),
-    ("*/7 */3 * * * *", 12, 24),
-    ("59,0 59,0,30 23,0-3 * * Sat,Sun,Mon", 6, 30),
-    ("15 30 1,2 * Mar,Oct,Nov Sun", 24, 48),
-    ("0 0 */5 1,28-31 * ?", 36, 72),
-];
+/// The civil second with this number.
+fn shown(second: i64) -> Result<DateTime> {
+    Ok(Offset::UTC.to_datetime(Timestamp::from_second(second)?))
+}
 
-// Ends of months and years, leap days, and the ends of the range of years.
-const DATES: &[&str] = &[
-    "1970-01-02",
-    "1999-12-31",
-    "2000-02-29",
-    "2023-10-29",
-    "2024-02-29",
-    "2024-03-31",
-    "2038-01-19",
-    "2050-06-30",
-    "2100-03-01",
-    "2100-12-31",
-];
+/// Adds what calls of a fresh walk answer.
+fn add_walk(row: &mut Row<'_>, case: Case<'_>, start: Timestamp, calls: &str) -> Result<()> {
+    let turns = turns_of(row.alloc(), calls)?;
+    let mut walk = case.schedule.after(start, case.zone);
+    Ok(add_calls(row, "; ", &mut walk, turns.as_slice())?)
+}
 
-const CHICAGO: &[&str] = &[
-    "2007-03-11",
-    "2007-11-04",
-    "2012-03-11",
-    "2012-11-04",
-    "2019-03-10",
-    "2019-11-03",
-    "2024-03-10",
-    "2024-11-03",
-    "2030-03-10",
-    "2030-11-03",
-];
+/// Adds what walks there, back, and to and fro answer of so many items.
+fn add_walks(
+    row: &mut Row<'_>,
+    case: Case<'_>,
+    start: Timestamp,
+    end: Timestamp,
+    count: u32,
+) -> Result<()> {
+    for (from, calls, last) in [(start, ">", " >"), (end, "<", " <"), (start, "><>", "")] {
+        let calls = format!(in row.alloc(); "{count}*{calls}{last}")?;
+        add_walk(row, case, from, calls.as_str())?;
+    }
+    Ok(())
+}
 
-const LONDON: &[&str] = &[
-    "2007-03-25",
-    "2007-10-28",
-    "2012-03-25",
-    "2012-10-28",
-    "2019-03-31",
-    "2019-10-27",
-    "2024-03-31",
-    "2024-10-27",
-    "2030-03-31",
-    "2030-10-27",
-];
-
-// The spans around a date.
-fn check_around(rt: &(impl Abort + AllocGlobal), zone: &TimeZone<'_>, date: &str) {
-    let midnight = midnight(rt, read_date(rt, date));
-    for (text, lead, hours) in SPANS {
-        let first = midnight.saturating_sub(lead.saturating_mul(3600));
-        check_span(rt, text, zone, Span::new(first, hours));
+/// The one or two readings that a search found.
+fn readings(search: Search) -> (Option<Moment>, Option<Moment>) {
+    match search.found {
+        Some(found) => (Some(found.first), found.second),
+        None => (None, None),
     }
 }
 
-fn check_dates(rt: &(impl Abort + AllocGlobal), zone: &TimeZone<'_>, dates: &[&str]) {
-    for date in dates {
-        check_around(rt, zone, date);
+/// Both searches from nine seconds.
+fn search_all(case: Case<'_>, first: i64, last: i64) -> Result<Tally> {
+    let mut tally = NOTHING;
+    let length = last.saturating_sub(first);
+    for eighth in 0..9_i64 {
+        let from = shown(first.saturating_add(length.saturating_mul(eighth) / 8))?;
+        let ahead = case.schedule.first_at_or_after(from, case.zone);
+        let back = case.schedule.last_at_or_before(from, case.zone);
+        for (one, other) in [readings(ahead), readings(back)] {
+            tally.add(&one);
+            tally.add(&other);
+        }
     }
+    Ok(tally)
 }
 
-#[test]
-fn spans_of_utc(rt: HostRuntime) {
-    check_dates(&rt, &TimeZone::UTC, DATES);
+/// Of so many seconds from a first one, at this step, which are included.
+fn include(case: Case<'_>, first: i64, step: i64, count: u32) -> Result<Tally> {
+    let mut tally = NOTHING;
+    let mut second = first;
+    for _ in 0..count {
+        if case.schedule.includes(shown(second)?) {
+            tally.add_number(second);
+        }
+        second = second.saturating_add(step);
+    }
+    Ok(tally)
 }
 
-#[test]
-fn spans_of_an_offset_with_seconds(rt: HostRuntime) {
-    check_dates(
-        &rt,
-        &TimeZone::fixed(Offset::from_seconds(19_815).expect(&rt, "an offset")),
-        DATES,
-    );
+/// How many are included of the seconds at so many items and beside them.
+fn include_beside(case: Case<'_>, start: Timestamp, count: u32) -> Result<u64> {
+    let mut included = 0_u64;
+    for item in case.schedule.after(start, case.zone).take(count as usize) {
+        let before = number(item.datetime()).saturating_sub(1);
+        included = included.saturating_add(include(case, before, 1, 3)?.count);
+    }
+    Ok(included)
 }
 
-#[test]
-fn spans_of_an_offset_behind(rt: HostRuntime) {
-    check_dates(
-        &rt,
-        &TimeZone::fixed(Offset::from_seconds(-42_307).expect(&rt, "an offset")),
-        DATES,
-    );
+pub(crate) fn ask(row: &mut Row<'_>, case: Case<'_>) -> Result<()> {
+    let (start, end) = (row.cell().parse()?, row.cell().parse()?);
+    let count = row.cell().parse()?;
+    let (first, last) = (number(row.cell().parse()?), number(row.cell().parse()?));
+    add_walks(row, case, start, end, count)?;
+    row.add("; ", &search_all(case, first, last)?)?;
+    Ok(row.add("; included ", &include_beside(case, start, count)?)?)
 }
 
-#[test]
-fn spans_of_chicago(rt: HostRuntime) {
-    check_dates(&rt, &chicago(&rt), CHICAGO);
+pub(crate) fn ask_included(row: &mut Row<'_>, case: Case<'_>) -> Result<()> {
+    let first = number(row.cell().parse()?);
+    let (step, count) = (row.cell().parse()?, row.cell().parse()?);
+    Ok(row.add("", &include(case, first, step, count)?)?)
 }
 
-#[test]
-fn spans_of_london(rt: HostRuntime) {
-    check_dates(
-        &rt,
-        &TimeZone::posix("GMT0BST,M3.5.0/1,M10.5.0").expect(&rt, "a zone"),
-        LONDON,
-    );
+/// A row has `first`, at or after a civil second, or `last`, at or before it.
+pub(crate) fn ask_search(row: &mut Row<'_>, case: Case<'_>) -> Result<()> {
+    let (which, from) = first_word(row.cell());
+    let from = from.parse()?;
+    let search = if which == "first" {
+        case.schedule.first_at_or_after(from, case.zone)
+    } else {
+        case.schedule.last_at_or_before(from, case.zone)
+    };
+    let (one, other) = readings(search);
+    add_all(row, "", &[one])?;
+    if other.is_some() {
+        add_all(row, ", ", &[other])?;
+    }
+    Ok(row.add(", conversions ", &search.conversions)?)
+}
+
+/// A row has a civil second and the number of searches.
+pub(crate) fn ask_survey(row: &mut Row<'_>, case: Case<'_>) -> Result<()> {
+    let (from, count) = (row.cell().parse()?, row.cell().parse()?);
+    let survey = case.schedule.survey(from, case.zone, count);
+    row.add("", &"seconds")?;
+    row.add(" ", &survey.seconds)?;
+    row.add(", days ", &survey.days)?;
+    Ok(row.add(", conversions ", &survey.conversions)?)
 }

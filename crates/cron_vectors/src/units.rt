@@ -1,239 +1,194 @@
-//! What users see of a unit's set.
+//! Sets of units, and what is asked of them: of a schedule, or of items that are added one by one.
+//! A question is a word, or a word and a number or two bounds.
 
-use crate::support::{check, check_same, read_schedule};
-use cron::time_unit::{DaysOfMonth, Months, Ordinal, OrdinalRangeIter, Years};
-use cron::{Schedule, TimeUnitSpec};
-use std::fmt::Write;
-use std::ops::Bound::{Excluded, Included, Unbounded};
-use std::process::Abort;
+ghost use Rattle.std.specs.Prelude.{IfSome};
+ghost use Rattle.cron_units.specs.Bounds.{IsForward};
 
-// The ordinals from the front.
-fn ahead(rt: &(impl Abort + AllocGlobal), ordinals: OrdinalRangeIter<'_>) -> String {
-    let mut text = String::new(rt.alloc());
-    for ordinal in ordinals {
-        write!(text, "{ordinal} ").expect(rt, "memory");
-    }
-    text
+use crate::words::first_word;
+use anyhow::{Context, Result, bail};
+use cron::Schedule;
+use cron::time_unit::Ordinal;
+use cron_rows::Row;
+use cron_units::specifier::{Base, Item, RefusedItem, add_item, item_error};
+use cron_units::time_unit::{
+    DaysOfMonth, DaysOfWeek, Hours, Months, Seconds, TimeUnitField, TimeUnitSpec, Years, empty,
+    only, whole,
+};
+use cron_units::way::Way;
+use std::fmt::Debug;
+use std::ops::Bound;
+
+/// Adds what a value shows to a programmer.
+fn add_shown(row: &mut Row<'_>, value: &impl Debug) -> Result<()> {
+    Ok(row.add(" ", &format_args!("{value:?}"))?)
 }
 
-// The ordinals from the back.
-fn back(rt: &(impl Abort + AllocGlobal), ordinals: OrdinalRangeIter<'_>) -> String {
-    let mut text = String::new(rt.alloc());
-    for ordinal in ordinals.rev() {
-        write!(text, "{ordinal} ").expect(rt, "memory");
-    }
-    text
-}
-
-fn check_ahead(rt: &(impl Abort + AllocGlobal), ordinals: OrdinalRangeIter<'_>, wanted: &str) {
-    let listed = ahead(rt, ordinals);
-    check_same(rt, listed.as_str(), wanted, wanted);
-}
-
-fn check_back(rt: &(impl Abort + AllocGlobal), ordinals: OrdinalRangeIter<'_>, wanted: &str) {
-    let listed = back(rt, ordinals);
-    check_same(rt, listed.as_str(), wanted, wanted);
-}
-
-// One of the calls that answer these ordinals.
-fn check_answer(
-    rt: &impl Abort,
-    answer: Option<Ordinal>,
-    wanted: Option<Ordinal>,
-    ordinals: &[Ordinal],
-) {
-    assert_eq!(rt; answer, wanted, "of {ordinals:?}");
-}
-
-// Single calls to the front, up to the first `None`.
-fn check_next(rt: &impl Abort, ordinals: &mut OrdinalRangeIter<'_>, wanted: &[Ordinal]) {
-    for ordinal in wanted {
-        check_answer(rt, ordinals.next(), Some(*ordinal), wanted);
-    }
-    check_answer(rt, ordinals.next(), None, wanted);
-}
-
-// Single calls to the back, up to the first `None`.
-fn check_next_back(rt: &impl Abort, ordinals: &mut OrdinalRangeIter<'_>, wanted: &[Ordinal]) {
-    for ordinal in wanted {
-        check_answer(rt, ordinals.next_back(), Some(*ordinal), wanted);
-    }
-    check_answer(rt, ordinals.next_back(), None, wanted);
-}
-
-// How many ordinals a set has, which isn't whole.
-fn check_count(rt: &impl Abort, set: &impl TimeUnitSpec, wanted: u32) {
-    assert_eq!(rt; set.count(), wanted);
-    check(rt, !set.is_all(), "a set that isn't whole");
-}
-
-// A set's ordinals one by one, up to the first `None`.
-fn check_members(rt: &impl Abort, set: &impl TimeUnitSpec, wanted: &[Ordinal]) {
+/// The members from both ends in turn, and then that both are at the end.
+fn ask_in_turn<T: TimeUnitSpec>(row: &mut Row<'_>, set: &T) -> Result<()> {
     let mut members = set.iter();
-    for ordinal in wanted {
-        check_answer(rt, members.next(), Some(*ordinal), wanted);
+    for _ in 0..=set.count() / 2 {
+        add_shown(row, &members.next())?;
+        add_shown(row, &members.next_back())?;
     }
-    check_answer(rt, members.next(), None, wanted);
+    Ok(())
 }
 
-fn check_summer(rt: &impl Abort, months: &Months) {
-    check(rt, months.includes(6), "June");
-    check(rt, !months.includes(4), "April");
-    check(rt, !months.includes(4_294_967_295), "no month");
-    check_count(rt, months, 4);
-    check_members(rt, months, &[5, 6, 7, 8]);
+/// A bound of a range: `=5` with the number, `~5` without it, `-` for none.
+fn bound(word: &str) -> Result<Bound<Ordinal>> {
+    if let Some(number) = word.strip_prefix('=') {
+        return Ok(Bound::Included(number.parse()?));
+    }
+    if let Some(number) = word.strip_prefix('~') {
+        return Ok(Bound::Excluded(number.parse()?));
+    }
+    Ok(Bound::Unbounded)
 }
 
-#[test]
-fn months_in_summer(rt: HostRuntime) {
-    let schedule = read_schedule(&rt, "* * * * 5-8 * *");
-    check_summer(&rt, schedule.months());
-}
+type Bounds = (Bound<Ordinal>, Bound<Ordinal>);
 
-// Calls to both ends in turn.
-fn check_ends(rt: &impl Abort, months: &Months) {
-    let mut members = months.iter();
-    for (first, last) in [(Some(5), Some(8)), (Some(6), Some(7)), (None, None)] {
-        check(rt, members.next() == first, "the first one");
-        check(rt, members.next_back() == last, "the last one");
+/// The bounds, where they don't step back.
+fn forward(bounds: Bounds) -> Option<Bounds>
+    ensures { IfSome result (λ b. IsForward b.0 b.1) }
+{
+    match bounds {
+        (Bound::Unbounded, _) | (_, Bound::Unbounded) => Some(bounds),
+        (Bound::Excluded(low), Bound::Excluded(high)) if low < high => Some(bounds),
+        (Bound::Included(low), Bound::Included(high)) if low <= high => Some(bounds),
+        (Bound::Included(low), Bound::Excluded(high)) if low <= high => Some(bounds),
+        (Bound::Excluded(low), Bound::Included(high)) if low <= high => Some(bounds),
+        _ => None,
     }
 }
 
-#[test]
-fn the_ends_of_a_set_meet(rt: HostRuntime) {
-    let schedule = read_schedule(&rt, "* * * * 5-8 * *");
-    check_ends(&rt, schedule.months());
+/// The members between two bounds: ahead; back; and from the front, the back and the front.
+fn ask_range<T: TimeUnitSpec>(row: &mut Row<'_>, set: &T, words: &str) -> Result<()> {
+    let (low, high) = first_word(words);
+    let bounds = (bound(low)?, bound(high)?);
+    let bounds = forward(bounds).context("the bounds step back")?;
+    for member in set.range(bounds) {
+        row.add(" ", &member)?;
+    }
+    row.add("", &";")?;
+    for member in set.range(bounds).rev() {
+        row.add(" ", &member)?;
+    }
+    row.add("", &";")?;
+    let mut members = set.range(bounds);
+    add_shown(row, &members.next())?;
+    add_shown(row, &members.next_back())?;
+    add_shown(row, &members.next())
 }
 
-// Ranges of months, by single calls to their ends.
-fn check_months_one_by_one(rt: &impl Abort, months: &Months) {
-    check_next(rt, &mut months.range((Unbounded, Unbounded)), &[5, 6, 7, 8]);
-    // Between neighbours, and past the greatest.
-    check_next(rt, &mut months.range((Excluded(5), Excluded(6))), &[]);
-    check_next(rt, &mut months.range((Excluded(8), Unbounded)), &[]);
+/// What is asked of a set.
+fn ask_set<T: TimeUnitSpec>(row: &mut Row<'_>, set: &T, question: &str) -> Result<()> {
+    match first_word(question) {
+        ("count", _) => row.add(" ", &set.count())?,
+        ("all", _) => row.add(" ", &set.is_all())?,
+        ("includes", number) => row.add(" ", &set.includes(number.parse()?))?,
+        ("turns", _) => ask_in_turn(row, set)?,
+        ("range", bounds) => ask_range(row, set, bounds)?,
+        _ => {
+            for member in set.iter() {
+                row.add(" ", &member)?;
+            }
+        }
+    }
+    Ok(())
 }
 
-fn check_ranges_of_months(rt: &(impl Abort + AllocGlobal), months: &Months) {
-    check_ahead(rt, months.range((Included(1), Included(6))), "5 6 ");
-    check_ahead(rt, months.range((Unbounded, Unbounded)), "5 6 7 8 ");
-    check_ahead(rt, months.range((Excluded(5), Excluded(6))), "");
-    check_ahead(rt, months.range((Excluded(8), Unbounded)), "");
-    check_ahead(
-        rt,
-        months.range((Included(0), Included(4_294_967_295))),
-        "5 6 7 8 ",
-    );
-    check_months_one_by_one(rt, months);
+/// A row has the unit and the question.
+pub(crate) fn ask_of_schedule(row: &mut Row<'_>, schedule: &Schedule) -> Result<()> {
+    let (unit, question) = (row.cell(), row.cell());
+    match unit {
+        "seconds" => ask_set(row, schedule.seconds(), question),
+        "minutes" => ask_set(row, schedule.minutes(), question),
+        "hours" => ask_set(row, schedule.hours(), question),
+        "days of month" if question == "last day" => {
+            Ok(row.add("", &schedule.days_of_month().last_day())?)
+        }
+        "days of month" => ask_set(row, schedule.days_of_month(), question),
+        "months" => ask_set(row, schedule.months(), question),
+        "days of week" => ask_set(row, schedule.days_of_week(), question),
+        "years" => ask_set(row, schedule.years(), question),
+        _ => bail!("{unit:?} is no unit"),
+    }
 }
 
-#[test]
-fn ranges_of_months(rt: HostRuntime) {
-    let schedule = read_schedule(&rt, "* * * * 5-8 * *");
-    check_ranges_of_months(&rt, schedule.months());
+/// An item: a name, `*`, a number or a range, and a step.
+fn item_of(text: &str) -> Result<Item<'_>> {
+    if text.starts_with(|character| char::is_ascii_alphabetic(&character)) {
+        return Ok(Item::Name(text));
+    }
+    let (base, step) = text.split_once('/').unwrap_or((text, ""));
+    let base = match base.split_once('-') {
+        Some((first, last)) => Base::NumberRange(first.parse()?, last.parse()?),
+        None if base == "*" => Base::Every,
+        None => Base::Single(base.parse()?),
+    };
+    if step.is_empty() {
+        return Ok(Item::Plain(base));
+    }
+    Ok(Item::Stepped(base, step.parse()?))
 }
 
-fn check_two_days(rt: &(impl Abort + AllocGlobal), days: &DaysOfMonth) {
-    check(rt, days.includes(1), "the first");
-    check(rt, !days.includes(7), "the seventh");
-    check_count(rt, days, 2);
-    check_members(rt, days, &[1, 15]);
-    check_ahead(rt, days.range((Included(5), Included(25))), "15 ");
-    check_ahead(rt, days.range((Included(10), Included(20))), "15 ");
+/// The set of items. Of each that is refused the message is told, also as that of an error.
+fn set_of<T: TimeUnitField>(row: &mut Row<'_>, items: &str) -> Result<T> {
+    let mut set = empty::<T>();
+    for item in items.split(',') {
+        if let Err(refusal) = add_item(&mut set, item_of(item)?) {
+            let item = RefusedItem {
+                definition: T::definition(),
+                refusal,
+            };
+            row.add(" ", &item)?;
+            row.add(" ", &item_error(row.alloc(), item))?;
+        }
+    }
+    Ok(set)
 }
 
-#[test]
-fn two_days_of_a_month(rt: HostRuntime) {
-    let schedule = read_schedule(&rt, "* * * 1,15 * * *");
-    check_two_days(&rt, schedule.days_of_month());
+/// Whether a set is that of one number, of none, and of all.
+fn ask_same<T: TimeUnitField + PartialEq>(row: &mut Row<'_>, set: &T, number: &str) -> Result<()> {
+    let ordinal: Ordinal = number.parse()?;
+    if ordinal < T::inclusive_min() || T::inclusive_max() < ordinal {
+        bail!("{ordinal} is no number of the unit");
+    }
+    let (one, none, all) = (only::<T>(ordinal), empty::<T>(), whole::<T>());
+    add_shown(row, &(*set == one, *set == none, *set == all))
 }
 
-// Ranges of years, by single calls to their ends.
-fn check_years_one_by_one(rt: &impl Abort, years: &Years) {
-    let mut ahead = years.range((Included(2017), Excluded(2022)));
-    check_next(rt, &mut ahead, &[2017, 2018, 2019, 2020, 2021]);
-    let mut back = years.range((Included(2017), Excluded(2022)));
-    check_next_back(rt, &mut back, &[2021, 2020, 2019, 2018, 2017]);
-    check_next(rt, &mut years.range((Excluded(2017), Included(2017))), &[]);
+/// What is asked of a unit, or of the set of some items.
+fn ask_unit<T: TimeUnitField + TimeUnitSpec + PartialEq>(
+    row: &mut Row<'_>,
+    items: &str,
+    question: &str,
+) -> Result<()> {
+    let set = set_of::<T>(row, items)?;
+    match first_word(question) {
+        ("title", _) => Ok(row.add("", &T::name())?),
+        ("mark", _) => Ok(row.add("", &T::takes_question_mark())?),
+        ("named", name) => add_shown(row, &T::ordinal_from_name(name)),
+        ("ahead", from) => add_shown(row, &set.nearest(Way::Ahead, from.parse()?)),
+        ("back", from) => add_shown(row, &set.nearest(Way::Back, from.parse()?)),
+        ("same", number) => ask_same(row, &set, number),
+        _ => ask_set(row, &set, question),
+    }
 }
 
-fn check_ranges_of_years(rt: &(impl Abort + AllocGlobal), years: &Years) {
-    check(rt, years.count() == 30, "thirty years");
-    check(rt, years.includes(2031), "2031");
-    check(rt, !years.includes(1969), "1969");
-    check_ahead(
-        rt,
-        years.range((Included(2017), Excluded(2022))),
-        "2017 2018 2019 2020 2021 ",
-    );
-    check_back(
-        rt,
-        years.range((Included(2017), Excluded(2022))),
-        "2021 2020 2019 2018 2017 ",
-    );
-    check_ahead(rt, years.range((Excluded(2017), Included(2017))), "");
-    check_years_one_by_one(rt, years);
-}
-
-#[test]
-fn ranges_of_years(rt: HostRuntime) {
-    let schedule = read_schedule(&rt, "* * * * * * 2015-2044");
-    check_ranges_of_years(&rt, schedule.years());
-}
-
-fn check_years_far_apart(rt: &(impl Abort + AllocGlobal), years: &Years) {
-    check(rt, years.count() == 6, "six years");
-    check_ahead(
-        rt,
-        years.range((Excluded(2033), Excluded(2098))),
-        "2034 2097 ",
-    );
-    check_back(
-        rt,
-        years.range((Excluded(2033), Excluded(2098))),
-        "2097 2034 ",
-    );
-}
-
-#[test]
-fn years_far_apart(rt: HostRuntime) {
-    let text = "* * * * * * 1970,2033,2034,2097,2098,2100";
-    let schedule = read_schedule(&rt, text);
-    check_years_far_apart(&rt, schedule.years());
-}
-
-// Which sets are whole, from seconds to years.
-fn whole_sets(schedule: &Schedule) -> [bool; 7] {
-    [
-        schedule.seconds().is_all(),
-        schedule.minutes().is_all(),
-        schedule.hours().is_all(),
-        schedule.days_of_month().is_all(),
-        schedule.months().is_all(),
-        schedule.days_of_week().is_all(),
-        schedule.years().is_all(),
-    ]
-}
-
-fn check_whole_sets(rt: &(impl Abort + AllocGlobal), text: &str, wanted: [bool; 7]) {
-    let schedule = read_schedule(rt, text);
-    check(rt, whole_sets(&schedule) == wanted, text);
-}
-
-#[test]
-fn a_whole_range_however_written(rt: HostRuntime) {
-    let wanted = [true, true, true, false, false, true, true];
-    check_whole_sets(&rt, "0-59 * 0-23 ?/2 1,2-4 ? *", wanted);
-    let wanted = [true, true, true, false, true, true, true];
-    check_whole_sets(&rt, "* * * 1,15 * * *", wanted);
-}
-
-fn check_seconds(rt: &(impl Abort + AllocGlobal), text: &str, wanted: u32) {
-    let schedule = read_schedule(rt, text);
-    check(rt, schedule.seconds().count() == wanted, text);
-}
-
-#[test]
-fn counts_of_seconds(rt: HostRuntime) {
-    check_seconds(&rt, "1,2,3/5 * * * * *", 14);
-    check_seconds(&rt, "0-40 * * * * *", 41);
+/// A row has the unit, items and the question.
+pub(crate) fn ask_of_items(row: &mut Row<'_>) -> Result<()> {
+    let (unit, items, question) = (row.cell(), row.cell(), row.cell());
+    match unit {
+        "seconds" => ask_unit::<Seconds>(row, items, question),
+        "hours" => ask_unit::<Hours>(row, items, question),
+        "days of month" if question == "last day" => {
+            let days = set_of::<DaysOfMonth>(row, items)?;
+            Ok(row.add(" ", &days.last_day())?)
+        }
+        "days of month" => ask_unit::<DaysOfMonth>(row, items, question),
+        "months" => ask_unit::<Months>(row, items, question),
+        "days of week" => ask_unit::<DaysOfWeek>(row, items, question),
+        "years" => ask_unit::<Years>(row, items, question),
+        _ => bail!("{unit:?} is no unit"),
+    }
 }

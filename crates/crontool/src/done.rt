@@ -1,11 +1,11 @@
 //! The subcommand `done`.
 
-use crate::machine::complain;
 use clap::ArgMatches;
+use cron_answers::done::{self, Request};
 use cron_notes::machine::MachineStore;
-use cron_tool::done::{self, Request};
-use cron_tool::status::Status;
+use cron_replies::status::Status;
 use cron_writer::watched::Watched;
+use crontool_machine::machine::complain;
 
 fn request_of<'a>(words: &ArgMatches<'a>) -> Option<Request<'a>> {
     Some(Request {

@@ -1,13 +1,13 @@
 //! The subcommand `explain`.
 
-use crate::commands::{changes_of, form_of};
-use crate::machine::{Surroundings, complain};
 use clap::ArgMatches;
-use cron_tool::answer::{Request, Which};
-use cron_tool::explain::explain;
-use cron_tool::status::Status;
+use cron_answers::answer::{Request, Which};
+use cron_answers::explain::explain;
+use cron_replies::status::Status;
 use cron_writer::watched::Watched;
 use cron_zones::machine::MachineFiles;
+use crontool_machine::choices::{changes_of, form_of};
+use crontool_machine::machine::{Surroundings, complain};
 use std::io;
 
 /// How many fires are listed.

@@ -1,12 +1,12 @@
 //! The subcommand `late`.
 
-use crate::commands::changes_of;
-use crate::machine::{Surroundings, complain};
 use clap::ArgMatches;
-use cron_tool::late::{self, Request};
-use cron_tool::status::Status;
+use cron_answers::late::{self, Request};
+use cron_replies::status::Status;
 use cron_writer::watched::Watched;
 use cron_zones::machine::MachineFiles;
+use crontool_machine::choices::changes_of;
+use crontool_machine::machine::{Surroundings, complain};
 use std::io;
 
 fn request_of<'a>(words: &ArgMatches<'a>) -> Option<Request<'a>> {

@@ -1,39 +1,25 @@
-//! `crontool` tells of cron expressions at a shell. Each subcommand is a call of `cron_tool`, of
-//! `cron_running` where something is waited for, or of `cron_checking` where the lines of a file
-//! are expressions.
+//! `crontool` tells of cron expressions and crontabs at a shell. Subcommands that tell of crontabs
+//! are those of `crontool_tabs`, those that wait for fires of `crontool_runs`, and the others calls
+//! of `cron_answers`.
 #![tactic(auto)]
 
-mod alarm;
-mod calendar;
-mod check;
-mod collisions;
-mod commands;
-mod compare;
 mod done;
 mod due;
 mod explain;
-mod follow;
-mod ics;
 mod late;
-mod list;
-mod machine;
 mod oncalendar;
 mod overlap;
-mod pair;
-mod run;
-mod state;
-mod subcommands;
-mod watch;
-mod words;
-mod zones;
 
 use clap::{ArgMatches, Error};
-use commands::{command, request_of};
-use cron_tool::answer::{Request, answer};
-use cron_tool::status::Status;
+use cron_answers::answer::{Request, answer};
+use cron_replies::status::Status;
 use cron_writer::watched::Watched;
 use cron_zones::machine::MachineFiles;
-use machine::{Surroundings, complain};
+use crontool_machine::machine::{Surroundings, complain};
+use crontool_runs::{alarm, run};
+use crontool_tabs::{calendar, check, collisions, compare, ics, list};
+use crontool_words::commands::{command, request_of, usages_of};
+use crontool_words::completions;
 use std::process::ExitCode;
 use std::{env, io};
 
@@ -45,7 +31,7 @@ fn arguments_of(rt: &HostRuntime) -> io::Result<Vec<String>> {
 // Prints a help, or what is wrong with the words, and answers the exit status.
 fn say(rt: &HostRuntime, error: &Error) -> u8 {
     if error.print(rt).is_err() {
-        return Status::WriteFailed.code();
+        return end(rt, Status::WriteFailed);
     }
     if error.use_stderr() {
         Status::WrongWords.code()
@@ -81,7 +67,6 @@ fn answer_words(rt: &HostRuntime, name: &str, words: &ArgMatches<'_>) -> Status 
         "list" => list::answer(rt, words),
         "late" => late::answer(rt, words),
         "due" => due::answer(rt, words),
-        "done" => done::answer(rt, words),
         "check" => check::answer(rt, words),
         "compare" => compare::answer(rt, words),
         "overlap" => overlap::answer(rt, words),
@@ -90,8 +75,7 @@ fn answer_words(rt: &HostRuntime, name: &str, words: &ArgMatches<'_>) -> Status 
         "explain" => explain::answer(rt, words),
         "calendar" => calendar::answer(rt, words),
         "ics" => ics::answer(rt, words),
-        "run" => run::answer(rt, words),
-        "alarm" => alarm::answer(rt, words),
+        "completions" => completions::answer(rt, words),
         _ => match request_of(name, words) {
             Some(request) => match answer_request(rt, &request) {
                 Ok(status) | Err(status) => status,
@@ -101,17 +85,47 @@ fn answer_words(rt: &HostRuntime, name: &str, words: &ArgMatches<'_>) -> Status 
     }
 }
 
-fn answer_arguments(rt: &HostRuntime) -> u8 {
-    let Ok(arguments) = arguments_of(rt) else {
-        return give_up(rt, "an argument is not UTF-8", Status::WrongWords);
+// The name that the program was called by, without its folder.
+fn program_of<'a>(arguments: &'a [String]) -> &'a str {
+    let Some(first) = arguments.first() else {
+        return "crontool";
     };
-    let command = match command(rt.alloc()) {
+    match first.as_str().rsplit_once('/') {
+        Some((_, name)) => name,
+        None => first.as_str(),
+    }
+}
+
+// Says that a write failed, where that can still be said, and answers the exit status.
+fn end(rt: &HostRuntime, status: Status) -> u8 {
+    if status == Status::WriteFailed {
+        let _said = eprintln!(rt; "error: a write failed");
+    }
+    status.code()
+}
+
+// Answers a subcommand, and its exit status. `alarm`, `done` and `run` say themselves what they
+// couldn't write.
+fn answer_subcommand(rt: &HostRuntime, name: &str, words: &ArgMatches<'_>) -> u8 {
+    match name {
+        "alarm" => alarm::answer(rt, words).code(),
+        "done" => done::answer(rt, words).code(),
+        "run" => run::answer(rt, words).code(),
+        _ => end(rt, answer_words(rt, name, words)),
+    }
+}
+
+fn answer_arguments(rt: &HostRuntime, arguments: &[String]) -> u8 {
+    let Ok(usages) = usages_of(rt.alloc(), program_of(arguments)) else {
+        return give_up(rt, "out of memory", Status::WrongWords);
+    };
+    let command = match command(rt.alloc(), usages.as_slice()) {
         Ok(command) => command,
         Err(_) => return give_up(rt, "out of memory", Status::WrongWords),
     };
-    match command.try_get_matches_from(arguments.as_slice()) {
+    match command.try_get_matches_from(arguments) {
         Ok(matches) => match matches.subcommand() {
-            Some((name, words)) => answer_words(rt, name, words).code(),
+            Some((name, words)) => answer_subcommand(rt, name, words),
             None => give_up(rt, "a subcommand is missing", Status::WrongWords),
         },
         Err(error) => say(rt, &error),
@@ -119,5 +133,9 @@ fn answer_arguments(rt: &HostRuntime) -> u8 {
 }
 
 fn main(rt: HostRuntime) -> ExitCode {
-    ExitCode::from(answer_arguments(&rt))
+    let rt = &rt;
+    ExitCode::from(match arguments_of(rt) {
+        Ok(arguments) => answer_arguments(rt, arguments.as_slice()),
+        Err(_) => give_up(rt, "an argument is not UTF-8", Status::WrongWords),
+    })
 }

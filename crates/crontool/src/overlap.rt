@@ -1,11 +1,11 @@
 //! The subcommand `overlap`.
 
-use crate::machine::complain;
-use crate::pair::pair_of;
 use clap::ArgMatches;
-use cron_tool::overlap::overlap;
-use cron_tool::status::Status;
+use cron_answers::overlap::overlap;
+use cron_replies::status::Status;
 use cron_writer::watched::Watched;
+use crontool_machine::machine::complain;
+use crontool_machine::pair::pair_of;
 use std::io;
 
 /// Does what the words ask for.

@@ -6,7 +6,7 @@ import ctypes
 import pathlib
 import struct
 from functools import partial
-from typing import Any, Callable, FrozenSet, Iterable, Iterator, List, Optional, Tuple
+from typing import Any, Callable, Dict, FrozenSet, Iterable, Iterator, List, Optional, Tuple
 
 from .errors import CronError, TextError, ZoneError
 
@@ -127,13 +127,14 @@ def _load() -> ctypes.CDLL:
     library.cron_c_canonical.argtypes = [pointer(Sets)] + text + [pointer(size)]
     library.cron_c_zone_parse.argtypes = text + [pointer(Zone)]
     page: List[Any] = [instant, pointer(Item), size, pointer(size)]
-    asked = {
+    subjects: Dict[str, List[Any]] = {"history": [pointer(Sets)], "union": [pointer(Sets), size]}
+    asked: Dict[str, List[Any]] = {
         **dict.fromkeys(("fire_after", "fire_by", "due_after", "due_by"), [instant, pointer(Item)]),
         **dict.fromkeys(("fires_between", "dues_between"), [instant] + page),
         **dict.fromkeys(("fires_past", "dues_past"), [pointer(Item)] + page),
     }
     for call, arguments in asked.items():
-        for name, schedules in (("history", [pointer(Sets)]), ("union", [pointer(Sets), size])):
+        for name, schedules in subjects.items():
             getattr(library, f"cron_c_{name}_{call}").argtypes = [*schedules, pointer(Era), size, *arguments]
             getattr(library, f"cron_c_{name}_{call}").restype = ctypes.c_uint32
     library.cron_c_history_read.argtypes = [ctypes.c_char_p, size, pointer(Era), size, pointer(size)]
@@ -165,11 +166,11 @@ def _with_note(error: TextError, text: str) -> TextError:
     return error
 
 
-def _read(call: Callable[..., int], text: str) -> bool:
+def _read(call: Callable[..., Any], text: str) -> bool:
     """Calls with a text, and with room for the message that refuses it. Returns whether it has a meaning that fires."""
     told, needed = text.encode("utf-8", "surrogatepass"), ctypes.c_size_t()
     message = ctypes.create_string_buffer(_message_room(len(told)))
-    status = call(told, message, needed)
+    status: int = call(told, message, needed)
     if status == REFUSED:
         raise TextError(message.raw[: needed.value].decode())
     if status == NOT_UTF8:

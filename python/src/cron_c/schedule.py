@@ -80,13 +80,15 @@ class Schedule:
     def crontab(cls, text: str) -> Schedule:
         """The meaning of a crontab's expression: five fields, or a nickname. Where neither the third nor
         the fifth field begins with a star one kind of day suffices, and `days_of_month` and `days_of_week`
-        are then all days. `@reboot`, which no clock fires, is refused."""
+        are then all days. `@reboot`, which no clock fires, and a text of two lines are refused. Both crons
+        fire it as by `clock_changes="once"`, unless its minute or hour begins with a star, or it is `@hourly`."""
         return cls._of_crontab(text, library.parse_crontab(_checked(text)))
 
     @classmethod
     def crontab_line(cls, line: str, *, system: bool = False) -> Optional[Schedule]:
         """The meaning of a crontab's line, without its line feed; in a system crontab its entries name a
-        user. None where it is blank, a comment or a setting. Its text is the expression in front."""
+        user. None where it is blank, a comment or a setting, so also for `CRON_TZ`, whose zone isn't told.
+        Its text is the expression in front. A text of two lines is refused."""
         schedules = library.parse_crontab_line(_checked(line), system)
         if schedules is None:
             return None

@@ -1,16 +1,12 @@
-//! The heat maps of a year.
-ghost use Rattle.std.specs.Prelude.{◌<◌, ◌≤◌};
+//! The heat maps of a year, and the strips of its entries: which parts their drawings have.
+ghost use Rattle.std.specs.Prelude.{◌≡◌, ◌<◌, ◌≤◌, fold};
+ghost use Rattle.cron_calendar.specs.Pages.{most_of};
 
 use super::Year;
-use super::pieces::{days_before, level_of, push_number, push_text};
+use super::pieces::{days_before, level_of};
+use super::shapes::{Shape, Word};
 use cron_moments::calendar::KnownMonth;
-use std::alloc::AllocError;
-
-const MONTHS: [&str; 12] = [
-    "Jan", "Feb", "Mar", "Apr", "May", "Jun", "Jul", "Aug", "Sep", "Oct", "Nov", "Dec",
-];
-
-const WEEKDAYS: [&str; 7] = ["Mon", "Tue", "Wed", "Thu", "Fri", "Sat", "Sun"];
+use std::alloc::{AllocError, Global};
 
 // Where the squares begin, and how far one is from the next.
 const LEFT: u32 = 34;
@@ -19,8 +15,10 @@ const TOP: u32 = 20;
 
 const STEP: u32 = 14;
 
-// The greatest of some numbers.
-fn most_of(counts: &[u32]) -> u32 {
+/// The greatest of some numbers.
+pub(super) fn most_of(counts: &[u32]) -> u32
+    ensures { result ≡ most_of counts.now }
+{
     let mut most = 0;
     for count in counts {
         most = most.max(*count);
@@ -28,109 +26,74 @@ fn most_of(counts: &[u32]) -> u32 {
     most
 }
 
-// Pushes where a part of a drawing stands.
-fn push_place(page: &mut Vec<u8>, x: u32, y: u32) -> Result<(), AllocError> {
-    push_text(page, " x=\"")?;
-    push_number(page, x)?;
-    push_text(page, "\" y=\"")?;
-    push_number(page, y)?;
-    push_text(page, "\"")
-}
-
-// Pushes the square of a day, which stands at a place from the first Monday on.
-fn push_square(page: &mut Vec<u8>, place: u32, count: u32, most: u32) -> Result<(), AllocError>
+// The square of a day, which stands at a place from the first Monday on.
+fn square_of(place: u32, count: u32, most: u32) -> Shape
     requires { place < 400 }
 {
-    push_text(page, "<rect class=\"l")?;
-    push_number(page, level_of(count, most))?;
-    push_text(page, "\"")?;
-    push_place(page, LEFT + place / 7 * STEP, TOP + place % 7 * STEP)?;
-    push_text(page, " width=\"12\" height=\"12\" rx=\"2\"/>\n")
+    Shape::Square {
+        level: level_of(count, most),
+        x: LEFT + place / 7 * STEP,
+        y: TOP + place % 7 * STEP,
+    }
 }
 
-// Pushes the squares of the days.
-fn push_squares(page: &mut Vec<u8>, lead: u32, days: &[u32]) -> Result<(), AllocError>
+// Adds the squares of the days.
+fn add_squares(shapes: &mut Vec<Shape>, lead: u32, days: &[u32]) -> Result<(), AllocError>
     requires { lead < 7 }
 {
     let most = most_of(days);
     for place in 0..days.len().min(366) {
-        push_square(page, lead + place as u32, days[place], most)?;
+        shapes.push(square_of(lead + place as u32, days[place], most))?;
     }
     Ok(())
 }
 
-// Pushes a word of a drawing.
-fn push_word(page: &mut Vec<u8>, x: u32, y: u32, word: &str) -> Result<(), AllocError> {
-    push_text(page, "<text")?;
-    push_place(page, x, y)?;
-    push_text(page, ">")?;
-    push_text(page, word)?;
-    push_text(page, "</text>\n")
-}
-
-// Pushes the names of the months above the squares.
-fn push_months(page: &mut Vec<u8>, year: u32, lead: u32) -> Result<(), AllocError>
+// Adds the names of the months above the squares.
+fn add_months(shapes: &mut Vec<Shape>, year: u32, lead: u32) -> Result<(), AllocError>
     requires year { (1970 ≤ year) × (year ≤ 2100) }
     requires lead { lead < 7 }
 {
     for month in 0..12 {
         let days = days_before(year * 12 + month).min(366);
-        push_word(
-            page,
-            LEFT + (lead + days) / 7 * STEP,
-            14,
-            MONTHS[month as usize],
-        )?;
+        shapes.push(Shape::Label {
+            word: Word::Month(month),
+            x: LEFT + (lead + days) / 7 * STEP,
+            y: 14,
+        })?;
     }
     Ok(())
 }
 
-// Pushes the days of the week beside the squares.
-fn push_weekdays(page: &mut Vec<u8>) -> Result<(), AllocError> {
+// Adds the days of the week beside the squares.
+fn add_weekdays(shapes: &mut Vec<Shape>) -> Result<(), AllocError> {
     for day in 0..7 {
-        push_word(page, 0, TOP + day as u32 * STEP + 10, WEEKDAYS[day])?;
+        shapes.push(Shape::Label {
+            word: Word::Weekday(day),
+            x: 0,
+            y: TOP + day * STEP + 10,
+        })?;
     }
     Ok(())
 }
 
-/// Pushes the heat map by day.
-pub(super) fn push_days_map(page: &mut Vec<u8>, year: &Year<'_>) -> Result<(), AllocError>
+// In how many places of its first week a year hasn't begun: weeks begin with Monday.
+fn lead_of(year: u32) -> u32
+    requires { (1970 ≤ year) × (year ≤ 2100) }
+    ensures { result < 7 }
+{
+    (KnownMonth::of_number(year * 12).first_day() + 3) % 7
+}
+
+/// The heat map by day.
+pub(super) fn days_map(alloc: Global, year: &Year<'_>) -> Result<Vec<Shape>, AllocError>
     requires { (1970 ≤ year.now.year) × (year.now.year ≤ 2100) }
 {
-    let lead = (KnownMonth::of_number(year.year * 12).first_day() + 3) % 7;
-    push_text(
-        page,
-        "<h2>By day</h2>\n<svg class=\"map\" viewBox=\"0 0 790 120\" role=\"img\" ",
-    )?;
-    push_text(
-        page,
-        "aria-label=\"Fires of each day, as in the table below\">\n",
-    )?;
-    push_months(page, year.year, lead)?;
-    push_weekdays(page)?;
-    push_squares(page, lead, year.days)?;
-    push_text(
-        page,
-        "</svg>\n<p class=\"scale\">fewer <span class=\"b0\"></span><span class=\"b1\">",
-    )?;
-    push_text(
-        page,
-        "</span><span class=\"b2\"></span><span class=\"b3\"></span>",
-    )?;
-    push_text(page, "<span class=\"b4\"></span> more, up to ")?;
-    push_number(page, most_of(year.days))?;
-    push_text(page, " a day</p>\n")
-}
-
-// Pushes the days from one on, in a strip of all of them.
-fn push_run(page: &mut Vec<u8>, first: usize, end: usize) -> Result<(), AllocError>
-    requires { (first ≤ end) × (end ≤ 366) }
-{
-    push_text(page, "<rect")?;
-    push_place(page, first as u32, 0)?;
-    push_text(page, " width=\"")?;
-    push_number(page, (end - first) as u32)?;
-    push_text(page, "\" height=\"10\"/>")
+    let lead = lead_of(year.year);
+    let mut shapes = Vec::new(alloc);
+    add_months(&mut shapes, year.year, lead)?;
+    add_weekdays(&mut shapes)?;
+    add_squares(&mut shapes, lead, year.days)?;
+    Ok(shapes)
 }
 
 // Where a run of days with fires ends.
@@ -145,21 +108,21 @@ fn run_end(counts: &[u32], first: usize) -> usize
     end
 }
 
-/// Pushes a strip of the days of a year, which shows those with fires.
-pub(super) fn push_strip(page: &mut Vec<u8>, counts: &[u32]) -> Result<(), AllocError> {
-    push_text(
-        page,
-        "<svg viewBox=\"0 0 366 10\" preserveAspectRatio=\"none\" aria-hidden=\"true\">",
-    )?;
+/// A strip of the days of a year, which shows those with fires.
+pub(super) fn strip_of(alloc: Global, counts: &[u32]) -> Result<Vec<Shape>, AllocError> {
+    let mut shapes = Vec::new(alloc);
     let mut at = 0;
     while at < counts.len().min(366) {
         let end = run_end(counts, at);
         if end > at {
-            push_run(page, at, end)?;
+            shapes.push(Shape::Run {
+                first: at as u32,
+                width: (end - at) as u32,
+            })?;
         }
         at = end + 1;
     }
-    push_text(page, "</svg>")
+    Ok(shapes)
 }
 
 // How many fires a weekday has in an hour, of the days from a first one on.
@@ -185,56 +148,55 @@ fn most_sum(hours: &[u32]) -> u32 {
     most
 }
 
-// Pushes the row of a weekday, of which the first is this day of the year.
-fn push_weekday(
-    page: &mut Vec<u8>,
-    hours: &[u32],
-    day: usize,
-    first: usize,
-    most: u32,
-) -> Result<(), AllocError>
-    requires { (day < 7) × (first < 7) }
-{
-    push_text(page, "<tr><th scope=\"row\">")?;
-    push_text(page, WEEKDAYS[day])?;
-    push_text(page, "</th>")?;
+// Adds the hours above.
+fn add_hours(shapes: &mut Vec<Shape>) -> Result<(), AllocError> {
     for hour in 0..24 {
-        let sum = sum_of(hours, first, hour);
-        push_text(page, "<td class=\"b")?;
-        push_number(page, level_of(sum, most))?;
-        push_text(page, "\">")?;
-        push_number(page, sum)?;
-        push_text(page, "</td>")?;
+        shapes.push(Shape::Hour { hour })?;
     }
-    push_text(page, "</tr>\n")
-}
-
-// Pushes the hours above.
-fn push_hours(page: &mut Vec<u8>) -> Result<(), AllocError> {
-    for hour in 0..24 {
-        push_text(page, "<th scope=\"col\">")?;
-        push_number(page, hour)?;
-        push_text(page, "</th>")?;
-    }
+    shapes.push(Shape::HeadEnd)?;
     Ok(())
 }
 
-/// Pushes the heat map by hour and weekday, which is a table.
-pub(super) fn push_hours_map(page: &mut Vec<u8>, year: &Year<'_>) -> Result<(), AllocError>
+// Adds the row of a weekday, of which the first is this day of the year.
+fn add_weekday(
+    shapes: &mut Vec<Shape>,
+    hours: &[u32],
+    day: u32,
+    first: usize,
+    most: u32,
+) -> Result<(), AllocError>
+    requires { first < 7 }
+{
+    shapes.push(Shape::Head {
+        word: Word::Weekday(day),
+    })?;
+    for hour in 0..24 {
+        let sum = sum_of(hours, first, hour);
+        shapes.push(Shape::Cell {
+            level: level_of(sum, most),
+            sum,
+        })?;
+    }
+    shapes.push(Shape::RowEnd)?;
+    Ok(())
+}
+
+/// The heat map by weekday and hour.
+pub(super) fn hours_map(alloc: Global, year: &Year<'_>) -> Result<Vec<Shape>, AllocError>
     requires { (1970 ≤ year.now.year) × (year.now.year ≤ 2100) }
 {
-    let lead = (KnownMonth::of_number(year.year * 12).first_day() + 3) % 7;
+    let lead = lead_of(year.year) as usize;
     let most = most_sum(year.hours);
-    push_text(
-        page,
-        "<h2>By weekday and hour</h2>\n<div class=\"wide\"><table class=\"hours\">\n",
-    )?;
-    push_text(page, "<thead><tr><th></th>")?;
-    push_hours(page)?;
-    push_text(page, "</tr></thead>\n<tbody>\n")?;
+    let mut shapes = Vec::new(alloc);
+    add_hours(&mut shapes)?;
     for day in 0..7 {
-        let first = (day + 7 - lead as usize) % 7;
-        push_weekday(page, year.hours, day, first, most)?;
+        add_weekday(
+            &mut shapes,
+            year.hours,
+            day as u32,
+            (day + 7 - lead) % 7,
+            most,
+        )?;
     }
-    push_text(page, "</tbody>\n</table></div>\n")
+    Ok(shapes)
 }

@@ -1,15 +1,16 @@
 //! Pieces of a page.
 ghost use Rattle.std.specs.Prelude.{◌≡◌, ◌+◌, ◌%◌, ◌++◌, ◌<◌, ◌≤◌, unsigned_abs, OnOk};
 ghost use Rattle.std.specs.Fmt.{decimal};
+ghost use Rattle.cron_moments.specs.MomentText.{time_text};
 ghost use Rattle.cron_calendar.specs.Html.{day_text};
 
 use cron_moments::calendar::KnownMonth;
 use itoa::Buffer;
-use jiff::civil::Date;
+use jiff::civil::{Date, Time};
 use std::alloc::AllocError;
 
 /// Pushes a text as it is.
-pub(super) fn push_text(page: &mut Vec<u8>, text: &str) -> Result<(), AllocError>
+pub(crate) fn push_text(page: &mut Vec<u8>, text: &str) -> Result<(), AllocError>
     ensures { OnOk result (page.new.items ≡ page.old.items ++ text.now) }
 {
     page.extend_from_slice(text.as_bytes())
@@ -56,8 +57,29 @@ fn date_text(date: Date) -> [u8; 10]
     ]
 }
 
+/// A time of day, as `02:30:00`.
+pub(crate) fn time_text(time: Time) -> [u8; 8]
+    ensures { result ≡ time_text time }
+{
+    let (hour, minute, second) = (
+        time.hour() as u32,
+        time.minute() as u32,
+        time.second() as u32,
+    );
+    [
+        digit(hour / 10),
+        digit(hour),
+        b':',
+        digit(minute / 10),
+        digit(minute),
+        b':',
+        digit(second / 10),
+        digit(second),
+    ]
+}
+
 /// Pushes a date.
-pub(super) fn push_date(page: &mut Vec<u8>, date: Date) -> Result<(), AllocError>
+pub(crate) fn push_date(page: &mut Vec<u8>, date: Date) -> Result<(), AllocError>
     ensures { OnOk result (page.new.items ≡ page.old.items ++ day_text date) }
 {
     page.extend_from_slice(&date_text(date))

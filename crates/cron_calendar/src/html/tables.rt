@@ -1,15 +1,21 @@
 //! The table of the days, and that of the entries.
-ghost use Rattle.std.specs.Prelude.{◌≡◌, ◌+◌, ◌++◌, ◌<◌, ◌≤◌, length, OnOk};
+ghost use Rattle.std.specs.Prelude.{◌≡◌, ◌+◌, ◌++◌, ◌<◌, ◌≤◌, ℕ, List, length, OnOk};
 ghost use Rattle.cron_moments.specs.Civil.{days_in_range};
 ghost use Rattle.cron_calendar.specs.Html.{day_row, day_rows};
+ghost use Rattle.cron_calendar.specs.Pages.{AreRows, entries_text, entry_row, table_text, total_of};
+ghost use Rattle.cron_calendar.specs.declared.html.shapes.Shape.{Shape};
 
-use super::Year;
 use super::escape::push_escaped;
-use super::maps::push_strip;
+use super::frames::{
+    ENTRIES_END, ENTRIES_START, ENTRY_END, ENTRY_NAME, ENTRY_START, ENTRY_STRIP, ENTRY_TOTAL,
+    TABLE_END, TABLE_START,
+};
+use super::maps::strip_of;
 use super::pieces::{push_date, push_number, push_text};
-use cron_moments::calendar::KnownMonth;
-use cron_moments::civil::{DAYS, SECONDS_PER_DAY, civil_of};
-use std::alloc::AllocError;
+use super::shapes::push_drawing;
+use super::{Entry, Year};
+use cron_moments::civil::{SECONDS_PER_DAY, civil_of};
+use std::alloc::{AllocError, Global};
 
 // Pushes the row of a day.
 fn push_row(page: &mut Vec<u8>, day: u32, count: u32) -> Result<(), AllocError>
@@ -37,65 +43,76 @@ fn push_rows(page: &mut Vec<u8>, first: u32, counts: &[u32]) -> Result<(), Alloc
 
 /// Pushes the table of the days.
 pub(super) fn push_table(page: &mut Vec<u8>, year: &Year<'_>) -> Result<(), AllocError>
-    requires { (1970 ≤ year.now.year) × (year.now.year ≤ 2100) }
+    requires { year.now.first + length year.now.days.now ≤ days_in_range }
+    ensures { OnOk result (page.new.items ≡ page.old.items ++ table_text year.now) }
 {
-    push_text(
-        page,
-        "<details>\n<summary>The number of each day</summary>\n",
-    )?;
-    push_text(
-        page,
-        "<table class=\"days\">\n<thead><tr><th scope=\"col\">Day</th>",
-    )?;
-    push_text(page, "<th scope=\"col\">Fires</th></tr></thead>\n<tbody>\n")?;
-    let first = KnownMonth::of_number(year.year * 12).first_day();
-    if year.days.len() <= 366 && year.days.len() as u32 <= DAYS - first {
-        push_rows(page, first, year.days)?;
-    }
-    push_text(page, "</tbody>\n</table>\n</details>\n")
+    push_text(page, TABLE_START)?;
+    push_rows(page, year.first, year.days)?;
+    push_text(page, TABLE_END)?;
+    Ok(())
 }
 
-// How many fires an entry has in all.
-fn total_of(counts: &[u32]) -> u64 {
-    let mut total = 0u64;
+// How many fires an entry has in all: at most what 32 bits hold.
+fn total_of(counts: &[u32]) -> u32
+    ensures { result ≡ total_of counts.now }
+{
+    let mut total = 0u32;
     for count in counts {
-        total = total.saturating_add(u64::from(*count));
+        total = total.saturating_add(*count);
     }
     total
 }
 
 // Pushes the row of an entry: its colour, its name, how many fires it has, and when.
-fn push_entry(page: &mut Vec<u8>, year: &Year<'_>, place: usize) -> Result<(), AllocError>
-    requires { place < length year.now.entries.now }
+fn push_entry(
+    alloc: Global,
+    page: &mut Vec<u8>,
+    place: usize,
+    entry: &Entry<'_>,
+) -> Result<(), AllocError>
+    ensures { OnOk result ((strip : List Shape)
+        × (page.new.items ≡ page.old.items ++ entry_row place entry.now strip)) }
 {
-    let entry = year.entries[place];
-    push_text(page, "<tr class=\"e")?;
+    let strip = strip_of(alloc, entry.counts)?;
+    push_text(page, ENTRY_START)?;
     push_number(page, place.min(12) as u32)?;
-    push_text(
-        page,
-        "\"><td><span class=\"swatch\"></span></td><th scope=\"row\"><code>",
-    )?;
+    push_text(page, "\"")?;
+    push_text(page, ENTRY_NAME)?;
     push_escaped(page, entry.name)?;
-    push_text(page, "</code></th><td class=\"number\">")?;
-    push_number(page, total_of(entry.counts).min(u64::from(u32::MAX)) as u32)?;
-    push_text(page, "</td><td class=\"when\">")?;
-    push_strip(page, entry.counts)?;
-    push_text(page, "</td></tr>\n")
+    push_text(page, ENTRY_TOTAL)?;
+    push_number(page, total_of(entry.counts))?;
+    push_text(page, ENTRY_STRIP)?;
+    push_drawing(page, strip.as_slice())?;
+    push_text(page, ENTRY_END)?;
+    Ok(())
+}
+
+// Pushes the rows of entries.
+fn push_entry_rows(
+    alloc: Global,
+    page: &mut Vec<u8>,
+    entries: &[Entry<'_>],
+) -> Result<(), AllocError>
+    ensures { OnOk result ((rows : List ℕ) × AreRows 0 entries.now rows
+        × (page.new.items ≡ page.old.items ++ rows)) }
+{
+    for place in 0..entries.len() {
+        push_entry(alloc, page, place, &entries[place])?;
+    }
+    Ok(())
 }
 
 /// Pushes the table of the entries, of which the first twelve have a colour of their own.
-pub(super) fn push_entries(page: &mut Vec<u8>, year: &Year<'_>) -> Result<(), AllocError> {
-    push_text(
-        page,
-        "<table class=\"entries\">\n<thead><tr><th></th><th scope=\"col\">Entry</th>",
-    )?;
-    push_text(
-        page,
-        "<th scope=\"col\">Fires</th><th scope=\"col\">January to December</th>",
-    )?;
-    push_text(page, "</tr></thead>\n<tbody>\n")?;
-    for place in 0..year.entries.len() {
-        push_entry(page, year, place)?;
-    }
-    push_text(page, "</tbody>\n</table>\n")
+pub(super) fn push_entries(
+    alloc: Global,
+    page: &mut Vec<u8>,
+    year: &Year<'_>,
+) -> Result<(), AllocError>
+    ensures { OnOk result ((rows : List ℕ) × AreRows 0 year.now.entries.now rows
+        × (page.new.items ≡ page.old.items ++ entries_text rows)) }
+{
+    push_text(page, ENTRIES_START)?;
+    push_entry_rows(alloc, page, year.entries)?;
+    push_text(page, ENTRIES_END)?;
+    Ok(())
 }

@@ -1,112 +1,94 @@
 //! The calls of a schedule and of a walk.
 
-use super::support::{ACCEPTED, check_holds, check_same, is_accepted, is_memory, tell, tell_early};
+use super::support::{ACCEPTED, EARLY, REFUSED, check_accepted, check_error, check_same, tell};
 use cron::Schedule;
-use cron::error::{Error, ErrorKind};
 use cron::schedule::{Moment, Turn};
+use cron_checking::short::canonical_text;
 use jiff::Timestamp;
-use jiff::civil::DateTime;
+use jiff::civil::date;
 use jiff::tz::TimeZone;
 use serde_json::Value;
 use std::process::Abort;
-use std::test::Fail;
 
-fn start() -> Result<Timestamp, Fail> {
-    Ok("2015-01-01T00:00:00Z".parse()?)
+pub(super) fn start(rt: &impl Abort) -> Timestamp {
+    "2015-01-01T00:00:00Z".parse().expect(rt, "an instant")
 }
 
-// Whether an answer is the accepted expression's one item.
-fn is_item(answer: Option<Moment>) -> Result<bool, Fail> {
-    let shown = "2015-05-04 03:02:01".parse::<DateTime>()?;
-    Ok(answer.is_some_and(|moment| moment.datetime() == shown))
+// An answer is the accepted expression's one item.
+fn check_item(rt: &impl Abort, answer: Option<Moment>) {
+    let shown = answer.map(|moment| moment.datetime());
+    check_same(rt, shown, Some(date(2015, 5, 4).at(3, 2, 1, 0)));
 }
 
 #[test]
-fn play(rt: HostRuntime) -> Result<(), Fail> {
+fn play(rt: HostRuntime) {
     let Ok(schedule) = Schedule::from_str(rt.alloc(), ACCEPTED) else {
-        return tell_early(&rt);
+        return tell(&rt, EARLY);
     };
-    let mut walk = schedule.after(start()?, &TimeZone::UTC);
+    let mut walk = schedule.after(start(&rt), &TimeZone::UTC);
     match walk.play(rt.alloc(), &[Turn::Next]) {
         Ok(answers) => {
-            check_holds(&rt, answers.len() == 1 && is_item(answers[0])?);
+            check_same(&rt, answers.len(), 1);
+            for answer in answers.iter() {
+                check_item(&rt, *answer);
+            }
             check_same(&rt, walk.next(), None);
         }
         Err(_refused) => {
-            tell(&rt)?;
-            check_holds(&rt, is_item(walk.next())?);
+            tell(&rt, REFUSED);
+            check_item(&rt, walk.next());
         }
     }
-    Ok(())
 }
 
+// What copies a schedule.
 #[test]
-fn clone(rt: HostRuntime) -> Result<(), Fail> {
+fn copies(rt: HostRuntime) {
     let Ok(schedule) = Schedule::from_str(rt.alloc(), ACCEPTED) else {
-        return tell_early(&rt);
+        return tell(&rt, EARLY);
     };
     match schedule.clone() {
-        Ok(copy) => check_holds(&rt, is_accepted(&copy)),
-        Err(_refused) => tell(&rt)?,
+        Ok(copy) => check_accepted(&rt, &copy),
+        Err(_refused) => tell(&rt, REFUSED),
     }
-    check_holds(&rt, is_accepted(&schedule));
-    Ok(())
+    let start = start(&rt);
+    for walk in [
+        schedule.after_owned(start, TimeZone::UTC),
+        schedule.upcoming_owned(start, TimeZone::UTC),
+    ] {
+        match walk {
+            Ok(mut walk) => check_item(&rt, walk.next()),
+            Err(_refused) => tell(&rt, REFUSED),
+        }
+    }
+    check_accepted(&rt, &schedule);
 }
 
+// What makes a text of it.
 #[test]
-fn after_owned(rt: HostRuntime) -> Result<(), Fail> {
+fn texts(rt: HostRuntime) {
     let Ok(schedule) = Schedule::from_str(rt.alloc(), ACCEPTED) else {
-        return tell_early(&rt);
-    };
-    match schedule.after_owned(start()?, TimeZone::UTC) {
-        Ok(mut walk) => check_holds(&rt, is_item(walk.next())?),
-        Err(_refused) => tell(&rt)?,
-    }
-    check_holds(&rt, is_accepted(&schedule));
-    Ok(())
-}
-
-#[test]
-fn upcoming_owned(rt: HostRuntime) -> Result<(), Fail> {
-    let Ok(schedule) = Schedule::from_str(rt.alloc(), ACCEPTED) else {
-        return tell_early(&rt);
-    };
-    match schedule.upcoming_owned(start()?, TimeZone::UTC) {
-        Ok(mut walk) => check_holds(&rt, is_item(walk.next())?),
-        Err(_refused) => tell(&rt)?,
-    }
-    check_holds(&rt, is_accepted(&schedule));
-    Ok(())
-}
-
-#[test]
-fn to_value(rt: HostRuntime) -> Result<(), Fail> {
-    let Ok(schedule) = Schedule::from_str(rt.alloc(), ACCEPTED) else {
-        return tell_early(&rt);
+        return tell(&rt, EARLY);
     };
     match schedule.to_value(rt.alloc()) {
         Ok(value) => check_same(&rt, value.as_str(), Some(ACCEPTED)),
-        Err(error) => {
-            check_holds(&rt, is_memory(&error));
-            tell(&rt)?;
-        }
+        Err(error) => check_error(&rt, &error, "only memory can be wanting"),
     }
-    check_holds(&rt, is_accepted(&schedule));
-    Ok(())
-}
-
-// Whether an error tells that a value is no string.
-fn is_no_string(error: &Error) -> bool {
-    let wanted = "invalid type, expected a valid cron expression";
-    matches!(error.kind(), ErrorKind::Expression(text) if text.as_str() == wanted)
+    match canonical_text(rt.alloc(), &schedule) {
+        Ok(text) => check_same(&rt, text.as_str(), "1 2 3 4 5 * 2015"),
+        Err(_refused) => tell(&rt, REFUSED),
+    }
+    check_accepted(&rt, &schedule);
 }
 
 #[test]
-fn from_value_of_null(rt: HostRuntime) -> Result<(), Fail> {
+fn from_value_of_null(rt: HostRuntime) {
     match Schedule::from_value(rt.alloc(), &Value::Null) {
-        Ok(schedule) => assert!(rt; false, "{schedule} is read"),
-        Err(error) if is_memory(&error) => tell(&rt)?,
-        Err(error) => check_holds(&rt, is_no_string(&error)),
+        Ok(_read) => check_same(&rt, "read", "refused"),
+        Err(error) => check_error(
+            &rt,
+            &error,
+            "invalid type, expected a valid cron expression",
+        ),
     }
-    Ok(())
 }

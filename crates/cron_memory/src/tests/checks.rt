@@ -1,28 +1,11 @@
-//! The calls of the checker of lines.
+//! A check of lines.
 
-use super::support::{ACCEPTED, check_holds, check_same, is_accepted, tell, tell_early};
-use cron::Schedule;
+use super::support::{REFUSED, check_same, tell};
 use cron_checking::check::{Outcome, check};
 use cron_checking::line::{Mode, Telling};
-use cron_checking::short::canonical_text;
 use cron_writer::watched::Watched;
-use jiff::Timestamp;
 use jiff::tz::TimeZone;
 use std::io::Cursor;
-use std::test::Fail;
-
-#[test]
-fn canonical_text_of_a_schedule(rt: HostRuntime) -> Result<(), Fail> {
-    let Ok(schedule) = Schedule::from_str(rt.alloc(), ACCEPTED) else {
-        return tell_early(&rt);
-    };
-    match canonical_text(rt.alloc(), &schedule) {
-        Ok(text) => check_same(&rt, text.as_str(), "1 2 3 4 5 * 2015"),
-        Err(_refused) => tell(&rt)?,
-    }
-    check_holds(&rt, is_accepted(&schedule));
-    Ok(())
-}
 
 const FILE: &str = "@daily\n60 * * * * *\n\n0 30 9-17 15,L 1-6 Mon-Fri 2024-2030\n";
 
@@ -33,8 +16,7 @@ const TOLD: [&str; 3] = [
     "4: 2024-01-15 09:30:00 +00:00\n",
 ];
 
-// How many of the lines stand at the beginning of a text, one after another, and what stands behind
-// them.
+// What stands after those of the lines that stand at the beginning of a text, and how many they are.
 fn past_lines(mut text: &str) -> (usize, &str) {
     let mut count = 0_usize;
     for line in TOLD {
@@ -48,8 +30,8 @@ fn past_lines(mut text: &str) -> (usize, &str) {
 }
 
 #[test]
-fn check_of_three_lines(rt: HostRuntime) -> Result<(), Fail> {
-    let start = "2024-01-01T00:00:00Z".parse::<Timestamp>()?;
+fn check_of_three_lines(rt: HostRuntime) {
+    let start = "2024-01-01T00:00:00Z".parse().expect(&rt, "an instant");
     let how = Telling {
         front: "",
         mode: Mode::Next(start, TimeZone::UTC),
@@ -58,12 +40,12 @@ fn check_of_three_lines(rt: HostRuntime) -> Result<(), Fail> {
     let mut reader = FILE.as_bytes();
     let mut out = Watched::new(Cursor::new(room.as_mut_slice()));
     let end = check(rt.alloc(), &how, &mut reader, &mut out);
-    let (count, rest) = past_lines(str::from_utf8(&room)?.trim_end_matches('\0'));
+    let told = str::from_utf8(&room).expect(&rt, "text");
+    let (count, rest) = past_lines(told.trim_end_matches('\0'));
     if end == Outcome::OutOfMemory {
         check_same(&rt, rest, "error: out of memory\n");
-        return tell(&rt);
+        return tell(&rt, REFUSED);
     }
     check_same(&rt, end, Outcome::SomeRefused);
     check_same(&rt, (count, rest), (TOLD.len(), ""));
-    Ok(())
 }

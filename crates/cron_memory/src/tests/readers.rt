@@ -1,87 +1,74 @@
 //! The readers, and the reading of a JSON value.
 
-use super::support::{ACCEPTED, REFUSED, check_accepted, check_refused, tell_early};
+use super::support::{ACCEPTED, EARLY, check_accepted, check_error, check_same, tell};
 use cron::Schedule;
+use cron::error::Error;
 use serde_json::Value;
+use std::alloc::{AllocError, Global};
 use std::borrow::CowStr;
-use std::test::Fail;
 
-#[test]
-fn from_str_accepts(rt: HostRuntime) -> Result<(), Fail> {
-    check_accepted(&rt, Schedule::from_str(rt.alloc(), ACCEPTED))
+#[derive(Clone, Copy)]
+enum Reader {
+    FromStr,
+    TryFromStr,
+    TryFromString,
+    BorrowedCow,
+    OwnedCow,
+    FromValue,
+}
+
+const READERS: [Reader; 6] = [
+    Reader::FromStr,
+    Reader::TryFromStr,
+    Reader::TryFromString,
+    Reader::BorrowedCow,
+    Reader::OwnedCow,
+    Reader::FromValue,
+];
+
+impl Reader {
+    // What it reads, where there was memory for the text that it takes.
+    fn read(self, alloc: Global, text: &str) -> Result<Result<Schedule, Error>, AllocError> {
+        Ok(match self {
+            Reader::FromStr => Schedule::from_str(alloc, text),
+            Reader::TryFromStr => Schedule::try_from_str(alloc, text),
+            Reader::BorrowedCow => Schedule::try_from_cow(alloc, CowStr::Borrowed(text)),
+            Reader::TryFromString => {
+                Schedule::try_from_string(alloc, String::from_str(alloc, text)?)
+            }
+            Reader::OwnedCow => {
+                let text = CowStr::Owned(String::from_str(alloc, text)?);
+                Schedule::try_from_cow(alloc, text)
+            }
+            Reader::FromValue => {
+                let value = Value::String(String::from_str(alloc, text)?);
+                Schedule::from_value(alloc, &value)
+            }
+        })
+    }
 }
 
 #[test]
-fn from_str_refuses(rt: HostRuntime) -> Result<(), Fail> {
-    check_refused(&rt, Schedule::from_str(rt.alloc(), REFUSED))
+fn readers_accept(rt: HostRuntime) {
+    for reader in READERS {
+        match reader.read(rt.alloc(), ACCEPTED) {
+            Ok(Ok(schedule)) => check_accepted(&rt, &schedule),
+            // an accepted text has no message
+            Ok(Err(error)) => check_error(&rt, &error, "it is accepted"),
+            Err(_refused) => tell(&rt, EARLY),
+        }
+    }
 }
 
-#[test]
-fn try_from_str_accepts(rt: HostRuntime) -> Result<(), Fail> {
-    check_accepted(&rt, Schedule::try_from_str(rt.alloc(), ACCEPTED))
-}
+const MESSAGE: &str = "Seconds must be less than 59. ('60' specified.)";
 
 #[test]
-fn try_from_str_refuses(rt: HostRuntime) -> Result<(), Fail> {
-    check_refused(&rt, Schedule::try_from_str(rt.alloc(), REFUSED))
-}
-
-#[test]
-fn try_from_string_accepts(rt: HostRuntime) -> Result<(), Fail> {
-    let Ok(text) = String::from_str(rt.alloc(), ACCEPTED) else {
-        return tell_early(&rt);
-    };
-    check_accepted(&rt, Schedule::try_from_string(rt.alloc(), text))
-}
-
-#[test]
-fn try_from_string_refuses(rt: HostRuntime) -> Result<(), Fail> {
-    let Ok(text) = String::from_str(rt.alloc(), REFUSED) else {
-        return tell_early(&rt);
-    };
-    check_refused(&rt, Schedule::try_from_string(rt.alloc(), text))
-}
-
-#[test]
-fn try_from_borrowed_cow_accepts(rt: HostRuntime) -> Result<(), Fail> {
-    let text = CowStr::Borrowed(ACCEPTED);
-    check_accepted(&rt, Schedule::try_from_cow(rt.alloc(), text))
-}
-
-#[test]
-fn try_from_borrowed_cow_refuses(rt: HostRuntime) -> Result<(), Fail> {
-    let text = CowStr::Borrowed(REFUSED);
-    check_refused(&rt, Schedule::try_from_cow(rt.alloc(), text))
-}
-
-#[test]
-fn try_from_owned_cow_accepts(rt: HostRuntime) -> Result<(), Fail> {
-    let Ok(text) = String::from_str(rt.alloc(), ACCEPTED) else {
-        return tell_early(&rt);
-    };
-    check_accepted(&rt, Schedule::try_from_cow(rt.alloc(), CowStr::Owned(text)))
-}
-
-#[test]
-fn try_from_owned_cow_refuses(rt: HostRuntime) -> Result<(), Fail> {
-    let Ok(text) = String::from_str(rt.alloc(), REFUSED) else {
-        return tell_early(&rt);
-    };
-    check_refused(&rt, Schedule::try_from_cow(rt.alloc(), CowStr::Owned(text)))
-}
-
-#[test]
-fn from_value_accepts(rt: HostRuntime) -> Result<(), Fail> {
-    let Ok(text) = String::from_str(rt.alloc(), ACCEPTED) else {
-        return tell_early(&rt);
-    };
-    check_accepted(&rt, Schedule::from_value(rt.alloc(), &Value::String(text)))
-}
-
-#[test]
-fn from_value_refuses(rt: HostRuntime) -> Result<(), Fail> {
-    let Ok(text) = String::from_str(rt.alloc(), REFUSED) else {
-        return tell_early(&rt);
-    };
-    check_refused(&rt, Schedule::from_value(rt.alloc(), &Value::String(text)))
+fn readers_refuse(rt: HostRuntime) {
+    for reader in READERS {
+        match reader.read(rt.alloc(), "60 * * * * *") {
+            Ok(Ok(_read)) => check_same(&rt, "read", "refused"),
+            Ok(Err(error)) => check_error(&rt, &error, MESSAGE),
+            Err(_refused) => tell(&rt, EARLY),
+        }
+    }
 }

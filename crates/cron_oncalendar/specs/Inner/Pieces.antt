@@ -1,11 +1,12 @@
 -- What the pieces of a line say, as they are pushed.
-use Rattle.std.specs.Prelude.{◌≡◌, ◌≤◌, ◌+◌, ◌-◌, ◌%◌, ◌==◌, ℕ, pos, Bool, true, false, ◌&&◌, List, [], ◌∷◌, ◌++◌, Some, IsSome, length, nat_le, nat_lt, if◌then◌else◌}
+use Rattle.std.specs.Prelude.{◌≡◌, ◌≤◌, ◌<◌, ◌+◌, ◌-◌, ◌%◌, ◌==◌, ℕ, pos, Bool, true, false, ◌&&◌, List, [], ◌∷◌, ◌++◌, Some, IsSome, length, nat_le, nat_lt, if◌then◌else◌}
 use Rattle.std.specs.List.{AllByRecursion, flat_map, list_all, list_any}
 use Rattle.jiff_core.specs.Calendar.{days_in_month}
 use Rattle.jiff_core.specs.declared.civil.date.Date.{Date}
 use Rattle.jiff_core.specs.declared.civil.datetime.DateTime.{DateTime}
 use Rattle.jiff_core.specs.declared.civil.time.Time.{Time}
 use Rattle.cron_moments.specs.Calendar.{weekday_number}
+use Rattle.cron_moments.specs.Civil.{civil, seconds_in_range}
 use Rattle.cron_units.specs.Sets.{Sets}
 use Rattle.cron_units.specs.Units.{TimeUnit, contains}
 use Rattle.cron_time.specs.Matches.{contains_year, matches_time}
@@ -92,10 +93,10 @@ pub record IsLine (line : List ℕ) : Type 0 where
   pub under : is_under 6 line ≡ true
   pub read : IsSome (calendar_of line)
 
--- so many lines, each with its line feed, that say the datetimes at which a test is true
-pub record AreLines (number : ℕ) (test : DateTime → Bool) (piece : List ℕ) : Type 0 where
+-- `number` lines, each with what stands after it and its line feed, that say the civil seconds at which a test is true
+pub record AreLines (after : List ℕ) (number : ℕ) (test : DateTime → Bool) (piece : List ℕ) : Type 0 where
   pub lines : List (List ℕ)
   pub counted : length lines ≡ number
-  pub ended : piece ≡ flat_map (λ line. line ++ 10 ∷ []) lines
+  pub ended : piece ≡ flat_map (λ line. line ++ (after ++ 10 ∷ [])) lines
   pub each : AllByRecursion IsLine lines
-  pub same : (dt : DateTime) → IsInYears dt.date → list_any (line_matches dt) lines ≡ test dt
+  pub same : (c : ℕ) → c < seconds_in_range → list_any (line_matches (civil c)) lines ≡ test (civil c)

@@ -1,17 +1,21 @@
-use Rattle.std.proofs.Common.{refl, arith}
+use Rattle.std.proofs.Common.{arith}
 use Rattle.jiff.specs.Words.{plain_zone}
-use Rattle.cron_calendar.proofs.ChangeLemmas.{told-kept, told-more}
+use Rattle.cron_calendar.proofs.ChangeLemmas.{changes-all, known-kept, known-more}
 use Rattle.cron_calendar.proofs.changes.changes.Goals as goal
 
 pub loop-at-preserved-in_ok-push : goal.loop-at-preserved-in_ok-push
 loop-at-preserved-in_ok-push c =
-    told-more (plain_zone c.args.zone.now) c.args.first _ _ c.at-stretch.result c.at-stretch.ensures.steady.same c.at-stretch.ensures.low
-    (omega (arith, c.min.ensures)) c.times_of.ensures c.loop-at.invariant (omega (arith, c.min.ensures, c.at-stretch.ensures.high, c.loop-at-test.true))
-    _ c.in_ok-push.ensures.items
+    let from = c.change_from-change.ensures in
+    known-more (plain_zone c.args.zone.now) c.args.end c.args.first c.loop-at.at c.loop-at.changes.items c.change_from-change.result from.first from.bounds.0
+    from.bounds.1 c.if-change-ne1.true from.shown from.whole c.loop-at.invariant _ c.in_ok-push.ensures.items
 
 pub loop-at-preserved : goal.loop-at-preserved
 loop-at-preserved c =
-    told-kept (plain_zone c.args.zone.now) c.args.first _ (record { first = c.loop-at.at; end = c.min.result; times = c.times_of.result })
-    c.at-stretch.result c.at-stretch.ensures.steady.same c.at-stretch.ensures.low
-    (omega (arith, c.min.ensures)) c.times_of.ensures c.loop-at.invariant (omega (arith, c.min.ensures, c.at-stretch.ensures.high, c.loop-at-test.true))
-    _ refl (omega (arith, c.if-change-ne1.false))
+    let from = c.change_from-change.ensures in
+    known-kept (plain_zone c.args.zone.now) c.args.end c.args.first c.loop-at.at c.loop-at.changes.items c.change_from-change.result from.first from.bounds.0
+    (omega (arith, c.if-change-ne1.false)) from.shown c.loop-at.invariant
+
+pub returns-clause-are : goal.returns-clause-are
+returns-clause-are c =
+    changes-all (plain_zone c.args.zone.now) c.args.end c.loop-at.at c.args.first c.loop-at.changes.items (omega (arith, c.loop-at-test.false))
+    c.loop-at.invariant.1

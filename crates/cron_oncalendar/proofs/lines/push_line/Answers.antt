@@ -12,9 +12,10 @@ returns c =
     let time = c.in_ok-push_time.ensures in
     if_ok c.writeln.result _ _
     (λ e. record {
-      piece = days.piece ++ (date.piece ++ 32 ∷ (time.piece ++ 10 ∷ []));
+      piece = days.piece ++ (date.piece ++ 32 ∷ (time.piece ++ (c.args.after.now ++ 10 ∷ [])));
       pushed = pushed_on _ _ _ days.piece _ days.pushed (pushed_on _ _ _ date.piece _ date.pushed
-          (pushed_on _ _ _ (32 ∷ []) _ c.in_ok-push_str.ensures.bytes (pushed_on _ _ _ time.piece (10 ∷ []) time.pushed e)));
-      is = one_line c.args.fields.now c.args.last_day days.piece date.piece time.piece
+          (pushed_on _ _ _ (32 ∷ []) _ c.in_ok-push_str.ensures.bytes (pushed_on _ _ _ time.piece (c.args.after.now ++ 10 ∷ []) time.pushed
+          (pushed_on _ _ _ c.args.after.now (10 ∷ []) c.in_ok-push_str-2.ensures.bytes e))));
+      is = one_line c.args.fields.now c.args.last_day c.args.after.now days.piece date.piece time.piece
           (subst (λ (s : Sets). AreWeekdays s.days_of_week days.piece) c.fields.view_is days.is) date.is time.is;
     }) c.writeln.ensures.bytes

@@ -8,4 +8,4 @@ use Rattle.cron_oncalendar.proofs.lines.push_union.Given as goal
 
 abbrev pub invariant-loop-fields : goal.invariant-loop-fields
 invariant-loop-fields l =
-    Pushes (AreLines (sum_by line_count (take l.fields-index l.schedules)) (matches_any (take l.fields-index l.schedules))) (string_bytes l.initial.text) (string_bytes l.text)
+    Pushes (AreLines l.after (sum_by line_count (take l.fields-index l.schedules)) (matches_any (take l.fields-index l.schedules))) (string_bytes l.initial.text) (string_bytes l.text)

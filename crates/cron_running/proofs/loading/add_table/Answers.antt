@@ -1,6 +1,5 @@
 use Rattle.std.proofs.Common.{inl, refl, subst, map}
 use Rattle.std.specs.Prelude.{Ok}
-use Rattle.std.proofs.lemmas.Result.{on_ok_weaker}
 use Rattle.jiff.specs.Words.{plain_zone}
 use Rattle.cron_running.specs.Noted.{noted_view}
 use Rattle.cron_running.specs.Loading.{AddsTable, given}
@@ -10,4 +9,4 @@ pub returns-in-Ok : goal.returns-in-Ok
 returns-in-Ok c =
     let g = given c.args.orders.now (map plain_zone c.args.start.now.zones.now) c.args.start.now.instant.nanosecond (noted_view c.args.start.now.noted.now) in
     let adds = subst (λ changes. AddsTable g c.args.after.nanosecond c.args.zone changes c.args.table c.args.loaded.now.agenda (Ok c.in-Ok.field-0) c.add.new.self) c.changes_of-changes.ensures c.in-Ok.ensures in
-    on_ok_weaker c.push_text.result (λ pushed. (refl, inl (c.in-Ok.field-0, adds, pushed, refl))) c.push_text.ensures
+    record { adds = (refl, inl (c.in-Ok.field-0, adds, c.in_ok-push_text-in-Ok.ensures, refl)); err = tt }

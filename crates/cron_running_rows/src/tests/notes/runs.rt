@@ -12,6 +12,7 @@ use cron_tab_lines::Crontab;
 use cron_tab_listing::Clock;
 use cron_tab_tasks::{Form, Orders};
 use cron_writer::watched::Watched;
+use jiff::Timestamp;
 use jiff::tz::TimeZone;
 use std::process::Abort;
 
@@ -57,6 +58,7 @@ pub(super) fn run<'a>(
         }),
         noted: Noted::nothing(alloc),
         until: None,
+        seen: Timestamp::MIN,
     };
     let files = [TabFile {
         name: "tab",
@@ -72,6 +74,7 @@ pub(super) fn run<'a>(
         &files,
         &[TimeZone::UTC],
         noted,
+        None,
         &mut clock,
         &mut writer,
         &mut complaints,

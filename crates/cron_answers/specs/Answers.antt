@@ -1,0 +1,96 @@
+-- What the words of `next` and `between` are answered.
+use Rattle.std.specs.Prelude.{◌≡◌, ◌⊎◌, ℕ, ℤ, Bool, List, Option, Some, None, Result, Ok, Err, ◌≤ℤ◌, ◌<ℤ◌}
+use Rattle.std.specs.declared.alloc.Global.{Global}
+use Rattle.std.specs.declared.io.Error.{Error}
+use Rattle.std.specs.declared.vec.Vec.{Vec}
+use Rattle.jiff_tz.specs.declared.timezone.TimeZone.{TimeZone}
+use Rattle.cron_zones.specs.Opening.{Opens}
+use Rattle.cron_zones.specs.Zones.{IsTimeZone}
+use Rattle.cron_zones.specs.declared.open.Places.{Places}
+use Rattle.cron_zones.specs.declared.zone.Zone.{Zone}
+use Rattle.cron_answers.specs.Expressions.{changes_by, schedules_of, IsReadAs, IsRefusedAs}
+use Rattle.cron_answers.specs.Fires.{rows_by}
+use Rattle.cron_answers.specs.Instants.{IsInstant}
+use Rattle.cron_answers.specs.QuartzNotes.{is_noted, IsNoted}
+use Rattle.cron_replies.specs.Statuses.{Ends, Reporting}
+use Rattle.cron_answers.specs.Troubles.{IsTold, zone_word}
+use Rattle.cron_answers.specs.declared.answer.Request.{Request}
+use Rattle.cron_answers.specs.declared.answer.Which.{Which}
+use Rattle.cron_answers.specs.declared.answer.Which.TheVariants as which
+use Rattle.cron_answers.specs.declared.expression.Expression.{Expression}
+use Rattle.cron_answers.specs.declared.fires.Asked.{Asked}
+use Rattle.cron_answers.specs.declared.fires.Asked.TheVariants.{Next, Back, Between}
+use Rattle.cron_replies.specs.declared.status.Status.{Status}
+use Rattle.cron_replies.specs.declared.status.Status.TheVariants.{Done}
+use Rattle.cron_answers.specs.declared.trouble.Trouble.{Trouble}
+use Rattle.cron_answers.specs.declared.trouble.Trouble.TheVariants as trouble
+
+-- the fires that are asked for, with the instants that the words tell in a zone
+abbrev pub IsAsked : Which → TimeZone → ℤ → Asked → Type 0
+IsAsked (which.Next count start) z now (Next t n) = IsInstant start.now z now (Some t.nanosecond) × (n ≡ count)
+IsAsked (which.Back count end) z now (Back t n) = IsInstant end.now z now (Some t.nanosecond) × (n ≡ count)
+IsAsked (which.Between start end) z now (Between t u) = IsInstant start.now z now (Some t.nanosecond) × IsInstant end.now z now (Some u.nanosecond)
+    × (t.nanosecond ≤ℤ u.nanosecond)
+IsAsked _ z now _ = ⊥
+
+-- this word is no instant, and those before it are
+abbrev pub IsNoInstant : Which → TimeZone → ℤ → List ℕ → Type 0
+IsNoInstant (which.Next count start) z now word = (word ≡ start.now) × IsInstant start.now z now None
+IsNoInstant (which.Back count end) z now word = (word ≡ end.now) × IsInstant end.now z now None
+IsNoInstant (which.Between start end) z now word =
+    ((word ≡ start.now) × IsInstant start.now z now None)
+    ⊎ ((t : ℤ) × IsInstant start.now z now (Some t) × (word ≡ end.now) × IsInstant end.now z now None)
+
+-- the first of these two instants comes after the second
+abbrev pub IsBackward : Which → TimeZone → ℤ → List ℕ → List ℕ → Type 0
+IsBackward (which.Between start end) z now first last =
+    (first ≡ start.now) × (last ≡ end.now)
+    × ((t : ℤ) × (u : ℤ) × IsInstant start.now z now (Some t) × IsInstant end.now z now (Some u) × (u <ℤ t))
+IsBackward _ z now first last = ⊥
+
+-- why no fires can be asked for
+abbrev pub IsNotAsked : Which → TimeZone → ℤ → Trouble → Type 0
+IsNotAsked which z now (trouble.Instant word) = IsNoInstant which z now word.now
+IsNotAsked which z now (trouble.Order first last) = IsBackward which z now first.now last.now
+IsNotAsked which z now _ = ⊥
+
+-- where zones are looked for, the present, and what one read of the files does
+pub record Given (F : Type 0) : Type 1 where
+  pub reads : F → List ℕ → Result (Vec ℕ Global) Error → F → Type 0
+  pub places : Places
+  pub now : ℤ
+
+abbrev pub given : {F : Type 0} → (F → List ℕ → Result (Vec ℕ Global) Error → F → Type 0) → Places → ℤ → Given F
+given reads places now = record { reads = reads; places = places; now = now }
+
+-- the zone that a request names was opened
+pub record IsOpened {F : Type 0} (g : Given F) (r : Request) (old : F) (z : TimeZone) (new : F) : Type 0 where
+  pub zone : Zone
+  pub opened : Opens g.reads r.zone.now g.places old (Ok zone) new
+  pub is_time_zone : IsTimeZone zone z
+
+-- What is asked for was listed, by the expression, the zone and the instants that the words tell; and whether Quartz fires otherwise.
+pub record Lists {F : Type 0} (g : Given F) (r : Request) (old new : F) (is_other : Bool) (was is : Option (List ℕ)) (status : Status) : Type 0 where
+  pub expression : Expression
+  pub reads : IsReadAs r.quartz r.expression.now expression
+  pub zone : TimeZone
+  pub opened : IsOpened g r old zone new
+  pub asked : Asked
+  pub asks : IsAsked r.which zone g.now asked
+  pub listed : Ends Done (rows_by (changes_by r.changes expression) r.form asked (schedules_of expression) zone) was is status
+  pub noted : is_noted r expression asked zone ≡ is_other
+
+-- Why it can't be: the first of the expression, the zone, the instants and their order that isn't so.
+abbrev pub IsTrouble : {F : Type 0} → Given F → Request → F → F → Trouble → Type 0
+IsTrouble g r old new (trouble.Expression text refusal) = (text.now ≡ r.expression.now) × IsRefusedAs r.quartz r.expression.now refusal × (new ≡ old)
+IsTrouble g r old new (trouble.Zone text error) =
+    (text.now ≡ zone_word g.places.tz r.zone.now) × ((e : Expression) × IsReadAs r.quartz r.expression.now e) × Opens g.reads r.zone.now g.places old (Err error) new
+IsTrouble g r old new other = ((e : Expression) × IsReadAs r.quartz r.expression.now e) × ((z : TimeZone) × IsOpened g r old z new × IsNotAsked r.which z g.now other)
+
+-- The fires were listed, and a notice was written where Quartz fires otherwise, and nothing else; or a complaint was written, and nothing
+-- else.
+abbrev pub Answers : {F W C : Type 0} → Given F → Request → Reporting W → Reporting C → F × W × C → Status → F × W × C → Type 0
+Answers g r out complaints old status new =
+    ((is_other : Bool) × (listed : Status) × out (Lists g r old.0 new.0 is_other) old.1 listed new.1
+    × IsNoted is_other listed complaints old.2 status new.2)
+    ⊎ ((t : Trouble) × IsTrouble g r old.0 new.0 t × complaints (IsTold t) old.2 status new.2 × (new.1 ≡ old.1))

@@ -1,0 +1,63 @@
+-- What the words of `explain` are answered.
+use Rattle.std.specs.Prelude.{◌≡◌, ◌⊎◌, ◌++◌, ℕ, ℤ, pos, ◌+ℤ◌, List, Option}
+use Rattle.jiff_core.specs.Timestamp.{IsTimestampNanos}
+use Rattle.jiff_tz.specs.declared.timezone.TimeZone.{TimeZone}
+use Rattle.cron_listing.specs.Output.{complaint}
+use Rattle.cron_answers.specs.Answers.{Given, IsAsked, IsOpened, IsTrouble}
+use Rattle.cron_answers.specs.Expressions.{changes_by, schedules_of, IsReadAs}
+use Rattle.cron_answers.specs.Fires.{rows_by}
+use Rattle.cron_answers.specs.Pairs.{no_memory}
+use Rattle.cron_answers.specs.Reports.{IsHead, tally_text}
+use Rattle.cron_replies.specs.Statuses.{Ends, Reporting}
+use Rattle.cron_answers.specs.Tallies.{IsTallyBy}
+use Rattle.cron_answers.specs.Troubles.{IsTold}
+use Rattle.cron_answers.specs.declared.answer.Request.{Request}
+use Rattle.cron_answers.specs.declared.expression.Expression.{Expression}
+use Rattle.cron_answers.specs.declared.fires.Asked.{Asked}
+use Rattle.cron_answers.specs.declared.fires.Asked.TheVariants.{Next, Back, Between}
+use Rattle.cron_replies.specs.declared.status.Status.{Status}
+use Rattle.cron_replies.specs.declared.status.Status.TheVariants.{Done, Unreadable}
+use Rattle.cron_answers.specs.declared.tally.Tally.{Tally}
+use Rattle.cron_answers.specs.declared.trouble.Trouble.{Trouble}
+
+-- the instant from which fires are asked for, in nanoseconds
+abbrev pub start_of : Asked → ℤ
+start_of (Next start count) = start.nanosecond
+start_of (Between start end) = start.nanosecond
+start_of (Back end count) = end.nanosecond
+
+-- 365 days
+abbrev pub year : ℤ
+year = pos 31_536_000_000_000_000
+
+-- the instant 365 days later, or the last one that there is
+abbrev pub IsYearAfter : ℤ → ℤ → Type 0
+IsYearAfter start end =
+    (IsTimestampNanos (start +ℤ year) → end ≡ start +ℤ year) × ((IsTimestampNanos (start +ℤ year) → ⊥) → end ≡ pos 253_402_207_200_999_999_999)
+
+-- The sentence and the warnings, the fires that are asked for, and a tally of those of the 365 days from then, by the request's rule.
+pub record IsExplained (r : Request) (e : Expression) (z : TimeZone) (asked : Asked) (was is : Option (List ℕ)) (status : Status) : Type 0 where
+  pub head : List ℕ
+  pub is_head : IsHead r.quartz r.form r.expression.now e head
+  pub end : ℤ
+  pub is_end : IsYearAfter (start_of asked) end
+  pub tally : Tally
+  pub is_tally : IsTallyBy (changes_by r.changes e) (schedules_of e) z (start_of asked) end tally
+  pub ends : Ends Done ((head ++ rows_by (changes_by r.changes e) r.form asked (schedules_of e) z) ++ tally_text r.form tally) was is status
+
+-- the same of the expression, the zone and the instants that the words tell
+pub record Explains {F : Type 0} (g : Given F) (r : Request) (old new : F) (was is : Option (List ℕ)) (status : Status) : Type 0 where
+  pub expression : Expression
+  pub reads : IsReadAs r.quartz r.expression.now expression
+  pub zone : TimeZone
+  pub opened : IsOpened g r old zone new
+  pub asked : Asked
+  pub asks : IsAsked r.which zone g.now asked
+  pub explained : IsExplained r expression zone asked was is status
+
+-- The expression was explained, and nothing was complained of; or a word is wrong, or memory ran out, and that was complained of.
+abbrev pub AnswersExplain : {F W C : Type 0} → Given F → Request → Reporting W → Reporting C → F × W × C → Status → F × W × C → Type 0
+AnswersExplain g r out complaints old status new =
+    (out (Explains g r old.0 new.0) old.1 status new.1 × (new.2 ≡ old.2))
+    ⊎ (((t : Trouble) × IsTrouble g r old.0 new.0 t × complaints (IsTold t) old.2 status new.2 × (new.1 ≡ old.1))
+    ⊎ (complaints (Ends Unreadable (complaint no_memory)) old.2 status new.2 × (new.1 ≡ old.1)))

@@ -1,0 +1,82 @@
+-- The fires of an expression as rows.
+use Rattle.std.specs.Prelude.{ℕ, zero, suc, ◌-◌, ℤ, pos, ◌-ℤ◌, Bool, true, false, List, map, take, Option, Some, None, Result, ⊤}
+use Rattle.std.specs.declared.io.Error.{Error}
+use Rattle.jiff_tz.specs.declared.timezone.TimeZone.{TimeZone}
+use Rattle.cron_units.specs.Sets.{Sets}
+use Rattle.cron_dues.specs.Due as dues
+use Rattle.cron_dues.specs.DueText.{due_text}
+use Rattle.cron_moments.specs.MomentText.{moment_text}
+use Rattle.cron_moments.specs.Readings as moments
+use Rattle.cron_unions.specs.UnionDues.{dues_any_after, dues_any_back, dues_any_between}
+use Rattle.cron_unions.specs.Unions.{fires_any_after, fires_any_back, fires_any_between}
+use Rattle.cron_fires.specs.declared.changes.ClockChanges.{ClockChanges}
+use Rattle.cron_fires.specs.declared.changes.ClockChanges.TheVariants.{AsShown, Once}
+use Rattle.cron_writer.specs.Calls.{AreGathered, HandsOnLines, IsFlushed}
+use Rattle.cron_writer.specs.Watching.{has_failed, writer_of}
+use Rattle.cron_writer.specs.declared.watched.Watched.{Watched}
+use Rattle.cron_answers.specs.Rows.{row, rows}
+use Rattle.cron_answers.specs.declared.fires.Asked.{Asked}
+use Rattle.cron_answers.specs.declared.fires.Asked.TheVariants.{Next, Back, Between}
+use Rattle.cron_replies.specs.declared.form.Form.{Form}
+
+-- of the times at which a clock shows a match those before the instant t, in nanoseconds since 1970, the latest first
+abbrev pub moments_before : List Sets → TimeZone → ℤ → List moments.Reading
+moments_before ss z t = fires_any_back ss z (t -ℤ pos 1)
+
+-- the same of the matches, each once
+abbrev pub dues_before : List Sets → TimeZone → ℤ → List dues.Due
+dues_before ss z t = dues_any_back ss z (t -ℤ pos 1)
+
+-- of the times at which a clock shows a match those that are asked for, in order
+abbrev pub moments_of : Asked → List Sets → TimeZone → List moments.Reading
+moments_of (Next start count) ss z = take count (fires_any_after ss z start.nanosecond)
+moments_of (Back end count) ss z = take count (moments_before ss z end.nanosecond)
+moments_of (Between start end) ss z = fires_any_between ss z start.nanosecond end.nanosecond
+
+-- of the matches, each once, those that are asked for, in order
+abbrev pub dues_of : Asked → List Sets → TimeZone → List dues.Due
+dues_of (Next start count) ss z = take count (dues_any_after ss z start.nanosecond)
+dues_of (Back end count) ss z = take count (dues_before ss z end.nanosecond)
+dues_of (Between start end) ss z = dues_any_between ss z start.nanosecond end.nanosecond
+
+-- the rows of those that are asked for, by a rule at clock changes
+abbrev pub rows_by : ClockChanges → Form → Asked → List Sets → TimeZone → List ℕ
+rows_by AsShown form asked ss z = rows form moment_text moments.instant (moments_of asked ss z)
+rows_by Once form asked ss z = rows form due_text dues.instant (dues_of asked ss z)
+
+-- ---- how they are gathered
+
+-- the first so many, or all
+abbrev pub first_of : {A : Type 0} → Option ℕ → List A → List A
+first_of None fires = fires
+first_of (Some most) fires = take most fires
+
+abbrev pub is_none_wanted : Option ℕ → Bool
+is_none_wanted None = false
+is_none_wanted (Some zero) = true
+is_none_wanted (Some (suc n)) = false
+
+abbrev pub one_less : Option ℕ → Option ℕ
+one_less None = None
+one_less (Some n) = Some (n - 1)
+
+-- the rows of some fires were gathered one after another
+abbrev pub GathersRows : {A W : Type 0} → (W → List ℕ → Result ℕ Error → W → Type 0) → Form → (A → List ℕ) → (A → ℤ) → Watched W → Watched W → List ℕ → List ℕ → Type 0
+GathersRows {A} writes form text second old new was kept =
+    (fires : List A) × AreGathered writes (map (λ fire. row form (text fire) (second fire)) fires) old new was kept
+
+-- the rows of some fires were gathered, and then what was kept of them was handed on
+abbrev pub HandsOnRows : {A W : Type 0} → (W → List ℕ → Result ℕ Error → W → Type 0) → Form → (A → List ℕ) → (A → ℤ) → Watched W → Watched W → Type 0
+HandsOnRows {A} writes form text second old new =
+    (fires : List A) × HandsOnLines writes (map (λ fire. row form (text fire) (second fire)) fires) old new
+
+-- those of the fires by a rule
+abbrev pub HandsOnRowsBy : {W : Type 0} → ClockChanges → (W → List ℕ → Result ℕ Error → W → Type 0) → Form → Watched W → Watched W → Type 0
+HandsOnRowsBy AsShown writes form old new = HandsOnRows writes form moment_text moments.instant old new
+HandsOnRowsBy Once writes form old new = HandsOnRows writes form due_text dues.instant old new
+
+-- and then the writer was flushed once
+abbrev pub HandsOnRowsFlushed : {W : Type 0} → ClockChanges → (W → List ℕ → Result ℕ Error → W → Type 0) → (W → Result ⊤ Error → W → Type 0) → Form
+    → Watched W → Watched W → Type 0
+HandsOnRowsFlushed {W} changes writes flushes form old new =
+    (last : Watched W) × HandsOnRowsBy changes writes form old last × IsFlushed flushes (writer_of last) (has_failed last) (writer_of new) (has_failed new)

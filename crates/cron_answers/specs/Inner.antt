@@ -1,0 +1,4 @@
+pub mod Backs
+pub mod Digits
+pub mod Tallies
+pub mod Explanations

@@ -1,0 +1,49 @@
+-- The notice that Quartz fires otherwise than a list.
+use Rattle.std.specs.Prelude.{◌≡◌, ◌&&◌, ℕ, ℤ, Bool, true, false, not, List, Option, Some, None, codes}
+use Rattle.std.specs.List.{last_or, list_any}
+use Rattle.std.specs.Ordering.{int_eq}
+use Rattle.jiff_tz.specs.declared.timezone.TimeZone.{TimeZone}
+use Rattle.cron_units.specs.Sets.{Sets}
+use Rattle.cron_dues.specs.Due as dues
+use Rattle.cron_moments.specs.Readings as moments
+use Rattle.cron_moments.specs.Readings.{Reading, readings}
+use Rattle.cron_fires.specs.declared.changes.ClockChanges.{ClockChanges}
+use Rattle.cron_fires.specs.declared.changes.ClockChanges.TheVariants.{AsShown, Once}
+use Rattle.cron_answers.specs.Expressions.{changes_by, schedules_of}
+use Rattle.cron_answers.specs.Fires.{dues_of, moments_of}
+use Rattle.cron_answers.specs.declared.answer.Request.{Request}
+use Rattle.cron_answers.specs.declared.expression.Expression.{Expression}
+use Rattle.cron_answers.specs.declared.fires.Asked.{Asked}
+use Rattle.cron_replies.specs.Statuses.{Ends, Reporting}
+use Rattle.cron_replies.specs.declared.status.Status.{Status}
+use Rattle.cron_replies.specs.declared.status.Status.TheVariants.{Done}
+
+-- the reading has this instant, in seconds
+abbrev pub is_at : ℤ → Option Reading → Bool
+is_at n None = false
+is_at n (Some r) = int_eq (moments.instant r) n
+
+-- Quartz fires a civil second that matches at the last of its readings in the zone, and one of a gap, which has no reading, not at all.
+abbrev pub is_quartz_fire : TimeZone → ℕ → ℤ → Bool
+is_quartz_fire z c n = is_at n (last_or None (readings z c))
+
+-- of some fires, with their civil seconds and their instants, one is none of Quartz
+abbrev pub has_other : {A : Type 0} → (A → ℕ) → (A → ℤ) → TimeZone → List A → Bool
+has_other civil second z fires = list_any (λ fire. not (is_quartz_fire z (civil fire) (second fire))) fires
+
+-- the same of those that are asked for, by a rule at clock changes
+abbrev pub lists_other : ClockChanges → Asked → List Sets → TimeZone → Bool
+lists_other AsShown asked ss z = has_other (λ r. r.second) moments.instant z (moments_of asked ss z)
+lists_other Once asked ss z = has_other (λ d. d.second) dues.instant z (dues_of asked ss z)
+
+-- the expression is one of Quartz, and one of the fires that are asked for is none of Quartz
+abbrev pub is_noted : Request → Expression → Asked → TimeZone → Bool
+is_noted r e asked z = r.quartz && lists_other (changes_by r.changes e) asked (schedules_of e) z
+
+abbrev pub quartz_notice : List ℕ
+quartz_notice = codes "note: Quartz fires differently here: in a fold only at the second time, in a gap not at all\n"
+
+-- Where the notice is due and the list was written whole, the notice was written, and the end is that of it. Else nothing was.
+abbrev pub IsNoted : {C : Type 0} → Bool → Status → Reporting C → C → Status → C → Type 0
+IsNoted true Done complaints old status new = complaints (Ends Done quartz_notice) old status new
+IsNoted _ listed complaints old status new = (status ≡ listed) × (new ≡ old)

@@ -1,0 +1,59 @@
+-- What is said of an expression.
+use Rattle.std.specs.Prelude.{◌≡◌, ◌⊎◌, ◌++◌, ◌∷◌, ℕ, Bool, true, false, List, [], Option, Some, None, codes}
+use Rattle.std.specs.Fmt.{decimal}
+use Rattle.cron_crontab.specs.Crontab as tabs
+use Rattle.cron_tab_lines.specs.declared.kinds.Crontab.TheVariants.{User}
+use Rattle.cron_tab_warnings.specs.Messages.{warning_text}
+use Rattle.cron_tab_warnings.specs.Warnings.{Warns}
+use Rattle.cron_tab_warnings.specs.declared.warnings.TheConstants.{WARNINGS}
+use Rattle.cron_words.specs.Sentence.{sentence}
+use Rattle.cron_words.specs.Waits.{wait_text}
+use Rattle.cron_replies.specs.Telling.{TellsThose}
+use Rattle.cron_answers.specs.Expressions.{IsNoCrontabs, schedules_of}
+use Rattle.cron_answers.specs.declared.expression.Expression.{Expression}
+use Rattle.cron_answers.specs.declared.expression.Expression.TheVariants.{Reboot}
+use Rattle.cron_replies.specs.declared.form.Form.{Form}
+use Rattle.cron_replies.specs.declared.form.Form.TheVariants.{Text, Json}
+use Rattle.cron_answers.specs.declared.tally.Tally.{Tally}
+use Rattle.cron_answers.specs.declared.tally.Waits.{Waits}
+
+-- the sentence of an expression
+abbrev pub sentence_of : Expression → List ℕ
+sentence_of Reboot = codes "When the machine starts"
+sentence_of e = sentence (schedules_of e)
+
+-- a line, or an object of one text
+abbrev pub sentence_line : Form → List ℕ → List ℕ
+sentence_line Text text = text ++ codes "\n"
+sentence_line Json text = codes "{\"sentence\":\"" ++ (text ++ codes "\"}\n")
+
+abbrev pub warning_line : Form → List ℕ → List ℕ
+warning_line Text text = codes "warning: " ++ (text ++ codes "\n")
+warning_line Json text = codes "{\"warning\":\"" ++ (text ++ codes "\"}\n")
+
+-- the warnings of a crontab's expression
+abbrev pub TellsOfTab : Form → List ℕ → tabs.Meaning → List ℕ → Type 0
+TellsOfTab form text meaning told = TellsThose (λ w. Warns User w text meaning) (λ w. warning_line form (warning_text w)) WARNINGS told
+
+-- those of a text, which has none where it is no crontab's expression
+abbrev pub TellsWarnings : Bool → Form → List ℕ → List ℕ → Type 0
+TellsWarnings true form text told = told ≡ []
+TellsWarnings false form text told =
+    ((m : tabs.Meaning) × tabs.Means text m × TellsOfTab form text m told) ⊎ (IsNoCrontabs text × (told ≡ []))
+
+-- the sentence and the warnings
+pub record IsHead (quartz : Bool) (form : Form) (text : List ℕ) (e : Expression) (head : List ℕ) : Type 0 where
+  pub warnings : List ℕ
+  pub tells : TellsWarnings quartz form text warnings
+  pub joined : head ≡ sentence_line form (sentence_of e) ++ warnings
+
+-- how many fires there are, and the waits between them, in words or else in seconds
+abbrev pub waits_text : Form → Option Waits → List ℕ
+waits_text form None = []
+waits_text Text (Some w) =
+    codes "shortest wait: " ++ (wait_text w.shortest ++ (codes "\nlongest wait: " ++ (wait_text w.longest ++ codes "\n")))
+waits_text Json (Some w) = codes ",\"shortest_wait\":" ++ (decimal w.shortest ++ (codes ",\"longest_wait\":" ++ decimal w.longest))
+
+abbrev pub tally_text : Form → Tally → List ℕ
+tally_text Text t = codes "fires in 365 days: " ++ (decimal t.fires ++ (codes "\n" ++ waits_text Text t.waits))
+tally_text Json t = codes "{\"fires_in_365_days\":" ++ (decimal t.fires ++ (waits_text Json t.waits ++ codes "}\n"))

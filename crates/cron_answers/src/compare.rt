@@ -1,0 +1,75 @@
+//! What the words of `compare` are answered.
+
+ghost use Rattle.std.specs.Prelude.{◌≡◌, ◌||◌, false, IfOk};
+ghost use Rattle.std.specs.String.{string_bytes};
+ghost use Rattle.cron_writer.specs.Watching.{has_failed};
+ghost use Rattle.cron_answers.specs.Pairs.{Compares, difference_status, difference_text};
+ghost use Rattle.cron_replies.specs.Statuses.{is_write_failure, Reports};
+
+use crate::pair::{Pair, matches_second, read_both, send_text, tell_no_memory};
+use crate::trouble::tell;
+use cron_comparing::difference::first_difference;
+use cron_moments::civil::civil_of;
+use cron_replies::status::Status;
+use cron_units::fields::ScheduleFields;
+use cron_writer::watchable::Watchable;
+use cron_writer::watched::Watched;
+use std::alloc::{AllocError, Global};
+
+// How the subcommand ends: whether there is no difference.
+fn difference_status(found: Option<u32>) -> Status
+    ensures status { result ≡ difference_status found }
+    ensures done { is_write_failure result ≡ false }
+{
+    match found {
+        Some(_) => Status::No,
+        None => Status::Done,
+    }
+}
+
+// The line of the first difference, and which of the two matches it; or nothing.
+fn difference_text(
+    alloc: Global,
+    union: &[ScheduleFields],
+    found: Option<u32>,
+) -> Result<String, AllocError>
+    ensures { IfOk result (λ text. string_bytes text ≡ difference_text union.now found) }
+{
+    let Some(second) = found else {
+        return Ok(String::new(alloc));
+    };
+    let date_time = civil_of(second);
+    if matches_second(union, second) {
+        format!(in alloc; "{date_time}: the first alone\n")
+    } else {
+        format!(in alloc; "{date_time}: the second alone\n")
+    }
+}
+
+/// Tells whether two expressions match the same civil seconds: the status is `Done`, or it is `No`,
+/// and the first second that one of them alone matches is written. No call of the writers may have
+/// failed before.
+pub fn compare<W: Watchable, C: Watchable>(
+    alloc: Global,
+    pair: &Pair<'_>,
+    out: &mut Watched<W>,
+    complaints: &mut Watched<C>,
+) -> Status
+    requires out { has_failed out.old ≡ false }
+    requires complaints { has_failed complaints.old ≡ false }
+    ensures tells { Compares pair.now
+        (Reports W.contents W.writes W.flushes) (Reports C.contents C.writes C.flushes)
+        (out.old, complaints.old) result (out.new, complaints.new) }
+    ensures mark { (has_failed out.new || has_failed complaints.new) ≡ is_write_failure result }
+{
+    let both = match read_both(pair) {
+        Ok(both) => both,
+        Err(trouble) => return tell(alloc, &trouble, complaints),
+    };
+    let union = both.first.as_slice();
+    let found = first_difference(union, both.second.as_slice());
+    match difference_text(alloc, union, found) {
+        Ok(text) => send_text(text.as_str(), difference_status(found), out),
+        Err(_) => tell_no_memory(complaints),
+    }
+}

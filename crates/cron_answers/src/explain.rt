@@ -1,0 +1,183 @@
+//! What the words of `explain` are answered.
+
+ghost use Rattle.std.specs.Prelude.{◌≡◌, ◌||◌, ◌++◌, ℕ, List, Option, IfOk, false};
+ghost use Rattle.std.specs.String.{string_bytes};
+ghost use Rattle.jiff.specs.Words.{plain_zone};
+ghost use Rattle.cron_writer.specs.Calls.{AreWrites, AreWritesFlushed};
+ghost use Rattle.cron_writer.specs.Watching.{has_failed, writer_of, IsSent};
+ghost use Rattle.cron_answers.specs.Answers.{given};
+ghost use Rattle.cron_answers.specs.Explanations.{AnswersExplain, IsYearAfter, start_of};
+ghost use Rattle.cron_answers.specs.Fires.{rows_by};
+ghost use Rattle.cron_answers.specs.Inner.Explanations.{AreTexts};
+ghost use Rattle.cron_replies.specs.Statuses.{Ends, is_write_failure, Reports};
+ghost use Rattle.cron_replies.specs.declared.status.Status.TheVariants.{Done};
+
+use crate::answer::{Request, asked_of};
+use crate::expression::{Expression, read_as};
+use crate::fires::{Asked, send_fires};
+use crate::pair::tell_no_memory;
+use crate::report::{head_of, tally_text};
+use crate::tally::count_fires;
+use crate::trouble::{Trouble, tell, zone_word};
+use cron_fires::ClockChanges;
+use cron_replies::form::Form;
+use cron_replies::status::{Status, finish};
+use cron_units::fields::ScheduleFields;
+use cron_writer::watchable::Watchable;
+use cron_writer::watched::{Watched, send};
+use cron_zones::files::ZoneFiles;
+use cron_zones::open::{Places, open};
+use jiff::Timestamp;
+use jiff::tz::TimeZone;
+use std::alloc::{AllocError, Global};
+
+/// The nanoseconds of 365 days.
+const YEAR: i128 = 31_536_000_000_000_000;
+
+/// What stands before the rows of fires, and behind them.
+#[derive(Drop)]
+pub(crate) struct Texts {
+    head: String,
+    tail: String,
+}
+
+fn start_of(asked: &Asked) -> Timestamp
+    ensures { result.nanosecond ≡ start_of asked.now }
+{
+    match *asked {
+        Asked::Next(start, _) => start,
+        Asked::Between(start, _) => start,
+        Asked::Back(start, _) => start,
+    }
+}
+
+// The instant 365 days later, or the last one that there is.
+fn year_after(start: Timestamp) -> Timestamp
+    ensures { IsYearAfter start.nanosecond result.nanosecond }
+{
+    match Timestamp::from_nanosecond(start.as_nanosecond() + YEAR) {
+        Ok(end) => end,
+        Err(_) => Timestamp::MAX,
+    }
+}
+
+// Makes both texts.
+fn texts_of(
+    alloc: Global,
+    request: &Request<'_>,
+    expression: &Expression,
+    asked: &Asked,
+    zone: &TimeZone<'_>,
+) -> Result<Texts, AllocError>
+    ensures { IfOk result (λ texts.
+        AreTexts request.now expression.now (plain_zone zone.now) asked.now texts) }
+{
+    let head = head_of(
+        alloc,
+        request.quartz,
+        request.form,
+        request.expression,
+        expression,
+    )?;
+    let start = start_of(asked);
+    let end = year_after(start);
+    let changes = expression.changes(request.changes);
+    let tally = count_fires(expression.as_slice(), changes, start, end, zone);
+    let tail = tally_text(alloc, request.form, &tally)?;
+    Ok(Texts { head, tail })
+}
+
+// Writes the rows of fires after what was handed on before, and nothing once a call has failed.
+fn send_more<W: Watchable>(
+    schedules: &[ScheduleFields],
+    changes: ClockChanges,
+    asked: &Asked,
+    zone: &TimeZone<'_>,
+    form: Form,
+    out: &mut Watched<W>,
+)
+    ensures sent { (origin : Option (List ℕ)) (before : List ℕ)
+        → IsSent origin (W.contents (writer_of out.old)) (has_failed out.old) before
+        → IsSent origin (W.contents (writer_of out.new)) (has_failed out.new)
+        (before ++ rows_by changes form asked.now schedules.now (plain_zone zone.now)) }
+    ensures calls { AreWrites W.writes
+        (writer_of out.old) (has_failed out.old) (writer_of out.new) (has_failed out.new) }
+{
+    if !out.has_failed() {
+        send_fires(schedules, changes, asked, zone, form, out);
+    }
+}
+
+// Writes rows of fires between two texts, and flushes. No call of the writer may have failed
+// before.
+fn send_between<W: Watchable>(
+    texts: &Texts,
+    schedules: &[ScheduleFields],
+    changes: ClockChanges,
+    asked: &Asked,
+    zone: &TimeZone<'_>,
+    form: Form,
+    out: &mut Watched<W>,
+) -> Status
+    requires { has_failed out.old ≡ false }
+    ensures ends { Ends Done
+        ((string_bytes texts.now.head
+        ++ rows_by changes form asked.now schedules.now (plain_zone zone.now))
+        ++ string_bytes texts.now.tail)
+        (W.contents (writer_of out.old)) (W.contents (writer_of out.new)) result }
+    ensures mark { has_failed out.new ≡ is_write_failure result }
+    ensures calls { AreWritesFlushed W.writes W.flushes
+        (writer_of out.old) (has_failed out.old) (writer_of out.new) (has_failed out.new) }
+{
+    send(out, texts.head.as_bytes());
+    send_more(schedules, changes, asked, zone, form, out);
+    send(out, texts.tail.as_bytes());
+    finish(out, Status::Done)
+}
+
+/// Answers a request: the sentence of the expression, the warnings of a crontab's, the fires that
+/// are asked for, and how many there are in the 365 days from then, with the shortest and the
+/// longest wait between two. They go to the one writer, and what is wrong to the other. No call of
+/// the writers may have failed before.
+pub fn explain<F: ZoneFiles, W: Watchable, C: Watchable>(
+    alloc: Global,
+    request: &Request<'_>,
+    now: Timestamp,
+    places: &Places<'_>,
+    files: &mut F,
+    out: &mut Watched<W>,
+    complaints: &mut Watched<C>,
+) -> Status
+    requires out { has_failed out.old ≡ false }
+    requires complaints { has_failed complaints.old ≡ false }
+    ensures answers { AnswersExplain (given F.reads places.now now.nanosecond) request.now
+        (Reports W.contents W.writes W.flushes) (Reports C.contents C.writes C.flushes)
+        (files.old, out.old, complaints.old) result (files.new, out.new, complaints.new) }
+    ensures mark { (has_failed out.new || has_failed complaints.new) ≡ is_write_failure result }
+{
+    let expression = match read_as(request.quartz, request.expression) {
+        Ok(expression) => expression,
+        Err(refusal) => {
+            let trouble = Trouble::Expression(request.expression, refusal);
+            return tell(alloc, &trouble, complaints);
+        }
+    };
+    let opened = match open(alloc, request.zone, places, files) {
+        Ok(opened) => opened,
+        Err(error) => {
+            let word = zone_word(request.zone, places);
+            return tell(alloc, &Trouble::Zone(word, error), complaints);
+        }
+    };
+    let zone = opened.time_zone();
+    let asked = match asked_of(&request.which, &zone, now) {
+        Ok(asked) => asked,
+        Err(trouble) => return tell(alloc, &trouble, complaints),
+    };
+    let Ok(texts) = texts_of(alloc, request, &expression, &asked, &zone) else {
+        return tell_no_memory(complaints);
+    };
+    let changes = expression.changes(request.changes);
+    let schedules = expression.as_slice();
+    send_between(&texts, schedules, changes, &asked, &zone, request.form, out)
+}

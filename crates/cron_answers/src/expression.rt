@@ -1,0 +1,121 @@
+//! Expressions: five fields or a nickname are a crontab's, six or seven fields this library's, or
+//! Quartz's where that is asked for.
+
+ghost use Rattle.std.specs.Prelude.{◌≡◌, ◌≤◌, length, MatchResult};
+ghost use Rattle.cron_crontab.specs.Crontab.{Refuses};
+ghost use Rattle.cron_crontab.specs.Views.{fault_view};
+ghost use Rattle.cron_answers.specs.Expressions.{changes_by, clock_changes, IsRead, IsReadAs, IsRefused, IsRefusedAs, KeepsCrontabs, KeepsOwn, schedules_of};
+
+use crate::refusal::Refusal;
+use crate::words::has_words;
+use cron_crontab::{Expression as TabExpression, Fault, Schedules, read as read_tab};
+use cron_fires::ClockChanges;
+use cron_quartz::{Expression as Union, read as read_quartz};
+use cron_tab_warnings::follows_clock;
+use cron_text::{fault_of, no_ordinals, read_into};
+use cron_units::fields::ScheduleFields;
+
+/// How many words an expression of this library has at least.
+const FIELDS: usize = 6;
+
+/// What an expression is.
+#[derive(Drop)]
+pub enum Expression {
+    /// A crontab's: one schedule, or two of which one suffices, and its own rule at clock changes.
+    Crontab(Schedules, ClockChanges),
+    /// A crontab's `@reboot`, which no clock fires.
+    Reboot,
+    /// This library's.
+    Own([ScheduleFields; 1]),
+    /// Quartz's: up to twelve schedules, of which one suffices.
+    Quartz(Union),
+}
+
+impl Expression {
+    /// Its schedules. It fires when any of them does; `@reboot` has none.
+    pub fn as_slice(&self) -> &[ScheduleFields]
+        ensures list { result.now ≡ schedules_of self.now }
+        ensures few { length result.now ≤ 12 }
+    {
+        match self {
+            Expression::Crontab(schedules, _) => schedules.as_slice(),
+            Expression::Reboot => &[],
+            Expression::Own(one) => one,
+            Expression::Quartz(union) => union.as_slice(),
+        }
+    }
+
+    /// The rule at clock changes: the one that was chosen, or its own.
+    pub fn changes(&self, chosen: Option<ClockChanges>) -> ClockChanges
+        ensures { result ≡ changes_by chosen self.now }
+    {
+        match (chosen, self) {
+            (Some(changes), _) => changes,
+            (None, Expression::Crontab(_, changes)) => *changes,
+            (None, _) => ClockChanges::AsShown,
+        }
+    }
+}
+
+// The rule of a crontab's expression: one that follows the clock fires each time that it shows a
+// match, one at a fixed time once for each.
+fn clock_changes(text: &str) -> ClockChanges
+    ensures { result ≡ clock_changes text.now }
+{
+    if follows_clock(text) {
+        ClockChanges::AsShown
+    } else {
+        ClockChanges::Once
+    }
+}
+
+// Reads a text that is no crontab's expression, for this fault.
+fn read_own<'a>(text: &'a str, fault: Fault<'a>) -> Result<Expression, Refusal<'a>>
+    requires { Refuses text.now (fault_view fault) }
+    ensures { MatchResult result (IsRead text.now) (IsRefused text.now) }
+{
+    let mut fields = no_ordinals();
+    if read_into(text, &mut fields) {
+        return Ok(Expression::Own([fields]));
+    }
+    if has_words(text, FIELDS) {
+        return Err(Refusal::Own(fault_of(text)));
+    }
+    Err(Refusal::Crontab(fault))
+}
+
+/// Reads an expression. Of both kinds are nicknames alone, and they are a crontab's, by its clock;
+/// their schedules are the same. A text of neither is refused with a crontab's fault where it has
+/// fewer than six words, else with this library's.
+pub fn read(text: &str) -> Result<Expression, Refusal<'_>>
+    ensures { MatchResult result (IsRead text.now) (IsRefused text.now) }
+{
+    let outcome = read_tab(text);
+    match &outcome {
+        Ok(TabExpression::Fires(schedules)) => {
+            Ok(Expression::Crontab(*schedules, clock_changes(text)))
+        }
+        Ok(TabExpression::Reboot) => Ok(Expression::Reboot),
+        Err(fault) => read_own(text, *fault),
+    }
+}
+
+/// Reads an expression: Quartz's where that is asked for, else one of the other two kinds.
+pub fn read_as(quartz: bool, text: &str) -> Result<Expression, Refusal<'_>>
+    ensures { MatchResult result (IsReadAs quartz text.now) (IsRefusedAs quartz text.now) }
+{
+    if !quartz {
+        return read(text);
+    }
+    match read_quartz(text) {
+        Ok(union) => Ok(Expression::Quartz(union)),
+        Err(fault) => Err(Refusal::Quartz(fault)),
+    }
+}
+
+/// A law over the definitions, for callers that call it for what its contract says: what a text
+/// means to a crontab, or to this library, it is read as.
+pub fn meanings_are_kept()
+    ensures crontabs { KeepsCrontabs }
+    ensures own { KeepsOwn }
+{}

@@ -1,0 +1,230 @@
+//! The fires of an expression as rows: the next ones after an instant, the last ones before it, and
+//! those between two.
+
+ghost use Rattle.std.specs.Prelude.{◌≡◌, [], false};
+ghost use Rattle.jiff.specs.Words.{plain_zone};
+ghost use Rattle.cron_dues.specs.Due as dues;
+ghost use Rattle.cron_dues.specs.DueText.{due_text};
+ghost use Rattle.cron_moments.specs.MomentText.{moment_text};
+ghost use Rattle.cron_moments.specs.Readings as moments;
+ghost use Rattle.cron_writer.specs.Calls.{AreWrites, AreWritesFlushed};
+ghost use Rattle.cron_writer.specs.Watching.{has_failed, kept_in, writer_of, IsGathered, IsSent};
+ghost use Rattle.cron_answers.specs.Expressions.{changes_by, schedules_of};
+ghost use Rattle.cron_answers.specs.Fires.{dues_of, first_of, is_none_wanted, moments_of, one_less, rows_by, GathersRows, HandsOnRows, HandsOnRowsBy, HandsOnRowsFlushed};
+ghost use Rattle.cron_answers.specs.Rows.{rows};
+ghost use Rattle.cron_replies.specs.Statuses.{Ends, is_write_failure};
+ghost use Rattle.cron_replies.specs.declared.status.Status.TheVariants.{Done};
+
+use crate::back::{dues_before, moments_before};
+use crate::expression::Expression;
+use crate::left::Left;
+use crate::row::{Told, row_of};
+use cron_fires::{ClockChanges, Dues, Fires, Union};
+use cron_replies::form::Form;
+use cron_replies::status::{Status, finish};
+use cron_units::fields::ScheduleFields;
+use cron_writer::gathered::Gathered;
+use cron_writer::watchable::Watchable;
+use cron_writer::watched::Watched;
+use jiff::Timestamp;
+use jiff::tz::TimeZone;
+
+/// Which fires are listed.
+#[derive(Clone, Copy)]
+pub enum Asked {
+    /// The first so many whose instant comes after this one.
+    Next(Timestamp, u64),
+    /// The last so many whose instant comes before this one, the latest first.
+    Back(Timestamp, u64),
+    /// Those whose instant comes after the first, and not after the second.
+    Between(Timestamp, Timestamp),
+}
+
+/// Whether no more fires are wanted.
+pub(crate) fn is_none_wanted(most: Option<u64>) -> bool
+    ensures { result ≡ is_none_wanted most }
+{
+    matches!(most, Some(0))
+}
+
+/// One fire less is wanted.
+pub(crate) fn one_less(most: Option<u64>) -> Option<u64>
+    requires { is_none_wanted most ≡ false }
+    ensures { result ≡ one_less most }
+{
+    match most {
+        Some(count) => Some(count - 1),
+        None => None,
+    }
+}
+
+// Gathers the rows of the first fires that are left, at most so many, until a write fails.
+fn gather_rows<F: Told, L: Left<F>, W: Watchable>(
+    left: &mut L,
+    most: Option<u64>,
+    form: Form,
+    lines: &mut Gathered,
+    out: &mut Watched<W>,
+)
+    requires fresh { has_failed out.old ≡ false }
+    requires nothing { kept_in lines.old ≡ [] }
+    ensures rows { IsGathered
+        (W.contents (writer_of out.old)) (W.contents (writer_of out.new)) (has_failed out.new)
+        (kept_in lines.new) (rows form F.text F.second (first_of most (L.left left.old))) }
+    ensures calls { AreWrites W.writes
+        (writer_of out.old) (has_failed out.old) (writer_of out.new) (has_failed out.new) }
+    ensures gathers { GathersRows W.writes form F.text F.second
+        out.old out.new [] (kept_in lines.new) }
+{
+    let mut more = most;
+    'fires: while !is_none_wanted(more) {
+        let Some(fire) = left.take_first() else {
+            return;
+        };
+        lines.push_line(row_of(form, &fire).as_slice(), out);
+        if out.has_failed() {
+            return;
+        }
+        more = one_less(more);
+    }
+}
+
+/// Writes the rows of the first fires that are left, at most so many, until a write fails. They are
+/// handed on many at a time, and the rest of them at the end.
+pub(crate) fn send_rows<F: Told, L: Left<F>, W: Watchable>(
+    left: &mut L,
+    most: Option<u64>,
+    form: Form,
+    out: &mut Watched<W>,
+)
+    requires { has_failed out.old ≡ false }
+    ensures rows { IsSent
+        (W.contents (writer_of out.old)) (W.contents (writer_of out.new)) (has_failed out.new)
+        (rows form F.text F.second (first_of most (L.left left.old))) }
+    ensures calls { AreWrites W.writes
+        (writer_of out.old) (has_failed out.old) (writer_of out.new) (has_failed out.new) }
+    ensures gathers { HandsOnRows W.writes form F.text F.second out.old out.new }
+{
+    let mut lines = Gathered::new();
+    gather_rows(left, most, form, &mut lines, out);
+    lines.send(out);
+}
+
+// By the rule that each time is a fire at which the clock shows a match.
+fn send_moments<W: Watchable>(
+    schedules: &[ScheduleFields],
+    asked: &Asked,
+    zone: &TimeZone<'_>,
+    form: Form,
+    out: &mut Watched<W>,
+)
+    requires { has_failed out.old ≡ false }
+    ensures rows { IsSent
+        (W.contents (writer_of out.old)) (W.contents (writer_of out.new)) (has_failed out.new)
+        (rows form moment_text moments.instant
+        (moments_of asked.now schedules.now (plain_zone zone.now))) }
+    ensures calls { AreWrites W.writes
+        (writer_of out.old) (has_failed out.old) (writer_of out.new) (has_failed out.new) }
+    ensures gathers { HandsOnRows W.writes form moment_text moments.instant out.old out.new }
+{
+    let table = Union { schedules };
+    match *asked {
+        Asked::Next(start, count) => {
+            let mut run = Fires::after(&table, start, zone);
+            send_rows(&mut run, Some(count), form, out);
+        }
+        Asked::Back(end, count) => {
+            let mut run = moments_before(schedules, end, zone);
+            send_rows(&mut run, Some(count), form, out);
+        }
+        Asked::Between(start, end) => {
+            let mut run = Fires::between(&table, start, end, zone);
+            send_rows(&mut run, None, form, out);
+        }
+    }
+}
+
+// By the rule that each match is a fire once.
+fn send_dues<W: Watchable>(
+    schedules: &[ScheduleFields],
+    asked: &Asked,
+    zone: &TimeZone<'_>,
+    form: Form,
+    out: &mut Watched<W>,
+)
+    requires { has_failed out.old ≡ false }
+    ensures rows { IsSent
+        (W.contents (writer_of out.old)) (W.contents (writer_of out.new)) (has_failed out.new)
+        (rows form due_text dues.instant
+        (dues_of asked.now schedules.now (plain_zone zone.now))) }
+    ensures calls { AreWrites W.writes
+        (writer_of out.old) (has_failed out.old) (writer_of out.new) (has_failed out.new) }
+    ensures gathers { HandsOnRows W.writes form due_text dues.instant out.old out.new }
+{
+    let table = Union { schedules };
+    match *asked {
+        Asked::Next(start, count) => {
+            let mut run = Dues::after(&table, start, zone);
+            send_rows(&mut run, Some(count), form, out);
+        }
+        Asked::Back(end, count) => {
+            let mut run = dues_before(schedules, end, zone);
+            send_rows(&mut run, Some(count), form, out);
+        }
+        Asked::Between(start, end) => {
+            let mut run = Dues::between(&table, start, end, zone);
+            send_rows(&mut run, None, form, out);
+        }
+    }
+}
+
+/// Writes the rows of the fires that are asked for, by a rule, until a write fails.
+pub(crate) fn send_fires<W: Watchable>(
+    schedules: &[ScheduleFields],
+    changes: ClockChanges,
+    asked: &Asked,
+    zone: &TimeZone<'_>,
+    form: Form,
+    out: &mut Watched<W>,
+)
+    requires { has_failed out.old ≡ false }
+    ensures rows { IsSent
+        (W.contents (writer_of out.old)) (W.contents (writer_of out.new)) (has_failed out.new)
+        (rows_by changes form asked.now schedules.now (plain_zone zone.now)) }
+    ensures calls { AreWrites W.writes
+        (writer_of out.old) (has_failed out.old) (writer_of out.new) (has_failed out.new) }
+    ensures gathers { HandsOnRowsBy changes W.writes form out.old out.new }
+{
+    match changes {
+        ClockChanges::AsShown => send_moments(schedules, asked, zone, form, out),
+        ClockChanges::Once => send_dues(schedules, asked, zone, form, out),
+    }
+}
+
+/// Writes a row for each fire that is asked for, in order, and flushes: by the rule that was
+/// chosen, or the expression's own. It takes no memory. Whole rows are handed to the writer
+/// together, up to 4,096 bytes a call, and the last of them before the flush. Once a call fails the
+/// writer is not called again: it holds what it took before. None may have failed before this call.
+pub fn list<W: Watchable>(
+    expression: &Expression,
+    chosen: Option<ClockChanges>,
+    asked: &Asked,
+    zone: &TimeZone<'_>,
+    form: Form,
+    out: &mut Watched<W>,
+) -> Status
+    requires { has_failed out.old ≡ false }
+    ensures lists { Ends Done
+        (rows_by (changes_by chosen expression.now) form asked.now
+        (schedules_of expression.now) (plain_zone zone.now))
+        (W.contents (writer_of out.old)) (W.contents (writer_of out.new)) result }
+    ensures mark { has_failed out.new ≡ is_write_failure result }
+    ensures calls { AreWritesFlushed W.writes W.flushes
+        (writer_of out.old) (has_failed out.old) (writer_of out.new) (has_failed out.new) }
+    ensures gathers { HandsOnRowsFlushed (changes_by chosen expression.now)
+        W.writes W.flushes form out.old out.new }
+{
+    let changes = expression.changes(chosen);
+    send_fires(expression.as_slice(), changes, asked, zone, form, out);
+    finish(out, Status::Done)
+}

@@ -1,0 +1,88 @@
+//! Whether a fire was missed: no run came since, and its grace is over.
+
+ghost use Rattle.std.specs.Prelude.{◌≡◌, false};
+ghost use Rattle.jiff.specs.Words.{plain_zone};
+ghost use Rattle.cron_dues.specs.Due as dues;
+ghost use Rattle.cron_moments.specs.Readings as moments;
+ghost use Rattle.cron_unions.specs.FirstOfAny.{IsItemOfAny};
+ghost use Rattle.cron_unions.specs.UnionDues.{IsDueOfAny};
+ghost use Rattle.cron_writer.specs.Calls.{AreWritesFlushed};
+ghost use Rattle.cron_writer.specs.Watching.{has_failed, writer_of};
+ghost use Rattle.cron_answers.specs.Expressions.{changes_by, schedules_of};
+ghost use Rattle.cron_answers.specs.Lateness.{IsFirstAfter, SaysWhetherBy};
+ghost use Rattle.cron_replies.specs.Statuses.{is_write_failure};
+
+use crate::expression::Expression;
+use crate::missed::{missed_of, say};
+use cron_dues::fire::DueFire;
+use cron_fires::{ClockChanges, Union, first_due_after, first_fire_after};
+use cron_moments::moment::Moment;
+use cron_replies::status::Status;
+use cron_units::fields::ScheduleFields;
+use cron_writer::watchable::Watchable;
+use cron_writer::watched::Watched;
+use jiff::Timestamp;
+use jiff::tz::TimeZone;
+
+/// A run, and how long it may take.
+#[derive(Clone, Copy)]
+pub struct LastRun {
+    /// The instant of the last run.
+    pub instant: Timestamp,
+    /// How many seconds after a fire its run may be noted.
+    pub grace: u32,
+}
+
+// By the rule that each time is a fire at which the clock shows a match.
+fn first_moment(
+    schedules: &[ScheduleFields],
+    last: Timestamp,
+    zone: &TimeZone<'_>,
+) -> Option<Moment>
+    ensures { IsFirstAfter (IsItemOfAny schedules.now (plain_zone zone.now))
+        moments.instant (λ r. r.second) last.nanosecond result }
+{
+    first_fire_after(&Union { schedules }, last, zone)
+}
+
+// By the rule that each match is a fire once.
+fn first_due(schedules: &[ScheduleFields], last: Timestamp, zone: &TimeZone<'_>) -> Option<DueFire>
+    ensures { IsFirstAfter (IsDueOfAny schedules.now (plain_zone zone.now))
+        dues.instant (λ d. d.second) last.nanosecond result }
+{
+    first_due_after(&Union { schedules }, last, zone)
+}
+
+/// Says in one sentence whether a fire was missed, by the rule that was chosen, or the expression's
+/// own: it came after the last run, and the grace after it is over. The sentence names the first
+/// such fire, of those that share its instant the first by civil second, and since when it is late.
+/// No call of the writer may have failed before.
+pub fn say_whether<W: Watchable>(
+    expression: &Expression,
+    chosen: Option<ClockChanges>,
+    last: &LastRun,
+    now: Timestamp,
+    zone: &TimeZone<'_>,
+    out: &mut Watched<W>,
+) -> Status
+    requires { has_failed out.old ≡ false }
+    ensures says { SaysWhetherBy (changes_by chosen expression.now)
+        (schedules_of expression.now) (plain_zone zone.now)
+        last.now.instant.nanosecond last.now.grace now.nanosecond
+        (W.contents (writer_of out.old)) (W.contents (writer_of out.new)) result }
+    ensures mark { has_failed out.new ≡ is_write_failure result }
+    ensures calls { AreWritesFlushed W.writes W.flushes
+        (writer_of out.old) (has_failed out.old) (writer_of out.new) (has_failed out.new) }
+{
+    let schedules = expression.as_slice();
+    match expression.changes(chosen) {
+        ClockChanges::AsShown => {
+            let first = first_moment(schedules, last.instant, zone);
+            say(&missed_of(first, last.grace, now), out)
+        }
+        ClockChanges::Once => {
+            let first = first_due(schedules, last.instant, zone);
+            say(&missed_of(first, last.grace, now), out)
+        }
+    }
+}

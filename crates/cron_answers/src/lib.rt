@@ -1,0 +1,33 @@
+//! What `crontool` does with expressions, over any writer and any zone files: expressions of three
+//! kinds, instants as a shell writes them, fires as rows, missed and pending fires, comparisons.
+#![tactic(auto)]
+
+pub mod answer;
+mod back;
+pub mod compare;
+pub mod done;
+pub mod due;
+pub mod explain;
+pub mod expression;
+pub mod fires;
+pub mod instant;
+pub mod late;
+pub mod lateness;
+mod left;
+pub mod missed;
+pub mod noted;
+pub mod notice;
+pub mod oncalendar;
+pub mod overlap;
+pub mod pair;
+pub mod pending;
+pub mod period;
+mod quartz_note;
+pub mod refusal;
+mod report;
+pub mod row;
+pub mod stamp;
+mod subject;
+pub mod tally;
+pub mod trouble;
+mod words;

@@ -1,0 +1,151 @@
+//! A fire that was missed, and the sentence that says so.
+
+ghost use Rattle.std.specs.Prelude.{◌≡◌, ◌≤◌, ◌+◌, ◌++◌, ◌∷◌, int_le, length, neg_ℤ, pos, false};
+ghost use Rattle.std.specs.Fmt.{signed_decimal};
+ghost use Rattle.jiff_core.specs.Calendar.{IsBetween};
+ghost use Rattle.arrayvec.specs.ArrayVec.{array_vec_len};
+ghost use Rattle.cron_writer.specs.Calls.{AreWritesFlushed};
+ghost use Rattle.cron_writer.specs.Watching.{has_failed, writer_of};
+ghost use Rattle.cron_answers.specs.Lateness.{IsSentence, IsSinceText, Says, in_time_sentence, late_sentence, late_status, missed_of, nanos, since_of};
+ghost use Rattle.cron_replies.specs.Statuses.{is_write_failure};
+
+use crate::row::Told;
+use arrayvec::ArrayVec;
+use cron_dues::text::Text;
+use cron_moments::parts::moment_at;
+use cron_replies::status::{Status, finish};
+use cron_writer::watchable::Watchable;
+use cron_writer::watched::{Watched, send};
+use itoa::Buffer;
+use jiff::Timestamp;
+use jiff::tz::Offset;
+
+/// The longest sentence, with two texts of 53 bytes.
+const LONGEST: usize = 131;
+
+type Sentence = ArrayVec<u8, LONGEST>;
+
+const NANOS: i128 = 1_000_000_000;
+
+/// A fire that no run came up to, and since when it is late, in seconds since 1970.
+#[derive(Clone, Copy)]
+pub struct Missed<F> {
+    pub fire: F,
+    pub since: i64,
+}
+
+// Whether an instant has come.
+fn has_come(second: i64, now: Timestamp) -> bool
+    ensures { result ≡ int_le (nanos second) now.nanosecond }
+{
+    i128::from(second) * NANOS <= now.as_nanosecond()
+}
+
+// Since when a fire is late, if its grace is over.
+fn since_of(second: i64, grace: u32, now: Timestamp) -> Option<i64>
+    requires bound { IsBetween (neg_ℤ (pos 93_599)) (pos 8_590_028_189) second }
+    ensures { result ≡ since_of second grace now.nanosecond }
+{
+    let since = second + i64::from(grace);
+    if has_come(since, now) {
+        Some(since)
+    } else {
+        None
+    }
+}
+
+/// The fire is missed where its grace, in seconds, is over.
+pub(crate) fn missed_of<F: Told>(first: Option<F>, grace: u32, now: Timestamp) -> Option<Missed<F>>
+    ensures { result ≡ missed_of F.second grace now.nanosecond first }
+{
+    let fire = first?;
+    let since = since_of(fire.second(), grace, now)?;
+    Some(Missed { fire, since })
+}
+
+// Appends bytes.
+fn push_bytes(sentence: &mut Sentence, bytes: &[u8])
+    requires { array_vec_len sentence.old + length bytes.now ≤ 131 }
+    ensures items { sentence.new.items ≡ sentence.old.items ++ bytes.now }
+    ensures len { array_vec_len sentence.new ≡ array_vec_len sentence.old + length bytes.now }
+{
+    sentence.try_extend_from_slice(bytes).unwrap();
+}
+
+// An instant as `@` and its seconds.
+fn counted_text(second: i64) -> Text
+    ensures { result.items ≡ 64 ∷ signed_decimal second }
+{
+    let mut text = Text::new();
+    text.try_extend_from_slice(b"@").unwrap();
+    let mut buffer = Buffer::new();
+    text.try_extend_from_slice(buffer.format(second).as_bytes())
+        .unwrap();
+    text
+}
+
+// What a clock at an offset shows at an instant; outside of 1970 to 2100 its seconds.
+fn since_text(second: i64, offset: Offset) -> Text
+    ensures { IsSinceText second offset result.items }
+{
+    match moment_at(second, offset) {
+        Some(moment) => moment.text(),
+        None => counted_text(second),
+    }
+}
+
+fn in_time_sentence() -> Sentence
+    ensures { result.items ≡ in_time_sentence }
+{
+    let mut sentence = Sentence::new();
+    push_bytes(&mut sentence, b"in time: no fire was missed\n");
+    sentence
+}
+
+fn late_sentence(since: &[u8], text: &[u8]) -> Sentence
+    requires since { length since.now ≤ 53 }
+    requires text { length text.now ≤ 53 }
+    ensures { result.items ≡ late_sentence since.now text.now }
+{
+    let mut sentence = Sentence::new();
+    push_bytes(&mut sentence, b"late since ");
+    push_bytes(&mut sentence, since);
+    push_bytes(&mut sentence, b": ");
+    push_bytes(&mut sentence, text);
+    push_bytes(&mut sentence, b" was missed\n");
+    sentence
+}
+
+fn sentence_of<F: Told>(missed: &Option<Missed<F>>) -> Sentence
+    ensures { IsSentence F.text F.offset missed.now result.items }
+{
+    match missed {
+        Some(missed) => {
+            let since = since_text(missed.since, missed.fire.offset());
+            late_sentence(since.as_slice(), missed.fire.text().as_slice())
+        }
+        None => in_time_sentence(),
+    }
+}
+
+fn status_of<F: Told>(missed: &Option<Missed<F>>) -> Status
+    ensures { result ≡ late_status missed.now }
+{
+    match missed {
+        Some(_) => Status::No,
+        None => Status::Done,
+    }
+}
+
+/// Writes the sentence, and flushes.
+pub(crate) fn say<F: Told, W: Watchable>(missed: &Option<Missed<F>>, out: &mut Watched<W>) -> Status
+    requires { has_failed out.old ≡ false }
+    ensures says { Says F.text F.offset missed.now
+        (W.contents (writer_of out.old)) (W.contents (writer_of out.new)) result }
+    ensures mark { has_failed out.new ≡ is_write_failure result }
+    ensures calls { AreWritesFlushed W.writes W.flushes
+        (writer_of out.old) (has_failed out.old) (writer_of out.new) (has_failed out.new) }
+{
+    send(out, sentence_of(missed).as_slice());
+    finish(out, status_of(missed))
+}

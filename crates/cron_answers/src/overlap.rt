@@ -1,0 +1,64 @@
+//! What the words of `overlap` are answered.
+
+ghost use Rattle.std.specs.Prelude.{◌≡◌, ◌||◌, false, IfOk};
+ghost use Rattle.std.specs.String.{string_bytes};
+ghost use Rattle.cron_writer.specs.Watching.{has_failed};
+ghost use Rattle.cron_answers.specs.Pairs.{Overlaps, common_status, common_text};
+ghost use Rattle.cron_replies.specs.Statuses.{is_write_failure, Reports};
+
+use crate::pair::{Pair, read_both, send_text, tell_no_memory};
+use crate::trouble::tell;
+use cron_comparing::common::first_common;
+use cron_moments::civil::civil_of;
+use cron_replies::status::Status;
+use cron_writer::watchable::Watchable;
+use cron_writer::watched::Watched;
+use std::alloc::{AllocError, Global};
+
+// How the subcommand ends: whether there is one that both match.
+fn common_status(found: Option<u32>) -> Status
+    ensures status { result ≡ common_status found }
+    ensures done { is_write_failure result ≡ false }
+{
+    match found {
+        Some(_) => Status::Done,
+        None => Status::No,
+    }
+}
+
+// The line of the first civil second that both match, or nothing.
+fn common_text(alloc: Global, found: Option<u32>) -> Result<String, AllocError>
+    ensures { IfOk result (λ text. string_bytes text ≡ common_text found) }
+{
+    let Some(second) = found else {
+        return Ok(String::new(alloc));
+    };
+    let date_time = civil_of(second);
+    format!(in alloc; "{date_time}\n")
+}
+
+/// Writes the first civil second that two expressions both match, and the status is `Done`; or
+/// there is none, and it is `No`. No call of the writers may have failed before.
+pub fn overlap<W: Watchable, C: Watchable>(
+    alloc: Global,
+    pair: &Pair<'_>,
+    out: &mut Watched<W>,
+    complaints: &mut Watched<C>,
+) -> Status
+    requires out { has_failed out.old ≡ false }
+    requires complaints { has_failed complaints.old ≡ false }
+    ensures tells { Overlaps pair.now
+        (Reports W.contents W.writes W.flushes) (Reports C.contents C.writes C.flushes)
+        (out.old, complaints.old) result (out.new, complaints.new) }
+    ensures mark { (has_failed out.new || has_failed complaints.new) ≡ is_write_failure result }
+{
+    let both = match read_both(pair) {
+        Ok(both) => both,
+        Err(trouble) => return tell(alloc, &trouble, complaints),
+    };
+    let found = first_common(both.first.as_slice(), both.second.as_slice());
+    match common_text(alloc, found) {
+        Ok(text) => send_text(text.as_str(), common_status(found), out),
+        Err(_) => tell_no_memory(complaints),
+    }
+}

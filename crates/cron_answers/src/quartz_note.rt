@@ -1,0 +1,151 @@
+//! The notice that Quartz fires otherwise than a list.
+
+ghost use Rattle.std.specs.Prelude.{◌≡◌, ◌||◌, false};
+ghost use Rattle.jiff.specs.Words.{plain_zone};
+ghost use Rattle.cron_dues.specs.Due as dues;
+ghost use Rattle.cron_moments.specs.Readings as moments;
+ghost use Rattle.cron_writer.specs.Watching.{has_failed};
+ghost use Rattle.cron_answers.specs.Expressions.{changes_by, schedules_of};
+ghost use Rattle.cron_answers.specs.Fires.{dues_of, first_of, moments_of};
+ghost use Rattle.cron_answers.specs.QuartzNotes.{has_other, is_noted, is_quartz_fire, lists_other, IsNoted};
+ghost use Rattle.cron_replies.specs.Statuses.{is_write_failure, Reports};
+
+use crate::answer::Request;
+use crate::back::{dues_before, moments_before};
+use crate::expression::Expression;
+use crate::fires::{Asked, is_none_wanted, one_less};
+use crate::left::Left;
+use crate::pair::send_text;
+use crate::row::Told;
+use cron_fires::{ClockChanges, Dues, Fires, Union};
+use cron_moments::moment::instant_of;
+use cron_moments::readings::readings_of;
+use cron_replies::status::Status;
+use cron_units::fields::ScheduleFields;
+use cron_writer::watchable::Watchable;
+use cron_writer::watched::Watched;
+use jiff::tz::TimeZone;
+
+/// What is said where Quartz fires otherwise.
+const NOTICE: &str =
+    "note: Quartz fires differently here: in a fold only at the second time, in a gap not at all\n";
+
+// Whether Quartz fires then as well: at the last reading of the civil second that matches.
+fn is_quartz_fire<F: Told>(fire: &F, zone: &TimeZone<'_>) -> bool
+    ensures { result
+        ≡ is_quartz_fire (plain_zone zone.now) (F.civil fire.now) (F.second fire.now) }
+{
+    let Some(found) = readings_of(zone, fire.civil()) else {
+        return false;
+    };
+    let last = match found.second {
+        Some(later) => later,
+        None => found.first,
+    };
+    instant_of(&last) == fire.second()
+}
+
+// Whether one of the first fires that are left, at most so many, is none of Quartz.
+fn has_other<F: Told, L: Left<F>>(left: &mut L, most: Option<u64>, zone: &TimeZone<'_>) -> bool
+    ensures { result ≡ has_other F.civil F.second (plain_zone zone.now)
+        (first_of most (L.left left.old)) }
+{
+    let mut more = most;
+    'fires: while !is_none_wanted(more) {
+        let Some(fire) = left.take_first() else {
+            return false;
+        };
+        if !is_quartz_fire(&fire, zone) {
+            return true;
+        }
+        more = one_less(more);
+    }
+    false
+}
+
+// Of the times at which the clock shows a match.
+fn has_other_moment(schedules: &[ScheduleFields], asked: &Asked, zone: &TimeZone<'_>) -> bool
+    ensures { result ≡ has_other (λ r. r.second) moments.instant (plain_zone zone.now)
+        (moments_of asked.now schedules.now (plain_zone zone.now)) }
+{
+    let table = Union { schedules };
+    match *asked {
+        Asked::Next(start, count) => {
+            let mut run = Fires::after(&table, start, zone);
+            has_other(&mut run, Some(count), zone)
+        }
+        Asked::Back(end, count) => {
+            let mut run = moments_before(schedules, end, zone);
+            has_other(&mut run, Some(count), zone)
+        }
+        Asked::Between(start, end) => {
+            let mut run = Fires::between(&table, start, end, zone);
+            has_other(&mut run, None, zone)
+        }
+    }
+}
+
+// Of the matches, each once.
+fn has_other_due(schedules: &[ScheduleFields], asked: &Asked, zone: &TimeZone<'_>) -> bool
+    ensures { result ≡ has_other (λ d. d.second) dues.instant (plain_zone zone.now)
+        (dues_of asked.now schedules.now (plain_zone zone.now)) }
+{
+    let table = Union { schedules };
+    match *asked {
+        Asked::Next(start, count) => {
+            let mut run = Dues::after(&table, start, zone);
+            has_other(&mut run, Some(count), zone)
+        }
+        Asked::Back(end, count) => {
+            let mut run = dues_before(schedules, end, zone);
+            has_other(&mut run, Some(count), zone)
+        }
+        Asked::Between(start, end) => {
+            let mut run = Dues::between(&table, start, end, zone);
+            has_other(&mut run, None, zone)
+        }
+    }
+}
+
+/// Whether one of the fires that are asked for is none of Quartz: by the rule that was chosen, or
+/// the expression's own.
+pub(crate) fn lists_other(
+    expression: &Expression,
+    chosen: Option<ClockChanges>,
+    asked: &Asked,
+    zone: &TimeZone<'_>,
+) -> bool
+    ensures { result ≡ lists_other (changes_by chosen expression.now) asked.now
+        (schedules_of expression.now) (plain_zone zone.now) }
+{
+    match expression.changes(chosen) {
+        ClockChanges::AsShown => has_other_moment(expression.as_slice(), asked, zone),
+        ClockChanges::Once => has_other_due(expression.as_slice(), asked, zone),
+    }
+}
+
+/// Says that Quartz fires otherwise than a list, where it is one of an expression of Quartz that was
+/// written whole. No call of the writer may have failed before.
+pub(crate) fn note<C: Watchable>(
+    request: &Request<'_>,
+    expression: &Expression,
+    asked: &Asked,
+    zone: &TimeZone<'_>,
+    listed: Status,
+    complaints: &mut Watched<C>,
+) -> Status
+    requires { has_failed complaints.old ≡ false }
+    ensures notes { IsNoted
+        (is_noted request.now expression.now asked.now (plain_zone zone.now)) listed
+        (Reports C.contents C.writes C.flushes) complaints.old result complaints.new }
+    ensures mark { (is_write_failure listed || has_failed complaints.new)
+        ≡ is_write_failure result }
+{
+    if listed != Status::Done {
+        return listed;
+    }
+    if request.quartz && lists_other(expression, request.changes, asked, zone) {
+        return send_text(NOTICE, Status::Done, complaints);
+    }
+    listed
+}

@@ -1,0 +1,99 @@
+//! Why a subcommand can't be answered, and the line that says so.
+
+ghost use Rattle.std.specs.Prelude.{◌≡◌, false};
+ghost use Rattle.cron_writer.specs.Calls.{AreWritesFlushed};
+ghost use Rattle.cron_writer.specs.Watching.{has_failed, writer_of};
+ghost use Rattle.cron_replies.specs.Statuses.{is_write_failure};
+ghost use Rattle.cron_answers.specs.Troubles.{IsTold, status_of, zone_word};
+
+use crate::refusal::Refusal;
+use cron_replies::status::{Status, finish};
+use cron_writer::watchable::Watchable;
+use cron_writer::watched::{Watched, send};
+use cron_zones::error::ZoneError;
+use cron_zones::open::Places;
+use std::alloc::Global;
+use std::fmt;
+
+/// Why a subcommand can't be answered, with the word that it is for. It prints the message.
+#[derive(Drop)]
+pub enum Trouble<'a> {
+    /// The text is no expression.
+    Expression(&'a str, Refusal<'a>),
+    /// The zone can't be had.
+    Zone(&'a str, ZoneError),
+    /// The text is no instant.
+    Instant(&'a str),
+    /// START, the first, comes after END.
+    Order(&'a str, &'a str),
+}
+
+impl<'a> fmt::Display for Trouble<'a> {
+    ghost use Rattle.std.specs.Prelude.{Some};
+    ghost use Rattle.cron_answers.specs.Troubles.{trouble_text};
+
+    ghost output = { λ trouble. Some (trouble_text trouble) };
+
+    fn fmt<W: fmt::Write>(&self, f: &mut fmt::Formatter<W>) -> fmt::Result {
+        match self {
+            Trouble::Expression(text, refusal) => {
+                write!(f, "'{text}' is no expression: {refusal}")
+            }
+            Trouble::Zone(text, error) => write!(f, "the zone '{text}' can't be had: {error}"),
+            Trouble::Instant(text) => write!(f, "'{text}' is no instant"),
+            Trouble::Order(start, end) => write!(f, "START '{start}' comes after END '{end}'"),
+        }
+    }
+}
+
+impl<'a> Trouble<'a> {
+    /// How the subcommand ends: a word is wrong, or a zone's file can't be read.
+    pub fn status(&self) -> Status
+        ensures { result ≡ status_of self.now }
+    {
+        match self {
+            Trouble::Expression(_, _) | Trouble::Instant(_) | Trouble::Order(_, _) => {
+                Status::WrongWords
+            }
+            Trouble::Zone(_, ZoneError::NoZone) => Status::WrongWords,
+            Trouble::Zone(_, _) => Status::Unreadable,
+        }
+    }
+}
+
+/// The name of a zone in what is told of it: of `local` what TZ is set to.
+pub fn zone_word<'a>(zone: &'a str, places: &Places<'a>) -> &'a str
+    ensures { result.now ≡ zone_word places.now.tz zone.now }
+{
+    match places.tz {
+        Some(tz) => {
+            if zone == "local" {
+                return tz;
+            }
+            zone
+        }
+        None => zone,
+    }
+}
+
+/// Writes the line that says why, and flushes. Where memory runs out for it the line says that. No
+/// call of the writer may have failed before.
+pub fn tell<W: Watchable>(alloc: Global, trouble: &Trouble<'_>, out: &mut Watched<W>) -> Status
+    requires { has_failed out.old ≡ false }
+    ensures told { IsTold trouble.now
+        (W.contents (writer_of out.old)) (W.contents (writer_of out.new)) result }
+    ensures mark { has_failed out.new ≡ is_write_failure result }
+    ensures calls { AreWritesFlushed W.writes W.flushes
+        (writer_of out.old) (has_failed out.old) (writer_of out.new) (has_failed out.new) }
+{
+    match format!(in alloc; "error: {trouble}\n") {
+        Ok(line) => {
+            send(out, line.as_bytes());
+            finish(out, trouble.status())
+        }
+        Err(_) => {
+            send(out, b"error: out of memory\n");
+            finish(out, Status::Unreadable)
+        }
+    }
+}

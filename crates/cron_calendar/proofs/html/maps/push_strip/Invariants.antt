@@ -1,8 +1,0 @@
-use Rattle.std.proofs.Common.{◌-◌, ◌≤◌}
-use Rattle.cron_calendar.proofs.html.maps.push_strip.Given as goal
-
-abbrev pub invariant-loop-at : goal.invariant-loop-at
-invariant-loop-at l = l.at ≤ 367
-
-abbrev pub decreases-loop-at : goal.decreases-loop-at
-decreases-loop-at l = 367 - l.at

@@ -1,0 +1,124 @@
+-- What pages hold: a year's, and months as text.
+use Rattle.std.specs.Prelude.{◌≡◌, ℕ, ◌+◌, ◌-◌, ◌*◌, ◌==◌, List, [], ◌∷◌, ◌++◌, codes, fold, map, max, min, nat_lt, if◌then◌else◌}
+use Rattle.std.specs.Fmt.{decimal}
+use Rattle.std.specs.List.{flat_map}
+use Rattle.jiff_core.specs.declared.civil.datetime.DateTime.{DateTime}
+use Rattle.jiff_tz.specs.declared.timezone.TimeZone.{TimeZone}
+use Rattle.cron_moments.specs.Calendar.{day_number, months_end}
+use Rattle.cron_moments.specs.Civil.{civil, days_in_range}
+use Rattle.cron_moments.specs.MomentText.{time_text}
+use Rattle.cron_calendar.specs.Changes.{AreChanges}
+use Rattle.cron_calendar.specs.Grids.{grid_text}
+use Rattle.cron_calendar.specs.Html.{day_rows, day_text, escaped}
+use Rattle.cron_calendar.specs.Plans.{counts_of, hour_counts_of, totals}
+use Rattle.cron_calendar.specs.Shapes.{drawing}
+use Rattle.cron_calendar.specs.declared.changes.Change.{Change}
+use Rattle.cron_calendar.specs.declared.html.Entry.{Entry}
+use Rattle.cron_calendar.specs.declared.html.Year.{Year}
+use Rattle.cron_calendar.specs.declared.html.frames.TheConstants.{CLOCK_END, CLOCK_START, DAYS_END, DAYS_SCALE, DAYS_START, ENTRIES_END, ENTRIES_START, ENTRY_END, ENTRY_NAME, ENTRY_START, ENTRY_STRIP, ENTRY_TOTAL, HEAD_END, HEAD_START, HEAD_STYLE, HEAD_TITLE, HEAD_ZONE, HOURS_END, HOURS_START, PAGE_END, TABLE_END, TABLE_START}
+use Rattle.cron_calendar.specs.declared.html.shapes.Shape.{Shape}
+use Rattle.cron_calendar.specs.declared.html.style.TheConstants.{STYLE}
+use Rattle.cron_calendar.specs.declared.months.Months.{Months}
+use Rattle.cron_calendar.specs.declared.pages.Shown.{Shown}
+use Rattle.cron_calendar.specs.declared.plans.Plan.{Plan}
+
+-- ---- the page of a year. Its fixed texts are constants
+
+abbrev pub head_text : Year → List ℕ
+head_text y =
+    HEAD_START.now ++ (decimal y.year ++ (HEAD_STYLE.now ++ (STYLE.now ++ (HEAD_TITLE.now ++ (decimal y.year
+    ++ (HEAD_ZONE.now ++ (escaped y.zone.now ++ HEAD_END.now)))))))
+
+-- at most what 32 bits hold
+abbrev pub total_of : List ℕ → ℕ
+total_of counts = fold (λ total count. min (total + count) 4_294_967_295) 0 counts
+
+abbrev pub most_of : List ℕ → ℕ
+most_of counts = fold max 0 counts
+
+-- the row of an entry: its place, its name, how many fires it has, and a drawing
+abbrev pub entry_row : ℕ → Entry → List Shape → List ℕ
+entry_row place e strip =
+    ENTRY_START.now ++ (decimal (min place 12) ++ (codes "\"" ++ (ENTRY_NAME.now ++ (escaped e.name.now ++ (ENTRY_TOTAL.now
+    ++ (decimal (total_of e.counts.now) ++ (ENTRY_STRIP.now ++ (drawing strip ++ ENTRY_END.now))))))))
+
+-- a row an entry, from a place on
+abbrev pub AreRows : ℕ → List Entry → List ℕ → Type 0
+AreRows place [] rows = rows ≡ []
+AreRows place (e ∷ es) rows = (strip : List Shape) × (rest : List ℕ) × (rows ≡ entry_row place e strip ++ rest) × AreRows (place + 1) es rest
+
+abbrev pub entries_text : List ℕ → List ℕ
+entries_text rows = ENTRIES_START.now ++ (rows ++ ENTRIES_END.now)
+
+abbrev pub days_text : Year → List Shape → List ℕ
+days_text y days = DAYS_START.now ++ (drawing days ++ (DAYS_SCALE.now ++ (decimal (most_of y.days.now) ++ DAYS_END.now)))
+
+abbrev pub hours_text : List Shape → List ℕ
+hours_text hours = HOURS_START.now ++ (drawing hours ++ HOURS_END.now)
+
+abbrev pub clock_text : Year → List ℕ
+clock_text y = CLOCK_START.now ++ (escaped y.changes.now ++ CLOCK_END.now)
+
+abbrev pub table_text : Year → List ℕ
+table_text y = TABLE_START.now ++ (day_rows y.first y.days.now ++ TABLE_END.now)
+
+-- the page of a year: a row an entry and a row a day, with texts of others escaped. The drawings may be any, but they hold no such text.
+pub record IsPage (y : Year) (text : List ℕ) : Type 0 where
+  pub rows : List ℕ
+  pub entries : AreRows 0 y.entries.now rows
+  pub days : List Shape
+  pub hours : List Shape
+  pub is : text ≡ head_text y ++ (entries_text rows ++ (days_text y days ++ (hours_text hours ++ (clock_text y ++ (table_text y ++ PAGE_END.now)))))
+
+-- ---- months as text
+
+-- the day after the last one of months up to an end, which is left out
+abbrev pub days_end : ℕ → ℕ
+days_end end = if nat_lt end months_end then day_number end 1 else days_in_range
+
+abbrev pub day_count : ℕ → ℕ → ℕ
+day_count first end = days_end end - day_number first 1
+
+-- `2024-03-10T02:00:00`
+abbrev pub time_of : DateTime → List ℕ
+time_of dt = day_text dt.date ++ (codes "T" ++ time_text dt.time)
+
+-- what is told of civil seconds that a clock shows this often
+abbrev pub told_of : ℕ → List ℕ
+told_of times = if times == 0 then codes ": the clock skips these times\n" else codes ": the clock shows these times twice\n"
+
+-- the line of a change
+abbrev pub change_line : Change → List ℕ
+change_line change =
+    time_of (civil change.first) ++ (codes " to " ++ (time_of (civil change.end) ++ told_of change.times))
+
+-- the lines of all changes on so many days
+pub record TellsClock (z : TimeZone) (first days : ℕ) (text : List ℕ) : Type 0 where
+  pub changes : List Change
+  pub all : AreChanges z ((first + days) * 86_400) (first * 86_400) changes
+  pub told : text ≡ flat_map change_line changes
+
+-- the grid of months with the totals of plans, and what is told of the clock
+pub record IsTextPage (plans : List Plan) (shown : Shown) (z : TimeZone) (text : List ℕ) : Type 0 where
+  pub months : Months
+  pub first : months.first_day ≡ day_number shown.first 1
+  pub counts : months.counts.now ≡ totals (counts_of z months.first_day (day_count shown.first shown.end)) (day_count shown.first shown.end) plans
+  pub colour : months.colour ≡ shown.colour
+  pub clock : List ℕ
+  pub told : TellsClock z months.first_day (day_count shown.first shown.end) clock
+  pub is : text ≡ grid_text months shown.first shown.end shown.across ++ clock
+
+-- ---- the page of a year, of plans
+
+-- with an entry a plan
+pub record IsYearPage (plans : List Plan) (year : ℕ) (z : TimeZone) (zone : List ℕ) (text : List ℕ) : Type 0 where
+  pub shown : Year
+  pub year_is : shown.year ≡ year
+  pub zone_is : shown.zone.now ≡ zone
+  pub first : shown.first ≡ day_number (year * 12) 1
+  pub days : shown.days.now ≡ totals (counts_of z shown.first (day_count (year * 12) (year * 12 + 12))) (day_count (year * 12) (year * 12 + 12)) plans
+  pub hours : shown.hours.now ≡ totals (hour_counts_of z shown.first (day_count (year * 12) (year * 12 + 12))) (day_count (year * 12) (year * 12 + 12) * 24) plans
+  pub names : map (λ (e : Entry). e.name.now) shown.entries.now ≡ map (λ (p : Plan). p.name.now) plans
+  pub counts : map (λ (e : Entry). e.counts.now) shown.entries.now ≡ map (counts_of z shown.first (day_count (year * 12) (year * 12 + 12))) plans
+  pub clock : TellsClock z shown.first (day_count (year * 12) (year * 12 + 12)) shown.changes.now
+  pub is : IsPage shown text

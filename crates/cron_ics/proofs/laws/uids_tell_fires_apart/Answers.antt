@@ -1,5 +1,0 @@
-use Rattle.cron_ics.proofs.UidLaws.{tell_apart}
-use Rattle.cron_ics.proofs.laws.uids_tell_fires_apart.Goals as goal
-
-pub returns : goal.returns
-returns c = tell_apart

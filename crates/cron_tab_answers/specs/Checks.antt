@@ -1,0 +1,125 @@
+-- What is told of a crontab's lines.
+use Rattle.std.specs.Prelude.{◌≡◌, ◌⊎◌, ◌++◌, ◌&&◌, ◌||◌, ℕ, Bool, true, false, List, [], ◌∷◌, Option, Result, Ok, Err, codes, take}
+use Rattle.std.specs.Io.KnownBytes.{Appends}
+use Rattle.std.specs.List.{list_any}
+use Rattle.std.specs.Str.Lossy.{utf8_valid_len}
+use Rattle.cron_writer.specs.Watching.{IsFrontSent}
+use Rattle.cron_crontab.specs.Crontab as tabs
+use Rattle.cron_checking.specs.Reports.{told}
+use Rattle.cron_controls.specs.Controls.{shown_by}
+use Rattle.cron_tab_lines.specs.Files.{FileLine}
+use Rattle.cron_tab_lines.specs.Lines.{Meaning, entry}
+use Rattle.cron_tab_lines.specs.Refusals.{Refusal, refusal_text}
+use Rattle.cron_tab_lines.specs.Zones.{names_no_zone, no_zone_text}
+use Rattle.cron_tab_lines.specs.declared.zones.NamedZone.{NamedZone}
+use Rattle.cron_tab_warnings.specs.Files.{warns_line}
+use Rattle.cron_tab_warnings.specs.declared.files.LineWarning.{LineWarning}
+use Rattle.cron_tab_warnings.specs.declared.files.LineWarning.TheVariants.{NoLineFeed}
+use Rattle.cron_tab_warnings.specs.Messages.{line_warning_text, warning_text}
+use Rattle.cron_tab_warnings.specs.Warnings.{Warns}
+use Rattle.cron_tab_warnings.specs.declared.files.TheConstants.{LINE_WARNINGS}
+use Rattle.cron_tab_warnings.specs.declared.warnings.TheConstants.{WARNINGS}
+use Rattle.cron_tab_answers.specs.declared.check.Wanted.{Wanted}
+use Rattle.cron_replies.specs.Telling.{TellsThose}
+use Rattle.cron_replies.specs.declared.status.Status.{Status}
+use Rattle.cron_replies.specs.declared.status.Status.TheVariants.{Done, No, WrongWords, WriteFailed, Unreadable}
+
+-- what stands in a line is refused, or names no zone
+abbrev pub is_refused : List NamedZone → Result Meaning Refusal → Bool
+is_refused names (Ok meaning) = names_no_zone names (Ok meaning)
+is_refused names (Err refusal) = true
+
+-- no line feed ends the line, so it may be half written
+abbrev pub is_unended : FileLine → Bool
+is_unended line = warns_line NoLineFeed line
+
+-- a line is refused for what stands in it, or for the line feed that it lacks
+abbrev pub refuses : Wanted → FileLine → Bool
+refuses w line = is_refused w.names.now line.outcome || (w.needs_feed && is_unended line)
+
+-- some line is refused
+abbrev pub any_refused : Wanted → List FileLine → Bool
+any_refused w lines = list_any (refuses w) lines
+
+-- what is told of a line that is read, by whether it names no zone
+abbrev pub zone_line : List ℕ → ℕ → Bool → List ℕ
+zone_line front number false = []
+zone_line front number true = told front number no_zone_text
+
+-- why a line is refused, with its number; nothing of another
+abbrev pub refusal_line : List ℕ → List NamedZone → ℕ → Result Meaning Refusal → List ℕ
+refusal_line front names number (Ok meaning) = zone_line front number (names_no_zone names (Ok meaning))
+refusal_line front names number (Err refusal) = told front number (refusal_text refusal)
+
+-- what is told of a line, by whether no line feed ends it: that it is refused, or a note
+abbrev pub unended_line : Bool → List ℕ → ℕ → Bool → List ℕ
+unended_line refused front number false = []
+unended_line true front number true = told front number (line_warning_text NoLineFeed)
+unended_line false front number true = told front number (codes "note: " ++ line_warning_text NoLineFeed)
+
+abbrev pub warning_line : List ℕ → ℕ → List ℕ → List ℕ
+warning_line front number text = told front number (codes "warning: " ++ text)
+
+-- the warnings of an expression, by a text that begins with it
+abbrev pub TellsOfFields : Wanted → ℕ → List ℕ → tabs.Meaning → List ℕ → Type 0
+TellsOfFields w number text meaning told =
+    TellsThose (λ v. Warns w.kind v text meaning) (λ v. warning_line w.front.now number (warning_text v)) WARNINGS told
+
+-- those of a line's entry
+abbrev pub TellsOfEntry : Wanted → ℕ → Result Meaning Refusal → List ℕ → List ℕ → Type 0
+TellsOfEntry w number (Ok (entry e)) text told = TellsOfFields w number text e.meaning told
+TellsOfEntry w number _ text told = told ≡ []
+
+-- a warning is told of a line; that no line feed ends it is told apart
+abbrev pub is_told : LineWarning → FileLine → Bool
+is_told NoLineFeed line = false
+is_told w line = warns_line w line
+
+-- those of the line itself
+abbrev pub TellsOfLine : List ℕ → FileLine → List ℕ → Type 0
+TellsOfLine front line told =
+    TellsThose (λ w. is_told w line ≡ true) (λ w. warning_line front line.number (line_warning_text w)) LINE_WARNINGS told
+
+-- the warnings that are due of a line: those of its expression, and then those of the line itself
+pub record TellsWarnings (w : Wanted) (l : FileLine) (text : List ℕ) : Type 0 where
+  pub of_entry : List ℕ
+  pub of_line : List ℕ
+  pub both : text ≡ of_entry ++ of_line
+  pub entry : TellsOfEntry w l.number l.outcome (take (utf8_valid_len l.bytes) l.bytes) of_entry
+  pub line : TellsOfLine w.front.now l of_line
+
+abbrev pub TellsIfWanted : Bool → Wanted → FileLine → List ℕ → Type 0
+TellsIfWanted true w line text = TellsWarnings w line text
+TellsIfWanted false w line text = text ≡ []
+
+-- why it is refused, and that no line feed ends it
+abbrev pub faults_line : Wanted → FileLine → List ℕ
+faults_line w line =
+    refusal_line w.front.now w.names.now line.number line.outcome ++ unended_line w.needs_feed w.front.now line.number (is_unended line)
+
+-- What is told of a line: its faults, and then its warnings where they are wanted.
+abbrev pub TellsLine : Wanted → FileLine → List ℕ → Type 0
+TellsLine w line text = (warnings : List ℕ) × (text ≡ faults_line w line ++ warnings) × TellsIfWanted w.warn w line warnings
+
+-- of lines, one after another, with control characters as they are wanted
+abbrev pub TellsLines : Wanted → List FileLine → List ℕ → Type 0
+TellsLines w [] text = text ≡ []
+TellsLines w (line ∷ lines) text =
+    (here : List ℕ) × (rest : List ℕ) × (text ≡ shown_by w.controls here ++ rest) × TellsLine w line here × TellsLines w lines rest
+
+-- How a check ends, which left these of the lines. Each was told, and some are refused or none is; or a write failed; or memory ran out.
+abbrev pub EndsAs : Status → Wanted → List FileLine → List FileLine → List ℕ → Option (List ℕ) → Option (List ℕ) → Type 0
+EndsAs Done w lines left report old new = (left ≡ []) × (any_refused w lines ≡ false) × Appends old new report
+EndsAs No w lines left report old new = (left ≡ []) × (any_refused w lines ≡ true) × Appends old new report
+EndsAs WrongWords w lines left report old new = ⊥
+EndsAs WriteFailed w lines left report old new = IsFrontSent old new report
+EndsAs Unreadable w lines left report old new = Appends old new report
+
+-- The lines, or those in front of some that are left, were told in order, to a writer that held `old` and holds `new`.
+pub record Checks (w : Wanted) (lines : List FileLine) (old new : Option (List ℕ)) (status : Status) : Type 0 where
+  pub checked : List FileLine
+  pub left : List FileLine
+  pub cut : lines ≡ checked ++ left
+  pub report : List ℕ
+  pub tells : TellsLines w checked report
+  pub ends : EndsAs status w lines left report old new

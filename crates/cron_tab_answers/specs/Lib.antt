@@ -1,0 +1,5 @@
+pub mod Checks
+pub mod Faults
+pub mod TabRows
+pub mod TabFiles
+pub mod Inner

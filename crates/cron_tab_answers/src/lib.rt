@@ -1,0 +1,9 @@
+//! What `crontool` does with crontabs, over any writer: checks of their lines, and the fires of their
+//! entries as rows.
+#![tactic(auto)]
+
+pub mod check;
+pub mod fault;
+pub mod tab_files;
+pub mod tab_row;
+pub mod tabs;

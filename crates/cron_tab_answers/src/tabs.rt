@@ -1,0 +1,109 @@
+//! The fires of crontabs' entries as rows, in one order.
+
+ghost use Rattle.std.specs.Prelude.{◌≡◌, false, map};
+ghost use Rattle.jiff.specs.Words.{plain_zone};
+ghost use Rattle.cron_tab_answers.specs.Inner.TabRows.{GathersTabs, list_end};
+ghost use Rattle.cron_tab_answers.specs.TabRows.{ListsTabs, is_failed, wanted};
+ghost use Rattle.cron_writer.specs.Calls.{AreWritesFlushed};
+ghost use Rattle.cron_writer.specs.Watching.{has_failed, writer_of};
+
+use crate::fault::ListFault;
+use crate::tab_row::{Source, Style, make_row};
+use cron_agenda::Agenda;
+use cron_checking::output::put;
+use cron_replies::status::{Status, finish};
+use cron_tab_listing::{TabEntry, next_fire};
+use cron_writer::gathered::Gathered;
+use cron_writer::watchable::Watchable;
+use cron_writer::watched::Watched;
+use jiff::Timestamp;
+use jiff::tz::TimeZone;
+use std::alloc::Global;
+
+// Gathers the rows of the fires that are due by an instant, at most so many, until a write fails.
+fn gather_tabs<W: Watchable>(
+    alloc: Global,
+    style: Style,
+    agenda: &mut Agenda<TabEntry>,
+    sources: &[Source<'_>],
+    until: Timestamp,
+    limit: usize,
+    zones: &[TimeZone<'_>],
+    gathered: &mut Gathered,
+    out: &mut Watched<W>,
+) -> Result<(), ListFault>
+    ensures { GathersTabs style
+        (wanted (map plain_zone zones.now) until.nanosecond limit sources.now)
+        agenda.old W.contents W.writes (gathered.old, out.old) (gathered.new, out.new) result }
+{
+    let mut row = Vec::new(alloc);
+    for _ in 0..limit {
+        let next = match next_fire(agenda, until, zones) {
+            Ok(next) => next,
+            Err(missing) => return Err(ListFault::Zone(missing)),
+        };
+        let Some(fire) = next else {
+            return Ok(());
+        };
+        let Some(source) = sources.get(fire.id as usize) else {
+            return Err(ListFault::Source);
+        };
+        row = match make_row(alloc, style, source, &fire, row) {
+            Ok(made) => made,
+            Err(_) => return Err(ListFault::OutOfMemory),
+        };
+        put(row.as_slice(), gathered, out);
+        if out.has_failed() {
+            return Ok(());
+        }
+    }
+    Ok(())
+}
+
+// How a list ends: a write that failed comes before a fault.
+fn list_end(answer: Result<(), ListFault>, status: Status) -> Result<Status, ListFault>
+    ensures { result ≡ list_end answer status }
+{
+    match (answer, status) {
+        (Err(fault), Status::Done) => Err(fault),
+        _ => Ok(status),
+    }
+}
+
+/// Writes a row for each fire of an agenda's entries up to and with an instant, at most so many,
+/// and flushes: by instant, of one instant in the order in which the entries were added. Each
+/// entry's source stands at the place of its id. Where it ends by a fault, the rows before are
+/// written. No call of the writer may have failed before.
+pub fn list<W: Watchable>(
+    alloc: Global,
+    style: Style,
+    agenda: &mut Agenda<TabEntry>,
+    sources: &[Source<'_>],
+    until: Timestamp,
+    limit: usize,
+    zones: &[TimeZone<'_>],
+    out: &mut Watched<W>,
+) -> Result<Status, ListFault>
+    requires { has_failed out.old ≡ false }
+    ensures lists { ListsTabs style
+        (wanted (map plain_zone zones.now) until.nanosecond limit sources.now) agenda.old
+        (W.contents (writer_of out.old)) (W.contents (writer_of out.new)) result }
+    ensures mark { has_failed out.new ≡ is_failed result }
+    ensures calls { AreWritesFlushed W.writes W.flushes
+        (writer_of out.old) (has_failed out.old) (writer_of out.new) (has_failed out.new) }
+{
+    let mut gathered = Gathered::new();
+    let answer = gather_tabs(
+        alloc,
+        style,
+        agenda,
+        sources,
+        until,
+        limit,
+        zones,
+        &mut gathered,
+        out,
+    );
+    gathered.send(out);
+    list_end(answer, finish(out, Status::Done))
+}

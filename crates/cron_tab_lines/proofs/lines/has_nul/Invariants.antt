@@ -1,6 +1,0 @@
-use Rattle.std.proofs.Common.{◌≡◌, ◌==◌, drop}
-use Rattle.std.specs.List.{list_any}
-use Rattle.cron_tab_lines.proofs.lines.has_nul.Given as goal
-
-abbrev pub invariant-loop-byte : goal.invariant-loop-byte
-invariant-loop-byte l = list_any (λ c. c == 0) (drop l.byte-index l.line) ≡ list_any (λ c. c == 0) l.line

@@ -1,9 +1,0 @@
-use Rattle.std.proofs.Common.{◌∙◌}
-use Rattle.jiff.specs.Words.{plain_zone}
-use Rattle.cron_tool.proofs.BackLemmas.{moments-just_before}
-use Rattle.cron_tool.proofs.back.moments_before.Goals as goal
-
-pub returns : goal.returns
-returns c =
-    c.by.ensures
-    ∙ moments-just_before c.args.schedules.now (plain_zone c.args.zone.now) c.args.end.nanosecond c.just_before.result.nanosecond c.just_before.ensures

@@ -1,6 +1,0 @@
-use Rattle.jiff.specs.Words.{plain_zone}
-use Rattle.cron_tool.proofs.LatenessLemmas.{first_due_after}
-use Rattle.cron_tool.proofs.lateness.first_due.Goals as goal
-
-pub returns : goal.returns
-returns c = first_due_after c.args.schedules.now (plain_zone c.args.zone.now) c.args.last.nanosecond c.first_due_after.result c.first_due_after.ensures

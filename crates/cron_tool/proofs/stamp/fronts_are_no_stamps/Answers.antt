@@ -1,5 +1,0 @@
-use Rattle.cron_tool.proofs.StampLemmas.{no_fronts}
-use Rattle.cron_tool.proofs.stamp.fronts_are_no_stamps.Goals as goal
-
-pub returns : goal.returns
-returns c = no_fronts

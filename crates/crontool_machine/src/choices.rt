@@ -1,0 +1,44 @@
+//! What options of several subcommands choose.
+
+use clap::ArgMatches;
+use cron_fires::ClockChanges;
+use cron_replies::form::Form;
+use cron_tab_lines::Crontab;
+use cron_tab_listing::Clock;
+
+/// The rule at clock changes that was chosen, if one was.
+pub fn changes_of(matches: &ArgMatches<'_>) -> Option<ClockChanges> {
+    if matches.get_flag("once") {
+        return Some(ClockChanges::Once);
+    }
+    if matches.get_flag("as-shown") {
+        return Some(ClockChanges::AsShown);
+    }
+    None
+}
+
+/// How fires are written.
+pub fn form_of(matches: &ArgMatches<'_>) -> Form {
+    if matches.get_flag("json") {
+        Form::Json
+    } else {
+        Form::Text
+    }
+}
+
+/// The rule at clock changes: the one that was chosen, or of each entry its own.
+pub fn clock_of(words: &ArgMatches<'_>) -> Clock {
+    match changes_of(words) {
+        Some(changes) => Clock::Chosen(changes),
+        None => Clock::Own,
+    }
+}
+
+/// Whose crontabs they are.
+pub fn kind_of(words: &ArgMatches<'_>) -> Crontab {
+    if words.get_flag("system") {
+        Crontab::System
+    } else {
+        Crontab::User
+    }
+}

@@ -1,0 +1,8 @@
+//! What subcommands of `crontool` share: what they have of the machine, the zones that crontabs
+//! name, and what options choose.
+#![tactic(auto)]
+
+pub mod choices;
+pub mod machine;
+pub mod pair;
+pub mod zones;

@@ -1,0 +1,13 @@
+//! The words of a subcommand that takes two expressions.
+
+use clap::ArgMatches;
+use cron_answers::pair::Pair;
+
+/// The two expressions. `None` where a word is missing, which a parse refuses before.
+pub fn pair_of<'a>(words: &ArgMatches<'a>) -> Option<Pair<'a>> {
+    Some(Pair {
+        quartz: words.get_flag("quartz"),
+        first: words.get_str("EXPRESSION")?,
+        second: words.get_str("OTHER")?,
+    })
+}

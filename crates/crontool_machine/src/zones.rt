@@ -1,0 +1,134 @@
+//! The zones that `CRON_TZ` names in crontabs.
+
+use crate::machine::{Surroundings, no_memory};
+use cron_replies::status::Status;
+use cron_running::NamedOpen;
+use cron_tab_lines::{Crontab, Line, NamedZone, read_line};
+use cron_zones::error::ZoneError;
+use cron_zones::machine::MachineFiles;
+use cron_zones::open::{Places, open};
+use jiff::tz::TimeZone;
+use std::alloc::{AllocError, Global};
+
+// Whether a line may set `CRON_TZ`, by its first byte that isn't blank. Other lines needn't be
+// read.
+fn begins_as_name(line: &[u8]) -> bool {
+    for byte in line {
+        if *byte != b' ' && *byte != b'\t' {
+            return matches!(*byte, b'C' | b'"' | b'\'');
+        }
+    }
+    false
+}
+
+/// The zones that `CRON_TZ` names in crontabs, each opened once.
+#[derive(Drop)]
+pub struct TabZones<'a> {
+    opened: Vec<NamedOpen<'a>>,
+}
+
+impl<'a> TabZones<'a> {
+    /// None are open.
+    pub fn new(alloc: Global) -> TabZones<'a> {
+        TabZones {
+            opened: Vec::new(alloc),
+        }
+    }
+
+    fn has(&self, name: &[u8]) -> bool {
+        self.opened.iter().any(|opened| opened.name == name)
+    }
+
+    // Opens a zone, whose name is read as TZ is. What names none is passed over.
+    fn open_one(
+        &mut self,
+        rt: &HostRuntime,
+        name: &'a [u8],
+        around: &'a Surroundings,
+    ) -> Result<(), AllocError> {
+        let Ok(text) = str::from_utf8(name) else {
+            return Ok(());
+        };
+        if name.is_empty() || self.has(name) {
+            return Ok(());
+        }
+        let places = Places {
+            tz: Some(text),
+            ..around.places()
+        };
+        match open(rt.alloc(), "local", &places, &mut MachineFiles(rt)) {
+            Ok(zone) => {
+                self.opened.push(NamedOpen { name, zone })?;
+                Ok(())
+            }
+            Err(ZoneError::OutOfMemory) => Err(AllocError),
+            Err(_) => Ok(()),
+        }
+    }
+
+    /// Opens the zones that a crontab names, and says nothing.
+    pub fn try_open(
+        &mut self,
+        rt: &HostRuntime,
+        kind: Crontab,
+        file: &'a [u8],
+        around: &'a Surroundings,
+    ) -> Result<(), AllocError> {
+        for line in file.split(|byte| *byte == b'\n') {
+            if begins_as_name(line)
+                && let Ok(Line::Zone(name)) = read_line(kind, line)
+            {
+                self.open_one(rt, name, around)?;
+            }
+        }
+        Ok(())
+    }
+
+    /// Opens the zones that a crontab names.
+    pub fn open(
+        &mut self,
+        rt: &HostRuntime,
+        kind: Crontab,
+        file: &'a [u8],
+        around: &'a Surroundings,
+    ) -> Result<(), Status> {
+        match self.try_open(rt, kind, file, around) {
+            Ok(()) => Ok(()),
+            Err(_) => Err(no_memory(rt)),
+        }
+    }
+
+    /// What is open.
+    pub fn into_opened(self) -> Vec<NamedOpen<'a>> {
+        let TabZones { opened } = self;
+        opened
+    }
+
+    /// Their names: the first stands for zone 1. An empty text stands for zone 0, as in cronie.
+    pub fn names(&self, alloc: Global) -> Result<Vec<NamedZone<'a>>, AllocError> {
+        let mut names = Vec::new(alloc);
+        names.push(NamedZone { name: b"", zone: 0 })?;
+        for opened in &self.opened {
+            let zone = names.len();
+            names.push(NamedZone {
+                name: opened.name,
+                zone,
+            })?;
+        }
+        Ok(names)
+    }
+
+    /// A zone, which is zone 0, and they behind it.
+    pub fn behind<'z>(
+        &'z self,
+        alloc: Global,
+        first: TimeZone<'z>,
+    ) -> Result<Vec<TimeZone<'z>>, AllocError> {
+        let mut zones = Vec::new(alloc);
+        zones.push(first)?;
+        for opened in &self.opened {
+            zones.push(opened.zone.time_zone())?;
+        }
+        Ok(zones)
+    }
+}

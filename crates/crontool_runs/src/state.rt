@@ -1,0 +1,78 @@
+//! The folder where it is noted how far a run has come.
+
+use cron_replies::status::Status;
+use cron_running::{Noted, read_note};
+use crontool_machine::machine::{complain, no_memory, read_file, say_unread};
+use std::fs::{File, OpenOptions, TryLockError};
+use std::io::{self, ErrorKind};
+
+/// A folder that no other run has.
+#[derive(Drop)]
+pub(crate) struct State {
+    /// Its note.
+    pub(crate) path: String,
+    // The system frees the lock when the file is closed, however the program ends.
+    _lock: File,
+}
+
+fn open_lock(rt: &HostRuntime, path: &str) -> io::Result<File> {
+    OpenOptions::new().create(true).write(true).open(rt, path)
+}
+
+// Locks a file, or says why it can't.
+fn lock(rt: &HostRuntime, path: &str) -> Result<File, Status> {
+    let file = match open_lock(rt, path) {
+        Ok(file) => file,
+        Err(error) => return Err(say_unread(rt, path, &error)),
+    };
+    match file.try_lock() {
+        Ok(()) => Ok(file),
+        Err(TryLockError::WouldBlock) => {
+            Err(complain(rt, "another run has this --state", Status::Unreadable))
+        }
+        Err(TryLockError::Error(error)) => Err(say_unread(rt, path, &error)),
+    }
+}
+
+impl State {
+    /// Takes a folder, or says why it can't be had.
+    pub(crate) fn open(rt: &HostRuntime, folder: &str) -> Result<State, Status> {
+        let (Ok(path), Ok(lock_path)) = (
+            format!(in rt.alloc(); "{folder}/state"),
+            format!(in rt.alloc(); "{folder}/lock"),
+        ) else {
+            return Err(no_memory(rt));
+        };
+        Ok(State {
+            path,
+            _lock: lock(rt, lock_path.as_str())?,
+        })
+    }
+
+    /// What is noted there, or nothing if there is no note.
+    pub(crate) fn read(&self, rt: &HostRuntime) -> Result<Noted, Status> {
+        let path = self.path.as_str();
+        let bytes = match read_file(rt, path) {
+            Ok(bytes) => bytes,
+            Err(error) if error.kind() == ErrorKind::NotFound => {
+                return Ok(Noted::nothing(rt.alloc()));
+            }
+            Err(error) => return Err(say_unread(rt, path, &error)),
+        };
+        match read_note(rt.alloc(), bytes.as_slice()) {
+            Ok(Some(noted)) => Ok(noted),
+            Ok(None) => Err(say_broken(rt, path)),
+            Err(_) => Err(no_memory(rt)),
+        }
+    }
+}
+
+fn say_broken(rt: &HostRuntime, path: &str) -> Status {
+    let told = eprintln!(rt;
+        "error: {path} is no note of a run, or one that is cut short, and is kept"
+    );
+    match told {
+        Ok(()) => Status::Unreadable,
+        Err(_) => Status::WriteFailed,
+    }
+}

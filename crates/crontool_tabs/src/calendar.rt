@@ -1,0 +1,293 @@
+//! The subcommand `calendar`.
+
+ghost use Rattle.std.specs.Prelude.{◌<◌, ◌≤◌};
+ghost use Rattle.cron_answers.specs.Periods.{IsPeriod};
+
+use crate::list::tell_refused;
+use clap::ArgMatches;
+use cron_answers::expression::{Expression, read};
+use cron_answers::period::{Period, period_of};
+use cron_answers::trouble::Trouble;
+use cron_calendar::pages::{Shown, html_page, text_page};
+use cron_calendar::plans::Plan;
+use cron_crontab::Expression as TabExpression;
+use cron_fires::ClockChanges;
+use cron_replies::status::Status;
+use cron_tab_lines::{Crontab, Entry, Line, Lines, NamedZone, zone_below};
+use cron_tab_listing::TabFile;
+use cron_tab_warnings::{follows_clock, text_of};
+use crontool_machine::choices::changes_of;
+use crontool_machine::machine::{
+    Surroundings, complain, no_memory, open_zone, read_file, say_trouble, say_unread, write_page,
+};
+use crontool_machine::zones::TabZones;
+use jiff::tz::TimeZone;
+use std::alloc::{AllocError, Global};
+use std::env;
+use std::io::IsTerminal;
+
+/// Something that fires, under a name.
+#[derive(Drop)]
+struct Named<'a> {
+    name: &'a [u8],
+    expression: Expression,
+}
+
+// Reads the expressions of the command line.
+fn add_words<'a>(
+    rt: &HostRuntime,
+    named: &mut Vec<Named<'a>>,
+    texts: &[&'a str],
+) -> Result<(), Status> {
+    for text in texts {
+        let name = text.as_bytes();
+        match read(*text) {
+            Ok(expression) => match named.push(Named { name, expression }) {
+                Ok(()) => {}
+                Err(_) => return Err(no_memory(rt)),
+            },
+            Err(refusal) => return Err(say_trouble(rt, &Trouble::Expression(*text, refusal))),
+        }
+    }
+    Ok(())
+}
+
+/// A line without what ends it.
+pub(crate) fn line_name(bytes: &[u8]) -> &[u8] {
+    match bytes {
+        [name @ .., b'\n'] => name,
+        name => name,
+    }
+}
+
+/// When an entry of a line fires, and its own rule at clock changes.
+pub(crate) fn expression_of(entry: &Entry<'_>, line: &str) -> Expression {
+    match &entry.expression {
+        TabExpression::Reboot => Expression::Reboot,
+        TabExpression::Fires(schedules) => {
+            let changes = if follows_clock(line) {
+                ClockChanges::AsShown
+            } else {
+                ClockChanges::Once
+            };
+            Expression::Crontab(*schedules, changes)
+        }
+    }
+}
+
+// Adds the entries of a crontab but those below a line that names a zone, and answers whether there
+// are such.
+fn add_entries<'a>(
+    named: &mut Vec<Named<'a>>,
+    file: &'a [u8],
+    names: &[NamedZone<'_>],
+) -> Result<bool, AllocError> {
+    let mut here = Some(0);
+    let mut left_out = false;
+    for line in Lines::of(Crontab::User, file) {
+        match (here, &line.read) {
+            (Some(0), Ok(Line::Entry(entry))) => named.push(Named {
+                name: line_name(line.bytes),
+                expression: expression_of(entry, text_of(line.bytes)),
+            })?,
+            (Some(_), Ok(Line::Entry(_))) => left_out = true,
+            _ => {}
+        }
+        here = zone_below(names, here, &line);
+    }
+    Ok(left_out)
+}
+
+/// A crontab of a user, the only one that is read.
+pub(crate) fn user_tab(bytes: &[u8]) -> TabFile<'_> {
+    TabFile {
+        kind: Crontab::User,
+        name: None,
+        bytes,
+    }
+}
+
+// What fires, each by the rule that was chosen, or its own.
+fn plans_of<'a>(
+    alloc: Global,
+    named: &'a [Named<'a>],
+    chosen: Option<ClockChanges>,
+) -> Result<Vec<Plan<'a>>, AllocError> {
+    let mut plans = Vec::new(alloc);
+    for one in named {
+        plans.push(Plan {
+            name: one.name,
+            schedules: one.expression.as_slice(),
+            once: matches!(one.expression.changes(chosen), ClockChanges::Once),
+        })?;
+    }
+    Ok(plans)
+}
+
+// How wide the terminal is, as COLUMNS says.
+fn columns(rt: &HostRuntime) -> u64 {
+    match env::var(rt, "COLUMNS") {
+        Ok(text) => text.as_str().parse::<u64>().unwrap_or(80),
+        Err(_) => 80,
+    }
+}
+
+// Whether numbers are green: on a terminal, where nothing says that no colours are wanted.
+fn wants_colour(rt: &HostRuntime) -> bool {
+    env::var(rt, "NO_COLOR").is_err() && rt.stdout().is_terminal()
+}
+
+// How many months of 38 columns stand side by side.
+fn months_across(width: u64) -> u32
+    ensures { (0 < result) × (result ≤ 12) }
+{
+    let across = width.saturating_add(3) / 38;
+    if across < 1 {
+        1
+    } else if across > 12 {
+        12
+    } else {
+        across as u32
+    }
+}
+
+// Makes the page and writes it.
+fn show<'a>(
+    rt: &HostRuntime,
+    words: &ArgMatches<'_>,
+    period: Period,
+    plans: &'a [Plan<'a>],
+    zone: &TimeZone<'_>,
+    zone_name: &'a str,
+) -> Status
+    requires { IsPeriod period }
+{
+    let page = if words.get_flag("html") {
+        html_page(rt.alloc(), plans, period.year, zone, zone_name.as_bytes())
+    } else {
+        let width = words.get_one::<u64>("width").unwrap_or(columns(rt));
+        let shown = Shown {
+            first: period.first,
+            end: period.end,
+            across: months_across(width),
+            colour: wants_colour(rt),
+        };
+        text_page(rt.alloc(), plans, shown, zone)
+    };
+    match page {
+        Ok(page) => write_page(rt, page.as_slice()),
+        Err(_) => no_memory(rt),
+    }
+}
+
+// Shows what fires in a zone.
+fn show_named<'a>(
+    rt: &HostRuntime,
+    words: &ArgMatches<'_>,
+    period: Period,
+    named: &'a [Named<'a>],
+    name: &'a str,
+    around: &Surroundings,
+) -> Result<Status, Status>
+    requires { IsPeriod period }
+{
+    let opened = open_zone(rt, name, around)?;
+    match plans_of(rt.alloc(), named, changes_of(words)) {
+        Ok(plans) => Ok(show(
+            rt,
+            words,
+            period,
+            plans.as_slice(),
+            &opened.time_zone(),
+            name,
+        )),
+        Err(_) => Err(no_memory(rt)),
+    }
+}
+
+/// Says that nothing is named that fires, if so.
+pub(crate) fn demand_entries(rt: &HostRuntime, words: &ArgMatches<'_>) -> Result<(), Status> {
+    let given = words
+        .get_strs("EXPRESSION")
+        .is_some_and(|texts| !texts.is_empty());
+    if given || words.get_str("file").is_some() {
+        return Ok(());
+    }
+    Err(complain(rt, "an EXPRESSION or --file is wanted", Status::WrongWords))
+}
+
+/// Reads the crontab, if one is named.
+pub(crate) fn file_of(rt: &HostRuntime, words: &ArgMatches<'_>) -> Result<Vec<u8>, Status> {
+    let Some(path) = words.get_str("file") else {
+        return Ok(Vec::new(rt.alloc()));
+    };
+    match read_file(rt, path) {
+        Ok(file) => Ok(file),
+        Err(error) => Err(say_unread(rt, path, &error)),
+    }
+}
+
+// Reads the crontab, and tells what of it is refused or left out.
+fn read_tab<'a>(
+    rt: &HostRuntime,
+    file: &'a [u8],
+    around: &'a Surroundings,
+    named: &mut Vec<Named<'a>>,
+) -> Result<Status, Status> {
+    let mut tabs = TabZones::new(rt.alloc());
+    tabs.open(rt, Crontab::User, file, around)?;
+    let Ok(names) = tabs.names(rt.alloc()) else {
+        return Err(no_memory(rt));
+    };
+    let Ok(left_out) = add_entries(named, file, names.as_slice()) else {
+        return Err(no_memory(rt));
+    };
+    let told = tell_refused(rt, &user_tab(file), names.as_slice());
+    if left_out {
+        let why = "entries below CRON_TZ are left out of a calendar";
+        return Ok(told.worse(complain(rt, why, Status::No)));
+    }
+    Ok(told)
+}
+
+// Reads what fires, and shows it.
+fn show_words(
+    rt: &HostRuntime,
+    words: &ArgMatches<'_>,
+    period: Period,
+    zone: &str,
+) -> Result<Status, Status>
+    requires { IsPeriod period }
+{
+    demand_entries(rt, words)?;
+    let file = file_of(rt, words)?;
+    let around = Surroundings::of(rt)?;
+    let mut named = Vec::new(rt.alloc());
+    if let Some(texts) = words.get_strs("EXPRESSION") {
+        add_words(rt, &mut named, texts)?;
+    }
+    let told = read_tab(rt, file.as_slice(), &around, &mut named)?;
+    let shown = show_named(rt, words, period, named.as_slice(), zone, &around)?;
+    Ok(told.worse(shown))
+}
+
+/// Does what the words ask for.
+pub fn answer(rt: &HostRuntime, words: &ArgMatches<'_>) -> Status {
+    let Some(zone) = words.get_str("zone") else {
+        return complain(rt, "a word is missing", Status::WrongWords);
+    };
+    let period = match words.get_str("PERIOD") {
+        Some(text) => period_of(text),
+        None => None,
+    };
+    let Some(period) = period else {
+        return complain(
+            rt,
+            "PERIOD is a year from 1970 to 2100, or a month as 2024-03",
+            Status::WrongWords,
+        );
+    };
+    match show_words(rt, words, period, zone) {
+        Ok(status) | Err(status) => status,
+    }
+}

@@ -1,0 +1,277 @@
+//! The subcommand `ics`.
+
+use crate::calendar::{demand_entries, expression_of, file_of, line_name, user_tab};
+use crate::list::{read_span, tell_refused};
+use clap::ArgMatches;
+use cron_answers::expression::{Expression, read_as};
+use cron_answers::trouble::Trouble;
+use cron_fires::ClockChanges;
+use cron_ics::calendar::Wanted;
+use cron_ics::domain::Domain;
+use cron_ics::entry::Entry;
+use cron_ics::error::IcsError;
+use cron_ics::write::write_calendar;
+use cron_replies::status::Status;
+use cron_tab_lines::{Crontab, Line, Lines, NamedZone, zone_below};
+use cron_tab_warnings::text_of;
+use cron_writer::watched::Watched;
+use crontool_machine::choices::changes_of;
+use crontool_machine::machine::{
+    Surroundings, complain, no_memory, open_zone, read_file, say_trouble,
+};
+use crontool_machine::zones::TabZones;
+use jiff::Timestamp;
+use jiff::tz::TimeZone;
+use std::alloc::{AllocError, Global};
+use std::io;
+
+/// How many events there are at most, if no other number is chosen.
+const MOST: u64 = 10_000;
+
+/// The file that holds the machine's name.
+const HOST_FILE: &str = "/etc/hostname";
+
+/// The longest event: a leap year.
+const MOST_MINUTES: u64 = 527_040;
+
+/// Something that fires, under a text.
+#[derive(Drop)]
+struct Named<'a> {
+    text: &'a [u8],
+    summary: &'a [u8],
+    expression: Expression,
+    zone: usize,
+}
+
+// Reads the expressions of the command line.
+fn add_words<'a>(
+    rt: &HostRuntime,
+    named: &mut Vec<Named<'a>>,
+    texts: &[&'a str],
+    quartz: bool,
+) -> Result<(), Status> {
+    for text in texts {
+        let bytes = text.as_bytes();
+        match read_as(quartz, *text) {
+            Ok(expression) => match named.push(Named {
+                text: bytes,
+                summary: bytes,
+                expression,
+                zone: 0,
+            }) {
+                Ok(()) => {}
+                Err(_) => return Err(no_memory(rt)),
+            },
+            Err(refusal) => return Err(say_trouble(rt, &Trouble::Expression(*text, refusal))),
+        }
+    }
+    Ok(())
+}
+
+// Adds the entries of a crontab, each in its zone.
+fn add_entries<'a>(
+    named: &mut Vec<Named<'a>>,
+    file: &'a [u8],
+    names: &[NamedZone<'_>],
+) -> Result<(), AllocError> {
+    let mut here = Some(0);
+    for line in Lines::of(Crontab::User, file) {
+        if let (Some(zone), Ok(Line::Entry(entry))) = (here, &line.read) {
+            named.push(Named {
+                text: line_name(line.bytes),
+                summary: entry.command,
+                expression: expression_of(entry, text_of(line.bytes)),
+                zone,
+            })?;
+        }
+        here = zone_below(names, here, &line);
+    }
+    Ok(())
+}
+
+// What fires, each in its zone and by the rule that was chosen, or its own.
+fn entries_of<'a>(
+    alloc: Global,
+    named: &'a [Named<'a>],
+    zones: &'a [TimeZone<'a>],
+    chosen: Option<ClockChanges>,
+) -> Result<Vec<Entry<'a>>, AllocError> {
+    let mut entries = Vec::new(alloc);
+    for one in named {
+        if let Some(zone) = zones.get(one.zone) {
+            entries.push(Entry {
+                text: one.text,
+                summary: one.summary,
+                schedules: one.expression.as_slice(),
+                once: matches!(one.expression.changes(chosen), ClockChanges::Once),
+                zone,
+            })?;
+        }
+    }
+    Ok(entries)
+}
+
+// The machine's name in its file, which may have comments.
+fn host_of(file: &[u8]) -> Option<Domain<'_>> {
+    for line in file.split(|byte| *byte == b'\n') {
+        let name = line.trim_ascii();
+        if !name.is_empty() && !name.starts_with(b"#") {
+            return Domain::new(name);
+        }
+    }
+    None
+}
+
+// The word for what UIDs end with, or else the file with the host's name.
+fn domain_text(rt: &HostRuntime, words: &ArgMatches<'_>) -> Result<Vec<u8>, Status> {
+    let Some(word) = words.get_str("uid-domain") else {
+        return Ok(read_file(rt, HOST_FILE).unwrap_or(Vec::new(rt.alloc())));
+    };
+    match Vec::from_slice(rt.alloc(), word.as_bytes()) {
+        Ok(text) => Ok(text),
+        Err(_) => Err(no_memory(rt)),
+    }
+}
+
+// What UIDs end with, by this text; or how the subcommand ends where the word is wrong.
+fn domain_of<'a>(rt: &HostRuntime, text: &'a [u8], is_word: bool) -> Result<Domain<'a>, Status> {
+    if !is_word {
+        return Ok(host_of(text).unwrap_or(Domain::of_program()));
+    }
+    match Domain::new(text) {
+        Some(domain) => Ok(domain),
+        None => Err(complain(
+            rt,
+            "--uid-domain has letters, digits, '-', '.' and '_' alone",
+            Status::WrongWords,
+        )),
+    }
+}
+
+/// Which fires are events, and when the calendar is written.
+#[derive(Clone, Copy)]
+struct Asked {
+    start: Timestamp,
+    end: Timestamp,
+    minutes: u32,
+    most: usize,
+    now: Timestamp,
+}
+
+// Which fires are events, or how the subcommand ends where a word is wrong.
+fn asked_of(
+    rt: &HostRuntime,
+    words: &ArgMatches<'_>,
+    zone: &TimeZone<'_>,
+    now: Timestamp,
+) -> Result<Asked, Status> {
+    let minutes = words.get_one::<u64>("minutes").unwrap_or(1);
+    if minutes < 1 || minutes > MOST_MINUTES {
+        return Err(complain(rt, "--minutes is 1 to 527040", Status::WrongWords));
+    }
+    let (Some(start), Some(end)) = (words.get_str("START"), words.get_str("END")) else {
+        return Err(complain(rt, "a word is missing", Status::WrongWords));
+    };
+    let (start, end) = read_span(rt, start, end, zone, now)?;
+    Ok(Asked {
+        start,
+        end,
+        minutes: minutes as u32,
+        most: words.get_one::<u64>("most").unwrap_or(MOST) as usize,
+        now,
+    })
+}
+
+// Writes the calendar of entries.
+fn write_entries(
+    rt: &HostRuntime,
+    entries: &[Entry<'_>],
+    asked: Asked,
+    domain: Domain<'_>,
+) -> Status {
+    let wanted = Wanted {
+        start: asked.start,
+        end: asked.end,
+        minutes: asked.minutes,
+        most: asked.most,
+        written: asked.now,
+        domain,
+    };
+    let mut out = Watched::new(io::writer(rt));
+    match write_calendar(rt.alloc(), entries, &wanted, &mut out) {
+        Ok(()) if out.has_failed() => Status::WriteFailed,
+        Ok(()) => Status::Done,
+        Err(IcsError::NoEvents) => complain(
+            rt,
+            "nothing fires then, and a calendar has an event or more",
+            Status::No,
+        ),
+        Err(IcsError::TooMany) => complain(
+            rt,
+            "more events than --most, which is 10000 if left out",
+            Status::WrongWords,
+        ),
+        Err(IcsError::TooManySchedules | IcsError::OutOfMemory) => no_memory(rt),
+    }
+}
+
+// Writes what fires, once the lines that are refused are told.
+fn write_words(
+    rt: &HostRuntime,
+    words: &ArgMatches<'_>,
+    file: &[u8],
+    zone: &str,
+    domain: Domain<'_>,
+) -> Result<Status, Status> {
+    let around = Surroundings::of(rt)?;
+    let opened = open_zone(rt, zone, &around)?;
+    let zone = opened.time_zone();
+    let asked = asked_of(rt, words, &zone, around.now)?;
+    let mut tabs = TabZones::new(rt.alloc());
+    tabs.open(rt, Crontab::User, file, &around)?;
+    let (Ok(names), Ok(zones)) = (tabs.names(rt.alloc()), tabs.behind(rt.alloc(), zone)) else {
+        return Err(no_memory(rt));
+    };
+    let mut named = Vec::new(rt.alloc());
+    if let Some(texts) = words.get_strs("EXPRESSION") {
+        add_words(rt, &mut named, texts, words.get_flag("quartz"))?;
+    }
+    if add_entries(&mut named, file, names.as_slice()).is_err() {
+        return Err(no_memory(rt));
+    }
+    let told = tell_refused(rt, &user_tab(file), names.as_slice());
+    let chosen = changes_of(words);
+    match entries_of(rt.alloc(), named.as_slice(), zones.as_slice(), chosen) {
+        Ok(entries) => Ok(told.worse(write_entries(rt, entries.as_slice(), asked, domain))),
+        Err(_) => Err(no_memory(rt)),
+    }
+}
+
+// The same, with UIDs that end with the chosen domain, or the host's name.
+fn write_named(
+    rt: &HostRuntime,
+    words: &ArgMatches<'_>,
+    file: &[u8],
+    zone: &str,
+) -> Result<Status, Status> {
+    let text = domain_text(rt, words)?;
+    let is_word = words.get_str("uid-domain").is_some();
+    let domain = domain_of(rt, text.as_slice(), is_word)?;
+    write_words(rt, words, file, zone, domain)
+}
+
+/// Does what the words ask for.
+pub fn answer(rt: &HostRuntime, words: &ArgMatches<'_>) -> Status {
+    let Some(zone) = words.get_str("zone") else {
+        return complain(rt, "a word is missing", Status::WrongWords);
+    };
+    if let Err(status) = demand_entries(rt, words) {
+        return status;
+    }
+    match file_of(rt, words) {
+        Ok(file) => match write_named(rt, words, file.as_slice(), zone) {
+            Ok(status) | Err(status) => status,
+        },
+        Err(status) => status,
+    }
+}

@@ -1,0 +1,109 @@
+//! The subcommand `completions`: a script by which a shell completes lines of `crontool`, from the
+//! table that the help is made from.
+
+mod bash;
+mod fish;
+mod zsh;
+
+use crate::words::Kind;
+use clap::ArgMatches;
+use cron_replies::status::Status;
+use crontool_machine::machine::{complain, no_memory, write_page};
+use std::alloc::AllocError;
+
+/// What may stand for a value.
+#[derive(Clone, Copy)]
+pub(crate) enum Values {
+    Files,
+    Folders,
+    Zones,
+    Words(&'static [&'static str]),
+    Any,
+}
+
+/// How a word stands in a line.
+#[derive(Clone, Copy)]
+pub(crate) enum Place {
+    /// `--NAME`.
+    Flag,
+    /// `--NAME` and a value, once or as often as one likes.
+    Option(&'static str, bool),
+    /// A value by its place, or all values from there on.
+    Value(bool),
+}
+
+// What may stand for the value that the table calls so.
+pub(crate) fn values_of(name: &str) -> Values {
+    match name {
+        "FILE" | "STAMP" => Values::Files,
+        "FOLDER" => Values::Folders,
+        "ZONE" => Values::Zones,
+        "RULE" => Values::Words(&["latest", "each", "within="]),
+        "SHELL" => Values::Words(&["bash", "fish", "zsh"]),
+        "START" | "END" | "INSTANT" => Values::Words(&["now"]),
+        _ => Values::Any,
+    }
+}
+
+pub(crate) fn place_of(kind: Kind) -> Place {
+    match kind {
+        Kind::Flag => Place::Flag,
+        Kind::Given | Kind::GivenNumber => Place::Value(false),
+        Kind::Many(_) => Place::Value(true),
+        Kind::ChoiceMany(value) => Place::Option(value, true),
+        Kind::Choice(value)
+        | Kind::Number(value)
+        | Kind::Default(value, _)
+        | Kind::Needed(value)
+        | Kind::NeededNumber(value) => Place::Option(value, false),
+    }
+}
+
+pub(crate) fn push_all(script: &mut String, parts: &[&str]) -> Result<(), AllocError> {
+    for part in parts {
+        script.push_str(*part)?;
+    }
+    Ok(())
+}
+
+pub(crate) fn push_joined(
+    script: &mut String,
+    words: &[&str],
+    between: &str,
+) -> Result<(), AllocError> {
+    let mut front = "";
+    for word in words {
+        push_all(script, &[front, *word])?;
+        front = between;
+    }
+    Ok(())
+}
+
+// A text between single quotes of zsh or fish. Zsh reads brackets and colons of a help as its own.
+pub(crate) fn push_help(script: &mut String, text: &str, is_zsh: bool) -> Result<(), AllocError> {
+    for letter in text.chars() {
+        match letter {
+            '\'' => script.push_str("'\\''")?,
+            '[' | ']' | ':' if is_zsh => {
+                script.push('\\')?;
+                script.push(letter)?;
+            }
+            _ => script.push(letter)?,
+        }
+    }
+    Ok(())
+}
+
+/// Does what the words ask for.
+pub fn answer(rt: &HostRuntime, words: &ArgMatches<'_>) -> Status {
+    let script = match words.get_str("SHELL") {
+        Some("bash") => bash::script(rt.alloc()),
+        Some("zsh") => zsh::script(rt.alloc()),
+        Some("fish") => fish::script(rt.alloc()),
+        _ => return complain(rt, "SHELL is bash, fish or zsh", Status::WrongWords),
+    };
+    match script {
+        Ok(script) => write_page(rt, script.as_bytes()),
+        Err(_) => no_memory(rt),
+    }
+}

@@ -1,0 +1,97 @@
+//! The words of a subcommand's line, and those that several subcommands have.
+
+/// What stands beside a word.
+#[derive(Clone, Copy)]
+pub(crate) enum Rule {
+    /// Another word must be there too.
+    With(&'static str),
+    /// Another word must not be there.
+    Without(&'static str),
+}
+
+/// What a word is.
+#[derive(Clone, Copy)]
+pub(crate) enum Kind {
+    /// A word that must be there.
+    Given,
+    /// A number that must be there.
+    GivenNumber,
+    /// So many words or more.
+    Many(usize),
+    /// `--NAME`.
+    Flag,
+    /// `--NAME VALUE`, which may be left out.
+    Choice(&'static str),
+    /// `--NAME VALUE`, a number, which may be left out.
+    Number(&'static str),
+    /// `--NAME VALUE`, or its default.
+    Default(&'static str, &'static str),
+    /// `--NAME VALUE`, which must be there.
+    Needed(&'static str),
+    /// `--NAME VALUE`, which may be left out, and may be there several times.
+    ChoiceMany(&'static str),
+    /// `--NAME VALUE`, a number of 32 bits, which must be there.
+    NeededNumber(&'static str),
+}
+
+/// A word of a subcommand: its name, what it is, what stands beside it, and its line of the help.
+#[derive(Clone, Copy)]
+pub(crate) struct Word(
+    pub(crate) &'static str,
+    pub(crate) Kind,
+    pub(crate) &'static [Rule],
+    pub(crate) &'static str,
+);
+
+pub(crate) const EXPRESSION: Word = Word("EXPRESSION", Kind::Given, &[], "A cron expression");
+
+pub(crate) const EXPRESSIONS: Word = Word("EXPRESSION", Kind::Many(0), &[], "Cron expressions");
+
+pub(crate) const OTHER: Word = Word("OTHER", Kind::Given, &[], "Another one");
+
+pub(crate) const QUARTZ: Word = Word("quartz", Kind::Flag, &[], "Expressions are of Quartz");
+
+pub(crate) const START: Word = Word("START", Kind::Given, &[], "An instant");
+
+pub(crate) const END: Word = Word("END", Kind::Given, &[], "An instant");
+
+pub(crate) const FILES: Word = Word(
+    "FILE",
+    Kind::Many(1),
+    &[],
+    "A file, or - for standard input",
+);
+
+pub(crate) const FILE: Word = Word(
+    "file",
+    Kind::Choice("FILE"),
+    &[],
+    "A crontab, or - for standard input",
+);
+
+pub(crate) const SYSTEM: Word = Word("system", Kind::Flag, &[], "Entries name a user");
+
+pub(crate) const JSON: Word = Word("json", Kind::Flag, &[], "An object of JSON for each fire");
+
+pub(crate) const ZONE: Word = Word(
+    "zone",
+    Kind::Default("ZONE", "local"),
+    &[],
+    "UTC, a rule, a name or local",
+);
+
+pub(crate) const ONCE: Word = Word(
+    "once",
+    Kind::Flag,
+    &[Rule::Without("as-shown")],
+    "Each match once, also where the clock changes",
+);
+
+pub(crate) const AS_SHOWN: Word = Word(
+    "as-shown",
+    Kind::Flag,
+    &[],
+    "Each time that the clock shows a match",
+);
+
+pub(crate) const RUNS: Word = Word("count", Kind::Number("N"), &[], "How many runs at most");
