@@ -4,5 +4,6 @@
 
 pub mod commands;
 pub mod completions;
+mod runs;
 mod subcommands;
 mod words;
