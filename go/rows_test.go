@@ -15,8 +15,8 @@ import (
 
 // The rows of the repository, whose answers come from elsewhere.
 const (
-	replayed = "../crates/cron_replay/data/"
-	crontabs = "../crates/cron_tab_rows/data/"
+	replayed = "../crates/cron_test_replay/data/"
+	crontabs = "../crates/cron_test_tabs/data/"
 	shell    = "../crates/crontool/cases/"
 )
 

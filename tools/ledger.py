@@ -3,7 +3,7 @@
 A line is the edit's name, a sum, and, where the refusal says little of the contract, why. The sum is of all that the refusal
 rests on: the edit, the scripts that judge it, the kit, HANDLES, the crate's src/, specs/, proofs/ and line of crates.txt, and
 what `rt` hands to it of the crates below. That is known once these are built. So a line with the right sum vouches for its edit
-on every machine, and another one is stale."""
+on every machine, and another one is stale. Lines of those files that hold a comment alone don't count."""
 import contextlib
 import fcntl
 import functools
@@ -20,6 +20,12 @@ LINE = re.compile(r"([A-Za-z0-9_.-]+) ([0-9a-f]{32})(?: (\S.*))?")
 # What judges an edit, beside the kit.
 SCRIPTS = ("copies.py", "edits.py", "judge.py", "kit.py")
 OF_KIT = ("KIT-ID", "bin/rt", "bin/rtlib.py")
+# Lines that hold a comment alone, by how a file's name ends.
+COMMENTS = {".rt": re.compile(r"^[ \t]*//.*\n", re.M), ".antt": re.compile(r"^[ \t]*--.*\n", re.M)}
+# Where a raw string or a block comment begins, which may go on over many lines.
+SPANS = re.compile(r'\br#*"|/\*')
+# What has a quote that neither begins nor ends a string.
+QUOTES = re.compile(r"\\.|'\"'")
 # How the names of the modules begin that crates above can see, in the list of what a library hands on.
 SEEN = "facade/"
 # Of a function such modules say that its body meets its contract, and change with the body.
@@ -38,9 +44,21 @@ def sum_of_judges():
     return sum_of([rt.rtlib.sum_of(it) for it in files])
 
 
+def code_of(path):
+    """Returns the text of a file without the lines that hold a comment alone, or the whole text where such a line may be part
+    of a string."""
+    whole = rt.rtlib.text_of(path)
+    comment = COMMENTS.get(os.path.splitext(path)[1])
+    if not comment or SPANS.search(whole):
+        return whole
+    code = comment.sub("", whole)
+    goes_on = any(QUOTES.sub("", line).count('"') % 2 for line in code.split("\n"))
+    return whole if goes_on else code
+
+
 def sum_of_crate(crate):
     """Returns a sum of a crate's own files and of its line of crates.txt."""
-    files = [(os.path.relpath(it, crate.folder), rt.rtlib.sum_of(it)) for it in rt.rtlib.files_of(crate.folder)]
+    files = [(os.path.relpath(it, crate.folder), sum_of(code_of(it))) for it in rt.rtlib.files_of(crate.folder)]
     return sum_of(crate.name, sorted(crate.said.items()), [it.name for it in crate.deps], [*crate.of_kit], files)
 
 

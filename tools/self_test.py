@@ -159,8 +159,14 @@ def ledger_faults(crate):
         told = " ".join(lines_that_fail(it))
         held["lines that are none fail by name"] = all(word in told for word in ("what is this", "a-b-fault stands twice", "a-b-gone names no edit"))
         held["two runs at once lose no line"] = lines_of_two_runs(it) == 80
-        with open(f"{it.crate.folder}/src/lib.rt", "a", encoding="utf-8") as file:
-            file.write("// a change\n")
+        root = f"{it.crate.folder}/src/lib.rt"
+        written = rt.rtlib.text_of(root)
+        write(root, f"{written}// a comment\n")
+        held["a change of a comment keeps the crate's lines"] = it.vouched() == ["a-b-fault"]
+        write(root, f'{written}const PART: &str = "\n// a line\n";\n')
+        in_string = ledger.code_of(root)
+        held["a line of a string is no comment"] = "// a line" in in_string
+        write(root, f"{written}const PART: u8 = 1;\n")
         held["a change of the crate makes its lines stale"] = it.vouched() == []
         four = sum_handed(4, "4")
         held["a change of a body keeps the lines above"] = four is not None and sum_handed(4, "2 + 2") == four

@@ -1,5 +1,5 @@
 """Rows of `crontool check` and `crontool list` against files that others made: lines that real crons refuse, fires of crontabs that a
-scan of minutes counted (crates/cron_tab_rows/data), and hostile commands as Python's reader of JSON has them."""
+scan of minutes counted (crates/cron_test_tabs/data), and hostile commands as Python's reader of JSON has them."""
 import datetime as dates
 import functools
 import json
@@ -7,7 +7,7 @@ import json
 from cases import OUT, Call, Check, Wanted
 from kit import top
 
-OF_TOOL, OF_ROWS = "crates/crontool/data", "crates/cron_tab_rows/data"
+OF_TOOL, OF_ROWS = "crates/crontool/data", "crates/cron_test_tabs/data"
 RULES = {"own": [], "once": ["--once"], "shown": ["--as-shown"]}
 CHICAGO = ["chicago.tab", "--zone", "CST6CDT,M3.2.0,M11.1.0"]
 DAYS = ["list", "2025-03-08T18:00:00Z", "2025-03-10T18:00:00Z", *CHICAGO]
@@ -50,7 +50,7 @@ def fires_of_days(rule, told):
 
 
 def fires_of_years(rule, told):
-    """How many fires there are, and the digest of them that the rows of cron_tab_rows have."""
+    """How many fires there are, and the digest of them that the rows of cron_test_tabs have."""
     digest, fires = 0, fires_in(told)
     for instant, line, _ in fires:
         digest = (digest * 1099511628211 + int(instant.timestamp()) // 60 * 1000 + int(line)) % 2**64

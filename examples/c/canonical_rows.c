@@ -7,7 +7,7 @@
 
 #include <dirent.h>
 
-#define ROWS "crates/cron_replay/data/"
+#define ROWS "crates/cron_test_replay/data/"
 
 enum { LINE = 4000, UNITS = 7, MOST = 131 };
 

@@ -8,7 +8,7 @@
 
 #include <inttypes.h>
 
-#define ROWS "crates/cron_tab_rows/data/"
+#define ROWS "crates/cron_test_tabs/data/"
 
 enum { ROOM = 2, LINE = 1000 };
 

@@ -5,7 +5,7 @@
 #include "edge.h"
 #include "rows.h"
 
-#define ROWS "crates/cron_union_rows/data/quartz_"
+#define ROWS "crates/cron_test_unions/data/quartz_"
 
 enum { LINE = 1000 };
 

@@ -14,11 +14,14 @@ use std::str::FromStr;
 /// Returns the bytes of the zone files in `zones.txt`, by their names.
 fn zone_files() -> HashMap<String, Vec<u8>> {
     let mut files = HashMap::new();
-    for_each_row(&data_of("cron_replay").join("zones.txt"), |_, parts| {
-        let digits = |at| u8::from_str_radix(&parts[1][at..at + 2], 16).unwrap();
-        let bytes = (0..parts[1].len()).step_by(2).map(digits).collect();
-        files.insert(parts[0].to_string(), bytes);
-    });
+    for_each_row(
+        &data_of("cron_test_replay").join("zones.txt"),
+        |_, parts| {
+            let digits = |at| u8::from_str_radix(&parts[1][at..at + 2], 16).unwrap();
+            let bytes = (0..parts[1].len()).step_by(2).map(digits).collect();
+            files.insert(parts[0].to_string(), bytes);
+        },
+    );
     files
 }
 
@@ -52,7 +55,7 @@ fn zone_named(name: &str, files: &HashMap<String, Vec<u8>>) -> Option<Zone> {
 /// returns how many.
 fn replay(file: &str, mut call: impl FnMut(&Schedule, &Zone, &[&str], &str)) -> usize {
     let files = zone_files();
-    for_each_row(&data_of("cron_replay").join(file), |row, parts| {
+    for_each_row(&data_of("cron_test_replay").join(file), |row, parts| {
         let schedule = Schedule::from_str(parts[0]).unwrap();
         if let Some(zone) = zone_named(parts[1], &files) {
             call(&schedule, &zone, &parts[2..], row);
@@ -154,7 +157,7 @@ fn due_fires_between_instants_are_those_of_their_rows() {
 fn crontabs_fire_as_the_schedules_of_their_rows() {
     let zone = Zone::rule("CST6CDT,M3.2.0,M11.1.0").unwrap();
     let start = instant_of("2024-02-01T00:00:00Z");
-    let file = data_of("cron_tab_rows").join("schedules.txt");
+    let file = data_of("cron_test_tabs").join("schedules.txt");
     let count = for_each_row(&file, |row, parts| {
         let crontab = Crontab::from_str(&rows::text_of(parts[0]))
             .unwrap_or_else(|why| panic!("{row}: {why}"));
@@ -181,7 +184,7 @@ fn crontabs_fire_as_the_schedules_of_their_rows() {
 
 #[test]
 fn crontabs_tell_why_a_text_is_refused() {
-    let file = data_of("cron_tab_rows").join("messages.txt");
+    let file = data_of("cron_test_tabs").join("messages.txt");
     let count = for_each_row(&file, |row, parts| {
         let error = Crontab::from_str(&rows::text_of(parts[0])).expect_err(row);
         assert_eq!(error.to_string(), rows::text_of(parts[1]), "{row}");

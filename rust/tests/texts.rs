@@ -53,7 +53,7 @@ fn meaning_of(schedule: &Schedule) -> String {
 #[test]
 fn texts_mean_what_their_rows_say() {
     let mut count = 0;
-    for file in files_of(&data_of("cron_replay"), "texts_") {
+    for file in files_of(&data_of("cron_test_replay"), "texts_") {
         count += for_each_row(&file, |row, parts| {
             let text = text_of(parts[0]);
             let readings = [

@@ -91,7 +91,7 @@ fn replay_file(file: &Path) -> usize {
 
 #[test]
 fn walks_answer_what_their_rows_say() {
-    let files = files_of(&data_of("cron_replay"), "walks_");
+    let files = files_of(&data_of("cron_test_replay"), "walks_");
     let count: usize = files.iter().map(|it| replay_file(it)).sum();
     assert!(count > 1_600, "{count} rows");
 }

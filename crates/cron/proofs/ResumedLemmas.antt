@@ -6,7 +6,7 @@ use Rattle.cron_units.specs.declared.way.Way.TheVariants.{Ahead, Back}
 use Rattle.cron_time.specs.Walk.Bounds.{bound_ahead, bound_back}
 use Rattle.cron_time.specs.Walk.Cursor.{Cursor, Start, Place, Ended, run_on, step_on, first_from, last_to, place_before}
 use Rattle.cron_moments.specs.Readings.{Reading}
-use Rattle.cron_time.specs.Timeline.{timeline}
+use Rattle.cron_time.specs.Timeline.{seconds_of, timeline}
 use Rattle.cron_time.proofs.TimelineLaws.{stand_once}
 use Rattle.cron_time.proofs.TimelineLemmas.{is_in, stands-high}
 use Rattle.cron.specs.Resumed.{followed_by, CutRunsAreResumed, ItemsAreInRange}
@@ -32,4 +32,4 @@ cut_runs_resumed s z before after last c r place answered at =
     ∙ ap (λ (k : Cursor). followed_by (run_on items z (before ++ last ∷ []) c) (run_on items z after k)) cursor
 
 pub items_in_range : ItemsAreInRange
-items_in_range s z i x here = stands-high s z x.second (is_in s z i x here).stands
+items_in_range s z i x here = stands-high (seconds_of s) z x.second (is_in (seconds_of s) z i x here).stands

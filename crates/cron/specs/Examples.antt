@@ -20,7 +20,7 @@ token text = record { spaced = false; text = text }
 abbrev pub spaced_token : List ℕ → Token
 spaced_token text = record { spaced = true; text = text }
 
--- the tokens of texts, and the fields that they are
+-- the tokens of example texts, and the fields that they are
 pub record TextsAreCut : Type 0 where
   pub steps_tokens : tokens (codes "*/ 2") ≡ token (codes "*") ∷ token (codes "/") ∷ spaced_token (codes "2") ∷ []
   pub steps_field : IsField units.seconds (tokens (codes "*/ 2")) (stepped every 2 ∷ [])
@@ -36,7 +36,7 @@ pub record TextsAreCut : Type 0 where
       IsField units.days_of_week (tokens (codes " mon-FRI/2, SAT ")) (stepped (name_range (codes "mon") (codes "FRI")) 2 ∷ name (codes "SAT") ∷ [])
   pub apart : spacing_fits_all (tokens (codes "* / 2")) ≡ false
 
--- the sets that items denote
+-- the sets that example items denote
 pub record ItemsDenote : Type 0 where
   pub steps :
       Denotes units.seconds (plain (single 1) ∷ plain (single 2) ∷ stepped (single 3) 5 ∷ [])

@@ -1,4 +1,4 @@
--- The whole promise in one place.
+-- The headline: what a text means, and what the calls of a walk over its timeline answer.
 use Rattle.std.specs.Prelude.{◌≡◌, ℕ, ℤ, List, Option, map}
 use Rattle.jiff_tz.specs.declared.timezone.TimeZone.{TimeZone}
 use Rattle.cron_time.specs.Walk.Cursor.{Start, run_on}

@@ -1,4 +1,5 @@
--- The first two answers of a walk: what they are in each zone, and, in one with one offset, told by instants.
+-- The first two answers of a walk: in each zone by its timeline, and in a zone with one offset by
+-- instants.
 use Rattle.std.specs.Prelude.{◌≡◌, ℤ, pos, ◌*ℤ◌, [], ◌∷◌, Option, Some, None, MatchOption}
 use Rattle.jiff_tz.specs.declared.timezone.TimeZone.{TimeZone}
 use Rattle.cron_units.specs.declared.way.Way.TheVariants.{Ahead}
@@ -12,7 +13,8 @@ use Rattle.cron_units.specs.Sets.{Sets}
 abbrev pub IsLeastIfAny : Sets → ℤ → ℤ → Option Reading → Type 0
 IsLeastIfAny s offset t answer = MatchOption answer ((n : ℤ) → IsAfter t n → ¬ (Shows s offset n)) (IsLeastAfter s offset t)
 
--- the second answer is the same after the instant of the first; after no first one there is no second
+-- the second answer is the least instant after the first one that shows a match, and `None` exactly
+-- where there is none; without a first answer there is no second
 abbrev pub IsNextIfAny : Sets → ℤ → Option Reading → Option Reading → Type 0
 IsNextIfAny s offset None second = second ≡ None
 IsNextIfAny s offset (Some r) second = IsLeastIfAny s offset (instant r *ℤ pos 1_000_000_000) second

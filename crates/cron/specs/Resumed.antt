@@ -12,7 +12,8 @@ use Rattle.jiff_tz.specs.declared.timezone.TimeZone.{TimeZone}
 abbrev pub followed_by : Run → Run → Run
 followed_by first second = record { answers = first.answers ++ second.answers; cursor = second.cursor }
 
--- where the last call of a list answers an item, the run of this list and then of another from the item's place is the run of both uncut
+-- if the last call of a list answers an item, the run of this list, and then of another list from
+-- the item's place, is the uncut run of both
 abbrev pub CutRunsAreResumed : Type 0
 CutRunsAreResumed =
     (s : Sets) (z : TimeZone) (before after : List Way) (last : Way) (c : Cursor) (r : Reading) (place : ℕ)

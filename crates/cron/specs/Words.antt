@@ -11,7 +11,8 @@ pub use Rattle.cron_time.specs.Matches.{matches, matches_date, matches_time, is_
 pub use Rattle.cron_moments.specs.Civil.{civil, days_in_range, seconds_in_range}
 pub use Rattle.cron_moments.specs.CivilDates.{date_numbered}
 pub use Rattle.cron_moments.specs.Readings.{Reading, instant, reading, readings}
-pub use Rattle.cron_time.specs.Timeline.{timeline, numbers_below}
+pub use Rattle.cron_time.specs.Seconds.{Seconds, numbers_below}
+pub use Rattle.cron_time.specs.Timeline.{seconds_of, timeline}
 pub use Rattle.cron_time.specs.Walk.Bounds.{bound_ahead, bound_back}
 pub use Rattle.cron_time.specs.Walk.Cursor.{Cursor, Start, Place, Ended, Step, Walk, Steps, Run, step_on, run_on, go_to, item_at}
 pub use Rattle.cron_time.specs.Walk.Ways.{opposite, target}

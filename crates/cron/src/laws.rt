@@ -1,4 +1,5 @@
-//! The headline, and laws over the definitions. They are there for what their contracts say.
+//! The headline, and laws over the definitions. A law does nothing: a caller calls it for what its
+//! contract says.
 
 ghost use Rattle.std.specs.Prelude.{◌≡◌, IfOk, IfErr};
 ghost use Rattle.jiff.specs.Words.{plain_zone};
@@ -57,9 +58,9 @@ pub fn equal_sets(one: &Schedule, other: &Schedule)
     let _other = other.source();
 }
 
-/// In a zone with one offset a walk from a start answers the least instant after the start that
-/// shows a match, and then the least instant after that one. It answers `None` exactly where there
-/// is none. Each answer is an item as the walk gives it, with the offset of the zone.
+/// In a zone with one offset, a walk from `start` returns the least instant after `start` that
+/// shows a match, and then the least one after that. It returns `None` exactly if there is none.
+/// Each answer is an item of the walk, with the offset of the zone.
 pub fn first_instants(
     schedule: &Schedule,
     start: Timestamp,
@@ -79,34 +80,34 @@ pub fn first_instants(
     (first, second)
 }
 
-/// The tokens of written texts, and the fields that they are.
+/// The tokens of example texts, and the fields that they form.
 pub fn texts_are_cut()
     ensures { TextsAreCut }
 {}
 
-/// The sets of written items.
+/// The sets that example items denote.
 pub fn items_denote()
     ensures { ItemsDenote }
 {}
 
-/// One written refusal of each kind.
+/// One example of each kind of refusal, with its message.
 pub fn items_are_refused()
     ensures { ItemsAreRefused }
 {}
 
-/// An item of a unit is refused for nothing, or for one thing alone. Items either denote one set,
-/// which has an ordinal or the mark of the last day, or one of them is the first that is refused.
+/// An item of a unit has at most one reason to be refused. A list of items either denotes one set,
+/// which has an ordinal or the mark of the last day, or has a first item that is refused.
 pub fn items_are_decided()
     ensures each { ItemsAreRefusedOnce }
     ensures all { ItemsAreDecided }
 {}
 
-/// The steps of a cursor on four items.
+/// The steps of a cursor on four items, as examples.
 pub fn cursors_step()
     ensures { CursorsStep }
 {}
 
-/// The numbers of the first and the last day and of a leap day.
+/// The numbers of civil seconds, of the first and the last day, and of a leap day.
 pub fn days_are_numbered()
     ensures { DaysAreNumbered }
 {}
@@ -116,21 +117,21 @@ pub fn means_once()
     ensures { MeansOnce }
 {}
 
-/// A text means sets of the units. None of them is empty, but for days of the month that have the
-/// mark of the last day in place of numbers.
+/// A text means sets of the units. None of them is empty, except a set of days of the month that
+/// has the mark of the last day in place of numbers.
 pub fn means_sets()
     ensures { MeansSets }
 {}
 
-/// The earlier grammar has no word for the last day of a month, and the first five shorthands
-/// alone. A text that means seven sets by it means the same ones by the whole grammar, and has no
-/// mark.
+/// The earlier grammar has no word for the last day of a month, and only the first five shorthands.
+/// A text that means seven sets in it means the same seven in the whole grammar, with no mark of
+/// the last day.
 pub fn earlier_texts()
     ensures { KeepsItsMeaning }
 {}
 
-/// A text that is no shorthand is in the grammar exactly if its longest fronts are six or seven
-/// fields that denote sets, with nothing left over.
+/// A text that is no shorthand is in the grammar exactly if its longest fields, taken from the
+/// left, are six or seven that denote sets, with nothing left over.
 pub fn longest_fronts_agree()
     ensures { LongestFrontsAgree }
 {}
@@ -151,18 +152,19 @@ pub fn days_at_most()
     ensures { DaysAtMost }
 {}
 
-/// The run of a joined list of calls is the joined runs.
+/// The run of two lists of calls, joined, is the run of the first and then the run of the second
+/// from there.
 pub fn joined_runs()
     ensures { law.RunsAreJoined }
 {}
 
-/// After a `None` every call answers `None`.
+/// After a `None` every call returns `None`.
 pub fn end_for_ever()
     ensures { law.EndIsForEver }
 {}
 
-/// After `next` answered an item that isn't the first, `next_back` answers the one before it, and a
-/// further `next` answers the item again.
+/// After `next` returned an item that isn't the first, `next_back` returns the one before it, and a
+/// further `next` returns the item again.
 pub fn neighbours()
     ensures { law.NeighboursAreAnswered }
 {}
@@ -172,7 +174,7 @@ pub fn ascending_seconds()
     ensures { law.SecondsNeverDecrease }
 {}
 
-/// Each civil second stands on a timeline at most twice.
+/// Each civil second occurs at most twice on a timeline.
 pub fn twice_at_most()
     ensures { law.SecondsStandTwiceAtMost }
 {}
@@ -192,25 +194,25 @@ pub fn items_in_range()
     ensures { ItemsAreInRange }
 {}
 
-/// No item stands on a timeline twice.
+/// No item occurs twice on a timeline.
 pub fn single_items()
     ensures { law.ItemsStandOnce }
 {}
 
-/// UTC and the zones that are made of an offset have one offset, and so has a rule text without a
-/// saving.
+/// UTC and the zones that are made of an offset have one offset. So has a rule text without
+/// daylight saving.
 pub fn one_offset()
     ensures zones { one.FixedZonesHaveOneOffset }
     ensures rules { one.PlainRulesHaveOneOffset }
 {}
 
-/// In a zone with one offset the first call ahead of a start answers the least instant after it
-/// that shows a match.
+/// In a zone with one offset, the first call of `next` from a start returns the least instant after
+/// it that shows a match.
 pub fn least_instant()
     ensures { one.FirstIsLeast }
 {}
 
-/// In a zone with one offset a call ahead of an item answers a later instant.
+/// In a zone with one offset, a call of `next` from an item returns a later instant.
 pub fn later_instants()
     ensures { one.NextIsLater }
 {}

@@ -1,4 +1,4 @@
-//! From a text to a schedule: four readers, one grammar.
+//! The four readers of a schedule from a text, which share one grammar.
 
 ghost use Rattle.std.specs.Prelude.{◌≡◌, IfOk, IfErr};
 ghost use Rattle.std.specs.Cow.{cow_str_bytes, IsOwnedStr};
@@ -13,13 +13,13 @@ use cron_units::error::Error;
 use std::alloc::Global;
 use std::borrow::CowStr;
 
-/// Each reader answers a schedule exactly where the text is in the grammar, out of memory aside. A
-/// refusal tells the first refused field's message or `Invalid cron expression.`; or, where a
-/// growth was refused, `out of memory`. Memory is taken for the copy of a borrowed text and for a
-/// message alone, so an owned text of the grammar is always read.
+/// Each reader returns a schedule exactly if the text is in the grammar, out of memory aside. The
+/// error holds the message of the first refused field or `Invalid cron expression.`; or, if an
+/// allocation failed, `out of memory`. Only the copy of a borrowed text and a message take memory,
+/// so an owned text of the grammar is always read.
 impl Schedule {
-    // The error that tells the fault of a text. Few texts have one, and none of the others pays for
-    // its room.
+    // The error for the fault of `text`. Few texts have one, so it is kept out of the readers: no
+    // other text pays for its stack space.
     #[cold]
     #[inline(never)]
     fn refusal(alloc: Global, text: &str) -> Error
@@ -43,7 +43,7 @@ impl Schedule {
         Ok(Schedule::new(source, fields))
     }
 
-    /// What [`Schedule::from_str`] answers, under a second name.
+    /// The same as [`Schedule::from_str`], under a second name.
     pub fn try_from_str(alloc: Global, text: &str) -> Result<Schedule, Error>
         ensures means { IfOk result (λ s. Means text.now s.sets) }
         ensures source { IfOk result (λ s. s.source ≡ text.now) }
@@ -52,8 +52,8 @@ impl Schedule {
         Schedule::from_str(alloc, text)
     }
 
-    // Reads a text and keeps it, or gives it back where it means nothing. There is no allocator to
-    // take memory from.
+    // Reads `text` and keeps it, or returns it if it means nothing. It takes no memory, as it has
+    // no allocator.
     #[inline(always)]
     fn keep(text: String) -> Result<Schedule, String>
         ensures means { IfOk result (λ s. Means (string_bytes text) s.sets) }
@@ -68,7 +68,7 @@ impl Schedule {
         Ok(Schedule::new(text, fields))
     }
 
-    /// Reads an expression and keeps the text itself. A refusal gives the text up.
+    /// Reads an expression and keeps `text` itself. On an error `text` is dropped.
     pub fn try_from_string(alloc: Global, text: String) -> Result<Schedule, Error>
         ensures means { IfOk result (λ s. Means (string_bytes text) s.sets) }
         ensures source { IfOk result (λ s. s.source ≡ string_bytes text) }
@@ -81,8 +81,8 @@ impl Schedule {
         }
     }
 
-    /// Reads an expression that is borrowed, as [`Schedule::from_str`], or owned, as
-    /// [`Schedule::try_from_string`].
+    /// Reads an expression. A borrowed text is read as by [`Schedule::from_str`], an owned one as
+    /// by [`Schedule::try_from_string`].
     pub fn try_from_cow(alloc: Global, text: CowStr<'_>) -> Result<Schedule, Error>
         ensures means { IfOk result (λ s. Means (cow_str_bytes text.entry) s.sets) }
         ensures source { IfOk result (λ s. s.source ≡ cow_str_bytes text.entry) }

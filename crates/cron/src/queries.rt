@@ -23,10 +23,10 @@ use jiff::civil::DateTime;
 use jiff::tz::TimeZone;
 
 impl Schedule {
-    /// Finds the least civil second at or after `from` that matches and has a reading in the zone,
-    /// with its one or two readings, the earlier first. A part of a second of `from` is cut. It
-    /// goes field by field, so a year, a month or a day that does not match costs no look at its
-    /// seconds.
+    /// Finds the least civil second at or after `from` that matches and has a reading in the zone.
+    /// It returns the one or two readings, the earlier first. A fraction of a second of `from` is
+    /// dropped. The search goes field by field: it tests no second of a year, a month or a day that
+    /// doesn't match.
     pub fn first_at_or_after(&self, from: DateTime, zone: &TimeZone<'_>) -> Search
         ensures found { IsFound Ahead self.now.sets (plain_zone zone.now) (civil_seconds from)
             (option_map found_items result.found) }
@@ -38,7 +38,8 @@ impl Schedule {
         search(self.fields(), zone, Way::Ahead, civil_number(from))
     }
 
-    /// Finds the greatest such civil second at or before `from`.
+    /// Finds the greatest civil second at or before `from` that matches and has a reading in the
+    /// zone.
     pub fn last_at_or_before(&self, from: DateTime, zone: &TimeZone<'_>) -> Search
         ensures found { IsFound Back self.now.sets (plain_zone zone.now) (civil_seconds from)
             (option_map found_items result.found) }
@@ -51,9 +52,9 @@ impl Schedule {
     }
 
     /// Finds the first `count` civil seconds at or after `from` that match and have a reading, or
-    /// all where there are fewer, by searches ahead one after the other. It tells how many it found
-    /// and the sums of both counts. A day in which one search ends and the next begins is counted
-    /// twice, so there is at most one day more than the candidates for each of the seconds found.
+    /// all if there are fewer. It searches ahead once for each. It returns how many it found and
+    /// the sums of both counts. If one search ends and the next begins on the same day, that day is
+    /// counted twice. So the days are at most the candidates plus one for each second found.
     pub fn survey(&self, from: DateTime, zone: &TimeZone<'_>, count: u32) -> Survey
         ensures seconds { result.seconds ≡ length
             (take count (standing_from self.now.sets (plain_zone zone.now) (civil_seconds from))) }
@@ -69,9 +70,9 @@ impl Schedule {
         survey(self.fields(), zone, civil_number(from), count)
     }
 
-    /// Finds the least time of day at or after the given one whose hour, minute and second lie in
-    /// their sets. The hour is 23 at most, minute and second 59. The questions for a neighbouring
-    /// member are counted, one for a least member too.
+    /// Finds the least time of day at or after the given one whose hour, minute and second are in
+    /// their sets. `hour` is at most 23, `minute` and `second` at most 59. `questions` counts the
+    /// look-ups of a neighbouring member in a set, and those of a least member too.
     pub fn first_time(&self, hour: Ordinal, minute: Ordinal, second: Ordinal) -> TimeFound
         requires hour { hour < 24 }
         requires minute { minute < 60 }
@@ -85,8 +86,8 @@ impl Schedule {
         nearest_time(self.filled_fields(), Way::Ahead, hour, minute, second)
     }
 
-    /// Finds the greatest such time of day at or before the given one, whose hour is 23 at most,
-    /// minute and second 59.
+    /// Finds the greatest time of day at or before the given one whose hour, minute and second are
+    /// in their sets. `hour` is at most 23, `minute` and `second` at most 59.
     pub fn last_time(&self, hour: Ordinal, minute: Ordinal, second: Ordinal) -> TimeFound
         requires hour { hour < 24 }
         requires minute { minute < 60 }

@@ -8,7 +8,7 @@ use Rattle.std.proofs.lemmas.List.Concat.{flat_map_single}
 use Rattle.std.proofs.lemmas.List.Elements.{filter-append}
 use Rattle.std.proofs.lemmas.Simd.{map-map}
 use Rattle.jiff_tz.specs.declared.timezone.TimeZone.{TimeZone}
-use Rattle.cron_units.specs.Sets.{Sets}
+use Rattle.cron_time.specs.Seconds.{Seconds}
 use Rattle.cron_agenda.specs.declared.entry.Entry.{Entry}
 use Rattle.cron_agenda.specs.declared.error.AddError.TheVariants.{NoFires}
 use Rattle.cron_agenda.specs.declared.fire.AgendaFire.{AgendaFire}
@@ -91,13 +91,13 @@ module _ (new : ℕ → ℕ) where
 
 -- ---- all entries under new ids
 
-module _ {T : Type 0} (schedules : T → List Sets) (zones : List TimeZone) where
+module _ {T : Type 0} (has : T → Seconds) (zones : List TimeZone) where
   -- new entries have left what old ones have, under new ids
   abbrev Fit : (ℕ → ℕ) → List (Entry T) → List (Entry T) → Type 0
   Fit new [] [] = Unit {0}
   Fit new [] (n ∷ news) = ⊥
   Fit new (e ∷ olds) [] = ⊥
-  Fit new (e ∷ olds) (n ∷ news) = (new e.id ≡ n.id) × (left schedules zones n ≡ left schedules zones e) × Fit new olds news
+  Fit new (e ∷ olds) (n ∷ news) = (new e.id ≡ n.id) × (left has zones n ≡ left has zones e) × Fit new olds news
 
   fit-later : (new : ℕ → ℕ) (id is : ℕ) (olds news : List (Entry T)) (low high : ℕ) → id < low → HaveIds low olds high → Fit new olds news
       → Fit (λ i. if id == i then is else new i) olds news
@@ -111,7 +111,7 @@ module _ {T : Type 0} (schedules : T → List Sets) (zones : List TimeZone) wher
         fit-later new id is olds news (e.id + 1) high (omega arith) ids.1 fit.2,
       )
 
-  new_ids-fit : (olds news : List (Entry T)) (low high : ℕ) → HaveIds low olds high → map (left schedules zones) news ≡ map (left schedules zones) olds
+  new_ids-fit : (olds news : List (Entry T)) (low high : ℕ) → HaveIds low olds high → map (left has zones) news ≡ map (left has zones) olds
       → Fit (new_id olds news) olds news
   new_ids-fit [] [] low high ids same = tt
   new_ids-fit [] (n ∷ news) low high ids same = cc
@@ -122,19 +122,19 @@ module _ {T : Type 0} (schedules : T → List Sets) (zones : List TimeZone) wher
     fit-later (new_id olds news) e.id n.id olds news (e.id + 1) high (omega arith) ids.1 (new_ids-fit olds news (e.id + 1) high ids.1 (cc)),
   )
 
-  all-renamed : (new : ℕ → ℕ) (olds news : List (Entry T)) → Fit new olds news → all_of schedules zones news ≡ map (rename new) (all_of schedules zones olds)
+  all-renamed : (new : ℕ → ℕ) (olds news : List (Entry T)) → Fit new olds news → all_of has zones news ≡ map (rename new) (all_of has zones olds)
   all-renamed new [] [] fit = refl
   all-renamed new [] (n ∷ news) fit = absurd fit
   all-renamed new (e ∷ olds) [] fit = absurd fit
   all-renamed new (e ∷ olds) (n ∷ news) fit =
-      ap (λ l. owned n.id l ++ all_of schedules zones news) fit.1
-      ∙ ap (λ i. owned i (left schedules zones e) ++ all_of schedules zones news) (sym fit.0)
-      ∙ ap (λ l. owned (new e.id) (left schedules zones e) ++ l) (all-renamed new olds news fit.2)
-      ∙ ap (λ l. l ++ map (rename new) (all_of schedules zones olds)) (sym (map-map (rename new) (own e.id) (left schedules zones e)))
-      ∙ sym (map-append (rename new) (owned e.id (left schedules zones e)) (all_of schedules zones olds))
+      ap (λ l. owned n.id l ++ all_of has zones news) fit.1
+      ∙ ap (λ i. owned i (left has zones e) ++ all_of has zones news) (sym fit.0)
+      ∙ ap (λ l. owned (new e.id) (left has zones e) ++ l) (all-renamed new olds news fit.2)
+      ∙ ap (λ l. l ++ map (rename new) (all_of has zones olds)) (sym (map-map (rename new) (own e.id) (left has zones e)))
+      ∙ sym (map-append (rename new) (owned e.id (left has zones e)) (all_of has zones olds))
 
   kept-behind : (new : ℕ → ℕ) (id : ℕ) (f : EntryFire) (olds news : List (Entry T)) (low high first end : ℕ) → id < low → new id < first
-      → HaveIds low olds high → HaveIds first news end → Fit new olds news → IsKept new (own id f) (all_of schedules zones olds)
+      → HaveIds low olds high → HaveIds first news end → Fit new olds news → IsKept new (own id f) (all_of has zones olds)
   kept-behind new id f [] [] low high first end less still ids ids_new fit = tt
   kept-behind new id f [] (n ∷ news) low high first end less still ids ids_new fit = absurd fit
   kept-behind new id f (e ∷ olds) [] low high first end less still ids ids_new fit = absurd fit
@@ -142,35 +142,35 @@ module _ {T : Type 0} (schedules : T → List Sets) (zones : List TimeZone) wher
       let here = ids.0 in
       let there = ids_new.0 in
       let is = fit.0 in
-      kept-append new (own id f) (owned e.id (left schedules zones e)) (all_of schedules zones olds)
-      (kept-later new id e.id f (left schedules zones e) (omega arith) (omega arith))
+      kept-append new (own id f) (owned e.id (left has zones e)) (all_of has zones olds)
+      (kept-later new id e.id f (left has zones e) (omega arith) (omega arith))
       (kept-behind new id f olds news (e.id + 1) high (n.id + 1) end (omega arith) (omega arith) ids.1 ids_new.1 fit.2)
 
   kept-all : (new : ℕ → ℕ) (olds news : List (Entry T)) (low high first end : ℕ) → HaveIds low olds high → HaveIds first news end → Fit new olds news
-      → AreKept new (all_of schedules zones olds)
+      → AreKept new (all_of has zones olds)
   kept-all new [] [] low high first end ids ids_new fit = tt
   kept-all new [] (n ∷ news) low high first end ids ids_new fit = absurd fit
   kept-all new (e ∷ olds) [] low high first end ids ids_new fit = absurd fit
   kept-all new (e ∷ olds) (n ∷ news) low high first end ids ids_new fit =
       let is = fit.0 in
-      kept-owned new e.id (left schedules zones e) (all_of schedules zones olds)
+      kept-owned new e.id (left has zones e) (all_of has zones olds)
       (λ f. kept-behind new e.id f olds news (e.id + 1) high (n.id + 1) end (omega arith) (omega arith) ids.1 ids_new.1 fit.2)
       (kept-all new olds news (e.id + 1) high (n.id + 1) end ids.1 ids_new.1 fit.2)
 
   merged-renamed : (olds news : List (Entry T)) (low high first end : ℕ) → HaveIds low olds high → HaveIds first news end
-      → map (left schedules zones) news ≡ map (left schedules zones) olds
-      → merged schedules zones news ≡ map (renamed olds news) (merged schedules zones olds)
+      → map (left has zones) news ≡ map (left has zones) olds
+      → merged has zones news ≡ map (renamed olds news) (merged has zones olds)
   merged-renamed olds news low high first end ids ids_new same =
       let fit = new_ids-fit olds news low high ids same in
       ap in_order (all-renamed (new_id olds news) olds news fit)
-      ∙ in_order-renamed (new_id olds news) (all_of schedules zones olds) (kept-all (new_id olds news) olds news low high first end ids ids_new fit)
+      ∙ in_order-renamed (new_id olds news) (all_of has zones olds) (kept-all (new_id olds news) olds news low high first end ids ids_new fit)
 
-  still-ascend : (olds news : List (Entry T)) → map (left schedules zones) news ≡ map (left schedules zones) olds → AllAscend schedules zones olds
-      → AllAscend schedules zones news
+  still-ascend : (olds news : List (Entry T)) → map (left has zones) news ≡ map (left has zones) olds → AllAscend has zones olds
+      → AllAscend has zones news
   still-ascend olds [] same up = tt
   still-ascend [] (n ∷ news) same up = cc
   still-ascend (e ∷ olds) (n ∷ news) same up =
-      let one : left schedules zones e ≡ left schedules zones n = cc in (subst Ascend one up.0, still-ascend olds news (cc) up.1)
+      let one : left has zones e ≡ left has zones n = cc in (subst Ascend one up.0, still-ascend olds news (cc) up.1)
 
   -- ---- a run that isn't cut
 
@@ -187,73 +187,73 @@ module _ {T : Type 0} (schedules : T → List Sets) (zones : List TimeZone) wher
   some_of has [] = refl
   some_of has (e ∷ es) = some_first e.id (has e) (map has es) ∙ ap (λ l. some_left e.id (has e) ++ l) (some_of has es)
 
-  uncut_are_anew : (fires : List AgendaFire) (olds now : List (Entry T)) (low high : ℕ) → HaveIds low olds high → AreTaken schedules zones fires olds now
-      → IsAnew schedules zones fires olds now
+  uncut_are_anew : (fires : List AgendaFire) (olds now : List (Entry T)) (low high : ℕ) → HaveIds low olds high → AreTaken has zones fires olds now
+      → IsAnew has zones fires olds now
   uncut_are_anew fires olds now low high ids taken =
-      sym (flat_map_single (left schedules zones) now)
-      ∙ rest_is schedules zones some_left (λ id. refl) fires olds now low high ids taken
-      ∙ sym (some_of (λ e. behind schedules zones (last_of e.id fires) e) olds)
+      sym (flat_map_single (left has zones) now)
+      ∙ rest_is has zones some_left (λ id. refl) fires olds now low high ids taken
+      ∙ sym (some_of (λ e. behind has zones (last_of e.id fires) e) olds)
 
-pub restart_of_all_goes_on : {T : Type 0} (schedules : T → List Sets) → RestartOfAllGoesOn schedules
-restart_of_all_goes_on schedules zones fires olds now news low high first end ids ids_new taken anew =
-    let same = anew ∙ sym (uncut_are_anew schedules zones fires olds now low high ids taken) in
-    let all = merged-renamed schedules zones now news low high first end (ids-taken schedules zones fires olds now low high ids taken) ids_new same in
+pub restart_of_all_goes_on : {T : Type 0} (has : T → Seconds) → RestartOfAllGoesOn has
+restart_of_all_goes_on has zones fires olds now news low high first end ids ids_new taken anew =
+    let same = anew ∙ sym (uncut_are_anew has zones fires olds now low high ids taken) in
+    let all = merged-renamed has zones now news low high first end (ids-taken has zones fires olds now low high ids taken) ids_new same in
     record {
       each = same;
       all = all;
-      fires = ap (map (λ (o : OwnFire). o.fire)) all ∙ map-map (λ (o : OwnFire). o.fire) (renamed now news) (merged schedules zones now);
-      ascend = still-ascend schedules zones now news same;
+      fires = ap (map (λ (o : OwnFire). o.fire)) all ∙ map-map (λ (o : OwnFire). o.fire) (renamed now news) (merged has zones now);
+      ascend = still-ascend has zones now news same;
     }
 
 -- ---- entries that are added
 
-pub added_has_all : {T : Type 0} (schedules : T → List Sets) → AddedHasAll schedules
-added_has_all schedules zones table zone fires old id new adds =
+pub added_has_all : {T : Type 0} (has : T → Seconds) → AddedHasAll has
+added_has_all has zones table zone fires old id new adds =
     (adds.1, ap (λ (l : Listed _). l.entries) adds.5, λ z lent. all z lent (some_same (sym lent ∙ adds.2)))
   where
-    all : (z : TimeZone) → slice_get zones zone ≡ Some z → z ≡ adds.0 → left schedules zones (entry id table zone adds.1) ≡ fires z
-    all z lent same = ap (λ o. adds.1 ∷ rest_in (schedules table) o adds.1) adds.2 ∙ sym adds.3 ∙ ap fires (sym same)
+    all : (z : TimeZone) → slice_get zones zone ≡ Some z → z ≡ adds.0 → left has zones (entry id table zone adds.1) ≡ fires z
+    all z lent same = ap (λ o. adds.1 ∷ rest_in (has table) o adds.1) adds.2 ∙ sym adds.3 ∙ ap fires (sym same)
 
-module _ {T : Type 0} (schedules : T → List Sets) (zones : List TimeZone) (fires : List AgendaFire) (olds : List (Entry T)) (e : Entry T) where
-  abbrev has : Entry T → List EntryFire
-  has o = behind schedules zones (last_of o.id fires) o
+module _ {T : Type 0} (has : T → Seconds) (zones : List TimeZone) (fires : List AgendaFire) (olds : List (Entry T)) (e : Entry T) where
+  abbrev behind_of : Entry T → List EntryFire
+  behind_of o = behind has zones (last_of o.id fires) o
 
-  has-more : filter goes_on (map has (olds ++ e ∷ [])) ≡ filter goes_on (map has olds) ++ filter goes_on (has e ∷ [])
-  has-more = ap (filter goes_on) (map-append has olds (e ∷ [])) ∙ filter-append goes_on (map has olds) (has e ∷ [])
+  has-more : filter goes_on (map behind_of (olds ++ e ∷ [])) ≡ filter goes_on (map behind_of olds) ++ filter goes_on (behind_of e ∷ [])
+  has-more = ap (filter goes_on) (map-append behind_of olds (e ∷ [])) ∙ filter-append goes_on (map behind_of olds) (behind_of e ∷ [])
 
   has-past : (last : EntryFire) (zone : TimeZone) → last_of e.id fires ≡ Some last → slice_get zones e.zone ≡ Some zone
-      → has e ≡ fires_past (schedules e.table) zone last
-  has-past last zone noted lent = ap (λ o. behind schedules zones o e) noted ∙ ap (λ o. rest_in (schedules e.table) o last) lent
+      → behind_of e ≡ fires_past (has e.table) zone last
+  has-past last zone noted lent = ap (λ o. behind has zones o e) noted ∙ ap (λ o. rest_in (has e.table) o last) lent
 
-  module _ (all : TimeZone → List EntryFire) (old new : Listed T) (is : (zone : TimeZone) → slice_get zones e.zone ≡ Some zone → has e ≡ all zone)
-      (anew : IsAnew schedules zones fires olds old.entries) where
-    anew-added : (id : ℕ) → Adds schedules zones e.table e.zone all old (Ok id) new → IsAnew schedules zones fires (olds ++ e ∷ []) new.entries
+  module _ (all : TimeZone → List EntryFire) (old new : Listed T) (is : (zone : TimeZone) → slice_get zones e.zone ≡ Some zone → behind_of e ≡ all zone)
+      (anew : IsAnew has zones fires olds old.entries) where
+    anew-added : (id : ℕ) → Adds has zones e.table e.zone all old (Ok id) new → IsAnew has zones fires (olds ++ e ∷ []) new.entries
     anew-added id adds =
-        let own_is = added_has_all schedules zones e.table e.zone all old id new adds in
-        ap (map (left schedules zones)) own_is.1
-        ∙ map-append (left schedules zones) old.entries (entry id e.table e.zone own_is.0 ∷ [])
-        ∙ ap (λ l. l ++ filter goes_on (left schedules zones (entry id e.table e.zone own_is.0) ∷ [])) anew
-        ∙ ap (λ l. filter goes_on (map has olds) ++ filter goes_on (l ∷ [])) (own_is.2 adds.0 adds.2 ∙ sym (is adds.0 adds.2))
+        let own_is = added_has_all has zones e.table e.zone all old id new adds in
+        ap (map (left has zones)) own_is.1
+        ∙ map-append (left has zones) old.entries (entry id e.table e.zone own_is.0 ∷ [])
+        ∙ ap (λ l. l ++ filter goes_on (left has zones (entry id e.table e.zone own_is.0) ∷ [])) anew
+        ∙ ap (λ l. filter goes_on (map behind_of olds) ++ filter goes_on (l ∷ [])) (own_is.2 adds.0 adds.2 ∙ sym (is adds.0 adds.2))
         ∙ sym has-more
 
-    anew-ended : Adds schedules zones e.table e.zone all old (Err NoFires) new → IsAnew schedules zones fires (olds ++ e ∷ []) new.entries
+    anew-ended : Adds has zones e.table e.zone all old (Err NoFires) new → IsAnew has zones fires (olds ++ e ∷ []) new.entries
     anew-ended adds =
-        ap (λ (l : Listed T). map (left schedules zones) l.entries) adds.1
+        ap (λ (l : Listed T). map (left has zones) l.entries) adds.1
         ∙ anew
-        ∙ sym (append-nil (filter goes_on (map has olds)))
-        ∙ ap (λ l. filter goes_on (map has olds) ++ filter goes_on (l ∷ [])) (sym (is adds.0.0 adds.0.1 ∙ adds.0.2))
+        ∙ sym (append-nil (filter goes_on (map behind_of olds)))
+        ∙ ap (λ l. filter goes_on (map behind_of olds) ++ filter goes_on (l ∷ [])) (sym (is adds.0.0 adds.0.1 ∙ adds.0.2))
         ∙ sym has-more
 
-pub added_are_anew : {T : Type 0} (schedules : T → List Sets) → AddedAreAnew schedules
-added_are_anew schedules = record {
+pub added_are_anew : {T : Type 0} (has : T → Seconds) → AddedAreAnew has
+added_are_anew has = record {
   none = λ zones fires. refl;
   past = λ zones fires olds e last old id new noted adds anew.
-      anew-added schedules zones fires olds e (λ z. fires_past (schedules e.table) z last) old new
-      (λ zone. has-past schedules zones fires olds e last zone noted) anew id adds;
+      anew-added has zones fires olds e (λ z. fires_past (has e.table) z last) old new
+      (λ zone. has-past has zones fires olds e last zone noted) anew id adds;
   ended = λ zones fires olds e last old new noted adds anew.
-      anew-ended schedules zones fires olds e (λ z. fires_past (schedules e.table) z last) old new
-      (λ zone. has-past schedules zones fires olds e last zone noted) anew adds;
+      anew-ended has zones fires olds e (λ z. fires_past (has e.table) z last) old new
+      (λ zone. has-past has zones fires olds e last zone noted) anew adds;
   again = λ zones fires olds e all old id new none has_all adds anew.
-      anew-added schedules zones fires olds e all old new
-      (λ zone lent. ap (λ o. behind schedules zones o e) none ∙ has_all zone lent) anew id adds;
+      anew-added has zones fires olds e all old new
+      (λ zone lent. ap (λ o. behind has zones o e) none ∙ has_all zone lent) anew id adds;
 }

@@ -1,20 +1,19 @@
 -- Entries alone: whether one is due, and what an insertion adds.
 use Rattle.std.proofs.Common.{◌≡◌, ℕ, ℤ, pos, ◌*ℤ◌, ◌≤ℤ◌, Bool, true, false, cond, List, [], ◌∷◌, ◌++◌, Option, Some, None, inl, inr, refl, sym, ap, subst, ◌∙◌, arith}
-use Rattle.std.specs.Prelude.{filter, slice_get}
-use Rattle.std.specs.Prelude.{int_le, Result, Ok, Err}
+use Rattle.std.specs.Prelude.{filter, slice_get, int_le, Result, Ok, Err}
 use Rattle.std.proofs.lemmas.List.Elements.{filter-append}
 use Rattle.jiff_core.proofs.SignedLemmas.{signed_arith}
 use Rattle.cron_clocks.proofs.Windows.{le_no}
 use Rattle.cron_instants.specs.Order.{comes_before}
 use Rattle.cron_instants.proofs.OrderLemmas.{before-true}
-use Rattle.cron_instants.proofs.FireLemmas.{int_le-false}
+use Rattle.cron_seconds.proofs.IntLemmas.{int_le-false}
 use Rattle.cron_agenda.specs.declared.entry.Entry.{Entry}
 use Rattle.cron_agenda.specs.declared.error.AddError.{AddError}
 use Rattle.cron_agenda.specs.declared.error.ZoneMissing.{ZoneMissing}
 use Rattle.cron_agenda.specs.declared.fire.AgendaFire.{AgendaFire}
 use Rattle.cron_agenda.specs.declared.fire.EntryFire.{EntryFire}
 use Rattle.jiff_tz.specs.declared.timezone.TimeZone.{TimeZone}
-use Rattle.cron_units.specs.Sets.{Sets}
+use Rattle.cron_time.specs.Seconds.{Seconds}
 use Rattle.cron_agenda.specs.Fires.{fires_past, instant}
 use Rattle.cron_agenda.specs.Entries.{Adds, ComesFirst, IsBeforeAll, IsRefused, Listed, TakesDue, TakesNext, is_by}
 use Rattle.cron_agenda.specs.Inner.Slots.{Inserts}
@@ -65,24 +64,24 @@ due_first t es first e comes due other = by_test (is_by t e) refl
         ∙ sym (filter-append (is_by t) comes.before (first ∷ comes.after)) ∙ sym (ap (filter (is_by t)) comes.is) ∙ none))
 
 -- what is taken where the entry that comes first is due
-pub due_next : {T : Type 0} (schedules : T → List Sets) (zones : List TimeZone) (t : ℤ) (old : Listed T) (answer : Result (Option AgendaFire) ZoneMissing)
-    (new : Listed T) (first : Entry T) → ComesFirst old.entries first → is_by t first ≡ true → TakesNext schedules zones old answer new
-    → TakesDue schedules zones t old answer new
-due_next schedules zones t old (Ok None) new first comes due takes = (ap (filter (is_by t)) takes.0, takes.1)
-due_next schedules zones t old (Ok (Some taken)) new first comes due takes = (
+pub due_next : {T : Type 0} (has : T → Seconds) (zones : List TimeZone) (t : ℤ) (old : Listed T) (answer : Result (Option AgendaFire) ZoneMissing)
+    (new : Listed T) (first : Entry T) → ComesFirst old.entries first → is_by t first ≡ true → TakesNext has zones old answer new
+    → TakesDue has zones t old answer new
+due_next has zones t old (Ok None) new first comes due takes = (ap (filter (is_by t)) takes.0, takes.1)
+due_next has zones t old (Ok (Some taken)) new first comes due takes = (
   takes,
   ap (λ (f : AgendaFire). int_le (instant f.fire *ℤ pos 1_000_000_000) t) takes.0.is ∙ due_first t old.entries first takes.0.entry comes due takes.0.first,
 )
-due_next schedules zones t old (Err why) new first comes due takes =
+due_next has zones t old (Err why) new first comes due takes =
     (takes.0, due_first t old.entries first takes.0.entry comes due takes.0.first, takes.1)
 
 -- ---- what an insertion adds
 
-pub added : {T : Type 0} (schedules : T → List Sets) (zones : List TimeZone) (table : T) (zone : ℕ) (fires : TimeZone → List EntryFire) (old : Listed T)
+pub added : {T : Type 0} (has : T → Seconds) (zones : List TimeZone) (table : T) (zone : ℕ) (fires : TimeZone → List EntryFire) (old : Listed T)
     (answer : Result ℕ AddError) (new : Listed T) (z : TimeZone) (fire : EntryFire) → slice_get zones zone ≡ Some z
-    → fires z ≡ fire ∷ fires_past (schedules table) z fire → Inserts table zone fire old answer new → Adds schedules zones table zone fires old answer new
-added schedules zones table zone fires old (Ok id) new z fire lent first inserts = (z, fire, lent, first, inserts.0, inserts.1, inserts.2)
-added schedules zones table zone fires old (Err why) new z fire lent first inserts = (
+    → fires z ≡ fire ∷ fires_past (has table) z fire → Inserts table zone fire old answer new → Adds has zones table zone fires old answer new
+added has zones table zone fires old (Ok id) new z fire lent first inserts = (z, fire, lent, first, inserts.0, inserts.1, inserts.2)
+added has zones table zone fires old (Err why) new z fire lent first inserts = (
   elim inserts.0 [
     | inl e ↦ subst (IsRefused zones zone fires old.added old.room) (sym e.0) e.1
     | inr e ↦ subst (IsRefused zones zone fires old.added old.room) (sym e.0) (e.1, e.2)

@@ -9,11 +9,11 @@ use Rattle.cron_instants.proofs.OrderLemmas.{before-less, before-shared, before-
 use Rattle.cron_agenda.specs.declared.entry.Entry.{Entry}
 use Rattle.cron_agenda.specs.declared.fire.EntryFire.{EntryFire}
 use Rattle.cron_agenda.specs.declared.slots.Slot.{Slot}
-use Rattle.cron_earliest.specs.Places.{HasAt}
-use Rattle.cron_earliest.specs.Places as tree
+use Rattle.cron_instants.specs.Places.{HasAt}
+use Rattle.cron_instants.specs.Places as tree
 use Rattle.jiff_tz.specs.declared.timezone.TimeZone.{TimeZone}
-use Rattle.cron_units.specs.Sets.{Sets}
-use Rattle.cron_fires.specs.Rules.{IsFirstOf}
+use Rattle.cron_time.specs.Seconds.{Seconds}
+use Rattle.cron_seconds.specs.Rules.{IsFirstOf}
 use Rattle.cron_agenda.specs.Fires.{fires_past, instant}
 use Rattle.cron_agenda.specs.Entries.{ComesFirst, HaveIds, IsBeforeAll, IsFirstEntry, IsTaken, entry, gone_on}
 use Rattle.cron_agenda.specs.Inner.Slots.{IsKept, IsOwn, entries_of, entry_of, entry_when, instant_of}
@@ -213,11 +213,11 @@ module _ {T : Type 0} {slots : List (Slot T)} {firsts : List (Option ℤ)} {live
           pub kept_more : is_none h ≡ false → IsKept (set slots place t) (set firsts place (option_map instant h)) live added packed scanned
           kept_more some = let q = some_of h some in kept_by live (sym (count_more q.0 q.1))
 
-          pub taken : (schedules : T → List Sets) (zones : List TimeZone) (z : TimeZone) → slice_get zones s.zone ≡ Some z
-              → IsFirstOf (fires_past (schedules s.table) z f) (fires_past (schedules s.table) z) h
+          pub taken : (has : T → Seconds) (zones : List TimeZone) (z : TimeZone) → slice_get zones s.zone ≡ Some z
+              → IsFirstOf (fires_past (has s.table) z f) (fires_past (has s.table) z) h
               → (b : Bool) → is_none h ≡ b
-              → IsTaken schedules zones (entries_of slots) (record { id = s.id; fire = f; is_last = b }) (entries_of (set slots place t))
-          taken schedules zones z lent goes b told = record {
+              → IsTaken has zones (entries_of slots) (record { id = s.id; fire = f; is_last = b }) (entries_of (set slots place t))
+          taken has zones z lent goes b told = record {
             entry = entry s.id s.table s.zone f;
             first = is_first;
             zone = z;

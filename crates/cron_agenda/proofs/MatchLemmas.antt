@@ -4,8 +4,8 @@ use Rattle.std.specs.Prelude.{IfSome, slice_get}
 use Rattle.std.specs.List.{swap}
 use Rattle.std.proofs.lemmas.List.Edits.{swap_is}
 use Rattle.std.proofs.lemmas.Option.{get_or_from_slice_get, slice_get_within}
-use Rattle.cron_units.specs.Sets.{Sets}
-use Rattle.cron_fires.specs.Matches.{MatchesAny}
+use Rattle.cron_time.specs.Seconds.{Seconds}
+use Rattle.cron_fires.specs.Matches.{Matches}
 use Rattle.cron_agenda.specs.declared.fire.EntryFire.{EntryFire}
 use Rattle.cron_agenda.specs.declared.slots.Slot.{Slot}
 use Rattle.cron_agenda.specs.Fires.{civil_second}
@@ -33,33 +33,33 @@ get_fewer (suc n) [] k x e = cc
 get_fewer (suc n) (y ∷ l) zero x e = e
 get_fewer (suc n) (y ∷ l) (suc k) x e = get_fewer n l k x e
 
-module _ {T : Type 0} (schedules : T → List Sets) where
+module _ {T : Type 0} (has : T → Seconds) where
   -- the slot's next fire, if it has one, is at a match
   abbrev pub FireMatches : Slot T → Type 0
-  FireMatches s = (fire : EntryFire) → s.head ≡ Some fire → MatchesAny (schedules s.table) (civil_second fire)
+  FireMatches s = (fire : EntryFire) → s.head ≡ Some fire → Matches (has s.table) (civil_second fire)
 
-  pub match_none : FiresMatch schedules []
+  pub match_none : FiresMatch has []
   match_none = λ i s fire here head. cc
 
-  pub match_put : (slots : List (Slot T)) (place : ℕ) (t : Slot T) → FiresMatch schedules slots → FireMatches t → FiresMatch schedules (set slots place t)
+  pub match_put : (slots : List (Slot T)) (place : ℕ) (t : Slot T) → FiresMatch has slots → FireMatches t → FiresMatch has (set slots place t)
   match_put slots place t match own = λ i s fire here head.
       elim (get_put slots place i t s here) [
         | inl same ↦ let is = rw same at head in rw same (own fire is)
         | inr there ↦ match i s fire there head
       ]
 
-  pub match_more : (slots : List (Slot T)) (t : Slot T) → FiresMatch schedules slots → FireMatches t → FiresMatch schedules (slots ++ t ∷ [])
+  pub match_more : (slots : List (Slot T)) (t : Slot T) → FiresMatch has slots → FireMatches t → FiresMatch has (slots ++ t ∷ [])
   match_more slots t match own = λ i s fire here head.
       elim (get_more slots i t s here) [
         | inl same ↦ let is = rw same at head in rw same (own fire is)
         | inr there ↦ match i s fire there head
       ]
 
-  pub match_fewer : (n : ℕ) (slots : List (Slot T)) → FiresMatch schedules slots → FiresMatch schedules (take n slots)
+  pub match_fewer : (n : ℕ) (slots : List (Slot T)) → FiresMatch has slots → FiresMatch has (take n slots)
   match_fewer n slots match = λ i s fire here head. match i s fire (get_fewer n slots i s here) head
 
   pub match_swapped : (slots : List (Slot T)) (i j : ℕ) (s t : Slot T) → slice_get slots i ≡ Some s → slice_get slots j ≡ Some t
-      → FiresMatch schedules slots → FiresMatch schedules (swap slots i j)
+      → FiresMatch has slots → FiresMatch has (swap slots i j)
   match_swapped slots i j s t here there match =
       let is : swap slots i j ≡ set (set slots i t) j s =
       sym (swap_is slots i j s (slice_get_within slots i s here) (slice_get_within slots j t there)) ∙ ap (λ v. set (set slots i v) j (get_or slots i s)) (get_or_from_slice_get slots j t s there)
@@ -68,20 +68,20 @@ module _ {T : Type 0} (schedules : T → List Sets) where
 
   -- an entry whose fire was taken goes on
   pub match_taken : (slots : List (Slot T)) (place : ℕ) (s again : Slot T) (h : Option EntryFire) → slice_get slots place ≡ Some s
-      → slice_get slots place ≡ Some again → IfSome h (λ f. MatchesAny (schedules s.table) (civil_second f)) → FiresMatch schedules slots
-      → FiresMatch schedules (set slots place (with_head h again))
+      → slice_get slots place ≡ Some again → IfSome h (λ f. Matches (has s.table) (civil_second f)) → FiresMatch has slots
+      → FiresMatch has (set slots place (with_head h again))
   match_taken slots place s again h here reread own match =
       let same : s ≡ again = some_same (sym here ∙ reread) in
       match_put slots place (with_head h again) match (λ fire head.
-      subst (λ (u : Slot T). MatchesAny (schedules u.table) (civil_second fire)) same
-      (subst (λ o. IfSome o (λ f. MatchesAny (schedules s.table) (civil_second f))) head own))
+      subst (λ (u : Slot T). Matches (has u.table) (civil_second fire)) same
+      (subst (λ o. IfSome o (λ f. Matches (has s.table) (civil_second f))) head own))
 
   -- one that is removed has no fire left
-  pub match_emptied : (slots : List (Slot T)) (place : ℕ) (s : Slot T) → FiresMatch schedules slots → FiresMatch schedules (set slots place (with_head None s))
+  pub match_emptied : (slots : List (Slot T)) (place : ℕ) (s : Slot T) → FiresMatch has slots → FiresMatch has (set slots place (with_head None s))
   match_emptied slots place s match = match_put slots place (with_head None s) match (λ fire head. cc)
 
-  pub match_added : (slots : List (Slot T)) (id zone : ℕ) (table : T) (fire : EntryFire) → MatchesAny (schedules table) (civil_second fire)
-      → FiresMatch schedules slots → FiresMatch schedules (slots ++ record { id = id; table = table; zone = zone; head = Some fire } ∷ [])
+  pub match_added : (slots : List (Slot T)) (id zone : ℕ) (table : T) (fire : EntryFire) → Matches (has table) (civil_second fire)
+      → FiresMatch has slots → FiresMatch has (slots ++ record { id = id; table = table; zone = zone; head = Some fire } ∷ [])
   match_added slots id zone table fire own match =
       match_more slots (record { id = id; table = table; zone = zone; head = Some fire }) match
-      (λ f head. subst (λ g. MatchesAny (schedules table) (civil_second g)) (some_same head) own)
+      (λ f head. subst (λ g. Matches (has table) (civil_second g)) (some_same head) own)

@@ -8,10 +8,10 @@ use Rattle.std.proofs.lemmas.Int.{ints, by_lt_z}
 use Rattle.std.proofs.lemmas.List.Sorted.{IsPermutation-refl, IsPermutation-cons, IsPermutation-middle, IsPermutation-sym, IsPermutation-trans}
 use Rattle.jiff_core.proofs.SignedLemmas.{signed_arith}
 use Rattle.jiff_tz.specs.declared.timezone.TimeZone.{TimeZone}
-use Rattle.cron_units.specs.Sets.{Sets}
+use Rattle.cron_time.specs.Seconds.{Seconds}
 use Rattle.cron_instants.specs.Order.{comes_before}
 use Rattle.cron_instants.proofs.OrderLemmas.{before-true}
-use Rattle.cron_fires.specs.Rules.{IsFirstOf}
+use Rattle.cron_seconds.specs.Rules.{IsFirstOf}
 use Rattle.cron_agenda.specs.declared.entry.Entry.{Entry}
 use Rattle.cron_agenda.specs.declared.error.AddError.{AddError}
 use Rattle.cron_agenda.specs.declared.fire.AgendaFire.{AgendaFire}
@@ -142,33 +142,33 @@ own-after id f (q ∷ l) up = (before-second (own id f) (own id q) refl up.0, ow
 
 -- ---- the fires of all entries
 
-module _ {T : Type 0} (schedules : T → List Sets) (zones : List TimeZone) where
-  all-append : (a b : List (Entry T)) → all_of schedules zones (a ++ b) ≡ all_of schedules zones a ++ all_of schedules zones b
-  all-append a b = flat_map-append (λ e. owned e.id (left schedules zones e)) a b
+module _ {T : Type 0} (has : T → Seconds) (zones : List TimeZone) where
+  all-append : (a b : List (Entry T)) → all_of has zones (a ++ b) ≡ all_of has zones a ++ all_of has zones b
+  all-append a b = flat_map-append (λ e. owned e.id (left has zones e)) a b
 
-  ascend-before : (a b : List (Entry T)) → AllAscend schedules zones (a ++ b) → AllAscend schedules zones a
+  ascend-before : (a b : List (Entry T)) → AllAscend has zones (a ++ b) → AllAscend has zones a
   ascend-before [] b h = tt
   ascend-before (e ∷ a) b h = (h.0, ascend-before a b h.1)
 
-  ascend-behind : (a b : List (Entry T)) → AllAscend schedules zones (a ++ b) → AllAscend schedules zones b
+  ascend-behind : (a b : List (Entry T)) → AllAscend has zones (a ++ b) → AllAscend has zones b
   ascend-behind [] b h = h
   ascend-behind (e ∷ a) b h = ascend-behind a b h.1
 
-  ascend-append : (a b : List (Entry T)) → AllAscend schedules zones a → AllAscend schedules zones b → AllAscend schedules zones (a ++ b)
+  ascend-append : (a b : List (Entry T)) → AllAscend has zones a → AllAscend has zones b → AllAscend has zones (a ++ b)
   ascend-append [] b h g = g
   ascend-append (e ∷ a) b h g = (h.0, ascend-append a b h.1 g)
 
-  all-after : (e : Entry T) (es : List (Entry T)) → AllAscend schedules zones es → IsBeforeAll e es → AllAfter (own e.id e.fire) (all_of schedules zones es)
+  all-after : (e : Entry T) (es : List (Entry T)) → AllAscend has zones es → IsBeforeAll e es → AllAfter (own e.id e.fire) (all_of has zones es)
   all-after e [] up h = tt
   all-after e (o ∷ es) up h =
-      all_after-append (own e.id e.fire) (owned o.id (left schedules zones o)) (all_of schedules zones es)
-      (other-after (own e.id e.fire) o.id o.fire (rest_in (schedules o.table) (slice_get zones o.zone) o.fire) up.0 h.0) (all-after e es up.1 h.1)
+      all_after-append (own e.id e.fire) (owned o.id (left has zones o)) (all_of has zones es)
+      (other-after (own e.id e.fire) o.id o.fire (rest_in (has o.table) (slice_get zones o.zone) o.fire) up.0 h.0) (all-after e es up.1 h.1)
 
   before-parts : (e : Entry T) (a b : List (Entry T)) → IsBeforeAll e (a ++ b) → IsBeforeAll e a × IsBeforeAll e b
   before-parts e [] b h = (tt, h)
   before-parts e (x ∷ a) b h = let rest = before-parts e a b h.1 in ((h.0, rest.0), rest.1)
 
-  module _ (old : List (Entry T)) (taken : AgendaFire) (new : List (Entry T)) (up : AllAscend schedules zones old) (is : IsTaken schedules zones old taken new) where
+  module _ (old : List (Entry T)) (taken : AgendaFire) (new : List (Entry T)) (up : AllAscend has zones old) (is : IsTaken has zones old taken new) where
     abbrev e : Entry T
     e = is.entry
 
@@ -179,86 +179,86 @@ module _ {T : Type 0} (schedules : T → List Sets) (zones : List TimeZone) wher
     b = is.first.after
 
     abbrev rest : List EntryFire
-    rest = fires_past (schedules e.table) is.zone e.fire
+    rest = fires_past (has e.table) is.zone e.fire
 
-    up_there : AllAscend schedules zones (a ++ e ∷ b)
-    up_there = subst (AllAscend schedules zones) is.first.is up
+    up_there : AllAscend has zones (a ++ e ∷ b)
+    up_there = subst (AllAscend has zones) is.first.is up
 
-    left_is : left schedules zones e ≡ e.fire ∷ rest
-    left_is = ap (λ z. e.fire ∷ rest_in (schedules e.table) z e.fire) is.lent
+    left_is : left has zones e ≡ e.fire ∷ rest
+    left_is = ap (λ z. e.fire ∷ rest_in (has e.table) z e.fire) is.lent
 
     up_here : Ascend (e.fire ∷ rest)
     up_here = subst Ascend left_is (ascend-behind a (e ∷ b) up_there).0
 
-    gone_is : (next : Option EntryFire) → IsFirstOf rest (fires_past (schedules e.table) is.zone) next
-        → all_of schedules zones (gone_on e next ++ b) ≡ owned e.id rest ++ all_of schedules zones b
-    gone_is None goes = sym (ap (λ l. owned e.id l ++ all_of schedules zones b) goes)
+    gone_is : (next : Option EntryFire) → IsFirstOf rest (fires_past (has e.table) is.zone) next
+        → all_of has zones (gone_on e next ++ b) ≡ owned e.id rest ++ all_of has zones b
+    gone_is None goes = sym (ap (λ l. owned e.id l ++ all_of has zones b) goes)
     gone_is (Some f) goes =
-        ap (λ z. owned e.id (f ∷ rest_in (schedules e.table) z f) ++ all_of schedules zones b) is.lent
-        ∙ sym (ap (λ l. owned e.id l ++ all_of schedules zones b) goes)
+        ap (λ z. owned e.id (f ∷ rest_in (has e.table) z f) ++ all_of has zones b) is.lent
+        ∙ sym (ap (λ l. owned e.id l ++ all_of has zones b) goes)
 
-    ascend_gone : (next : Option EntryFire) → IsFirstOf rest (fires_past (schedules e.table) is.zone) next → AllAscend schedules zones (gone_on e next ++ b)
+    ascend_gone : (next : Option EntryFire) → IsFirstOf rest (fires_past (has e.table) is.zone) next → AllAscend has zones (gone_on e next ++ b)
     ascend_gone None goes = (ascend-behind a (e ∷ b) up_there).1
     ascend_gone (Some f) goes = (
-      subst (λ z. Ascend (f ∷ rest_in (schedules e.table) z f)) (sym is.lent) (subst Ascend goes up_here.1),
+      subst (λ z. Ascend (f ∷ rest_in (has e.table) z f)) (sym is.lent) (subst Ascend goes up_here.1),
       (ascend-behind a (e ∷ b) up_there).1,
     )
 
-    all_old : all_of schedules zones old ≡ all_of schedules zones a ++ own e.id e.fire ∷ (owned e.id rest ++ all_of schedules zones b)
+    all_old : all_of has zones old ≡ all_of has zones a ++ own e.id e.fire ∷ (owned e.id rest ++ all_of has zones b)
     all_old =
-        ap (all_of schedules zones) is.first.is ∙ all-append a (e ∷ b)
-        ∙ ap (λ l. all_of schedules zones a ++ (owned e.id l ++ all_of schedules zones b)) left_is
+        ap (all_of has zones) is.first.is ∙ all-append a (e ∷ b)
+        ∙ ap (λ l. all_of has zones a ++ (owned e.id l ++ all_of has zones b)) left_is
 
-    all_new : all_of schedules zones new ≡ all_of schedules zones a ++ (owned e.id rest ++ all_of schedules zones b)
+    all_new : all_of has zones new ≡ all_of has zones a ++ (owned e.id rest ++ all_of has zones b)
     all_new =
-        ap (all_of schedules zones) is.now ∙ all-append a (gone_on e is.next ++ b)
-        ∙ ap (λ l. all_of schedules zones a ++ l) (gone_is is.next is.goes_on)
+        ap (all_of has zones) is.now ∙ all-append a (gone_on e is.next ++ b)
+        ∙ ap (λ l. all_of has zones a ++ l) (gone_is is.next is.goes_on)
 
-    first_is : merged schedules zones old ≡ own e.id e.fire ∷ merged schedules zones new
+    first_is : merged has zones old ≡ own e.id e.fire ∷ merged has zones new
     first_is =
         let parts = before-parts e a b is.first.others in
         ap in_order all_old
-        ∙ in_order-first (own e.id e.fire) (all_of schedules zones a) (owned e.id rest ++ all_of schedules zones b)
+        ∙ in_order-first (own e.id e.fire) (all_of has zones a) (owned e.id rest ++ all_of has zones b)
         (all-after e a (ascend-before a (e ∷ b) up_there) parts.0)
-        (all_after-append (own e.id e.fire) (owned e.id rest) (all_of schedules zones b) (own-after e.id e.fire rest up_here.0)
+        (all_after-append (own e.id e.fire) (owned e.id rest) (all_of has zones b) (own-after e.id e.fire rest up_here.0)
         (all-after e b (ascend-behind a (e ∷ b) up_there).1 parts.1))
         ∙ ap (λ l. own e.id e.fire ∷ in_order l) (sym all_new)
 
-    taken_first : (merged schedules zones old ≡ own taken.id taken.fire ∷ merged schedules zones new) × AllAscend schedules zones new
+    taken_first : (merged has zones old ≡ own taken.id taken.fire ∷ merged has zones new) × AllAscend has zones new
     taken_first = (
-      first_is ∙ ap (λ (t : AgendaFire). own t.id t.fire ∷ merged schedules zones new) (sym is.is),
-      subst (AllAscend schedules zones) (sym is.now)
+      first_is ∙ ap (λ (t : AgendaFire). own t.id t.fire ∷ merged has zones new) (sym is.is),
+      subst (AllAscend has zones) (sym is.now)
           (ascend-append a (gone_on e is.next ++ b) (ascend-before a (e ∷ b) up_there) (ascend_gone is.next is.goes_on)),
     )
 
-pub taken_is_first : {T : Type 0} (schedules : T → List Sets) → TakenIsTheFirst schedules
-taken_is_first schedules zones old taken new up is = taken_first schedules zones old taken new up is
+pub taken_is_first : {T : Type 0} (has : T → Seconds) → TakenIsTheFirst has
+taken_is_first has zones old taken new up is = taken_first has zones old taken new up is
 
 -- ---- with one entry more, and with one less
 
-module _ {T : Type 0} (schedules : T → List Sets) (zones : List TimeZone) where
+module _ {T : Type 0} (has : T → Seconds) (zones : List TimeZone) where
   more_ascend : (table : T) (zone : ℕ) (fires : TimeZone → List EntryFire) (old : Listed T) (answer : Result ℕ AddError) (new : Listed T)
-      → ((z : TimeZone) → Ascend (fires z)) → Adds schedules zones table zone fires old answer new → AllAscend schedules zones old.entries
-      → AllAscend schedules zones new.entries
+      → ((z : TimeZone) → Ascend (fires z)) → Adds has zones table zone fires old answer new → AllAscend has zones old.entries
+      → AllAscend has zones new.entries
   more_ascend table zone fires old (Ok id) new up adds was =
       let z = adds.0 in
       let fire = adds.1 in
-      let here : Ascend (fire ∷ rest_in (schedules table) (slice_get zones zone) fire) =
-      subst (λ o. Ascend (fire ∷ rest_in (schedules table) o fire)) (sym adds.2) (subst Ascend adds.3 (up z)) in
-      subst (λ (l : Listed T). AllAscend schedules zones l.entries) (sym adds.5)
-      (ascend-append schedules zones old.entries (entry id table zone fire ∷ []) was (here, tt))
-  more_ascend table zone fires old (Err why) new up adds was = subst (λ (l : Listed T). AllAscend schedules zones l.entries) (sym adds.1) was
+      let here : Ascend (fire ∷ rest_in (has table) (slice_get zones zone) fire) =
+      subst (λ o. Ascend (fire ∷ rest_in (has table) o fire)) (sym adds.2) (subst Ascend adds.3 (up z)) in
+      subst (λ (l : Listed T). AllAscend has zones l.entries) (sym adds.5)
+      (ascend-append has zones old.entries (entry id table zone fire ∷ []) was (here, tt))
+  more_ascend table zone fires old (Err why) new up adds was = subst (λ (l : Listed T). AllAscend has zones l.entries) (sym adds.1) was
 
-  less_by : (e : Entry T) (es : List (Entry T)) (id : ℕ) (b : Bool) → Ascend (left schedules zones e) → AllAscend schedules zones (without id es)
-      → AllAscend schedules zones (cond b (e ∷ without id es) (without id es))
+  less_by : (e : Entry T) (es : List (Entry T)) (id : ℕ) (b : Bool) → Ascend (left has zones e) → AllAscend has zones (without id es)
+      → AllAscend has zones (cond b (e ∷ without id es) (without id es))
   less_by e es id true up h = (up, h)
   less_by e es id false up h = h
 
-  less_ascend : (id : ℕ) (es : List (Entry T)) → AllAscend schedules zones es → AllAscend schedules zones (without id es)
+  less_ascend : (id : ℕ) (es : List (Entry T)) → AllAscend has zones es → AllAscend has zones (without id es)
   less_ascend id [] up = tt
   less_ascend id (e ∷ es) up = less_by e es id (not (e.id == id)) up.0 (less_ascend id es up.1)
 
-  pub entries_ascend : EntriesAscend schedules zones
+  pub entries_ascend : EntriesAscend has zones
   entries_ascend = record { none = tt; more = more_ascend; less = less_ascend }
 
 -- ---- in order
@@ -318,9 +318,9 @@ in_order_at (x ∷ l) i zero a b h less e f = absurd (omega arith)
 in_order_at (x ∷ l) zero (suc j) a b h less e f = let same : x ≡ a = cc in subst (λ v. precedes b v ≡ false) same (none_at x l j b h.0 f)
 in_order_at (x ∷ l) (suc i) (suc j) a b h less e f = in_order_at l i j a b h.1 (omega arith) e f
 
-pub stand_in_order : {T : Type 0} (schedules : T → List Sets) → MergedIsInOrder schedules
-stand_in_order schedules zones es i j a b less e f =
-    in_order_at (merged schedules zones es) i j a b (in_order-is (all_of schedules zones es)) less e f
+pub stand_in_order : {T : Type 0} (has : T → Seconds) → MergedIsInOrder has
+stand_in_order has zones es i j a b less e f =
+    in_order_at (merged has zones es) i j a b (in_order-is (all_of has zones es)) less e f
 
 -- ---- the fires of the entries
 
@@ -342,8 +342,8 @@ order_permutes [] = IsPermutation-refl []
 order_permutes (d ∷ l) =
     IsPermutation-trans (d ∷ l) (d ∷ in_order l) (put d (in_order l)) (IsPermutation-cons d l (in_order l) (order_permutes l)) (put_permutes d (in_order l))
 
-pub are_the_fires : {T : Type 0} (schedules : T → List Sets) → MergedHasTheFires schedules
-are_the_fires schedules zones es = order_permutes (all_of schedules zones es)
+pub are_the_fires : {T : Type 0} (has : T → Seconds) → MergedHasTheFires has
+are_the_fires has zones es = order_permutes (all_of has zones es)
 
 -- ---- one entry
 
@@ -356,5 +356,5 @@ alone : (l : List OwnFire) → l ++ [] ≡ l
 alone [] = refl
 alone (d ∷ l) = ap (λ m. d ∷ m) (alone l)
 
-pub one_is_its_fires : {T : Type 0} (schedules : T → List Sets) → OneEntryIsItsFires schedules
-one_is_its_fires schedules zones e up = ap in_order (alone (owned e.id (left schedules zones e))) ∙ one_in_order e.id (left schedules zones e) up
+pub one_is_its_fires : {T : Type 0} (has : T → Seconds) → OneEntryIsItsFires has
+one_is_its_fires has zones e up = ap in_order (alone (owned e.id (left has zones e))) ∙ one_in_order e.id (left has zones e) up

@@ -7,7 +7,7 @@ use Rattle.jiff_core.specs.declared.Offset.{Offset}
 use Rattle.jiff_tz.specs.declared.timezone.TimeZone.{TimeZone}
 use Rattle.jiff_tz.specs.declared.timezone.TimeZone.TheVariants.{UTC, Unknown, Fixed}
 use Rattle.jiff_tz.specs.Zone.{offset_at}
-use Rattle.cron_units.specs.Sets.{Sets}
+use Rattle.cron_time.specs.Seconds.{Seconds, is_match, matching_seconds}
 use Rattle.cron_moments.specs.Readings.{Reading, instant}
 use Rattle.cron_time.proofs.TimelineLemmas.{readings-second}
 use Rattle.cron_clocks.specs.Clocks.{IsKeptUpTo, LookupsAgree, shown_offset}
@@ -17,13 +17,10 @@ use Rattle.cron_instants.proofs.AgreementLemmas.{same_offset, same_reading}
 use Rattle.cron_instants.proofs.ItemLemmas.{item_of, stands_of}
 use Rattle.cron_instants.proofs.OrderLemmas.{before-true, before-less, before-not_less, before-not_shared}
 use Rattle.cron_dues.specs.Due.{Due, clock_of, due}
-use Rattle.cron_dues.proofs.MemberLemmas.{due-of, less-true, own-of, true-less}
-use Rattle.cron_unions.specs.FirstOfAny.{IsFirstAfterAny, IsFirstPastAny, IsItemOfAny}
-use Rattle.cron_unions.specs.Nearest.{is_match_any}
-use Rattle.cron_unions.specs.UnionDues.{IsDueOfAny, IsFirstDueAfterAny, IsFirstDuePastAny}
-use Rattle.cron_unions.specs.Unions.{seconds_of_any}
-use Rattle.cron_unions.proofs.UnionLemmas.{any-matches, any_of_one, any_of-match, match-of_any, one_of_any}
-use Rattle.cron_fires.specs.Matches.{IsNextMatch, MatchesAny}
+use Rattle.cron_dues.proofs.MemberLemmas.{due-of, less-true, own-of, sets-match, true-less}
+use Rattle.cron_instants.specs.Instants.{IsFirstAfter, IsFirstPast, IsItem}
+use Rattle.cron_dues.specs.FirstDues.{IsDue, IsFirstDueAfter, IsFirstDuePast}
+use Rattle.cron_fires.specs.Matches.{IsNextMatch, Matches}
 use Rattle.cron_fires.proofs.MatchLemmas.{is_match_of, matches_of}
 use Rattle.cron_fires.specs.declared.changes.ClockChanges.TheVariants as rule
 use Rattle.cron_agenda.specs.declared.fire.EntryFire.TheVariants.{AsShown, Once}
@@ -32,62 +29,59 @@ use Rattle.cron_agenda.specs.Inner.Slots.{IsFirstFire, IsNextFire}
 use Rattle.cron_agenda.proofs.FireLemmas.{once-after, once-past, shown-after, shown-past}
 
 -- an item stands at a match
-pub item_matches : (ss : List Sets) (z : TimeZone) (r : Reading) → IsItemOfAny ss z r → MatchesAny ss r.second
-item_matches ss z r item =
-    let one = one_of_any ss z r item in
-    let st = stands_of one.1 z r one.4 in
-    matches_of ss r.second (match-of_any ss r.second (one.0, one.1, one.2, one.3, st.matching))
+pub item_matches : (s : Seconds) (z : TimeZone) (r : Reading) → IsItem s z r → Matches s r.second
+item_matches s z r item = matches_of s r.second (stands_of s z r item).matching
 
 -- and so does a due fire
-pub due_matches : (ss : List Sets) (z : TimeZone) (d : Due) → IsDueOfAny ss z d → MatchesAny ss d.second
-due_matches ss z d is = matches_of ss d.second (own-of (seconds_of_any ss) (is_match_any ss) (clock_of z) (any-matches ss) d is).matching
+pub due_matches : (s : Seconds) (z : TimeZone) (d : Due) → IsDue s z d → Matches s d.second
+due_matches s z d is = matches_of s d.second (own-of (matching_seconds s) (is_match s) (clock_of z) (sets-match s) d is).matching
 
 -- ---- an answer by either rule
 
-pub first_shown_after : (ss : List Sets) (z : TimeZone) (t : ℤ) (answer : Option Reading) → IsFirstAfterAny ss z t answer
-    → IsFirstFire ss z (fires_after ss z rule.AsShown t) (option_map AsShown answer)
-first_shown_after ss z t None first = (shown-after ss z t None first, tt)
-first_shown_after ss z t (Some r) first = (shown-after ss z t (Some r) first, item_matches ss z r first.0.0)
+pub first_shown_after : (s : Seconds) (z : TimeZone) (t : ℤ) (answer : Option Reading) → IsFirstAfter s z t answer
+    → IsFirstFire s z (fires_after s z rule.AsShown t) (option_map AsShown answer)
+first_shown_after s z t None first = (shown-after s z t None first, tt)
+first_shown_after s z t (Some r) first = (shown-after s z t (Some r) first, item_matches s z r first.0.0)
 
-pub first_due_after : (ss : List Sets) (z : TimeZone) (t : ℤ) (answer : Option Due) → IsFirstDueAfterAny ss z t answer
-    → IsFirstFire ss z (fires_after ss z rule.Once t) (option_map Once answer)
-first_due_after ss z t None first = (once-after ss z t None first, tt)
-first_due_after ss z t (Some d) first = (once-after ss z t (Some d) first, due_matches ss z d first.0.0)
+pub first_due_after : (s : Seconds) (z : TimeZone) (t : ℤ) (answer : Option Due) → IsFirstDueAfter s z t answer
+    → IsFirstFire s z (fires_after s z rule.Once t) (option_map Once answer)
+first_due_after s z t None first = (once-after s z t None first, tt)
+first_due_after s z t (Some d) first = (once-after s z t (Some d) first, due_matches s z d first.0.0)
 
-pub next_shown : (ss : List Sets) (z : TimeZone) (fire : Reading) (answer : Option Reading) → IsFirstPastAny ss z fire answer
-    → IsNextFire ss z (AsShown fire) (option_map AsShown answer)
-next_shown ss z fire None first = (shown-past ss z fire None first, tt)
-next_shown ss z fire (Some r) first = (shown-past ss z fire (Some r) first, item_matches ss z r first.0.0)
+pub next_shown : (s : Seconds) (z : TimeZone) (fire : Reading) (answer : Option Reading) → IsFirstPast s z fire answer
+    → IsNextFire s z (AsShown fire) (option_map AsShown answer)
+next_shown s z fire None first = (shown-past s z fire None first, tt)
+next_shown s z fire (Some r) first = (shown-past s z fire (Some r) first, item_matches s z r first.0.0)
 
-pub next_due : (ss : List Sets) (z : TimeZone) (fire : Due) (answer : Option Due) → IsFirstDuePastAny ss z fire answer
-    → IsNextFire ss z (Once fire) (option_map Once answer)
-next_due ss z fire None first = (once-past ss z fire None first, tt)
-next_due ss z fire (Some d) first = (once-past ss z fire (Some d) first, due_matches ss z d first.0.0)
+pub next_due : (s : Seconds) (z : TimeZone) (fire : Due) (answer : Option Due) → IsFirstDuePast s z fire answer
+    → IsNextFire s z (Once fire) (option_map Once answer)
+next_due s z fire None first = (once-past s z fire None first, tt)
+next_due s z fire (Some d) first = (once-past s z fire (Some d) first, due_matches s z d first.0.0)
 
 -- ---- each match once
 
-pub no_due_next : (ss : List Sets) (z : TimeZone) (fire : Due) → IsNextMatch ss fire.second None → IsFirstDuePastAny ss z fire None
-no_due_next ss z fire none = λ d both.
+pub no_due_next : (s : Seconds) (z : TimeZone) (fire : Due) → IsNextMatch s fire.second None → IsFirstDuePast s z fire None
+no_due_next s z fire none = λ d both.
     let past = less-true fire.second d.second both.1 in
-    let last = none d.second (due_matches ss z d both.0) in
+    let last = none d.second (due_matches s z d both.0) in
     absurd (omega arith)
 
-pub due_next : (ss : List Sets) (z : TimeZone) (fire d : Due) (n : ℕ) → d ≡ due z n → IsNextMatch ss fire.second (Some n) → IsFirstDuePastAny ss z fire (Some d)
-due_next ss z fire d n is next =
+pub due_next : (s : Seconds) (z : TimeZone) (fire d : Due) (n : ℕ) → d ≡ due z n → IsNextMatch s fire.second (Some n) → IsFirstDuePast s z fire (Some d)
+due_next s z fire d n is next =
     let second : d.second ≡ n = ap (λ (e : Due). e.second) is in
     let behind = next.1 in (
       (
-        rw is (due-of (seconds_of_any ss) (is_match_any ss) (clock_of z) (any-matches ss) n (is_match_of ss n next.0)),
+        rw is (due-of (matching_seconds s) (is_match s) (clock_of z) (sets-match s) n (is_match_of s n next.0)),
         true-less fire.second d.second (omega arith),
       ),
-      λ e both. let least = next.2 e.second (due_matches ss z e both.0) (less-true fire.second e.second both.1) in omega arith,
+      λ e both. let least = next.2 e.second (due_matches s z e both.0) (less-true fire.second e.second both.1) in omega arith,
     )
 
 -- ---- by the clock
 
-module _ (ss : List Sets) (z : TimeZone) (agree : LookupsAgree z) where
+module _ (s : Seconds) (z : TimeZone) (agree : LookupsAgree z) where
   -- a match that a clock shows at an instant is an item
-  item_shown : (r : Reading) → MatchesAny ss r.second → shown_offset z (instant r) ≡ r.offset.seconds → IsItemOfAny ss z r
+  item_shown : (r : Reading) → Matches s r.second → shown_offset z (instant r) ≡ r.offset.seconds → IsItem s z r
   item_shown r matching shown =
       let found = agree.shown_read r.second (instant r) matching.0 (omega (arith, signed_arith, shown)) in
       let q = found.at_place in
@@ -95,18 +89,16 @@ module _ (ss : List Sets) (z : TimeZone) (agree : LookupsAgree z) where
       let second : q.second ≡ r.second = readings-second z r.second found.place q found.here in
       let offset : q.offset.seconds ≡ r.offset.seconds = omega (arith, signed_arith, is, second) in
       let same = same_reading q r second (same_offset q.offset r.offset offset) in
-      let one = any_of-match ss r.second (is_match_of ss r.second matching) in
-      any_of_one ss z r (one.0, one.1, one.2, one.3, item_of one.1 z r (record { matching = one.4; place = found.place; here = found.here ∙ ap Some same }))
+      item_of s z r (record { matching = is_match_of s r.second matching; place = found.place; here = found.here ∙ ap Some same })
 
   -- at the instant of an item the clock shows its offset
-  shown_item : (q : Reading) → IsItemOfAny ss z q → shown_offset z (instant q) ≡ q.offset.seconds
+  shown_item : (q : Reading) → IsItem s z q → shown_offset z (instant q) ≡ q.offset.seconds
   shown_item q item =
-      let one = one_of_any ss z q item in
-      let st = stands_of one.1 z q one.4 in
-      agree.readings_shown q.second st.place q (item_matches ss z q item).0 st.here
+      let st = stands_of s z q item in
+      agree.readings_shown q.second st.place q (item_matches s z q item).0 st.here
 
   pub next_kept : (fire r : Reading) (kept : Kept) → IsKeptUpTo z (instant fire) kept.end kept.offset.seconds → kept.offset.seconds ≡ fire.offset.seconds
-      → r.offset.seconds ≡ kept.offset.seconds → IsNextMatch ss fire.second (Some r.second) → instant r <ℤ pos kept.end → IsFirstPastAny ss z fire (Some r)
+      → r.offset.seconds ≡ kept.offset.seconds → IsNextMatch s fire.second (Some r.second) → instant r <ℤ pos kept.end → IsFirstPast s z fire (Some r)
   next_kept fire r kept keeps own offset next before =
       let behind = next.1 in
       let later : instant fire <ℤ instant r = omega (arith, signed_arith, own, offset, behind) in
@@ -116,7 +108,7 @@ module _ (ss : List Sets) (z : TimeZone) (agree : LookupsAgree z) where
             (λ more. before-not_less (instant q) q.second (instant r) r.second more)
             (λ le. let there : q.offset.seconds ≡ kept.offset.seconds = sym (shown_item q m.0) ∙ keeps.shown (instant q) (not_before q m.1) (omega (arith, signed_arith, le, before)) in
             let past : fire.second < q.second = is_behind q m.1 there in
-            let least = next.2 q.second (item_matches ss z q m.0) past in
+            let least = next.2 q.second (item_matches s z q m.0) past in
             let equal : instant q ≡ instant r = omega (arith, signed_arith, le, there, offset, least) in
             before-not_shared (instant q) q.second (instant r) r.second equal least),
       )

@@ -7,8 +7,8 @@ use Rattle.std.proofs.lemmas.Bool.{eq-eqb, eqb-true}
 use Rattle.std.proofs.lemmas.Grind.{flat_map-append}
 use Rattle.std.proofs.lemmas.List.{append-nil}
 use Rattle.jiff_tz.specs.declared.timezone.TimeZone.{TimeZone}
-use Rattle.cron_units.specs.Sets.{Sets}
-use Rattle.cron_fires.specs.Rules.{IsFirstOf}
+use Rattle.cron_time.specs.Seconds.{Seconds}
+use Rattle.cron_seconds.specs.Rules.{IsFirstOf}
 use Rattle.cron_agenda.specs.declared.entry.Entry.{Entry}
 use Rattle.cron_agenda.specs.declared.fire.AgendaFire.{AgendaFire}
 use Rattle.cron_agenda.specs.declared.fire.EntryFire.{EntryFire}
@@ -20,11 +20,11 @@ use Rattle.cron_agenda.proofs.MergeLemmas.{taken_is_first}
 
 -- ---- they are a front
 
-pub taken_are_the_front : {T : Type 0} (schedules : T → List Sets) → TakenAreTheFront schedules
-taken_are_the_front schedules zones [] old new up same = (ap (merged schedules zones) (sym same), subst (AllAscend schedules zones) (sym same) up)
-taken_are_the_front schedules zones (f ∷ fs) old new up taken =
-    let first = taken_is_first schedules zones old f taken.0 up taken.1 in
-    let rest = taken_are_the_front schedules zones fs taken.0 new first.1 taken.2 in
+pub taken_are_the_front : {T : Type 0} (has : T → Seconds) → TakenAreTheFront has
+taken_are_the_front has zones [] old new up same = (ap (merged has zones) (sym same), subst (AllAscend has zones) (sym same) up)
+taken_are_the_front has zones (f ∷ fs) old new up taken =
+    let first = taken_is_first has zones old f taken.0 up taken.1 in
+    let rest = taken_are_the_front has zones fs taken.0 new first.1 taken.2 in
     (first.0 ∙ ap (λ l. own_of f ∷ l) rest.0, rest.1)
 
 -- ---- ids
@@ -95,9 +95,9 @@ last_lacks id f fs apart = ap (λ b. option_or (last_of id fs) (if b then Some f
 last_has : (id : ℕ) (f : AgendaFire) (fs : List AgendaFire) → f.id ≡ id → last_of id (f ∷ fs) ≡ option_or (last_of id fs) (Some f.fire)
 last_has id f fs same = ap (λ b. option_or (last_of id fs) (if b then Some f.fire else None)) (eq-eqb f.id id same)
 
-module _ {T : Type 0} (schedules : T → List Sets) (zones : List TimeZone) where
+module _ {T : Type 0} (has : T → Seconds) (zones : List TimeZone) where
   -- no entry has the id, and so no fire that is taken
-  never_last : (id : ℕ) (fs : List AgendaFire) (old new : List (Entry T)) → AllLack id old → AreTaken schedules zones fs old new → last_of id fs ≡ None
+  never_last : (id : ℕ) (fs : List AgendaFire) (old new : List (Entry T)) → AllLack id old → AreTaken has zones fs old new → last_of id fs ≡ None
   never_last id [] old new lack taken = refl
   never_last id (f ∷ fs) old new lack taken =
       let is = taken.1 in
@@ -109,51 +109,51 @@ module _ {T : Type 0} (schedules : T → List Sets) (zones : List TimeZone) wher
       (lack-append id (gone_on is.entry is.next) is.first.after (lack-gone id is.entry is.next behind_it.0) behind_it.1)) in
       last_lacks id f fs apart ∙ never_last id fs taken.0 new rest taken.2
 
-  ids-one : (f : AgendaFire) (old new : List (Entry T)) (low high : ℕ) → HaveIds low old high → IsTaken schedules zones old f new → HaveIds low new high
+  ids-one : (f : AgendaFire) (old new : List (Entry T)) (low high : ℕ) → HaveIds low old high → IsTaken has zones old f new → HaveIds low new high
   ids-one f old new low high ids is =
       subst (λ l. HaveIds low l high) (sym is.now)
       (ids-gone is.first.before is.first.after is.entry is.next low high (subst (λ l. HaveIds low l high) is.first.is ids))
 
-  pub ids-taken : (fs : List AgendaFire) (old new : List (Entry T)) (low high : ℕ) → HaveIds low old high → AreTaken schedules zones fs old new
+  pub ids-taken : (fs : List AgendaFire) (old new : List (Entry T)) (low high : ℕ) → HaveIds low old high → AreTaken has zones fs old new
       → HaveIds low new high
   ids-taken [] old new low high ids same = subst (λ l. HaveIds low l high) (sym same) ids
   ids-taken (f ∷ fs) old new low high ids taken = ids-taken fs taken.0 new low high (ids-one f old taken.0 low high ids taken.1) taken.2
 
 -- what is told of each entry, by its id and the fires that it has, and nothing where it has none
-module _ {T X : Type 0} (schedules : T → List Sets) (zones : List TimeZone) (told : ℕ → List EntryFire → List X) (nothing : (id : ℕ) → told id [] ≡ []) where
+module _ {T X : Type 0} (has : T → Seconds) (zones : List TimeZone) (told : ℕ → List EntryFire → List X) (nothing : (id : ℕ) → told id [] ≡ []) where
   abbrev told_behind : List AgendaFire → List (Entry T) → List X
-  told_behind fs es = flat_map (λ e. told e.id (behind schedules zones (last_of e.id fs) e)) es
+  told_behind fs es = flat_map (λ e. told e.id (behind has zones (last_of e.id fs) e)) es
 
   behind-append : (fs : List AgendaFire) (a b : List (Entry T)) → told_behind fs (a ++ b) ≡ told_behind fs a ++ told_behind fs b
-  behind-append fs a b = flat_map-append (λ e. told e.id (behind schedules zones (last_of e.id fs) e)) a b
+  behind-append fs a b = flat_map-append (λ e. told e.id (behind has zones (last_of e.id fs) e)) a b
 
   -- a fire of another entry says nothing
   behind_lacks : (f : AgendaFire) (fs : List AgendaFire) (es : List (Entry T)) → AllLack f.id es → told_behind (f ∷ fs) es ≡ told_behind fs es
   behind_lacks f fs [] lack = refl
   behind_lacks f fs (e ∷ es) lack =
-      ap (λ o. told e.id (behind schedules zones o e) ++ told_behind (f ∷ fs) es) (last_lacks e.id f fs (λ same. lack.0 (sym same)))
-      ∙ ap (λ l. told e.id (behind schedules zones (last_of e.id fs) e) ++ l) (behind_lacks f fs es lack.1)
+      ap (λ o. told e.id (behind has zones o e) ++ told_behind (f ∷ fs) es) (last_lacks e.id f fs (λ same. lack.0 (sym same)))
+      ∙ ap (λ l. told e.id (behind has zones (last_of e.id fs) e) ++ l) (behind_lacks f fs es lack.1)
 
   -- what an entry that goes on, or ends, has behind a fire
   abbrev gone_left : Entry T → Option EntryFire → Option EntryFire → List X
   gone_left e None last = []
-  gone_left e (Some q) last = told e.id (behind schedules zones last (entry e.id e.table e.zone q))
+  gone_left e (Some q) last = told e.id (behind has zones last (entry e.id e.table e.zone q))
 
   gone_is : (fs : List AgendaFire) (e : Entry T) (next : Option EntryFire) → told_behind fs (gone_on e next) ≡ gone_left e next (last_of e.id fs)
   gone_is fs e None = refl
   gone_is fs e (Some q) = append-nil (gone_left e (Some q) (last_of e.id fs))
 
   behind_gone : (e : Entry T) (z : TimeZone) (next last : Option EntryFire) → slice_get zones e.zone ≡ Some z
-      → IsFirstOf (fires_past (schedules e.table) z e.fire) (fires_past (schedules e.table) z) next → (next ≡ None → last ≡ None)
-      → told e.id (behind schedules zones (option_or last (Some e.fire)) e) ≡ gone_left e next last
-  behind_gone e z None None lent goes ends = ap (λ o. told e.id (rest_in (schedules e.table) o e.fire)) lent ∙ ap (told e.id) goes ∙ nothing e.id
+      → IsFirstOf (fires_past (has e.table) z e.fire) (fires_past (has e.table) z) next → (next ≡ None → last ≡ None)
+      → told e.id (behind has zones (option_or last (Some e.fire)) e) ≡ gone_left e next last
+  behind_gone e z None None lent goes ends = ap (λ o. told e.id (rest_in (has e.table) o e.fire)) lent ∙ ap (told e.id) goes ∙ nothing e.id
   behind_gone e z None (Some q) lent goes ends = let no = ends refl in absurd (cc)
   behind_gone e z (Some q) None lent goes ends =
-      ap (λ o. told e.id (rest_in (schedules e.table) o e.fire)) lent ∙ ap (told e.id) goes
-      ∙ ap (λ o. told e.id (q ∷ rest_in (schedules e.table) o q)) (sym lent)
+      ap (λ o. told e.id (rest_in (has e.table) o e.fire)) lent ∙ ap (told e.id) goes
+      ∙ ap (λ o. told e.id (q ∷ rest_in (has e.table) o q)) (sym lent)
   behind_gone e z (Some q) (Some p) lent goes ends = refl
 
-  module _ (f : AgendaFire) (fs : List AgendaFire) (old mid new : List (Entry T)) (low high : ℕ) (ids : HaveIds low old high) (is : IsTaken schedules zones old f mid) where
+  module _ (f : AgendaFire) (fs : List AgendaFire) (old mid new : List (Entry T)) (low high : ℕ) (ids : HaveIds low old high) (is : IsTaken has zones old f mid) where
     abbrev e : Entry T
     e = is.entry
 
@@ -172,44 +172,44 @@ module _ {T X : Type 0} (schedules : T → List Sets) (zones : List TimeZone) (t
     others : AllLack e.id a × AllLack e.id b
     others = lack-there a b e low high ids_there
 
-    ended : AreTaken schedules zones fs mid new → is.next ≡ None → last_of e.id fs ≡ None
+    ended : AreTaken has zones fs mid new → is.next ≡ None → last_of e.id fs ≡ None
     ended taken none =
-        never_last schedules zones e.id fs mid new (subst (AllLack e.id) (sym is.now) (lack-append e.id a (gone_on e is.next ++ b) others.0
+        never_last has zones e.id fs mid new (subst (AllLack e.id) (sym is.now) (lack-append e.id a (gone_on e is.next ++ b) others.0
         (lack-append e.id (gone_on e is.next) b (subst (λ o. AllLack e.id (gone_on e o)) (sym none) tt) others.1))) taken
 
-    one_on : AreTaken schedules zones fs mid new → told_behind (f ∷ fs) old ≡ told_behind fs mid
+    one_on : AreTaken has zones fs mid new → told_behind (f ∷ fs) old ≡ told_behind fs mid
     one_on taken =
         ap (told_behind (f ∷ fs)) is.first.is
         ∙ behind-append (f ∷ fs) a (e ∷ b)
         ∙ ap (λ l. l ++ told_behind (f ∷ fs) (e ∷ b)) (behind_lacks f fs a (subst (λ i. AllLack i a) (sym id_is) others.0))
-        ∙ ap (λ o. told_behind fs a ++ (told e.id (behind schedules zones o e) ++ told_behind (f ∷ fs) b))
+        ∙ ap (λ o. told_behind fs a ++ (told e.id (behind has zones o e) ++ told_behind (f ∷ fs) b))
         (last_has e.id f fs id_is ∙ ap (λ (v : AgendaFire). option_or (last_of e.id fs) (Some v.fire)) is.is)
-        ∙ ap (λ l. told_behind fs a ++ (told e.id (behind schedules zones (option_or (last_of e.id fs) (Some e.fire)) e) ++ l))
+        ∙ ap (λ l. told_behind fs a ++ (told e.id (behind has zones (option_or (last_of e.id fs) (Some e.fire)) e) ++ l))
         (behind_lacks f fs b (subst (λ i. AllLack i b) (sym id_is) others.1))
         ∙ ap (λ l. told_behind fs a ++ (l ++ told_behind fs b))
         (behind_gone e is.zone is.next (last_of e.id fs) is.lent is.goes_on (ended taken) ∙ sym (gone_is fs e is.next))
         ∙ sym (ap (told_behind fs) is.now ∙ behind-append fs a (gone_on e is.next ++ b)
         ∙ ap (λ l. told_behind fs a ++ l) (behind-append fs (gone_on e is.next) b))
 
-  pub rest_is : (fs : List AgendaFire) (old new : List (Entry T)) (low high : ℕ) → HaveIds low old high → AreTaken schedules zones fs old new
-      → flat_map (λ e. told e.id (left schedules zones e)) new ≡ told_behind fs old
-  rest_is [] old new low high ids same = ap (flat_map (λ e. told e.id (left schedules zones e))) same
+  pub rest_is : (fs : List AgendaFire) (old new : List (Entry T)) (low high : ℕ) → HaveIds low old high → AreTaken has zones fs old new
+      → flat_map (λ e. told e.id (left has zones e)) new ≡ told_behind fs old
+  rest_is [] old new low high ids same = ap (flat_map (λ e. told e.id (left has zones e))) same
   rest_is (f ∷ fs) old new low high ids taken =
-      rest_is fs taken.0 new low high (ids-one schedules zones f old taken.0 low high ids taken.1) taken.2
+      rest_is fs taken.0 new low high (ids-one has zones f old taken.0 low high ids taken.1) taken.2
       ∙ sym (one_on f fs old taken.0 new low high ids taken.1 taken.2)
 
-pub the_rest_is_behind : {T : Type 0} (schedules : T → List Sets) → TheRestIsBehind schedules
-the_rest_is_behind schedules zones fires old new low high ids taken = ap in_order (rest_is schedules zones owned (λ id. refl) fires old new low high ids taken)
+pub the_rest_is_behind : {T : Type 0} (has : T → Seconds) → TheRestIsBehind has
+the_rest_is_behind has zones fires old new low high ids taken = ap in_order (rest_is has zones owned (λ id. refl) fires old new low high ids taken)
 
 -- ---- an entry that is added past a fire
 
-pub added_past_goes_on : {T : Type 0} (schedules : T → List Sets) → AddedPastGoesOn schedules
-added_past_goes_on schedules = record {
+pub added_past_goes_on : {T : Type 0} (has : T → Seconds) → AddedPastGoesOn has
+added_past_goes_on has = record {
   added = λ zones table zone last old id new adds. (
     adds.1,
     ap (λ (l : Listed _). l.entries) adds.5,
-    ap (λ o. adds.1 ∷ rest_in (schedules table) o adds.1) adds.2 ∙ sym adds.3
-        ∙ ap (λ o. rest_in (schedules table) o last) (sym adds.2),
+    ap (λ o. adds.1 ∷ rest_in (has table) o adds.1) adds.2 ∙ sym adds.3
+        ∙ ap (λ o. rest_in (has table) o last) (sym adds.2),
   );
-  ended = λ zones table zone last old new adds. ap (λ o. rest_in (schedules table) o last) adds.0.1 ∙ adds.0.2;
+  ended = λ zones table zone last old new adds. ap (λ o. rest_in (has table) o last) adds.0.1 ∙ adds.0.2;
 }

@@ -2,7 +2,7 @@
 use Rattle.std.proofs.Common.{◌≡◌, ℕ, Bool, true, false, cond, List, [], ◌∷◌, ◌++◌, map, Option, Some, None, refl, sym, ap, subst, ◌∙◌}
 use Rattle.std.specs.Prelude.{Result, Ok, Err, not, slice_get, ◌==◌}
 use Rattle.jiff_tz.specs.declared.timezone.TimeZone.{TimeZone}
-use Rattle.cron_units.specs.Sets.{Sets}
+use Rattle.cron_time.specs.Seconds.{Seconds}
 use Rattle.cron_agenda.specs.declared.entry.Entry.{Entry}
 use Rattle.cron_agenda.specs.declared.error.AddError.{AddError}
 use Rattle.cron_agenda.specs.declared.fire.AgendaFire.{AgendaFire}
@@ -14,31 +14,31 @@ use Rattle.cron_agenda.proofs.ListLemmas.{get-before}
 
 -- ---- with zones behind them
 
-module _ {T : Type 0} (schedules : T → List Sets) (zones others : List TimeZone) where
-  lent_left : (e : Entry T) (zone : TimeZone) → slice_get zones e.zone ≡ Some zone → left schedules (zones ++ others) e ≡ left schedules zones e
+module _ {T : Type 0} (has : T → Seconds) (zones others : List TimeZone) where
+  lent_left : (e : Entry T) (zone : TimeZone) → slice_get zones e.zone ≡ Some zone → left has (zones ++ others) e ≡ left has zones e
   lent_left e zone lent =
-      ap (λ o. e.fire ∷ rest_in (schedules e.table) o e.fire) (get-before zones others e.zone zone lent ∙ sym lent)
+      ap (λ o. e.fire ∷ rest_in (has e.table) o e.fire) (get-before zones others e.zone zone lent ∙ sym lent)
 
-  each_left : (es : List (Entry T)) → AreLent zones es → map (left schedules (zones ++ others)) es ≡ map (left schedules zones) es
+  each_left : (es : List (Entry T)) → AreLent zones es → map (left has (zones ++ others)) es ≡ map (left has zones) es
   each_left [] lent = refl
   each_left (e ∷ es) lent =
-      ap (λ l. l ∷ map (left schedules (zones ++ others)) es) (lent_left e lent.0.0 lent.0.1) ∙ ap (λ l. left schedules zones e ∷ l) (each_left es lent.1)
+      ap (λ l. l ∷ map (left has (zones ++ others)) es) (lent_left e lent.0.0 lent.0.1) ∙ ap (λ l. left has zones e ∷ l) (each_left es lent.1)
 
-  all_left : (es : List (Entry T)) → AreLent zones es → all_of schedules (zones ++ others) es ≡ all_of schedules zones es
+  all_left : (es : List (Entry T)) → AreLent zones es → all_of has (zones ++ others) es ≡ all_of has zones es
   all_left [] lent = refl
   all_left (e ∷ es) lent =
-      ap (λ l. owned e.id l ++ all_of schedules (zones ++ others) es) (lent_left e lent.0.0 lent.0.1)
-      ∙ ap (λ l. owned e.id (left schedules zones e) ++ l) (all_left es lent.1)
+      ap (λ l. owned e.id l ++ all_of has (zones ++ others) es) (lent_left e lent.0.0 lent.0.1)
+      ∙ ap (λ l. owned e.id (left has zones e) ++ l) (all_left es lent.1)
 
-  ascend_left : (es : List (Entry T)) → AreLent zones es → AllAscend schedules zones es → AllAscend schedules (zones ++ others) es
+  ascend_left : (es : List (Entry T)) → AreLent zones es → AllAscend has zones es → AllAscend has (zones ++ others) es
   ascend_left [] lent up = tt
   ascend_left (e ∷ es) lent up = (subst Ascend (sym (lent_left e lent.0.0 lent.0.1)) up.0, ascend_left es lent.1 up.1)
 
-pub zones_may_grow : {T : Type 0} (schedules : T → List Sets) → ZonesMayGrow schedules
-zones_may_grow schedules = record {
-  each = each_left schedules;
-  all = λ zones others es lent. ap in_order (all_left schedules zones others es lent);
-  ascend = ascend_left schedules;
+pub zones_may_grow : {T : Type 0} (has : T → Seconds) → ZonesMayGrow has
+zones_may_grow has = record {
+  each = each_left has;
+  all = λ zones others es lent. ap in_order (all_left has zones others es lent);
+  ascend = ascend_left has;
 }
 
 -- ---- they stay lent
@@ -74,15 +74,15 @@ module _ {T : Type 0} (zones : List TimeZone) where
   lent-gone e None lent = tt
   lent-gone e (Some fire) lent = lent
 
-  module _ (schedules : T → List Sets) where
+  module _ (has : T → Seconds) where
     lent-more : (table : T) (zone : ℕ) (fires : TimeZone → List EntryFire) (old : Listed T) (answer : Result ℕ AddError) (new : Listed T)
-        → Adds schedules zones table zone fires old answer new → AreLent zones old.entries → AreLent zones new.entries
+        → Adds has zones table zone fires old answer new → AreLent zones old.entries → AreLent zones new.entries
     lent-more table zone fires old (Ok id) new adds lent =
         subst (λ (l : Listed T). AreLent zones l.entries) (sym adds.5)
         (lent-append old.entries (entry id table zone adds.1 ∷ []) lent ((adds.0, adds.2), tt))
     lent-more table zone fires old (Err why) new adds lent = subst (λ (l : Listed T). AreLent zones l.entries) (sym adds.1) lent
 
-    lent-taken : (old : List (Entry T)) (taken : AgendaFire) (new : List (Entry T)) → IsTaken schedules zones old taken new → AreLent zones old → AreLent zones new
+    lent-taken : (old : List (Entry T)) (taken : AgendaFire) (new : List (Entry T)) → IsTaken has zones old taken new → AreLent zones old → AreLent zones new
     lent-taken old taken new is lent =
         let e = is.entry in
         let a = is.first.before in
@@ -93,11 +93,11 @@ module _ {T : Type 0} (zones : List TimeZone) where
         (lent-append a (gone_on e is.next ++ b) (lent-before a (e ∷ b) there)
         (lent-append (gone_on e is.next) b (lent-gone e is.next (here.0, tt)) here.1))
 
-pub stay_lent : {T : Type 0} (schedules : T → List Sets) → StayLent schedules
-stay_lent schedules = record {
+pub stay_lent : {T : Type 0} (has : T → Seconds) → StayLent has
+stay_lent has = record {
   none = λ zones. tt;
   grown = lent-grown;
-  more = λ zones. lent-more zones schedules;
+  more = λ zones. lent-more zones has;
   less = lent-less;
-  taken = λ zones. lent-taken zones schedules;
+  taken = λ zones. lent-taken zones has;
 }

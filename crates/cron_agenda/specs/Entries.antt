@@ -4,9 +4,9 @@ use Rattle.std.specs.declared.alloc.AllocError.{AllocError}
 use Rattle.std.specs.List.{list_any}
 use Rattle.std.specs.Option.{is_none}
 use Rattle.jiff_tz.specs.declared.timezone.TimeZone.{TimeZone}
-use Rattle.cron_units.specs.Sets.{Sets}
+use Rattle.cron_time.specs.Seconds.{Seconds}
 use Rattle.cron_instants.specs.Order.{comes_before}
-use Rattle.cron_fires.specs.Rules.{IsFirstOf}
+use Rattle.cron_seconds.specs.Rules.{IsFirstOf}
 use Rattle.cron_agenda.specs.declared.entry.Entry.{Entry}
 use Rattle.cron_agenda.specs.declared.fire.EntryFire.{EntryFire}
 use Rattle.cron_agenda.specs.declared.fire.AgendaFire.{AgendaFire}
@@ -32,11 +32,11 @@ with_entries entries a = listed entries a.added a.room
 abbrev pub entry : {T : Type 0} → ℕ → T → ℕ → EntryFire → Entry T
 entry id table zone fire = record { id = id; table = table; zone = zone; fire = fire }
 
--- an entry comes before another: by the instant of its next fire, and where that is shared by id
+-- an entry comes before another: by the instant of its next fire, and if they share it by id
 abbrev pub is_before : {T : Type 0} → Entry T → Entry T → Bool
 is_before a b = comes_before (instant a.fire) a.id (instant b.fire) b.id
 
--- whether one of them has this id
+-- whether one of the entries has this id
 abbrev pub has : {T : Type 0} → ℕ → List (Entry T) → Bool
 has id es = list_any (λ e. e.id == id) es
 
@@ -44,7 +44,7 @@ has id es = list_any (λ e. e.id == id) es
 abbrev pub without : {T : Type 0} → ℕ → List (Entry T) → List (Entry T)
 without id es = filter (λ e. not (e.id == id)) es
 
--- the entry with this id, none exactly where there is none
+-- the entry with this id; `None` exactly if there is none
 abbrev pub IsEntryOf : {T : Type 0} → ℕ → List (Entry T) → Option (Entry T) → Type 0
 IsEntryOf id es answer = MatchOption answer (has id es ≡ false) (λ e. (e.id ≡ id) × ((i : ℕ) × (slice_get es i ≡ Some e)))
 
@@ -53,6 +53,7 @@ abbrev pub HaveIds : {T : Type 0} → ℕ → List (Entry T) → ℕ → Type 0
 HaveIds low [] high = low ≤ high
 HaveIds low (e ∷ es) high = (low ≤ e.id) × HaveIds (e.id + 1) es high
 
+-- an entry comes before each entry of a list
 abbrev pub IsBeforeAll : {T : Type 0} → Entry T → List (Entry T) → Type 0
 IsBeforeAll e [] = Unit {0}
 IsBeforeAll e (o ∷ es) = (is_before e o ≡ true) × IsBeforeAll e es
@@ -64,23 +65,23 @@ pub record ComesFirst {T : Type 0} (es : List (Entry T)) (e : Entry T) : Type 0 
   pub is : es ≡ before ++ e ∷ after
   pub others : IsBeforeAll e (before ++ after)
 
--- the entry that comes first, none exactly where there are no entries
+-- the entry that comes first; `None` exactly if there are no entries
 abbrev pub IsFirstEntry : {T : Type 0} → List (Entry T) → Option (Entry T) → Type 0
 IsFirstEntry es answer = MatchOption answer (es ≡ []) (ComesFirst es)
 
--- the entry with another next fire; nothing where it has none
+-- the entry with another next fire; no entry if there is no such fire
 abbrev pub gone_on : {T : Type 0} → Entry T → Option EntryFire → List (Entry T)
 gone_on e None = []
 gone_on e (Some fire) = entry e.id e.table e.zone fire ∷ []
 
 -- The fire of the entry that comes first is taken. The entry goes on to its next fire in its zone, and is removed where it has none.
-pub record IsTaken {T : Type 0} (schedules : T → List Sets) (zones : List TimeZone) (old : List (Entry T)) (taken : AgendaFire) (new : List (Entry T)) : Type 0 where
+pub record IsTaken {T : Type 0} (has : T → Seconds) (zones : List TimeZone) (old : List (Entry T)) (taken : AgendaFire) (new : List (Entry T)) : Type 0 where
   pub entry : Entry T
   pub first : ComesFirst old entry
   pub zone : TimeZone
   pub lent : slice_get zones entry.zone ≡ Some zone
   pub next : Option EntryFire
-  pub goes_on : IsFirstOf (fires_past (schedules entry.table) zone entry.fire) (fires_past (schedules entry.table) zone) next
+  pub goes_on : IsFirstOf (fires_past (has entry.table) zone entry.fire) (fires_past (has entry.table) zone) next
   pub is : taken ≡ record { id = entry.id; fire = entry.fire; is_last = is_none next }
   pub now : new ≡ first.before ++ (gone_on entry next ++ first.after)
 
@@ -91,25 +92,27 @@ pub record LacksZone {T : Type 0} (zones : List TimeZone) (old : List (Entry T))
   pub id : why.id ≡ entry.id
   pub missing : slice_get zones entry.zone ≡ None
 
--- what fires next is taken
-abbrev pub TakesNext : {T : Type 0} → (T → List Sets) → List TimeZone → Listed T → Result (Option AgendaFire) ZoneMissing → Listed T → Type 0
-TakesNext schedules zones old (Ok None) new = (old.entries ≡ []) × (new ≡ old)
-TakesNext schedules zones old (Ok (Some taken)) new = IsTaken schedules zones old.entries taken new.entries × (new.added ≡ old.added) × (new.room ≡ old.room)
-TakesNext schedules zones old (Err why) new = LacksZone zones old.entries why × (new ≡ old)
+-- the next fire of all entries is taken; `None` if there are no entries, and an error if the zone
+-- is missing
+abbrev pub TakesNext : {T : Type 0} → (T → Seconds) → List TimeZone → Listed T → Result (Option AgendaFire) ZoneMissing → Listed T → Type 0
+TakesNext has zones old (Ok None) new = (old.entries ≡ []) × (new ≡ old)
+TakesNext has zones old (Ok (Some taken)) new = IsTaken has zones old.entries taken new.entries × (new.added ≡ old.added) × (new.room ≡ old.room)
+TakesNext has zones old (Err why) new = LacksZone zones old.entries why × (new ≡ old)
 
--- its next fire's instant is t, which is in nanoseconds since 1970, or comes before it
+-- the instant of the entry's next fire is t, which is in nanoseconds since 1970, or comes before it
 abbrev pub is_by : {T : Type 0} → ℤ → Entry T → Bool
 is_by t e = int_le (instant e.fire *ℤ pos 1_000_000_000) t
 
--- the same, if it is due by an instant, also where its zone isn't lent; else no entry's next fire is due
-abbrev pub TakesDue : {T : Type 0} → (T → List Sets) → List TimeZone → ℤ → Listed T → Result (Option AgendaFire) ZoneMissing → Listed T → Type 0
-TakesDue schedules zones t old (Ok None) new = (filter (is_by t) old.entries ≡ []) × (new ≡ old)
-TakesDue schedules zones t old (Ok (Some taken)) new =
-    TakesNext schedules zones old (Ok (Some taken)) new × (int_le (instant taken.fire *ℤ pos 1_000_000_000) t ≡ true)
-TakesDue schedules zones t old (Err why) new = (lacks : LacksZone zones old.entries why) × (is_by t lacks.entry ≡ true) × (new ≡ old)
+-- the next fire of all entries is taken if it is due by t. `None` if none is due, and an error if
+-- one is due but its zone is missing
+abbrev pub TakesDue : {T : Type 0} → (T → Seconds) → List TimeZone → ℤ → Listed T → Result (Option AgendaFire) ZoneMissing → Listed T → Type 0
+TakesDue has zones t old (Ok None) new = (filter (is_by t) old.entries ≡ []) × (new ≡ old)
+TakesDue has zones t old (Ok (Some taken)) new =
+    TakesNext has zones old (Ok (Some taken)) new × (int_le (instant taken.fire *ℤ pos 1_000_000_000) t ≡ true)
+TakesDue has zones t old (Err why) new = (lacks : LacksZone zones old.entries why) × (is_by t lacks.entry ≡ true) × (new ≡ old)
 
--- Why nothing was added: for want of the zone, of fires in it, of ids, of which there are 2^64 - 1, or, where there is one, of memory
--- that wasn't there already.
+-- Why nothing was added. The zone is missing, it has none of the fires, no id is left of 2^64 - 1,
+-- or an id is left but no memory was taken before.
 abbrev pub IsRefused : List TimeZone → ℕ → (TimeZone → List EntryFire) → ℕ → ℕ → AddError → Type 0
 IsRefused zones zone fires added room NoZone = slice_get zones zone ≡ None
 IsRefused zones zone fires added room NoFires = (z : TimeZone) × (slice_get zones zone ≡ Some z) × (fires z ≡ [])
@@ -117,13 +120,13 @@ IsRefused zones zone fires added room NoIds = added ≡ 2 ^ 64 - 1
 IsRefused zones zone fires added room OutOfMemory = (added < 2 ^ 64 - 1) × (room ≡ 0)
 
 -- An entry is added whose fires these are in the zone with this number, under the next id; or nothing changes.
-abbrev pub Adds : {T : Type 0} → (T → List Sets) → List TimeZone → T → ℕ → (TimeZone → List EntryFire) → Listed T → Result ℕ AddError → Listed T → Type 0
-Adds schedules zones table zone fires old (Ok id) new =
-    (z : TimeZone) × (fire : EntryFire) × (slice_get zones zone ≡ Some z) × (fires z ≡ fire ∷ fires_past (schedules table) z fire)
+abbrev pub Adds : {T : Type 0} → (T → Seconds) → List TimeZone → T → ℕ → (TimeZone → List EntryFire) → Listed T → Result ℕ AddError → Listed T → Type 0
+Adds has zones table zone fires old (Ok id) new =
+    (z : TimeZone) × (fire : EntryFire) × (slice_get zones zone ≡ Some z) × (fires z ≡ fire ∷ fires_past (has table) z fire)
     × (id ≡ old.added) × (new ≡ listed (old.entries ++ entry id table zone fire ∷ []) (old.added + 1) (old.room - 1)) × (old.added < 2 ^ 64 - 1)
-Adds schedules zones table zone fires old (Err why) new = IsRefused zones zone fires old.added old.room why × (new ≡ old)
+Adds has zones table zone fires old (Err why) new = IsRefused zones zone fires old.added old.room why × (new ≡ old)
 
--- Memory is taken for so many more entries; or nothing changes.
+-- Memory is taken for `additional` more entries; or nothing changes.
 abbrev pub Reserves : {T : Type 0} → ℕ → Listed T → Result ⊤ AllocError → Listed T → Type 0
 Reserves additional old (Ok done) new = new ≡ listed old.entries old.added (max old.room additional)
 Reserves additional old (Err why) new = new ≡ old

@@ -1,7 +1,8 @@
-//! Entries, each with its next fire.
+//! Entries, each with its next fire. An entry has a slot, which stays for a while when the entry is
+//! gone. A sweep later moves the slots that have entries to the front, and drops the others.
 ghost use Rattle.std.specs.Prelude.{◌≡◌, ◌≤◌, [], length, map};
 ghost use Rattle.jiff.specs.Words.{plain_zone};
-ghost use Rattle.cron_fires.specs.Matches.{MatchesAny};
+ghost use Rattle.cron_fires.specs.Matches.{Matches};
 ghost use Rattle.cron_agenda.specs.Fires.{civil_second, fires_after, fires_past};
 ghost use Rattle.cron_agenda.specs.Entries.{Adds, HaveIds, IsEntryOf, IsFirstEntry, Reserves, TakesDue, TakesNext, has, listed, with_entries, without};
 ghost use Rattle.cron_agenda.specs.Inner.Slots as inner;
@@ -12,31 +13,31 @@ use crate::error::{AddError, ZoneMissing};
 use crate::fire::{AgendaFire, EntryFire, first_after, first_past};
 use crate::next::next_past;
 use crate::slots::Slot;
-use cron_fires::{ClockChanges, Timetable};
+use cron_fires::{CivilSeconds, ClockChanges};
 use jiff::Timestamp;
 use jiff::tz::TimeZone;
 use std::alloc::{AllocError, Global};
 use std::marker::Model;
 
-/// How many steps of a sweep a call does.
+/// How many steps of a sweep one call takes.
 const STEPS: usize = 8;
 
-/// Entries, each with its next fire. Contracts see them in the order in which they were added, how
-/// many were ever added, and how many more have their memory already.
+/// Entries, each with its next fire. Contracts see the entries in the order of their ids, the count
+/// of all ever added, and the count of further entries that have memory already.
 #[derive(Drop)]
-pub struct Agenda<T: Timetable> {
+pub struct Agenda<T: CivilSeconds> {
     slots: Vec<Slot<T>>,
     firsts: Earliest,
     live: usize,
     added: u64,
     room: usize,
-    // How many slots at the front are packed, and how many a sweep has scanned. Those between are
-    // left over: they have no entry, and wait for their end.
+    // The count of slots at the front that are packed, and the count that a sweep has scanned. The
+    // slots between are left over: they have no entry, and a sweep will drop them.
     packed: usize,
     scanned: usize,
 }
 
-impl<T: Timetable> Model for Agenda<T> {
+impl<T: CivilSeconds> Model for Agenda<T> {
     ghost use Rattle.cron_agenda.specs.Entries.{Listed, listed};
     ghost use Rattle.std.specs.Prelude.{vec_capacity, vec_len};
     ghost use Rattle.cron_agenda.specs.Inner.Slots.{FiresMatch, HasRoom, IsKept, entries_of};
@@ -47,10 +48,10 @@ impl<T: Timetable> Model for Agenda<T> {
 
     ghost invariant = { λ a. IsKept a.slots.items a.firsts.instants a.live a.added a.packed a.scanned
         × HasRoom (vec_len a.slots) (vec_capacity a.slots) a.firsts.room a.room
-        × FiresMatch T.schedules a.slots.items };
+        × FiresMatch T.has a.slots.items };
 }
 
-// Where the entry with this id stands, if it is there.
+// The place of the entry `id`, or `None` if it isn't there.
 fn place_of<T>(slots: &[Slot<T>], id: u64) -> Option<usize>
     ensures { inner.IsPlaceOf slots.now id result }
 {
@@ -75,8 +76,8 @@ fn place_of<T>(slots: &[Slot<T>], id: u64) -> Option<usize>
     None
 }
 
-// Where it stands, of slots in parts. Those left over between the parts are not searched, as their
-// ids are in no order.
+// The place of the entry `id` in slots with two parts, the packed ones and those not yet scanned.
+// The slots between them are left over and aren't searched, as their ids are in no order.
 fn place_in_parts<T>(slots: &[Slot<T>], packed: usize, scanned: usize, id: u64) -> Option<usize>
     requires packed { packed ≤ scanned }
     requires scanned { scanned ≤ length slots.now }
@@ -89,8 +90,8 @@ fn place_in_parts<T>(slots: &[Slot<T>], packed: usize, scanned: usize, id: u64) 
     Some(scanned + place)
 }
 
-impl<T: Timetable + Copy> Agenda<T> {
-    /// No entries.
+impl<T: CivilSeconds + Copy> Agenda<T> {
+    /// An agenda without entries.
     pub fn new(alloc: Global) -> Agenda<T>
         ensures { result ≡ listed [] 0 0 }
     {
@@ -105,7 +106,7 @@ impl<T: Timetable + Copy> Agenda<T> {
         }
     }
 
-    /// How many entries there are. Their ids ascend, and are less than how many were ever added.
+    /// The count of entries. Their ids ascend, and are less than the count of all ever added.
     pub fn len(&self) -> usize
         ensures len { result ≡ length self.now.entries }
         ensures ids { HaveIds 0 self.now.entries self.now.added }
@@ -113,9 +114,9 @@ impl<T: Timetable + Copy> Agenda<T> {
         self.live
     }
 
-    /// Takes memory for so many more entries: adding them takes none, and is never refused for want
-    /// of it. There may be at most 2^30 slots, of entries and of some that are gone: it is refused
-    /// where there would be more.
+    /// Takes memory for `additional` more entries: adding them takes none, and is never refused for
+    /// want of it. It also returns an error if there would be more than 2^30 slots, of entries and
+    /// of some that are gone.
     pub fn reserve(&mut self, additional: usize) -> Result<(), AllocError>
         ensures { Reserves additional self.old result self.new }
     {
@@ -125,7 +126,7 @@ impl<T: Timetable + Copy> Agenda<T> {
         Ok(())
     }
 
-    // Where no sweep is on, the slot that was added is packed already.
+    // Counts the added slot as packed at once, if no sweep is running.
     fn skip_added(&mut self)
         ensures { self.new ≡ self.old }
     {
@@ -135,9 +136,9 @@ impl<T: Timetable + Copy> Agenda<T> {
         }
     }
 
-    // Adds an entry with this next fire.
+    // Adds an entry whose next fire is `fire`.
     fn insert(&mut self, table: T, zone: usize, fire: EntryFire) -> Result<u64, AddError>
-        requires { MatchesAny (T.schedules table) (civil_second fire) }
+        requires { Matches (T.has table) (civil_second fire) }
         ensures { inner.Inserts table zone fire self.old result self.new }
     {
         if self.added == u64::MAX {
@@ -166,9 +167,10 @@ impl<T: Timetable + Copy> Agenda<T> {
         Ok(id)
     }
 
-    /// Adds an entry: the fires of a table after an instant, by a rule, in the zone with this
-    /// number. It answers the entry's id, which no other has or had: ids count from 0. An error
-    /// changes nothing. One is [`AddError::OutOfMemory`], also where there are 2^30 slots.
+    /// Adds an entry: the fires of `table` after `start`, by the rule `changes`, in the zone with
+    /// the number `zone`. It returns the entry's id, which no other entry has or had: ids count
+    /// from 0. An error changes nothing. [`AddError::OutOfMemory`] also comes if there are 2^30
+    /// slots.
     pub fn add(
         &mut self,
         table: T,
@@ -177,8 +179,8 @@ impl<T: Timetable + Copy> Agenda<T> {
         zones: &[TimeZone<'_>],
         zone: usize,
     ) -> Result<u64, AddError>
-        ensures { Adds T.schedules (map plain_zone zones.now) table zone
-            (λ z. fires_after (T.schedules table) z changes start.nanosecond)
+        ensures { Adds T.has (map plain_zone zones.now) table zone
+            (λ z. fires_after (T.has table) z changes start.nanosecond)
             self.old result self.new }
     {
         let Some(lent) = zones.get(zone) else {
@@ -190,8 +192,8 @@ impl<T: Timetable + Copy> Agenda<T> {
         self.insert(table, zone, fire)
     }
 
-    /// Adds an entry: the fires of a table past one, by its rule, as one that was noted before a
-    /// restart. Its id and its errors are as those of [`Agenda::add`].
+    /// Adds an entry: the fires of `table` that follow `last`, by the rule of `last`, such as a
+    /// fire noted before a restart. Its id and its errors are the same as for [`Agenda::add`].
     pub fn add_past(
         &mut self,
         table: T,
@@ -199,8 +201,8 @@ impl<T: Timetable + Copy> Agenda<T> {
         zones: &[TimeZone<'_>],
         zone: usize,
     ) -> Result<u64, AddError>
-        ensures { Adds T.schedules (map plain_zone zones.now) table zone
-            (λ z. fires_past (T.schedules table) z last)
+        ensures { Adds T.has (map plain_zone zones.now) table zone
+            (λ z. fires_past (T.has table) z last)
             self.old result self.new }
     {
         let Some(lent) = zones.get(zone) else {
@@ -212,7 +214,7 @@ impl<T: Timetable + Copy> Agenda<T> {
         self.insert(table, zone, later)
     }
 
-    // Begins a sweep where none is on, once fewer than half of the slots have an entry.
+    // Begins a sweep if none is running and fewer than half of the slots have an entry.
     fn begin_sweep(&mut self)
         ensures { self.new ≡ self.old }
     {
@@ -222,8 +224,8 @@ impl<T: Timetable + Copy> Agenda<T> {
         }
     }
 
-    // Does a step of a sweep: scans a slot, and moves it to the front if it has an entry; or drops
-    // the last slot, once all are scanned.
+    // Takes one step of a sweep: scans a slot, and moves it to the front if it has an entry. Once
+    // all slots are scanned, a step drops the last one instead.
     fn step(&mut self)
         ensures { self.new ≡ self.old }
     {
@@ -249,7 +251,7 @@ impl<T: Timetable + Copy> Agenda<T> {
         self.packed = to + 1;
     }
 
-    // Does some steps of a sweep.
+    // Takes `STEPS` steps of a sweep.
     fn sweep(&mut self)
         ensures { self.new ≡ self.old }
     {
@@ -258,13 +260,13 @@ impl<T: Timetable + Copy> Agenda<T> {
         }
     }
 
-    // Goes on with a sweep, or begins one, a few steps at each call that may have emptied a slot.
+    // Continues a sweep, or begins one, by a few steps at each call that may have emptied a slot.
     //
-    // Slots don't pile up. A sweep that begins with n slots, while k are added, takes at most
-    // 2(n + k) steps, so at most (n + k) / 4 + 1 calls. Each of them removes one entry at most. So
-    // where there are never more than p entries, k is at most p + (n + k) / 4 + 1, which makes it
-    // (4p + n + 4) / 3. The sweep leaves at most p slots, and one for each call. Where n is 2p + 2 at
-    // most, as it is at first, that is 2p + 2 again, and meanwhile there are at most 4p + 4 slots.
+    // Slots don't pile up. A sweep that begins with n slots, while k are added, takes at most 2(n +
+    // k) steps, so at most (n + k) / 4 + 1 calls. Each of them removes at most one entry. So if
+    // there are never more than p entries, k is at most p + (n + k) / 4 + 1. This bounds k by (4p +
+    // n + 4) / 3. The sweep leaves at most p slots, and one for each call. If n is at most 2p + 2,
+    // which holds at first, that is at most 2p + 2 again. Meanwhile there are at most 4p + 4 slots.
     fn compact(&mut self)
         ensures { self.new ≡ self.old }
     {
@@ -274,7 +276,7 @@ impl<T: Timetable + Copy> Agenda<T> {
         }
     }
 
-    // Removes the entry with this id, and leaves its slot.
+    // Removes the entry `id`, and leaves its slot. Returns true if there was one.
     fn empty_slot(&mut self, id: u64) -> bool
         ensures found { result ≡ has id self.old.entries }
         ensures rest { self.new ≡ with_entries (without id self.old.entries) self.old }
@@ -289,9 +291,9 @@ impl<T: Timetable + Copy> Agenda<T> {
         true
     }
 
-    /// Removes the entry with this id, and tells whether there was one. It takes no memory. Once fewer
-    /// than half of the slots have an entry, this call and those behind it drop the others. Each does
-    /// no more than a few steps of that, so none passes over all slots.
+    /// Removes the entry `id`, and returns true if there was one. It takes no memory. Once fewer
+    /// than half of the slots have an entry, this call and later ones drop the others. Each call
+    /// takes only a few steps of that, so none goes over all slots.
     pub fn remove(&mut self, id: u64) -> bool
         ensures found { result ≡ has id self.old.entries }
         ensures rest { self.new ≡ with_entries (without id self.old.entries) self.old }
@@ -301,7 +303,7 @@ impl<T: Timetable + Copy> Agenda<T> {
         found
     }
 
-    /// The entry with this id.
+    /// The entry `id`, or `None` if it isn't there.
     pub fn get(&self, id: u64) -> Option<Entry<T>>
         ensures { IsEntryOf id self.now.entries result }
     {
@@ -309,8 +311,8 @@ impl<T: Timetable + Copy> Agenda<T> {
         self.slots[place].entry()
     }
 
-    /// The entry whose fire comes next: by instant, of those at one instant the one that was added
-    /// first.
+    /// The entry that fires next, or `None` if there is no entry. It has the least instant, and of
+    /// entries with that instant it was added first.
     pub fn first(&self) -> Option<Entry<T>>
         ensures { IsFirstEntry self.now.entries result }
     {
@@ -318,9 +320,10 @@ impl<T: Timetable + Copy> Agenda<T> {
         self.slots[place].entry()
     }
 
-    // Takes what fires next, and leaves the slot of an entry that has no more.
+    // Removes the next fire from its entry and returns it. An entry without a further fire is
+    // removed, and its slot stays.
     fn take(&mut self, zones: &[TimeZone<'_>]) -> Result<Option<AgendaFire>, ZoneMissing>
-        ensures { TakesNext T.schedules (map plain_zone zones.now) self.old result self.new }
+        ensures { TakesNext T.has (map plain_zone zones.now) self.old result self.new }
     {
         let Some(place) = self.firsts.first() else {
             return Ok(None);
@@ -345,26 +348,27 @@ impl<T: Timetable + Copy> Agenda<T> {
         Ok(Some(AgendaFire { id, fire, is_last }))
     }
 
-    /// Takes what fires next, of all entries: by instant, of those at one instant that of the entry
-    /// that was added first. Its entry goes on to its next fire in its zone; one that has none is
-    /// removed, and the fire says so. Nothing is taken where its zone isn't lent. It takes no memory.
-    /// A call may drop a few slots of entries that are gone, as [`Agenda::remove`] says.
+    /// Removes the next fire of all entries and returns it: the one with the least instant, and of
+    /// fires at one instant the one whose entry was added first. Its entry goes on to its next fire
+    /// in its zone. An entry that has none is removed, and the returned fire says so. If its zone
+    /// isn't lent, nothing is removed. It takes no memory. A call may drop a few slots of entries
+    /// that are gone, as [`Agenda::remove`] describes.
     pub fn next(&mut self, zones: &[TimeZone<'_>]) -> Result<Option<AgendaFire>, ZoneMissing>
-        ensures { TakesNext T.schedules (map plain_zone zones.now) self.old result self.new }
+        ensures { TakesNext T.has (map plain_zone zones.now) self.old result self.new }
     {
         let taken = self.take(zones)?;
         self.compact();
         Ok(taken)
     }
 
-    /// The same, if it is due: if its instant is `now` or comes before it. Else no entry's fire is
-    /// due.
+    /// The same as [`Agenda::next`] if that fire is due: its instant is at or before `now`. Else no
+    /// entry's fire is due, and it returns `None`.
     pub fn next_due(
         &mut self,
         now: Timestamp,
         zones: &[TimeZone<'_>],
     ) -> Result<Option<AgendaFire>, ZoneMissing>
-        ensures { TakesDue T.schedules (map plain_zone zones.now) now.nanosecond
+        ensures { TakesDue T.has (map plain_zone zones.now) now.nanosecond
             self.old result self.new }
     {
         let Some(first) = self.first() else {

@@ -1,8 +1,9 @@
-//! Which of some places comes first, kept as their instants change: a tree in one list of words,
-//! first its inner words, then one for each place. The inner word `i` is the least of the words
-//! `8i + 1` to `8i + 8`, as far as they exist, so the first of all is the least of the places'.
+//! Finds the first of a list of places while their instants change. It is a tree in one list of
+//! words: first its inner words, then one word for each place. The inner word `i` is the least of
+//! the words `8i + 1` to `8i + 8`, as far as they exist. So the first word of all is the least of
+//! the places' words.
 ghost use Rattle.std.specs.Prelude.{◌≡◌, ◌⊎◌, ℕ, ◌+◌, ◌-◌, ◌*◌, ◌<◌, ◌≤◌, [], ◌∷◌, ◌++◌, Some, None, drop, length, slice_get, slice_index, slice_set, take, vec_capacity, vec_len, IfSome, OnOk, OnErr};
-ghost use Rattle.cron_earliest.specs.Places.{IsFirstPlace};
+ghost use Rattle.cron_instants.specs.Places.{IsFirstPlace};
 ghost use Rattle.cron_agenda.specs.Inner.Tree as tree;
 ghost use Rattle.cron_agenda.specs.Inner.Words as words;
 
@@ -10,7 +11,7 @@ use crate::words::{NONE, PLACES, place_in, word_of};
 use std::alloc::{AllocError, Global};
 use std::marker::Model;
 
-/// Places, each with an instant or none. There are at most 2^30.
+/// Places, each with an instant or none. There are at most 2^30 places.
 #[derive(Drop)]
 pub(crate) struct Earliest {
     words: Vec<u64>,
@@ -32,7 +33,7 @@ impl Model for Earliest {
     ghost invariant = { λ e. IsKeptTree e.words.items e.inner };
 }
 
-// The word at a place in the list, or that of none where that one is left out.
+// The word `at`, or `NONE` if `at` is `left_out`.
 #[inline(always)]
 fn word_but(words: &[u64], at: usize, left_out: usize) -> u64
     requires { at < length words.now }
@@ -41,7 +42,8 @@ fn word_but(words: &[u64], at: usize, left_out: usize) -> u64
     if at == left_out { NONE } else { words[at] }
 }
 
-// The least of those from one on and before another, or that of none.
+// The least word from `first` on and before `end`, where the word `left_out` counts as `NONE`. It
+// is `NONE` if there is no word.
 fn least_in(words: &[u64], first: usize, end: usize, left_out: usize) -> u64
     requires { end ≤ length words.now }
     ensures { tree.IsLeastIn (tree.without words.now left_out) first end result }
@@ -53,7 +55,8 @@ fn least_in(words: &[u64], first: usize, end: usize, left_out: usize) -> u64
     least
 }
 
-// The least of those below an inner word.
+// The least of the words directly below the inner word `at`, where the word `left_out` counts as
+// `NONE`.
 fn least_below(words: &[u64], at: usize, left_out: usize) -> u64
     requires at { at < length words.now }
     requires most { length words.now ≤ 2_147_483_648 }
@@ -63,7 +66,8 @@ fn least_below(words: &[u64], at: usize, left_out: usize) -> u64
     least_in(words, first, words.len().min(first + 8), left_out)
 }
 
-// The word so many places behind one in a row of eight. Behind the last place comes the first.
+// The word `by` steps after the word `at` in the row of eight words from `first` on. The step after
+// the last word of the row leads to its first.
 #[inline(always)]
 fn word_behind(words: &[u64], first: usize, at: usize, by: usize) -> u64
     requires row { first + 8 ≤ length words.now }
@@ -75,7 +79,7 @@ fn word_behind(words: &[u64], first: usize, at: usize, by: usize) -> u64
     words[first + (at - first + by) % 8]
 }
 
-// The lesser of two so many behind it.
+// The lesser of the words `by` and `by + 1` steps after the word `at` in its row.
 #[inline(always)]
 fn least_of_two(words: &[u64], first: usize, at: usize, by: usize) -> u64
     requires row { first + 8 ≤ length words.now }
@@ -87,8 +91,8 @@ fn least_of_two(words: &[u64], first: usize, at: usize, by: usize) -> u64
     word_behind(words, first, at, by).min(word_behind(words, first, at, by + 1))
 }
 
-// The least of the seven others of its row. No jump depends on where it stands, as that can't be
-// foretold.
+// The least of the seven other words in the row of `at`. It has no jump that depends on `at`, as a
+// processor couldn't predict it.
 #[inline(always)]
 fn least_of_seven(words: &[u64], first: usize, at: usize) -> u64
     requires row { first + 8 ≤ length words.now }
@@ -101,7 +105,8 @@ fn least_of_seven(words: &[u64], first: usize, at: usize) -> u64
     near.min(far)
 }
 
-// The least of those that stand below an inner word beside this one.
+// The least of the words directly below the inner word `above`, without the word `at`, which is one
+// of them.
 #[inline(always)]
 fn least_beside(words: &[u64], above: usize, at: usize) -> u64
     requires below { tree.IsBelow at above }
@@ -117,8 +122,8 @@ fn least_beside(words: &[u64], above: usize, at: usize) -> u64
     }
 }
 
-// Writes a word, and sets right the inner words above it. Each is written once those beside it were
-// read: a wide read of what was just written waits for it.
+// Writes `word` at `from`, and corrects the inner words above it. Each is written after the words
+// beside it were read: a wide read of a word that was just written waits for the write.
 fn write(words: &mut [u64], from: usize, word: u64)
     requires from { from < length words.old }
     requires most { length words.old ≤ 2_147_483_648 }
@@ -139,7 +144,7 @@ fn write(words: &mut [u64], from: usize, word: u64)
     words[0] = least;
 }
 
-// Sets right all inner words, the last one first.
+// Corrects all inner words, the last one first.
 fn set_all_right(words: &mut [u64], inner: usize)
     requires inner { inner ≤ length words.old }
     requires most { length words.old ≤ 2_147_483_648 }
@@ -147,12 +152,13 @@ fn set_all_right(words: &mut [u64], inner: usize)
     ensures places { drop inner words.new ≡ drop inner words.old }
 {
     for at in (0..inner).rev() {
-        // the first word stands below none
+        // the first word is below no other word
         words[at] = least_below(words, at, 0);
     }
 }
 
-// Takes memory for so many more inner words and places, and adds the inner words, or adds none.
+// Takes memory for `more` inner words and `additional` places, and adds the inner words. On an
+// error it adds none.
 fn widen(
     words: &mut Vec<u64>,
     inner: usize,
@@ -182,7 +188,7 @@ fn widen(
 }
 
 impl Earliest {
-    /// No places.
+    /// An empty list of places.
     pub(crate) fn new(alloc: Global) -> Earliest
         ensures { result.instants ≡ [] }
     {
@@ -192,7 +198,8 @@ impl Earliest {
         }
     }
 
-    /// Takes memory for so many more places.
+    /// Takes memory for `additional` more places. An error if memory runs out, or if there would be
+    /// more than 2^30 places.
     pub(crate) fn reserve(&mut self, additional: usize) -> Result<(), AllocError>
         ensures instants { self.new.instants ≡ self.old.instants }
         ensures ok { OnOk result (additional ≤ self.new.room) }
@@ -203,7 +210,7 @@ impl Earliest {
         if additional > PLACES - places {
             return Err(AllocError);
         }
-        // the fewest inner words that so many places need
+        // the fewest inner words for `places + additional` places
         let inner = (places + additional + 5) / 7;
         let more = inner.saturating_sub(self.inner);
         widen(&mut self.words, self.inner, more, additional)?;
@@ -211,7 +218,7 @@ impl Earliest {
         Ok(())
     }
 
-    /// Adds a place behind the others.
+    /// Adds a place after the others. An error, for the same reasons as in `reserve`, adds none.
     pub(crate) fn push(&mut self, instant: Option<i64>) -> Result<(), AllocError>
         requires { IfSome instant words.CanBeKept }
         ensures ok { OnOk result (self.new.instants ≡ self.old.instants ++ instant ∷ []) }
@@ -223,7 +230,7 @@ impl Earliest {
         if place >= PLACES {
             return Err(AllocError);
         }
-        // where no inner word stands above the place, as many more as there are, and one
+        // if no inner word is above the new place, the count of inner words is doubled, plus one
         let more = if place > 7 * self.inner {
             self.inner + 1
         } else {
@@ -237,7 +244,7 @@ impl Earliest {
         Ok(())
     }
 
-    /// Gives a place this instant, or none.
+    /// Sets the instant of `place`, or removes it if `instant` is `None`.
     pub(crate) fn set(&mut self, place: usize, instant: Option<i64>)
         requires place { place < length self.old.instants }
         requires instant { IfSome instant words.CanBeKept }
@@ -258,7 +265,8 @@ impl Earliest {
         self.words.pop();
     }
 
-    /// The place that comes first: by instant, and where that is shared by its number.
+    /// The place with the least instant, and of places that share it the one with the least number.
+    /// `None` if no place has an instant.
     pub(crate) fn first(&self) -> Option<usize>
         ensures { IsFirstPlace self.now.instants result }
     {

@@ -2,14 +2,14 @@
 
 use crate::fire::EntryFire;
 
-/// An entry of an agenda: by what it fires, on which clock, and what comes next.
+/// An entry of an agenda: what fires, its zone, and its next fire.
 #[derive(Clone, Copy, Debug)]
 pub struct Entry<T> {
-    /// Its id, which no other has or had.
+    /// The entry's id, which no other entry has or had.
     pub id: u64,
-    /// By what it fires.
+    /// The civil seconds that it fires at.
     pub table: T,
-    /// The number of its zone, from 0, in the zones that are lent.
+    /// The number of its zone, counted from 0, in the zones that are lent.
     pub zone: usize,
     /// Its next fire.
     pub fire: EntryFire,

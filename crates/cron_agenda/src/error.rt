@@ -1,4 +1,4 @@
-//! Why an entry can't be added, or a fire can't be taken.
+//! Why an entry can't be added, or why the next fire can't be removed.
 
 use std::error::Error;
 use std::fmt;
@@ -8,9 +8,9 @@ use std::fmt;
 pub enum AddError {
     /// No zone with this number is lent.
     NoZone,
-    /// It would never fire.
+    /// The entry would never fire.
     NoFires,
-    /// So many were added that no id is left: 2^64 - 1.
+    /// No id is left: 2^64 - 1 entries were added.
     NoIds,
     /// Memory ran out; or there are 2^30 slots, of entries and of some that are gone.
     OutOfMemory,

@@ -8,7 +8,7 @@ ghost use Rattle.cron_agenda.specs.Inner.Words.{CanBeKept};
 use cron::schedule::Moment;
 use cron_dues::fire::due_second;
 use cron_fires::{
-    ClockChanges, DueFire, Timetable, first_due_after, first_due_past, first_fire_after,
+    CivilSeconds, ClockChanges, DueFire, first_due_after, first_due_past, first_fire_after,
     first_fire_past,
 };
 use cron_moments::moment::instant_of;
@@ -19,25 +19,25 @@ use std::fmt;
 /// A fire of an entry, by the rule that the entry has.
 #[derive(Clone, Copy, Debug, PartialEq, Eq)]
 pub enum EntryFire {
-    /// One of the times at which the clock shows a match.
+    /// One of the times when the clock shows a match.
     AsShown(Moment),
-    /// A match, at the first instant at which the clock shows it or a later time.
+    /// A match, at the first instant when the clock shows it or a later time.
     Once(DueFire),
 }
 
-/// A fire that was taken from an agenda.
+/// A fire that was removed from an agenda.
 #[derive(Clone, Copy, Debug, PartialEq, Eq)]
 pub struct AgendaFire {
     /// The entry's id.
     pub id: u64,
     /// When it fires.
     pub fire: EntryFire,
-    /// Whether it is the entry's last. The entry is removed then.
+    /// True if it is the entry's last fire. Then the entry is removed.
     pub is_last: bool,
 }
 
 impl EntryFire {
-    /// Its instant.
+    /// The fire's instant.
     pub fn timestamp(&self) -> Timestamp
         ensures { result.nanosecond ≡ instant self.now *ℤ pos 1_000_000_000 }
     {
@@ -48,7 +48,7 @@ impl EntryFire {
     }
 }
 
-/// It prints as the moment, or the due fire, that it holds.
+/// It prints as the moment or the due fire that it holds.
 impl fmt::Display for EntryFire {
     ghost use Rattle.std.specs.Prelude.{Some};
     ghost use Rattle.cron_agenda.specs.Messages.{fire_text};
@@ -76,17 +76,17 @@ pub(crate) fn second_of(fire: &EntryFire) -> i64
     }
 }
 
-/// The first fire after an instant, by a rule.
-pub(crate) fn first_after<T: Timetable>(
+/// The first fire after the instant `now`, by the rule `changes`. `None` if there is none.
+pub(crate) fn first_after<T: CivilSeconds>(
     table: &T,
     changes: ClockChanges,
     now: Timestamp,
     zone: &TimeZone<'_>,
 ) -> Option<EntryFire>
     ensures { IsFirstFire
-        (T.schedules table.now)
+        (T.has table.now)
         (plain_zone zone.now)
-        (fires_after (T.schedules table.now) (plain_zone zone.now) changes now.nanosecond)
+        (fires_after (T.has table.now) (plain_zone zone.now) changes now.nanosecond)
         result }
 {
     match changes {
@@ -101,13 +101,13 @@ pub(crate) fn first_after<T: Timetable>(
     }
 }
 
-/// The next fire after one, by the same rule.
-pub(crate) fn first_past<T: Timetable>(
+/// The next fire after `fire`, by the same rule. `None` if there is none.
+pub(crate) fn first_past<T: CivilSeconds>(
     table: &T,
     fire: &EntryFire,
     zone: &TimeZone<'_>,
 ) -> Option<EntryFire>
-    ensures { IsNextFire (T.schedules table.now) (plain_zone zone.now) fire.now result }
+    ensures { IsNextFire (T.has table.now) (plain_zone zone.now) fire.now result }
 {
     match fire {
         EntryFire::AsShown(moment) => match first_fire_past(table, moment, zone) {

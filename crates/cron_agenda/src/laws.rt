@@ -5,60 +5,62 @@ ghost use Rattle.std.specs.Prelude.{List};
 ghost use Rattle.jiff_tz.specs.declared.timezone.TimeZone.{TimeZone};
 ghost use Rattle.cron_agenda.specs.Laws.{AddedAreAnew, AddedHasAll, AddedPastGoesOn, EntriesAscend, FiresAscend, MergedHasTheFires, MergedIsInOrder, OneEntryIsItsFires, RestartOfAllGoesOn, StayLent, TakenAreTheFront, TakenIsTheFirst, TheRestIsBehind, ZonesMayGrow};
 
-use cron_fires::Timetable;
+use cron_fires::CivilSeconds;
 
-/// What is taken is the first of all the fires that the entries have left, merged, and leaves the
-/// others.
-pub fn taken_is_the_first<T: Timetable>()
-    ensures { TakenIsTheFirst T.schedules }
+/// The fire that is taken is the first of all the fires that the entries have left, merged. The
+/// others stay.
+pub fn taken_is_the_first<T: CivilSeconds>()
+    ensures { TakenIsTheFirst T.has }
 {}
 
-/// The fires of schedules after an instant ascend, and so do those past a fire.
+/// The fires of schedules after an instant ascend, and so do the fires that follow a fire.
 pub fn fires_ascend()
     ensures { FiresAscend }
 {}
 
-/// So do those that each entry has left, in zones that stay while entries are added and removed.
-pub fn entries_ascend<T: Timetable>()
-    ensures { (zones : List TimeZone) → EntriesAscend T.schedules zones }
+/// The fires that each entry has left ascend, in zones that stay while entries are added and
+/// removed.
+pub fn entries_ascend<T: CivilSeconds>()
+    ensures { (zones : List TimeZone) → EntriesAscend T.has zones }
 {}
 
-/// Zones may come while a program runs, behind the others: where one is lent for each entry, they
-/// change nothing. One stays lent for each, whatever is added, removed and taken. An added entry's
-/// zone was lent, so who appends zones and adds entries keeps all of it.
-pub fn zones_may_grow<T: Timetable>()
-    ensures grown { ZonesMayGrow T.schedules }
-    ensures lent { StayLent T.schedules }
+/// Zones may be appended to the list while a program runs. If a zone is lent for each entry,
+/// appended zones change nothing. A zone stays lent for each entry, whatever is added, removed and
+/// taken. An added entry's zone was lent, so a caller that only appends zones and adds entries
+/// keeps both facts.
+pub fn zones_may_grow<T: CivilSeconds>()
+    ensures grown { ZonesMayGrow T.has }
+    ensures lent { StayLent T.has }
 {}
 
-/// The merged fires are those that the entries have left, no more and no fewer, in order.
-pub fn merged_has_the_fires<T: Timetable>()
-    ensures all { MergedHasTheFires T.schedules }
-    ensures order { MergedIsInOrder T.schedules }
+/// The merged fires are the fires that the entries have left, no more and no fewer, in order.
+pub fn merged_has_the_fires<T: CivilSeconds>()
+    ensures all { MergedHasTheFires T.has }
+    ensures order { MergedIsInOrder T.has }
 {}
 
-/// The merged fires of one entry are its own.
-pub fn one_entry_is_its_fires<T: Timetable>()
-    ensures { OneEntryIsItsFires T.schedules }
+/// The merged fires of a single entry are its own fires.
+pub fn one_entry_is_its_fires<T: CivilSeconds>()
+    ensures { OneEntryIsItsFires T.has }
 {}
 
-/// What is taken one after another is a front of the merged fires. What is left is what each entry
-/// has behind the last of its own: so who noted that, and adds the entry past it after a restart,
-/// goes on as uncut.
-pub fn cut_runs<T: Timetable>()
-    ensures front { TakenAreTheFront T.schedules }
-    ensures rest { TheRestIsBehind T.schedules }
-    ensures past { AddedPastGoesOn T.schedules }
+/// The fires taken one after another are a front of the merged fires. What is left are the fires of
+/// each entry after the last one taken from it. So a caller that noted that fire, and adds the
+/// entry past it after a restart, goes on as if uncut.
+pub fn cut_runs<T: CivilSeconds>()
+    ensures front { TakenAreTheFront T.has }
+    ensures rest { TheRestIsBehind T.has }
+    ensures past { AddedPastGoesOn T.has }
 {}
 
 /// After a restart all entries go on as in a run that isn't cut, fire for fire, under new ids. For
-/// that each is added anew, in the old order.
+/// that each entry is added anew, in the old order.
 ///
-/// Where a fire was noted of an entry, `add_past` adds it past the last one, as [`cut_runs`] says of
-/// one entry. If it would never fire then, it is left out. Where none was noted, `add` adds it as at
-/// first: what it had then is all that it was added with.
-pub fn restart_of_all<T: Timetable>()
-    ensures all { RestartOfAllGoesOn T.schedules }
-    ensures anew { AddedAreAnew T.schedules }
-    ensures first { AddedHasAll T.schedules }
+/// If a fire of an entry was noted, `add_past` adds the entry past the last one, as [`cut_runs`]
+/// describes for one entry. If it would never fire then, it is left out. If none was noted, `add`
+/// adds it as at first: the fires that it had left are all those that it was added with.
+pub fn restart_of_all<T: CivilSeconds>()
+    ensures all { RestartOfAllGoesOn T.has }
+    ensures anew { AddedAreAnew T.has }
+    ensures first { AddedHasAll T.has }
 {}

@@ -1,5 +1,5 @@
-//! Many jobs: entries, each with what it fires by, a zone and a rule at clock changes, added and
-//! removed while a program runs, and the fires of all of them in one order.
+//! Many jobs: entries that are added and removed while a program runs, and the fires of all of them
+//! in one order. Each entry has a set of civil seconds, a zone and a rule at clock changes.
 #![tactic(auto)]
 
 mod agenda;

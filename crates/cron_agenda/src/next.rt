@@ -1,12 +1,13 @@
-//! The next fire past one at a match. A search of civil seconds goes on from that match, which is
-//! quick. By the clock it tells the next fire while the clock keeps its offset.
+//! The next fire after a fire whose civil second matches. The search of civil seconds goes on from
+//! that match, which is quick. By the rule of the shown clock it finds the next fire only while the
+//! clock keeps its offset.
 ghost use Rattle.std.specs.Prelude.{◌≡◌, ◌<◌, pos, neg_ℤ, IfSome, Some};
 ghost use Rattle.jiff.specs.Words.{plain_zone};
 ghost use Rattle.jiff_core.specs.Calendar.{IsBetween};
 ghost use Rattle.cron_clocks.specs.Clocks.{IsKeptUpTo, LookupsAgree};
-ghost use Rattle.cron_fires.specs.Matches.{MatchesAny};
-ghost use Rattle.cron_unions.specs.FirstOfAny.{IsFirstPastAny};
-ghost use Rattle.cron_unions.specs.UnionDues.{IsFirstDuePastAny};
+ghost use Rattle.cron_fires.specs.Matches.{Matches};
+ghost use Rattle.cron_instants.specs.Instants.{IsFirstPast};
+ghost use Rattle.cron_dues.specs.FirstDues.{IsFirstDuePast};
 ghost use Rattle.cron_agenda.specs.Fires.{civil_second};
 ghost use Rattle.cron_agenda.specs.Inner.Slots.{IsNextFire};
 
@@ -15,11 +16,11 @@ use cron::schedule::Moment;
 use cron_clocks::clock::{Kept, kept_by_rule};
 use cron_dues::fire::nominal_second;
 use cron_dues::way_to::due_of;
-use cron_fires::{DueFire, Timetable, next_match};
+use cron_fires::{CivilSeconds, DueFire, next_match};
 use cron_moments::moment::{civil_second, instant_of, moment_numbered};
 use jiff::tz::{Offset, TimeZone};
 
-// An offset that a clock keeps for good.
+// `offset`, kept beyond the last instant of any fire.
 fn kept_always(offset: Offset) -> Kept
     ensures offset { result.offset ≡ offset }
     ensures end { result.end ≡ 4_294_967_295 }
@@ -30,8 +31,9 @@ fn kept_always(offset: Offset) -> Kept
     }
 }
 
-// The offset that a clock keeps from an instant on, and up to where, if that is known: in zones
-// with one offset and, up to its next transition, in zones with a rule.
+// The offset that the clock of `zone` keeps from the instant `at` on, and the end of that time. It
+// is known in zones with one offset and, up to its next transition, in zones with a rule. `None` if
+// it isn't known.
 fn kept_from(zone: &TimeZone<'_>, at: i64) -> Option<Kept>
     requires { IsBetween (neg_ℤ (pos 93_599)) (pos 4_294_967_294) at }
     ensures agree { IfSome result (λ kept. LookupsAgree (plain_zone zone.now)) }
@@ -46,12 +48,12 @@ fn kept_from(zone: &TimeZone<'_>, at: i64) -> Option<Kept>
     }
 }
 
-// The next fire by the clock, if it comes while the clock keeps the offset, as far as that is
-// known.
-fn next_while_kept<T: Timetable>(table: &T, fire: &Moment, zone: &TimeZone<'_>) -> Option<Moment>
-    requires { MatchesAny (T.schedules table.now) fire.now.second }
+// The next fire by the shown clock, if it comes while the clock keeps the offset of `fire`. `None`
+// if it doesn't, or if that isn't known.
+fn next_while_kept<T: CivilSeconds>(table: &T, fire: &Moment, zone: &TimeZone<'_>) -> Option<Moment>
+    requires { Matches (T.has table.now) fire.now.second }
     ensures { IfSome result
-        (λ next. IsFirstPastAny (T.schedules table.now) (plain_zone zone.now) fire.now (Some next)) }
+        (λ next. IsFirstPast (T.has table.now) (plain_zone zone.now) fire.now (Some next)) }
 {
     let kept = kept_from(zone, instant_of(fire))?;
     if kept.offset.seconds() != fire.offset().seconds() {
@@ -65,23 +67,25 @@ fn next_while_kept<T: Timetable>(table: &T, fire: &Moment, zone: &TimeZone<'_>) 
     }
 }
 
-// The next due fire, which asks the zone when a clock first shows the next match or a later time.
-fn next_due<T: Timetable>(table: &T, fire: &DueFire, zone: &TimeZone<'_>) -> Option<DueFire>
-    requires { MatchesAny (T.schedules table.now) fire.now.second }
-    ensures { IsFirstDuePastAny (T.schedules table.now) (plain_zone zone.now) fire.now result }
+// The next due fire, or `None` if there is none. The zone gives the first instant when the clock
+// shows the next match or a later time.
+fn next_due<T: CivilSeconds>(table: &T, fire: &DueFire, zone: &TimeZone<'_>) -> Option<DueFire>
+    requires { Matches (T.has table.now) fire.now.second }
+    ensures { IsFirstDuePast (T.has table.now) (plain_zone zone.now) fire.now result }
 {
     let second = next_match(table, nominal_second(fire))?;
     Some(due_of(zone, second))
 }
 
-/// The next fire past one at a match, by the same rule.
-pub(crate) fn next_past<T: Timetable>(
+/// The next fire after `fire`, whose civil second matches, by the same rule. `None` if there is
+/// none.
+pub(crate) fn next_past<T: CivilSeconds>(
     table: &T,
     fire: &EntryFire,
     zone: &TimeZone<'_>,
 ) -> Option<EntryFire>
-    requires { MatchesAny (T.schedules table.now) (civil_second fire.now) }
-    ensures { IsNextFire (T.schedules table.now) (plain_zone zone.now) fire.now result }
+    requires { Matches (T.has table.now) (civil_second fire.now) }
+    ensures { IsNextFire (T.has table.now) (plain_zone zone.now) fire.now result }
 {
     match fire {
         EntryFire::AsShown(moment) => match next_while_kept(table, moment, zone) {

@@ -6,8 +6,8 @@ ghost use Rattle.cron_agenda.specs.Inner.Words.{CanBeKept};
 use crate::entry::Entry;
 use crate::fire::{EntryFire, second_of};
 
-/// An entry with its next fire; or what an entry leaves behind that is gone, with none.
-// What a fire reads of a slot stands at its front: a slot is longer than a line of a cache.
+/// An entry with its next fire; or the slot of an entry that is gone, without a fire.
+// The fields that a fire reads are at the front, since a slot is longer than a line of a cache.
 #[derive(Drop)]
 pub(crate) struct Slot<T> {
     pub id: u64,
@@ -17,7 +17,7 @@ pub(crate) struct Slot<T> {
 }
 
 impl<T> Slot<T> {
-    /// The instant of the next fire.
+    /// The instant of the next fire, or `None` if the entry is gone.
     pub(crate) fn instant(&self) -> Option<i64>
         ensures value { result ≡ inner.instant_of self.now }
         ensures bound { IfSome result CanBeKept }
@@ -30,7 +30,7 @@ impl<T> Slot<T> {
 }
 
 impl<T: Copy> Slot<T> {
-    /// The entry, if it isn't gone.
+    /// The entry, or `None` if it is gone.
     pub(crate) fn entry(&self) -> Option<Entry<T>>
         ensures { inner.IsOwn self.now result }
     {

@@ -1,14 +1,14 @@
-//! A place and its instant as one word: of two words the less one has what comes first.
+//! A place and its instant as one word: the lesser of two words has the place that comes first.
 ghost use Rattle.std.specs.Prelude.{◌≡◌, ◌<◌, IfSome};
 ghost use Rattle.cron_agenda.specs.Inner.Words as inner;
 
-/// How many places there are at most.
+/// The greatest number of places.
 pub(crate) const PLACES: usize = 1_073_741_824;
 
-/// The word of a place with no instant, which is greater than that of each other.
+/// The word of a place with no instant, which is greater than every other word.
 pub(crate) const NONE: u64 = u64::MAX;
 
-/// The word of a place with an instant, or none.
+/// The word of `place` with its instant, or [`NONE`].
 #[inline(always)]
 pub(crate) fn word_of(instant: Option<i64>, place: usize) -> u64
     requires instant { IfSome instant inner.CanBeKept }
@@ -22,7 +22,7 @@ pub(crate) fn word_of(instant: Option<i64>, place: usize) -> u64
     }
 }
 
-/// The place of a word, if it has an instant.
+/// The place of `word`, or `None` if it has no instant.
 #[inline(always)]
 pub(crate) fn place_in(word: u64) -> Option<usize>
     ensures { result ≡ inner.place_in word }

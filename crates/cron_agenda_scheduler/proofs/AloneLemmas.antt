@@ -4,7 +4,7 @@ use Rattle.std.specs.Prelude.{Ok, Err, filter, slice_get}
 use Rattle.std.proofs.Math.Seq.{take-append-add}
 use Rattle.std.proofs.lemmas.List.{append-nil}
 use Rattle.jiff_tz.specs.declared.timezone.TimeZone.{TimeZone}
-use Rattle.cron_fires.specs.Rules as rules_of
+use Rattle.cron_seconds.specs.Rules as rules_of
 use Rattle.cron_agenda.specs.declared.entry.Entry.{Entry}
 use Rattle.cron_agenda.specs.declared.error.ZoneMissing.{ZoneMissing}
 use Rattle.cron_agenda.specs.declared.fire.AgendaFire.{AgendaFire}
@@ -59,7 +59,7 @@ none_has_parts x (b ∷ before) after h = cc
 module _ {T : Type 0} (ts : Tables T) (e : Entry T) where
   -- an entry of the same id, table and zone, with these fires left
   abbrev pub IsLike : Entry T → List EntryFire → Type 0
-  IsLike q fires = (q.id ≡ e.id) × (q.table ≡ e.table) × (q.zone ≡ e.zone) × (fires ≡ left ts.schedules ts.zones q)
+  IsLike q fires = (q.id ≡ e.id) × (q.table ≡ e.table) × (q.zone ≡ e.zone) × (fires ≡ left ts.has ts.zones q)
 
   -- these entries are such a one, or none where no fire is left
   abbrev pub Alone : List (Entry T) → List EntryFire → Type 0
@@ -77,21 +77,21 @@ module _ {T : Type 0} (ts : Tables T) (e : Entry T) where
 
   -- the entry goes on, or ends
   goes_on : (q : Entry T) (z : TimeZone) (fires : List EntryFire) (next : Option EntryFire) → IsLike q fires → slice_get ts.zones q.zone ≡ Some z
-      → rules_of.IsFirstOf (fires_past (ts.schedules q.table) z q.fire) (fires_past (ts.schedules q.table) z) next
+      → rules_of.IsFirstOf (fires_past (ts.has q.table) z q.fire) (fires_past (ts.has q.table) z) next
       → (rest : List EntryFire) × (fires ≡ q.fire ∷ rest) × Alone (gone_on q next) rest
   goes_on q z fires None like lent goes =
-      ([], like.3 ∙ ap (λ o. q.fire ∷ rest_in (ts.schedules q.table) o q.fire) lent ∙ ap (λ l. q.fire ∷ l) goes, refl)
+      ([], like.3 ∙ ap (λ o. q.fire ∷ rest_in (ts.has q.table) o q.fire) lent ∙ ap (λ l. q.fire ∷ l) goes, refl)
   goes_on q z fires (Some r) like lent goes = (
-    left ts.schedules ts.zones (entry q.id q.table q.zone r),
-    like.3 ∙ ap (λ o. q.fire ∷ rest_in (ts.schedules q.table) o q.fire) lent ∙ ap (λ l. q.fire ∷ l) goes
-        ∙ ap (λ o. q.fire ∷ (r ∷ rest_in (ts.schedules q.table) o r)) (sym lent),
+    left ts.has ts.zones (entry q.id q.table q.zone r),
+    like.3 ∙ ap (λ o. q.fire ∷ rest_in (ts.has q.table) o q.fire) lent ∙ ap (λ l. q.fire ∷ l) goes
+        ∙ ap (λ o. q.fire ∷ (r ∷ rest_in (ts.has q.table) o r)) (sym lent),
     (like.0, like.1, like.2, refl),
   )
 
   parts_gone : (before after gone : List (Entry T)) → before ≡ [] → after ≡ [] → before ++ (gone ++ after) ≡ gone
   parts_gone before after gone none nothing = ap (λ l. l ++ (gone ++ after)) none ∙ ap (λ l. gone ++ l) nothing ∙ append-nil gone
 
-  taken_alone : (es new : List (Entry T)) (f : AgendaFire) (fires : List EntryFire) → Alone es fires → IsTaken ts.schedules ts.zones es f new
+  taken_alone : (es new : List (Entry T)) (f : AgendaFire) (fires : List EntryFire) → Alone es fires → IsTaken ts.has ts.zones es f new
       → (rest : List EntryFire) × (fires ≡ f.fire ∷ rest) × (f.id ≡ e.id) × Alone new rest
   taken_alone es new f fires alone taken =
       let first = alone_first es fires taken.entry alone taken.first in
@@ -108,7 +108,7 @@ module _ {T : Type 0} (ts : Tables T) (e : Entry T) where
   none_due t (q ∷ []) fires alone up none =
       let late = (not_first (is_by t) q [] (is_by t q) refl none).0 in
       let ascend = subst Ascend alone.3 up in
-      let rest = rest_in (ts.schedules q.table) (slice_get ts.zones q.zone) q.fire in
+      let rest = rest_in (ts.has q.table) (slice_get ts.zones q.zone) q.fire in
       subst (NonePass (rules_of.is_by instant t)) (sym alone.3) (late, none_later t q.fire rest ascend.0 late)
   none_due t (q ∷ r ∷ es) fires alone up none = absurd alone
 
@@ -180,7 +180,7 @@ deeds_alone ts js e t (Passed f ∷ ds) fires a j a' j' leaves each alone done =
 none_left_due : {T : Type 0} (ts : Tables T) (e : Entry T) (t : ℤ) (most left : ℕ) (ds : List Deed) (rest : List EntryFire) (a a' : Listed T)
     → Alone ts e a.entries rest → Ascend rest
     → most < 2 ^ 64 → runs_in ds + left ≡ most → length ds ≡ runs_in ds
-    → TakesDue ts.schedules ts.zones t a (Ok None) a' ⊎ ((a' ≡ a) × ((left ≡ 0) ⊎ (length ds ≡ 2 ^ 64 - 1))) → NonePass (rules_of.is_by instant t)
+    → TakesDue ts.has ts.zones t a (Ok None) a' ⊎ ((a' ≡ a) × ((left ≡ 0) ⊎ (length ds ≡ 2 ^ 64 - 1))) → NonePass (rules_of.is_by instant t)
     (take left rest)
 none_left_due ts e t most left ds rest a a' alone up fits count each_ran (inl due) =
     none_front (rules_of.is_by instant t) left rest (none_due ts e t a.entries rest alone up due.0)

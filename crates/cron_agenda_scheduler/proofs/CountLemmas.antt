@@ -9,16 +9,14 @@ use Rattle.jiff_tz.specs.Zone.{ambiguous_at}
 use Rattle.jiff_tz.specs.declared.timezone.TimeZone.{TimeZone}
 use Rattle.jiff_tz.specs.declared.ambiguous.AmbiguousOffset.{AmbiguousOffset}
 use Rattle.jiff_tz.specs.declared.ambiguous.AmbiguousOffset.TheVariants.{Unambiguous, Gap, Fold}
-use Rattle.cron_units.specs.Sets.{Sets}
+use Rattle.cron_time.specs.Seconds.{Seconds, items_below, matching_seconds, numbers_below, timeline}
 use Rattle.cron_moments.specs.Civil.{civil, seconds_in_range}
 use Rattle.cron_moments.specs.Readings.{Reading, reading, readings, readings_by}
-use Rattle.cron_time.specs.Timeline.{numbers_below}
 use Rattle.cron_instants.specs.Fires.{earliest_first, insert}
 use Rattle.cron_instants.specs.Order.{is_earlier}
 use Rattle.cron_dues.specs.Due.{due}
-use Rattle.cron_dues.specs.Dues.{is_past}
-use Rattle.cron_unions.specs.Unions.{fires_any, matches_any, seconds_of_any, timeline_any}
-use Rattle.cron_unions.specs.UnionDues.{dues_any}
+use Rattle.cron_dues.specs.Dues.{is_past, dues}
+use Rattle.cron_instants.specs.Fires as shown
 use Rattle.cron_agenda.specs.declared.fire.EntryFire.{EntryFire}
 use Rattle.cron_agenda.specs.declared.fire.EntryFire.TheVariants.{AsShown, Once}
 use Rattle.cron_agenda.specs.Fires.{fires_past}
@@ -73,30 +71,30 @@ first-length (r ∷ l) = insert-length r (earliest_first l) ∙ ap suc (first-le
 
 -- ---- fires
 
-seconds-few : (ss : List Sets) → length (seconds_of_any ss) ≤ seconds_in_range
-unfolding seconds_of_any
-seconds-few ss =
-    let few = filter-few (λ c. matches_any ss (civil c)) (numbers_below seconds_in_range) in
+seconds-few : (s : Seconds) → length (matching_seconds s) ≤ seconds_in_range
+unfolding matching_seconds
+seconds-few s =
+    let few = filter-few s (numbers_below seconds_in_range) in
     let all = numbers-length seconds_in_range in omega (arith, few, all)
 
-past-few : (ss : List Sets) (z : TimeZone) (fire : EntryFire) → length (fires_past ss z fire) ≤ 2 * seconds_in_range
-unfolding timeline_any
-past-few ss z (AsShown last) =
-    let mapped = length-map (filter (is_earlier last) (fires_any ss z)) AsShown in
-    let few = filter-few (is_earlier last) (fires_any ss z) in
-    let same = first-length (timeline_any ss z) in
-    let two = twice (readings z) (seconds_of_any ss) (readings-few z) in
-    let seconds = seconds-few ss in omega (arith, mapped, few, same, two, seconds)
-past-few ss z (Once last) =
-    let mapped = length-map (filter (is_past last) (dues_any ss z)) Once in
-    let few = filter-few (is_past last) (dues_any ss z) in
-    let same = length-map (seconds_of_any ss) (due z) in
-    let seconds = seconds-few ss in omega (arith, mapped, few, same, seconds)
+past-few : (s : Seconds) (z : TimeZone) (fire : EntryFire) → length (fires_past s z fire) ≤ 2 * seconds_in_range
+unfolding timeline items_below matching_seconds
+past-few s z (AsShown last) =
+    let mapped = length-map (filter (is_earlier last) (shown.fires s z)) AsShown in
+    let few = filter-few (is_earlier last) (shown.fires s z) in
+    let same = first-length (timeline s z) in
+    let two = twice (readings z) (matching_seconds s) (readings-few z) in
+    let seconds = seconds-few s in omega (arith, mapped, few, same, two, seconds)
+past-few s z (Once last) =
+    let mapped = length-map (filter (is_past last) (dues s z)) Once in
+    let few = filter-few (is_past last) (dues s z) in
+    let same = length-map (matching_seconds s) (due z) in
+    let seconds = seconds-few s in omega (arith, mapped, few, same, seconds)
 
-rest-few : (ss : List Sets) (zone : Option TimeZone) (fire : EntryFire) → length (fire ∷ rest_in ss zone fire) ≤ 2 ^ 64 - 1
-rest-few ss None fire = omega arith
-rest-few ss (Some z) fire = let few = past-few ss z fire in omega (arith, few)
+rest-few : (s : Seconds) (zone : Option TimeZone) (fire : EntryFire) → length (fire ∷ rest_in s zone fire) ≤ 2 ^ 64 - 1
+rest-few s None fire = omega arith
+rest-few s (Some z) fire = let few = past-few s z fire in omega (arith, few)
 
-pub none_is_cut : {T : Type 0} (schedules : T → List Sets) → NoneIsCut schedules
-none_is_cut schedules zones e =
-    take_all (2 ^ 64 - 1) (left schedules zones e) (rest-few (schedules e.table) (slice_get zones e.zone) e.fire)
+pub none_is_cut : {T : Type 0} (has : T → Seconds) → NoneIsCut has
+none_is_cut has zones e =
+    take_all (2 ^ 64 - 1) (left has zones e) (rest-few (has e.table) (slice_get zones e.zone) e.fire)

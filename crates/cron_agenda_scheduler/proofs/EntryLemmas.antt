@@ -14,7 +14,7 @@ use Rattle.cron_agenda.specs.Entries.{HaveIds, IsTaken, Listed, gone_on}
 use Rattle.cron_agenda.specs.Entries as entries
 use Rattle.cron_agenda.specs.Fires.{fires_past, instant}
 use Rattle.cron_agenda.specs.Merged.{AllAscend, Ascend, left, own_of, rest_in}
-use Rattle.cron_fires.specs.Rules.{IsFirstOf, is_by}
+use Rattle.cron_seconds.specs.Rules.{IsFirstOf, is_by}
 use Rattle.cron_scheduler.specs.Passing.{AllPass, NonePass}
 use Rattle.cron_scheduler.specs.Runs.{ClockCalls}
 use Rattle.cron_scheduler.specs.Runs as due
@@ -51,7 +51,7 @@ nothing : {A : Type 0} (l : List A) → length l ≤ 0 → l ≡ []
 nothing [] le = refl
 nothing (x ∷ l) le = absurd (omega arith)
 
-ascend_there : {T : Type 0} (ts : Tables T) (id : ℕ) (es : List (Entry T)) → IsOneAtMost id es → AllAscend ts.schedules ts.zones es → Ascend (left_with ts id es)
+ascend_there : {T : Type 0} (ts : Tables T) (id : ℕ) (es : List (Entry T)) → IsOneAtMost id es → AllAscend ts.has ts.zones es → Ascend (left_with ts id es)
 ascend_there ts id [] one up = tt
 ascend_there ts id (e ∷ es) one up = by_test (eqb e.id id) refl (λ less. ascend_there ts id es less up.1)
   where
@@ -59,11 +59,11 @@ ascend_there ts id (e ∷ es) one up = by_test (eqb e.id id) refl (λ less. asce
     by_test true is rest =
         let there = ap (λ b. cond b (e ∷ with_id id es) (with_id id es)) is in
         let size = ap length there in
-        subst Ascend (sym (ap (flat_map (left ts.schedules ts.zones)) (there ∙ ap (λ l. e ∷ l) (nothing (with_id id es) (omega arith)))
-        ∙ append-nil (left ts.schedules ts.zones e))) up.0
+        subst Ascend (sym (ap (flat_map (left ts.has ts.zones)) (there ∙ ap (λ l. e ∷ l) (nothing (with_id id es) (omega arith)))
+        ∙ append-nil (left ts.has ts.zones e))) up.0
     by_test false is rest =
         let there = ap (λ b. cond b (e ∷ with_id id es) (with_id id es)) is in
-        subst Ascend (sym (ap (flat_map (left ts.schedules ts.zones)) there)) (rest (subst (λ l. length l ≤ 1) there one))
+        subst Ascend (sym (ap (flat_map (left ts.has ts.zones)) there)) (rest (subst (λ l. length l ≤ 1) there one))
 
 pub one_among_all : {T : Type 0} (ts : Tables T) (id : ℕ) → OneAmongAll ts id
 one_among_all ts id = record { one = one_there id; ascends = ascend_there ts id }
@@ -92,19 +92,19 @@ with_beside id a m b =
 
 -- the entry whose next fire is taken has the others left
 gone_left : {T : Type 0} (ts : Tables T) (e : Entry T) (z : TimeZone) (next : Option EntryFire) → slice_get ts.zones e.zone ≡ Some z
-    → IsFirstOf (fires_past (ts.schedules e.table) z e.fire) (fires_past (ts.schedules e.table) z) next
-    → left ts.schedules ts.zones e ≡ e.fire ∷ flat_map (left ts.schedules ts.zones) (gone_on e next)
-gone_left ts e z None lent goes = ap (λ o. e.fire ∷ rest_in (ts.schedules e.table) o e.fire) lent ∙ ap (λ l. e.fire ∷ l) goes
+    → IsFirstOf (fires_past (ts.has e.table) z e.fire) (fires_past (ts.has e.table) z) next
+    → left ts.has ts.zones e ≡ e.fire ∷ flat_map (left ts.has ts.zones) (gone_on e next)
+gone_left ts e z None lent goes = ap (λ o. e.fire ∷ rest_in (ts.has e.table) o e.fire) lent ∙ ap (λ l. e.fire ∷ l) goes
 gone_left ts e z (Some q) lent goes =
-    ap (λ o. e.fire ∷ rest_in (ts.schedules e.table) o e.fire) lent ∙ ap (λ l. e.fire ∷ l) goes
-    ∙ ap (λ o. e.fire ∷ q ∷ rest_in (ts.schedules e.table) o q) (sym lent)
-    ∙ sym (append-nil (e.fire ∷ q ∷ rest_in (ts.schedules e.table) (slice_get ts.zones e.zone) q))
+    ap (λ o. e.fire ∷ rest_in (ts.has e.table) o e.fire) lent ∙ ap (λ l. e.fire ∷ l) goes
+    ∙ ap (λ o. e.fire ∷ q ∷ rest_in (ts.has e.table) o q) (sym lent)
+    ∙ sym (append-nil (e.fire ∷ q ∷ rest_in (ts.has e.table) (slice_get ts.zones e.zone) q))
 
 gone_size : {T : Type 0} (e : Entry T) (next : Option EntryFire) → length (gone_on e next) ≤ 1
 gone_size e None = omega arith
 gone_size e (Some q) = omega arith
 
-module _ {T : Type 0} (ts : Tables T) (id : ℕ) (f : AgendaFire) (old new : List (Entry T)) (is : IsTaken ts.schedules ts.zones old f new) where
+module _ {T : Type 0} (ts : Tables T) (id : ℕ) (f : AgendaFire) (old new : List (Entry T)) (is : IsTaken ts.has ts.zones old f new) where
   abbrev e : Entry T
   e = is.entry
 
@@ -115,7 +115,7 @@ module _ {T : Type 0} (ts : Tables T) (id : ℕ) (f : AgendaFire) (old new : Lis
   b = is.first.after
 
   abbrev lefts : List (Entry T) → List EntryFire
-  lefts es = flat_map (left ts.schedules ts.zones) es
+  lefts es = flat_map (left ts.has ts.zones) es
 
   pub with_old : (t : Bool) → (e.id == id) ≡ t → with_id id old ≡ with_id id a ++ (cond t (e ∷ []) [] ++ with_id id b)
   with_old t told =
@@ -148,7 +148,7 @@ module _ {T : Type 0} (ts : Tables T) (id : ℕ) (f : AgendaFire) (old new : Lis
           let size_now = ap length now ∙ length-append (gone_on e is.next) (with_id id b) in (
             ap lefts was
                 ∙ ap (λ l. l ++ lefts (with_id id b)) (gone_left ts e is.zone is.next is.lent is.goes_on)
-                ∙ ap (λ l. e.fire ∷ l) (sym (ap lefts now ∙ flat_map-append (left ts.schedules ts.zones) (gone_on e is.next) (with_id id b)))
+                ∙ ap (λ l. e.fire ∷ l) (sym (ap lefts now ∙ flat_map-append (left ts.has ts.zones) (gone_on e is.next) (with_id id b)))
                 ∙ ap (λ l. l ++ left_with ts id new) (sym (fires_is true told)),
             omega arith,
           )
@@ -171,7 +171,7 @@ entry_deeds ts js id t (Ran f ∷ ds) a j a' j' one done =
     let here = entry_taken ts id f a.entries done.2.0.entries done.2.1.takes.0.0 one in
     let rest = entry_deeds ts js id t ds done.0 done.1 a' j' (subst (λ l. length l ≤ 1) (sym kept) here.1) done.3 in (
       taken_on id (f ∷ []) (taken ds) (left_with ts id a.entries) (left_with ts id done.2.0.entries) (left_with ts id a'.entries) here.0
-          (ap (flat_map (left ts.schedules ts.zones)) (sym kept) ∙ rest.0),
+          (ap (flat_map (left ts.has ts.zones)) (sym kept) ∙ rest.0),
       rest.1,
     )
 entry_deeds ts js id t (Passed f ∷ ds) a j a' j' one done =
@@ -204,12 +204,12 @@ filter-less p q (x ∷ l) none = let parts = not_first p x l (p x) refl none in 
     by_test true fails rest = rw fails rest
     by_test false fails rest = rest
 
-none_of_left : {T : Type 0} (ts : Tables T) (t : ℤ) (es : List (Entry T)) → filter (entries.is_by t) es ≡ [] → Ascend (flat_map (left ts.schedules ts.zones) es)
-    → NonePass (is_by instant t) (flat_map (left ts.schedules ts.zones) es)
+none_of_left : {T : Type 0} (ts : Tables T) (t : ℤ) (es : List (Entry T)) → filter (entries.is_by t) es ≡ [] → Ascend (flat_map (left ts.has ts.zones) es)
+    → NonePass (is_by instant t) (flat_map (left ts.has ts.zones) es)
 none_of_left ts t [] none up = tt
 none_of_left ts t (e ∷ es) none up =
     let late = (not_first (entries.is_by t) e es (entries.is_by t e) refl none).0 in
-    (late, none_later t e.fire (rest_in (ts.schedules e.table) (slice_get ts.zones e.zone) e.fire ++ flat_map (left ts.schedules ts.zones) es) up.0 late)
+    (late, none_later t e.fire (rest_in (ts.has e.table) (slice_get ts.zones e.zone) e.fire ++ flat_map (left ts.has ts.zones) es) up.0 late)
 
 ascend-behind : (l m : List EntryFire) → Ascend (l ++ m) → Ascend m
 ascend-behind [] m up = up
@@ -218,7 +218,7 @@ ascend-behind (f ∷ l) m up = ascend-behind l m up.1
 pub entry_deeds_are_all_due : {T J F E : Type 0} (ts : Tables T) (js : JobCalls T J F) (id : ℕ) → EntryDeedsAreAllDue ts js id E
 entry_deeds_are_all_due ts js id t most left ds a j a' j' one up runs some fewer =
     let front = (entry_deeds ts js id t ds a j runs.agenda runs.job one runs.are_done).0 in
-    let none = ended ts.schedules ts.zones t left (length ds) runs.agenda a' some fewer runs.ends.2 in
+    let none = ended ts.has ts.zones t left (length ds) runs.agenda a' some fewer runs.ends.2 in
     filter_front (is_by instant t) (left_with ts id a.entries) (fires_with id (taken ds)) (left_with ts id runs.agenda.entries) front
     (own_due id t (taken ds) (all_due ts (keeping id js) t ds a j runs.agenda runs.job runs.are_done))
     (none_of_left ts t (with_id id runs.agenda.entries) (filter-less (entries.is_by t) (λ (e : Entry _). e.id == id) runs.agenda.entries none)
@@ -230,7 +230,7 @@ entry_deeds_begin_that ts js id t ds a j a' j' one done =
     (entry_deeds ts js id t ds a j a' j' one done).0 (own_due id t (taken ds) (all_due ts (keeping id js) t ds a j a' j' done))
 
 -- one more is due
-one_due : {T : Type 0} (ts : Tables T) (id : ℕ) (t : ℤ) (f : AgendaFire) (old new : List (Entry T)) → IsTaken ts.schedules ts.zones old f new
+one_due : {T : Type 0} (ts : Tables T) (id : ℕ) (t : ℤ) (f : AgendaFire) (old new : List (Entry T)) → IsTaken ts.has ts.zones old f new
     → is_due t (own_of f) ≡ true → IsOneAtMost id old
     → filter (is_by instant t) (left_with ts id old) ≡ fires_with id (f ∷ []) ++ filter (is_by instant t) (left_with ts id new)
 one_due ts id t f old new is due one =
@@ -245,7 +245,7 @@ entry_failure_is_taken ts js id t most ds a j e a' j' one runs =
     let picked = runs.ends.3 in
     let done = entry_deeds ts js id t ds a j runs.agenda runs.job one runs.are_done in
     let last = entry_taken ts id f runs.agenda.entries b.entries picked.takes.0.0 done.1 in
-    let kept = ap (flat_map (left ts.schedules ts.zones)) (sym runs.ends.4.1) in
+    let kept = ap (flat_map (left ts.has ts.zones)) (sym runs.ends.4.1) in
     let by = filter (is_by instant t) in (
       f,
       taken_on id (taken ds) (f ∷ []) (left_with ts id a.entries) (left_with ts id runs.agenda.entries) (left_with ts id a'.entries) done.0
@@ -263,7 +263,7 @@ no_front [] m e = refl
 no_front (x ∷ l) m e = cc
 
 module _ {T : Type 0} (ts : Tables T) (id : ℕ) (t : ℤ) (f : AgendaFire) (ds : List Deed) (old then new : List (Entry T))
-    (is : IsTaken ts.schedules ts.zones old f then) (due : is_due t (own_of f) ≡ true) (one : IsOneAtMost id old) where
+    (is : IsTaken ts.has ts.zones old f then) (due : is_due t (own_of f) ≡ true) (one : IsOneAtMost id old) where
   abbrev by : List (Entry T) → List EntryFire
   by es = filter (is_by instant t) (left_with ts id es)
 
@@ -276,12 +276,12 @@ module _ {T : Type 0} (ts : Tables T) (id : ℕ) (t : ℤ) (f : AgendaFire) (ds 
       let more = begins (subst (λ l. length l ≤ 1) (sym same) (entry_taken ts id f old then is one).1) in (
         more.0,
         taken_on id (f ∷ []) (taken ds) (by old) (by then) more.0 (one_due ts id t f old then is due one)
-            (ap (λ l. filter (is_by instant t) (flat_map (left ts.schedules ts.zones) l)) (sym same) ∙ more.1),
+            (ap (λ l. filter (is_by instant t) (flat_map (left ts.has ts.zones) l)) (sym same) ∙ more.1),
       )
   on (inr gone) begins =
       let more = begins (subst (λ l. length l ≤ 1) (sym gone) (omega arith)) in
       let none = no_front (fires_with id (taken ds)) more.0
-      (sym (ap (λ l. filter (is_by instant t) (flat_map (left ts.schedules ts.zones) l)) gone) ∙ more.1) in (
+      (sym (ap (λ l. filter (is_by instant t) (flat_map (left ts.has ts.zones) l)) gone) ∙ more.1) in (
         by then,
         taken_on id (f ∷ []) (taken ds) (by old) (by then) (by then) (one_due ts id t f old then is due one) (ap (λ l. l ++ by then) (sym none)),
       )
@@ -370,7 +370,7 @@ module _ {T C J E F : Type 0} (ts : Tables T) (cs : ClockCalls C E) (js : JobCal
   none_due : (t : ℤ) (most left : ℕ) (ds : List Deed) (a : Listed T) (j : J) (b : Listed T) (k : J) → Ascend (left_with ts id b.entries)
       → RunsDue {E = E} ts ks t most ds a j (Ok left) b k → 0 < left → length ds < 2 ^ 64 - 1 → NonePass (is_by instant t) (left_with ts id b.entries)
   none_due t most left ds a j b k up runs some fewer =
-      let none = ended ts.schedules ts.zones t left (length ds) runs.agenda b some fewer runs.ends.2 in
+      let none = ended ts.has ts.zones t left (length ds) runs.agenda b some fewer runs.ends.2 in
       let same = ends_as_it_was _ _ runs.agenda b runs.ends.2 in
       none_of_left ts t (with_id id b.entries) (filter-less (entries.is_by t) (λ (e : Entry _). e.id == id) b.entries
       (subst (λ (x : Listed T). filter (entries.is_by t) x.entries ≡ []) (sym same) none)) up

@@ -39,7 +39,7 @@ module _ {T : Type 0} (ts : Tables T) (lateness : Lateness) where
   have-gone e None has = tt
   have-gone e (Some q) has = (has, tt)
 
-  module _ (id : ℕ) (f : AgendaFire) (old new : List (Entry T)) (is : IsTaken ts.schedules ts.zones old f new) (have : Have (with_id id old)) where
+  module _ (id : ℕ) (f : AgendaFire) (old new : List (Entry T)) (is : IsTaken ts.has ts.zones old f new) (have : Have (with_id id old)) where
     abbrev ahead : List (Entry T)
     ahead = with_id id is.first.before
 
@@ -65,7 +65,7 @@ module _ {T : Type 0} (ts : Tables T) (lateness : Lateness) where
         by_test false told = subst Have (with_old ts id f old new is false told ∙ sym (with_new ts id f old new is false told)) have
 
 -- the fire that is taken has the id of its entry
-taken_id : {T : Type 0} (ts : Tables T) (id : ℕ) (f : AgendaFire) (old new : List (Entry T)) (is : IsTaken ts.schedules ts.zones old f new)
+taken_id : {T : Type 0} (ts : Tables T) (id : ℕ) (f : AgendaFire) (old new : List (Entry T)) (is : IsTaken ts.has ts.zones old f new)
     → (f.id == id) ≡ (is.entry.id == id)
 taken_id ts id f old new is = ap (λ (v : AgendaFire). v.id == id) is.is
 
@@ -250,4 +250,4 @@ pub latest_runs_the_last : {T J E F : Type 0} (ts : Tables T) (js : JobCalls T J
 latest_runs_the_last ts js id t most left ds a j a' j' have runs some fewer =
     latest_runs_no_other ts js id t ds a j runs.agenda runs.job have runs.are_done
     ∙ ap (λ late. last_ran_if_none late (taken (deeds_with id ds)))
-    (none_there t id runs.agenda.entries (ended ts.schedules ts.zones t left (length ds) runs.agenda a' some fewer runs.ends.2))
+    (none_there t id runs.agenda.entries (ended ts.has ts.zones t left (length ds) runs.agenda a' some fewer runs.ends.2))

@@ -6,14 +6,14 @@ use Rattle.jiff_core.proofs.SignedLemmas.{signed_arith}
 use Rattle.cron_instants.specs.Order.{comes_before}
 use Rattle.cron_instants.proofs.OrderLemmas.{before-true}
 use Rattle.jiff_tz.specs.declared.timezone.TimeZone.{TimeZone}
-use Rattle.cron_units.specs.Sets.{Sets}
+use Rattle.cron_time.specs.Seconds.{Seconds}
 use Rattle.cron_agenda.specs.declared.entry.Entry.{Entry}
 use Rattle.cron_agenda.specs.declared.fire.EntryFire.{EntryFire}
 use Rattle.cron_agenda.specs.Entries.{IsTaken, Listed, TakesDue, is_by}
 use Rattle.cron_agenda.specs.Fires.{civil_second, instant}
 use Rattle.cron_agenda.specs.Merged.{AllAscend, IsEarlierThan, OwnFire, all_of, in_order, left, merged, own_of, owned, precedes, put, rest_in}
 use Rattle.cron_agenda.proofs.RestLemmas.{taken_are_the_front}
-use Rattle.cron_fires.specs.Rules as rules
+use Rattle.cron_seconds.specs.Rules as rules
 use Rattle.cron_scheduler.specs.Passing.{AllPass, NonePass}
 use Rattle.cron_scheduler.proofs.DueLemmas.{filter_front}
 use Rattle.cron_agenda_scheduler.specs.Late.{Tables}
@@ -25,7 +25,7 @@ deeds_are_taken ts js t [] a j a' j' leaves done = ap (λ (x : Listed _). x.entr
 deeds_are_taken ts js t (Ran f ∷ ds) a j a' j' leaves done =
     let same = leaves j f done.2.0 (Ok tt) done.1 done.0 done.2.2 in (
       done.0.entries,
-      subst (λ (x : Listed _). IsTaken ts.schedules ts.zones a.entries f x.entries) (sym same) done.2.1.takes.0.0,
+      subst (λ (x : Listed _). IsTaken ts.has ts.zones a.entries f x.entries) (sym same) done.2.1.takes.0.0,
       deeds_are_taken ts js t ds done.0 done.1 a' j' leaves done.3,
     )
 deeds_are_taken ts js t (Passed f ∷ ds) a j a' j' leaves done =
@@ -84,25 +84,25 @@ pub not_first : {A : Type 0} (p : A → Bool) (x : A) (l : List A) (b : Bool) �
 not_first p x l true is none = cc
 not_first p x l false is none = (refl, none)
 
-none_left : {T : Type 0} (schedules : T → List Sets) (zones : List TimeZone) (t : ℤ) (es : List (Entry T)) → filter (is_by t) es ≡ [] → AllAscend schedules zones es
-    → NonePass (is_due t) (all_of schedules zones es)
-none_left schedules zones t [] none up = tt
-none_left schedules zones t (e ∷ es) none up =
+none_left : {T : Type 0} (has : T → Seconds) (zones : List TimeZone) (t : ℤ) (es : List (Entry T)) → filter (is_by t) es ≡ [] → AllAscend has zones es
+    → NonePass (is_due t) (all_of has zones es)
+none_left has zones t [] none up = tt
+none_left has zones t (e ∷ es) none up =
     let parts = not_first (is_by t) e es (is_by t e) refl none in
-    none_both (is_due t) (owned e.id (left schedules zones e)) (all_of schedules zones es)
-    (parts.0, none_owned t e.id (rest_in (schedules e.table) (slice_get zones e.zone) e.fire) (none_later t e.fire _ up.0.0 parts.0)) (none_left schedules zones t es parts.1 up.1)
+    none_both (is_due t) (owned e.id (left has zones e)) (all_of has zones es)
+    (parts.0, none_owned t e.id (rest_in (has e.table) (slice_get zones e.zone) e.fire) (none_later t e.fire _ up.0.0 parts.0)) (none_left has zones t es parts.1 up.1)
 
-pub ended : {T : Type 0} (schedules : T → List Sets) (zones : List TimeZone) (t : ℤ) (left length : ℕ) (a a' : Listed T) → 0 < left → length < 2 ^ 64 - 1
-    → TakesDue schedules zones t a (Ok None) a' ⊎ ((a' ≡ a) × ((left ≡ 0) ⊎ (length ≡ 2 ^ 64 - 1))) → filter (is_by t) a.entries ≡ []
-ended schedules zones t left length a a' some fewer (inl due) = due.0
-ended schedules zones t left length a a' some fewer (inr (same, inl none)) = absurd (omega arith)
-ended schedules zones t left length a a' some fewer (inr (same, inr all)) = absurd (omega arith)
+pub ended : {T : Type 0} (has : T → Seconds) (zones : List TimeZone) (t : ℤ) (left length : ℕ) (a a' : Listed T) → 0 < left → length < 2 ^ 64 - 1
+    → TakesDue has zones t a (Ok None) a' ⊎ ((a' ≡ a) × ((left ≡ 0) ⊎ (length ≡ 2 ^ 64 - 1))) → filter (is_by t) a.entries ≡ []
+ended has zones t left length a a' some fewer (inl due) = due.0
+ended has zones t left length a a' some fewer (inr (same, inl none)) = absurd (omega arith)
+ended has zones t left length a a' some fewer (inr (same, inr all)) = absurd (omega arith)
 
 pub deeds_are_all_due : {T J F E : Type 0} (ts : Tables T) (js : JobCalls T J F) → DeedsAreAllDue ts js E
 deeds_are_all_due ts js t most left ds a j a' j' leaves up runs some fewer =
-    let front = taken_are_the_front ts.schedules ts.zones (taken ds) a.entries runs.agenda.entries up
+    let front = taken_are_the_front ts.has ts.zones (taken ds) a.entries runs.agenda.entries up
     (deeds_are_taken ts js t ds a j runs.agenda runs.job leaves runs.are_done) in
-    let none = ended ts.schedules ts.zones t left (length ds) runs.agenda a' some fewer runs.ends.2 in
-    filter_front (is_due t) (merged ts.schedules ts.zones a.entries) (map own_of (taken ds)) (merged ts.schedules ts.zones runs.agenda.entries) front.0
+    let none = ended ts.has ts.zones t left (length ds) runs.agenda a' some fewer runs.ends.2 in
+    filter_front (is_due t) (merged ts.has ts.zones a.entries) (map own_of (taken ds)) (merged ts.has ts.zones runs.agenda.entries) front.0
     (all_due ts js t ds a j runs.agenda runs.job runs.are_done)
-    (none_in_order (is_due t) (all_of ts.schedules ts.zones runs.agenda.entries) (none_left ts.schedules ts.zones t runs.agenda.entries none front.1))
+    (none_in_order (is_due t) (all_of ts.has ts.zones runs.agenda.entries) (none_left ts.has ts.zones t runs.agenda.entries none front.1))

@@ -5,9 +5,9 @@ use Rattle.std.proofs.Math.Seq.{take-nil}
 use Rattle.std.proofs.lemmas.List.{take-map}
 use Rattle.jiff_core.specs.declared.Timestamp.{Timestamp}
 use Rattle.jiff_tz.specs.declared.timezone.TimeZone.{TimeZone}
-use Rattle.cron_units.specs.Sets.{Sets}
-use Rattle.cron_unions.specs.Unions.{fires_any_after, fires_any_past}
-use Rattle.cron_unions.specs.UnionDues.{dues_any_after, dues_any_past}
+use Rattle.cron_time.specs.Seconds.{Seconds}
+use Rattle.cron_instants.specs.Fires as shown
+use Rattle.cron_dues.specs.Dues.{dues_after, dues_past}
 use Rattle.cron_fires.specs.declared.changes.ClockChanges.{ClockChanges}
 use Rattle.cron_fires.specs.declared.changes.ClockChanges.TheVariants as rule
 use Rattle.cron_agenda.specs.declared.entry.Entry.{Entry}
@@ -36,36 +36,36 @@ first_of-map : {A B : Type 0} (f : A → B) (most : Option ℕ) (l : List A) →
 first_of-map f None l = refl
 first_of-map f (Some n) l = take-map f n l
 
-after_is : (changes : ClockChanges) (now : Timestamp) (ss : List Sets) (z : TimeZone) (most : Option ℕ)
+after_is : (changes : ClockChanges) (now : Timestamp) (ss : Seconds) (z : TimeZone) (most : Option ℕ)
     → first_of most (fires_after ss z changes now.nanosecond) ≡ plan_after changes now ss z most
-after_is rule.AsShown now ss z most = first_of-map AsShown most (fires_any_after ss z now.nanosecond)
-after_is rule.Once now ss z most = first_of-map Once most (dues_any_after ss z now.nanosecond)
+after_is rule.AsShown now ss z most = first_of-map AsShown most (shown.fires_after ss z now.nanosecond)
+after_is rule.Once now ss z most = first_of-map Once most (dues_after ss z now.nanosecond)
 
-past_is : (last : EntryFire) (ss : List Sets) (z : TimeZone) (most : Option ℕ) → first_of most (fires_past ss z last) ≡ plan_past last ss z most
-past_is (AsShown last) ss z most = first_of-map AsShown most (fires_any_past ss z last)
-past_is (Once last) ss z most = first_of-map Once most (dues_any_past ss z last)
+past_is : (last : EntryFire) (ss : Seconds) (z : TimeZone) (most : Option ℕ) → first_of most (fires_past ss z last) ≡ plan_past last ss z most
+past_is (AsShown last) ss z most = first_of-map AsShown most (shown.fires_past ss z last)
+past_is (Once last) ss z most = first_of-map Once most (dues_past ss z last)
 
 -- what an entry has left, where these are its fires
-left_is : {T : Type 0} (schedules : T → List Sets) (zones : List TimeZone) (id : ℕ) (table : T) (zone : ℕ) (fire : EntryFire) (z : TimeZone)
+left_is : {T : Type 0} (has : T → Seconds) (zones : List TimeZone) (id : ℕ) (table : T) (zone : ℕ) (fire : EntryFire) (z : TimeZone)
     (fires : List EntryFire)
-    → slice_get zones zone ≡ Some z → fires ≡ fire ∷ fires_past (schedules table) z fire → left schedules zones (entry id table zone fire) ≡ fires
-left_is schedules zones id table zone fire z fires lent is = ap (λ o. fire ∷ rest_in (schedules table) o fire) lent ∙ sym is
+    → slice_get zones zone ≡ Some z → fires ≡ fire ∷ fires_past (has table) z fire → left has zones (entry id table zone fire) ≡ fires
+left_is has zones id table zone fire z fires lent is = ap (λ o. fire ∷ rest_in (has table) o fire) lent ∙ sym is
 
-pub one_has_a_plans_fires : {T : Type 0} (schedules : T → List Sets) → OneEntryHasAPlansFires schedules
-one_has_a_plans_fires schedules = record {
+pub one_has_a_plans_fires : {T : Type 0} (has : T → Seconds) → OneEntryHasAPlansFires has
+one_has_a_plans_fires has = record {
   after = λ zones table zone added room id changes now new adds. (
     adds.0,
     adds.1,
     adds.2,
     ap (λ (l : Listed _). l.entries) adds.5,
-    λ most. ap (first_of most) (left_is schedules zones id table zone adds.1 adds.0 _ adds.2 adds.3) ∙ after_is changes now (schedules table) adds.0 most,
+    λ most. ap (first_of most) (left_is has zones id table zone adds.1 adds.0 _ adds.2 adds.3) ∙ after_is changes now (has table) adds.0 most,
   );
   past = λ zones table zone added room id last new adds. (
     adds.0,
     adds.1,
     adds.2,
     ap (λ (l : Listed _). l.entries) adds.5,
-    λ most. ap (first_of most) (left_is schedules zones id table zone adds.1 adds.0 _ adds.2 adds.3) ∙ past_is last (schedules table) adds.0 most,
+    λ most. ap (first_of most) (left_is has zones id table zone adds.1 adds.0 _ adds.2 adds.3) ∙ past_is last (has table) adds.0 most,
   );
 }
 
@@ -86,7 +86,7 @@ module _ {T C J E F : Type 0} (ts : Tables T) (cs : ClockCalls C E) (js : JobCal
       → (rest : List EntryFire) × (take most b.fires ≡ q.fire ∷ rest)
   cut_at_first most looks c a j b q some first =
       let parts = alone_first ts e a.entries b.fires q b.alone first in
-      first_cut b.fires (rest_in (ts.schedules q.table) (slice_get ts.zones q.zone) q.fire) q.fire most some parts.2.3
+      first_cut b.fires (rest_in (ts.has q.table) (slice_get ts.zones q.zone) q.fire) q.fire most some parts.2.3
 
   look_on : (most looks left : ℕ) (ds : List Deed) (c : C) (a : Listed T) (j : J) (d : C) (a' : Listed T) (k : J) (q : Entry T) (until : Timestamp)
       (look : Result Timestamp E)
@@ -184,7 +184,7 @@ module _ {T C J E F : Type 0} (ts : Tables T) (cs : ClockCalls C E) (js : JobCal
 
 pub loop_is_a_plans_run : {T C J E F : Type 0} (ts : Tables T) (cs : ClockCalls C E) (js : JobCalls T J F) → LoopIsAPlansRun ts cs js
 loop_is_a_plans_run ts cs js most e z c a j answer c' a' j' leaves one each lent up fits runs =
-    let fires = left ts.schedules ts.zones e in
+    let fires = left ts.has ts.zones e in
     let all = take most fires in
     let first : Between ts cs js e z all c j leaves each lent most 0 c a j = record {
       fires = fires;

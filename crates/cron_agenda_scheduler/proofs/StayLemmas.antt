@@ -5,7 +5,7 @@ use Rattle.std.proofs.lemmas.Bool.{eqb-true}
 use Rattle.std.proofs.lemmas.List.Elements.{filter-append}
 use Rattle.jiff_core.specs.declared.Timestamp.{Timestamp}
 use Rattle.jiff_tz.specs.declared.timezone.TimeZone.{TimeZone}
-use Rattle.cron_units.specs.Sets.{Sets}
+use Rattle.cron_time.specs.Seconds.{Seconds}
 use Rattle.cron_agenda.specs.declared.entry.Entry.{Entry}
 use Rattle.cron_agenda.specs.declared.error.AddError.{AddError}
 use Rattle.cron_agenda.specs.declared.fire.EntryFire.{EntryFire}
@@ -20,10 +20,10 @@ use Rattle.cron_agenda_scheduler.proofs.TurnLemmas.{turn_is_done, turned}
 
 -- ---- beside others
 
-beside_added : {T : Type 0} (schedules : T → List Sets) (id : ℕ) (zones : List TimeZone) (table : T) (zone : ℕ) (fires : TimeZone → List EntryFire) (old : Listed T)
-    (answer : Result ℕ AddError) (new : Listed T) → id < old.added → Adds schedules zones table zone fires old answer new
+beside_added : {T : Type 0} (has : T → Seconds) (id : ℕ) (zones : List TimeZone) (table : T) (zone : ℕ) (fires : TimeZone → List EntryFire) (old : Listed T)
+    (answer : Result ℕ AddError) (new : Listed T) → id < old.added → Adds has zones table zone fires old answer new
     → (with_id id new.entries ≡ with_id id old.entries) × (id < new.added)
-beside_added schedules id zones table zone fires old (Ok given) new less adds =
+beside_added has id zones table zone fires old (Ok given) new less adds =
     let next = adds.4 in
     let one = entry given table zone adds.1 in (
       ap (λ (x : Listed _). with_id id x.entries) adds.5
@@ -32,7 +32,7 @@ beside_added schedules id zones table zone fires old (Ok given) new less adds =
           ∙ append-nil (with_id id old.entries),
       let more = ap (λ (x : Listed _). x.added) adds.5 in omega arith,
     )
-beside_added schedules id zones table zone fires old (Err why) new less adds =
+beside_added has id zones table zone fires old (Err why) new less adds =
     (ap (λ (x : Listed _). with_id id x.entries) adds.1, subst (λ (x : Listed _). id < x.added) (sym adds.1) less)
 
 beside_removed : {T : Type 0} (id other : ℕ) (es : List (Entry T)) → (other ≡ id → ⊥) → with_id id (without other es) ≡ with_id id es
@@ -59,9 +59,9 @@ none_removed id (e ∷ es) = by_test (eqb e.id id) refl (none_removed id es)
         ∙ ap (λ t. cond t (e ∷ with_id id (without id es)) (with_id id (without id es))) is
         ∙ rest
 
-pub stays_beside_others : {T : Type 0} (schedules : T → List Sets) (id : ℕ) → StaysBesideOthers schedules id
-stays_beside_others schedules id =
-    record { added = beside_added schedules id; removed = beside_removed id; gone = none_removed id }
+pub stays_beside_others : {T : Type 0} (has : T → Seconds) (id : ℕ) → StaysBesideOthers has id
+stays_beside_others has id =
+    record { added = beside_added has id; removed = beside_removed id; gone = none_removed id }
 
 -- ---- throughout
 

@@ -2,9 +2,9 @@
 use Rattle.std.specs.Prelude.{◌≡◌, ◌<◌, ◌-◌, ◌^◌, ℕ, Option, Some, List, [], ◌∷◌, Result, Ok, Err, ⊤, map, slice_get, take}
 use Rattle.jiff_core.specs.declared.Timestamp.{Timestamp}
 use Rattle.jiff_tz.specs.declared.timezone.TimeZone.{TimeZone}
-use Rattle.cron_units.specs.Sets.{Sets}
-use Rattle.cron_unions.specs.Unions.{fires_any_after, fires_any_past}
-use Rattle.cron_unions.specs.UnionDues.{dues_any_after, dues_any_past}
+use Rattle.cron_time.specs.Seconds.{Seconds}
+use Rattle.cron_instants.specs.Fires as shown
+use Rattle.cron_dues.specs.Dues.{dues_after, dues_past}
 use Rattle.cron_fires.specs.declared.changes.ClockChanges.{ClockChanges}
 use Rattle.cron_fires.specs.declared.changes.ClockChanges.TheVariants as rule
 use Rattle.cron_agenda.specs.declared.entry.Entry.{Entry}
@@ -27,37 +27,41 @@ use Rattle.cron_agenda_scheduler.specs.Laws.{LeavesAgenda}
 use Rattle.cron_agenda_scheduler.specs.Turns.{JobCalls, RunsLoop}
 
 -- the fires of a plan that begins after an instant, by a rule, as an entry has them
-abbrev pub plan_after : ClockChanges → Timestamp → List Sets → TimeZone → Option ℕ → List EntryFire
-plan_after rule.AsShown now ss z most = map AsShown (planned fires_any_after fires_any_past ss z (After now) most)
-plan_after rule.Once now ss z most = map Once (planned dues_any_after dues_any_past ss z (After now) most)
+abbrev pub plan_after : ClockChanges → Timestamp → Seconds → TimeZone → Option ℕ → List EntryFire
+plan_after rule.AsShown now ss z most = map AsShown (planned shown.fires_after shown.fires_past ss z (After now) most)
+plan_after rule.Once now ss z most = map Once (planned dues_after dues_past ss z (After now) most)
 
--- those of a plan that begins past a fire, by the rule that the fire has
-abbrev pub plan_past : EntryFire → List Sets → TimeZone → Option ℕ → List EntryFire
-plan_past (AsShown last) ss z most = map AsShown (planned fires_any_after fires_any_past ss z (Past last) most)
-plan_past (Once last) ss z most = map Once (planned dues_any_after dues_any_past ss z (Past last) most)
+-- the fires of a plan that begins past a fire, by the rule that this fire has
+abbrev pub plan_past : EntryFire → Seconds → TimeZone → Option ℕ → List EntryFire
+plan_past (AsShown last) ss z most = map AsShown (planned shown.fires_after shown.fires_past ss z (Past last) most)
+plan_past (Once last) ss z most = map Once (planned dues_after dues_past ss z (Past last) most)
 
--- the agenda has one entry, and what that has left in its zone are these fires of its schedules: all of them, or the first so many
-abbrev pub HasAlone : {T : Type 0} → (T → List Sets) → List TimeZone → T → ℕ → ℕ → (List Sets → TimeZone → Option ℕ → List EntryFire) → Listed T → Type 0
-HasAlone schedules zones table zone id fires new =
+-- the agenda has one entry, and what that has left in its zone are these fires of its table: all of
+-- them, or the first `most`
+abbrev pub HasAlone : {T : Type 0} → (T → Seconds) → List TimeZone → T → ℕ → ℕ → (Seconds → TimeZone → Option ℕ → List EntryFire) → Listed T → Type 0
+HasAlone has zones table zone id fires new =
     (z : TimeZone) × (fire : EntryFire) × (slice_get zones zone ≡ Some z) × (new.entries ≡ entry id table zone fire ∷ [])
-    × ((most : Option ℕ) → first_of most (left schedules zones (entry id table zone fire)) ≡ fires (schedules table) z most)
+    × ((most : Option ℕ) → first_of most (left has zones (entry id table zone fire)) ≡ fires (has table) z most)
 
--- An entry that is added alone has the fires of a plan of the same schedules, zone and start, without a number or with one.
-pub record OneEntryHasAPlansFires {T : Type 0} (schedules : T → List Sets) : Type 0 where
+-- An entry that is added alone has the fires of a plan of the same table, zone and start, with or
+-- without a greatest number of fires.
+pub record OneEntryHasAPlansFires {T : Type 0} (has : T → Seconds) : Type 0 where
   pub after :
       (zones : List TimeZone) (table : T) (zone added room id : ℕ) (changes : ClockChanges) (now : Timestamp) (new : Listed T)
-      → Adds schedules zones table zone (λ z. fires_after (schedules table) z changes now.nanosecond) (listed [] added room) (Ok id) new
-      → HasAlone schedules zones table zone id (plan_after changes now) new
+      → Adds has zones table zone (λ z. fires_after (has table) z changes now.nanosecond) (listed [] added room) (Ok id) new
+      → HasAlone has zones table zone id (plan_after changes now) new
   pub past :
       (zones : List TimeZone) (table : T) (zone added room id : ℕ) (last : EntryFire) (new : Listed T)
-      → Adds schedules zones table zone (λ z. fires_past (schedules table) z last) (listed [] added room) (Ok id) new
-      → HasAlone schedules zones table zone id (plan_past last) new
+      → Adds has zones table zone (λ z. fires_past (has table) z last) (listed [] added room) (Ok id) new
+      → HasAlone has zones table zone id (plan_past last) new
 
--- No entry has more than 2^64 - 1 fires left, so a loop that is given so many runs is a plan without a number.
-abbrev pub NoneIsCut : {T : Type 0} → (T → List Sets) → Type 0
-NoneIsCut {T} schedules = (zones : List TimeZone) (e : Entry T) → take (2 ^ 64 - 1) (left schedules zones e) ≡ left schedules zones e
+-- No entry has more than 2^64 - 1 fires left, so a loop with that many runs is a plan without a
+-- greatest number of fires.
+abbrev pub NoneIsCut : {T : Type 0} → (T → Seconds) → Type 0
+NoneIsCut {T} has = (zones : List TimeZone) (e : Entry T) → take (2 ^ 64 - 1) (left has zones e) ≡ left has zones e
 
--- a run of the job for a fire of the entry with this id, the agenda left out of sight, which stays as it is
+-- a run of the job for a fire of the entry with this id; the agenda isn't shown, and stays
+-- unchanged
 abbrev pub runs_of : {T J F : Type 0} → JobCalls T J F → ℕ → J → EntryFire → Result ⊤ F → J → Type 0
 runs_of {T} js id j fire answer j' = (f : AgendaFire) × (a : Listed T) × (own_of f ≡ own id fire) × js.runs j f a answer j' a
 
@@ -76,8 +80,8 @@ LoopIsAPlansRun {T} {C} {J} {E} {F} ts cs js =
     → a.entries ≡ e ∷ []
     → ts.lateness e.table ≡ Each
     → slice_get ts.zones e.zone ≡ Some z
-    → Ascend (left ts.schedules ts.zones e)
+    → Ascend (left ts.has ts.zones e)
     → most < 2 ^ 64
     → RunsLoop ts cs js most c a j answer c' a' j'
     → (told : Result ⊤ (Stop E F)) × (answer ≡ as_loop told)
-    × IsRun cs (runs_of js e.id) instant (take most (left ts.schedules ts.zones e)) (c, j) told (c', j')
+    × IsRun cs (runs_of js e.id) instant (take most (left ts.has ts.zones e)) (c, j) told (c', j')

@@ -4,35 +4,36 @@ ghost use Rattle.std.specs.Prelude.{◌≡◌};
 ghost use Rattle.cron_agenda_scheduler.specs.declared.lateness.Lateness.{Lateness};
 ghost use Rattle.cron_agenda_scheduler.specs.declared.lateness.Lateness.TheVariants.{Each};
 
-use cron_fires::{Timetable, Union};
+use cron_fires::{CivilSeconds, Union};
 use cron_units::fields::ScheduleFields;
+use cron_units::way::Way;
 
-/// Which due fires of an entry are run when the clock is looked at. The others are passed over.
+/// Which due fires of an entry are run when the clock is read. The others are passed over.
 #[derive(Clone, Copy, Debug, PartialEq, Eq)]
 pub enum Lateness {
-    /// Each one.
+    /// Each due fire, however late.
     Each,
-    /// Those whose instant lies so many seconds before the look at the most.
+    /// The due fires at most this number of seconds old when the clock is read.
     Within(u64),
-    /// The last one alone.
+    /// Only the last due fire.
     Latest,
 }
 
-/// What tells how late its fires may be run.
+/// A set of civil seconds with a lateness: how late its fires may be run.
 pub trait HasLateness {
     ghost lateness: { Self → Lateness };
 
-    /// How late they may be run.
+    /// How late the fires may be run.
     fn lateness(&self) -> Lateness
         ensures { result ≡ lateness self.now };
 }
 
-/// What fires, with how late it may be run.
+/// What fires, with how late its fires may be run.
 #[derive(Clone, Copy)]
 pub struct Timely<T> {
     /// What fires.
     pub table: T,
-    /// How late it may be run.
+    /// How late its fires may be run.
     pub lateness: Lateness,
 }
 
@@ -62,10 +63,30 @@ impl<'a> HasLateness for Union<'a> {
     }
 }
 
-impl<T: Timetable> Timetable for Timely<T> {
-    ghost schedules = { λ t. T.schedules t.table };
+impl<T: CivilSeconds> CivilSeconds for Timely<T> {
+    ghost has = { λ t. T.has t.table };
 
-    fn schedules(&self) -> &[ScheduleFields] {
-        self.table.schedules()
+    type Cursor = T::Cursor;
+
+    ghost knows = { λ t cursor. T.knows t.table cursor };
+
+    #[inline(always)]
+    fn nearest(&self, way: Way, from: i64) -> Option<u32> {
+        self.table.nearest(way, from)
+    }
+
+    #[inline(always)]
+    fn begin() -> T::Cursor {
+        T::begin()
+    }
+
+    #[inline(always)]
+    fn past(&self, way: Way, second: u32, cursor: &mut T::Cursor) -> Option<u32> {
+        self.table.past(way, second, cursor)
+    }
+
+    #[inline(always)]
+    fn is_clear(&self, first: u32, end: u32) -> bool {
+        self.table.is_clear(first, end)
     }
 }

@@ -1,6 +1,6 @@
-//! The loop over an agenda, a step at a time or to its end: wait for what fires next, look at the
-//! clock, and run what is due, as late as each entry allows. A job may add entries and remove them,
-//! and so may the caller between two steps.
+//! The loop over an agenda, one step at a time or to its end: wait for the next fire, read the
+//! clock, and run what is due, as late as each entry allows. A job may add and remove entries, and
+//! so may the caller between two steps.
 #![tactic(auto)]
 
 mod job;

@@ -1,4 +1,4 @@
-//! The next fire that is due, and whether it is run.
+//! The next fire that is due, with the decision whether it is run.
 
 ghost use Rattle.std.specs.Prelude.{◌≡◌, map};
 ghost use Rattle.jiff.specs.Words.{plain_zone};
@@ -7,7 +7,7 @@ ghost use Rattle.cron_agenda_scheduler.specs.Inner.Picks.{Picks};
 
 use crate::lateness::{HasLateness, Lateness};
 use cron_agenda::{Agenda, AgendaFire, EntryFire, ZoneMissing};
-use cron_fires::Timetable;
+use cron_fires::CivilSeconds;
 use jiff::Timestamp;
 use jiff::tz::TimeZone;
 
@@ -18,7 +18,7 @@ pub(crate) struct Pick {
     pub(crate) is_run: bool,
 }
 
-// Whether an instant lies so many seconds after a fire at the most.
+// Returns true if `now` is at most `seconds` after the instant of `fire`.
 fn is_within(seconds: u64, now: Timestamp, fire: &EntryFire) -> bool
     ensures { result ≡ late.is_within seconds now.nanosecond fire.now }
 {
@@ -26,11 +26,11 @@ fn is_within(seconds: u64, now: Timestamp, fire: &EntryFire) -> bool
     age <= i128::from(seconds) * 1_000_000_000
 }
 
-// Whether the entry with this id is due again.
-fn has_due<T: Timetable + Copy>(agenda: &Agenda<T>, now: Timestamp, id: u64) -> bool
+// Returns true if the entry `id` has another fire due at `now`.
+fn has_due<T: CivilSeconds + Copy>(agenda: &Agenda<T>, now: Timestamp, id: u64) -> bool
     ensures { result ≡ late.has_due now.nanosecond id agenda.now.entries }
 {
-    // its contract says that the ids ascend
+    // the contract of `len` says that the ids ascend
     let _count = agenda.len();
     match agenda.get(id) {
         Some(entry) => entry.fire.timestamp().as_nanosecond() <= now.as_nanosecond(),
@@ -38,8 +38,9 @@ fn has_due<T: Timetable + Copy>(agenda: &Agenda<T>, now: Timestamp, id: u64) -> 
     }
 }
 
-// Whether a fire that was taken from an agenda is run.
-fn is_run<T: Timetable + Copy>(
+// Returns true if `due`, which was taken from `agenda`, is to be run by the `lateness` of its
+// entry.
+fn is_run<T: CivilSeconds + Copy>(
     lateness: Lateness,
     now: Timestamp,
     due: &AgendaFire,
@@ -54,13 +55,14 @@ fn is_run<T: Timetable + Copy>(
     }
 }
 
-/// Takes the first fire that is due by now, and tells whether it is run.
-pub(crate) fn take_due<T: Timetable + HasLateness + Copy>(
+/// Takes the first fire that is due at `now`, and decides whether it is run. `None` if no fire is
+/// due. An error if its zone isn't lent, and then nothing is taken.
+pub(crate) fn take_due<T: CivilSeconds + HasLateness + Copy>(
     agenda: &mut Agenda<T>,
     zones: &[TimeZone<'_>],
     now: Timestamp,
 ) -> Result<Option<Pick>, ZoneMissing>
-    ensures { Picks (late.tables T.schedules T.lateness (map plain_zone zones.now)) now.nanosecond
+    ensures { Picks (late.tables T.has T.lateness (map plain_zone zones.now)) now.nanosecond
         agenda.old result agenda.new }
 {
     let Some(first) = agenda.first() else {

@@ -11,25 +11,25 @@ use crate::lateness::HasLateness;
 use crate::stop::AgendaStop;
 use crate::turns::turn;
 use cron_agenda::Agenda;
-use cron_fires::Timetable;
+use cron_fires::CivilSeconds;
 use cron_scheduler::AlarmClock;
 use jiff::tz::TimeZone;
 
-/// Waits until the instant of what fires next, looks at the clock, and takes all that is due then,
-/// one fire after another, each the first that is due, by that look, of the agenda as it then is:
-/// an entry that the job removed fires no more, and one that it added may. As each entry's lateness
-/// says, the job is run for the fire, or it is passed over. It answers whether there was an entry;
-/// without one nothing is done.
+/// Waits until the instant of the next fire, reads the clock once, and takes all fires due then,
+/// one after another. Each is the first due fire of the agenda at that point: an entry that the job
+/// removed fires no more, and one that it added may. The job is run for the fire, or the fire is
+/// passed over, by its entry's lateness. Returns false if there was no entry, and then does
+/// nothing.
 ///
-/// An error ends the step. Where the job failed, its fire was taken. A step takes up to 2^64 - 1
-/// fires.
-pub fn step<T: Timetable + HasLateness + Copy, C: AlarmClock, J: AgendaJob<T>>(
+/// An error ends the step. If the job failed, its fire was taken. If the clock wakes early, as
+/// `MachineClock` does after a minute, it may take no fire. A step takes up to 2^64 - 1 fires.
+pub fn step<T: CivilSeconds + HasLateness + Copy, C: AlarmClock, J: AgendaJob<T>>(
     agenda: &mut Agenda<T>,
     zones: &[TimeZone<'_>],
     clock: &mut C,
     job: &mut J,
 ) -> Result<bool, AgendaStop<C::Error, J::Error>>
-    ensures { Steps (tables T.schedules T.lateness (map plain_zone zones.now))
+    ensures { Steps (tables T.has T.lateness (map plain_zone zones.now))
         (clock_calls C.shows C.waits) (job_calls J.runs J.passes)
         clock.old agenda.old job.old result clock.new agenda.new job.new }
 {
@@ -39,18 +39,18 @@ pub fn step<T: Timetable + HasLateness + Copy, C: AlarmClock, J: AgendaJob<T>>(
     }
 }
 
-/// Step after step, until there is no entry left, or the job was run so often: what is passed over
-/// isn't counted. An error ends it: who goes on calls it again, and a job that notes its failures
-/// and answers `Ok` goes on of itself. It takes up to 2^64 - 1 turns; with `u64::MAX` it runs on
-/// for as long as that.
-pub fn run<T: Timetable + HasLateness + Copy, C: AlarmClock, J: AgendaJob<T>>(
+/// Takes steps until no entry is left or the job was run `most` times. Fires that are passed over
+/// aren't counted. An error ends it, and the caller may call it again. A job that notes its
+/// failures and returns `Ok` doesn't end it. It takes up to 2^64 - 1 turns; with `u64::MAX` as
+/// `most` it runs on for as long as that.
+pub fn run<T: CivilSeconds + HasLateness + Copy, C: AlarmClock, J: AgendaJob<T>>(
     agenda: &mut Agenda<T>,
     zones: &[TimeZone<'_>],
     clock: &mut C,
     job: &mut J,
     most: u64,
 ) -> Result<(), AgendaStop<C::Error, J::Error>>
-    ensures { RunsLoop (tables T.schedules T.lateness (map plain_zone zones.now))
+    ensures { RunsLoop (tables T.has T.lateness (map plain_zone zones.now))
         (clock_calls C.shows C.waits) (job_calls J.runs J.passes) most
         clock.old agenda.old job.old result clock.new agenda.new job.new }
 {

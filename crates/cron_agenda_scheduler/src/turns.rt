@@ -1,4 +1,4 @@
-//! One turn of the loop: a wait, a look at the clock, and what is due then.
+//! One turn of the loop: wait, read the clock, and run what is due then.
 
 ghost use Rattle.std.specs.Prelude.{List, map};
 ghost use Rattle.jiff.specs.Words.{plain_zone};
@@ -11,14 +11,14 @@ use crate::lateness::HasLateness;
 use crate::picks::take_due;
 use crate::stop::AgendaStop;
 use cron_agenda::Agenda;
-use cron_fires::Timetable;
+use cron_fires::CivilSeconds;
 use cron_scheduler::{AlarmClock, wake_at};
 use jiff::Timestamp;
 use jiff::tz::TimeZone;
 
-// Takes what is due by now, one fire after another, each the first of the agenda as it then is, and
-// runs the job for it or passes it over. It answers how many of so many runs are left.
-fn run_due<T: Timetable + HasLateness + Copy, C: AlarmClock, J: AgendaJob<T>>(
+// Takes the fires due at `now`, one after another, each the first of the agenda at that point, and
+// runs the job for it or passes it over. It returns how many of `most` runs are left.
+fn run_due<T: CivilSeconds + HasLateness + Copy, C: AlarmClock, J: AgendaJob<T>>(
     agenda: &mut Agenda<T>,
     zones: &[TimeZone<'_>],
     now: Timestamp,
@@ -26,7 +26,7 @@ fn run_due<T: Timetable + HasLateness + Copy, C: AlarmClock, J: AgendaJob<T>>(
     most: u64,
 ) -> Result<u64, AgendaStop<C::Error, J::Error>>
     ensures { (deeds : List Deed)
-        × RunsDue (tables T.schedules T.lateness (map plain_zone zones.now))
+        × RunsDue (tables T.has T.lateness (map plain_zone zones.now))
         (job_calls J.runs J.passes)
         now.nanosecond most deeds agenda.old job.old result agenda.new job.new }
 {
@@ -54,9 +54,9 @@ fn run_due<T: Timetable + HasLateness + Copy, C: AlarmClock, J: AgendaJob<T>>(
     Ok(left)
 }
 
-/// Waits for what fires next, looks at the clock, and runs what is due then. It answers how many of
-/// so many runs are left, and nothing where there is no entry.
-pub(crate) fn turn<T: Timetable + HasLateness + Copy, C: AlarmClock, J: AgendaJob<T>>(
+/// Waits for the next fire, reads the clock, and runs what is due then. It returns how many of
+/// `most` runs are left, or `None` if there is no entry.
+pub(crate) fn turn<T: CivilSeconds + HasLateness + Copy, C: AlarmClock, J: AgendaJob<T>>(
     agenda: &mut Agenda<T>,
     zones: &[TimeZone<'_>],
     clock: &mut C,
@@ -64,7 +64,7 @@ pub(crate) fn turn<T: Timetable + HasLateness + Copy, C: AlarmClock, J: AgendaJo
     most: u64,
 ) -> Result<Option<u64>, AgendaStop<C::Error, J::Error>>
     ensures { (deeds : List Deed)
-        × Turns (tables T.schedules T.lateness (map plain_zone zones.now))
+        × Turns (tables T.has T.lateness (map plain_zone zones.now))
         (clock_calls C.shows C.waits)
         (job_calls J.runs J.passes) most deeds
         clock.old agenda.old job.old result clock.new agenda.new job.new }

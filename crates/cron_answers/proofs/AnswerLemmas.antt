@@ -10,8 +10,17 @@ use Rattle.cron_answers.specs.Answers.{Given, IsNotAsked, IsOpened, IsTrouble}
 use Rattle.cron_answers.specs.Expressions.{IsReadAs}
 use Rattle.cron_answers.specs.declared.answer.Request.{Request}
 use Rattle.cron_answers.specs.declared.expression.Expression.{Expression}
+use Rattle.cron_answers.specs.Subjects.{IsNoSubject}
 use Rattle.cron_answers.specs.declared.trouble.Trouble.{Trouble}
 use Rattle.cron_answers.specs.declared.trouble.Trouble.TheVariants.{Expression as Unread, Zone, Instant, Order}
+
+-- the expression is none, or the zone can't be had
+pub no_subject : {F : Type 0} (g : Given F) (r : Request) (old new : F) (t : Trouble)
+    → IsNoSubject g.reads g.places r.quartz r.expression.now r.zone.now old t new → IsTrouble g r old new t
+no_subject g r old new (Unread text refusal) h = h
+no_subject g r old new (Zone text error) h = h
+no_subject g r old new (Instant word) h = absurd h
+no_subject g r old new (Order first last) h = absurd h
 
 -- the expression was read and the zone opened, and then it was found
 pub not_asked : {F : Type 0} (g : Given F) (r : Request) (old new : F) (t : Trouble) (e : Expression) (z : TimeZone)

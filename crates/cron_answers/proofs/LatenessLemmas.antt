@@ -10,10 +10,11 @@ use Rattle.cron_instants.specs.Order.{comes_before}
 use Rattle.cron_instants.proofs.OrderLemmas.{before-false, before-true}
 use Rattle.cron_dues.proofs.DueLemmas.{due_ascends, fire_due}
 use Rattle.cron_dues.proofs.MemberLemmas as member
-use Rattle.cron_unions.specs.UnionDues.{IsDueOfAny, IsFirstDueAfterAny}
-use Rattle.cron_unions.specs.Unions.{seconds_of_any}
+use Rattle.cron_dues.specs.FirstDues.{IsDue, IsFirstDueAfter}
+use Rattle.cron_unions.specs.Unions.{any_of}
+use Rattle.cron_time.specs.Seconds.{matching_seconds}
 use Rattle.cron_unions.specs.Nearest.{is_match_any}
-use Rattle.cron_unions.proofs.UnionLemmas.{any-matches}
+use Rattle.cron_dues.proofs.MemberLemmas.{sets-match}
 use Rattle.cron_answers.specs.Lateness.{IsFirstAfter, IsFirstMissed, missed_at, missed_of, nanos}
 
 lt_of : (a b : ℤ) → int_lt a b ≡ true → a <ℤ b
@@ -23,10 +24,10 @@ of_lt : (a b : ℤ) → a <ℤ b → int_lt a b ≡ true
 of_lt a b h = grind (arith, ints)
 
 -- of the due fires of several schedules none with a lesser nominal second has a later instant
-no_later : (ss : List Sets) (z : TimeZone) (d e : Due) → IsDueOfAny ss z d → IsDueOfAny ss z e → d.second ≤ e.second → instant d ≤ℤ instant e
+no_later : (ss : List Sets) (z : TimeZone) (d e : Due) → IsDue (any_of ss) z d → IsDue (any_of ss) z e → d.second ≤ e.second → instant d ≤ℤ instant e
 no_later ss z d e here there le =
-    let one = member.own-of (seconds_of_any ss) (is_match_any ss) (clock_of z) (any-matches ss) d here in
-    let other = member.own-of (seconds_of_any ss) (is_match_any ss) (clock_of z) (any-matches ss) e there in
+    let one = member.own-of (matching_seconds (any_of ss)) (is_match_any ss) (clock_of z) (sets-match (any_of ss)) d here in
+    let other = member.own-of (matching_seconds (any_of ss)) (is_match_any ss) (clock_of z) (sets-match (any_of ss)) e there in
     let first : instant d ≡ due_instant z d.second = ap instant one.own ∙ fire_due (clock_of z) d.second in
     let second : instant e ≡ due_instant z e.second = ap instant other.own ∙ fire_due (clock_of z) e.second in
     let ascends = due_ascends (clock_of z) d.second e.second (omega (arith, signed_arith)) in rw (first, second) ascends
@@ -51,11 +52,11 @@ no_later_by i j c d h =
       | inr both ↦ let same = both.0 in omega (arith, signed_arith)
     ]
 
-pub first_due_after : (ss : List Sets) (z : TimeZone) (t : ℤ) (answer : Option Due) → IsFirstDueAfterAny ss z t answer
-    → IsFirstAfter (IsDueOfAny ss z) instant (λ d. d.second) t answer
+pub first_due_after : (ss : List Sets) (z : TimeZone) (t : ℤ) (answer : Option Due) → IsFirstDueAfter (any_of ss) z t answer
+    → IsFirstAfter (IsDue (any_of ss) z) instant (λ d. d.second) t answer
 first_due_after ss z t None h = λ d is after. h d (is, of_lt t (nanos (instant d)) after)
 first_due_after ss z t (Some d) h =
-    let first : (e : Due) → IsDueOfAny ss z e → t <ℤ nanos (instant e) → d.second ≤ e.second = λ e is after. h.1 e (is, of_lt t (nanos (instant e)) after) in (
+    let first : (e : Due) → IsDue (any_of ss) z e → t <ℤ nanos (instant e) → d.second ≤ e.second = λ e is after. h.1 e (is, of_lt t (nanos (instant e)) after) in (
       h.0.0,
       lt_of t (nanos (instant d)) h.0.1,
       λ e is after. not_preceded (instant e) (instant d) e.second d.second (no_later ss z d e h.0.0 is (first e is after)) (first e is after),

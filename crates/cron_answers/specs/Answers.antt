@@ -1,4 +1,4 @@
--- What the words of `next` and `between` are answered.
+-- What the subcommands `next` and `between` answer to their words, which are the arguments.
 use Rattle.std.specs.Prelude.{◌≡◌, ◌⊎◌, ℕ, ℤ, Bool, List, Option, Some, None, Result, Ok, Err, ◌≤ℤ◌, ◌<ℤ◌}
 use Rattle.std.specs.declared.alloc.Global.{Global}
 use Rattle.std.specs.declared.io.Error.{Error}
@@ -25,7 +25,8 @@ use Rattle.cron_replies.specs.declared.status.Status.TheVariants.{Done}
 use Rattle.cron_answers.specs.declared.trouble.Trouble.{Trouble}
 use Rattle.cron_answers.specs.declared.trouble.Trouble.TheVariants as trouble
 
--- the fires that are asked for, with the instants that the words tell in a zone
+-- The fires asked for are those of the words, with the instants that the words name in the zone z
+-- at the time `now`.
 abbrev pub IsAsked : Which → TimeZone → ℤ → Asked → Type 0
 IsAsked (which.Next count start) z now (Next t n) = IsInstant start.now z now (Some t.nanosecond) × (n ≡ count)
 IsAsked (which.Back count end) z now (Back t n) = IsInstant end.now z now (Some t.nanosecond) × (n ≡ count)
@@ -33,7 +34,7 @@ IsAsked (which.Between start end) z now (Between t u) = IsInstant start.now z no
     × (t.nanosecond ≤ℤ u.nanosecond)
 IsAsked _ z now _ = ⊥
 
--- this word is no instant, and those before it are
+-- `word` is the first of the words that is no instant.
 abbrev pub IsNoInstant : Which → TimeZone → ℤ → List ℕ → Type 0
 IsNoInstant (which.Next count start) z now word = (word ≡ start.now) × IsInstant start.now z now None
 IsNoInstant (which.Back count end) z now word = (word ≡ end.now) × IsInstant end.now z now None
@@ -41,20 +42,21 @@ IsNoInstant (which.Between start end) z now word =
     ((word ≡ start.now) × IsInstant start.now z now None)
     ⊎ ((t : ℤ) × IsInstant start.now z now (Some t) × (word ≡ end.now) × IsInstant end.now z now None)
 
--- the first of these two instants comes after the second
+-- START and END are instants, and START comes after END.
 abbrev pub IsBackward : Which → TimeZone → ℤ → List ℕ → List ℕ → Type 0
 IsBackward (which.Between start end) z now first last =
     (first ≡ start.now) × (last ≡ end.now)
     × ((t : ℤ) × (u : ℤ) × IsInstant start.now z now (Some t) × IsInstant end.now z now (Some u) × (u <ℤ t))
 IsBackward _ z now first last = ⊥
 
--- why no fires can be asked for
+-- why no fires can be asked for: a word is no instant, or START comes after END
 abbrev pub IsNotAsked : Which → TimeZone → ℤ → Trouble → Type 0
 IsNotAsked which z now (trouble.Instant word) = IsNoInstant which z now word.now
 IsNotAsked which z now (trouble.Order first last) = IsBackward which z now first.now last.now
 IsNotAsked which z now _ = ⊥
 
--- where zones are looked for, the present, and what one read of the files does
+-- what a subcommand is given: what one read of the files may do, where zones are looked for, and
+-- the present in nanoseconds since 1970
 pub record Given (F : Type 0) : Type 1 where
   pub reads : F → List ℕ → Result (Vec ℕ Global) Error → F → Type 0
   pub places : Places
@@ -63,13 +65,14 @@ pub record Given (F : Type 0) : Type 1 where
 abbrev pub given : {F : Type 0} → (F → List ℕ → Result (Vec ℕ Global) Error → F → Type 0) → Places → ℤ → Given F
 given reads places now = record { reads = reads; places = places; now = now }
 
--- the zone that a request names was opened
+-- The zone that a request names was opened, and it is z.
 pub record IsOpened {F : Type 0} (g : Given F) (r : Request) (old : F) (z : TimeZone) (new : F) : Type 0 where
   pub zone : Zone
   pub opened : Opens g.reads r.zone.now g.places old (Ok zone) new
   pub is_time_zone : IsTimeZone zone z
 
--- What is asked for was listed, by the expression, the zone and the instants that the words tell; and whether Quartz fires otherwise.
+-- The fires that the words ask for were listed, and `is_other` is whether Quartz would fire
+-- otherwise. The writer held `was` before and `is` after.
 pub record Lists {F : Type 0} (g : Given F) (r : Request) (old new : F) (is_other : Bool) (was is : Option (List ℕ)) (status : Status) : Type 0 where
   pub expression : Expression
   pub reads : IsReadAs r.quartz r.expression.now expression
@@ -80,15 +83,16 @@ pub record Lists {F : Type 0} (g : Given F) (r : Request) (old new : F) (is_othe
   pub listed : Ends Done (rows_by (changes_by r.changes expression) r.form asked (schedules_of expression) zone) was is status
   pub noted : is_noted r expression asked zone ≡ is_other
 
--- Why it can't be: the first of the expression, the zone, the instants and their order that isn't so.
+-- Why no fires can be listed: the first that is wrong of the expression, the zone, the instants and
+-- their order.
 abbrev pub IsTrouble : {F : Type 0} → Given F → Request → F → F → Trouble → Type 0
 IsTrouble g r old new (trouble.Expression text refusal) = (text.now ≡ r.expression.now) × IsRefusedAs r.quartz r.expression.now refusal × (new ≡ old)
 IsTrouble g r old new (trouble.Zone text error) =
     (text.now ≡ zone_word g.places.tz r.zone.now) × ((e : Expression) × IsReadAs r.quartz r.expression.now e) × Opens g.reads r.zone.now g.places old (Err error) new
 IsTrouble g r old new other = ((e : Expression) × IsReadAs r.quartz r.expression.now e) × ((z : TimeZone) × IsOpened g r old z new × IsNotAsked r.which z g.now other)
 
--- The fires were listed, and a notice was written where Quartz fires otherwise, and nothing else; or a complaint was written, and nothing
--- else.
+-- The fires were listed, and a notice was written if Quartz fires otherwise. Or they couldn't be,
+-- and a complaint was written, and nothing else.
 abbrev pub Answers : {F W C : Type 0} → Given F → Request → Reporting W → Reporting C → F × W × C → Status → F × W × C → Type 0
 Answers g r out complaints old status new =
     ((is_other : Bool) × (listed : Status) × out (Lists g r old.0 new.0 is_other) old.1 listed new.1

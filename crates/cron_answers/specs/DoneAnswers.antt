@@ -1,4 +1,4 @@
--- What the words of `done` are answered.
+-- What the subcommand `done` answers to its words, which are its arguments.
 use Rattle.std.specs.Prelude.{◌≡◌, ◌⊎◌, ℕ, Bool, List, Option, Some, None, MatchOption, Result, MatchResult, ⊤, if◌then◌else◌}
 use Rattle.std.specs.declared.alloc.Global.{Global}
 use Rattle.std.specs.declared.io.Error.{Error}
@@ -19,25 +19,28 @@ use Rattle.cron_answers.specs.declared.notice.Notice.TheVariants as notices
 use Rattle.cron_replies.specs.declared.status.Status.{Status}
 use Rattle.cron_replies.specs.declared.status.Status.TheVariants.{Done, WriteFailed}
 
--- one fire is before another: by instant, and where that is shared by nominal time
+-- whether a due fire is before another: by instant, and if they share it by the civil second
+-- matched
 abbrev pub is_before : Due → Due → Bool
 is_before d e = comes_before (instant d) d.second (instant e) e.second
 
--- Why a fire isn't noted: a later one is, or the file is no stamp, or can't be read.
+-- why a fire isn't noted: the stamp notes a later one, or the file is no stamp, or can't be read;
+-- `None` if it is noted
 abbrev pub objection : Due → Noted → Option Notice
 objection d (Fire e) = if is_before d e then Some notices.Older else None
 objection d Nothing = None
 objection d Broken = Some notices.Broken
 objection d Unread = Some notices.Unread
 
--- The file at the path was replaced by the stamp of the fire; where that failed it was said.
+-- The file at the path was replaced by the stamp of the fire. If that failed, a notice says so.
 abbrev pub Notes : {S C : Type 0} → (S → Change → Result ⊤ Error → S → Type 0) → Reporting C → List ℕ → Due → S × C → Status → S × C → Type 0
 Notes does complaints path d old status new =
     (answer : Result ⊤ Error) × Replaces does path (stamp_text d) old.0 answer new.0
     × MatchResult answer (λ done. (status ≡ Done) × (new.1 ≡ old.1))
     (λ e. (status ≡ WriteFailed) × ((said : Status) × complaints (IsSaid notices.Unwritten path) old.1 said new.1))
 
--- The word is no fire; or it is one, the stamp was read, and the fire was noted unless something stands against it.
+-- The word is no fire, and a notice says so. Or it is one, the stamp was read, and the fire was
+-- noted, unless an objection to it was written instead.
 abbrev pub AnswersDone : {S C : Type 0} → (S → List ℕ → Result (Vec ℕ Global) Error → S → Type 0) → (S → Change → Result ⊤ Error → S → Type 0)
     → Reporting C → Request → S × C → Status → S × C → Type 0
 AnswersDone {S} reads does complaints r old status new =

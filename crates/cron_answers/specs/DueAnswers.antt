@@ -1,4 +1,4 @@
--- What the words of `due` are answered.
+-- What the subcommand `due` answers to its words, which are its arguments.
 use Rattle.std.specs.Prelude.{◌≡◌, ◌⊎◌, ◌*ℤ◌, ℕ, ℤ, pos, int_lt, Bool, List, Result, Ok, Err, MatchResult, if◌then◌else◌}
 use Rattle.std.specs.declared.alloc.Global.{Global}
 use Rattle.std.specs.declared.io.Error.{Error}
@@ -26,8 +26,9 @@ use Rattle.cron_replies.specs.declared.status.Status.{Status}
 use Rattle.cron_replies.specs.declared.status.Status.TheVariants.{Done}
 use Rattle.cron_answers.specs.declared.trouble.Trouble.{Trouble}
 
--- What the stamp comes to: the fires past the one that is noted are pending, or the last of them alone. Where none is noted, or a later one
--- than now, the last fire is. A file that is no stamp, or can't be read, tells nothing.
+-- What is listed according to a stamp. If it notes a fire, it is the fires past that one, or the
+-- last of them. If it notes none, or one later than now, it is the last fire. If the file is no
+-- stamp, or can't be read, it is none.
 abbrev pub finding_of : ℤ → Bool → Noted → Finding
 finding_of now latest (noted.Fire d) =
     if int_lt now (instant d *ℤ pos 1_000_000_000) then findings.Anew notices.Ahead
@@ -41,7 +42,8 @@ abbrev pub or_last : Status → Result Pending Status
 or_last Done = Ok Last
 or_last status = Err status
 
--- which fires are listed then, or how the subcommand ends; and what was said of the stamp at this path
+-- A finding came to the fires that are listed, or to the status with which the subcommand ends. Its
+-- notice, if it has one, was written for the stamp at this path.
 abbrev pub ComesTo : {C : Type 0} → Reporting C → List ℕ → Finding → C → Result Pending Status → C → Type 0
 ComesTo complaints path (findings.List pending) old result new = (result ≡ Ok pending) × (new ≡ old)
 ComesTo complaints path (findings.Anew notice) old result new =
@@ -49,7 +51,7 @@ ComesTo complaints path (findings.Anew notice) old result new =
 ComesTo complaints path (findings.Refuse notice) old result new =
     (said : Status) × complaints (IsSaid notice path) old said new × (result ≡ Err said)
 
--- the stamp was read, once
+-- The stamp was read once, and the pending fires follow from it.
 abbrev pub FindsPending :
     {F C : Type 0} → (F → List ℕ → Result (Vec ℕ Global) Error → F → Type 0) → ℤ → Request → Reporting C → F × C → Result Pending Status → F × C
     → Type 0
@@ -57,7 +59,8 @@ FindsPending reads now r complaints old result new =
     (noted : Noted) × ReadsStamp reads r.stamp.now old.0 noted new.0
     × ComesTo complaints r.stamp.now (finding_of now r.latest noted) old.1 result new.1
 
--- By the expression, the zone and the stamp the pending fires were listed, or none was.
+-- The expression was read, the zone opened, and the pending fires found by the stamp. Then these
+-- were listed, or the subcommand ended without a list.
 pub record ListsDue {F W C : Type 0} (g : Given F) (r : Request) (out : Reporting W) (complaints : Reporting C) (old : F × W × C) (status : Status)
     (new : F × W × C) : Type 0 where
   pub expression : Expression
@@ -71,7 +74,8 @@ pub record ListsDue {F W C : Type 0} (g : Given F) (r : Request) (out : Reportin
       (λ pending. out (ListsPending (changes_by r.changes expression) r.form (schedules_of expression) zone g.now pending) old.1 status new.1)
       (λ ended. (status ≡ ended) × (new.1 ≡ old.1))
 
--- So it was; or the expression is none, or the zone can't be had, and that alone was told.
+-- The pending fires were listed, or the stamp allows no list. Or the text is no expression, or the
+-- zone can't be opened, and only a complaint was written.
 abbrev pub AnswersDue : {F W C : Type 0} → Given F → Request → Reporting W → Reporting C → F × W × C → Status → F × W × C → Type 0
 AnswersDue g r out complaints old status new =
     ListsDue g r out complaints old status new

@@ -1,8 +1,8 @@
--- What the words of `explain` are answered.
+-- What the subcommand `explain` answers to its words, which are its arguments.
 use Rattle.std.specs.Prelude.{◌≡◌, ◌⊎◌, ◌++◌, ℕ, ℤ, pos, ◌+ℤ◌, List, Option}
 use Rattle.jiff_core.specs.Timestamp.{IsTimestampNanos}
 use Rattle.jiff_tz.specs.declared.timezone.TimeZone.{TimeZone}
-use Rattle.cron_listing.specs.Output.{complaint}
+use Rattle.cron_walk_listing.specs.Output.{complaint}
 use Rattle.cron_answers.specs.Answers.{Given, IsAsked, IsOpened, IsTrouble}
 use Rattle.cron_answers.specs.Expressions.{changes_by, schedules_of, IsReadAs}
 use Rattle.cron_answers.specs.Fires.{rows_by}
@@ -20,22 +20,24 @@ use Rattle.cron_replies.specs.declared.status.Status.TheVariants.{Done, Unreadab
 use Rattle.cron_answers.specs.declared.tally.Tally.{Tally}
 use Rattle.cron_answers.specs.declared.trouble.Trouble.{Trouble}
 
--- the instant from which fires are asked for, in nanoseconds
+-- the instant from which fires are asked for, or before which for `Back`, in nanoseconds since 1970
 abbrev pub start_of : Asked → ℤ
 start_of (Next start count) = start.nanosecond
 start_of (Between start end) = start.nanosecond
 start_of (Back end count) = end.nanosecond
 
--- 365 days
+-- 365 days, in nanoseconds
 abbrev pub year : ℤ
 year = pos 31_536_000_000_000_000
 
--- the instant 365 days later, or the last one that there is
+-- `end` is the instant 365 days after `start`, or the last one of a `Timestamp`, in nanoseconds
+-- since 1970.
 abbrev pub IsYearAfter : ℤ → ℤ → Type 0
 IsYearAfter start end =
     (IsTimestampNanos (start +ℤ year) → end ≡ start +ℤ year) × ((IsTimestampNanos (start +ℤ year) → ⊥) → end ≡ pos 253_402_207_200_999_999_999)
 
--- The sentence and the warnings, the fires that are asked for, and a tally of those of the 365 days from then, by the request's rule.
+-- What was written: the expression's sentence and warnings, the fires asked for, and a tally of the
+-- fires in 365 days from the instant asked for.
 pub record IsExplained (r : Request) (e : Expression) (z : TimeZone) (asked : Asked) (was is : Option (List ℕ)) (status : Status) : Type 0 where
   pub head : List ℕ
   pub is_head : IsHead r.quartz r.form r.expression.now e head
@@ -45,7 +47,8 @@ pub record IsExplained (r : Request) (e : Expression) (z : TimeZone) (asked : As
   pub is_tally : IsTallyBy (changes_by r.changes e) (schedules_of e) z (start_of asked) end tally
   pub ends : Ends Done ((head ++ rows_by (changes_by r.changes e) r.form asked (schedules_of e) z) ++ tally_text r.form tally) was is status
 
--- the same of the expression, the zone and the instants that the words tell
+-- The expression, the zone and the instants of the words were read, and the expression was
+-- explained by them.
 pub record Explains {F : Type 0} (g : Given F) (r : Request) (old new : F) (was is : Option (List ℕ)) (status : Status) : Type 0 where
   pub expression : Expression
   pub reads : IsReadAs r.quartz r.expression.now expression

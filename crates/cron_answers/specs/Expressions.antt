@@ -18,57 +18,61 @@ use Rattle.cron_answers.specs.declared.expression.Expression.TheVariants.{Cronta
 use Rattle.cron_answers.specs.declared.refusal.Refusal.{Refusal}
 use Rattle.cron_answers.specs.declared.refusal.Refusal.TheVariants as refusals
 
--- its schedules, of which one suffices
+-- the schedules of an expression, which fires when one of them matches
 abbrev pub schedules_of : Expression → List Sets
 schedules_of (Crontab some changes) = some
 schedules_of Reboot = []
 schedules_of (Own one) = one
 schedules_of (Quartz union) = union
 
--- its own rule at clock changes
+-- the expression's own rule at clock changes
 abbrev pub own_changes : Expression → ClockChanges
 own_changes (Crontab some changes) = changes
 own_changes Reboot = AsShown
 own_changes (Own one) = AsShown
 own_changes (Quartz union) = AsShown
 
--- the chosen rule, or its own
+-- the rule at clock changes that was chosen, or the expression's own if none was
 abbrev pub changes_by : Option ClockChanges → Expression → ClockChanges
 changes_by (Some changes) e = changes
 changes_by None e = own_changes e
 
--- a crontab's expression that follows the clock fires each time that it shows a match, another once for each
+-- the rule of a crontab's expression: one that follows the clock fires each time that the clock
+-- shows a match, another once for each match
 abbrev pub clock_changes : List ℕ → ClockChanges
 clock_changes text = if follows_clock text then AsShown else Once
 
 abbrev pub IsNoCrontabs : List ℕ → Type 0
 IsNoCrontabs text = (fault : Fault) × tabs.Refuses text fault
 
--- The text is this expression: a crontab's, or else this library's. Nicknames alone are both, and mean the same to both (`cron_dialects`).
+-- The text is this expression: a crontab's, or else this library's. Only nicknames are both, and
+-- mean the same to both (`cron_dialects`).
 abbrev pub IsRead : List ℕ → Expression → Type 0
 IsRead text (Crontab some changes) = tabs.Means text (schedules some) × (changes ≡ clock_changes text)
 IsRead text Reboot = tabs.Means text reboot
 IsRead text (Own one) = IsNoCrontabs text × ((s : Sets) × Means text s × (one ≡ s ∷ []))
 IsRead text (Quartz union) = ⊥
 
--- what means something to a crontab is read with its schedules ..
+-- A text that means something to a crontab is read with its schedules.
 abbrev pub KeepsCrontabs : Type 0
 KeepsCrontabs = (text : List ℕ) (some : List Sets) (e : Expression) → tabs.Means text (schedules some) → IsRead text e → schedules_of e ≡ some
 
--- .. and so is what means something to this library
+-- A text that means something to this library is read with its one schedule.
 abbrev pub KeepsOwn : Type 0
 KeepsOwn = (text : List ℕ) (s : Sets) (e : Expression) → Means text s → IsRead text e → schedules_of e ≡ s ∷ []
 
 abbrev pub has_six_words : List ℕ → Bool
 has_six_words text = nat_le 6 (length (words text))
 
--- It is neither. What is told is a crontab's fault, or this library's where it has six words or more.
+-- The text is neither a crontab's expression nor this library's. The fault is a crontab's, or this
+-- library's if the text has six words or more.
 abbrev pub IsRefused : List ℕ → Refusal → Type 0
 IsRefused text (refusals.Crontab fault) = tabs.Refuses text (fault_view fault) × MeansNothing text × (has_six_words text ≡ false)
 IsRefused text (refusals.Own fault) = IsNoCrontabs text × IsRefusal text (fault_text fault) × (has_six_words text ≡ true)
 IsRefused text (refusals.Quartz fault) = ⊥
 
--- where Quartz's are asked for the text is one, else it is one of the others
+-- The text is this expression: one of Quartz if the flag is set, else a crontab's or this
+-- library's.
 abbrev pub IsReadAs : Bool → List ℕ → Expression → Type 0
 IsReadAs true text (Quartz union) = quartz.Means text union
 IsReadAs true text _ = ⊥

@@ -7,8 +7,9 @@ use Rattle.cron_dues.specs.Due as dues
 use Rattle.cron_dues.specs.DueText.{due_text}
 use Rattle.cron_moments.specs.MomentText.{moment_text}
 use Rattle.cron_moments.specs.Readings as moments
-use Rattle.cron_unions.specs.UnionDues.{dues_any_after, dues_any_back, dues_any_between}
-use Rattle.cron_unions.specs.Unions.{fires_any_after, fires_any_back, fires_any_between}
+use Rattle.cron_dues.specs.Dues.{dues_after, dues_back, dues_between}
+use Rattle.cron_unions.specs.Unions.{any_of}
+use Rattle.cron_instants.specs.Fires as shown
 use Rattle.cron_fires.specs.declared.changes.ClockChanges.{ClockChanges}
 use Rattle.cron_fires.specs.declared.changes.ClockChanges.TheVariants.{AsShown, Once}
 use Rattle.cron_writer.specs.Calls.{AreGathered, HandsOnLines, IsFlushed}
@@ -19,34 +20,35 @@ use Rattle.cron_answers.specs.declared.fires.Asked.{Asked}
 use Rattle.cron_answers.specs.declared.fires.Asked.TheVariants.{Next, Back, Between}
 use Rattle.cron_replies.specs.declared.form.Form.{Form}
 
--- of the times at which a clock shows a match those before the instant t, in nanoseconds since 1970, the latest first
+-- the times before the instant t, in nanoseconds since 1970, at which a clock shows a match, the
+-- latest first
 abbrev pub moments_before : List Sets → TimeZone → ℤ → List moments.Reading
-moments_before ss z t = fires_any_back ss z (t -ℤ pos 1)
+moments_before ss z t = shown.fires_back (any_of ss) z (t -ℤ pos 1)
 
--- the same of the matches, each once
+-- the matches, each once, whose instant is before t, in nanoseconds since 1970, the latest first
 abbrev pub dues_before : List Sets → TimeZone → ℤ → List dues.Due
-dues_before ss z t = dues_any_back ss z (t -ℤ pos 1)
+dues_before ss z t = dues_back (any_of ss) z (t -ℤ pos 1)
 
--- of the times at which a clock shows a match those that are asked for, in order
+-- the times asked for at which a clock shows a match, in order, or for `Back` the latest first
 abbrev pub moments_of : Asked → List Sets → TimeZone → List moments.Reading
-moments_of (Next start count) ss z = take count (fires_any_after ss z start.nanosecond)
+moments_of (Next start count) ss z = take count (shown.fires_after (any_of ss) z start.nanosecond)
 moments_of (Back end count) ss z = take count (moments_before ss z end.nanosecond)
-moments_of (Between start end) ss z = fires_any_between ss z start.nanosecond end.nanosecond
+moments_of (Between start end) ss z = shown.fires_between (any_of ss) z start.nanosecond end.nanosecond
 
--- of the matches, each once, those that are asked for, in order
+-- the matches asked for, each once, in order, or for `Back` the latest first
 abbrev pub dues_of : Asked → List Sets → TimeZone → List dues.Due
-dues_of (Next start count) ss z = take count (dues_any_after ss z start.nanosecond)
+dues_of (Next start count) ss z = take count (dues_after (any_of ss) z start.nanosecond)
 dues_of (Back end count) ss z = take count (dues_before ss z end.nanosecond)
-dues_of (Between start end) ss z = dues_any_between ss z start.nanosecond end.nanosecond
+dues_of (Between start end) ss z = dues_between (any_of ss) z start.nanosecond end.nanosecond
 
--- the rows of those that are asked for, by a rule at clock changes
+-- the rows of the fires asked for, by a rule at clock changes
 abbrev pub rows_by : ClockChanges → Form → Asked → List Sets → TimeZone → List ℕ
 rows_by AsShown form asked ss z = rows form moment_text moments.instant (moments_of asked ss z)
 rows_by Once form asked ss z = rows form due_text dues.instant (dues_of asked ss z)
 
--- ---- how they are gathered
+-- ---- how the rows are gathered
 
--- the first so many, or all
+-- the first `most` of some fires, or all of them if there is no number
 abbrev pub first_of : {A : Type 0} → Option ℕ → List A → List A
 first_of None fires = fires
 first_of (Some most) fires = take most fires
@@ -65,17 +67,19 @@ abbrev pub GathersRows : {A W : Type 0} → (W → List ℕ → Result ℕ Error
 GathersRows {A} writes form text second old new was kept =
     (fires : List A) × AreGathered writes (map (λ fire. row form (text fire) (second fire)) fires) old new was kept
 
--- the rows of some fires were gathered, and then what was kept of them was handed on
+-- The rows of some fires were gathered one after another, and at the end the rest of them was
+-- passed to the writer.
 abbrev pub HandsOnRows : {A W : Type 0} → (W → List ℕ → Result ℕ Error → W → Type 0) → Form → (A → List ℕ) → (A → ℤ) → Watched W → Watched W → Type 0
 HandsOnRows {A} writes form text second old new =
     (fires : List A) × HandsOnLines writes (map (λ fire. row form (text fire) (second fire)) fires) old new
 
--- those of the fires by a rule
+-- The rows of some fires, by a rule at clock changes, were gathered and passed to the writer.
 abbrev pub HandsOnRowsBy : {W : Type 0} → ClockChanges → (W → List ℕ → Result ℕ Error → W → Type 0) → Form → Watched W → Watched W → Type 0
 HandsOnRowsBy AsShown writes form old new = HandsOnRows writes form moment_text moments.instant old new
 HandsOnRowsBy Once writes form old new = HandsOnRows writes form due_text dues.instant old new
 
--- and then the writer was flushed once
+-- The rows of some fires were passed to the writer, and then it was flushed once, unless a call had
+-- failed.
 abbrev pub HandsOnRowsFlushed : {W : Type 0} → ClockChanges → (W → List ℕ → Result ℕ Error → W → Type 0) → (W → Result ⊤ Error → W → Type 0) → Form
     → Watched W → Watched W → Type 0
 HandsOnRowsFlushed {W} changes writes flushes form old new =

@@ -6,14 +6,14 @@ use Rattle.jiff_tz.specs.declared.timezone.TimeZone.{TimeZone}
 use Rattle.cron_moments.specs.Civil.{seconds_in_range}
 use Rattle.cron_dues.specs.Due.{Due, due, instant}
 use Rattle.cron_dues.specs.DueReading.{HasText}
-use Rattle.cron_listing.specs.Arguments.{IsCount}
+use Rattle.cron_walk_listing.specs.Arguments.{IsCount}
 
 -- ---- the ways to write one
 
 abbrev pub IsNow : List ℕ → ℤ → ℤ → Type 0
 IsNow text now t = (text ≡ codes "now") × (t ≡ now)
 
--- `@` and seconds since 1970 in digits, as many as 32 bits hold
+-- `@` and a decimal number of seconds since 1970, which fits 32 bits
 abbrev pub IsCounted : List ℕ → ℤ → Type 0
 IsCounted text t =
     (digits : List ℕ) × (text ≡ 64 ∷ digits) × IsCount digits × (t ≡ pos (digits_value 10 digits) *ℤ pos 1_000_000_000)
@@ -26,32 +26,36 @@ IsStamp text t = parse_timestamp text ≡ Ok t
 abbrev pub IsPrinted : List ℕ → ℤ → Type 0
 IsPrinted text t = (d : Due) × HasText text d × (t ≡ instant d *ℤ pos 1_000_000_000)
 
--- the civil second c is the whole second that UTC shows at the instant of a text
+-- UTC shows the civil second c, in seconds since 1970-01-01 00:00:00, at the instant that the text
+-- spells.
 abbrev pub IsSecondAt : List ℕ → ℕ → Type 0
 IsSecondAt stamp c = (c < seconds_in_range) × (parse_timestamp stamp ≡ Ok (pos c *ℤ pos 1_000_000_000))
 
--- a text of at most 32 bytes that would be an instant of UTC with a `Z` behind it, or with a midnight
+-- a text of at most 32 bytes that spells an instant of UTC with `Z` or `T00:00Z` appended: a civil
+-- time, or a date
 abbrev pub IsCivilSecond : List ℕ → ℕ → Type 0
 IsCivilSecond text c = (length text ≤ 32) × (IsSecondAt (text ++ codes "Z") c ⊎ IsSecondAt (text ++ codes "T00:00Z") c)
 
--- a civil time, at the first instant at which the zone's clock shows it or a later one
+-- t is the first instant at which the zone's clock shows the civil time of a text or, in a gap, a
+-- later one.
 abbrev pub IsCivil : List ℕ → TimeZone → ℤ → Type 0
 IsCivil text z t = (c : ℕ) × IsCivilSecond text c × (t ≡ instant (due z c) *ℤ pos 1_000_000_000)
 
--- ---- which it is
+-- ---- which of these ways a text is
 
--- an answer with a property, or none where nothing has it
+-- an answer with the property P, or `None` if nothing has it
 abbrev pub Tells : (ℤ → Type 0) → Option ℤ → Type 0
 Tells P answer = MatchOption answer ((t : ℤ) → P t → ⊥) P
 
 abbrev pub TellsSecond : (ℕ → Type 0) → Option ℕ → Type 0
 TellsSecond P answer = MatchOption answer ((c : ℕ) → P c → ⊥) P
 
--- an answer with a property, or where nothing has it another answer
+-- an answer with the property P, or, if nothing has it, one with another
 abbrev pub OrElse : (ℤ → Type 0) → (Option ℤ → Type 0) → Option ℤ → Type 0
 OrElse P other answer = ((t : ℤ) × (answer ≡ Some t) × P t) ⊎ (((t : ℤ) → P t → ⊥) × other answer)
 
--- What a text tells, by the first of these ways that it is written.
+-- The instant of a text, by the first of these ways in which it is written; `None` if it is written
+-- in none of them.
 abbrev pub IsInstant : List ℕ → TimeZone → ℤ → Option ℤ → Type 0
 IsInstant text z now =
     OrElse (IsNow text now) (OrElse (IsCounted text) (OrElse (IsStamp text) (OrElse (IsPrinted text) (Tells (IsCivil text z)))))

@@ -1,4 +1,4 @@
--- What the words of `late` are answered.
+-- What the subcommand `late` answers to its words, which are its arguments.
 use Rattle.std.specs.Prelude.{◌≡◌, ◌⊎◌, ℕ, ℤ, List, Option, Some, None}
 use Rattle.jiff_tz.specs.declared.timezone.TimeZone.{TimeZone}
 use Rattle.cron_answers.specs.Answers.{Given}
@@ -14,7 +14,7 @@ use Rattle.cron_replies.specs.declared.status.Status.{Status}
 use Rattle.cron_answers.specs.declared.trouble.Trouble.{Trouble}
 use Rattle.cron_answers.specs.declared.trouble.Trouble.TheVariants as trouble
 
--- It was said whether a fire was missed since the last run, of which the words tell the instant.
+-- A sentence says whether a fire was missed since the last run, whose instant a word names.
 pub record SaysWhen {F : Type 0} (g : Given F) (r : Request) (old new : F) (was is : Option (List ℕ)) (status : Status) : Type 0 where
   pub expression : Expression
   pub zone : TimeZone
@@ -23,13 +23,15 @@ pub record SaysWhen {F : Type 0} (g : Given F) (r : Request) (old new : F) (was 
   pub is_last : IsInstant r.last.now zone g.now (Some last)
   pub says : SaysWhetherBy (changes_by r.changes expression) (schedules_of expression) zone last r.grace g.now was is status
 
--- why it can't be
+-- Why nothing can be said about missed fires: the expression, the zone or the last run's instant is
+-- wrong, by the first that is.
 abbrev pub IsLateTrouble : {F : Type 0} → Given F → Request → F → F → Trouble → Type 0
 IsLateTrouble g r old new (trouble.Instant word) =
     (word.now ≡ r.last.now) × ((e : Expression) × (z : TimeZone) × IsBegun g r.quartz r.expression.now r.zone.now old e z new × IsInstant r.last.now z g.now None)
 IsLateTrouble g r old new other = IsNoSubject g.reads g.places r.quartz r.expression.now r.zone.now old other new
 
--- The sentence was written, and nothing was complained of; or a complaint was written, and nothing else.
+-- The sentence was written, and nothing was complained of; or a complaint was written, and nothing
+-- else.
 abbrev pub AnswersLate : {F W C : Type 0} → Given F → Request → Reporting W → Reporting C → F × W × C → Status → F × W × C → Type 0
 AnswersLate g r out complaints old status new =
     (out (SaysWhen g r old.0 new.0) old.1 status new.1 × (new.2 ≡ old.2))

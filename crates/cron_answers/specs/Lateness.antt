@@ -11,8 +11,9 @@ use Rattle.cron_moments.specs.MomentText.{moment_text}
 use Rattle.cron_moments.specs.Parts.{ShowsAt}
 use Rattle.cron_moments.specs.Readings.{Reading}
 use Rattle.cron_moments.specs.Readings as moments
-use Rattle.cron_unions.specs.FirstOfAny.{IsItemOfAny}
-use Rattle.cron_unions.specs.UnionDues.{IsDueOfAny}
+use Rattle.cron_instants.specs.Instants.{IsItem}
+use Rattle.cron_unions.specs.Unions.{any_of}
+use Rattle.cron_dues.specs.FirstDues.{IsDue}
 use Rattle.cron_fires.specs.declared.changes.ClockChanges.{ClockChanges}
 use Rattle.cron_fires.specs.declared.changes.ClockChanges.TheVariants.{AsShown, Once}
 use Rattle.cron_replies.specs.Statuses.{Ends}
@@ -29,8 +30,8 @@ nanos second = second *ℤ pos 1_000_000_000
 abbrev pub IsMissed : ℤ → ℕ → ℤ → ℤ → Type 0
 IsMissed last grace now second = (last <ℤ nanos second) × (nanos (second +ℤ pos grace) ≤ℤ now)
 
--- Of some fires the first that is missed: by instant, and of those that share it by civil second. None exactly where none is. It is late
--- since its grace was over.
+-- The first fire that is missed, by instant, and if some share it by civil second. It is late since
+-- its grace was over. `None` exactly if no fire is missed.
 abbrev pub IsFirstMissed : {A : Type 0} → (A → Type 0) → (A → ℤ) → (A → ℕ) → ℤ → ℕ → ℤ → Option (Missed A) → Type 0
 IsFirstMissed {A} IsFire second civil last grace now answer =
     MatchOption answer
@@ -43,11 +44,12 @@ IsFirstMissed {A} IsFire second civil last grace now answer =
 abbrev pub in_time_sentence : List ℕ
 in_time_sentence = codes "in time: no fire was missed\n"
 
--- what a clock at this offset shows at a second, none outside of 1970 to 2100
+-- what a clock at this offset shows at a second since 1970; `None` if that is outside of 1970 to
+-- 2100
 abbrev pub IsShown : ℤ → Offset → Option Reading → Type 0
 IsShown second o shown = MatchOption shown ((m : Reading) → ShowsAt second o m → ⊥) (ShowsAt second o)
 
--- the moment that it shows, or `@` and the second
+-- the text of the moment that a clock shows, or `@` and the second if there is none
 abbrev pub since_text : ℤ → Option Reading → List ℕ
 since_text second None = 64 ∷ signed_decimal second
 since_text second (Some m) = moment_text m
@@ -55,11 +57,13 @@ since_text second (Some m) = moment_text m
 abbrev pub IsSinceText : ℤ → Offset → List ℕ → Type 0
 IsSinceText second o text = (shown : Option Reading) × IsShown second o shown × (text ≡ since_text second shown)
 
+-- the sentence about a missed fire:
 -- `late since 2022-11-06 01:40:00 -06:00: 2022-11-06 01:30:00 -06:00 was missed`
 abbrev pub late_sentence : List ℕ → List ℕ → List ℕ
 late_sentence since text = codes "late since " ++ (since ++ (codes ": " ++ (text ++ codes " was missed\n")))
 
--- the sentence, by the fire that was missed, of which the clock's offset is the one at the fire
+-- The sentence says which fire was missed and since when it is late, as the clock shows it at the
+-- fire's offset, or that none was.
 abbrev pub IsSentence : {A : Type 0} → (A → List ℕ) → (A → Offset) → Option (Missed A) → List ℕ → Type 0
 IsSentence text offset None s = s ≡ in_time_sentence
 IsSentence text offset (Some m) s = (since : List ℕ) × IsSinceText m.since (offset m.fire) since × (s ≡ late_sentence since (text m.fire))
@@ -68,24 +72,26 @@ abbrev pub late_status : {A : Type 0} → Option A → Status
 late_status None = Done
 late_status (Some m) = No
 
--- the sentence was written, and the status is its answer
+-- The sentence was written, and the status is `No` if a fire was missed.
 abbrev pub Says : {A : Type 0} → (A → List ℕ) → (A → Offset) → Option (Missed A) → Option (List ℕ) → Option (List ℕ) → Status → Type 0
 Says text offset missed was is status = (s : List ℕ) × IsSentence text offset missed s × Ends (late_status missed) s was is status
 
--- whether a fire was missed was said
+-- The sentence on whether one of these fires was missed was written.
 abbrev pub SaysWhether :
     {A : Type 0} → (A → List ℕ) → (A → Offset) → (A → ℤ) → (A → ℕ) → (A → Type 0) → ℤ → ℕ → ℤ → Option (List ℕ) → Option (List ℕ) → Status → Type 0
 SaysWhether {A} text offset second civil IsFire last grace now was is status =
     (missed : Option (Missed A)) × IsFirstMissed IsFire second civil last grace now missed × Says text offset missed was is status
 
--- the same of the fires of some schedules in a zone, by a rule at clock changes
+-- The sentence on whether a fire of some schedules was missed in a zone, by a rule at clock
+-- changes, was written.
 abbrev pub SaysWhetherBy : ClockChanges → List Sets → TimeZone → ℤ → ℕ → ℤ → Option (List ℕ) → Option (List ℕ) → Status → Type 0
-SaysWhetherBy AsShown ss z = SaysWhether moment_text (λ r. r.offset) moments.instant (λ r. r.second) (IsItemOfAny ss z)
-SaysWhetherBy Once ss z = SaysWhether due_text (λ d. d.offset) dues.instant (λ d. d.second) (IsDueOfAny ss z)
+SaysWhetherBy AsShown ss z = SaysWhether moment_text (λ r. r.offset) moments.instant (λ r. r.second) (IsItem (any_of ss) z)
+SaysWhetherBy Once ss z = SaysWhether due_text (λ d. d.offset) dues.instant (λ d. d.second) (IsDue (any_of ss) z)
 
--- ---- how it is found
+-- ---- how the missed fire is found
 
--- Of some fires the first that comes after an instant, in the same order; none exactly where none does.
+-- The first fire after the instant `last`, in nanoseconds since 1970: by instant, and if some share
+-- it by civil second. `None` exactly if there is none.
 abbrev pub IsFirstAfter : {A : Type 0} → (A → Type 0) → (A → ℤ) → (A → ℕ) → ℤ → Option A → Type 0
 IsFirstAfter {A} IsFire second civil last answer =
     MatchOption answer
@@ -94,7 +100,7 @@ IsFirstAfter {A} IsFire second civil last answer =
     IsFire first × (last <ℤ nanos (second first))
     × ((f : A) → IsFire f → last <ℤ nanos (second f) → comes_before (second f) (civil f) (second first) (civil first) ≡ false))
 
--- since when a fire at this second is late, if its grace is over
+-- since when a fire at this second is late, or `None` if its grace isn't over
 abbrev pub since_of : ℤ → ℕ → ℤ → Option ℤ
 since_of second grace now = if int_le (nanos (second +ℤ pos grace)) now then Some (second +ℤ pos grace) else None
 
@@ -102,7 +108,8 @@ abbrev pub missed_at : {A : Type 0} → A → Option ℤ → Option (Missed A)
 missed_at f None = None
 missed_at f (Some since) = Some (record { fire = f; since = since })
 
--- it is missed then
+-- the first fire after the last run as a missed one, or `None` if there is none or its grace isn't
+-- over
 abbrev pub missed_of : {A : Type 0} → (A → ℤ) → ℕ → ℤ → Option A → Option (Missed A)
 missed_of second grace now None = None
 missed_of second grace now (Some f) = missed_at f (since_of (second f) grace now)

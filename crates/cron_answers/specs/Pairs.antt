@@ -1,11 +1,11 @@
--- What is told of two expressions.
+-- What the subcommands `compare` and `overlap` tell about two expressions.
 use Rattle.std.specs.Prelude.{◌≡◌, ◌⊎◌, ◌++◌, ℕ, Bool, List, [], Option, Some, None, codes, if◌then◌else◌}
 use Rattle.jiff.specs.Names.{iso_datetime_text}
 use Rattle.cron_units.specs.Sets.{Sets}
 use Rattle.cron_moments.specs.Civil.{civil}
 use Rattle.cron_unions.specs.Unions.{matches_any}
 use Rattle.cron_comparing.specs.Comparisons.{IsFirstCommon, IsFirstDifference}
-use Rattle.cron_listing.specs.Output.{complaint}
+use Rattle.cron_walk_listing.specs.Output.{complaint}
 use Rattle.cron_answers.specs.Expressions.{schedules_of, IsReadAs, IsRefusedAs}
 use Rattle.cron_replies.specs.Statuses.{Ending, Ends, Reporting}
 use Rattle.cron_answers.specs.Troubles.{IsTold}
@@ -17,12 +17,12 @@ use Rattle.cron_replies.specs.declared.status.Status.TheVariants.{Done, No, Unre
 use Rattle.cron_answers.specs.declared.trouble.Trouble.{Trouble}
 use Rattle.cron_answers.specs.declared.trouble.Trouble.TheVariants as trouble
 
--- the two expressions that the words are
+-- The two words are these expressions.
 pub record AreRead (p : Pair) (b : Both) : Type 0 where
   pub first : IsReadAs p.quartz p.first.now b.first
   pub second : IsReadAs p.quartz p.second.now b.second
 
--- the first of the two that is no expression, and why
+-- The trouble is the first of the two words that is no expression, and why.
 abbrev pub IsNoPair : Pair → Trouble → Type 0
 IsNoPair p (trouble.Expression text refusal) =
     ((text.now ≡ p.first.now) × IsRefusedAs p.quartz p.first.now refusal)
@@ -32,7 +32,7 @@ IsNoPair p _ = ⊥
 abbrev pub no_memory : List ℕ
 no_memory = codes "out of memory"
 
--- `: the first alone` where it is the first that matches
+-- which of the two expressions matches: `: the first alone` if it is the first
 abbrev pub side_text : Bool → List ℕ
 side_text first = if first then codes ": the first alone\n" else codes ": the second alone\n"
 
@@ -41,7 +41,7 @@ abbrev pub difference_text : List Sets → Option ℕ → List ℕ
 difference_text ss None = []
 difference_text ss (Some c) = iso_datetime_text (civil c) ++ side_text (matches_any ss (civil c))
 
--- there is no difference, or there is one
+-- the status of `compare`: `Done` if there is no difference, else `No`
 abbrev pub difference_status : Option ℕ → Status
 difference_status None = Done
 difference_status (Some c) = No
@@ -51,12 +51,12 @@ abbrev pub common_text : Option ℕ → List ℕ
 common_text None = []
 common_text (Some c) = iso_datetime_text (civil c) ++ codes "\n"
 
--- there is one, or there is none
+-- the status of `overlap`: `Done` if both match some civil second, else `No`
 abbrev pub common_status : Option ℕ → Status
 common_status None = No
 common_status (Some c) = Done
 
--- the first difference of the two expressions was told
+-- The first difference of the two expressions was written.
 pub record IsCompared (p : Pair) (was is : Option (List ℕ)) (status : Status) : Type 0 where
   pub both : Both
   pub read : AreRead p both
@@ -64,7 +64,7 @@ pub record IsCompared (p : Pair) (was is : Option (List ℕ)) (status : Status) 
   pub first : IsFirstDifference (schedules_of both.first) (schedules_of both.second) found
   pub ends : Ends (difference_status found) (difference_text (schedules_of both.first) found) was is status
 
--- the first civil second that the two expressions both match was told
+-- The first civil second that the two expressions both match was written.
 pub record IsOverlapped (p : Pair) (was is : Option (List ℕ)) (status : Status) : Type 0 where
   pub both : Both
   pub read : AreRead p both
@@ -72,8 +72,8 @@ pub record IsOverlapped (p : Pair) (was is : Option (List ℕ)) (status : Status
   pub first : IsFirstCommon (schedules_of both.first) (schedules_of both.second) found
   pub ends : Ends (common_status found) (common_text found) was is status
 
--- It was told, and nothing was complained of; or one is no expression, or memory ran out, and that was complained of. The one writer or the
--- other was written to, and flushed.
+-- What `Told` says was written. Or a complaint was: one word is no expression, or memory ran out.
+-- Only one of the two writers was written to and flushed.
 abbrev pub TellsOfPair : {W C : Type 0} → Ending → Pair → Reporting W → Reporting C → W × C → Status → W × C → Type 0
 TellsOfPair Told p out complaints old status new =
     (out Told old.0 status new.0 × (new.1 ≡ old.1))

@@ -4,7 +4,8 @@ use Rattle.cron_moments.specs.Calendar.{first_month, months_end}
 use Rattle.cron_moments.specs.MomentText.{four_digits, two_digits}
 use Rattle.cron_answers.specs.declared.period.Period.{Period}
 
--- a year from 1970 to 2100, and months of it
+-- a year from 1970 to 2100, and the months from `first` on and before `end`, numbered from January
+-- of the year 0
 pub record IsPeriod (p : Period) : Type 0 where
   pub from : 1970 ≤ p.year
   pub to : p.year ≤ 2100
@@ -12,7 +13,7 @@ pub record IsPeriod (p : Period) : Type 0 where
   pub order : p.first < p.end
   pub high : p.end ≤ months_end
 
--- The text names the year, whose months they are: `2024`.
+-- The text names a year, as `2024`, and the months are all of that year.
 pub record NamesYear (text : List ℕ) (p : Period) : Type 0 where
   pub from : 1970 ≤ p.year
   pub to : p.year ≤ 2100
@@ -31,6 +32,6 @@ pub record NamesMonth (text : List ℕ) (p : Period) : Type 0 where
   pub first : p.first + 1 ≡ p.year * 12 + month
   pub end : p.end ≡ p.year * 12 + month
 
--- it names one of the two
+-- The text names a year, or a month of one.
 abbrev pub Names : List ℕ → Period → Type 0
 Names text p = NamesYear text p ⊎ NamesMonth text p

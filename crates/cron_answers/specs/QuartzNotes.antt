@@ -18,32 +18,35 @@ use Rattle.cron_replies.specs.Statuses.{Ends, Reporting}
 use Rattle.cron_replies.specs.declared.status.Status.{Status}
 use Rattle.cron_replies.specs.declared.status.Status.TheVariants.{Done}
 
--- the reading has this instant, in seconds
+-- whether there is a reading, and its instant is n, in seconds since 1970
 abbrev pub is_at : ℤ → Option Reading → Bool
 is_at n None = false
 is_at n (Some r) = int_eq (moments.instant r) n
 
--- Quartz fires a civil second that matches at the last of its readings in the zone, and one of a gap, which has no reading, not at all.
+-- Whether Quartz fires for the civil second c, which matches, at the instant n. It fires at the
+-- last of the second's readings in the zone, and in a gap, without a reading, not at all.
 abbrev pub is_quartz_fire : TimeZone → ℕ → ℤ → Bool
 is_quartz_fire z c n = is_at n (last_or None (readings z c))
 
--- of some fires, with their civil seconds and their instants, one is none of Quartz
+-- whether Quartz doesn't fire at one of these fires, by their civil seconds and their instants
 abbrev pub has_other : {A : Type 0} → (A → ℕ) → (A → ℤ) → TimeZone → List A → Bool
 has_other civil second z fires = list_any (λ fire. not (is_quartz_fire z (civil fire) (second fire))) fires
 
--- the same of those that are asked for, by a rule at clock changes
+-- whether Quartz doesn't fire at one of the fires asked for, by a rule at clock changes
 abbrev pub lists_other : ClockChanges → Asked → List Sets → TimeZone → Bool
 lists_other AsShown asked ss z = has_other (λ r. r.second) moments.instant z (moments_of asked ss z)
 lists_other Once asked ss z = has_other (λ d. d.second) dues.instant z (dues_of asked ss z)
 
--- the expression is one of Quartz, and one of the fires that are asked for is none of Quartz
+-- whether the notice is due: the expression is one of Quartz, and Quartz doesn't fire at one of the
+-- fires asked for
 abbrev pub is_noted : Request → Expression → Asked → TimeZone → Bool
 is_noted r e asked z = r.quartz && lists_other (changes_by r.changes e) asked (schedules_of e) z
 
 abbrev pub quartz_notice : List ℕ
 quartz_notice = codes "note: Quartz fires differently here: in a fold only at the second time, in a gap not at all\n"
 
--- Where the notice is due and the list was written whole, the notice was written, and the end is that of it. Else nothing was.
+-- If the notice is due and all fires were listed, the notice was written, and the status is its
+-- own. Else nothing was written, and the status is the list's.
 abbrev pub IsNoted : {C : Type 0} → Bool → Status → Reporting C → C → Status → C → Type 0
 IsNoted true Done complaints old status new = complaints (Ends Done quartz_notice) old status new
 IsNoted _ listed complaints old status new = (status ≡ listed) × (new ≡ old)

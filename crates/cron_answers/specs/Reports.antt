@@ -22,7 +22,7 @@ abbrev pub sentence_of : Expression → List ℕ
 sentence_of Reboot = codes "When the machine starts"
 sentence_of e = sentence (schedules_of e)
 
--- a line, or an object of one text
+-- the sentence as a line, or as a JSON object
 abbrev pub sentence_line : Form → List ℕ → List ℕ
 sentence_line Text text = text ++ codes "\n"
 sentence_line Json text = codes "{\"sentence\":\"" ++ (text ++ codes "\"}\n")
@@ -31,23 +31,24 @@ abbrev pub warning_line : Form → List ℕ → List ℕ
 warning_line Text text = codes "warning: " ++ (text ++ codes "\n")
 warning_line Json text = codes "{\"warning\":\"" ++ (text ++ codes "\"}\n")
 
--- the warnings of a crontab's expression
+-- `told` has a line for each warning that applies to a crontab's expression.
 abbrev pub TellsOfTab : Form → List ℕ → tabs.Meaning → List ℕ → Type 0
 TellsOfTab form text meaning told = TellsThose (λ w. Warns User w text meaning) (λ w. warning_line form (warning_text w)) WARNINGS told
 
--- those of a text, which has none where it is no crontab's expression
+-- `told` has the warnings of a text. There are none if it is Quartz's, or no crontab's expression.
 abbrev pub TellsWarnings : Bool → Form → List ℕ → List ℕ → Type 0
 TellsWarnings true form text told = told ≡ []
 TellsWarnings false form text told =
     ((m : tabs.Meaning) × tabs.Means text m × TellsOfTab form text m told) ⊎ (IsNoCrontabs text × (told ≡ []))
 
--- the sentence and the warnings
+-- the sentence of an expression, and then its warnings
 pub record IsHead (quartz : Bool) (form : Form) (text : List ℕ) (e : Expression) (head : List ℕ) : Type 0 where
   pub warnings : List ℕ
   pub tells : TellsWarnings quartz form text warnings
   pub joined : head ≡ sentence_line form (sentence_of e) ++ warnings
 
--- how many fires there are, and the waits between them, in words or else in seconds
+-- the shortest and the longest wait between fires, in words, or in seconds for JSON; nothing if
+-- there is no wait
 abbrev pub waits_text : Form → Option Waits → List ℕ
 waits_text form None = []
 waits_text Text (Some w) =

@@ -5,11 +5,12 @@ use Rattle.std.specs.List.{flat_map}
 use Rattle.cron_replies.specs.declared.form.Form.{Form}
 use Rattle.cron_replies.specs.declared.form.Form.TheVariants.{Text, Json}
 
--- its text, and a line feed
+-- the row of a fire as text: the fire's text and a line feed
 abbrev pub text_row : List ℕ → List ℕ
 text_row text = text ++ 10 ∷ []
 
--- an object with its text and its instant: `{"fire":"2022-11-06 01:30:00 -05:00","epoch":1667716200}`, and a line feed
+-- the row of a fire as JSON, with its text and its instant:
+-- `{"fire":"2022-11-06 01:30:00 -05:00","epoch":1667716200}`, and a line feed
 abbrev pub json_row : List ℕ → ℤ → List ℕ
 json_row text second =
     codes "{\"fire\":\"" ++ (text ++ (codes "\",\"epoch\":" ++ (signed_decimal second ++ (codes "}" ++ 10 ∷ []))))

@@ -1,4 +1,4 @@
--- The expression and the zone that words name.
+-- The expression and the zone that the words of a subcommand name.
 use Rattle.std.specs.Prelude.{◌≡◌, ℕ, Bool, List, Result, Ok, Err}
 use Rattle.std.specs.declared.alloc.Global.{Global}
 use Rattle.std.specs.declared.io.Error.{Error}
@@ -15,12 +15,12 @@ use Rattle.cron_answers.specs.declared.expression.Expression.{Expression}
 use Rattle.cron_answers.specs.declared.trouble.Trouble.{Trouble}
 use Rattle.cron_answers.specs.declared.trouble.Trouble.TheVariants as trouble
 
--- the text is the expression, and the name was opened as the zone
+-- The text is the expression, and the name was opened as the zone.
 abbrev pub IsSubject :
     {F : Type 0} → (F → List ℕ → Result (Vec ℕ Global) Error → F → Type 0) → Places → Bool → List ℕ → List ℕ → F → Expression → Zone → F → Type 0
 IsSubject reads places quartz text name old expression zone new = IsReadAs quartz text expression × Opens reads name places old (Ok zone) new
 
--- Why not: the first of the two that can't be had.
+-- Why a subcommand has no expression and zone: the first of the two that can't be had.
 abbrev pub IsNoSubject :
     {F : Type 0} → (F → List ℕ → Result (Vec ℕ Global) Error → F → Type 0) → Places → Bool → List ℕ → List ℕ → F → Trouble → F → Type 0
 IsNoSubject reads places quartz text name old (trouble.Expression word refusal) new = (word.now ≡ text) × IsRefusedAs quartz text refusal × (new ≡ old)
@@ -29,7 +29,7 @@ IsNoSubject reads places quartz text name old (trouble.Zone word error) new =
 IsNoSubject reads places quartz text name old (trouble.Instant word) new = ⊥
 IsNoSubject reads places quartz text name old (trouble.Order start end) new = ⊥
 
--- the expression was read, and the zone opened
+-- The expression was read, and the zone opened as z.
 pub record IsBegun {F : Type 0} (g : Given F) (quartz : Bool) (text name : List ℕ) (old : F) (expression : Expression) (z : TimeZone) (new : F) : Type 0 where
   pub zone : Zone
   pub subject : IsSubject g.reads g.places quartz text name old expression zone new

@@ -6,8 +6,9 @@ use Rattle.cron_dues.specs.Due as dues
 use Rattle.cron_fires.specs.declared.changes.ClockChanges.{ClockChanges}
 use Rattle.cron_fires.specs.declared.changes.ClockChanges.TheVariants.{AsShown, Once}
 use Rattle.cron_moments.specs.Readings as moments
-use Rattle.cron_unions.specs.UnionDues.{dues_any_between}
-use Rattle.cron_unions.specs.Unions.{fires_any_between}
+use Rattle.cron_dues.specs.Dues.{dues_between}
+use Rattle.cron_unions.specs.Unions.{any_of}
+use Rattle.cron_instants.specs.Fires as shown
 use Rattle.cron_units.specs.Sets.{Sets}
 use Rattle.cron_answers.specs.declared.tally.Tally.{Tally}
 use Rattle.cron_answers.specs.declared.tally.Waits.{Waits}
@@ -15,7 +16,7 @@ use Rattle.cron_answers.specs.declared.tally.Waits.{Waits}
 abbrev pub wait_between : ℤ → ℤ → ℕ
 wait_between last next = unsigned_abs (next -ℤ last)
 
--- the waits between fires, of which the first comes behind this one, if one came before
+-- the waits between fires, in seconds; the first is after the fire `last`, if there is one
 abbrev pub waits_past : Option ℤ → List ℤ → List ℕ
 waits_past None [] = []
 waits_past None (s ∷ ss) = waits_past (Some s) ss
@@ -31,12 +32,14 @@ abbrev pub AreEnds : List ℕ → Option Waits → Type 0
 AreEnds ws None = ws ≡ []
 AreEnds ws (Some w) = Contains ws w.shortest × Contains ws w.longest × AllByRecursion (λ g. (w.shortest ≤ g) × (g ≤ w.longest)) ws
 
--- The number of fires, which a count of 64 bits ends, and the shortest and the longest wait between two that follow one another.
+-- A tally: the number of fires, at most 2^64 - 1, and the shortest and the longest wait between two
+-- that follow one another.
 pub record IsTally (ss : List ℤ) (t : Tally) : Type 0 where
   pub counted : t.fires ≡ min (length ss) 18_446_744_073_709_551_615
   pub ends : AreEnds (waits_of ss) t.waits
 
--- those of schedules in a zone after an instant, up to and with another, by a rule at clock changes
+-- the tally of the fires of schedules in a zone after an instant, up to and with another, by a rule
+-- at clock changes
 abbrev pub IsTallyBy : ClockChanges → List Sets → TimeZone → ℤ → ℤ → Tally → Type 0
-IsTallyBy AsShown ss z start end t = IsTally (map moments.instant (fires_any_between ss z start end)) t
-IsTallyBy Once ss z start end t = IsTally (map dues.instant (dues_any_between ss z start end)) t
+IsTallyBy AsShown ss z start end t = IsTally (map moments.instant (shown.fires_between (any_of ss) z start end)) t
+IsTallyBy Once ss z start end t = IsTally (map dues.instant (dues_between (any_of ss) z start end)) t

@@ -2,7 +2,7 @@
 use Rattle.std.specs.Prelude.{◌⊎◌, ◌++◌, ℕ, List, Option, Some, None, codes, if◌then◌else◌}
 use Rattle.std.specs.Borrow.{Bor}
 use Rattle.std.specs.Str.{bytes_eq}
-use Rattle.cron_listing.specs.Output.{complaint}
+use Rattle.cron_walk_listing.specs.Output.{complaint}
 use Rattle.cron_zones.specs.Messages.{zone_error_text}
 use Rattle.cron_zones.specs.declared.error.ZoneError.{ZoneError}
 use Rattle.cron_zones.specs.declared.error.ZoneError.TheVariants.{NoZone}
@@ -19,7 +19,8 @@ trouble_text (Zone text error) = codes "the zone '" ++ (text.now ++ (codes "' ca
 trouble_text (Instant text) = codes "'" ++ (text.now ++ codes "' is no instant")
 trouble_text (Order start end) = codes "START '" ++ (start.now ++ (codes "' comes after END '" ++ (end.now ++ codes "'")))
 
--- a word is wrong, but where a zone's file can't be read
+-- the status if a zone can't be opened: a word is wrong if no zone has the name, else something
+-- can't be read
 abbrev pub zone_status : ZoneError → Status
 zone_status NoZone = WrongWords
 zone_status _ = Unreadable
@@ -30,12 +31,12 @@ status_of (Zone text error) = zone_status error
 status_of (Instant text) = WrongWords
 status_of (Order start end) = WrongWords
 
--- the name of a zone in what is told of it: of `local` what TZ is set to
+-- the name of a zone in messages: for `local` it is the value of TZ, if that is set
 abbrev pub zone_word : Option (Bor (List ℕ)) → List ℕ → List ℕ
 zone_word None name = name
 zone_word (Some tz) name = if bytes_eq name (codes "local") then tz.now else name
 
--- the line that says why was written, or that memory ran out
+-- The line that says why was written, or one that says that memory ran out.
 abbrev pub IsTold : Trouble → Option (List ℕ) → Option (List ℕ) → Status → Type 0
 IsTold trouble old new status =
     Ends (status_of trouble) (complaint (trouble_text trouble)) old new status ⊎ Ends Unreadable (complaint (codes "out of memory")) old new status

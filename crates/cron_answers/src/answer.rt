@@ -1,4 +1,4 @@
-//! What the words of `next` and `between` are answered.
+//! Answers the subcommands `next` and `between`: lists the fires that their arguments request.
 
 ghost use Rattle.std.specs.Prelude.{◌≡◌, ◌||◌, false, MatchResult};
 ghost use Rattle.jiff.specs.Words.{plain_zone};
@@ -6,52 +6,52 @@ ghost use Rattle.cron_writer.specs.Watching.{has_failed};
 ghost use Rattle.cron_answers.specs.Answers.{given, Answers, IsAsked, IsNotAsked};
 ghost use Rattle.cron_replies.specs.Statuses.{is_write_failure, Reports};
 
-use crate::expression::read_as;
 use crate::fires::{Asked, list};
 use crate::instant::instant_of;
 use crate::quartz_note::note;
-use crate::trouble::{Trouble, tell, zone_word};
+use crate::subject::subject_of;
+use crate::trouble::{Trouble, tell};
 use cron_fires::ClockChanges;
 use cron_replies::form::Form;
 use cron_replies::status::Status;
 use cron_writer::watchable::Watchable;
 use cron_writer::watched::Watched;
 use cron_zones::files::ZoneFiles;
-use cron_zones::open::{Places, open};
+use cron_zones::open::Places;
 use jiff::Timestamp;
 use jiff::tz::TimeZone;
 use std::alloc::Global;
 
-/// Which fires are asked for, in words.
+/// Which fires are requested, as in the arguments: instants are texts that aren't read yet.
 #[derive(Clone, Copy)]
 pub enum Which<'a> {
-    /// The first so many after START.
+    /// The first fires after START: their number, and START.
     Next(u64, &'a str),
-    /// The last so many before START.
+    /// The last fires before START: their number, and START.
     Back(u64, &'a str),
-    /// Those after START, and up to and with END.
+    /// The fires after START, up to and including END.
     Between(&'a str, &'a str),
 }
 
-/// What is asked for, in words.
+/// The arguments of `next` or `between`, not read yet.
 #[derive(Clone, Copy)]
 pub struct Request<'a> {
-    /// EXPRESSION.
+    /// The argument EXPRESSION.
     pub expression: &'a str,
-    /// Whether it is one of Quartz.
+    /// Whether EXPRESSION is an expression of Quartz.
     pub quartz: bool,
-    /// ZONE.
+    /// The value of `--zone`.
     pub zone: &'a str,
-    /// Which fires.
+    /// Which fires are listed.
     pub which: Which<'a>,
-    /// The rule that was chosen, if one was.
+    /// The rule at clock changes that was chosen. `None` is the expression's own.
     pub changes: Option<ClockChanges>,
     /// How fires are written.
     pub form: Form,
 }
 
-/// Reads the instants, or answers why they can't be asked for: the first word that is none, or that
-/// START comes after END.
+/// Reads the instants of `which`. `Err` has the first text that is no instant, or says that START
+/// comes after END.
 pub(crate) fn asked_of<'a>(
     which: &Which<'a>,
     zone: &TimeZone<'_>,
@@ -85,9 +85,10 @@ pub(crate) fn asked_of<'a>(
     }
 }
 
-/// Answers a request: the fires go to the one writer, and what is wrong to the other. A notice goes
-/// there too where Quartz fires otherwise than a list. Zones are looked for in the places and files
-/// that are handed in, and at most one file is read. No call of the writers may have failed before.
+/// Answers a request: writes the fires to `out`, and what is wrong to `complaints`. A notice also
+/// goes to `complaints` if Quartz would fire at other instants than those listed. Zones are
+/// searched in `places` and `files`, and at most one file is read. No call of the writers may have
+/// failed before.
 pub fn answer<F: ZoneFiles, W: Watchable, C: Watchable>(
     alloc: Global,
     request: &Request<'_>,
@@ -104,35 +105,24 @@ pub fn answer<F: ZoneFiles, W: Watchable, C: Watchable>(
         (files.old, out.old, complaints.old) result (files.new, out.new, complaints.new) }
     ensures mark { (has_failed out.new || has_failed complaints.new) ≡ is_write_failure result }
 {
-    let expression = match read_as(request.quartz, request.expression) {
-        Ok(expression) => expression,
-        Err(refusal) => {
-            return tell(
-                alloc,
-                &Trouble::Expression(request.expression, refusal),
-                complaints,
-            );
-        }
+    let (quartz, text) = (request.quartz, request.expression);
+    let subject = match subject_of(alloc, quartz, text, request.zone, places, files) {
+        Ok(subject) => subject,
+        Err(trouble) => return tell(alloc, &trouble, complaints),
     };
-    let opened = match open(alloc, request.zone, places, files) {
-        Ok(opened) => opened,
-        Err(error) => {
-            let word = zone_word(request.zone, places);
-            return tell(alloc, &Trouble::Zone(word, error), complaints);
-        }
-    };
-    let zone = opened.time_zone();
+    let expression = &subject.expression;
+    let zone = subject.zone.time_zone();
     match asked_of(&request.which, &zone, now) {
         Ok(asked) => {
             let listed = list(
-                &expression,
+                expression,
                 request.changes,
                 &asked,
                 &zone,
                 request.form,
                 out,
             );
-            note(request, &expression, &asked, &zone, listed, complaints)
+            note(request, expression, &asked, &zone, listed, complaints)
         }
         Err(trouble) => tell(alloc, &trouble, complaints),
     }

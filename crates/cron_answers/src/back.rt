@@ -5,14 +5,13 @@ ghost use Rattle.jiff.specs.Words.{plain_zone};
 ghost use Rattle.cron_answers.specs.Fires.{dues_before, moments_before};
 ghost use Rattle.cron_answers.specs.Inner.Backs.{IsJustBefore};
 
-use cron_unions::back_due_run::BackDueRun;
-use cron_unions::back_run::BackRun;
+use cron_fires::{AsShown, BackRun, Once, Union};
 use cron_units::fields::ScheduleFields;
 use jiff::Timestamp;
 use jiff::tz::TimeZone;
 
-// The last instant before another. The first of all instants, by which there is no fire, is left as
-// it is.
+// The last instant before `instant`. The first instant of all is returned unchanged: no fire comes
+// up to it.
 fn just_before(instant: Timestamp) -> Timestamp
     ensures { IsJustBefore instant.nanosecond result.nanosecond }
 {
@@ -22,24 +21,24 @@ fn just_before(instant: Timestamp) -> Timestamp
     }
 }
 
-/// The times before an instant at which a clock shows a match.
+/// The times before `end` when the clock shows a match, the latest first.
 pub(crate) fn moments_before<'a>(
     schedules: &'a [ScheduleFields],
     end: Timestamp,
     zone: &'a TimeZone<'a>,
-) -> BackRun<'a>
+) -> BackRun<'a, Union<'a>, AsShown<TimeZone<'a>>>
     ensures { result ≡ moments_before schedules.now (plain_zone zone.now) end.nanosecond }
 {
-    BackRun::by(schedules, just_before(end), zone)
+    BackRun::by(Union { schedules }, just_before(end), zone)
 }
 
-/// The matches, each once, whose instant comes before another.
+/// The matches, each once, whose instant comes before `end`, the latest first.
 pub(crate) fn dues_before<'a>(
     schedules: &'a [ScheduleFields],
     end: Timestamp,
     zone: &'a TimeZone<'a>,
-) -> BackDueRun<'a>
+) -> BackRun<'a, Union<'a>, Once<TimeZone<'a>>>
     ensures { result ≡ dues_before schedules.now (plain_zone zone.now) end.nanosecond }
 {
-    BackDueRun::by(schedules, just_before(end), zone)
+    BackRun::by(Union { schedules }, just_before(end), zone)
 }

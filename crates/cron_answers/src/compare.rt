@@ -1,4 +1,5 @@
-//! What the words of `compare` are answered.
+//! Answers the subcommand `compare`: writes the first civil second that only one of two expressions
+//! matches.
 
 ghost use Rattle.std.specs.Prelude.{◌≡◌, ◌||◌, false, IfOk};
 ghost use Rattle.std.specs.String.{string_bytes};
@@ -16,7 +17,7 @@ use cron_writer::watchable::Watchable;
 use cron_writer::watched::Watched;
 use std::alloc::{AllocError, Global};
 
-// How the subcommand ends: whether there is no difference.
+// The status of the subcommand: `Done` if there is no difference, else `No`.
 fn difference_status(found: Option<u32>) -> Status
     ensures status { result ≡ difference_status found }
     ensures done { is_write_failure result ≡ false }
@@ -27,7 +28,8 @@ fn difference_status(found: Option<u32>) -> Status
     }
 }
 
-// The line of the first difference, and which of the two matches it; or nothing.
+// The line of the first difference: its civil second, and whether the first or the second
+// expression matches it. It is empty if there is no difference.
 fn difference_text(
     alloc: Global,
     union: &[ScheduleFields],
@@ -46,9 +48,9 @@ fn difference_text(
     }
 }
 
-/// Tells whether two expressions match the same civil seconds: the status is `Done`, or it is `No`,
-/// and the first second that one of them alone matches is written. No call of the writers may have
-/// failed before.
+/// Compares two expressions. The status is `Done` if they match the same civil seconds. Else it is
+/// `No`, and the first civil second that only one of them matches is written. No call of the
+/// writers may have failed before.
 pub fn compare<W: Watchable, C: Watchable>(
     alloc: Global,
     pair: &Pair<'_>,

@@ -1,4 +1,4 @@
-//! What the words of `done` are answered.
+//! Answers the subcommand `done`: notes a fire in a stamp, a file that `due` reads.
 
 ghost use Rattle.std.specs.Prelude.{◌≡◌, false, true};
 ghost use Rattle.cron_writer.specs.Watching.{has_failed};
@@ -18,16 +18,17 @@ use cron_writer::watchable::Watchable;
 use cron_writer::watched::Watched;
 use std::alloc::Global;
 
-/// What is asked for, in words.
+/// The arguments of `done`, not read yet.
 #[derive(Clone, Copy)]
 pub struct Request<'a> {
-    /// STAMP.
+    /// The argument STAMP: a path.
     pub stamp: &'a str,
-    /// FIRE.
+    /// The argument FIRE: a fire in its printed form.
     pub fire: &'a str,
 }
 
-// Whether a fire is before another: by instant, and where that is shared by nominal time.
+// Whether `fire` is before `other`: by instant, then by the civil second matched if they share the
+// instant.
 fn is_before(fire: &DueFire, other: &DueFire) -> bool
     ensures { result ≡ is_before fire.now other.now }
 {
@@ -37,7 +38,7 @@ fn is_before(fire: &DueFire, other: &DueFire) -> bool
         || (second == other_second && nominal_second(fire) < nominal_second(other))
 }
 
-// Why a fire isn't noted.
+// Why `fire` can't replace what the stamp notes, or `None` if it can.
 fn objection(fire: &DueFire, noted: &Noted) -> Option<Notice>
     ensures { result ≡ objection fire.now noted.now }
 {
@@ -49,7 +50,7 @@ fn objection(fire: &DueFire, noted: &Noted) -> Option<Notice>
     }
 }
 
-// Replaces the file at a path by the stamp of a fire.
+// Replaces the file at a path by the stamp of a fire. If that fails, a notice says so.
 fn note<S: Store, C: Watchable>(
     alloc: Global,
     path: &str,
@@ -71,10 +72,10 @@ fn note<S: Store, C: Watchable>(
     }
 }
 
-/// Answers a request: the stamp notes the fire from now on, unless it notes a later one, or is
-/// none. It is written and synced beside the stamp, takes its name, and the folder is synced; once
-/// one of these calls fails none is made. What is wrong goes to the writer, of which no call may
-/// have failed before.
+/// Answers a request: makes the stamp note the fire, unless it notes a later one, or the file can't
+/// be read or is no stamp. The new stamp is written and synced beside the old one, then takes its
+/// name, then the folder is synced. After one of these calls fails, no further call is made. What
+/// is wrong goes to `complaints`. No call of that writer may have failed before.
 pub fn answer<S: Store, C: Watchable>(
     alloc: Global,
     request: &Request<'_>,

@@ -1,4 +1,5 @@
-//! What the words of `due` are answered.
+//! Answers the subcommand `due`: lists the fires after the one that a stamp notes, a file that
+//! `done` writes.
 
 ghost use Rattle.std.specs.Prelude.{◌≡◌, ◌||◌, false, MatchResult};
 ghost use Rattle.cron_writer.specs.Watching.{has_failed};
@@ -21,33 +22,33 @@ use cron_zones::open::Places;
 use jiff::Timestamp;
 use std::alloc::Global;
 
-/// What is asked for, in words.
+/// The arguments of `due`, not read yet.
 #[derive(Clone, Copy)]
 pub struct Request<'a> {
-    /// STAMP.
+    /// The argument STAMP: a path.
     pub stamp: &'a str,
-    /// EXPRESSION.
+    /// The argument EXPRESSION.
     pub expression: &'a str,
-    /// Whether it is one of Quartz.
+    /// Whether EXPRESSION is an expression of Quartz.
     pub quartz: bool,
-    /// ZONE.
+    /// The value of `--zone`.
     pub zone: &'a str,
-    /// Whether the last of the fires suffices.
+    /// Whether only the last of the fires is listed.
     pub latest: bool,
-    /// The rule that was chosen, if one was.
+    /// The rule at clock changes that was chosen. `None` is the expression's own.
     pub changes: Option<ClockChanges>,
     /// How fires are written.
     pub form: Form,
 }
 
-/// What a stamp comes to.
+/// What is listed, according to what the stamp notes.
 #[derive(Clone, Copy)]
 pub enum Finding {
-    /// These fires are listed.
+    /// These pending fires are listed.
     List(Pending),
-    /// The last fire is, and a notice says why.
+    /// The last fire is listed, and a notice says why.
     Anew(Notice),
-    /// None is, and a notice says why.
+    /// No fire is listed, and a notice says why.
     Refuse(Notice),
 }
 
@@ -64,7 +65,8 @@ fn finding_of(now: Timestamp, latest: bool, noted: &Noted) -> Finding
     }
 }
 
-// After a notice the last fire is listed, unless it couldn't be said.
+// What is listed after a notice that was written with the status `said`: the last fire if that is
+// `Done`. Else the subcommand ends with that status.
 fn or_last(said: Status) -> Result<Pending, Status>
     ensures { result ≡ or_last said }
 {
@@ -74,7 +76,8 @@ fn or_last(said: Status) -> Result<Pending, Status>
     }
 }
 
-// Which fires are listed, by the stamp, or how the subcommand ends.
+// The fires to list according to the stamp. `Err` has the status of the subcommand, which ends
+// then.
 fn pending_of<F: ZoneFiles, C: Watchable>(
     alloc: Global,
     request: &Request<'_>,
@@ -97,9 +100,9 @@ fn pending_of<F: ZoneFiles, C: Watchable>(
     }
 }
 
-/// Answers a request: the fires go to the one writer, and what is said of the stamp, or is wrong,
-/// to the other. The status is `No` where no fire is pending. The stamp is read and never written.
-/// No call of the writers may have failed before.
+/// Answers a request: writes the fires to `out`, and notices on the stamp and what is wrong to
+/// `complaints`. The status is `No` if no fire is pending. The stamp is read and never written. No
+/// call of the writers may have failed before.
 pub fn answer<F: ZoneFiles, W: Watchable, C: Watchable>(
     alloc: Global,
     request: &Request<'_>,

@@ -1,4 +1,4 @@
-//! What the words of `explain` are answered.
+//! Answers the subcommand `explain`: says in words when an expression fires, and lists fires.
 
 ghost use Rattle.std.specs.Prelude.{◌≡◌, ◌||◌, ◌++◌, ℕ, List, Option, IfOk, false};
 ghost use Rattle.std.specs.String.{string_bytes};
@@ -13,12 +13,13 @@ ghost use Rattle.cron_replies.specs.Statuses.{Ends, is_write_failure, Reports};
 ghost use Rattle.cron_replies.specs.declared.status.Status.TheVariants.{Done};
 
 use crate::answer::{Request, asked_of};
-use crate::expression::{Expression, read_as};
+use crate::expression::Expression;
 use crate::fires::{Asked, send_fires};
 use crate::pair::tell_no_memory;
 use crate::report::{head_of, tally_text};
+use crate::subject::subject_of;
 use crate::tally::count_fires;
-use crate::trouble::{Trouble, tell, zone_word};
+use crate::trouble::tell;
 use cron_fires::ClockChanges;
 use cron_replies::form::Form;
 use cron_replies::status::{Status, finish};
@@ -26,7 +27,7 @@ use cron_units::fields::ScheduleFields;
 use cron_writer::watchable::Watchable;
 use cron_writer::watched::{Watched, send};
 use cron_zones::files::ZoneFiles;
-use cron_zones::open::{Places, open};
+use cron_zones::open::Places;
 use jiff::Timestamp;
 use jiff::tz::TimeZone;
 use std::alloc::{AllocError, Global};
@@ -34,7 +35,7 @@ use std::alloc::{AllocError, Global};
 /// The nanoseconds of 365 days.
 const YEAR: i128 = 31_536_000_000_000_000;
 
-/// What stands before the rows of fires, and behind them.
+/// The texts before and after the rows of fires.
 #[derive(Drop)]
 pub(crate) struct Texts {
     head: String,
@@ -51,7 +52,7 @@ fn start_of(asked: &Asked) -> Timestamp
     }
 }
 
-// The instant 365 days later, or the last one that there is.
+// The instant 365 days after `start`, or the last instant of all if that is earlier.
 fn year_after(start: Timestamp) -> Timestamp
     ensures { IsYearAfter start.nanosecond result.nanosecond }
 {
@@ -61,7 +62,8 @@ fn year_after(start: Timestamp) -> Timestamp
     }
 }
 
-// Makes both texts.
+// The texts before and after the rows of fires. The first is the sentence of the expression, with
+// its warnings. The other is the number of fires in 365 days, with the waits between them.
 fn texts_of(
     alloc: Global,
     request: &Request<'_>,
@@ -87,7 +89,7 @@ fn texts_of(
     Ok(Texts { head, tail })
 }
 
-// Writes the rows of fires after what was handed on before, and nothing once a call has failed.
+// Writes the rows of the fires, or nothing if a call of the writer has failed before.
 fn send_more<W: Watchable>(
     schedules: &[ScheduleFields],
     changes: ClockChanges,
@@ -108,8 +110,8 @@ fn send_more<W: Watchable>(
     }
 }
 
-// Writes rows of fires between two texts, and flushes. No call of the writer may have failed
-// before.
+// Writes the rows of the fires between the two texts, and flushes. No call of the writer may have
+// failed before.
 fn send_between<W: Watchable>(
     texts: &Texts,
     schedules: &[ScheduleFields],
@@ -135,10 +137,10 @@ fn send_between<W: Watchable>(
     finish(out, Status::Done)
 }
 
-/// Answers a request: the sentence of the expression, the warnings of a crontab's, the fires that
-/// are asked for, and how many there are in the 365 days from then, with the shortest and the
-/// longest wait between two. They go to the one writer, and what is wrong to the other. No call of
-/// the writers may have failed before.
+/// Answers a request. It writes the sentence of the expression, its warnings if it is a crontab's,
+/// and the requested fires to `out`. Then come the number of fires in the 365 days from START on,
+/// and the shortest and the longest wait between two. What is wrong goes to `complaints`. No call
+/// of the writers may have failed before.
 pub fn explain<F: ZoneFiles, W: Watchable, C: Watchable>(
     alloc: Global,
     request: &Request<'_>,
@@ -155,29 +157,20 @@ pub fn explain<F: ZoneFiles, W: Watchable, C: Watchable>(
         (files.old, out.old, complaints.old) result (files.new, out.new, complaints.new) }
     ensures mark { (has_failed out.new || has_failed complaints.new) ≡ is_write_failure result }
 {
-    let expression = match read_as(request.quartz, request.expression) {
-        Ok(expression) => expression,
-        Err(refusal) => {
-            let trouble = Trouble::Expression(request.expression, refusal);
-            return tell(alloc, &trouble, complaints);
-        }
+    let (quartz, text) = (request.quartz, request.expression);
+    let subject = match subject_of(alloc, quartz, text, request.zone, places, files) {
+        Ok(subject) => subject,
+        Err(trouble) => return tell(alloc, &trouble, complaints),
     };
-    let opened = match open(alloc, request.zone, places, files) {
-        Ok(opened) => opened,
-        Err(error) => {
-            let word = zone_word(request.zone, places);
-            return tell(alloc, &Trouble::Zone(word, error), complaints);
-        }
-    };
-    let zone = opened.time_zone();
+    let zone = subject.zone.time_zone();
     let asked = match asked_of(&request.which, &zone, now) {
         Ok(asked) => asked,
         Err(trouble) => return tell(alloc, &trouble, complaints),
     };
-    let Ok(texts) = texts_of(alloc, request, &expression, &asked, &zone) else {
+    let Ok(texts) = texts_of(alloc, request, &subject.expression, &asked, &zone) else {
         return tell_no_memory(complaints);
     };
-    let changes = expression.changes(request.changes);
-    let schedules = expression.as_slice();
+    let changes = subject.expression.changes(request.changes);
+    let schedules = subject.expression.as_slice();
     send_between(&texts, schedules, changes, &asked, &zone, request.form, out)
 }

@@ -1,5 +1,5 @@
-//! Expressions: five fields or a nickname are a crontab's, six or seven fields this library's, or
-//! Quartz's where that is asked for.
+//! Expressions: five fields or a nickname are a crontab's, six or seven fields are this library's,
+//! or Quartz's if the caller wants that.
 
 ghost use Rattle.std.specs.Prelude.{◌≡◌, ◌≤◌, length, MatchResult};
 ghost use Rattle.cron_crontab.specs.Crontab.{Refuses};
@@ -15,24 +15,25 @@ use cron_tab_warnings::follows_clock;
 use cron_text::{fault_of, no_ordinals, read_into};
 use cron_units::fields::ScheduleFields;
 
-/// How many words an expression of this library has at least.
+/// The least number of words of an expression of this library.
 const FIELDS: usize = 6;
 
-/// What an expression is.
+/// An expression that was read, by its kind.
 #[derive(Drop)]
 pub enum Expression {
-    /// A crontab's: one schedule, or two of which one suffices, and its own rule at clock changes.
+    /// A crontab's: one or two schedules, and its own rule at clock changes. It fires when one of
+    /// the schedules matches.
     Crontab(Schedules, ClockChanges),
     /// A crontab's `@reboot`, which no clock fires.
     Reboot,
-    /// This library's.
+    /// This library's: one schedule.
     Own([ScheduleFields; 1]),
-    /// Quartz's: up to twelve schedules, of which one suffices.
+    /// Quartz's: up to twelve schedules. It fires when one of them matches.
     Quartz(Union),
 }
 
 impl Expression {
-    /// Its schedules. It fires when any of them does; `@reboot` has none.
+    /// The expression's schedules. It fires when any of them does; `@reboot` has none.
     pub fn as_slice(&self) -> &[ScheduleFields]
         ensures list { result.now ≡ schedules_of self.now }
         ensures few { length result.now ≤ 12 }
@@ -45,7 +46,7 @@ impl Expression {
         }
     }
 
-    /// The rule at clock changes: the one that was chosen, or its own.
+    /// The rule at clock changes: `chosen`, or the expression's own if that is `None`.
     pub fn changes(&self, chosen: Option<ClockChanges>) -> ClockChanges
         ensures { result ≡ changes_by chosen self.now }
     {
@@ -57,8 +58,8 @@ impl Expression {
     }
 }
 
-// The rule of a crontab's expression: one that follows the clock fires each time that it shows a
-// match, one at a fixed time once for each.
+// The rule at clock changes of a crontab's expression. One that follows the clock fires each time
+// that the clock shows a match. One at a fixed time fires once for each match.
 fn clock_changes(text: &str) -> ClockChanges
     ensures { result ≡ clock_changes text.now }
 {
@@ -69,7 +70,8 @@ fn clock_changes(text: &str) -> ClockChanges
     }
 }
 
-// Reads a text that is no crontab's expression, for this fault.
+// Reads a text that is no crontab's expression, because of `fault`, as one of this library. `Err`
+// has this library's fault if the text has six words or more, else `fault`.
 fn read_own<'a>(text: &'a str, fault: Fault<'a>) -> Result<Expression, Refusal<'a>>
     requires { Refuses text.now (fault_view fault) }
     ensures { MatchResult result (IsRead text.now) (IsRefused text.now) }
@@ -84,9 +86,9 @@ fn read_own<'a>(text: &'a str, fault: Fault<'a>) -> Result<Expression, Refusal<'
     Err(Refusal::Crontab(fault))
 }
 
-/// Reads an expression. Of both kinds are nicknames alone, and they are a crontab's, by its clock;
-/// their schedules are the same. A text of neither is refused with a crontab's fault where it has
-/// fewer than six words, else with this library's.
+/// Reads an expression of a crontab or of this library. Only nicknames are both: they are read as a
+/// crontab's, with its rule at clock changes. Their schedules are the same. A text that is neither
+/// is refused: with a crontab's fault if it has fewer than six words, else with this library's.
 pub fn read(text: &str) -> Result<Expression, Refusal<'_>>
     ensures { MatchResult result (IsRead text.now) (IsRefused text.now) }
 {
@@ -100,7 +102,7 @@ pub fn read(text: &str) -> Result<Expression, Refusal<'_>>
     }
 }
 
-/// Reads an expression: Quartz's where that is asked for, else one of the other two kinds.
+/// Reads an expression: Quartz's if `quartz`, else a crontab's or this library's.
 pub fn read_as(quartz: bool, text: &str) -> Result<Expression, Refusal<'_>>
     ensures { MatchResult result (IsReadAs quartz text.now) (IsRefusedAs quartz text.now) }
 {
@@ -113,8 +115,8 @@ pub fn read_as(quartz: bool, text: &str) -> Result<Expression, Refusal<'_>>
     }
 }
 
-/// A law over the definitions, for callers that call it for what its contract says: what a text
-/// means to a crontab, or to this library, it is read as.
+/// A law over the definitions, which a caller calls for its contract: a text is read as what it
+/// means to a crontab, or to this library.
 pub fn meanings_are_kept()
     ensures crontabs { KeepsCrontabs }
     ensures own { KeepsOwn }

@@ -1,5 +1,5 @@
-//! The fires of an expression as rows: the next ones after an instant, the last ones before it, and
-//! those between two.
+//! The fires of an expression as rows: the next ones after an instant, the last ones before it, or
+//! those between two instants.
 
 ghost use Rattle.std.specs.Prelude.{◌≡◌, [], false};
 ghost use Rattle.jiff.specs.Words.{plain_zone};
@@ -32,22 +32,22 @@ use jiff::tz::TimeZone;
 /// Which fires are listed.
 #[derive(Clone, Copy)]
 pub enum Asked {
-    /// The first so many whose instant comes after this one.
+    /// The first fires after the instant: at most this number.
     Next(Timestamp, u64),
-    /// The last so many whose instant comes before this one, the latest first.
+    /// The last fires before the instant, the latest first: at most this number.
     Back(Timestamp, u64),
-    /// Those whose instant comes after the first, and not after the second.
+    /// The fires after the first instant, up to and including the second.
     Between(Timestamp, Timestamp),
 }
 
-/// Whether no more fires are wanted.
+/// Whether no more fires are wanted. `most` is how many are; `None` means all.
 pub(crate) fn is_none_wanted(most: Option<u64>) -> bool
     ensures { result ≡ is_none_wanted most }
 {
     matches!(most, Some(0))
 }
 
-/// One fire less is wanted.
+/// How many fires are wanted after one more was taken. `None` means all.
 pub(crate) fn one_less(most: Option<u64>) -> Option<u64>
     requires { is_none_wanted most ≡ false }
     ensures { result ≡ one_less most }
@@ -58,7 +58,8 @@ pub(crate) fn one_less(most: Option<u64>) -> Option<u64>
     }
 }
 
-// Gathers the rows of the first fires that are left, at most so many, until a write fails.
+// Gathers the rows of the first `most` fires that are left, or of all if `most` is `None`, until a
+// write fails.
 fn gather_rows<F: Told, L: Left<F>, W: Watchable>(
     left: &mut L,
     most: Option<u64>,
@@ -89,8 +90,8 @@ fn gather_rows<F: Told, L: Left<F>, W: Watchable>(
     }
 }
 
-/// Writes the rows of the first fires that are left, at most so many, until a write fails. They are
-/// handed on many at a time, and the rest of them at the end.
+/// Writes the rows of the first `most` fires that are left, or of all if `most` is `None`, until a
+/// write fails. Many rows are handed to the writer at a time, and the rest at the end.
 pub(crate) fn send_rows<F: Told, L: Left<F>, W: Watchable>(
     left: &mut L,
     most: Option<u64>,
@@ -110,7 +111,7 @@ pub(crate) fn send_rows<F: Told, L: Left<F>, W: Watchable>(
     lines.send(out);
 }
 
-// By the rule that each time is a fire at which the clock shows a match.
+// Writes the rows of the requested fires. Each time when the clock shows a match is a fire.
 fn send_moments<W: Watchable>(
     schedules: &[ScheduleFields],
     asked: &Asked,
@@ -144,7 +145,7 @@ fn send_moments<W: Watchable>(
     }
 }
 
-// By the rule that each match is a fire once.
+// Writes the rows of the requested fires. Each match is a fire once, also where the clock changes.
 fn send_dues<W: Watchable>(
     schedules: &[ScheduleFields],
     asked: &Asked,
@@ -178,7 +179,7 @@ fn send_dues<W: Watchable>(
     }
 }
 
-/// Writes the rows of the fires that are asked for, by a rule, until a write fails.
+/// Writes the rows of the requested fires by the rule `changes`, until a write fails.
 pub(crate) fn send_fires<W: Watchable>(
     schedules: &[ScheduleFields],
     changes: ClockChanges,
@@ -201,10 +202,10 @@ pub(crate) fn send_fires<W: Watchable>(
     }
 }
 
-/// Writes a row for each fire that is asked for, in order, and flushes: by the rule that was
-/// chosen, or the expression's own. It takes no memory. Whole rows are handed to the writer
-/// together, up to 4,096 bytes a call, and the last of them before the flush. Once a call fails the
-/// writer is not called again: it holds what it took before. None may have failed before this call.
+/// Writes a row for each requested fire, in order, and flushes. The rule is `chosen`, or the
+/// expression's own if that is `None`. Nothing is allocated. Whole rows are handed to the writer
+/// together, up to 4,096 bytes a call, and the last of them before the flush. Once a call fails,
+/// the writer is not called again: it holds what it took before. No call may have failed before.
 pub fn list<W: Watchable>(
     expression: &Expression,
     chosen: Option<ClockChanges>,

@@ -7,14 +7,14 @@ ghost use Rattle.cron_answers.specs.Instants.{IsCivil, IsCivilSecond, IsCounted,
 use arrayvec::ArrayString;
 use cron_dues::reader;
 use cron_dues::way_to::due_of;
-use cron_listing::arguments::count_of;
+use cron_walk_listing::arguments::count_of;
 use jiff::Timestamp;
 use jiff::tz::TimeZone;
 
-/// The longest text of a civil time.
+/// The bytes of the longest text that is read as a civil time.
 const LONGEST: usize = 32;
 
-/// The longest text of its second: the text, and a midnight of UTC.
+/// The bytes of the longest text with an end: a civil time, and a midnight of UTC.
 const STAMP: usize = 39;
 
 /// The nanoseconds of the civil seconds from 1970 to 2100.
@@ -22,7 +22,8 @@ const RANGE: i128 = 4_133_980_800_000_000_000;
 
 const NANOS: u64 = 1_000_000_000;
 
-// `@SECONDS`.
+// Reads `@SECONDS`: a decimal number of seconds since 1970-01-01T00:00:00Z, up to 2^32 - 1. `None`
+// for any other text.
 fn counted(text: &str) -> Option<Timestamp>
     ensures { Tells (IsCounted text.now) (option_map (λ t. t.nanosecond) result) }
 {
@@ -35,7 +36,7 @@ fn counted(text: &str) -> Option<Timestamp>
     }
 }
 
-// A fire as it was printed.
+// Reads a fire as it was printed. `None` for any other text.
 fn printed(text: &str) -> Option<Timestamp>
     ensures { Tells (IsPrinted text.now) (option_map (λ t. t.nanosecond) result) }
 {
@@ -45,7 +46,8 @@ fn printed(text: &str) -> Option<Timestamp>
     }
 }
 
-// The civil second that UTC shows at the instant of a text.
+// The civil second, since 1970-01-01 00:00:00, that UTC shows at the instant that `stamp` spells.
+// `None` if that is no instant, isn't a whole second, or is outside of 1970 to 2100.
 fn second_at(stamp: &str) -> Option<u32>
     ensures { TellsSecond (IsSecondAt stamp.now) result }
 {
@@ -66,7 +68,8 @@ fn second_at(stamp: &str) -> Option<u32>
     Some((nanos / NANOS) as u32)
 }
 
-// The same of a text with an end behind it.
+// The civil second that UTC shows at the instant that `text` followed by `end` spells. `None` if
+// `second_at` reads none.
 fn second_behind(text: &str, end: &str) -> Option<u32>
     requires text { length text.now ≤ 32 }
     requires end { length end.now ≤ 7 }
@@ -78,7 +81,8 @@ fn second_behind(text: &str, end: &str) -> Option<u32>
     second_at(stamp.as_str())
 }
 
-// The civil second of a date and a time of day, or of a date alone.
+// The civil second of a date and a time of day, or of the midnight of a date alone. `None` for any
+// other text.
 fn civil_second(text: &str) -> Option<u32>
     ensures { TellsSecond (IsCivilSecond text.now) result }
 {
@@ -91,7 +95,8 @@ fn civil_second(text: &str) -> Option<u32>
     second_behind(text, "T00:00Z")
 }
 
-// A civil time in a zone.
+// The instant of a civil time in a zone: the first of two in a fold, and the transition in a gap.
+// `None` if `text` is no civil time from 1970 to 2100.
 fn civil(text: &str, zone: &TimeZone<'_>) -> Option<Timestamp>
     ensures { Tells (IsCivil text.now (plain_zone zone.now))
         (option_map (λ t. t.nanosecond) result) }
@@ -103,8 +108,8 @@ fn civil(text: &str, zone: &TimeZone<'_>) -> Option<Timestamp>
 }
 
 /// Reads an instant: `now`, `@SECONDS` since 1970, an instant with an offset as `jiff` reads it, a
-/// fire as it was printed, or a civil time from 1970 to 2100 in the zone. In a fold that is the
-/// first of its two instants, and in a gap the transition.
+/// fire as it was printed, or a civil time from 1970 to 2100 in the zone. A civil time in a fold is
+/// the first of its two instants, and one in a gap is the transition. `None` for any other text.
 pub fn instant_of(text: &str, zone: &TimeZone<'_>, now: Timestamp) -> Option<Timestamp>
     ensures { IsInstant text.now (plain_zone zone.now) now.nanosecond
         (option_map (λ t. t.nanosecond) result) }

@@ -1,4 +1,4 @@
-//! What the words of `late` are answered.
+//! Answers the subcommand `late`: says whether a fire was missed since the last run.
 
 ghost use Rattle.std.specs.Prelude.{◌≡◌, ◌||◌, false};
 ghost use Rattle.cron_writer.specs.Watching.{has_failed};
@@ -19,25 +19,25 @@ use cron_zones::open::Places;
 use jiff::Timestamp;
 use std::alloc::Global;
 
-/// What is asked for, in words.
+/// The arguments of `late`, not read yet.
 #[derive(Clone, Copy)]
 pub struct Request<'a> {
-    /// EXPRESSION.
+    /// The argument EXPRESSION.
     pub expression: &'a str,
-    /// Whether it is one of Quartz.
+    /// Whether EXPRESSION is an expression of Quartz.
     pub quartz: bool,
-    /// ZONE.
+    /// The value of `--zone`.
     pub zone: &'a str,
-    /// INSTANT.
+    /// The value of `--last`: the instant of the last run.
     pub last: &'a str,
-    /// SECONDS.
+    /// The value of `--grace`: how many seconds after a fire its run may be noted.
     pub grace: u32,
-    /// The rule that was chosen, if one was.
+    /// The rule at clock changes that was chosen. `None` is the expression's own.
     pub changes: Option<ClockChanges>,
 }
 
-/// Answers a request: the sentence goes to the one writer, and what is wrong to the other. The
-/// status is `No` where a fire was missed. No call of the writers may have failed before.
+/// Answers a request: writes a sentence on whether a fire was missed to `out`, and what is wrong to
+/// `complaints`. The status is `No` if one was. No call of the writers may have failed before.
 pub fn answer<F: ZoneFiles, W: Watchable, C: Watchable>(
     alloc: Global,
     request: &Request<'_>,

@@ -1,11 +1,12 @@
-//! Whether a fire was missed: no run came since, and its grace is over.
+//! Whether a fire was missed: no run came after it, and its grace is over.
 
 ghost use Rattle.std.specs.Prelude.{◌≡◌, false};
 ghost use Rattle.jiff.specs.Words.{plain_zone};
 ghost use Rattle.cron_dues.specs.Due as dues;
 ghost use Rattle.cron_moments.specs.Readings as moments;
-ghost use Rattle.cron_unions.specs.FirstOfAny.{IsItemOfAny};
-ghost use Rattle.cron_unions.specs.UnionDues.{IsDueOfAny};
+ghost use Rattle.cron_instants.specs.Instants.{IsItem};
+ghost use Rattle.cron_unions.specs.Unions.{any_of};
+ghost use Rattle.cron_dues.specs.FirstDues.{IsDue};
 ghost use Rattle.cron_writer.specs.Calls.{AreWritesFlushed};
 ghost use Rattle.cron_writer.specs.Watching.{has_failed, writer_of};
 ghost use Rattle.cron_answers.specs.Expressions.{changes_by, schedules_of};
@@ -24,7 +25,7 @@ use cron_writer::watched::Watched;
 use jiff::Timestamp;
 use jiff::tz::TimeZone;
 
-/// A run, and how long it may take.
+/// When the last run was, and how long a fire's run may take to be noted, the grace.
 #[derive(Clone, Copy)]
 pub struct LastRun {
     /// The instant of the last run.
@@ -33,30 +34,30 @@ pub struct LastRun {
     pub grace: u32,
 }
 
-// By the rule that each time is a fire at which the clock shows a match.
+// The first fire after `last`, by the rule that each time when the clock shows a match is a fire.
 fn first_moment(
     schedules: &[ScheduleFields],
     last: Timestamp,
     zone: &TimeZone<'_>,
 ) -> Option<Moment>
-    ensures { IsFirstAfter (IsItemOfAny schedules.now (plain_zone zone.now))
+    ensures { IsFirstAfter (IsItem (any_of schedules.now) (plain_zone zone.now))
         moments.instant (λ r. r.second) last.nanosecond result }
 {
     first_fire_after(&Union { schedules }, last, zone)
 }
 
-// By the rule that each match is a fire once.
+// The first fire after `last`, by the rule that each match is a fire once.
 fn first_due(schedules: &[ScheduleFields], last: Timestamp, zone: &TimeZone<'_>) -> Option<DueFire>
-    ensures { IsFirstAfter (IsDueOfAny schedules.now (plain_zone zone.now))
+    ensures { IsFirstAfter (IsDue (any_of schedules.now) (plain_zone zone.now))
         dues.instant (λ d. d.second) last.nanosecond result }
 {
     first_due_after(&Union { schedules }, last, zone)
 }
 
-/// Says in one sentence whether a fire was missed, by the rule that was chosen, or the expression's
-/// own: it came after the last run, and the grace after it is over. The sentence names the first
-/// such fire, of those that share its instant the first by civil second, and since when it is late.
-/// No call of the writer may have failed before.
+/// Writes one sentence on whether a fire was missed: it came after the last run, and its grace is
+/// over. The rule is `chosen`, or the expression's own if that is `None`. The sentence names the
+/// first such fire, and since when it is late. Of fires that share an instant, the first by civil
+/// second counts. No call of the writer may have failed before.
 pub fn say_whether<W: Watchable>(
     expression: &Expression,
     chosen: Option<ClockChanges>,

@@ -3,50 +3,30 @@
 ghost use Rattle.std.specs.Prelude.{List};
 ghost use Rattle.std.specs.Iterator.{YieldsFirst};
 
-use cron_dues::fire::DueFire;
-use cron_fires::{Dues, Fires};
-use cron_moments::moment::Moment;
-use cron_unions::back_due_run::BackDueRun;
-use cron_unions::back_run::BackRun;
+use cron_fires::{BackRun, CivilSeconds, Rule, Run};
 
-/// Fires that are taken one after another.
+/// A sequence of fires that are taken one after another.
 pub(crate) trait Left<F> {
-    // those that are left
+    // the fires that are left
     ghost left: { Self → List F };
 
-    /// Takes the first that is left.
+    /// Removes the first fire that is left and returns it. `None` if no fire is left.
     fn take_first(&mut self) -> Option<F>
         ensures { YieldsFirst left self.old result self.new };
 }
 
-impl<'a> Left<Moment> for Fires<'a> {
+impl<'a, S: CivilSeconds, R: Rule> Left<R::Fire> for Run<'a, S, R> {
     ghost left = { λ run. run };
 
-    fn take_first(&mut self) -> Option<Moment> {
+    fn take_first(&mut self) -> Option<R::Fire> {
         self.next()
     }
 }
 
-impl<'a> Left<DueFire> for Dues<'a> {
+impl<'a, S: CivilSeconds, R: Rule> Left<R::Fire> for BackRun<'a, S, R> {
     ghost left = { λ run. run };
 
-    fn take_first(&mut self) -> Option<DueFire> {
-        self.next()
-    }
-}
-
-impl<'a> Left<Moment> for BackRun<'a> {
-    ghost left = { λ run. run };
-
-    fn take_first(&mut self) -> Option<Moment> {
-        self.next()
-    }
-}
-
-impl<'a> Left<DueFire> for BackDueRun<'a> {
-    ghost left = { λ run. run };
-
-    fn take_first(&mut self) -> Option<DueFire> {
+    fn take_first(&mut self) -> Option<R::Fire> {
         self.next()
     }
 }

@@ -20,28 +20,29 @@ use itoa::Buffer;
 use jiff::Timestamp;
 use jiff::tz::Offset;
 
-/// The longest sentence, with two texts of 53 bytes.
+/// The length of the longest sentence, which has two texts of 53 bytes.
 const LONGEST: usize = 131;
 
 type Sentence = ArrayVec<u8, LONGEST>;
 
 const NANOS: i128 = 1_000_000_000;
 
-/// A fire that no run came up to, and since when it is late, in seconds since 1970.
+/// A fire without a run after it, and since when it is late, in seconds since 1970.
 #[derive(Clone, Copy)]
 pub struct Missed<F> {
     pub fire: F,
     pub since: i64,
 }
 
-// Whether an instant has come.
+// Whether the instant `second`, in seconds since 1970, is at or before `now`.
 fn has_come(second: i64, now: Timestamp) -> bool
     ensures { result ≡ int_le (nanos second) now.nanosecond }
 {
     i128::from(second) * NANOS <= now.as_nanosecond()
 }
 
-// Since when a fire is late, if its grace is over.
+// The end of a fire's grace, in seconds since 1970: a fire at `second` is late from then on. `None`
+// if the grace isn't over at `now`.
 fn since_of(second: i64, grace: u32, now: Timestamp) -> Option<i64>
     requires bound { IsBetween (neg_ℤ (pos 93_599)) (pos 8_590_028_189) second }
     ensures { result ≡ since_of second grace now.nanosecond }
@@ -54,7 +55,8 @@ fn since_of(second: i64, grace: u32, now: Timestamp) -> Option<i64>
     }
 }
 
-/// The fire is missed where its grace, in seconds, is over.
+/// `first`, the first fire after the last run, as a missed one. `None` if there is no such fire, or
+/// its `grace`, in seconds, isn't over.
 pub(crate) fn missed_of<F: Told>(first: Option<F>, grace: u32, now: Timestamp) -> Option<Missed<F>>
     ensures { result ≡ missed_of F.second grace now.nanosecond first }
 {
@@ -63,7 +65,7 @@ pub(crate) fn missed_of<F: Told>(first: Option<F>, grace: u32, now: Timestamp) -
     Some(Missed { fire, since })
 }
 
-// Appends bytes.
+// Appends bytes, which must fit in.
 fn push_bytes(sentence: &mut Sentence, bytes: &[u8])
     requires { array_vec_len sentence.old + length bytes.now ≤ 131 }
     ensures items { sentence.new.items ≡ sentence.old.items ++ bytes.now }
@@ -72,7 +74,7 @@ fn push_bytes(sentence: &mut Sentence, bytes: &[u8])
     sentence.try_extend_from_slice(bytes).unwrap();
 }
 
-// An instant as `@` and its seconds.
+// An instant as `@` and its seconds since 1970.
 fn counted_text(second: i64) -> Text
     ensures { result.items ≡ 64 ∷ signed_decimal second }
 {
@@ -84,7 +86,8 @@ fn counted_text(second: i64) -> Text
     text
 }
 
-// What a clock at an offset shows at an instant; outside of 1970 to 2100 its seconds.
+// What a clock at `offset` shows at the instant `second`, in seconds since 1970. Outside of 1970 to
+// 2100 it is `@` and the seconds.
 fn since_text(second: i64, offset: Offset) -> Text
     ensures { IsSinceText second offset result.items }
 {
@@ -137,7 +140,8 @@ fn status_of<F: Told>(missed: &Option<Missed<F>>) -> Status
     }
 }
 
-/// Writes the sentence, and flushes.
+/// Writes whether a fire was missed, and flushes. The status is `No` if one was. No call of the
+/// writer may have failed before.
 pub(crate) fn say<F: Told, W: Watchable>(missed: &Option<Missed<F>>, out: &mut Watched<W>) -> Status
     requires { has_failed out.old ≡ false }
     ensures says { Says F.text F.offset missed.now

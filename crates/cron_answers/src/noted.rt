@@ -1,4 +1,4 @@
-//! What the file of a stamp notes.
+//! What a stamp notes, a file that holds the last fire that was done.
 
 ghost use Rattle.cron_answers.specs.Stamps.{ReadsStamp};
 
@@ -8,16 +8,16 @@ use cron_zones::files::ZoneFiles;
 use std::alloc::Global;
 use std::io::ErrorKind;
 
-/// What the file of a stamp notes.
+/// What the file of a stamp notes: the last fire that was done, if it can be read.
 #[derive(Clone, Copy)]
 pub enum Noted {
-    /// This fire.
+    /// The last fire that was done.
     Fire(DueFire),
     /// Nothing: there is no file.
     Nothing,
-    /// Nothing that can be told: it is no stamp, or is cut short.
+    /// Nothing readable: the file is no stamp, or is cut short.
     Broken,
-    /// It can't be read.
+    /// Unknown: the file can't be read.
     Unread,
 }
 

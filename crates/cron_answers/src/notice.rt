@@ -1,4 +1,5 @@
-//! What is said of stamps on standard error.
+//! The notices on stamps, which are files that hold the last fire that was done. They go to
+//! standard error.
 
 ghost use Rattle.std.specs.Prelude.{◌≡◌, false};
 ghost use Rattle.cron_writer.specs.Calls.{AreWritesFlushed};
@@ -11,7 +12,7 @@ use cron_writer::watchable::Watchable;
 use cron_writer::watched::{Watched, send};
 use std::alloc::Global;
 
-/// What is said of a stamp, or of a word that is to be a fire.
+/// A notice on a stamp, or on a word that should be a fire.
 #[derive(Clone, Copy, Debug, PartialEq, Eq)]
 pub enum Notice {
     /// There is no stamp, so the last fire is due.
@@ -24,7 +25,7 @@ pub enum Notice {
     NoFire,
     /// The stamp can't be read.
     Unread,
-    /// It is no stamp, or cut short, and is kept.
+    /// The file is no stamp, or is cut short, and is kept.
     Broken,
     /// The stamp can't be written.
     Unwritten,
@@ -56,7 +57,7 @@ fn back_of(notice: Notice) -> &'static str
     }
 }
 
-// How a subcommand ends that says no more.
+// The status of a subcommand that ends after the notice.
 fn status_of(notice: Notice) -> Status
     ensures { result ≡ notice_status notice }
 {
@@ -67,8 +68,9 @@ fn status_of(notice: Notice) -> Status
     }
 }
 
-/// Writes the line, and flushes. Where memory runs out for it the line says that. No call of the
-/// writer may have failed before.
+/// Writes the line of the notice, and flushes. `word` is the stamp's path, or the text that is no
+/// fire. If memory runs out for the line, it says that instead. No call of the writer may have
+/// failed before.
 pub(crate) fn say<W: Watchable>(
     alloc: Global,
     notice: Notice,

@@ -1,8 +1,8 @@
-//! What the words of `oncalendar` are answered.
+//! Answers the subcommand `oncalendar`: writes an expression as systemd's `OnCalendar`.
 
 ghost use Rattle.std.specs.Prelude.{◌≡◌, ◌||◌, false, true, MatchResult};
 ghost use Rattle.std.specs.Option.{ForSome, option_map};
-ghost use Rattle.cron_listing.specs.Output.{complaint};
+ghost use Rattle.cron_walk_listing.specs.Output.{complaint};
 ghost use Rattle.cron_oncalendar.specs.Zones.{is_word};
 ghost use Rattle.cron_writer.specs.Calls.{AreWritesFlushed};
 ghost use Rattle.cron_writer.specs.Watching.{has_failed, writer_of};
@@ -20,7 +20,7 @@ use cron_writer::watchable::Watchable;
 use cron_writer::watched::Watched;
 use std::alloc::Global;
 
-// Reads an expression, or tells why the text is none.
+// Reads an expression. `Err` has why the text is none.
 fn read_words(quartz: bool, text: &str) -> Result<Expression, Trouble<'_>>
     ensures { MatchResult result (IsReadAs quartz text.now) (IsNoExpression quartz text.now) }
 {
@@ -30,7 +30,7 @@ fn read_words(quartz: bool, text: &str) -> Result<Expression, Trouble<'_>>
     }
 }
 
-// Says that an expression never fires, and flushes. No call of the writer may have failed before.
+// Writes that an expression never fires, and flushes. No call of the writer may have failed before.
 fn tell_never<W: Watchable>(out: &mut Watched<W>) -> Status
     requires { has_failed out.old ≡ false }
     ensures ends { Ends No (complaint never_text)
@@ -43,10 +43,10 @@ fn tell_never<W: Watchable>(out: &mut Watched<W>) -> Status
     send_text(never, Status::No, out)
 }
 
-/// Writes lines of systemd's `OnCalendar` that say an expression, of Quartz where that is asked
-/// for, each with the name of a zone if one is given: they match the same civil seconds from 1970 to
-/// 2100. The status is `No` where it never fires, since systemd has no line for that. No call of the
-/// writers may have failed before.
+/// Writes an expression as lines of systemd's `OnCalendar`, which match the same civil seconds from
+/// 1970 to 2100. It is an expression of Quartz if `quartz`. If `zone` is given, its name ends each
+/// line. The status is `No` if the expression never fires, since systemd has no line for that. No
+/// call of the writers may have failed before.
 pub fn write_calendar<W: Watchable, C: Watchable>(
     alloc: Global,
     quartz: bool,

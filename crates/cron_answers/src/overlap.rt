@@ -1,4 +1,4 @@
-//! What the words of `overlap` are answered.
+//! Answers the subcommand `overlap`: writes the first civil second that two expressions both match.
 
 ghost use Rattle.std.specs.Prelude.{◌≡◌, ◌||◌, false, IfOk};
 ghost use Rattle.std.specs.String.{string_bytes};
@@ -15,7 +15,7 @@ use cron_writer::watchable::Watchable;
 use cron_writer::watched::Watched;
 use std::alloc::{AllocError, Global};
 
-// How the subcommand ends: whether there is one that both match.
+// The status of the subcommand: `Done` if both expressions match some civil second, else `No`.
 fn common_status(found: Option<u32>) -> Status
     ensures status { result ≡ common_status found }
     ensures done { is_write_failure result ≡ false }
@@ -26,7 +26,7 @@ fn common_status(found: Option<u32>) -> Status
     }
 }
 
-// The line of the first civil second that both match, or nothing.
+// The line of the first civil second that both expressions match. It is empty if there is none.
 fn common_text(alloc: Global, found: Option<u32>) -> Result<String, AllocError>
     ensures { IfOk result (λ text. string_bytes text ≡ common_text found) }
 {
@@ -37,8 +37,8 @@ fn common_text(alloc: Global, found: Option<u32>) -> Result<String, AllocError>
     format!(in alloc; "{date_time}\n")
 }
 
-/// Writes the first civil second that two expressions both match, and the status is `Done`; or
-/// there is none, and it is `No`. No call of the writers may have failed before.
+/// Writes the first civil second that two expressions both match. The status is `Done`, or `No` if
+/// there is no such second. No call of the writers may have failed before.
 pub fn overlap<W: Watchable, C: Watchable>(
     alloc: Global,
     pair: &Pair<'_>,

@@ -1,7 +1,7 @@
-//! Two expressions, and a line that is told of them.
+//! Two expressions, and lines that are written about them.
 
 ghost use Rattle.std.specs.Prelude.{◌≡◌, false, MatchResult};
-ghost use Rattle.cron_listing.specs.Output.{complaint};
+ghost use Rattle.cron_walk_listing.specs.Output.{complaint};
 ghost use Rattle.cron_moments.specs.Civil.{civil};
 ghost use Rattle.cron_unions.specs.Unions.{matches_any};
 ghost use Rattle.cron_writer.specs.Calls.{AreWritesFlushed};
@@ -20,25 +20,25 @@ use cron_units::fields::ScheduleFields;
 use cron_writer::watchable::Watchable;
 use cron_writer::watched::Watched;
 
-/// Two expressions, in words.
+/// Two expressions as arguments, not read yet.
 #[derive(Clone, Copy)]
 pub struct Pair<'a> {
-    /// Whether they are of Quartz.
+    /// Whether both are expressions of Quartz.
     pub quartz: bool,
-    /// EXPRESSION.
+    /// The argument EXPRESSION.
     pub first: &'a str,
-    /// OTHER.
+    /// The argument OTHER.
     pub second: &'a str,
 }
 
-/// Two expressions that were read.
+/// Two expressions, already read.
 #[derive(Drop)]
 pub(crate) struct Both {
     pub(crate) first: Expression,
     pub(crate) second: Expression,
 }
 
-/// Reads both, or tells which of them is none first.
+/// Reads both expressions. `Err` has the first text that is none.
 pub(crate) fn read_both<'a>(pair: &Pair<'a>) -> Result<Both, Trouble<'a>>
     ensures { MatchResult result (AreRead pair.now) (IsNoPair pair.now) }
 {
@@ -60,7 +60,8 @@ pub(crate) fn matches_second(union: &[ScheduleFields], second: u32) -> bool
     union.iter().any(|fields| includes(fields, date_time))
 }
 
-/// Writes a text whole and flushes. No call of the writer may have failed before.
+/// Writes a text whole and flushes. Returns `done`, or `WriteFailed` if a call fails. No call of
+/// the writer may have failed before.
 pub(crate) fn send_text<W: Watchable>(text: &str, done: Status, out: &mut Watched<W>) -> Status
     requires out { has_failed out.old ≡ false }
     requires done { is_write_failure done ≡ false }
@@ -73,7 +74,7 @@ pub(crate) fn send_text<W: Watchable>(text: &str, done: Status, out: &mut Watche
     send_bytes(text.as_bytes(), done, out)
 }
 
-/// Says that memory ran out, and flushes. No call of the writer may have failed before.
+/// Writes that memory ran out, and flushes. No call of the writer may have failed before.
 pub(crate) fn tell_no_memory<W: Watchable>(out: &mut Watched<W>) -> Status
     requires { has_failed out.old ≡ false }
     ensures ends { Ends Unreadable (complaint no_memory)

@@ -1,4 +1,5 @@
-//! The fires that are pending: they came due, and no stamp says that they are done.
+//! The fires that are pending: they came due, and no stamp notes them as done. A stamp is a file
+//! that holds the last fire that was done.
 
 ghost use Rattle.std.specs.Prelude.{◌≡◌, ◌*ℤ◌, ◌≤ℤ◌, pos, false, true};
 ghost use Rattle.std.specs.Option.{option_to_list};
@@ -6,13 +7,12 @@ ghost use Rattle.jiff.specs.Words.{plain_zone};
 ghost use Rattle.cron_dues.specs.Due as dues;
 ghost use Rattle.cron_dues.specs.Dues.{is_due_by, is_past};
 ghost use Rattle.cron_dues.specs.DueText.{due_text, shown};
-ghost use Rattle.cron_dues.specs.FirstDues.{IsLast};
-ghost use Rattle.cron_instants.specs.Instants.{IsBy, IsLatest};
+ghost use Rattle.cron_dues.specs.FirstDues.{IsLast, IsDue};
+ghost use Rattle.cron_instants.specs.Instants.{IsBy, IsLatest, IsItem};
 ghost use Rattle.cron_instants.specs.Order as orders;
 ghost use Rattle.cron_moments.specs.MomentText.{moment_text};
 ghost use Rattle.cron_moments.specs.Readings as moments;
-ghost use Rattle.cron_unions.specs.FirstOfAny.{IsItemOfAny};
-ghost use Rattle.cron_unions.specs.UnionDues.{IsDueOfAny};
+ghost use Rattle.cron_unions.specs.Unions.{any_of};
 ghost use Rattle.cron_writer.specs.Calls.{AreWritesFlushed};
 ghost use Rattle.cron_writer.specs.Watching.{has_failed, writer_of};
 ghost use Rattle.cron_answers.specs.Expressions.{changes_by, schedules_of};
@@ -38,11 +38,11 @@ use jiff::tz::TimeZone;
 /// Which fires are pending.
 #[derive(Clone, Copy)]
 pub enum Pending {
-    /// The last one up to now, since none is noted.
+    /// The last fire up to now, since no fire is noted.
     Last,
-    /// Those past the one that is noted.
+    /// All fires after the noted fire.
     Past(DueFire),
-    /// Of those the last.
+    /// The last of the fires after the noted fire.
     LatestPast(DueFire),
 }
 
@@ -53,7 +53,7 @@ fn shown_of(fire: &DueFire) -> Moment
     moment_numbered(nominal_second(fire) + fire.seconds_past(), fire.offset())
 }
 
-// Lists one fire, or none.
+// Lists one fire, or nothing if there is none.
 fn list_one<F: Told, W: Watchable>(fire: Option<F>, form: Form, out: &mut Watched<W>) -> Status
     requires { has_failed out.old ≡ false }
     ensures lists { ListsFires form F.text F.second (option_to_list fire)
@@ -71,7 +71,7 @@ fn list_one<F: Told, W: Watchable>(fire: Option<F>, form: Form, out: &mut Watche
     }
 }
 
-// Lists the fires that are left, of which this is the first.
+// Lists the fires that are left. `first` is the first of them, or `None` if none is left.
 fn list_left<F: Told, L: Left<F>, W: Watchable>(
     first: Option<F>,
     left: &mut L,
@@ -94,14 +94,14 @@ fn list_left<F: Told, L: Left<F>, W: Watchable>(
     finish(out, done)
 }
 
-// Of the times up to now at which the clock shows a match the last, if it is past the noted one.
+// The last time up to now when the clock shows a match. `None` if it isn't after the noted time.
 fn latest_moment(
     table: &Union<'_>,
     noted: &Moment,
     now: Timestamp,
     zone: &TimeZone<'_>,
 ) -> Option<Moment>
-    ensures { IsLatest (λ r. IsItemOfAny table.now.schedules.now (plain_zone zone.now) r
+    ensures { IsLatest (λ r. IsItem (any_of table.now.schedules.now) (plain_zone zone.now) r
         × (orders.is_earlier noted.now r ≡ true) × IsBy now.nanosecond r) result }
 {
     let last = last_fire_by(table, now, zone)?;
@@ -112,14 +112,14 @@ fn latest_moment(
     }
 }
 
-// Of the matches that are due by now the last, if it is past the noted one.
+// The last match that is due by now. `None` if it isn't after the noted match.
 fn latest_due(
     table: &Union<'_>,
     noted: &DueFire,
     now: Timestamp,
     zone: &TimeZone<'_>,
 ) -> Option<DueFire>
-    ensures { IsLast (λ d. IsDueOfAny table.now.schedules.now (plain_zone zone.now) d
+    ensures { IsLast (λ d. IsDue (any_of table.now.schedules.now) (plain_zone zone.now) d
         × (is_past noted.now d ≡ true) × (is_due_by now.nanosecond d ≡ true)) result }
 {
     let last = last_due_by(table, now, zone)?;
@@ -130,7 +130,7 @@ fn latest_due(
     }
 }
 
-// By the rule that each time is a fire at which the clock shows a match.
+// Lists the pending fires. Each time when the clock shows a match is a fire.
 fn list_moments<W: Watchable>(
     table: &Union<'_>,
     pending: &Pending,
@@ -162,7 +162,7 @@ fn list_moments<W: Watchable>(
     }
 }
 
-// By the rule that each match is a fire once.
+// Lists the pending fires. Each match is a fire once, also where the clock changes.
 fn list_dues<W: Watchable>(
     table: &Union<'_>,
     pending: &Pending,
@@ -190,9 +190,9 @@ fn list_dues<W: Watchable>(
     }
 }
 
-/// Writes a row for each fire that is pending, in order, and flushes: by the rule that was chosen,
-/// or the expression's own. The status is `No` where there is none. No call of the writer may have
-/// failed before.
+/// Writes a row for each fire that is pending, in order, and flushes. The rule is `chosen`, or the
+/// expression's own if that is `None`. The status is `No` if no fire is pending. No call of the
+/// writer may have failed before.
 pub fn list_pending<W: Watchable>(
     expression: &Expression,
     chosen: Option<ClockChanges>,

@@ -1,21 +1,21 @@
-//! The months that the words of `calendar` name.
+//! The months that the argument PERIOD of `calendar` names.
 
 ghost use Rattle.std.specs.Prelude.{◌≡◌, ◌≤◌, ◌+◌, ◌*◌, ℕ, IfSome, MatchOption, Some, length};
 ghost use Rattle.cron_answers.specs.Periods.{IsPeriod, Names, NamesMonth};
 ghost use Rattle.cron_answers.specs.Inner.Digits.{IsDigit, IsNoDigit, IsYearAt, Spells};
 
-/// The months of a year, or one of them, numbered from January of the year 0.
+/// The months of a year, or one of them. Months are numbered from January of the year 0.
 #[derive(Clone, Copy, Debug, PartialEq, Eq)]
 pub struct Period {
-    /// The year.
+    /// The year, from 1970 to 2100.
     pub year: u32,
-    /// The first month.
+    /// The number of the first month.
     pub first: u32,
-    /// The one behind the last.
+    /// The number of the month after the last one.
     pub end: u32,
 }
 
-// The number that a digit spells.
+// The number that a digit spells, or `None` if `byte` is no digit.
 fn digit_of(byte: u8) -> Option<u32>
     ensures { MatchOption result (IsNoDigit byte) (IsDigit byte) }
 {
@@ -28,7 +28,7 @@ fn digit_of(byte: u8) -> Option<u32>
     Some(u32::from(byte - b'0'))
 }
 
-// The number that two digits at a place spell.
+// The number that the two digits at index `at` spell. `None` if they aren't both digits.
 fn two_at(text: &[u8], at: usize) -> Option<u32>
     requires { at + 2 ≤ length text.now }
     ensures digits { IfSome result (Spells text.now at) }
@@ -39,7 +39,7 @@ fn two_at(text: &[u8], at: usize) -> Option<u32>
     Some(tens * 10 + ones)
 }
 
-// The year from 1970 to 2100 that the first four digits spell.
+// The year from 1970 to 2100 that the first four digits spell. `None` if they spell no such year.
 fn year_at(text: &[u8]) -> Option<u32>
     requires { 4 ≤ length text.now }
     ensures digits { IfSome result (IsYearAt text.now) }
@@ -52,7 +52,7 @@ fn year_at(text: &[u8]) -> Option<u32>
     Some(year)
 }
 
-// The month that a text names, as `2024-03`.
+// The month that a text names, such as `2024-03`. `None` if it names none.
 fn month_of(text: &[u8]) -> Option<Period>
     requires { length text.now ≡ 7 }
     ensures names { IfSome result (NamesMonth text.now) }
@@ -70,8 +70,8 @@ fn month_of(text: &[u8]) -> Option<Period>
     })
 }
 
-/// Reads a year from 1970 to 2100, as `2024`, or a month of one, as `2024-03`. No other text names
-/// months.
+/// Reads a year from 1970 to 2100, such as `2024`, or a month of one, such as `2024-03`. `None` for
+/// any other text.
 pub fn period_of(text: &str) -> Option<Period>
     ensures names { IfSome result (Names text.now) }
     ensures only { (p : Period) → Names text.now p → result ≡ Some p }

@@ -1,4 +1,4 @@
-//! The notice that Quartz fires otherwise than a list.
+//! The notice that Quartz fires at other instants than those listed.
 
 ghost use Rattle.std.specs.Prelude.{◌≡◌, ◌||◌, false};
 ghost use Rattle.jiff.specs.Words.{plain_zone};
@@ -26,11 +26,12 @@ use cron_writer::watchable::Watchable;
 use cron_writer::watched::Watched;
 use jiff::tz::TimeZone;
 
-/// What is said where Quartz fires otherwise.
+/// The line of the notice that Quartz fires at other instants.
 const NOTICE: &str =
     "note: Quartz fires differently here: in a fold only at the second time, in a gap not at all\n";
 
-// Whether Quartz fires then as well: at the last reading of the civil second that matches.
+// Whether Quartz fires at `fire` too: it is the last instant when the clock shows the civil second
+// that matches.
 fn is_quartz_fire<F: Told>(fire: &F, zone: &TimeZone<'_>) -> bool
     ensures { result
         ≡ is_quartz_fire (plain_zone zone.now) (F.civil fire.now) (F.second fire.now) }
@@ -45,7 +46,8 @@ fn is_quartz_fire<F: Told>(fire: &F, zone: &TimeZone<'_>) -> bool
     instant_of(&last) == fire.second()
 }
 
-// Whether one of the first fires that are left, at most so many, is none of Quartz.
+// Whether Quartz doesn't fire at one of the first `most` fires that are left, or of all if `most`
+// is `None`.
 fn has_other<F: Told, L: Left<F>>(left: &mut L, most: Option<u64>, zone: &TimeZone<'_>) -> bool
     ensures { result ≡ has_other F.civil F.second (plain_zone zone.now)
         (first_of most (L.left left.old)) }
@@ -63,7 +65,7 @@ fn has_other<F: Told, L: Left<F>>(left: &mut L, most: Option<u64>, zone: &TimeZo
     false
 }
 
-// Of the times at which the clock shows a match.
+// Whether Quartz doesn't fire at one of the requested times when the clock shows a match.
 fn has_other_moment(schedules: &[ScheduleFields], asked: &Asked, zone: &TimeZone<'_>) -> bool
     ensures { result ≡ has_other (λ r. r.second) moments.instant (plain_zone zone.now)
         (moments_of asked.now schedules.now (plain_zone zone.now)) }
@@ -85,7 +87,7 @@ fn has_other_moment(schedules: &[ScheduleFields], asked: &Asked, zone: &TimeZone
     }
 }
 
-// Of the matches, each once.
+// Whether Quartz doesn't fire at one of the requested matches, each once.
 fn has_other_due(schedules: &[ScheduleFields], asked: &Asked, zone: &TimeZone<'_>) -> bool
     ensures { result ≡ has_other (λ d. d.second) dues.instant (plain_zone zone.now)
         (dues_of asked.now schedules.now (plain_zone zone.now)) }
@@ -107,8 +109,8 @@ fn has_other_due(schedules: &[ScheduleFields], asked: &Asked, zone: &TimeZone<'_
     }
 }
 
-/// Whether one of the fires that are asked for is none of Quartz: by the rule that was chosen, or
-/// the expression's own.
+/// Whether Quartz doesn't fire at one of the requested fires. The rule is `chosen`, or the
+/// expression's own if that is `None`.
 pub(crate) fn lists_other(
     expression: &Expression,
     chosen: Option<ClockChanges>,
@@ -124,8 +126,8 @@ pub(crate) fn lists_other(
     }
 }
 
-/// Says that Quartz fires otherwise than a list, where it is one of an expression of Quartz that was
-/// written whole. No call of the writer may have failed before.
+/// Writes the notice if an expression of Quartz was listed completely, and Quartz doesn't fire at
+/// one of the listed fires. No call of the writer may have failed before.
 pub(crate) fn note<C: Watchable>(
     request: &Request<'_>,
     expression: &Expression,

@@ -1,4 +1,4 @@
-//! What is said of an expression: its sentence, its warnings, and how often it fires.
+//! The report on an expression: its sentence, its warnings, and how often it fires.
 
 ghost use Rattle.std.specs.Prelude.{◌≡◌, ◌++◌, IfOk, OnOk};
 ghost use Rattle.std.specs.String.{string_bytes};
@@ -46,7 +46,7 @@ fn push_warning(report: &mut String, form: Form, warning: Warning) -> Result<(),
     }
 }
 
-// Tells which warnings are due of a crontab's expression.
+// Appends the warnings that apply to a crontab's expression.
 fn push_those_due(
     report: &mut String,
     form: Form,
@@ -65,7 +65,8 @@ fn push_those_due(
     Ok(())
 }
 
-// Tells which warnings are due of a text, which is Quartz's expression or not.
+// Appends the warnings that apply to `text`. There are none if it isn't a crontab's expression, or
+// if `quartz`.
 fn push_warnings(
     report: &mut String,
     quartz: bool,
@@ -84,7 +85,7 @@ fn push_warnings(
     }
 }
 
-/// The sentence of an expression, and the warnings of a crontab's.
+/// The sentence of an expression. If it is a crontab's, its warnings follow.
 pub(crate) fn head_of(
     alloc: Global,
     quartz: bool,
@@ -116,7 +117,7 @@ fn waits_text(alloc: Global, form: Form, waits: &Option<Waits>) -> Result<String
     format!(in alloc; "shortest wait: {shortest}\nlongest wait: {longest}\n")
 }
 
-/// How many fires there are, and the waits between them.
+/// The text of the number of fires, and of the waits between them.
 pub(crate) fn tally_text(alloc: Global, form: Form, tally: &Tally) -> Result<String, AllocError>
     ensures { IfOk result (λ text. string_bytes text ≡ tally_text form tally.now) }
 {

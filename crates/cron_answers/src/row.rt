@@ -1,4 +1,4 @@
-//! What is written of a fire, made without memory.
+//! The row of a fire, its text or an object of JSON, made without allocation.
 
 ghost use Rattle.std.specs.Prelude.{◌≡◌, ◌≤◌, ◌+◌, ◌++◌, ◌∷◌, ℕ, ℤ, List, [], codes, length, neg_ℤ, pos};
 ghost use Rattle.std.specs.Fmt.{signed_decimal};
@@ -16,40 +16,41 @@ use cron_replies::form::Form;
 use itoa::Buffer;
 use jiff::tz::Offset;
 
-/// The longest row: an object of JSON with the longest text of a due fire and twenty digits.
+/// The bytes of the longest row: an object of JSON with the longest text of a due fire and twenty
+/// digits.
 const LONGEST: usize = 94;
 
 /// The bytes of a row.
 pub type Row = ArrayVec<u8, LONGEST>;
 
-/// A fire that a row tells.
+/// A fire that a row shows.
 pub trait Told: Copy {
-    // how it is printed
+    // how the fire is printed
     ghost text: { Self → List ℕ };
 
-    // its instant, in seconds since 1970-01-01T00:00:00Z
+    // the fire's instant, in seconds since 1970-01-01T00:00:00Z
     ghost second: { Self → ℤ };
 
-    // how far the clock is ahead of UTC at it
+    // how far the clock is ahead of UTC at the fire
     ghost offset: { Self → PlainOffset };
 
-    // the number of the civil second that matches
+    // the civil second that matches, in seconds since 1970-01-01 00:00:00
     ghost civil: { Self → ℕ };
 
-    /// How it is printed.
+    /// How the fire is printed.
     fn text(&self) -> Text
         ensures { result.items ≡ text self.now };
 
-    /// Its instant, in seconds since 1970-01-01T00:00:00Z.
+    /// The fire's instant, in seconds since 1970-01-01T00:00:00Z.
     fn second(&self) -> i64
         ensures value { result ≡ second self.now }
         ensures bound { IsBetween (neg_ℤ (pos 93_599)) (pos 8_590_028_189) result };
 
-    /// How far the clock is ahead of UTC at it.
+    /// How far the clock is ahead of UTC at the fire.
     fn offset(&self) -> Offset
         ensures { result ≡ offset self.now };
 
-    /// The number of the civil second that matches.
+    /// The civil second that matches, in seconds since 1970-01-01 00:00:00.
     fn civil(&self) -> u32
         ensures { result ≡ civil self.now };
 }
@@ -115,7 +116,7 @@ impl Told for DueFire {
     }
 }
 
-// Appends bytes.
+// Appends bytes, which must fit in.
 fn push_bytes(row: &mut Row, bytes: &[u8])
     requires { array_vec_len row.old + length bytes.now ≤ 94 }
     ensures items { row.new.items ≡ row.old.items ++ bytes.now }
@@ -157,7 +158,7 @@ fn json_row(text: &[u8], second: i64) -> Row
     row
 }
 
-/// The row of a fire.
+/// The row of a fire in the form `form`, with its line feed.
 pub fn row_of<F: Told>(form: Form, fire: &F) -> Row
     ensures { result.items ≡ row form (F.text fire.now) (F.second fire.now) }
 {

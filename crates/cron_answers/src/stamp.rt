@@ -14,13 +14,13 @@ const HEAD: &[u8] = b"crontool stamp 1: ";
 
 const END: &[u8] = b";\n";
 
-/// The longest stamp: that of the longest text of a due fire.
+/// The bytes of the longest stamp, which holds the longest text of a due fire.
 const LONGEST: usize = 73;
 
 /// The bytes of a stamp.
 pub type Stamp = ArrayVec<u8, LONGEST>;
 
-// Appends bytes.
+// Appends bytes, which must fit in.
 fn push_bytes(stamp: &mut Stamp, bytes: &[u8])
     requires { array_vec_len stamp.old + length bytes.now ≤ 73 }
     ensures items { stamp.new.items ≡ stamp.old.items ++ bytes.now }
@@ -40,7 +40,7 @@ pub fn stamp_of(fire: &DueFire) -> Stamp
     stamp
 }
 
-// The fire whose stamp it is, if it is one's. Of other bytes it is some fire or none.
+// The fire whose stamp `bytes` are. For bytes that are no stamp, the result is any fire or `None`.
 fn guess(bytes: &[u8]) -> Option<DueFire>
     ensures { (d : Due) → IsStamp bytes.now d → result ≡ Some d }
 {
@@ -51,8 +51,8 @@ fn guess(bytes: &[u8]) -> Option<DueFire>
     reader::read(text).ok()
 }
 
-/// Reads a stamp. Other bytes are refused, also where a stamp is cut short or more stands behind
-/// it.
+/// Reads a stamp. `None` for all other bytes, including a stamp that is cut short, or that more
+/// bytes follow.
 pub fn read_stamp(bytes: &[u8]) -> Option<DueFire>
     ensures text { IfSome result (IsStamp bytes.now) }
     ensures only { (d : Due) → IsStamp bytes.now d → result ≡ Some d }
@@ -63,8 +63,8 @@ pub fn read_stamp(bytes: &[u8]) -> Option<DueFire>
     }
 }
 
-/// A law over the definition, for callers that call it for what its contract says: a stamp that is
-/// cut short anywhere is no stamp.
+/// A law over the definition, which a caller calls for its contract: a stamp that is cut short
+/// anywhere is no stamp.
 pub fn fronts_are_no_stamps()
     ensures { FrontsAreNoStamps }
 {}

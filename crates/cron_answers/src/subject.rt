@@ -1,4 +1,4 @@
-//! The expression and the zone that a subcommand is asked of.
+//! The expression and the zone that the arguments of a subcommand name.
 
 ghost use Rattle.std.specs.Prelude.{MatchResult};
 ghost use Rattle.cron_answers.specs.Subjects.{IsNoSubject, IsSubject};
@@ -10,14 +10,15 @@ use cron_zones::open::{Places, open};
 use cron_zones::zone::Zone;
 use std::alloc::Global;
 
-/// An expression, and a zone in which it fires.
+/// An expression, and the zone where it fires.
 #[derive(Drop)]
 pub(crate) struct Subject<'a> {
     pub expression: Expression,
     pub zone: Zone<'a>,
 }
 
-/// Reads the expression, of Quartz where that is asked for, and opens the zone.
+/// Reads the expression, which is of Quartz if `quartz`, and opens the zone. `Err` has the first of
+/// the two that fails.
 pub(crate) fn subject_of<'a, F: ZoneFiles>(
     alloc: Global,
     quartz: bool,

@@ -1,4 +1,4 @@
-//! How many fires there are, and the waits between them.
+//! The number of fires, and the shortest and the longest wait between them.
 
 ghost use Rattle.std.specs.Prelude.{◌≡◌, map, min};
 ghost use Rattle.jiff.specs.Words.{plain_zone};
@@ -12,14 +12,14 @@ use cron_units::fields::ScheduleFields;
 use jiff::Timestamp;
 use jiff::tz::TimeZone;
 
-/// The shortest and the longest wait between fires that follow one another, in seconds.
+/// The shortest and the longest wait between consecutive fires, in seconds.
 #[derive(Clone, Copy, Debug, PartialEq, Eq)]
 pub struct Waits {
     pub shortest: u64,
     pub longest: u64,
 }
 
-/// How many fires there are, and their waits, of which one fire has none.
+/// The number of fires, and their waits. `waits` is `None` if there are fewer than two fires.
 #[derive(Clone, Copy, Debug, PartialEq, Eq)]
 pub struct Tally {
     pub fires: u64,
@@ -41,7 +41,8 @@ fn with_wait(waits: Option<Waits>, wait: u64) -> Waits
     }
 }
 
-// With one fire more, behind the last one.
+// The tally with one more fire, at `second`, in seconds since 1970. The fire before it was at
+// `last`, or it is the first if that is `None`.
 fn with_fire(tally: Tally, last: Option<i64>, second: i64) -> Tally
     ensures { result ≡ with_fire tally last second }
 {
@@ -58,7 +59,7 @@ fn with_fire(tally: Tally, last: Option<i64>, second: i64) -> Tally
     }
 }
 
-// Counts the fires that are left.
+// Counts the fires that are left, and finds the shortest and the longest wait between them.
 fn count_left<F: Told, L: Left<F>>(left: &mut L) -> Tally
     ensures { IsTally (map F.second (L.left left.old)) result }
 {
@@ -75,7 +76,8 @@ fn count_left<F: Told, L: Left<F>>(left: &mut L) -> Tally
     tally
 }
 
-/// Counts the fires after an instant, up to and with another, by a rule at clock changes.
+/// Counts the fires after `start`, up to and including `end`, by the rule `changes`, and finds the
+/// waits between them.
 pub fn count_fires(
     schedules: &[ScheduleFields],
     changes: ClockChanges,

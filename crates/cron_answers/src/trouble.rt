@@ -1,4 +1,4 @@
-//! Why a subcommand can't be answered, and the line that says so.
+//! Why a subcommand can't be answered, and the line that states it.
 
 ghost use Rattle.std.specs.Prelude.{◌≡◌, false};
 ghost use Rattle.cron_writer.specs.Calls.{AreWritesFlushed};
@@ -15,12 +15,12 @@ use cron_zones::open::Places;
 use std::alloc::Global;
 use std::fmt;
 
-/// Why a subcommand can't be answered, with the word that it is for. It prints the message.
+/// Why a subcommand can't be answered, with the word at fault. It displays the message.
 #[derive(Drop)]
 pub enum Trouble<'a> {
     /// The text is no expression.
     Expression(&'a str, Refusal<'a>),
-    /// The zone can't be had.
+    /// The zone can't be opened, for this reason.
     Zone(&'a str, ZoneError),
     /// The text is no instant.
     Instant(&'a str),
@@ -47,7 +47,8 @@ impl<'a> fmt::Display for Trouble<'a> {
 }
 
 impl<'a> Trouble<'a> {
-    /// How the subcommand ends: a word is wrong, or a zone's file can't be read.
+    /// The status of the subcommand: `WrongWords` if a word is wrong, `Unreadable` if the zone
+    /// can't be opened for another reason.
     pub fn status(&self) -> Status
         ensures { result ≡ status_of self.now }
     {
@@ -61,7 +62,7 @@ impl<'a> Trouble<'a> {
     }
 }
 
-/// The name of a zone in what is told of it: of `local` what TZ is set to.
+/// The name of a zone in messages. For `local` it is the value of TZ, if that is set.
 pub fn zone_word<'a>(zone: &'a str, places: &Places<'a>) -> &'a str
     ensures { result.now ≡ zone_word places.now.tz zone.now }
 {
@@ -76,8 +77,9 @@ pub fn zone_word<'a>(zone: &'a str, places: &Places<'a>) -> &'a str
     }
 }
 
-/// Writes the line that says why, and flushes. Where memory runs out for it the line says that. No
-/// call of the writer may have failed before.
+/// Writes the line that states the trouble, and flushes. Returns the trouble's status, or
+/// `WriteFailed` if a call fails. If memory runs out for the line, it says that instead. No call of
+/// the writer may have failed before.
 pub fn tell<W: Watchable>(alloc: Global, trouble: &Trouble<'_>, out: &mut Watched<W>) -> Status
     requires { has_failed out.old ≡ false }
     ensures told { IsTold trouble.now

@@ -5,7 +5,7 @@ ghost use Rattle.cron_crontab.specs.Crontab.{words};
 
 use cron_crontab::next_word;
 
-/// Whether a text has so many words or more, with white space between them.
+/// Whether a text has at least `count` words, with white space between them.
 pub(crate) fn has_words(text: &str, count: usize) -> bool
     ensures { result ≡ nat_le count (length (words text.now)) }
 {

@@ -1,5 +1,5 @@
-//! What entries of an agenda cost, and what they take of memory, beside the same entries in an
-//! ordered set of std.
+//! The costs and the memory of the entries of an agenda, beside the same entries in an ordered set
+//! of std.
 
 use crate::lines::varied_lines;
 use crate::rounds::{least_cost, longest_call};
@@ -15,13 +15,13 @@ use jiff::tz::{Offset, TimeZone};
 use std::alloc::Global;
 use std::fs;
 
-/// How many entries there are.
+/// The numbers of entries that are measured.
 const SIZES: [u32; 3] = [1_000, 100_000, 1_000_000];
 
-/// How many schedules they fire by, one after another.
+/// The number of schedules. The entries use them in turn.
 const SCHEDULES: usize = 10_000;
 
-/// How many fires are taken in a round.
+/// The number of fires that are taken in a round.
 const FIRES: u32 = 200_000;
 
 const ROUNDS: u32 = 5;
@@ -29,7 +29,7 @@ const ROUNDS: u32 = 5;
 /// The bytes of a page of memory.
 const PAGE: usize = 4_096;
 
-/// What the entries have in common.
+/// What all entries share: the schedules, the zones and the start.
 #[derive(Drop)]
 struct Plan<'z> {
     tables: Vec<ScheduleFields>,
@@ -37,7 +37,7 @@ struct Plan<'z> {
     start: Timestamp,
 }
 
-/// The sets of the first varied lines.
+/// The seven sets of each of the first `SCHEDULES` varied lines, which are cron expressions.
 fn tables_of(alloc: Global) -> Result<Vec<ScheduleFields>> {
     let mut tables = Vec::with_capacity(alloc, SCHEDULES)?;
     for line in varied_lines(alloc)?.iter().take(SCHEDULES) {
@@ -46,14 +46,14 @@ fn tables_of(alloc: Global) -> Result<Vec<ScheduleFields>> {
     Ok(tables)
 }
 
-/// The sets and the zone's number of the entry with this number.
+/// The seven sets of entry `at`, and the index of its zone.
 fn entry_at(plan: &Plan<'_>, at: usize) -> Result<(ScheduleFields, usize)> {
     let tables = plan.tables.as_slice();
     let table = tables.get(at % SCHEDULES).context("no schedule")?;
     Ok((*table, at % 3))
 }
 
-/// Adds the entry with this number.
+/// Adds entry number `at`.
 fn add(agenda: &mut Agenda<ScheduleFields>, plan: &Plan<'_>, at: u32) -> Result<()> {
     let (table, zone) = entry_at(plan, at as usize)?;
     let changes = ClockChanges::AsShown;
@@ -61,7 +61,7 @@ fn add(agenda: &mut Agenda<ScheduleFields>, plan: &Plan<'_>, at: u32) -> Result<
     Ok(())
 }
 
-/// Adds so many entries, whose memory was taken before.
+/// Adds `count` entries, whose memory was reserved before.
 fn fill(agenda: &mut Agenda<ScheduleFields>, plan: &Plan<'_>, count: u32) -> Result<()> {
     for at in 0..count {
         add(agenda, plan, at)?;
@@ -69,7 +69,7 @@ fn fill(agenda: &mut Agenda<ScheduleFields>, plan: &Plan<'_>, count: u32) -> Res
     Ok(())
 }
 
-/// Adds them to an ordered set.
+/// Adds the same `count` entries to an ordered set.
 fn fill_sorted(sorted: &mut Sorted, plan: &Plan<'_>, count: u32) -> Result<()> {
     for at in 0..count as usize {
         let (table, zone) = entry_at(plan, at)?;
@@ -78,7 +78,7 @@ fn fill_sorted(sorted: &mut Sorted, plan: &Plan<'_>, count: u32) -> Result<()> {
     Ok(())
 }
 
-/// Takes so many fires, and tells the sum of their entries' ids.
+/// Takes `FIRES` fires, and returns the sum of their entries' ids. `None` if there are fewer fires.
 fn take(agenda: &mut Agenda<ScheduleFields>, zones: &[TimeZone<'_>]) -> Option<u64> {
     let mut sum: u64 = 0;
     for _ in 0..FIRES {
@@ -90,7 +90,8 @@ fn take(agenda: &mut Agenda<ScheduleFields>, zones: &[TimeZone<'_>]) -> Option<u
     Some(sum)
 }
 
-/// Takes them from an ordered set.
+/// Takes `FIRES` fires from an ordered set, and returns the sum of their entries' places. `None` if
+/// there are fewer fires.
 fn take_sorted(sorted: &mut Sorted, zones: &[TimeZone<'_>]) -> Option<u64> {
     let mut sum: u64 = 0;
     for _ in 0..FIRES {
@@ -100,19 +101,20 @@ fn take_sorted(sorted: &mut Sorted, zones: &[TimeZone<'_>]) -> Option<u64> {
     Some(sum)
 }
 
-/// The sum with a round's; none where a round failed.
+/// The sum of `sum` and `round`, or `None` if one of them is missing.
 fn sum_with(sum: Option<u64>, round: Option<u64>) -> Option<u64> {
     Some(sum?.wrapping_add(round?))
 }
 
-/// The bytes of memory that the program holds.
+/// The bytes of memory that the program holds, as `/proc/self/statm` counts its pages.
 fn held_bytes(rt: &HostRuntime) -> Result<usize> {
     let text = fs::read_to_string(rt, "/proc/self/statm")?;
     let pages = text.as_str().split(' ').nth(1).context("no pages")?;
     Ok(pages.parse::<usize>()?.saturating_mul(PAGE))
 }
 
-/// Prints what a fire of an ordered set costs, and answers the sum of the ids of all rounds' fires.
+/// Prints what a fire of an ordered set costs, and returns the sum of the places of all rounds'
+/// fires.
 fn time_sorted(rt: &HostRuntime, plan: &Plan<'_>, count: u32) -> Result<u64> {
     let mut sorted = Sorted::new(rt.alloc());
     fill_sorted(&mut sorted, plan, count)?;
@@ -125,7 +127,7 @@ fn time_sorted(rt: &HostRuntime, plan: &Plan<'_>, count: u32) -> Result<u64> {
     Ok(sum)
 }
 
-/// Prints what a fire of an agenda costs, and answers the sum of the ids of all rounds' fires.
+/// Prints what a fire of an agenda costs, and returns the sum of the ids of all rounds' fires.
 fn time_fires(
     rt: &HostRuntime,
     agenda: &mut Agenda<ScheduleFields>,
@@ -141,7 +143,7 @@ fn time_fires(
     Ok(sum)
 }
 
-/// Prints what an entry takes of memory, and what it costs to add one.
+/// Adds `count` entries, and prints what one costs to add, and how much memory it takes.
 fn time_adds(
     rt: &HostRuntime,
     agenda: &mut Agenda<ScheduleFields>,
@@ -167,9 +169,8 @@ fn time_adds(
     Ok(())
 }
 
-/// Prints the longest call that takes a fire, the longest one that removes an entry, while all are
-/// removed, and the longest one that adds one, whose memory was taken before, while as many are
-/// added again.
+/// Prints the times of the longest of `count` calls that take a fire, of `count` that remove an
+/// entry, and of `count` that add one again. The memory for these is reserved before.
 fn time_pauses(
     rt: &HostRuntime,
     agenda: &mut Agenda<ScheduleFields>,
@@ -188,7 +189,7 @@ fn time_pauses(
     Ok(())
 }
 
-/// Prints what so many entries cost.
+/// Prints the costs of `count` entries.
 fn time_size(rt: &HostRuntime, plan: &Plan<'_>, count: u32) -> Result<()> {
     let mut agenda = Agenda::new(rt.alloc());
     time_adds(rt, &mut agenda, plan, count)?;
@@ -198,7 +199,7 @@ fn time_size(rt: &HostRuntime, plan: &Plan<'_>, count: u32) -> Result<()> {
     time_pauses(rt, &mut agenda, plan, count)
 }
 
-/// Prints the costs at each size.
+/// Prints the costs at each of `SIZES`.
 pub fn run(rt: &HostRuntime) -> Result<()> {
     let zones = [
         TimeZone::UTC,

@@ -1,29 +1,30 @@
-//! The calls of walks and those by instants, each made many times.
+//! The calls of walks and the calls by instants, each made many times.
 
 use cron::Schedule;
 use cron_fires::{Dues, Fires, first_due_after, first_fire_after};
 use jiff::Timestamp;
 use jiff::tz::TimeZone;
 
-/// What is called.
+/// A call that is measured.
 #[derive(Clone, Copy)]
 pub enum Call {
     Next,
     NextBack,
-    /// A walk is begun anew for each call.
+    /// `next` of a new walk for each call.
     FreshNext,
-    /// By instants, one after another.
+    /// The fires by instants, one after another.
     Fires,
-    /// By instants, each from the same start.
+    /// The first fire after the same start in each call.
     FirstFire,
-    /// Each match once, one after another.
+    /// The due fires, one after another: each match fires once.
     DueFires,
-    /// Each match once, each from the same start.
+    /// The first due fire after the same start in each call.
     FirstDueFire,
 }
 
 impl Call {
-    /// Calls it so often from an instant on, and tells which call last gave nothing.
+    /// Makes `calls` calls from `start` on. Returns the index of the last call that gave nothing,
+    /// or 0 if there is none.
     pub fn make(
         self,
         schedule: &Schedule,
@@ -43,7 +44,8 @@ impl Call {
     }
 }
 
-/// Calls `next` so often, begins anew where the walk ends, and tells when it last ended.
+/// Calls `next` `calls` times, on a new walk whenever one ends. Returns the index of the last call
+/// that found an end, or 0.
 fn ahead(schedule: &Schedule, start: Timestamp, zone: &TimeZone<'_>, calls: u32) -> u32 {
     let mut walk = schedule.after(start, zone);
     let mut ended = 0;
@@ -56,7 +58,8 @@ fn ahead(schedule: &Schedule, start: Timestamp, zone: &TimeZone<'_>, calls: u32)
     ended
 }
 
-/// Calls `next_back` so often, begins anew where the walk ends, and tells when it last ended.
+/// Calls `next_back` `calls` times, on a new walk whenever one ends. Returns the index of the last
+/// call that found an end, or 0.
 fn back(schedule: &Schedule, end: Timestamp, zone: &TimeZone<'_>, calls: u32) -> u32 {
     let mut walk = schedule.after(end, zone);
     let mut ended = 0;
@@ -69,7 +72,8 @@ fn back(schedule: &Schedule, end: Timestamp, zone: &TimeZone<'_>, calls: u32) ->
     ended
 }
 
-/// Calls `next` once on each of so many walks, and tells which one last had no item.
+/// Calls `next` once on each of `calls` walks. Returns the index of the last walk without an item,
+/// or 0.
 fn fresh(schedule: &Schedule, start: Timestamp, zone: &TimeZone<'_>, calls: u32) -> u32 {
     let mut walk = schedule.after(start, zone);
     let mut ended = 0;
@@ -82,8 +86,8 @@ fn fresh(schedule: &Schedule, start: Timestamp, zone: &TimeZone<'_>, calls: u32)
     ended
 }
 
-/// Calls `next` of a run of fires so often, begins anew where the run ends, and tells when it last
-/// ended.
+/// Calls `next` of a run of fires `calls` times, on a new run whenever one ends. Returns the index
+/// of the last call that found an end, or 0.
 fn fires(schedule: &Schedule, start: Timestamp, zone: &TimeZone<'_>, calls: u32) -> u32 {
     let mut run = Fires::after(schedule, start, zone);
     let mut ended = 0;
@@ -96,7 +100,8 @@ fn fires(schedule: &Schedule, start: Timestamp, zone: &TimeZone<'_>, calls: u32)
     ended
 }
 
-/// Asks for the first fire after the start so often, and tells which call last had none.
+/// Searches the first fire after `start` `calls` times. Returns the index of the last call that
+/// found none, or 0.
 fn first_fires(schedule: &Schedule, start: Timestamp, zone: &TimeZone<'_>, calls: u32) -> u32 {
     let mut ended = 0;
     for call in 0..calls {
@@ -107,8 +112,8 @@ fn first_fires(schedule: &Schedule, start: Timestamp, zone: &TimeZone<'_>, calls
     ended
 }
 
-/// Calls `next` of a run of due fires so often, begins anew where the run ends, and tells when it
-/// last ended.
+/// Calls `next` of a run of due fires `calls` times, on a new run whenever one ends. Returns the
+/// index of the last call that found an end, or 0.
 fn due_fires(schedule: &Schedule, start: Timestamp, zone: &TimeZone<'_>, calls: u32) -> u32 {
     let mut run = Dues::after(schedule, start, zone);
     let mut ended = 0;
@@ -121,7 +126,8 @@ fn due_fires(schedule: &Schedule, start: Timestamp, zone: &TimeZone<'_>, calls: 
     ended
 }
 
-/// Asks for the first due fire after the start so often, and tells which call last had none.
+/// Searches the first due fire after `start` `calls` times. Returns the index of the last call that
+/// found none, or 0.
 fn first_due_fires(schedule: &Schedule, start: Timestamp, zone: &TimeZone<'_>, calls: u32) -> u32 {
     let mut ended = 0;
     for call in 0..calls {

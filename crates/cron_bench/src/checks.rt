@@ -1,23 +1,22 @@
-//! What checks of lines cost.
+//! The costs of checking lines that are expressions.
 
 use crate::lines::{LINES, varied_lines};
 use crate::rounds::least_cost;
-use anyhow::{Result, bail, ensure};
-use cron_checking::arguments::request_of;
+use anyhow::{Result, ensure};
 use cron_checking::check::{Outcome, check};
-use cron_checking::line::Telling;
+use cron_checking::line::{Mode, Telling};
 use cron_writer::watched::Watched;
 use std::alloc::{AllocError, Global};
 use std::io::Cursor;
 
-/// How many short lines are checked, in digits and as a number.
+/// The files of short lines: what a row calls each, and how many lines it has.
 const SHORT_LINES: [(&str, u32); 3] = [
     ("10,000 short checked", 10_000),
     ("100,000 short checked", 100_000),
     ("1,000,000 short checked", 1_000_000),
 ];
 
-/// The lines of a file: so many times a short one.
+/// A file that has the short line `@daily` `count` times.
 fn short_file(alloc: Global, count: u32) -> Result<String, AllocError> {
     let mut file = String::new(alloc);
     for _ in 0..count {
@@ -26,7 +25,7 @@ fn short_file(alloc: Global, count: u32) -> Result<String, AllocError> {
     Ok(file)
 }
 
-/// The lines of a file: the varied ones.
+/// A file of the varied lines.
 fn varied_file(alloc: Global) -> Result<String, AllocError> {
     let mut file = String::new(alloc);
     for line in varied_lines(alloc)?.as_slice() {
@@ -36,7 +35,7 @@ fn varied_file(alloc: Global) -> Result<String, AllocError> {
     Ok(file)
 }
 
-/// Whether each line of a file is read.
+/// Returns true if a check of the file accepts each line.
 fn are_read(alloc: Global, how: &Telling<'_>, file: &str) -> bool {
     let mut room = [0_u8; 64];
     let mut out = Watched::new(Cursor::new(room.as_mut_slice()));
@@ -44,7 +43,8 @@ fn are_read(alloc: Global, how: &Telling<'_>, file: &str) -> bool {
     check(alloc, how, &mut reader, &mut out) == Outcome::AllRead
 }
 
-/// Prints the least cost in 15 rounds of a line of a file, each of which is read.
+/// Prints the least cost of a checked line in 15 rounds over a file of `lines` lines. It fails if a
+/// line is refused.
 fn time_check(
     rt: &HostRuntime,
     name: &str,
@@ -64,16 +64,12 @@ fn time_check(
     Ok(())
 }
 
-/// Prints what a line of a file costs that is checked as `crontool check --expressions` does: of
-/// varied ones, and of more and more short ones.
+/// Prints what it costs to check a line as `crontool check --expressions` does: for varied lines,
+/// and for files of more and more short lines.
 pub fn run(rt: &HostRuntime) -> Result<()> {
-    let words: Vec<String> = Vec::new(rt.alloc());
-    let Some(request) = request_of(words.as_slice()) else {
-        bail!("a check asks for words");
-    };
     let how = Telling {
         front: "",
-        mode: request.mode,
+        mode: Mode::Faults,
     };
     let varied = varied_file(rt.alloc())?;
     time_check(rt, "checked", &how, varied.as_str(), LINES)?;

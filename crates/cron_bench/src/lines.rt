@@ -1,5 +1,5 @@
-//! What varied lines cost. One text that is read again and again lets a processor foresee each
-//! branch; of these, each is another.
+//! The costs of varied lines: each is another cron expression. If one text is read again and again,
+//! a processor foresees each branch.
 
 ghost use Rattle.std.specs.Prelude.{◌<◌, ◌≤◌};
 
@@ -12,10 +12,11 @@ use jiff::Timestamp;
 use jiff::tz::TimeZone;
 use std::alloc::{AllocError, Global};
 
-/// How many lines are read.
+/// The number of varied lines.
 pub const LINES: u32 = 100_000;
 
-/// The start of 2018, and the seconds from a line's start to that of the following line.
+/// The start of 2018, in seconds since 1970, where the first line's search starts. The next
+/// constant is the number of seconds from one line's start to the next line's start.
 const FIRST_START: i64 = 1_514_764_800;
 
 const BETWEEN_STARTS: i64 = 977;
@@ -26,14 +27,14 @@ const MONTHS: [&str; 12] = [
 
 const DAYS: [&str; 7] = ["Mon", "Tue", "Wed", "Thu", "Fri", "Sat", "Sun"];
 
-/// Numbers without a pattern, the same in each run.
+/// Pseudorandom numbers, the same in each run.
 #[derive(Drop)]
 struct Draw {
     state: u64,
 }
 
 impl Draw {
-    /// A number below a bound.
+    /// A number below `bound`.
     fn below(&mut self, bound: u32) -> u32
         requires { 0 < bound }
         ensures { result < bound }
@@ -45,7 +46,7 @@ impl Draw {
         (self.state >> 33) as u32 % bound
     }
 
-    /// A number from the least to the greatest.
+    /// A number from `least` to `greatest`, both included.
     fn number(&mut self, least: u32, greatest: u32) -> u32
         requires order { least ≤ greatest }
         requires small { greatest < 1000 }
@@ -56,7 +57,7 @@ impl Draw {
     }
 }
 
-/// The numbers of a list: up to four, one bit for each.
+/// The numbers of a list, up to four from `least` to `greatest`, with one bit for each.
 fn members_of(draw: &mut Draw, least: u32, greatest: u32) -> u64
     requires order { least ≤ greatest }
     requires small { greatest < 64 }
@@ -68,7 +69,7 @@ fn members_of(draw: &mut Draw, least: u32, greatest: u32) -> u64
     members
 }
 
-/// Up to four numbers in ascending order, each once.
+/// Appends a list of up to four numbers in ascending order, each once.
 fn push_list(
     text: &mut String,
     draw: &mut Draw,
@@ -89,7 +90,7 @@ fn push_list(
     Ok(())
 }
 
-/// A field of numbers: one, steps, a range, a list, or a star.
+/// Appends a field of numbers: one number, steps, a range, a list, or a star.
 fn push_field(
     text: &mut String,
     draw: &mut Draw,
@@ -113,7 +114,7 @@ fn push_field(
     }
 }
 
-/// A month's field: a star, a name or numbers.
+/// Appends a field of months: a star, a name or numbers.
 fn push_months(text: &mut String, draw: &mut Draw) -> Result<(), AllocError> {
     if draw.below(3) > 0 {
         return text.push_str("*");
@@ -124,7 +125,7 @@ fn push_months(text: &mut String, draw: &mut Draw) -> Result<(), AllocError> {
     push_field(text, draw, 1, 12)
 }
 
-/// A field of the days of the week: a star, a name or the working days.
+/// Appends a field of days of the week: a star, a name or the working days.
 fn push_days_of_week(text: &mut String, draw: &mut Draw) -> Result<(), AllocError> {
     if draw.below(2) > 0 {
         return text.push_str("*");
@@ -135,7 +136,8 @@ fn push_days_of_week(text: &mut String, draw: &mut Draw) -> Result<(), AllocErro
     text.push_str("Mon-Fri")
 }
 
-/// A line as a crontab has it, with a field of seconds before it. Most begin with `0`.
+/// The five fields of a crontab line, with a field of seconds before them. Most lines begin with
+/// `0`.
 fn varied_line(alloc: Global, draw: &mut Draw) -> Result<String, AllocError> {
     let mut text = String::new(alloc);
     if draw.below(10) < 8 {
@@ -162,7 +164,7 @@ fn varied_line(alloc: Global, draw: &mut Draw) -> Result<String, AllocError> {
     Ok(text)
 }
 
-/// The lines, the same in each run.
+/// The varied lines, which are cron expressions, the same in each run.
 pub fn varied_lines(alloc: Global) -> Result<Vec<String>, AllocError> {
     let mut draw = Draw { state: 20_221_106 };
     let mut lines = Vec::with_capacity(alloc, LINES as usize)?;
@@ -172,8 +174,8 @@ pub fn varied_lines(alloc: Global) -> Result<Vec<String>, AllocError> {
     Ok(lines)
 }
 
-/// Reads each line from its bytes into sets, as a caller from C has it read, and counts those that
-/// mean any.
+/// Reads the bytes of each line into sets, as a call from C does, and returns the number of lines
+/// that are read.
 fn read_all(lines: &[String]) -> u32 {
     let mut read: u32 = 0;
     let mut fields = no_ordinals();
@@ -185,7 +187,8 @@ fn read_all(lines: &[String]) -> u32 {
     read
 }
 
-/// Makes a schedule of each line, which keeps a copy of it, and counts them.
+/// Makes a schedule of each line, which keeps a copy of the line, and returns the number of
+/// schedules.
 fn keep_all(alloc: Global, lines: &[String]) -> u32 {
     let mut read: u32 = 0;
     for line in lines {
@@ -196,13 +199,13 @@ fn keep_all(alloc: Global, lines: &[String]) -> u32 {
     read
 }
 
-/// Whether a schedule has an item after a second.
+/// Returns true if the schedule has an item after `second`, counted from 1970 on.
 fn has_item(schedule: &Schedule, second: i64, zone: &TimeZone<'_>) -> bool {
     Timestamp::from_second(second).is_ok_and(|start| schedule.after(start, zone).next().is_some())
 }
 
-/// Finds the first item of each schedule after an instant of its own, and counts those that have
-/// one.
+/// Finds the first item of each schedule after an instant of its own, and returns the number of
+/// schedules that have one.
 fn find_all(schedules: &[Schedule], zone: &TimeZone<'_>) -> u32 {
     let mut found: u32 = 0;
     let mut second = FIRST_START;
@@ -224,7 +227,8 @@ fn schedules_of(alloc: Global, lines: &[String]) -> Result<Vec<Schedule>> {
     Ok(schedules)
 }
 
-/// Prints the least cost in 15 rounds of a line that is read into sets, and of one that is kept.
+/// Prints the least cost of a line in 15 rounds: reading it into sets, and keeping it in a
+/// schedule.
 fn time_reads(rt: &HostRuntime, lines: &[String]) -> Result<()> {
     let mut is_whole = true;
     let read = least_cost(rt, 15, LINES, || is_whole &= read_all(lines) == LINES)?;
@@ -240,7 +244,7 @@ fn time_reads(rt: &HostRuntime, lines: &[String]) -> Result<()> {
     Ok(())
 }
 
-/// Prints the least cost in 15 rounds of a first item.
+/// Prints the least cost of finding a first item in 15 rounds.
 fn time_firsts(
     rt: &HostRuntime,
     name: &str,
@@ -252,7 +256,7 @@ fn time_firsts(
     Ok(())
 }
 
-/// Prints what a line costs that is read, that is kept, and whose first item is found.
+/// Prints the costs of reading a line, of keeping it, and of finding its first item.
 pub fn run(rt: &HostRuntime) -> Result<()> {
     let chicago = TimeZone::posix(CHICAGO)?;
     let lines = varied_lines(rt.alloc())?;
@@ -262,7 +266,7 @@ pub fn run(rt: &HostRuntime) -> Result<()> {
     time_firsts(rt, "Chicago", schedules.as_slice(), &chicago)
 }
 
-/// Prints the lines.
+/// Prints the varied lines.
 pub fn print(rt: &HostRuntime) -> Result<()> {
     for line in varied_lines(rt.alloc())?.as_slice() {
         println!(rt; "{line}")?;

@@ -1,6 +1,6 @@
-//! Prints what calls cost, in nanoseconds:
+//! Prints the costs of calls, in nanoseconds:
 //!
-//! - `cron_bench run`: a parse, and a call of a walk;
+//! - `cron_bench run`: a parse, a call of a walk, and a call by instants;
 //! - `cron_bench growth`: parses of longer and longer lists;
 //! - `cron_bench lines`: each of 100,000 varied lines, and of lines as `crontool check
 //!   --expressions` checks them;
@@ -10,8 +10,8 @@
 //! - `cron_bench quartz`: a fire of a form of Quartz;
 //! - `cron_bench agenda`: entries of an agenda, beside a `BTreeSet`.
 //!
-//! `cron_bench print` prints the varied lines. With no word it prints nothing. At other words, and
-//! where a text, a zone or a file is refused, it ends with an error and the status 1.
+//! `cron_bench print` prints the varied lines. Without a word it prints nothing. With other words,
+//! or if a text, a zone or a file is refused, it ends with an error and the status 1.
 #![tactic(auto)]
 
 mod agendas;
@@ -31,7 +31,7 @@ mod walks;
 use anyhow::{Result, bail};
 use std::env;
 
-/// Prints what the words after the program's name ask for.
+/// Prints what `words`, the words after the program's name, select.
 fn run(rt: &HostRuntime, words: &[String]) -> Result<()> {
     let Some((word, others)) = words.split_first() else {
         return Ok(());

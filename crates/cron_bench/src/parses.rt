@@ -1,4 +1,4 @@
-//! What parses cost.
+//! The costs of parses.
 
 use crate::rounds::least_cost;
 use anyhow::{Result, ensure};
@@ -17,7 +17,7 @@ const ITEMS: [&str; 3] = ["0", "0-59", "*"];
 
 const LENGTHS: [u32; 5] = [10, 100, 1_000, 10_000, 100_000];
 
-/// Reads a text so many times, and tells whether it was read each time.
+/// Reads `text` `times` times. Returns true if it was accepted each time.
 fn is_read(alloc: Global, text: &str, times: u32) -> bool {
     let mut read: u32 = 0;
     for _ in 0..times {
@@ -28,7 +28,8 @@ fn is_read(alloc: Global, text: &str, times: u32) -> bool {
     read == times
 }
 
-/// Prints the least cost of a parse in so many rounds. A long text is shown by its length.
+/// Prints the least cost of a parse in `rounds` rounds of `times` parses. For a text of 60 bytes or
+/// more it prints the length in place of the text.
 fn time_parse(rt: &HostRuntime, text: &str, rounds: u32, times: u32) -> Result<()> {
     let mut all_read = true;
     let cost = least_cost(
@@ -54,7 +55,7 @@ pub fn run(rt: &HostRuntime) -> Result<()> {
     Ok(())
 }
 
-/// A text whose first field is a list of one item so many times.
+/// A text whose first field is a list that has `item` `length` times.
 fn list_of(alloc: Global, item: &str, length: u32) -> Result<String, AllocError> {
     let mut text = String::from_str(alloc, item)?;
     for _ in 1..length {
@@ -65,7 +66,7 @@ fn list_of(alloc: Global, item: &str, length: u32) -> Result<String, AllocError>
     Ok(text)
 }
 
-/// Prints the cost of a parse of longer and longer lists of an item.
+/// Prints the costs of parses of longer and longer lists of `item`.
 fn time_lists(rt: &HostRuntime, item: &str) -> Result<()> {
     for length in LENGTHS {
         let text = list_of(rt.alloc(), item, length)?;
@@ -75,7 +76,7 @@ fn time_lists(rt: &HostRuntime, item: &str) -> Result<()> {
     Ok(())
 }
 
-/// Prints the cost of a parse of longer and longer lists.
+/// Prints the costs of parses of longer and longer lists.
 pub fn grow(rt: &HostRuntime) -> Result<()> {
     for item in ITEMS {
         time_lists(rt, item)?;

@@ -1,13 +1,11 @@
-//! What a fire and a first fire of a form of Quartz cost, a union of up to twelve schedules, beside
-//! those of its first schedule alone.
+//! The costs of a fire and of a first fire of a form of Quartz, which is a union of up to twelve
+//! schedules. Beside them are the costs of its first schedule by itself.
 
 use crate::rounds::least_cost;
 use crate::walks::CHICAGO;
 use anyhow::{Context, Result};
-use cron_instants::instants;
+use cron_fires::{Fires, Union, first_fire_after};
 use cron_quartz::read;
-use cron_unions::instants::first_after;
-use cron_unions::run::Run;
 use cron_units::fields::ScheduleFields;
 use jiff::Timestamp;
 use jiff::tz::TimeZone;
@@ -20,42 +18,42 @@ const FORMS: [&str; 5] = [
     "0 * * LW * ?",
 ];
 
-/// How many fires are taken, and how often a first one is asked for.
+/// The number of fires that are taken, and of searches for a first fire.
 const CALLS: u32 = 1_000;
 
-/// Takes so many fires of schedules as one, of twelve at most, begins anew where the run ends, and
-/// tells when it last ended.
-fn take_fires(schedules: &[ScheduleFields], start: Timestamp, zone: &TimeZone<'_>) -> u32 {
-    let few = &schedules[..schedules.len().min(12)];
-    let mut run = Run::<12>::after(few, start, zone);
+/// Takes `CALLS` fires of the union, from a new run whenever one ends. Returns the index
+/// of the last call that found an end, or 0.
+fn take_fires<'x>(union: &'x Union<'x>, start: Timestamp, zone: &'x TimeZone<'x>) -> u32 {
+    let mut run = Fires::after(union, start, zone);
     let mut ended = 0;
     for call in 0..CALLS {
         if run.next().is_none() {
-            run = Run::<12>::after(few, start, zone);
+            run = Fires::after(union, start, zone);
             ended = call;
         }
     }
     ended
 }
 
-/// Asks so often for the first fire of schedules as one, and tells which call last had none.
-fn ask_firsts(schedules: &[ScheduleFields], start: Timestamp, zone: &TimeZone<'_>) -> u32 {
+/// Searches the first fire of the union `CALLS` times. Returns the index of the last
+/// call that found none, or 0.
+fn ask_firsts(union: &Union<'_>, start: Timestamp, zone: &TimeZone<'_>) -> u32 {
     let mut ended = 0;
     for call in 0..CALLS {
-        if first_after(schedules, start, zone).is_none() {
+        if first_fire_after(union, start, zone).is_none() {
             ended = call;
         }
     }
     ended
 }
 
-/// Asks so often for the first fire of each of some schedules by itself, and tells which call last
-/// had none.
+/// Searches the first fire of each schedule by itself `CALLS` times. Returns the index of the last
+/// call that found none, or 0.
 fn ask_each(schedules: &[ScheduleFields], start: Timestamp, zone: &TimeZone<'_>) -> u32 {
     let mut ended = 0;
     for call in 0..CALLS {
         for fields in schedules {
-            if instants::first_after(fields, start, zone).is_none() {
+            if first_fire_after(fields, start, zone).is_none() {
                 ended = call;
             }
         }
@@ -63,25 +61,29 @@ fn ask_each(schedules: &[ScheduleFields], start: Timestamp, zone: &TimeZone<'_>)
     ended
 }
 
-/// Prints what a fire and a first fire of a form cost.
+/// Prints the costs of a fire and of a first fire of a form.
 fn time_form(rt: &HostRuntime, name: &str, form: &str, zone: &TimeZone<'_>) -> Result<()> {
     let start = "2018-01-01T00:00:00Z".parse::<Timestamp>()?;
     let expression = read(form).ok().context("a form is refused")?;
-    let union = expression.as_slice();
-    let first = union.get(..1).context("a form has no schedule")?;
-    let count = union.len();
-    let one = least_cost(rt, 20, CALLS, || take_fires(first, start, zone))?;
-    let all = least_cost(rt, 20, CALLS, || take_fires(union, start, zone))?;
+    let schedules = expression.as_slice();
+    let count = schedules.len();
+    let first = Union {
+        schedules: schedules.get(..1).context("a form has no schedule")?,
+    };
+    let union = Union { schedules };
+    let one = least_cost(rt, 20, CALLS, || take_fires(&first, start, zone))?;
+    let all = least_cost(rt, 20, CALLS, || take_fires(&union, start, zone))?;
     println!(rt; "quartz fires | {name} | {form} | {count} | {one} | {all}")?;
-    let one = least_cost(rt, 20, CALLS, || ask_firsts(first, start, zone))?;
-    let all = least_cost(rt, 20, CALLS, || ask_firsts(union, start, zone))?;
-    let each = least_cost(rt, 20, CALLS, || ask_each(union, start, zone))?;
+    let one = least_cost(rt, 20, CALLS, || ask_firsts(&first, start, zone))?;
+    let all = least_cost(rt, 20, CALLS, || ask_firsts(&union, start, zone))?;
+    let each = least_cost(rt, 20, CALLS, || ask_each(schedules, start, zone))?;
     println!(rt; "quartz first fire | {name} | {form} | {count} | {one} | {each} | {all}")?;
     Ok(())
 }
 
-/// Prints for each form in two zones how many schedules it has, and what its first one costs and
-/// all of them as one; of a first fire in between also each of them by itself, one after another.
+/// Prints for each form in two zones the number of its schedules, the cost of its first schedule,
+/// and the cost of all of them as one. Between both costs of a first fire it prints a third: the
+/// cost of all schedules by themselves, one after another.
 pub fn run(rt: &HostRuntime) -> Result<()> {
     let chicago = TimeZone::posix(CHICAGO)?;
     for form in FORMS {

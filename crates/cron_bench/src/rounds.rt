@@ -1,10 +1,10 @@
-//! What a call costs: the least of some rounds.
+//! The cost of a call: the least of some rounds.
 
 use anyhow::Result;
 use std::fmt;
 use std::time::Instant;
 
-/// What a call costs, which a row shows in nanoseconds with one digit behind the point.
+/// The cost of a call, shown in nanoseconds with one digit after the point.
 #[derive(Clone, Copy)]
 pub struct Cost {
     tenths: u128,
@@ -16,7 +16,8 @@ impl fmt::Display for Cost {
     }
 }
 
-/// The cost of one of so many calls in the fastest of some rounds, each of which makes all of them.
+/// The cost of one call in the fastest of `rounds` rounds. Each call of `round` makes `calls`
+/// calls.
 pub fn least_cost<F: FnMut() -> R, R: Drop>(
     rt: &HostRuntime,
     rounds: u32,
@@ -36,7 +37,7 @@ pub fn least_cost<F: FnMut() -> R, R: Drop>(
     })
 }
 
-/// What the longest of so many calls took, each of which is given its number.
+/// The time of the longest of `calls` calls of `call`. The argument is the index of the call.
 pub fn longest_call<F: FnMut(u32) -> R, R: Drop>(
     rt: &HostRuntime,
     calls: u32,

@@ -1,5 +1,5 @@
-//! Entries in a list beside an ordered set of std, as one merges fires without an agenda: what it
-//! costs is the measure of an agenda.
+//! Entries in a list, with an ordered set of std beside it: a way to merge fires without an agenda.
+//! The costs of an agenda are compared with its costs.
 
 use anyhow::{Context, Result};
 use cron::schedule::Moment;
@@ -19,7 +19,7 @@ struct SortedEntry {
     fire: Moment,
 }
 
-/// Entries, and the instants of their next fires, each beside the entry's place.
+/// Entries, and the instants of their next fires, each with the place of its entry in the list.
 #[derive(Drop)]
 pub struct Sorted {
     entries: Vec<SortedEntry>,
@@ -27,7 +27,7 @@ pub struct Sorted {
 }
 
 impl Sorted {
-    /// No entries.
+    /// Returns a list without entries.
     pub fn new(alloc: Global) -> Sorted {
         Sorted {
             entries: Vec::new(alloc),
@@ -35,7 +35,8 @@ impl Sorted {
         }
     }
 
-    /// Adds an entry: the fires of sets after an instant in the zone with this number.
+    /// Adds an entry with the fires of `table` after `start` in zone number `zone`. It fails if
+    /// there is no such zone or no fire.
     pub fn add(
         &mut self,
         table: ScheduleFields,
@@ -51,7 +52,8 @@ impl Sorted {
         Ok(())
     }
 
-    /// Takes what fires next, and tells the entry's place.
+    /// Removes the next fire and returns the place of its entry. It fails if no entry fires any
+    /// more.
     pub fn next(&mut self, zones: &[TimeZone<'_>]) -> Result<usize> {
         let (_, place) = self.instants.pop_first().context("no entry is left")?;
         let entry = self.entries.get_mut(place).context("no entry")?;

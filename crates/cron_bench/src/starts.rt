@@ -1,13 +1,14 @@
-//! What it costs to begin a run: entries that are noted, read and ready before the first wait.
+//! The cost to begin a run of a crontab, up to its first wait: entries that a note of an earlier
+//! run has are read and made ready.
 
 use crate::rounds::least_cost;
 use anyhow::{Context, Result, ensure};
 use cron_agenda_scheduler::{AgendaStop, Lateness};
-use cron_ringing::printer::Printer;
-use cron_running::{EntryClock, Failure, Noted, RunOrders, TabFile, TabWriter, run_files};
+use cron_printing::printer::Printer;
 use cron_scheduler::AlarmClock;
+use cron_tab_agenda::Clock;
 use cron_tab_lines::Crontab;
-use cron_tab_listing::Clock;
+use cron_tab_running::{EntryClock, Failure, Noted, RunOrders, TabFile, TabWriter, run_files};
 use cron_tab_tasks::{Form, Orders};
 use cron_writer::watched::Watched;
 use jiff::Timestamp;
@@ -27,11 +28,11 @@ const ORDERS: RunOrders<'static> = RunOrders {
     most: u64::MAX,
 };
 
-/// It can't wait.
+/// The error of a clock that can't wait.
 #[derive(Clone, Copy, Debug)]
 struct Stopped;
 
-/// A clock that shows an instant, and can't wait.
+/// A clock that always shows the same instant, and can't wait.
 #[derive(Clone, Copy)]
 struct StoppedClock(Timestamp);
 
@@ -51,7 +52,8 @@ impl EntryClock for StoppedClock {
     fn begin(&mut self, _until: Timestamp, _entries: Vec<Vec<u8>>) {}
 }
 
-/// A note of the lines of a file, as entries without a zone.
+/// A note that the entries of a crontab were run up to `until`. Each line is an entry, whose zone
+/// has no name.
 fn note_of(alloc: Global, file: &[u8], until: Timestamp) -> Result<Noted, AllocError> {
     let mut entries = Vec::new(alloc);
     for line in file.split(|byte| *byte == b'\n') {
@@ -62,7 +64,7 @@ fn note_of(alloc: Global, file: &[u8], until: Timestamp) -> Result<Noted, AllocE
     Ok(Noted { until, entries })
 }
 
-/// Begins a run of a file, and tells whether it came to its first wait.
+/// Begins a run of a crontab. Returns true if it came to its first wait.
 fn begins(alloc: Global, file: &[u8], noted: &Noted, zones: &[TimeZone<'_>]) -> bool {
     let mut clock = StoppedClock(noted.until);
     let mut writer = TabWriter::new(alloc, Watched::new(Vec::new(alloc)));
@@ -89,7 +91,7 @@ fn begins(alloc: Global, file: &[u8], noted: &Noted, zones: &[TimeZone<'_>]) -> 
     )
 }
 
-/// Prints what the start of a run of a file costs, all of whose entries are noted.
+/// Prints the cost to begin a run of a crontab. All its entries are noted.
 pub fn time_start(rt: &HostRuntime, file: &[u8], entries: u32) -> Result<()> {
     let zones = [TimeZone::UTC];
     let start = Timestamp::from_second(1_514_764_800)

@@ -1,5 +1,5 @@
-//! What crontabs cost: expressions of five fields beside those of six, a file of 100,000 lines,
-//! the next fires of many entries, and the start of a run of them.
+//! The costs of crontabs: expressions of five fields beside expressions of six, a file of 100,000
+//! lines, the next fires of many entries, and the start of a run of them.
 
 use crate::lines::{LINES, varied_lines};
 use crate::rounds::least_cost;
@@ -8,20 +8,20 @@ use crate::walks::CHICAGO;
 use anyhow::{Context, Result, ensure};
 use cron_agenda::Agenda;
 use cron_crontab::{Expression, read};
+use cron_tab_agenda::{Clock, TabEntry, add_lines, list_fires};
 use cron_tab_lines::{Crontab, FileLine, Line, Lines};
-use cron_tab_listing::{Clock, TabEntry, add_lines, list_fires};
 use cron_tab_warnings::{LINE_WARNINGS, WARNINGS, text_of, warns, warns_line};
 use cron_text::{no_ordinals, read_into};
 use jiff::Timestamp;
 use jiff::tz::TimeZone;
 use std::alloc::{AllocError, Global};
 
-/// How many entries fire, and how many of their fires are listed.
+/// The number of entries that fire. The next constant is the number of their fires that are listed.
 const ENTRIES: u32 = 10_000;
 
 const FIRES: usize = 1_000;
 
-/// The five fields of a line, which stand behind its seconds.
+/// The five fields of a line, which follow its seconds.
 fn five_fields(line: &str) -> &str {
     match line.split_once(' ') {
         Some((_, fields)) => fields,
@@ -29,7 +29,7 @@ fn five_fields(line: &str) -> &str {
     }
 }
 
-/// Reads each line's six fields, and counts those that mean sets.
+/// Reads each line's six fields, and returns the number of lines that are read.
 fn read_sixes(lines: &[String]) -> u32 {
     let mut read: u32 = 0;
     let mut fields = no_ordinals();
@@ -41,7 +41,7 @@ fn read_sixes(lines: &[String]) -> u32 {
     read
 }
 
-/// Reads each line's five fields as a crontab's, and counts those that mean a schedule.
+/// Reads each line's five fields as a crontab's, and returns the number of lines that are read.
 fn read_fives(lines: &[String]) -> u32 {
     let mut count: u32 = 0;
     for line in lines {
@@ -52,7 +52,7 @@ fn read_fives(lines: &[String]) -> u32 {
     count
 }
 
-/// A crontab with an entry for each of the first lines.
+/// A crontab with an entry for each of the first `count` lines.
 fn crontab_of(alloc: Global, lines: &[String], count: u32) -> Result<Vec<u8>, AllocError> {
     let mut file = Vec::new(alloc);
     for line in lines.iter().take(count as usize) {
@@ -130,7 +130,7 @@ fn count_fires(
     Some(fires.len())
 }
 
-/// Prints what an expression costs that is read, of six fields and of five.
+/// Prints the cost of reading an expression of six fields, and of five.
 fn time_reads(rt: &HostRuntime, lines: &[String]) -> Result<()> {
     let mut is_whole = true;
     let six = least_cost(rt, 15, LINES, || is_whole &= read_sixes(lines) == LINES)?;
@@ -141,7 +141,7 @@ fn time_reads(rt: &HostRuntime, lines: &[String]) -> Result<()> {
     Ok(())
 }
 
-/// Prints what a line of a file costs that is read, and one whose warnings are asked for.
+/// Prints the cost of reading a line of a file, and of reading it with its warnings.
 fn time_lines(rt: &HostRuntime, file: &[u8]) -> Result<()> {
     let mut is_whole = true;
     let read = least_cost(rt, 15, LINES, || is_whole &= count_entries(file) == LINES)?;
@@ -152,7 +152,7 @@ fn time_lines(rt: &HostRuntime, file: &[u8]) -> Result<()> {
     Ok(())
 }
 
-/// Prints what the next fires of all entries of a file cost, with the file read.
+/// Prints the cost of reading a file and listing the next fires of its entries.
 fn time_fires(rt: &HostRuntime, file: &[u8]) -> Result<()> {
     let zones = [TimeZone::posix(CHICAGO)?];
     let start = Timestamp::from_second(1_514_764_800).context("no instant")?;
@@ -168,7 +168,7 @@ fn time_fires(rt: &HostRuntime, file: &[u8]) -> Result<()> {
     Ok(())
 }
 
-/// Prints what crontabs cost.
+/// Prints the costs of crontabs.
 pub fn run(rt: &HostRuntime) -> Result<()> {
     let lines = varied_lines(rt.alloc())?;
     time_reads(rt, lines.as_slice())?;

@@ -1,4 +1,4 @@
-//! What runs around a transition of a zone cost, in the zone from a file and by Chicago's rule.
+//! The costs of runs around a transition of a zone: in the zone of a file, and by Chicago's rule.
 
 use crate::calls::Call;
 use crate::rounds::least_cost;
@@ -9,7 +9,7 @@ use jiff::Timestamp;
 use jiff::tz::{TimeZone, Tzif};
 use std::fs;
 
-/// How many fires a run has, and how often a first one is asked for.
+/// The number of fires of a run. The next constant is the number of searches for a first fire.
 const FIRES: u32 = 1_000_000;
 
 const FIRST_FIRES: u32 = 1_000;
@@ -33,7 +33,8 @@ const FIRSTS: [&str; 5] = [
     "* * 1 * * *",
 ];
 
-/// What is called for a run and for a first fire, each beside its name in a row.
+/// The calls that are measured in a run, each with its name in a row. The next constant has the
+/// calls for a first fire.
 const RUN_CALLS: [(Call, &str); 3] = [
     (Call::Next, "walk"),
     (Call::Fires, "fires"),
@@ -46,11 +47,11 @@ const FIRST_CALLS: [(Call, &str); 3] = [
     (Call::FirstDueFire, "first due fire"),
 ];
 
-/// How long before the transition a run starts: half of a million seconds.
+/// A run starts half a million seconds before the transition.
 const RUN_UP: i64 = 500_000;
 
-/// Where the first fires are asked for, by seconds from the transition: far before it, in the hour
-/// before it, at it, in the hour after it, and far after it.
+/// The starts of the searches for a first fire, in seconds from the transition: far before it, in
+/// the hour before it, at it, in the hour after it, and far after it.
 const PLACES: [(&str, i64); 5] = [
     ("far before", -10_000_000),
     ("before", -1_800),
@@ -59,7 +60,7 @@ const PLACES: [(&str, i64); 5] = [
     ("far after", 5_000_000),
 ];
 
-/// A zone under its name in a row, and the second of the transition.
+/// A zone with its name in a row, and the instant of the transition, in seconds since 1970.
 #[derive(Drop)]
 struct Setting<'z> {
     name: &'static str,
@@ -68,13 +69,14 @@ struct Setting<'z> {
 }
 
 impl<'z> Setting<'z> {
-    /// The instant so many seconds after the transition.
+    /// The instant `seconds` seconds after the transition.
     fn instant(&self, seconds: i64) -> Result<Timestamp> {
         Ok(Timestamp::from_second(self.turn.saturating_add(seconds))?)
     }
 }
 
-/// Prints the cost of a walk and of a run of as many fires.
+/// Prints the costs of a walk, of a run of fires and of a run of due fires, each with `FIRES`
+/// calls.
 fn time_run(rt: &HostRuntime, setting: &Setting<'_>, text: &str) -> Result<()> {
     let schedule = Schedule::from_str(rt.alloc(), text)?;
     let start = setting.instant(-RUN_UP)?;
@@ -86,7 +88,8 @@ fn time_run(rt: &HostRuntime, setting: &Setting<'_>, text: &str) -> Result<()> {
     Ok(())
 }
 
-/// Prints the cost of a first fire, and of a `next` of a walk that is begun there, at a place.
+/// Prints the costs of a first fire, of a first due fire, and of `next` on a new walk, each from
+/// `start`.
 fn time_place(
     rt: &HostRuntime,
     setting: &Setting<'_>,
@@ -104,7 +107,7 @@ fn time_place(
     Ok(())
 }
 
-/// Prints the costs of a first fire at each place.
+/// Prints the costs of a first fire at each of `PLACES`.
 fn time_first(rt: &HostRuntime, setting: &Setting<'_>, text: &str) -> Result<()> {
     let schedule = Schedule::from_str(rt.alloc(), text)?;
     for (place, seconds) in PLACES {
@@ -130,13 +133,13 @@ fn time_firsts(rt: &HostRuntime, setting: &Setting<'_>) -> Result<()> {
     Ok(())
 }
 
-/// Prints both in a zone.
+/// Prints the costs of runs and of first fires in a zone.
 fn time_zone(rt: &HostRuntime, setting: &Setting<'_>) -> Result<()> {
     time_runs(rt, setting)?;
     time_firsts(rt, setting)
 }
 
-/// The second of the first transition of a zone after June of 2022.
+/// The instant of the first transition of a zone after June of 2022, in seconds since 1970.
 fn turn_of(zone: &TimeZone<'_>) -> Result<i64> {
     let july = "2022-07-01T00:00:00Z".parse::<Timestamp>()?;
     let turn = zone
@@ -146,8 +149,8 @@ fn turn_of(zone: &TimeZone<'_>) -> Result<i64> {
     Ok(turn.timestamp().as_second())
 }
 
-/// Prints what runs and first fires cost around a transition of the zone in a file, and around that
-/// one by Chicago's rule.
+/// Prints the costs of runs and first fires around a transition of the zone in a file, and around
+/// the same instant by Chicago's rule.
 pub fn run(rt: &HostRuntime, path: &str) -> Result<()> {
     let bytes = fs::read(rt, path).context(path)?;
     let table = Tzif::parse(rt.alloc(), None, bytes.as_slice()).context(path)?;

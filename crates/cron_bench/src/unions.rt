@@ -1,13 +1,12 @@
-//! What a fire of two schedules as one costs, beside one of the first of them alone, by both rules.
+//! The cost of a fire of two schedules as one, beside the cost of the first of them by itself, by
+//! both rules.
 
 use crate::calls::Call;
 use crate::rounds::least_cost;
 use crate::walks::CHICAGO;
 use anyhow::Result;
 use cron::Schedule;
-use cron_fires::fields_of;
-use cron_unions::due_run::DueRun;
-use cron_unions::run::Run;
+use cron_fires::{CivilSeconds, Dues, Fires, Rule, Run, Union, fields_of};
 use jiff::Timestamp;
 use jiff::tz::TimeZone;
 
@@ -22,8 +21,8 @@ const PAIRS: [(&str, &str); 6] = [
 
 const FIRES: u32 = 10_000;
 
-/// Takes so many fires of several schedules, and tells which call last gave nothing.
-fn take_fires(run: &mut Run<'_, 2>) -> u32 {
+/// Takes `FIRES` fires of a run. Returns the index of the last call that gave nothing, or 0.
+fn take_fires<S: CivilSeconds, R: Rule>(run: &mut Run<'_, S, R>) -> u32 {
     let mut ended = 0;
     for call in 0..FIRES {
         if run.next().is_none() {
@@ -33,18 +32,7 @@ fn take_fires(run: &mut Run<'_, 2>) -> u32 {
     ended
 }
 
-/// The same of due fires.
-fn take_dues(run: &mut DueRun<'_>) -> u32 {
-    let mut ended = 0;
-    for call in 0..FIRES {
-        if run.next().is_none() {
-            ended = call;
-        }
-    }
-    ended
-}
-
-/// Prints what a fire of each costs.
+/// Prints the costs of a fire and a due fire: of the first schedule, and of both as one.
 fn time_pair(
     rt: &HostRuntime,
     name: &str,
@@ -53,16 +41,16 @@ fn time_pair(
 ) -> Result<()> {
     let start = "2018-01-01T00:00:00Z".parse::<Timestamp>()?;
     let first = Schedule::from_str(rt.alloc(), one)?;
-    let both = [
-        fields_of(&first),
-        fields_of(&Schedule::from_str(rt.alloc(), other)?),
-    ];
+    let second = Schedule::from_str(rt.alloc(), other)?;
+    let both = Union {
+        schedules: &[fields_of(&first), fields_of(&second)],
+    };
     let cost = least_cost(rt, 20, FIRES, || {
         Call::Fires.make(&first, start, zone, FIRES)
     })?;
     println!(rt; "fires | {name} | {one} | {cost}")?;
     let cost = least_cost(rt, 20, FIRES, || {
-        take_fires(&mut Run::<2>::after(&both, start, zone))
+        take_fires(&mut Fires::after(&both, start, zone))
     })?;
     println!(rt; "fires | {name} | {one} and {other} | {cost}")?;
     let cost = least_cost(rt, 20, FIRES, || {
@@ -70,7 +58,7 @@ fn time_pair(
     })?;
     println!(rt; "due fires | {name} | {one} | {cost}")?;
     let cost = least_cost(rt, 20, FIRES, || {
-        take_dues(&mut DueRun::after(&both, start, zone))
+        take_fires(&mut Dues::after(&both, start, zone))
     })?;
     println!(rt; "due fires | {name} | {one} and {other} | {cost}")?;
     Ok(())

@@ -1,4 +1,4 @@
-//! What the calls of walks cost, and those by instants.
+//! The costs of the calls of walks and of the calls by instants.
 
 use crate::calls::Call;
 use crate::rounds::least_cost;
@@ -7,7 +7,7 @@ use cron::Schedule;
 use jiff::Timestamp;
 use jiff::tz::{Offset, TimeZone};
 
-/// The rule of Chicago.
+/// The rule of Chicago's zone as a POSIX text.
 pub const CHICAGO: &str = "CST6CDT,M3.2.0,M11.1.0";
 
 const TEXTS: [&str; 8] = [
@@ -24,7 +24,7 @@ const TEXTS: [&str; 8] = [
 /// A text that no date matches.
 const NEVER: &str = "0 0 0 30 2 *";
 
-/// What is called, each beside its name in a row.
+/// The calls, each with its name in a row.
 const CALLS: [(Call, &str); 7] = [
     (Call::Next, "next"),
     (Call::NextBack, "next_back"),
@@ -35,7 +35,7 @@ const CALLS: [(Call, &str); 7] = [
     (Call::FirstDueFire, "first due fire"),
 ];
 
-/// Where a call starts, so that it has items to give: ahead of it, or behind it.
+/// The instant where a call starts, so that it finds items: after it, or before it for `next_back`.
 fn start_of(call: Call) -> Result<Timestamp> {
     let text = match call {
         Call::NextBack => "2100-12-31T12:00:00Z",
@@ -61,7 +61,7 @@ fn time_calls(
     Ok(())
 }
 
-/// Prints the cost of calls over each text in three zones.
+/// Prints the costs of the calls for each text in three zones, and for `NEVER` in two.
 pub fn run(rt: &HostRuntime) -> Result<()> {
     let offset = TimeZone::fixed(Offset::from_seconds(19_800)?);
     let chicago = TimeZone::posix(CHICAGO)?;

@@ -1,35 +1,35 @@
-//! Places that are taken or free, a bit for each.
+//! Rows of bits, in one word of 64 bits or in several. A place is the number of a bit, from 0.
 
 ghost use Rattle.std.specs.Prelude.{◌≡◌, ◌<◌, ◌≤◌, ◌+◌, ◌-◌, ◌*◌, ◌%◌, ℕ, Bool, true, false, ◌&&◌, ◌||◌, ◌↔◌, ◌^◌, not, IsTrue, MatchOption, nat_lt, nat_le, nat_eq};
 ghost use Rattle.cron_bits.specs.Words.{count_below, has_bit};
 
 use super::multiples::{multiples, place_in_rest};
 
-/// A row of bits, of which the first `size` can be 1.
+/// A row of bits. Only the first `size` bits can be 1.
 pub trait Words: Copy {
-    /// Whether a bit is 1.
+    /// Whether the bit at a place is 1.
     ghost has: { Self → ℕ → Bool };
 
-    /// Each word has 64 bits.
+    /// Each word of the row is below 2^64.
     ghost IsFit: { Self → Type 0 };
 
-    /// The words whose ones are the places at which a test is true.
+    /// The row that has a 1 at each place for which a test is true, and nowhere else.
     ghost made: { (ℕ → Bool) → Self };
 
-    /// How many bits there are.
+    /// How many bits a row has.
     ghost size: { ℕ };
 
-    /// No bit is 1.
+    /// Returns the row whose bits are all 0.
     fn none() -> Self
         ensures fit { IsFit result }
         ensures bits { (k : ℕ) → has result k ≡ false };
 
-    /// Every bit is 1.
+    /// Returns the row whose bits are all 1.
     fn full() -> Self
         ensures fit { IsFit result }
         ensures bits { (k : ℕ) → has result k ≡ nat_lt k size };
 
-    /// Every so many-th bit is 1, from a place on.
+    /// Returns the row with a 1 at `first`, `first + every` and so on, and nowhere else.
     fn every_nth(first: u32, every: u32) -> Self
         requires { 0 < every }
         ensures fit { IsFit result }
@@ -37,51 +37,52 @@ pub trait Words: Copy {
             → has result k
             ≡ (nat_lt k size && (nat_le first k && nat_eq ((k - first) % every) 0)) };
 
-    /// Tells whether a bit is 1.
+    /// Returns true if the bit at `place` is 1.
     fn contains(self, place: u32) -> bool
         requires { IsFit self }
         ensures { result ≡ has self place };
 
-    /// Sets a bit.
+    /// Returns the row with the bit at `place` set to 1.
     fn with(self, place: u32) -> Self
         requires fit { IsFit self }
         requires within { place < size }
         ensures fit { IsFit result }
         ensures bits { (k : ℕ) → has result k ≡ (has self k || nat_eq k place) };
 
-    /// Clears a bit.
+    /// Returns the row with the bit at `place` set to 0. A place after the last bit changes
+    /// nothing.
     fn without(self, place: u32) -> Self
         requires { IsFit self }
         ensures fit { IsFit result }
         ensures bits { (k : ℕ) → has result k ≡ (not (nat_eq k place) && has self k) };
 
-    /// Keeps the bits from a place on.
+    /// Returns the row with each bit before `place` set to 0.
     fn at_least(self, place: u32) -> Self
         requires { IsFit self }
         ensures fit { IsFit result }
         ensures bits { (k : ℕ) → has result k ≡ (nat_le place k && has self k) };
 
-    /// Keeps the bits before a place.
+    /// Returns the row with each bit from `place` on set to 0.
     fn below(self, place: u32) -> Self
         requires { IsFit self }
         ensures fit { IsFit result }
         ensures bits { (k : ℕ) → has result k ≡ (nat_lt k place && has self k) };
 
-    /// Joins two rows of bits.
+    /// Returns the row with a 1 wherever one of two rows has it.
     fn join(self, other: Self) -> Self
         requires fit { IsFit self }
         requires other_fit { IsFit other }
         ensures fit { IsFit result }
         ensures bits { (k : ℕ) → has result k ≡ (has self k || has other k) };
 
-    /// Finds the first bit that is 1.
+    /// Returns the place of the first bit that is 1, or `None` if no bit is.
     fn lowest(self) -> Option<u32>
         requires { IsFit self }
         ensures { MatchOption result
             ((k : ℕ) → has self k ≡ false)
             (λ i. (i < size) × (has self i ≡ true) × ((k : ℕ) → k < i → has self k ≡ false)) };
 
-    /// Finds the last bit that is 1.
+    /// Returns the place of the last bit that is 1, or `None` if no bit is.
     fn highest(self) -> Option<u32>
         requires { IsFit self }
         ensures { MatchOption result
@@ -94,22 +95,22 @@ pub trait Words: Copy {
         ensures value { result ≡ count_below (has self) size }
         ensures within { result ≤ size };
 
-    /// Tells whether all bits are the same.
+    /// Returns true if each bit equals the same bit of `other`.
     fn same(self, other: Self) -> bool
         ensures { IsTrue result ↔ (self ≡ other) };
 
-    /// Lends one of the words, each of which has 64 of the bits.
+    /// Returns word `index`: bits `64 * index` to `64 * index + 63`. Words after the last are 0.
     fn word(self, index: u32) -> u64
         requires { IsFit self }
         ensures { (k : ℕ) → k < 64 → has_bit result k ≡ has self (64 * index + k) };
 
-    /// A bit that is 1 is one of the first.
+    /// A bit that is 1 is one of the first `size`.
     ghost within: { (words : Self) (k : ℕ) → has words k ≡ true → k < size };
 
-    /// 32 bits count the bits.
+    /// The number of bits is below 2^32.
     ghost countable: { size < 2 ^ 32 };
 
-    /// The bits tell the words.
+    /// `made` gives a row back from its bits, so rows with equal bits are equal.
     ghost remade: { (words : Self) (test : ℕ → Bool)
         → IsFit words
         → ((k : ℕ) → test k ≡ has words k)
@@ -216,9 +217,9 @@ impl Words for u64 {
     }
 }
 
-/// A row of bits before which another word has room.
+/// A row of bits that one more word can be put in front of.
 pub trait Extensible: Words {
-    /// 32 bits count the bits of both.
+    /// A row with one more word has fewer than 2^32 bits.
     ghost extensible: { 64 + Self.size < 2 ^ 32 };
 }
 

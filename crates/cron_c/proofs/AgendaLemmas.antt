@@ -7,20 +7,20 @@ use Rattle.std.proofs.lemmas.List.{length-map, map-set}
 use Rattle.std.proofs.lemmas.Option.{slice_get-get_or, slice_get-map, slice_get_within}
 use Rattle.std.proofs.Math.Seq.{map-set_same}
 use Rattle.jiff_core.proofs.SignedLemmas.{signed_arith}
-use Rattle.cron_units.specs.Sets.{Sets}
 use Rattle.cron_moments.specs.Readings.{Reading}
+use Rattle.cron_time.specs.Seconds.{Seconds}
 use Rattle.cron_instants.specs.Instants.{IsEarliest}
 use Rattle.cron_instants.specs.Order.{comes_before, is_earlier}
 use Rattle.cron_instants.proofs.OrderLemmas.{before-false}
 use Rattle.cron_earliest.specs.declared.Key.{Key}
-use Rattle.cron_earliest.specs.Places.{HasAt}
+use Rattle.cron_instants.specs.Places.{HasAt}
 use Rattle.cron_earliest.specs.Tree.{IsBestAt, best_at, best_of, key_of, lesser, own_at}
 use Rattle.cron_earliest.proofs.TreeLemmas.{UpTo, first-has, first-some, first-up, own-is, set-right}
-use Rattle.cron_c.specs.Agendas.{AreSame, AreSameBut, ComesDue, FirstIsDue, FollowsBy, FollowsIn, GoesOn, HasOwn, IsAgenda, IsAgendaBut, NoneIsDue, TakesFirst, bare, instants_of, never, own_eras, own_sets, soonest, when}
+use Rattle.cron_c.specs.Agendas.{AreSame, AreSameBut, ComesDue, FirstIsDue, FollowsBy, FollowsIn, GoesOn, HasOwn, IsAgenda, IsAgendaBut, NoneIsDue, TakesFirst, bare, instants_of, never, own_eras, own_seconds, soonest, when}
 use Rattle.cron_c.specs.Arrays.{Writes}
-use Rattle.cron_c.specs.Histories.{IsFound}
+use Rattle.cron_c.specs.Histories.{IsFound, IsHistoryItem}
 use Rattle.cron_c.specs.Structs.{IsItem, IsItemInRange}
-use Rattle.cron_c.specs.Unions.{IsItemOfAny, sets_of_all}
+use Rattle.cron_c.specs.Unions.{seconds_of_any}
 use Rattle.cron_c.specs.declared.entry.CronEntry.{CronEntry}
 use Rattle.cron_c.specs.declared.era.CronEra.{CronEra}
 use Rattle.cron_c.specs.declared.item.CronItem.{CronItem}
@@ -161,20 +161,20 @@ first-due es e now h by some agenda =
 
 -- ---- what is taken
 
-pub follows_in : (ss : List Sets) (eras : List CronEra) (r : Reading) (found : Option Reading) (old new : CronItem) (status : Status) → IsItemInRange r old
-    → IsFound eras IsEarliest (λ q. IsItemOfAny ss eras q × (is_earlier r q ≡ true)) found → Writes IsItem found old new status
-    → FollowsIn ss eras old new status
-follows_in ss eras r None old new status given wanted (is, kept) = subst (FollowsIn ss eras old new) (sym is) (r, given, wanted, kept)
-follows_in ss eras r (Some next) old new status given wanted (is, item) =
-    subst (FollowsIn ss eras old new) (sym is) (r, next, given, wanted, item)
+pub follows_in : (s : Seconds) (eras : List CronEra) (r : Reading) (found : Option Reading) (old new : CronItem) (status : Status) → IsItemInRange r old
+    → IsFound eras IsEarliest (λ q. IsHistoryItem s eras q × (is_earlier r q ≡ true)) found → Writes IsItem found old new status
+    → FollowsIn s eras old new status
+follows_in s eras r None old new status given wanted (is, kept) = subst (FollowsIn s eras old new) (sym is) (r, given, wanted, kept)
+follows_in s eras r (Some next) old new status given wanted (is, item) =
+    subst (FollowsIn s eras old new) (sym is) (r, next, given, wanted, item)
 
 pub goes_on : (schedules : List CronSchedule) (eras : List CronEra) (e : CronEntry) (own : List CronSchedule) (zone : List CronEra) (old new : CronItem)
     (status : Status) → HasOwn schedules eras e → own ≡ slice_range schedules e.schedules_from (e.schedules_from + e.schedules_length)
-    → zone ≡ own_eras eras e → old ≡ e.next → FollowsBy e.rule (sets_of_all own) zone old new status → GoesOn schedules eras e new status
+    → zone ≡ own_eras eras e → old ≡ e.next → FollowsBy e.rule (seconds_of_any own) zone old new status → GoesOn schedules eras e new status
 goes_on schedules eras e own zone old new status has own_is zone_is old_is follows =
-    let by_own = subst (λ (ss : List CronSchedule). FollowsBy e.rule (sets_of_all ss) zone old new status) own_is follows in
-    let by_zone = subst (λ (es : List CronEra). FollowsBy e.rule (own_sets schedules e) es old new status) zone_is by_own in
-    inl (has, subst (λ (item : CronItem). FollowsBy e.rule (own_sets schedules e) (own_eras eras e) item new status) old_is by_zone)
+    let by_own = subst (λ (ss : List CronSchedule). FollowsBy e.rule (seconds_of_any ss) zone old new status) own_is follows in
+    let by_zone = subst (λ (es : List CronEra). FollowsBy e.rule (own_seconds schedules e) es old new status) zone_is by_own in
+    inl (has, subst (λ (item : CronItem). FollowsBy e.rule (own_seconds schedules e) (own_eras eras e) item new status) old_is by_zone)
 
 abbrev pub comes : (schedules : List CronSchedule) (eras : List CronEra) (now : ℤ) (es : List CronEntry) (place : ℕ) (d : CronEntry) (next : CronItem)
     (status : Status) → place < length es → FirstIsDue now es place → GoesOn schedules eras (get_or es place d) next status

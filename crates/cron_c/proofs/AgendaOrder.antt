@@ -6,15 +6,14 @@ use Rattle.std.proofs.lemmas.Bool.{cases_lt}
 use Rattle.std.proofs.lemmas.Int.{ints}
 use Rattle.std.proofs.lemmas.Option.{slice_get-map}
 use Rattle.jiff_core.proofs.SignedLemmas.{signed_arith}
-use Rattle.cron_units.specs.Sets.{Sets}
+use Rattle.cron_time.specs.Seconds.{Seconds, matching_seconds}
 use Rattle.cron_instants.specs.Order.{comes_before}
 use Rattle.cron_instants.proofs.OrderLemmas.{before-not_less, before-true}
 use Rattle.cron_dues.specs.Clock.Due.{Clock, Due, due, due_instant, instant}
+use Rattle.cron_dues.specs.Clock.FirstDues.{IsDue}
 use Rattle.cron_dues.proofs.DueLemmas.{due_ascends, fire_due}
-use Rattle.cron_unions.specs.Unions.{seconds_of_any}
-use Rattle.cron_c.specs.Agendas.{is_due, is_none, never, own_sets, when}
+use Rattle.cron_c.specs.Agendas.{is_due, is_none, never, own_seconds, when}
 use Rattle.cron_c.specs.AgendaLaws.{HasDueFire, HasLeft, IsDueFire, TakenIsTheFirst, nominal}
-use Rattle.cron_c.specs.Unions.{IsDueOfAny}
 use Rattle.cron_c.specs.declared.entry.CronEntry.{CronEntry}
 use Rattle.cron_c.specs.declared.era.CronEra.{CronEra}
 use Rattle.cron_c.specs.declared.item.CronItem.{CronItem}
@@ -29,18 +28,18 @@ mapped clock d None h = cc
 mapped clock d (Some c) h =
     let is : due clock c ≡ d = cc in subst (λ (x : Due). x ≡ due clock x.second) is refl
 
-pub own-due : (ss : List Sets) (clock : Clock) (d : Due) → IsDueOfAny ss clock d → instant d ≡ due_instant clock d.second
-own-due ss clock d (i, here) =
-    ap instant (mapped clock d (slice_get (seconds_of_any ss) i) (sym (slice_get-map (due clock) (seconds_of_any ss) i) ∙ here))
+pub own-due : (s : Seconds) (clock : Clock) (d : Due) → IsDue s clock d → instant d ≡ due_instant clock d.second
+own-due s clock d (i, here) =
+    ap instant (mapped clock d (slice_get (matching_seconds s) i) (sym (slice_get-map (due clock) (matching_seconds s) i) ∙ here))
     ∙ fire_due clock d.second
 
-due-later : (ss : List Sets) (clock : Clock) (a b : CronItem) → IsDueFire ss clock a → IsDueFire ss clock b → nominal a <ℤ nominal b → a.instant ≤ℤ b.instant
-due-later ss clock a b (d, is, item) (e, other, struct) less =
+due-later : (s : Seconds) (clock : Clock) (a b : CronItem) → IsDueFire s clock a → IsDueFire s clock b → nominal a <ℤ nominal b → a.instant ≤ℤ b.instant
+due-later s clock a b (d, is, item) (e, other, struct) less =
     let first = nominal_is d a item in
     let second = nominal_is e b struct in
     let ascends = due_ascends clock d.second e.second (omega (arith, signed_arith)) in
-    let at = own-due ss clock d is in
-    let there = own-due ss clock e other in
+    let at = own-due s clock d is in
+    let there = own-due s clock e other in
     let told = item.instant_is in
     let told_there = struct.instant_is in
     omega (arith, signed_arith)
@@ -52,7 +51,7 @@ left-later : (schedules : List CronSchedule) (eras : List CronEra) (clock : Cloc
 left-later schedules eras clock e x own (inl is) = let same = ap (λ (y : CronItem). y.instant) is in omega (arith, signed_arith)
 left-later schedules eras clock e x own (inr (inl (rule, fire, inl less))) = omega (arith, signed_arith)
 left-later schedules eras clock e x own (inr (inl (rule, fire, inr same))) = let equal = same.0 in omega (arith, signed_arith)
-left-later schedules eras clock e x own (inr (inr (rule, fire, less))) = due-later (own_sets schedules e) clock e.next x (own rule).1 fire less
+left-later schedules eras clock e x own (inr (inr (rule, fire, less))) = due-later (own_seconds schedules e) clock e.next x (own rule).1 fire less
 
 when-live : (e : CronEntry) → is_none e ≡ false → when e ≡ e.next.instant
 when-live e live = rw live refl

@@ -6,22 +6,21 @@ use Rattle.std.proofs.lemmas.Bool.{cases_lt}
 use Rattle.std.proofs.lemmas.Int.{ints}
 use Rattle.std.proofs.lemmas.Option.{slice_get-map}
 use Rattle.jiff_core.proofs.SignedLemmas.{signed_arith}
-use Rattle.cron_units.specs.Sets.{Sets}
+use Rattle.cron_time.specs.Seconds.{Seconds, matching_seconds}
 use Rattle.cron_moments.specs.Readings.{Reading, instant}
 use Rattle.cron_instants.specs.Order.{is_earlier}
 use Rattle.cron_instants.proofs.OrderLemmas.{before-false, before-less, before-shared, before-true}
 use Rattle.cron_clocks.proofs.TableLemmas.{same_offset}
 use Rattle.cron_dues.specs.Clock.Due.{Clock, Due, clock_of, due}
 use Rattle.cron_dues.specs.Clock.Dues.{is_past}
-use Rattle.cron_unions.specs.Unions.{seconds_of_any}
+use Rattle.cron_dues.specs.Clock.FirstDues.{IsDue}
 use Rattle.cron_c.specs.AgendaLaws.{HasDueFire, HasLeft, IsDueFire, IsLater, IsShownFire, StillHas, TheRestIsLeft, nominal}
-use Rattle.cron_c.specs.Agendas.{FollowsIn, GoesOn, gone_on, own_eras, own_sets}
+use Rattle.cron_c.specs.Agendas.{FollowsIn, GoesOn, gone_on, own_eras, own_seconds}
 use Rattle.cron_c.specs.Dues.{FollowsDue, IsDueItem}
 use Rattle.cron_c.specs.Histories.{IsHistory}
 use Rattle.cron_c.specs.HistoryClocks.{InHistory, IsClockOf, era_at}
 use Rattle.cron_c.specs.Inner.AnyOffset.{offset_in_any}
 use Rattle.cron_c.specs.Structs.{IsItem}
-use Rattle.cron_c.specs.Unions.{IsDueOfAny, IsFirstDueOfAnyPast}
 use Rattle.cron_c.specs.declared.entry.CronEntry.{CronEntry}
 use Rattle.cron_c.specs.declared.era.CronEra.{CronEra}
 use Rattle.cron_c.specs.declared.item.CronItem.{CronItem}
@@ -109,9 +108,9 @@ pub record IsNext (Fire : CronItem → Type 0) (Later : CronItem → CronItem �
   pub later : Later last next
   pub least : (x : CronItem) → Fire x → Later last x → (x ≡ next) ⊎ Later next x
 
-shown-next : (ss : List Sets) (eras : List CronEra) (last next : CronItem) → IsHistory eras → FollowsIn ss eras last next Done
-    → IsNext (IsShownFire ss eras) IsLater last next
-shown-next ss eras last next history (r, first, given, found, item) =
+shown-next : (s : Seconds) (eras : List CronEra) (last next : CronItem) → IsHistory eras → FollowsIn s eras last next Done
+    → IsNext (IsShownFire s eras) IsLater last next
+shown-next s eras last next history (r, first, given, found, item) =
     record {
       fire = (first, found.0.0, item);
       later = shown-later r first last next given.0 item found.0.1;
@@ -120,16 +119,16 @@ shown-next ss eras last next history (r, first, given, found, item) =
           ((found.1 history).1 fire.0 (fire.1, later-shown r fire.0 last x given.0 fire.2 late));
     }
 
-shown-none : (ss : List Sets) (eras : List CronEra) (last new x : CronItem) → IsHistory eras → FollowsIn ss eras last new NoItem
-    → IsShownFire ss eras x → IsLater last x → ⊥
-shown-none ss eras last new x history (r, given, found, kept) (q, is, item) late =
+shown-none : (s : Seconds) (eras : List CronEra) (last new x : CronItem) → IsHistory eras → FollowsIn s eras last new NoItem
+    → IsShownFire s eras x → IsLater last x → ⊥
+shown-none s eras last new x history (r, given, found, kept) (q, is, item) late =
     found.1 history q (is, later-shown r q last x given.0 item late)
 
 -- ---- due fires by a clock
 
-own-second : (ss : List Sets) (clock : Clock) (d : Due) → IsDueOfAny ss clock d → d ≡ due clock d.second
-own-second ss clock d (i, here) =
-    mapped clock d (slice_get (seconds_of_any ss) i) (sym (slice_get-map (due clock) (seconds_of_any ss) i) ∙ here)
+own-second : (s : Seconds) (clock : Clock) (d : Due) → IsDue s clock d → d ≡ due clock d.second
+own-second s clock d (i, here) =
+    mapped clock d (slice_get (matching_seconds s) i) (sym (slice_get-map (due clock) (matching_seconds s) i) ∙ here)
 
 past-less : (d q : Due) → is_past d q ≡ true → d.second < q.second
 past-less d q h = grind (arith, ints)
@@ -137,16 +136,16 @@ past-less d q h = grind (arith, ints)
 less-past : (d q : Due) → d.second < q.second → is_past d q ≡ true
 less-past d q h = grind (arith, ints)
 
-due-same : (ss : List Sets) (clock : Clock) (q first : Due) (x next : CronItem) → IsDueOfAny ss clock q → IsDueOfAny ss clock first → IsDueItem q x
+due-same : (s : Seconds) (clock : Clock) (q first : Due) (x next : CronItem) → IsDue s clock q → IsDue s clock first → IsDueItem q x
     → IsDueItem first next → q.second ≡ first.second → x ≡ next
-due-same ss clock q first x next is other item struct equal =
-    let same : q ≡ first = own-second ss clock q is ∙ (ap (due clock) equal ∙ sym (own-second ss clock first other)) in
+due-same s clock q first x next is other item struct equal =
+    let same : q ≡ first = own-second s clock q is ∙ (ap (due clock) equal ∙ sym (own-second s clock first other)) in
     let told : IsDueItem first x = subst (λ (d : Due). IsDueItem d x) same item in
     item-same x next (told.instant_is ∙ sym struct.instant_is) (told.offset_is ∙ sym struct.offset_is) (told.past_is ∙ sym struct.past_is)
 
-due-next : (ss : List Sets) (clock : Clock) (last next : CronItem) → FollowsDue IsFirstDueOfAnyPast ss last next clock Done
-    → IsNext (IsDueFire ss clock) (λ a b. nominal a <ℤ nominal b) last next
-due-next ss clock last next (d, first, given, found, item) =
+due-next : (s : Seconds) (clock : Clock) (last next : CronItem) → FollowsDue s last next clock Done
+    → IsNext (IsDueFire s clock) (λ a b. nominal a <ℤ nominal b) last next
+due-next s clock last next (d, first, given, found, item) =
     record {
       fire = (first, found.0.0, item);
       later =
@@ -163,13 +162,13 @@ due-next ss clock last next (d, first, given, found, item) =
           let no_less = found.1 q (fire.1, less-past d q less) in
           elim (cases_lt first.second q.second) [
             | inl more ↦ inr (omega (arith, signed_arith))
-            | inr ge ↦ inl (due-same ss clock q first x next fire.1 found.0.0 fire.2 item (omega arith))
+            | inr ge ↦ inl (due-same s clock q first x next fire.1 found.0.0 fire.2 item (omega arith))
           ];
     }
 
-due-none : (ss : List Sets) (clock : Clock) (last new x : CronItem) → FollowsDue IsFirstDueOfAnyPast ss last new clock NoItem → IsDueFire ss clock x
+due-none : (s : Seconds) (clock : Clock) (last new x : CronItem) → FollowsDue s last new clock NoItem → IsDueFire s clock x
     → nominal last <ℤ nominal x → ⊥
-due-none ss clock last new x (d, given, found, kept) (q, is, item) late =
+due-none s clock last new x (d, given, found, kept) (q, is, item) late =
     let here = nominal_is d last given.0 in
     let at = nominal_is q x item in
     let less : d.second < q.second = omega (arith, signed_arith) in
@@ -199,35 +198,35 @@ module _ (schedules : List CronSchedule) (eras : List CronEra) (clock : Clock) (
   abbrev Rest : CronItem → Status → CronItem → Type 0
   Rest next status x = (x ≡ e.next) ⊎ StillHas schedules eras clock (gone_on e next status) x
 
-  shown-on : (next x : CronItem) → e.rule ≡ 1 → IsNext (IsShownFire (own_sets schedules e) (own_eras eras e)) IsLater e.next next → Left x → Rest next Done x
+  shown-on : (next x : CronItem) → e.rule ≡ 1 → IsNext (IsShownFire (own_seconds schedules e) (own_eras eras e)) IsLater e.next next → Left x → Rest next Done x
   shown-on next x rule n (inl is) = inl is
   shown-on next x rule n (inr (inl (r, fire, late))) =
       elim (n.least x fire late) [ inl same ↦ inr (rw rule refl, inl same) | inr later ↦ inr (rw rule refl, inr (inl (r, fire, later))) ]
   shown-on next x rule n (inr (inr (r, fire, late))) = absurd (omega (arith, rule, r))
 
-  shown-back : (next x : CronItem) → e.rule ≡ 1 → IsNext (IsShownFire (own_sets schedules e) (own_eras eras e)) IsLater e.next next → Rest next Done x → Left x
+  shown-back : (next x : CronItem) → e.rule ≡ 1 → IsNext (IsShownFire (own_seconds schedules e) (own_eras eras e)) IsLater e.next next → Rest next Done x → Left x
   shown-back next x rule n (inl is) = inl is
   shown-back next x rule n (inr (live, inl same)) =
-      inr (inl (rule, subst (IsShownFire (own_sets schedules e) (own_eras eras e)) (sym same) n.fire, subst (IsLater e.next) (sym same) n.later))
+      inr (inl (rule, subst (IsShownFire (own_seconds schedules e) (own_eras eras e)) (sym same) n.fire, subst (IsLater e.next) (sym same) n.later))
   shown-back next x rule n (inr (live, inr (inl (r, fire, late)))) = inr (inl (r, fire, later-through e.next next x n.later late))
   shown-back next x rule n (inr (live, inr (inr (r, fire, late)))) = absurd (omega (arith, rule, r))
 
-  due-on : (next x : CronItem) → e.rule ≡ 2 → IsNext (IsDueFire (own_sets schedules e) clock) (λ a b. nominal a <ℤ nominal b) e.next next → Left x → Rest next Done x
+  due-on : (next x : CronItem) → e.rule ≡ 2 → IsNext (IsDueFire (own_seconds schedules e) clock) (λ a b. nominal a <ℤ nominal b) e.next next → Left x → Rest next Done x
   due-on next x rule n (inl is) = inl is
   due-on next x rule n (inr (inl (r, fire, late))) = absurd (omega (arith, rule, r))
   due-on next x rule n (inr (inr (r, fire, late))) =
       elim (n.least x fire late) [ inl same ↦ inr (rw rule refl, inl same) | inr later ↦ inr (rw rule refl, inr (inr (r, fire, later))) ]
 
-  due-back : (next x : CronItem) → e.rule ≡ 2 → IsNext (IsDueFire (own_sets schedules e) clock) (λ a b. nominal a <ℤ nominal b) e.next next → Rest next Done x → Left x
+  due-back : (next x : CronItem) → e.rule ≡ 2 → IsNext (IsDueFire (own_seconds schedules e) clock) (λ a b. nominal a <ℤ nominal b) e.next next → Rest next Done x → Left x
   due-back next x rule n (inl is) = inl is
   due-back next x rule n (inr (live, inl same)) =
-      inr (inr (rule, subst (IsDueFire (own_sets schedules e) clock) (sym same) n.fire, subst (λ (y : CronItem). nominal e.next <ℤ nominal y) (sym same) n.later))
+      inr (inr (rule, subst (IsDueFire (own_seconds schedules e) clock) (sym same) n.fire, subst (λ (y : CronItem). nominal e.next <ℤ nominal y) (sym same) n.later))
   due-back next x rule n (inr (live, inr (inl (r, fire, late)))) = absurd (omega (arith, rule, r))
   due-back next x rule n (inr (live, inr (inr (r, fire, late)))) = let more = n.later in inr (inr (r, fire, omega (arith, signed_arith)))
 
   -- without a next fire
-  ended-on : (next x : CronItem) → (IsShownFire (own_sets schedules e) (own_eras eras e) x → e.rule ≡ 1 → IsLater e.next x → ⊥)
-      → (IsDueFire (own_sets schedules e) clock x → e.rule ≡ 2 → nominal e.next <ℤ nominal x → ⊥) → Left x → Rest next NoItem x
+  ended-on : (next x : CronItem) → (IsShownFire (own_seconds schedules e) (own_eras eras e) x → e.rule ≡ 1 → IsLater e.next x → ⊥)
+      → (IsDueFire (own_seconds schedules e) clock x → e.rule ≡ 2 → nominal e.next <ℤ nominal x → ⊥) → Left x → Rest next NoItem x
   ended-on next x not_shown not_due (inl is) = inl is
   ended-on next x not_shown not_due (inr (inl (r, fire, late))) = absurd (not_shown fire r late)
   ended-on next x not_shown not_due (inr (inr (r, fire, late))) = absurd (not_due fire r late)
@@ -237,41 +236,41 @@ module _ (schedules : List CronSchedule) (eras : List CronEra) (clock : Clock) (
   ended-back next x (inr still) = absurd (nothing schedules eras clock e next x still)
 
   rest-shown : (next x : CronItem) (status : Status) → (status ≡ Done) ⊎ (status ≡ NoItem) → e.rule ≡ 1 → IsHistory (own_eras eras e)
-      → FollowsIn (own_sets schedules e) (own_eras eras e) e.next next status → Left x ↔ Rest next status x
+      → FollowsIn (own_seconds schedules e) (own_eras eras e) e.next next status → Left x ↔ Rest next status x
   rest-shown next x status (inl done) rule history follows =
-      let n = shown-next (own_sets schedules e) (own_eras eras e) e.next next history
-      (subst (FollowsIn (own_sets schedules e) (own_eras eras e) e.next next) done follows) in
+      let n = shown-next (own_seconds schedules e) (own_eras eras e) e.next next history
+      (subst (FollowsIn (own_seconds schedules e) (own_eras eras e) e.next next) done follows) in
       subst (λ (s : Status). Left x ↔ Rest next s x) (sym done) (shown-on next x rule n, shown-back next x rule n)
   rest-shown next x status (inr none) rule history follows =
-      let said = subst (FollowsIn (own_sets schedules e) (own_eras eras e) e.next next) none follows in
+      let said = subst (FollowsIn (own_seconds schedules e) (own_eras eras e) e.next next) none follows in
       subst (λ (s : Status). Left x ↔ Rest next s x) (sym none) (
-        ended-on next x (λ fire r late. shown-none (own_sets schedules e) (own_eras eras e) e.next next x history said fire late)
+        ended-on next x (λ fire r late. shown-none (own_seconds schedules e) (own_eras eras e) e.next next x history said fire late)
             (λ fire r late. absurd (omega (arith, rule, r))),
         ended-back next x,
       )
 
   rest-due : (next x : CronItem) (status : Status) → (status ≡ Done) ⊎ (status ≡ NoItem) → e.rule ≡ 2
-      → FollowsDue IsFirstDueOfAnyPast (own_sets schedules e) e.next next clock status → Left x ↔ Rest next status x
+      → FollowsDue (own_seconds schedules e) e.next next clock status → Left x ↔ Rest next status x
   rest-due next x status (inl done) rule follows =
-      let n = due-next (own_sets schedules e) clock e.next next
-      (subst (FollowsDue IsFirstDueOfAnyPast (own_sets schedules e) e.next next clock) done follows) in
+      let n = due-next (own_seconds schedules e) clock e.next next
+      (subst (FollowsDue (own_seconds schedules e) e.next next clock) done follows) in
       subst (λ (s : Status). Left x ↔ Rest next s x) (sym done) (due-on next x rule n, due-back next x rule n)
   rest-due next x status (inr none) rule follows =
-      let said = subst (FollowsDue IsFirstDueOfAnyPast (own_sets schedules e) e.next next clock) none follows in
+      let said = subst (FollowsDue (own_seconds schedules e) e.next next clock) none follows in
       subst (λ (s : Status). Left x ↔ Rest next s x) (sym none) (
         ended-on next x (λ fire r late. absurd (omega (arith, rule, r)))
-            (λ fire r late. due-none (own_sets schedules e) clock e.next next x said fire late),
+            (λ fire r late. due-none (own_seconds schedules e) clock e.next next x said fire late),
         ended-back next x,
       )
 
   -- what a history's clock says is said by each clock of it
   said-by : (next : CronItem) (status : Status) → (status ≡ Done) ⊎ (status ≡ NoItem) → IsClockOf (own_eras eras e) clock
-      → InHistory (own_eras eras e) (FollowsDue IsFirstDueOfAnyPast (own_sets schedules e) e.next next) (next ≡ e.next) status
-      → FollowsDue IsFirstDueOfAnyPast (own_sets schedules e) e.next next clock status
+      → InHistory (own_eras eras e) (FollowsDue (own_seconds schedules e) e.next next) (next ≡ e.next) status
+      → FollowsDue (own_seconds schedules e) e.next next clock status
   said-by next Done went own (other, history, is, says) =
-      subst (λ (c : Clock). FollowsDue IsFirstDueOfAnyPast (own_sets schedules e) e.next next c Done) (same-clock (own_eras eras e) other clock is own) says
+      subst (λ (c : Clock). FollowsDue (own_seconds schedules e) e.next next c Done) (same-clock (own_eras eras e) other clock is own) says
   said-by next NoItem went own (other, history, is, says) =
-      subst (λ (c : Clock). FollowsDue IsFirstDueOfAnyPast (own_sets schedules e) e.next next c NoItem) (same-clock (own_eras eras e) other clock is own) says
+      subst (λ (c : Clock). FollowsDue (own_seconds schedules e) e.next next c NoItem) (same-clock (own_eras eras e) other clock is own) says
   said-by next status (inl done) own says = cc
   said-by next status (inr none) own says = cc
 

@@ -9,11 +9,9 @@ use Rattle.jiff_tz.specs.Zone.{ambiguous_at}
 use Rattle.jiff_tz.specs.declared.posix.Dst.{Dst}
 use Rattle.jiff_tz.specs.declared.timezone.TimeZone.{TimeZone}
 use Rattle.jiff_tz.specs.declared.timezone.TimeZone.TheVariants.{UTC, Unknown, Fixed, Posix, Tzif}
-use Rattle.cron_units.specs.Sets.{Sets}
+use Rattle.cron_time.specs.Seconds.{Seconds, items_below, numbers_below, timeline}
 use Rattle.cron_moments.specs.Civil.{civil, seconds_in_range}
 use Rattle.cron_moments.specs.Readings.{Reading, readings, readings_by}
-use Rattle.cron_time.specs.Matches.{matches}
-use Rattle.cron_time.specs.Timeline.{items_below, numbers_below, timeline}
 use Rattle.cron_instants.specs.Instants.{IsItem}
 use Rattle.cron_clocks.proofs.TableLemmas.{same_offset}
 use Rattle.cron_c.specs.Inner.AnyOffset.{not_utc, turn_once}
@@ -59,11 +57,11 @@ items_alike : (a b : TimeZone) (l : List ℕ) → ((n : ℕ) → readings a n �
 items_alike a b [] same = refl
 items_alike a b (n ∷ l) same = rw (same n, items_alike a b l same) refl
 
-timeline_once : (s : Sets) (c : CronZone) (a b : TimeZone) → IsZoneIn c a → IsZoneIn c b → timeline s a ≡ timeline s b
+timeline_once : (s : Seconds) (c : CronZone) (a b : TimeZone) → IsZoneIn c a → IsZoneIn c b → timeline s a ≡ timeline s b
 unfolding timeline items_below
 timeline_once s c a b p q =
-    items_alike a b (filter (λ n. matches s (civil n)) (numbers_below seconds_in_range)) (λ n. readings_once c a b n p q)
+    items_alike a b (filter s (numbers_below seconds_in_range)) (λ n. readings_once c a b n p q)
 
 -- an item in one of them is an item in the others
-pub item_in_any : (s : Sets) (c : CronZone) (a b : TimeZone) (r : Reading) → IsZoneIn c a → IsZoneIn c b → IsItem s a r → IsItem s b r
+pub item_in_any : (s : Seconds) (c : CronZone) (a b : TimeZone) (r : Reading) → IsZoneIn c a → IsZoneIn c b → IsItem s a r → IsItem s b r
 item_in_any s c a b r p q item = (item.0, subst (λ (l : List Reading). slice_get l item.0 ≡ Some r) (timeline_once s c a b p q) item.1)

@@ -4,7 +4,10 @@ use Rattle.std.specs.Prelude.{MatchOption}
 use Rattle.jiff_core.proofs.SignedLemmas.{signed_arith}
 use Rattle.jiff_core.specs.declared.Offset.{Offset}
 use Rattle.jiff_tz.specs.declared.timezone.TimeZone.{TimeZone}
+use Rattle.cron_time.specs.Seconds.{Seconds}
 use Rattle.cron_dues.specs.Clock.Due.{CanBeDue, Clock, Due, clock_of, parts}
+use Rattle.cron_dues.specs.Clock.Dues.{dues_between, dues_past_by}
+use Rattle.cron_dues.specs.Clock.FirstDues.{IsFirstDuePast}
 use Rattle.cron_c.specs.Arrays.{Fills, Writes}
 use Rattle.cron_c.specs.Calls.{IsInstant}
 use Rattle.cron_c.specs.Dues.{FindsDue, FollowsDue, InZone, IsDueInRange, IsDueItem, RunsDueBetween, RunsDuePast}
@@ -44,7 +47,7 @@ due_is (Some d) item offset second at same (is, can) =
 
 -- ---- what a status says
 
-pub finds : {S : Type 0} (IsWanted : S → Clock → ℤ → Option Due → Type 0) (s : S) (clock : Clock) (second : ℤ) (found : Option Due) (old new : CronItem)
+pub finds : (IsWanted : Seconds → Clock → ℤ → Option Due → Type 0) (s : Seconds) (clock : Clock) (second : ℤ) (found : Option Due) (old new : CronItem)
     (status : Status) → IsInstant second → IsWanted s clock (second *ℤ pos 1_000_000_000) found → Writes IsDueItem found old new status
     → FindsDue IsWanted s second old new clock status
 finds IsWanted s clock second None old new status within wanted (is, kept) =
@@ -52,25 +55,23 @@ finds IsWanted s clock second None old new status within wanted (is, kept) =
 finds IsWanted s clock second (Some d) old new status within wanted (is, item) =
     subst (FindsDue IsWanted s second old new clock) (sym is) (d, within, wanted, item)
 
-pub follows : {S : Type 0} (IsNext : S → Clock → Due → Option Due → Type 0) (s : S) (clock : Clock) (d : Due) (found : Option Due) (old new : CronItem)
-    (status : Status) → IsDueInRange d old → IsNext s clock d found → Writes IsDueItem found old new status → FollowsDue IsNext s old new clock status
-follows IsNext s clock d None old new status given next (is, kept) = subst (FollowsDue IsNext s old new clock) (sym is) (d, given, next, kept)
-follows IsNext s clock d (Some e) old new status given next (is, item) = subst (FollowsDue IsNext s old new clock) (sym is) (d, e, given, next, item)
+pub follows : (s : Seconds) (clock : Clock) (d : Due) (found : Option Due) (old new : CronItem) (status : Status) → IsDueInRange d old
+    → IsFirstDuePast s clock d found → Writes IsDueItem found old new status → FollowsDue s old new clock status
+follows s clock d None old new status given next (is, kept) = subst (FollowsDue s old new clock) (sym is) (d, given, next, kept)
+follows s clock d (Some e) old new status given next (is, item) = subst (FollowsDue s old new clock) (sym is) (d, e, given, next, item)
 
-pub between_says : {S : Type 0} (between : S → Clock → ℤ → ℤ → List Due) (s : S) (clock : Clock) (last now : ℤ) (old new : List CronItem) (count : ℕ)
-    (status : Status) → IsInstant last → IsInstant now
-    → Fills IsDueItem (between s clock (last *ℤ pos 1_000_000_000) (now *ℤ pos 1_000_000_000)) old new count status
-    → RunsDueBetween between s last now old new count clock status
-between_says between s clock last now old new count status from to f =
-    filled_says IsDueItem (between s clock (last *ℤ pos 1_000_000_000) (now *ℤ pos 1_000_000_000)) old new count
-    (RunsDueBetween between s last now old new count clock) status (λ whole. (from, to, whole)) (λ page. (from, to, page)) f
+pub between_says : (s : Seconds) (clock : Clock) (last now : ℤ) (old new : List CronItem) (count : ℕ) (status : Status) → IsInstant last → IsInstant now
+    → Fills IsDueItem (dues_between s clock (last *ℤ pos 1_000_000_000) (now *ℤ pos 1_000_000_000)) old new count status
+    → RunsDueBetween s last now old new count clock status
+between_says s clock last now old new count status from to f =
+    filled_says IsDueItem (dues_between s clock (last *ℤ pos 1_000_000_000) (now *ℤ pos 1_000_000_000)) old new count
+    (RunsDueBetween s last now old new count clock) status (λ whole. (from, to, whole)) (λ page. (from, to, page)) f
 
-pub past_says : {S : Type 0} (past_by : S → Clock → Due → ℤ → List Due) (s : S) (clock : Clock) (d : Due) (item : CronItem) (now : ℤ)
-    (old new : List CronItem) (count : ℕ) (status : Status)
-    → IsDueInRange d item → IsInstant now → Fills IsDueItem (past_by s clock d (now *ℤ pos 1_000_000_000)) old new count status
-    → RunsDuePast past_by s item now old new count clock status
-past_says past_by s clock d item now old new count status is to f =
-    filled_says IsDueItem (past_by s clock d (now *ℤ pos 1_000_000_000)) old new count (RunsDuePast past_by s item now old new count clock)
+pub past_says : (s : Seconds) (clock : Clock) (d : Due) (item : CronItem) (now : ℤ) (old new : List CronItem) (count : ℕ) (status : Status)
+    → IsDueInRange d item → IsInstant now → Fills IsDueItem (dues_past_by s clock d (now *ℤ pos 1_000_000_000)) old new count status
+    → RunsDuePast s item now old new count clock status
+past_says s clock d item now old new count status is to f =
+    filled_says IsDueItem (dues_past_by s clock d (now *ℤ pos 1_000_000_000)) old new count (RunsDuePast s item now old new count clock)
     status (λ whole. (d, is, to, whole)) (λ page. (d, is, to, page)) f
 
 -- what is said by the clock of a zone that a struct says

@@ -6,14 +6,14 @@ use Rattle.std.proofs.lemmas.Option.{slice_get_within, slice_get_cases}
 use Rattle.jiff_core.proofs.SignedLemmas.{signed_arith}
 use Rattle.jiff_core.specs.declared.Timestamp.{Timestamp}
 use Rattle.jiff_tz.specs.declared.timezone.TimeZone.{TimeZone}
-use Rattle.cron_units.specs.Sets.{Sets}
+use Rattle.cron_time.specs.Seconds.{Seconds}
 use Rattle.cron_moments.specs.Civil.{seconds_in_range}
 use Rattle.cron_moments.specs.Readings.{Reading, instant}
 use Rattle.cron_instants.specs.Instants.{IsEarliest, IsItem}
 use Rattle.cron_instants.specs.Order.{is_earlier}
-use Rattle.cron_instants.proofs.FireLemmas.{int_le-true, int_le-false}
+use Rattle.cron_seconds.proofs.IntLemmas.{int_le-true, int_le-false}
 use Rattle.cron_instants.proofs.ItemLemmas.{stands_of}
-use Rattle.cron_instants.proofs.MatchLemmas.{match_in_range}
+use Rattle.cron_seconds.proofs.SetLemmas.{match_in_range}
 use Rattle.cron_instants.proofs.OrderLemmas.{before-false, before-not_less}
 use Rattle.cron_c.specs.Calls.{IsInstant}
 use Rattle.cron_c.specs.Zones.{IsNoZone, IsSomeZone, IsZoneIn}
@@ -48,7 +48,7 @@ zone_told eras at e plain None here none = λ h. let (z, of) = h.zones at e here
 zone_told eras at e plain (Some x) here of = (e, here, of)
 
 -- an item of the era at a place is one of the era there
-pub of_era : (s : Sets) (eras : List CronEra) (at : ℕ) (e : CronEra) (r : Reading) → slice_get eras at ≡ Some e → IsItemAt s eras at r
+pub of_era : (s : Seconds) (eras : List CronEra) (at : ℕ) (e : CronEra) (r : Reading) → slice_get eras at ≡ Some e → IsItemAt s eras at r
     → IsEraItem s e r × (has_started eras (at + 1) (instant r) ≡ false)
 of_era s eras at e r here (other, get, of, still) =
     let both : Some e ≡ Some other = sym here ∙ get in
@@ -56,14 +56,14 @@ of_era s eras at e r here (other, get, of, still) =
     (subst (λ (x : CronEra). IsEraItem s x r) is of, still)
 
 -- and one of its zone
-pub in_zone : (s : Sets) (eras : List CronEra) (at : ℕ) (e : CronEra) (z : TimeZone) (r : Reading) → slice_get eras at ≡ Some e → IsZoneAt eras at z
+pub in_zone : (s : Seconds) (eras : List CronEra) (at : ℕ) (e : CronEra) (z : TimeZone) (r : Reading) → slice_get eras at ≡ Some e → IsZoneAt eras at z
     → IsItemAt s eras at r → IsItem s z r × (e.starts ≤ℤ instant r) × (has_started eras (at + 1) (instant r) ≡ false)
 in_zone s eras at e z r here zone item =
     let ((there, from), still) = of_era s eras at e r here item in
     let (other, of, on) = there in
     (item_in_any s e.zone other z r of (zone_here_is eras at e z here zone) on, from, still)
 
-pub from_zone : (s : Sets) (eras : List CronEra) (at : ℕ) (e : CronEra) (z : TimeZone) (r : Reading) → slice_get eras at ≡ Some e → IsZoneAt eras at z
+pub from_zone : (s : Seconds) (eras : List CronEra) (at : ℕ) (e : CronEra) (z : TimeZone) (r : Reading) → slice_get eras at ≡ Some e → IsZoneAt eras at z
     → IsItem s z r → e.starts ≤ℤ instant r → has_started eras (at + 1) (instant r) ≡ false → IsItemAt s eras at r
 from_zone s eras at e z r here zone item from still = (e, here, ((z, zone_here_is eras at e z here zone, item), from), still)
 
@@ -88,14 +88,14 @@ pub begins_never : (e : CronEra) (least : ℤ) → neg_ℤ (pos 377_705_023_201)
     → (r : Reading) → e.starts ≤ℤ instant r → instant r ≤ℤ pos 4_200_000_000 → ⊥
 begins_never e least low ahead never r from high = never (omega (arith, signed_arith), omega (arith, signed_arith))
 
-low_enough : (s : Sets) (z : TimeZone) (r : Reading) → IsItem s z r → instant r ≤ℤ pos 4_200_000_000
+low_enough : (s : Seconds) (z : TimeZone) (r : Reading) → IsItem s z r → instant r ≤ℤ pos 4_200_000_000
 low_enough s z r item =
     let high : r.second < seconds_in_range = match_in_range s r.second (stands_of s z r item).matching in
     let offset = r.offset.in_range in
     let (least, most) = offset in
     omega (arith, signed_arith)
 
-pub first_never : (s : Sets) (eras : List CronEra) (at : ℕ) (e : CronEra) (b : Begin) → slice_get eras at ≡ Some e
+pub first_never : (s : Seconds) (eras : List CronEra) (at : ℕ) (e : CronEra) (b : Begin) → slice_get eras at ≡ Some e
     → ((r : Reading) → e.starts ≤ℤ instant r → instant r ≤ℤ pos 4_200_000_000 → ⊥) → IsEarliest (λ r. IsItemAt s eras at r × IsBeyond b r) None
 first_never s eras at e b here never = λ r h.
     let ((there, from), still) = of_era s eras at e r here h.0 in
@@ -118,7 +118,7 @@ not_before a b h = elim (before-false (instant a) a.second (instant b) b.second 
 ]
 
 -- what the search in its zone finds, for the era at a place
-module _ (s : Sets) (eras : List CronEra) (at : ℕ) (e : CronEra) (z : TimeZone) (begin b : Begin) (here : slice_get eras at ≡ Some e)
+module _ (s : Seconds) (eras : List CronEra) (at : ℕ) (e : CronEra) (z : TimeZone) (begin b : Begin) (here : slice_get eras at ≡ Some e)
     (zone : IsZoneAt eras at z) (begins : BeginsIn e begin b) where
   looked_at : (r : Reading) → IsItemAt s eras at r × IsBeyond begin r → (IsItem s z r × IsBeyond b r) × (has_started eras (at + 1) (instant r) ≡ false)
   looked_at r h =
@@ -239,7 +239,7 @@ here_of eras at t h =
     omega (arith, within)
 
 -- an item that comes no earlier than an era starts is not of one before it
-pub not_before_place : (s : Sets) (eras : List CronEra) (place : ℕ) (t : ℤ) → IsHistory eras → (place ≡ 0) ⊎ (has_started eras place t ≡ true)
+pub not_before_place : (s : Seconds) (eras : List CronEra) (place : ℕ) (t : ℤ) → IsHistory eras → (place ≡ 0) ⊎ (has_started eras place t ≡ true)
     → (i : ℕ) (r : Reading) → IsItemAt s eras i r → t ≤ℤ instant r → place ≤ i
 not_before_place s eras place t h (inl first) i r item le = omega (arith, first)
 not_before_place s eras place t h (inr begun) i r item le =
@@ -253,7 +253,7 @@ not_before_place s eras place t h (inr begun) i r item le =
     ]
 
 -- one that comes no later than a second is of an era that has started by it
-pub not_past_place : (s : Sets) (eras : List CronEra) (end : ℕ) (t : ℤ) → IsHistory eras → has_started eras end t ≡ false → (i : ℕ) (r : Reading)
+pub not_past_place : (s : Seconds) (eras : List CronEra) (end : ℕ) (t : ℤ) → IsHistory eras → has_started eras end t ≡ false → (i : ℕ) (r : Reading)
     → IsItemAt s eras i r → instant r ≤ℤ t → i < end
 not_past_place s eras end t h ahead i r item le =
     let (e, get, of, still) = item in
@@ -274,7 +274,7 @@ not_past_place s eras end t h ahead i r item le =
     ]
 
 -- an item of an era comes before those of the eras past it
-pub era_by_era : (s : Sets) (eras : List CronEra) (i j : ℕ) (a b : Reading) → IsHistory eras → i < j → IsItemAt s eras i a → IsItemAt s eras j b
+pub era_by_era : (s : Seconds) (eras : List CronEra) (i j : ℕ) (a b : Reading) → IsHistory eras → i < j → IsItemAt s eras i a → IsItemAt s eras j b
     → instant a <ℤ instant b
 era_by_era s eras i j a b h less (x, here, of, still) (e, get, item, on) =
     let before = starts_by eras h i j e (instant a) less get still in
@@ -283,16 +283,16 @@ era_by_era s eras i j a b h less (x, here, of, still) (e, get, item, on) =
 
 -- ---- the search for the first item
 
-abbrev pub NoneSoFar : Sets → List CronEra → Begin → ℕ → Type 0
+abbrev pub NoneSoFar : Seconds → List CronEra → Begin → ℕ → Type 0
 NoneSoFar s eras b at = (i : ℕ) (r : Reading) → IsItemAt s eras i r → IsBeyond b r → at ≤ i
 
 -- before an era that has started where the search begins no item lies there
-pub none_before : (s : Sets) (eras : List CronEra) (b : Begin) (at : ℕ) (least : ℤ) → ((r : Reading) → IsBeyond b r → least ≤ℤ instant r)
+pub none_before : (s : Seconds) (eras : List CronEra) (b : Begin) (at : ℕ) (least : ℤ) → ((r : Reading) → IsBeyond b r → least ≤ℤ instant r)
     → (at ≡ 0) ⊎ (has_started eras at least ≡ true) → IsHistory eras → NoneSoFar s eras b at
 none_before s eras b at least low begun h = λ i r item beyond. not_before_place s eras at least h begun i r item (low r beyond)
 
 -- the era has no item there, and those that are passed over have none
-pub none_here : (s : Sets) (eras : List CronEra) (b : Begin) (at next : ℕ) → IsEarliest (λ r. IsItemAt s eras at r × IsBeyond b r) None
+pub none_here : (s : Seconds) (eras : List CronEra) (b : Begin) (at next : ℕ) → IsEarliest (λ r. IsItemAt s eras at r × IsBeyond b r) None
     → ((i : ℕ) (r : Reading) → at < i → IsItemAt s eras i r → next ≤ i) → NoneSoFar s eras b at → NoneSoFar s eras b next
 none_here s eras b at next none passed low = λ i r item beyond.
     elim (le_split at i (low i r item beyond)) [
@@ -301,7 +301,7 @@ none_here s eras b at next none passed low = λ i r item beyond.
     ]
 
 -- its first item is the first of the history
-pub first_here : (s : Sets) (eras : List CronEra) (b : Begin) (at : ℕ) (m : Reading) → IsEarliest (λ r. IsItemAt s eras at r × IsBeyond b r) (Some m)
+pub first_here : (s : Seconds) (eras : List CronEra) (b : Begin) (at : ℕ) (m : Reading) → IsEarliest (λ r. IsItemAt s eras at r × IsBeyond b r) (Some m)
     → (IsHistory eras → NoneSoFar s eras b at) → IsFound eras IsEarliest (IsSought s eras b) (Some m)
 first_here s eras b at m first low = (
   ((at, first.0.0), first.0.1),
@@ -319,7 +319,7 @@ first_here s eras b at m first low = (
 )
 
 -- no era is left
-pub none_left : (s : Sets) (eras : List CronEra) (b : Begin) (at : ℕ) → length eras ≤ at → (IsHistory eras → NoneSoFar s eras b at)
+pub none_left : (s : Seconds) (eras : List CronEra) (b : Begin) (at : ℕ) → length eras ≤ at → (IsHistory eras → NoneSoFar s eras b at)
     → IsFound eras IsEarliest (IsSought s eras b) None
 none_left s eras b at end low = (
   tt,

@@ -6,10 +6,10 @@ use Rattle.std.specs.Int.{int_div_euclid}
 use Rattle.jiff_core.proofs.SignedLemmas.{signed_arith}
 use Rattle.jiff_core.specs.declared.Timestamp.{Timestamp}
 use Rattle.jiff_tz.specs.declared.timezone.TimeZone.{TimeZone}
-use Rattle.cron_units.specs.Sets.{Sets}
+use Rattle.cron_time.specs.Seconds.{Seconds}
 use Rattle.cron_moments.specs.Readings.{Reading, instant}
 use Rattle.cron_instants.specs.Instants.{IsBy, IsItem, IsLastBy, IsLatest}
-use Rattle.cron_instants.proofs.FireLemmas.{int_le-false, int_le-true}
+use Rattle.cron_seconds.proofs.IntLemmas.{int_le-false, int_le-true}
 use Rattle.cron_instants.proofs.OrderLemmas.{before-not_less}
 use Rattle.std.proofs.lemmas.Int.{ints}
 use Rattle.cron_c.specs.Histories.{AllBelow, EndsIn, IsHistory, IsHistoryItem, IsItemAt, IsLastInBy, IsZoneAt, has_started, started_by}
@@ -22,7 +22,7 @@ le_no a b h = grind (arith, ints)
 -- ---- one era
 
 -- what the search back in its zone finds, for the era at a place
-module _ (s : Sets) (eras : List CronEra) (at : ℕ) (e : CronEra) (z : TimeZone) (now t : ℤ) (here : slice_get eras at ≡ Some e)
+module _ (s : Seconds) (eras : List CronEra) (at : ℕ) (e : CronEra) (z : TimeZone) (now t : ℤ) (here : slice_get eras at ≡ Some e)
     (zone : IsZoneAt eras at z) (ends : EndsIn eras at now t) where
   looked_at : (r : Reading) → IsItemAt s eras at r × IsBy now r → (IsItem s z r × IsBy t r) × (e.starts ≤ℤ instant r)
   looked_at r h =
@@ -46,7 +46,7 @@ module _ (s : Sets) (eras : List CronEra) (at : ℕ) (e : CronEra) (z : TimeZone
       ((from_zone s eras at e z m here zone last.0.0 from still, by), λ q h. last.1 q (looked_at q h).0)
 
 -- no item of the era is so early
-pub never_by : (s : Sets) (eras : List CronEra) (at : ℕ) (now : ℤ)
+pub never_by : (s : Seconds) (eras : List CronEra) (at : ℕ) (now : ℤ)
     → ((r : Reading) → IsBy now r → has_started eras (at + 1) (instant r) ≡ false → ⊥) → IsLatest (λ r. IsItemAt s eras at r × IsBy now r) None
 never_by s eras at now never = λ r h.
     let (e, here, of, still) = h.0 in
@@ -90,7 +90,7 @@ ends_not eras at now none = λ r. (λ by. (by, rw none refl), λ h. h.0)
 -- ---- the search for the last item
 
 -- past the era that holds the instant no item lies by it
-pub below_held : (s : Sets) (eras : List CronEra) (now floor : ℤ) (held left : ℕ) → floor ≡ int_div_euclid now (pos 1_000_000_000)
+pub below_held : (s : Seconds) (eras : List CronEra) (now floor : ℤ) (held left : ℕ) → floor ≡ int_div_euclid now (pos 1_000_000_000)
     → has_started eras (held + 1) floor ≡ false → left ≡ min (length eras) (held + 1) → IsHistory eras → AllBelow s eras now left
 below_held s eras now floor held left floor_is ahead left_is h = λ i r item by.
     let le : instant r ≤ℤ floor = omega (arith, signed_arith) in
@@ -100,7 +100,7 @@ below_held s eras now floor held left floor_is ahead left_is h = λ i r item by.
     omega arith
 
 -- the era has none by it, and those that are passed over have none
-pub none_back : (s : Sets) (eras : List CronEra) (now : ℤ) (at left next : ℕ) → left ≡ at + 1 → IsLatest (λ r. IsItemAt s eras at r × IsBy now r) None
+pub none_back : (s : Seconds) (eras : List CronEra) (now : ℤ) (at left next : ℕ) → left ≡ at + 1 → IsLatest (λ r. IsItemAt s eras at r × IsBy now r) None
     → ((i : ℕ) (r : Reading) → i < at → IsItemAt s eras i r → i < next) → AllBelow s eras now left → AllBelow s eras now next
 none_back s eras now at left next count none passed low = λ i r item by.
     let below = low i r item by in
@@ -110,7 +110,7 @@ none_back s eras now at left next count none passed low = λ i r item by.
     ]
 
 -- its last item is the last of the history
-pub last_here : (s : Sets) (eras : List CronEra) (now : ℤ) (at left : ℕ) (m : Reading) → left ≡ at + 1
+pub last_here : (s : Seconds) (eras : List CronEra) (now : ℤ) (at left : ℕ) (m : Reading) → left ≡ at + 1
     → IsLatest (λ r. IsItemAt s eras at r × IsBy now r) (Some m) → (IsHistory eras → AllBelow s eras now left) → IsLastInBy s eras now (Some m)
 last_here s eras now at left m count last low = (
   ((at, last.0.0), last.0.1),
@@ -129,7 +129,7 @@ last_here s eras now at left m count last low = (
 )
 
 -- no era is left
-pub none_back_left : (s : Sets) (eras : List CronEra) (now : ℤ) (left : ℕ) → left ≤ 0 → (IsHistory eras → AllBelow s eras now left)
+pub none_back_left : (s : Seconds) (eras : List CronEra) (now : ℤ) (left : ℕ) → left ≤ 0 → (IsHistory eras → AllBelow s eras now left)
     → IsLastInBy s eras now None
 none_back_left s eras now left end low = (
   tt,
@@ -140,7 +140,7 @@ none_back_left s eras now left end low = (
 )
 
 -- the last item by a second lies at another one, and then none lies at it
-pub none_at : (s : Sets) (eras : List CronEra) (second : ℤ) (m : Reading)
+pub none_at : (s : Seconds) (eras : List CronEra) (second : ℤ) (m : Reading)
     → IsLatest (λ q. IsHistoryItem s eras q × IsBy (second *ℤ pos 1_000_000_000) q) (Some m)
     → (instant m ≡ second → ⊥) → (r : Reading) → IsHistoryItem s eras r → instant r ≡ second → ⊥
 none_at s eras second m last other r item same =

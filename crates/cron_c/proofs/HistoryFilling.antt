@@ -3,14 +3,16 @@ use Rattle.std.proofs.Common.{◌≡◌, ℕ, ◌+◌, ◌<◌, ◌≤◌, ℤ, 
 use Rattle.std.specs.Prelude.{length, slice_get}
 use Rattle.jiff_tz.specs.declared.timezone.TimeZone.{TimeZone}
 use Rattle.cron_clocks.proofs.Windows.{le_yes, lt_yes}
-use Rattle.cron_units.specs.Sets.{Sets}
+use Rattle.cron_time.specs.Seconds.{Seconds}
 use Rattle.cron_moments.specs.Readings.{Reading, instant}
 use Rattle.cron_instants.specs.Fires.{fires, fires_after, fires_past, is_after, is_by}
 use Rattle.cron_instants.specs.Instants.{Ascends, IsAfter, IsAmong, IsBy, IsItem as IsOnTimeline}
 use Rattle.cron_instants.specs.Order.{is_earlier}
 use Rattle.cron_time.proofs.ListLemmas.{among-filter, among-join, among-none, filter-among}
-use Rattle.cron_instants.proofs.AscentLemmas.{ascends-filter}
-use Rattle.cron_instants.proofs.FireLemmas.{fires-ascend, fires-of_item, int_le-true, int_lt-true, item-of_fires}
+use Rattle.cron_seconds.proofs.OrderLemmas.{rises-filter}
+use Rattle.cron_instants.proofs.AscentLemmas.{earlier-order}
+use Rattle.cron_instants.proofs.FireLemmas.{fires-ascend, fires-of_item, item-of_fires}
+use Rattle.cron_seconds.proofs.IntLemmas.{int_le-true, int_lt-true}
 use Rattle.cron_instants.proofs.OrderLemmas.{before-less}
 use Rattle.cron_c.specs.Calls.{IsInstant}
 use Rattle.cron_c.specs.Histories.{AllBelow, BeginsIn, EndsIn, FillsEra, FillsIn, FillsOf, FiresIn, IsBeyond, IsHistory, IsHistoryItem, IsItemAt, IsZoneAt, Leads, RunsInBetween, RunsInPast, fires_from, has_started}
@@ -28,12 +30,12 @@ use Rattle.cron_c.proofs.HistoryLeads.{leads_alike, leads_hold, leads_next, lead
 
 -- ---- the items of one era
 
-from_ascends : (s : Sets) (z : TimeZone) (b : Begin) (t : ℤ) → Ascends (fires_from s z b t)
+from_ascends : (s : Seconds) (z : TimeZone) (b : Begin) (t : ℤ) → Ascends (fires_from s z b t)
 from_ascends s z (After a) t =
-    ascends-filter (is_by t) (fires_after s z a.nanosecond) (ascends-filter (is_after a.nanosecond) (fires s z) (fires-ascend s z))
-from_ascends s z (Past m) t = ascends-filter (is_by t) (fires_past s z m) (ascends-filter (is_earlier m) (fires s z) (fires-ascend s z))
+    rises-filter is_earlier earlier-order (is_by t) (fires_after s z a.nanosecond) (rises-filter is_earlier earlier-order (is_after a.nanosecond) (fires s z) (fires-ascend s z))
+from_ascends s z (Past m) t = rises-filter is_earlier earlier-order (is_by t) (fires_past s z m) (rises-filter is_earlier earlier-order (is_earlier m) (fires s z) (fires-ascend s z))
 
-from_is : (s : Sets) (z : TimeZone) (b : Begin) (t : ℤ) (r : Reading) → IsAmong (fires_from s z b t) r → IsOnTimeline s z r × IsBeyond b r × IsBy t r
+from_is : (s : Seconds) (z : TimeZone) (b : Begin) (t : ℤ) (r : Reading) → IsAmong (fires_from s z b t) r → IsOnTimeline s z r × IsBeyond b r × IsBy t r
 from_is s z (After a) t r h =
     let (there, by) = among-filter (is_by t) (fires_after s z a.nanosecond) r h in
     let (fire, after) = among-filter (is_after a.nanosecond) (fires s z) r there in
@@ -43,7 +45,7 @@ from_is s z (Past m) t r h =
     let (fire, past) = among-filter (is_earlier m) (fires s z) r there in
     (item-of_fires s z r fire, past, int_le-true (instant r *ℤ pos 1_000_000_000) t by)
 
-is_from : (s : Sets) (z : TimeZone) (b : Begin) (t : ℤ) (r : Reading) → IsOnTimeline s z r → IsBeyond b r → IsBy t r → IsAmong (fires_from s z b t) r
+is_from : (s : Seconds) (z : TimeZone) (b : Begin) (t : ℤ) (r : Reading) → IsOnTimeline s z r → IsBeyond b r → IsBy t r → IsAmong (fires_from s z b t) r
 is_from s z (After a) t r item after by =
     filter-among (is_by t) (fires_after s z a.nanosecond) r
     (filter-among (is_after a.nanosecond) (fires s z) r (fires-of_item s z r item) (lt_yes a.nanosecond (instant r *ℤ pos 1_000_000_000) after))
@@ -52,11 +54,11 @@ is_from s z (Past m) t r item past by =
     filter-among (is_by t) (fires_past s z m) r (filter-among (is_earlier m) (fires s z) r (fires-of_item s z r item) past)
     (le_yes (instant r *ℤ pos 1_000_000_000) t by)
 
-abbrev pub IsDueAt : Sets → List CronEra → ℕ → Begin → ℤ → Reading → Type 0
+abbrev pub IsDueAt : Seconds → List CronEra → ℕ → Begin → ℤ → Reading → Type 0
 IsDueAt s eras at b now r = IsItemAt s eras at r × IsBeyond b r × IsBy now r
 
 -- what a run in the zone of the era at a place writes
-module _ (s : Sets) (eras : List CronEra) (at : ℕ) (e : CronEra) (z : TimeZone) (begin b : Begin) (now t : ℤ) (here : slice_get eras at ≡ Some e)
+module _ (s : Seconds) (eras : List CronEra) (at : ℕ) (e : CronEra) (z : TimeZone) (begin b : Begin) (now t : ℤ) (here : slice_get eras at ≡ Some e)
     (zone : IsZoneAt eras at z) (begins : BeginsIn e begin b) (ends : EndsIn eras at now t) where
   due_of : (r : Reading) → IsAmong (fires_from s z b t) r → IsDueAt s eras at begin now r
   due_of r h =
@@ -86,13 +88,13 @@ module _ (s : Sets) (eras : List CronEra) (at : ℕ) (e : CronEra) (z : TimeZone
       )) f
 
 -- an era without such an item
-pub era_empty : (s : Sets) (eras : List CronEra) (at : ℕ) (b : Begin) (now : ℤ) (old : List CronItem)
+pub era_empty : (s : Seconds) (eras : List CronEra) (at : ℕ) (b : Begin) (now : ℤ) (old : List CronItem)
     → ((r : Reading) → IsItemAt s eras at r → IsBeyond b r → IsBy now r → ⊥) → FillsEra s eras at b now old old 0 Done
 unfolding Leads
 era_empty s eras at b now old none = ([], (λ r h. none r h.0 h.1 h.2), front_none IsItem old, refl)
 
 -- it is neither listed nor empty, so it shows that the eras are no history
-pub era_refused : (s : Sets) (eras : List CronEra) (at : ℕ) (b : Begin) (now : ℤ) (old new : List CronItem) (count : ℕ) (status : Status)
+pub era_refused : (s : Seconds) (eras : List CronEra) (at : ℕ) (b : Begin) (now : ℤ) (old new : List CronItem) (count : ℕ) (status : Status)
     → FillsEra s eras at b now old new count status → (status ≡ Done → ⊥) → (status ≡ More → ⊥) → IsHistory eras → ⊥
 era_refused s eras at b now old new count Done f done more = λ h. done refl
 era_refused s eras at b now old new count More f done more = λ h. more refl
@@ -107,15 +109,15 @@ era_refused s eras at b now old new count NoMemory f done more = absurd f
 
 -- ---- the loop over eras
 
-abbrev pub IsDue : Sets → List CronEra → Begin → ℤ → Reading → Type 0
+abbrev pub IsDue : Seconds → List CronEra → Begin → ℤ → Reading → Type 0
 IsDue s eras b now r = IsHistoryItem s eras r × IsBeyond b r × IsBy now r
 
 -- of the eras before a place
-abbrev pub IsDueBelow : Sets → List CronEra → Begin → ℤ → ℕ → Reading → Type 0
+abbrev pub IsDueBelow : Seconds → List CronEra → Begin → ℤ → ℕ → Reading → Type 0
 IsDueBelow s eras b now at r = (i : ℕ) × (i < at) × IsDueAt s eras i b now r
 
 -- the items of the eras before a place are written
-pub record IsFilling (s : Sets) (eras : List CronEra) (b : Begin) (now : ℤ) (old items : List CronItem) (at written : ℕ) : Type 0 where
+pub record IsFilling (s : Seconds) (eras : List CronEra) (b : Begin) (now : ℤ) (old items : List CronItem) (at written : ℕ) : Type 0 where
   pub list : List Reading
   pub due : (r : Reading) → IsAmong list r → IsDue s eras b now r
   pub leads : IsHistory eras → Leads (IsDueBelow s eras b now at) list None
@@ -126,7 +128,7 @@ nothing_leads : (P : Reading → Type 0) → ((r : Reading) → P r → ⊥) →
 unfolding Leads
 nothing_leads P none = none
 
-pub filling_begins : (s : Sets) (eras : List CronEra) (b : Begin) (now : ℤ) (old : List CronItem) (at : ℕ) (least : ℤ)
+pub filling_begins : (s : Seconds) (eras : List CronEra) (b : Begin) (now : ℤ) (old : List CronItem) (at : ℕ) (least : ℤ)
     → ((r : Reading) → IsBeyond b r → least ≤ℤ instant r) → (at ≡ 0) ⊎ (has_started eras at least ≡ true) → IsFilling s eras b now old old at 0
 filling_begins s eras b now old at least low begun =
     record {
@@ -141,7 +143,7 @@ filling_begins s eras b now old at least low begun =
     }
 
 -- the items of one era more
-module _ (s : Sets) (eras : List CronEra) (b : Begin) (now : ℤ) (old front back room : List CronItem) (at written more : ℕ)
+module _ (s : Seconds) (eras : List CronEra) (b : Begin) (now : ℤ) (old front back room : List CronItem) (at written more : ℕ)
     (f : IsFilling s eras b now old (front ++ back) at written) (size : length front ≡ written) where
   due_on : (l : List Reading) (next : Option Reading) → Leads (IsDueAt s eras at b now) l next → (r : Reading) → IsAmong (f.list ++ l) r → IsDue s eras b now r
   due_on l next leads r h = elim (among-join f.list l r h) [
@@ -215,7 +217,7 @@ module _ (s : Sets) (eras : List CronEra) (b : Begin) (now : ℤ) (old front bac
       )
 
 -- no era is left that may have an item by the instant
-pub filling_ends : (s : Sets) (eras : List CronEra) (b : Begin) (now : ℤ) (old items : List CronItem) (end at written : ℕ)
+pub filling_ends : (s : Seconds) (eras : List CronEra) (b : Begin) (now : ℤ) (old items : List CronItem) (end at written : ℕ)
     → IsFilling s eras b now old items at written → (IsHistory eras → AllBelow s eras now end) → end ≤ at
     → FillsIn eras (IsDue s eras b now) old items written Done
 filling_ends s eras b now old items end at written f below le = (
@@ -233,7 +235,7 @@ filling_ends s eras b now old items end at written f below le = (
 )
 
 -- what is written fits
-pub filling_fits : (s : Sets) (eras : List CronEra) (b : Begin) (now : ℤ) (old items : List CronItem) (at written : ℕ)
+pub filling_fits : (s : Seconds) (eras : List CronEra) (b : Begin) (now : ℤ) (old items : List CronItem) (at written : ℕ)
     → IsFilling s eras b now old items at written → (written ≤ length items) × (length items ≡ length old)
 filling_fits s eras b now old items at written f =
     let (within, size) = front_size IsItem f.list old items f.front in
@@ -259,24 +261,24 @@ filled_in_says eras P old new count Says NotAnItem whole page refused f = absurd
 filled_in_says eras P old new count Says Untold whole page refused f = absurd f
 filled_in_says eras P old new count Says NoMemory whole page refused f = absurd f
 
-module _ {S : Type 0} (IsOne : S → List CronEra → Reading → Type 0) (s : S) (eras : List CronEra) where
+module _ (s : Seconds) (eras : List CronEra) where
   pub in_between_says : (last now : ℤ) (old new : List CronItem) (count : ℕ) (status : Status) → IsInstant last → IsInstant now
-      → FillsIn eras (λ r. IsOne s eras r × IsAfter (last *ℤ pos 1_000_000_000) r × IsBy (now *ℤ pos 1_000_000_000) r) old new count status
-      → RunsInBetween IsOne s eras last now old new count status
+      → FillsIn eras (λ r. IsHistoryItem s eras r × IsAfter (last *ℤ pos 1_000_000_000) r × IsBy (now *ℤ pos 1_000_000_000) r) old new count status
+      → RunsInBetween s eras last now old new count status
   in_between_says last now old new count status from to f =
-      filled_in_says eras (λ r. IsOne s eras r × IsAfter (last *ℤ pos 1_000_000_000) r × IsBy (now *ℤ pos 1_000_000_000) r) old new count
-      (RunsInBetween IsOne s eras last now old new count) status (λ h. (from, to, h)) (λ h. (from, to, h)) (λ h. (from, to, h)) f
+      filled_in_says eras (λ r. IsHistoryItem s eras r × IsAfter (last *ℤ pos 1_000_000_000) r × IsBy (now *ℤ pos 1_000_000_000) r) old new count
+      (RunsInBetween s eras last now old new count) status (λ h. (from, to, h)) (λ h. (from, to, h)) (λ h. (from, to, h)) f
 
   pub in_past_says : (r : Reading) (item : CronItem) (now : ℤ) (old new : List CronItem) (count : ℕ) (status : Status)
       → IsItemInRange r item → IsInstant now
-      → FillsIn eras (λ q. IsOne s eras q × (is_earlier r q ≡ true) × IsBy (now *ℤ pos 1_000_000_000) q) old new count status
-      → RunsInPast IsOne s eras item now old new count status
+      → FillsIn eras (λ q. IsHistoryItem s eras q × (is_earlier r q ≡ true) × IsBy (now *ℤ pos 1_000_000_000) q) old new count status
+      → RunsInPast s eras item now old new count status
   in_past_says r item now old new count status is to f =
-      filled_in_says eras (λ q. IsOne s eras q × (is_earlier r q ≡ true) × IsBy (now *ℤ pos 1_000_000_000) q) old new count
-      (RunsInPast IsOne s eras item now old new count) status (λ h. (r, is, to, h)) (λ h. (r, is, to, h)) (λ h. (r, is, to, h)) f
+      filled_in_says eras (λ q. IsHistoryItem s eras q × (is_earlier r q ≡ true) × IsBy (now *ℤ pos 1_000_000_000) q) old new count
+      (RunsInPast s eras item now old new count) status (λ h. (r, is, to, h)) (λ h. (r, is, to, h)) (λ h. (r, is, to, h)) f
 
 -- what was found of a history and is written
-pub fires_in : {S : Type 0} (IsWanted : S → List CronEra → ℤ → Option Reading → Type 0) (s : S) (eras : List CronEra) (second : ℤ) (found : Option Reading)
+pub fires_in : (IsWanted : Seconds → List CronEra → ℤ → Option Reading → Type 0) (s : Seconds) (eras : List CronEra) (second : ℤ) (found : Option Reading)
     (old new : CronItem) (status : Status) → IsInstant second → IsWanted s eras (second *ℤ pos 1_000_000_000) found → Writes IsItem found old new status
     → FiresIn IsWanted s eras second old new status
 fires_in IsWanted s eras second None old new status within wanted (is, kept) =

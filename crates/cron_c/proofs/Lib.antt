@@ -17,9 +17,8 @@ pub mod ZoneFileLemmas
 mod RulesAlike
 pub mod Dues
 mod HistoryClockLemmas
-mod UnionItems
+mod UnionLemmas
 mod ReadingLemmas
-mod OneSchedule
 pub mod LineLemmas
 mod CanonicalLemmas
 pub mod AgendaLemmas

@@ -28,7 +28,7 @@ use Rattle.cron_clocks.specs.Tables.{transitions_of}
 use Rattle.cron_clocks.proofs.TableLemmas.{transitions_length}
 use Rattle.cron_clocks.proofs.RuleAgreement.{plain_agree}
 use Rattle.cron_clocks.proofs.RuleSeasons.{shown_plain}
-use Rattle.cron_instants.proofs.FireLemmas.{int_le-true, int_le-false}
+use Rattle.cron_seconds.proofs.IntLemmas.{int_le-true, int_le-false}
 use Rattle.cron_c.specs.Zones.{IsBareDay, IsBareSaving, IsBlank, IsDayIn, IsSavingIn, IsTurnIn, IsZoneIn, IsZoneStruct}
 use Rattle.cron_c.specs.Histories.{IsHistory, has_started, started_by}
 use Rattle.cron_c.specs.ZoneFiles.{HasDoubleTransition, HoldsSecond, IsEraOf, IsRulePast, SaysRulePast, ShowsAt, start_of, transition_count}

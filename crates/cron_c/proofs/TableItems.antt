@@ -8,15 +8,14 @@ use Rattle.jiff_tz.specs.declared.timezone.TimeZone.{TimeZone}
 use Rattle.jiff_tz.specs.declared.timezone.TimeZone.TheVariants.{Posix}
 use Rattle.jiff_tz.specs.declared.tzif.Tzif.{Tzif}
 use Rattle.jiff_tz.specs.Tzif.{count_at, rule_after}
-use Rattle.cron_units.specs.Sets.{Sets}
-use Rattle.cron_moments.specs.Civil.{civil, seconds_in_range}
+use Rattle.cron_moments.specs.Civil.{seconds_in_range}
 use Rattle.cron_moments.specs.Readings.{Reading, instant}
 use Rattle.cron_clocks.specs.Clocks.{LookupsAgree, shown_offset}
-use Rattle.cron_time.specs.Matches.{matches}
+use Rattle.cron_time.specs.Seconds.{Seconds}
 use Rattle.cron_instants.specs.Instants.{IsItem}
 use Rattle.cron_instants.proofs.AgreementLemmas.{same_offset, same_reading}
 use Rattle.cron_instants.proofs.ItemLemmas.{item_of, stands_of}
-use Rattle.cron_instants.proofs.MatchLemmas.{match_in_range}
+use Rattle.cron_seconds.proofs.SetLemmas.{match_in_range}
 use Rattle.cron_c.specs.Histories.{IsHistoryItem}
 use Rattle.cron_c.specs.ZoneFiles.{HasDoubleTransition, IsEraOf, IsHistoryOf, IsShownItem, RuleLookupsAgree, transition_count}
 use Rattle.cron_c.specs.declared.era.CronEra.{CronEra}
@@ -25,8 +24,8 @@ use Rattle.cron_c.proofs.AnyZone.{item_in_any}
 
 -- ---- where the look-ups of a zone agree, its items are the readings that are shown
 
-item_shown : (s : Sets) (z : TimeZone) (r : Reading) → LookupsAgree z → IsItem s z r
-    → (r.second < seconds_in_range) × (matches s (civil r.second) ≡ true) × (shown_offset z (instant r) ≡ r.offset.seconds)
+item_shown : (s : Seconds) (z : TimeZone) (r : Reading) → LookupsAgree z → IsItem s z r
+    → (r.second < seconds_in_range) × (s r.second ≡ true) × (shown_offset z (instant r) ≡ r.offset.seconds)
 item_shown s z r agree item =
     let st = stands_of s z r item in
     let range = match_in_range s r.second st.matching in
@@ -35,7 +34,7 @@ item_shown s z r agree item =
 is_match_of : (c : ℕ) (m : Bool) → c < seconds_in_range → m ≡ true → (nat_lt c seconds_in_range && m) ≡ true
 is_match_of c m range is = rw is (grind arith)
 
-shown_item : (s : Sets) (z : TimeZone) (r : Reading) → LookupsAgree z → r.second < seconds_in_range → matches s (civil r.second) ≡ true
+shown_item : (s : Seconds) (z : TimeZone) (r : Reading) → LookupsAgree z → r.second < seconds_in_range → s r.second ≡ true
     → shown_offset z (instant r) ≡ r.offset.seconds → IsItem s z r
 shown_item s z r agree range matching shown =
     let there = agree.shown_read r.second (instant r) range (omega (arith, signed_arith)) in
@@ -45,7 +44,7 @@ shown_item s z r agree range matching shown =
     let second : there.at_place.second ≡ r.second = omega (arith, signed_arith) in
     let same = same_reading there.at_place r second (same_offset there.at_place.offset r.offset offset) in
     item_of s z r (record {
-      matching = is_match_of r.second (matches s (civil r.second)) range matching;
+      matching = is_match_of r.second (s r.second) range matching;
       place = there.place;
       here = there.here ∙ ap Some same;
     })
@@ -53,7 +52,7 @@ shown_item s z r agree range matching shown =
 -- ---- the eras of a table
 
 module _ (t : Tzif) (eras : List CronEra) (size : length eras ≡ transition_count t + 1) (are : (i : ℕ) (e : CronEra) → slice_get eras i ≡ Some e → IsEraOf t i e)
-    (agree : RuleLookupsAgree t) (s : Sets) (r : Reading) where
+    (agree : RuleLookupsAgree t) (s : Seconds) (r : Reading) where
   from_history : IsHistoryItem s eras r → IsShownItem s t r
   from_history (i, (e, get, ((z, of_zone, item), begun), lasts)) =
       let era = are i e get in

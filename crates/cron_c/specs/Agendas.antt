@@ -1,17 +1,18 @@
--- Entries in an array of the caller's, and what fires next of all of them.
+-- Entries in an array of the caller's, and the fire that comes first of all of them. Instants are
+-- in seconds since 1970-01-01T00:00:00Z.
 use Rattle.std.specs.Prelude.{◌≡◌, ◌⊎◌, ◌+◌, ◌<◌, ◌≤◌, ◌==◌, ◌&&◌, ℕ, ℤ, pos, Bool, true, false, int_le, int_lt, if◌then◌else◌, List, Option, Some, None, map, length, slice_get, slice_range, slice_set}
-use Rattle.cron_units.specs.Sets.{Sets}
 use Rattle.cron_moments.specs.Readings.{Reading}
+use Rattle.cron_time.specs.Seconds.{Seconds}
 use Rattle.cron_instants.specs.Instants.{IsEarliest}
 use Rattle.cron_instants.specs.Order.{is_earlier}
 use Rattle.cron_earliest.specs.declared.Key.{Key}
-use Rattle.cron_earliest.specs.Places.{ComesFirst}
+use Rattle.cron_instants.specs.Places.{ComesFirst}
 use Rattle.cron_earliest.specs.Tree.{IsBestAt, IsTree}
 use Rattle.cron_c.specs.Dues.{FollowsDue}
-use Rattle.cron_c.specs.Histories.{IsFound, IsHistory}
+use Rattle.cron_c.specs.Histories.{IsFound, IsHistory, IsHistoryItem}
 use Rattle.cron_c.specs.HistoryClocks.{InHistory}
 use Rattle.cron_c.specs.Structs.{IsItem, IsItemInRange, IsNoItem}
-use Rattle.cron_c.specs.Unions.{IsFirstDueOfAnyPast, IsItemOfAny, sets_of_all}
+use Rattle.cron_c.specs.Unions.{seconds_of_any}
 use Rattle.cron_c.specs.declared.entry.CronEntry.{CronEntry}
 use Rattle.cron_c.specs.declared.era.CronEra.{CronEra}
 use Rattle.cron_c.specs.declared.item.CronItem.{CronItem}
@@ -19,7 +20,8 @@ use Rattle.cron_c.specs.declared.schedule.CronSchedule.{CronSchedule}
 use Rattle.cron_c.specs.declared.status.Status.{Status}
 use Rattle.cron_c.specs.declared.status.Status.TheVariants.{Done, NoItem, BadZone, NotAnItem}
 
--- an entry without what it tells of others
+-- an entry without its key, its last two numbers: the instant and the place of the first fire from
+-- its place down
 abbrev pub bare : CronEntry → CronEntry
 bare e = record {
   schedules_from = e.schedules_from;
@@ -33,47 +35,49 @@ bare e = record {
   soonest_place = 0;
 }
 
--- its rule says that it is none
+-- whether the place has no entry, which its rule says
 abbrev pub is_none : CronEntry → Bool
 is_none e = e.rule == 0
 
--- the instant of no fire
+-- the instant for a place that has no entry, after that of every fire
 abbrev pub never : ℤ
 never = pos 9_223_372_036_854_775_807
 
--- when an entry fires next
+-- the instant of an entry's next fire
 abbrev pub when : CronEntry → ℤ
 when e = if is_none e then never else e.next.instant
 
 abbrev pub instants_of : List CronEntry → List (Option ℤ)
 instants_of es = map (λ e. Some (when e)) es
 
--- which place comes first from an entry down, as it tells
+-- the key that an entry holds: the instant and the place of the first fire from its place down
 abbrev pub soonest : CronEntry → Option Key
 soonest e = Some (record { instant = e.soonest_instant; place = e.soonest_place })
 
--- each entry tells so the place that comes first: of its own and of those that the entries below it tell, which stand at twice its place and one, and two
+-- The entries are a tree, where place i is above the places 2i + 1 and 2i + 2. Each entry holds the
+-- least key: of its own fire and of those that the two entries below it hold.
 abbrev pub IsAgenda : List CronEntry → Type 0
 IsAgenda es = IsTree (instants_of es) (map soonest es)
 
--- the same of each but the one at a place
+-- each entry but the one at this place holds the least key: of its own fire and of those that the
+-- two entries below it hold
 abbrev pub IsAgendaBut : List CronEntry → ℕ → Type 0
 IsAgendaBut es place = (i : ℕ) → i < length es → (i ≡ place → ⊥) → IsBestAt (instants_of es) (map soonest es) i
 
--- the same entries, which may tell others of one another
+-- the entries are the same, except that they may hold other keys
 abbrev pub AreSame : List CronEntry → List CronEntry → Type 0
 AreSame old new = map bare new ≡ map bare old
 
--- the same but for the one at this place
+-- the entries are the same, except for the keys that they hold, and that e is at this place
 abbrev pub AreSameBut : List CronEntry → ℕ → CronEntry → List CronEntry → Type 0
 AreSameBut old place e new = map bare new ≡ slice_set (map bare old) place (bare e)
 
--- Entries become an agenda.
+-- The entries become an agenda: only their keys may change.
 abbrev pub Begins : List CronEntry → List CronEntry → Status → Type 0
 Begins old new Done = AreSame old new × IsAgenda new
 Begins old new _ = ⊥
 
--- An entry takes a place, or there is no such place. What was an agenda stays one.
+-- The entry e is written to a place, or there is no such place. An agenda stays an agenda.
 abbrev pub Puts : List CronEntry → ℕ → CronEntry → List CronEntry → Status → Type 0
 Puts old place e new Done = (place < length old) × AreSameBut old place e new × (IsAgenda old → IsAgenda new)
 Puts old place e new NotAnItem = (length old ≤ place) × (new ≡ old)
@@ -81,45 +85,50 @@ Puts old place e new _ = ⊥
 
 -- ---- what comes next
 
--- The first item of a history past that of a struct takes its place; or there is none; or the given one is none.
-abbrev pub FollowsIn : List Sets → List CronEra → CronItem → CronItem → Status → Type 0
-FollowsIn ss eras old new Done =
+-- The struct of an item is replaced by the first item of the history that is later; or there is
+-- none. Or the struct is no item, or the eras are no history.
+abbrev pub FollowsIn : Seconds → List CronEra → CronItem → CronItem → Status → Type 0
+FollowsIn s eras old new Done =
     (r : Reading) × (next : Reading) × IsItemInRange r old
-    × IsFound eras IsEarliest (λ q. IsItemOfAny ss eras q × (is_earlier r q ≡ true)) (Some next) × IsItem next new
-FollowsIn ss eras old new NoItem =
-    (r : Reading) × IsItemInRange r old × IsFound eras IsEarliest (λ q. IsItemOfAny ss eras q × (is_earlier r q ≡ true)) None × (new ≡ old)
-FollowsIn ss eras old new NotAnItem = IsNoItem old × (new ≡ old)
-FollowsIn ss eras old new BadZone = (IsHistory eras → ⊥) × (new ≡ old)
-FollowsIn ss eras old new _ = ⊥
+    × IsFound eras IsEarliest (λ q. IsHistoryItem s eras q × (is_earlier r q ≡ true)) (Some next) × IsItem next new
+FollowsIn s eras old new NoItem =
+    (r : Reading) × IsItemInRange r old × IsFound eras IsEarliest (λ q. IsHistoryItem s eras q × (is_earlier r q ≡ true)) None × (new ≡ old)
+FollowsIn s eras old new NotAnItem = IsNoItem old × (new ≡ old)
+FollowsIn s eras old new BadZone = (IsHistory eras → ⊥) × (new ≡ old)
+FollowsIn s eras old new _ = ⊥
 
--- the same by a rule: with 1 items, with 2 due fires
-abbrev pub FollowsBy : ℕ → List Sets → List CronEra → CronItem → CronItem → Status → Type 0
-FollowsBy rule ss eras old new status =
-    ((rule ≡ 1) × FollowsIn ss eras old new status)
-    ⊎ ((rule ≡ 2) × InHistory eras (FollowsDue IsFirstDueOfAnyPast ss old new) (new ≡ old) status)
+-- The struct of a fire is replaced by the next fire, by a rule. 1 goes on to the next item, 2 to
+-- the next due fire, and any other is refused.
+abbrev pub FollowsBy : ℕ → Seconds → List CronEra → CronItem → CronItem → Status → Type 0
+FollowsBy rule s eras old new status =
+    ((rule ≡ 1) × FollowsIn s eras old new status)
+    ⊎ ((rule ≡ 2) × InHistory eras (FollowsDue s old new) (new ≡ old) status)
     ⊎ ((rule ≡ 1 → ⊥) × (rule ≡ 2 → ⊥) × (status ≡ NotAnItem) × (new ≡ old))
 
--- so many from a place on are there
+-- the list has `count` members from the place `from` on
 abbrev pub IsWithin : {X : Type 0} → List X → ℕ → ℕ → Type 0
 IsWithin all from count = from + count ≤ length all
 
--- an entry's own schedules and eras are there
+-- the two arrays have the schedules and the eras that an entry names by place and count
 abbrev pub HasOwn : List CronSchedule → List CronEra → CronEntry → Type 0
 HasOwn schedules eras e = IsWithin schedules e.schedules_from e.schedules_length × IsWithin eras e.eras_from e.eras_length
 
-abbrev pub own_sets : List CronSchedule → CronEntry → List Sets
-own_sets schedules e = sets_of_all (slice_range schedules e.schedules_from (e.schedules_from + e.schedules_length))
+-- the civil seconds that match any of an entry's own schedules
+abbrev pub own_seconds : List CronSchedule → CronEntry → Seconds
+own_seconds schedules e = seconds_of_any (slice_range schedules e.schedules_from (e.schedules_from + e.schedules_length))
 
 abbrev pub own_eras : List CronEra → CronEntry → List CronEra
 own_eras eras e = slice_range eras e.eras_from (e.eras_from + e.eras_length)
 
--- what follows the next fire of an entry by its schedules, its eras and its rule
+-- `new` is what follows an entry's next fire, by its own schedules, eras and rule; or the status
+-- says why nothing does
 abbrev pub GoesOn : List CronSchedule → List CronEra → CronEntry → CronItem → Status → Type 0
 GoesOn schedules eras e new status =
-    (HasOwn schedules eras e × FollowsBy e.rule (own_sets schedules e) (own_eras eras e) e.next new status)
+    (HasOwn schedules eras e × FollowsBy e.rule (own_seconds schedules e) (own_eras eras e) e.next new status)
     ⊎ ((HasOwn schedules eras e → ⊥) × (status ≡ NotAnItem) × (new ≡ e.next))
 
--- the entry with this next fire; without one it is none
+-- the entry, gone on to the fire `next`; without such a fire its rule becomes 0, so that it is no
+-- entry
 abbrev pub gone_on : CronEntry → CronItem → Status → CronEntry
 gone_on e next Done = record {
   schedules_from = e.schedules_from;
@@ -144,14 +153,14 @@ gone_on e next status = record {
   soonest_place = e.soonest_place;
 }
 
--- an entry is due by an instant
+-- whether an entry's next fire is at or before the instant `now`
 abbrev pub is_due : ℤ → CronEntry → Bool
 is_due now e = int_le (when e) now && int_lt (when e) never
 
 abbrev pub NoneIsDue : ℤ → List CronEntry → Type 0
 NoneIsDue now es = IsAgenda es → (i : ℕ) (e : CronEntry) → slice_get es i ≡ Some e → is_due now e ≡ false
 
--- an agenda's entry at this place comes first, and is due
+-- the entry at this place comes first of all, and its fire is due
 pub record IsFirstDue (now : ℤ) (es : List CronEntry) (place : ℕ) : Type 0 where
   pub first : ComesFirst (instants_of es) place
   pub entry : CronEntry
@@ -161,14 +170,16 @@ pub record IsFirstDue (now : ℤ) (es : List CronEntry) (place : ℕ) : Type 0 w
 abbrev pub FirstIsDue : ℤ → List CronEntry → ℕ → Type 0
 FirstIsDue now es place = IsAgenda es → IsFirstDue now es place
 
--- the entry at a place comes first and is due, and this follows its fire
+-- if the entries are an agenda, the one at this place comes first and is due; `next` and `status`
+-- are what follows its fire
 pub record ComesDue (schedules : List CronSchedule) (eras : List CronEra) (now : ℤ) (es : List CronEntry) (place : ℕ) (next : CronItem) (status : Status) : Type 0 where
   pub entry : CronEntry
   pub here : slice_get es place ≡ Some entry
   pub first : FirstIsDue now es place
   pub goes_on : GoesOn schedules eras entry next status
 
--- it is taken: its fire is told, and the entry goes on
+-- The fire of the entry at this place, the first of all and due, is taken: it is `item`. The entry
+-- goes on to its next fire, or ends if it has none.
 pub record IsTaken (schedules : List CronSchedule) (eras : List CronEra) (now : ℤ) (old new : List CronEntry) (place : ℕ) (item : CronItem) : Type 0 where
   pub next : CronItem
   pub status : Status
@@ -178,7 +189,9 @@ pub record IsTaken (schedules : List CronSchedule) (eras : List CronEra) (now : 
   pub left : AreSameBut old place (gone_on comes.entry next status) new
   pub agenda : IsAgenda old → IsAgenda new
 
--- What comes first and is due is taken, and its place told; or of an agenda nothing is due; or what comes first can't go on. Of other arrays less is told.
+-- What each status of `cron_c_agenda_next` means. The first fire is due and is taken, and `place`
+-- is its entry's. Or no fire of the agenda is due; or the entry of the first one can't go on. For
+-- entries that are no agenda less is known.
 abbrev pub TakesFirst : List CronSchedule → List CronEra → ℤ → List CronEntry → List CronEntry → ℕ → ℕ → CronItem → CronItem → Status → Type 0
 TakesFirst schedules eras now old new was place before item Done = IsTaken schedules eras now old new place item
 TakesFirst schedules eras now old new was place before item NoItem =

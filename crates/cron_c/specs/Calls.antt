@@ -1,4 +1,5 @@
--- What each status of a call says.
+-- What each status of a call means. `old` and `new` are a struct before and after the call,
+-- `before` and `after` a buffer, and `size` is the length that is returned of a text.
 use Rattle.std.specs.Prelude.{◌≡◌, ℕ, ℤ, pos, ◌*ℤ◌, List, Option, Some, None, length}
 use Rattle.std.specs.Str.{IsUtf8}
 use Rattle.jiff_core.specs.Timestamp.{IsTimestampNanos}
@@ -8,6 +9,7 @@ use Rattle.cron_units.specs.declared.way.Way.TheVariants.{Ahead, Back}
 use Rattle.cron_units.specs.Sets.{Sets}
 use Rattle.cron_text.specs.Fault.{IsRefusal}
 use Rattle.cron_text.specs.Meaning.{Means}
+use Rattle.cron_time.specs.Seconds.{Seconds}
 use Rattle.cron_time.specs.Walk.Cursor.{Start, Walk, step}
 use Rattle.cron_moments.specs.MomentText.{moment_text}
 use Rattle.cron_moments.specs.Readings.{Reading, instant}
@@ -23,19 +25,20 @@ use Rattle.cron_c.specs.declared.schedule.CronSchedule.{CronSchedule}
 use Rattle.cron_c.specs.declared.status.Status.{Status}
 use Rattle.cron_c.specs.declared.status.Status.TheVariants.{Done, NoItem, Refused, NotUtf8, BadZone, BadInstant, NotAnItem, Untold}
 
--- the number is that of a status, and what the status says is so
+-- the number is that of a status, and what the status means (`says`) holds
 abbrev pub Answers : (Status → Type 0) → ℕ → Type 0
 Answers says number = (status : Status) × says status × (number ≡ code_of status)
 
--- the instant, by its seconds since 1970-01-01T00:00:00Z, is in range
+-- the instant is in range, given in seconds since 1970-01-01T00:00:00Z
 abbrev pub IsInstant : ℤ → Type 0
 IsInstant second = IsTimestampNanos (second *ℤ pos 1_000_000_000)
 
--- the walk over sets in a zone that starts at an instant
+-- the walk over the sets in a zone that starts at the instant `second`
 abbrev pub start_at : Sets → TimeZone → ℤ → Walk
 start_at s z second = record { sets = s; zone = z; cursor = Start (second *ℤ pos 1_000_000_000) }
 
--- A text is read into a struct, of which each bit is told; or the message that refuses it is laid over a buffer, and its whole length told.
+-- A text is read into a struct, which has no other bits than those of its sets; or the message that
+-- refuses the text is laid over a buffer.
 abbrev pub Parses : List ℕ → CronSchedule → CronSchedule → List ℕ → List ℕ → ℕ → Status → Type 0
 Parses text old new before after size Done =
     IsUtf8 text × Means text (sets_of new) × IsStructOf (sets_of new) new × (after ≡ before) × (size ≡ 0)
@@ -45,7 +48,8 @@ Parses text old new before after size NotUtf8 = (IsUtf8 text → ⊥) × (new �
 Parses text old new before after size Untold = IsUtf8 text × (told : List ℕ) × IsRefusal text told × (new ≡ old) × (size ≡ 0)
 Parses text old new before after size _ = ⊥
 
--- What a walk answers first that starts at the instant is written; or there is no such item; or nothing is looked for.
+-- The first item of a walk that starts at the instant `second` is written; or there is none; or the
+-- zone or the instant is refused.
 abbrev pub Searches : Way → Sets → CronZone → ℤ → CronItem → CronItem → Status → Type 0
 Searches way s zone second old new Done =
     (z : TimeZone) × (r : Reading) × IsZoneIn zone z × IsInstant second × ((step way (start_at s z second)).answer ≡ Some r) × IsItem r new
@@ -55,8 +59,9 @@ Searches way s zone second old new BadZone = IsNoZone zone × (new ≡ old)
 Searches way s zone second old new BadInstant = IsSomeZone zone × (IsInstant second → ⊥) × (new ≡ old)
 Searches way s zone second old new _ = ⊥
 
--- Of the items whose instant comes after this one the earliest is written, or of the others the latest; or there is none; or nothing is looked for.
-abbrev pub Fires : (Sets → TimeZone → ℤ → Option Reading → Type 0) → Sets → CronZone → ℤ → CronItem → CronItem → Status → Type 0
+-- The item that is sought from the instant `second` is written: the earliest after it, or the
+-- latest at or before it. Or there is none; or the zone or the instant is refused.
+abbrev pub Fires : (Seconds → TimeZone → ℤ → Option Reading → Type 0) → Seconds → CronZone → ℤ → CronItem → CronItem → Status → Type 0
 Fires IsSought s zone second old new Done =
     (z : TimeZone) × (r : Reading) × IsZoneIn zone z × IsInstant second × IsSought s z (second *ℤ pos 1_000_000_000) (Some r) × IsItem r new
 Fires IsSought s zone second old new NoItem =
@@ -65,13 +70,14 @@ Fires IsSought s zone second old new BadZone = IsNoZone zone × (new ≡ old)
 Fires IsSought s zone second old new BadInstant = IsSomeZone zone × (IsInstant second → ⊥) × (new ≡ old)
 Fires IsSought s zone second old new _ = ⊥
 
--- what is looked for in a direction
-abbrev pub IsNearestFire : Way → Sets → TimeZone → ℤ → Option Reading → Type 0
+-- which item is sought from an instant: ahead the first after it, back the last at or before it
+abbrev pub IsNearestFire : Way → Seconds → TimeZone → ℤ → Option Reading → Type 0
 IsNearestFire Ahead = IsFirstAfter
 IsNearestFire Back = IsLastBy
 
--- An item whose instant is this one is written, of two that share it the later; or there is none; or nothing is looked for.
-abbrev pub FiresAt : Sets → CronZone → ℤ → CronItem → CronItem → Status → Type 0
+-- The item at the instant `second` is written, of two that share it the one with the later civil
+-- second. Or there is none; or the zone or the instant is refused.
+abbrev pub FiresAt : Seconds → CronZone → ℤ → CronItem → CronItem → Status → Type 0
 FiresAt s zone second old new Done =
     (z : TimeZone) × (r : Reading) × IsZoneIn zone z × IsLastBy s z (second *ℤ pos 1_000_000_000) (Some r) × (instant r ≡ second) × IsItem r new
 FiresAt s zone second old new NoItem =
@@ -80,11 +86,12 @@ FiresAt s zone second old new BadZone = IsNoZone zone × (new ≡ old)
 FiresAt s zone second old new BadInstant = IsSomeZone zone × (IsInstant second → ⊥) × (new ≡ old)
 FiresAt s zone second old new _ = ⊥
 
--- the walk goes on from the item of a struct
+-- the walk is one that goes on from the item of the struct
 abbrev pub IsResumedAt : Sets → TimeZone → CronItem → Walk → Type 0
 IsResumedAt s z item w = (r : Reading) × IsItem r item × IsResumed s z r w
 
--- The item after an item, or before it, takes its place; or there is none; or the given one is none.
+-- The struct of an item is replaced by the item after it, or before it; or there is none. Or the
+-- zone is refused, or the struct is no item of this timeline.
 abbrev pub Follows : Way → Sets → CronZone → CronItem → CronItem → Status → Type 0
 Follows way s zone old new Done =
     (z : TimeZone) × (w : Walk) × (r : Reading) × IsZoneIn zone z × IsResumedAt s z old w × ((step way w).answer ≡ Some r) × IsItem r new
@@ -95,7 +102,7 @@ Follows way s zone old new NotAnItem =
     (z : TimeZone) × IsZoneIn zone z × ((r : Reading) → IsItem r old → IsAbsent s z r) × (new ≡ old)
 Follows way s zone old new _ = ⊥
 
--- The text of an item is laid over a buffer, and its whole length told.
+-- The text of an item is laid over a buffer; or the struct is no item.
 abbrev pub Formats : CronItem → List ℕ → List ℕ → ℕ → Status → Type 0
 Formats item before after size Done =
     (r : Reading) × IsItemInRange r item × (after ≡ laid_over 0 (moment_text r) before) × (size ≡ length (moment_text r))

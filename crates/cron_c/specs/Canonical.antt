@@ -1,4 +1,4 @@
--- The canonical text of a schedule.
+-- The canonical text of a schedule: the one text that schedules with the same sets share.
 use Rattle.std.specs.Prelude.{◌≡◌, ◌≤◌, ℕ, List, length, take}
 use Rattle.cron_units.specs.Sets.{Sets}
 use Rattle.cron_text.specs.Meaning.{Means}
@@ -11,14 +11,16 @@ use Rattle.cron_c.specs.declared.schedule.CronSchedule.{CronSchedule}
 use Rattle.cron_c.specs.declared.status.Status.{Status}
 use Rattle.cron_c.specs.declared.status.Status.TheVariants.{Done, NotAnItem}
 
--- The canonical text of the sets, which means them, is laid over a buffer, and its whole length told; or no text means them.
+-- The canonical text of the sets, which means them, is laid over a buffer, and `size` is its whole
+-- length. Or no text means the sets, since one that must have an ordinal is empty.
 abbrev pub WritesCanonical : Sets → List ℕ → List ℕ → ℕ → Status → Type 0
 WritesCanonical s before after size Done =
     Means (sets_text s) s × (after ≡ laid_over 0 (sets_text s) before) × (size ≡ length (sets_text s)) × (size ≤ 1245)
 WritesCanonical s before after size NotAnItem = ((text : List ℕ) → Means text s → ⊥) × (after ≡ before) × (size ≡ 0)
 WritesCanonical s before after size _ = ⊥
 
--- What was written of a schedule into a buffer with room for it, `cron_c_parse` reads back, to the same sets.
+-- If the buffer had room for the canonical text of a schedule, `cron_c_parse` reads that text back
+-- to the same sets.
 abbrev pub CanonicalIsReadBack : Type 0
 CanonicalIsReadBack =
     (c : CronSchedule) (room text : List ℕ) (size : ℕ) (old new : CronSchedule) (before after : List ℕ) (needed number : ℕ)

@@ -10,17 +10,19 @@ use Rattle.cron_c.specs.declared.schedule.CronSchedule.{CronSchedule}
 use Rattle.cron_c.specs.declared.status.Status.{Status}
 use Rattle.cron_c.specs.declared.status.Status.TheVariants.{NoItem, Refused, Untold}
 
--- whose crontab a number says: with 0 a user's own, else the system's
+-- the kind of crontab that a number means: a user's own for 0, and else a system crontab
 abbrev pub kind_of : ℕ → Crontab
 kind_of n = if n == 0 then User else System
 
--- The schedules of an entry are written, or the array is too short for them; of what is no entry there are none.
+-- The schedules of an entry are written, or the array is too short for them. A line that is no
+-- entry has none.
 abbrev pub WritesLine : Meaning → List CronSchedule → List CronSchedule → ℕ → Status → Type 0
 WritesLine (entry e) old new count status = WritesSchedules (schedules_meant e.meaning) old new count status
 WritesLine _ old new count NoItem = (new ≡ old) × (count ≡ 0)
 WritesLine _ old new count _ = ⊥
 
--- What the line is was written; or the message that refuses it is laid over a buffer, and its whole length told.
+-- What each status of `cron_c_crontab_line_parse` means. The line is read, and its schedules are
+-- written. Or it is refused: the message is laid over a buffer, and `size` is its whole length.
 abbrev pub ParsesLine : Crontab → List ℕ → List CronSchedule → List CronSchedule → ℕ → List ℕ → List ℕ → ℕ → Status → Type 0
 ParsesLine kind line old new count before after size Refused =
     (refusal : Refusal) × IsRefused kind line refusal

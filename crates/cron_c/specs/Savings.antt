@@ -1,20 +1,23 @@
--- What the types of a compiled zone file say of saving time.
+-- The flags of saving time in a compiled zone file. A type is one of the file's kinds of local
+-- time, with an offset, a flag and a name.
 use Rattle.std.specs.Prelude.{◌≡◌, ◌+◌, ◌*◌, ◌≤◌, ◌<◌, ℕ, List, Some, drop, length, slice_get, slice_index}
 use Rattle.jiff_tz.specs.TzifReader.{be_u32}
 
--- where the flag of the first type stands, from the header of its block on, whose times have so many bytes
+-- the place of the first type's flag, counted from the header of its block, whose times have
+-- `time_size` bytes each
 abbrev pub first_flag : ℕ → List ℕ → ℕ
 first_flag time_size s = 44 + be_u32 s 32 * (time_size + 1) + 4
 
--- each type of the block says by 0 or 1 whether it is saving time
+-- the flag of saving time of each type in the block is 0 or 1
 abbrev pub TypesTellSaving : ℕ → List ℕ → Type 0
 TypesTellSaving time_size s =
     44 ≤ length s → (i flag : ℕ) → i < be_u32 s 36 → slice_get s (first_flag time_size s + i * 6) ≡ Some flag → flag ≤ 1
 
--- where a block with times of four bytes ends
+-- the length of a block whose times have four bytes each, with its header
 abbrev pub end_of_block : List ℕ → ℕ
 end_of_block s = 44 + be_u32 s 32 * 5 + (be_u32 s 36 * 6 + be_u32 s 40) + be_u32 s 28 * 8 + be_u32 s 24 + be_u32 s 20
 
--- each type of the block that tells the transitions does so: in a file of version 1 of the only one, and else of the second one
+-- The flag of saving time of each type is 0 or 1 in the block with the file's transitions. That is
+-- the only one in a file of version 1, and else the second one.
 abbrev pub TellSaving : List ℕ → Type 0
 TellSaving s = (slice_index s 4 ≡ 0 → TypesTellSaving 4 s) × (¬ (slice_index s 4 ≡ 0) → TypesTellSaving 8 (drop (end_of_block s) s))

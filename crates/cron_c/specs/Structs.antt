@@ -1,4 +1,4 @@
--- What the structs of numbers say.
+-- What the structs of numbers mean.
 use Rattle.std.specs.Prelude.{not, cond, ◌==◌, ◌≡◌, ◌<◌, ℕ, ◌+◌, ◌-◌, List, replicate}
 use Rattle.cron_units.specs.Sets.{Sets}
 use Rattle.cron_units.specs.Units.{TimeUnit, contains, set_of, with_mark}
@@ -6,14 +6,17 @@ use Rattle.cron_units.specs.Units as units
 use Rattle.cron_bits.specs.Words.{has_bit, bit_of_three}
 use Rattle.cron_moments.specs.Civil.{seconds_in_range}
 use Rattle.cron_moments.specs.Readings.{Reading, instant}
+use Rattle.cron_time.specs.Seconds.{Seconds}
+use Rattle.cron_time.specs.Timeline.{seconds_of}
 use Rattle.cron_c.specs.declared.schedule.CronSchedule.{CronSchedule}
 use Rattle.cron_c.specs.declared.item.CronItem.{CronItem}
 
--- the ordinals of a unit whose bits are 1: bit i stands for the least ordinal plus i, and no other bit means anything
+-- the ordinals of a unit whose bits are 1: bit i is the least ordinal plus i, and a bit past the
+-- greatest means nothing
 abbrev pub set_in : TimeUnit → ℕ → List ℕ
 set_in u word = set_of u (λ x. has_bit word (x - u.least))
 
--- the sets that a struct says; the last day of the month is marked by any number but 0
+-- the sets that a struct means; the last day of the month is marked by any number but 0
 abbrev pub sets_of : CronSchedule → Sets
 sets_of s = record {
   seconds = set_in units.seconds s.seconds;
@@ -25,11 +28,16 @@ sets_of s = record {
   years = set_of units.years (λ x. bit_of_three s.years_from_1970 s.years_from_2034 s.years_from_2098 (x - units.years.least));
 }
 
--- no other bit of the word is 1 than those of the members
+-- the civil seconds that match the sets of a struct
+abbrev pub seconds_of_struct : CronSchedule → Seconds
+seconds_of_struct c = seconds_of (sets_of c)
+
+-- the bits of the word that are 1 are those of the list's members, and no others
 abbrev pub IsWordOf : TimeUnit → List ℕ → ℕ → Type 0
 IsWordOf u xs word = (k : ℕ) → has_bit word k ≡ contains xs (u.least + k)
 
--- the struct says these sets, and there is one such struct: each bit is that of an ordinal, and the last day is 0 or 1
+-- the struct is the one that is written for these sets: it has no other bits, and its last day is 0
+-- or 1
 pub record IsStructOf (sets : Sets) (s : CronSchedule) : Type 0 where
   pub seconds : IsWordOf units.seconds sets.seconds s.seconds
   pub minutes : IsWordOf units.minutes sets.minutes s.minutes
@@ -41,19 +49,21 @@ pub record IsStructOf (sets : Sets) (s : CronSchedule) : Type 0 where
   pub years : (k : ℕ) → bit_of_three s.years_from_1970 s.years_from_2034 s.years_from_2098 k ≡ contains sets.years (units.years.least + k)
   pub reserved : s.reserved ≡ replicate 6 0
 
--- the struct is that of the reading: its instant in seconds since 1970-01-01T00:00:00Z, and how far its clock is ahead of UTC
+-- the struct holds the reading as an item: its instant in seconds since 1970-01-01T00:00:00Z, and
+-- how many seconds its clock is ahead of UTC
 pub record IsItem (r : Reading) (item : CronItem) : Type 0 where
   pub instant_is : item.instant ≡ instant r
   pub offset_is : item.offset ≡ r.offset.seconds
   pub reserved_is : item.reserved ≡ 0
 
--- and what its clock shows lies in the range
+-- the struct holds the reading as an item, and its civil second is in the range, 1970 to 2100
 abbrev pub IsItemInRange : Reading → CronItem → Type 0
 IsItemInRange r item = IsItem r item × (r.second < seconds_in_range)
 
--- the struct is that of some reading of the range, or of none
+-- the struct holds some reading of the range as an item
 abbrev pub IsSomeItem : CronItem → Type 0
 IsSomeItem item = (r : Reading) × IsItemInRange r item
 
+-- the struct holds no reading of the range
 abbrev pub IsNoItem : CronItem → Type 0
 IsNoItem item = (r : Reading) → IsItem r item → r.second < seconds_in_range → ⊥

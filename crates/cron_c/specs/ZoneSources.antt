@@ -19,8 +19,9 @@ abbrev pub IsText : Option (List ℕ) → Type 0
 IsText None = Unit {0}
 IsText (Some tz) = IsUtf8 tz
 
--- Where a zone is found is told by a number: 0 in the struct, 1 in the file of this name in the folder of zone files, 2 in the file at this path, and 3
--- in the machine's own. The name or the path is laid over a buffer, and its whole length told.
+-- The number `place` says where a zone is found. 0 is in the struct, and 1 in the file of this name
+-- in the folder of zone files. 2 is in the file at this path, and 3 in the machine's own file. The
+-- name or the path is laid over a buffer, and `size` is its whole length.
 abbrev pub WritesSource : Source → CronZone → CronZone → ℕ → List ℕ → List ℕ → ℕ → Type 0
 WritesSource (Stated zone) old new place before after size = IsZoneStruct new (plain_zone zone) × (place ≡ 0) × (after ≡ before) × (size ≡ 0)
 WritesSource (Named name) old new place before after size =
@@ -34,13 +35,14 @@ abbrev pub IsUtcOrRule : Option Source → Type 0
 IsUtcOrRule (Some (Stated zone)) = IsOther (plain_zone zone) → ⊥
 IsUtcOrRule source = Unit {0}
 
--- what a source comes to, if there is one
+-- what is written for a source; without one the text names no zone, and nothing is written
 abbrev pub TellsSource : Option Source → CronZone → CronZone → ℕ → ℕ → List ℕ → List ℕ → ℕ → Status → Type 0
 TellsSource (Some source) old new was place before after size Done = WritesSource source old new place before after size
 TellsSource None old new was place before after size BadZone = (new ≡ old) × (place ≡ was) × (after ≡ before) × (size ≡ 0)
 TellsSource _ old new was place before after size _ = ⊥
 
--- Where the zone of a text is found was written; or the text, or what TZ holds, names none, or isn't UTF-8.
+-- What each status of `cron_c_zone_source` means. Where the zone of a text is found is written; or
+-- the text, or what TZ holds, names none, or isn't UTF-8.
 abbrev pub FindsSource : List ℕ → Option (List ℕ) → CronZone → CronZone → ℕ → ℕ → List ℕ → List ℕ → ℕ → Status → Type 0
 FindsSource text tz old new was place before after size NotUtf8 =
     (IsUtf8 text → IsText tz → ⊥) × (new ≡ old) × (place ≡ was) × (after ≡ before) × (size ≡ 0)

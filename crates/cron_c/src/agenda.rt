@@ -1,46 +1,47 @@
-//! Many jobs: entries in an array of the caller's, and their fires in one order.
+//! Many jobs: entries in an array that the caller owns, and their fires in one order.
 
 ghost use Rattle.std.specs.Prelude.{◌≡◌, MatchOption};
 ghost use Rattle.cron_c.specs.Agendas.{Begins, FirstIsDue, FollowsBy, FollowsIn, GoesOn, NoneIsDue, Puts, TakesFirst, gone_on};
 ghost use Rattle.cron_c.specs.Calls.{Answers};
-ghost use Rattle.cron_c.specs.Unions.{sets_of_all};
+ghost use Rattle.cron_c.specs.Unions.{seconds_of_any};
 ghost use Rattle.cron_c.specs.declared.status.Status.TheVariants.{Done, NoItem};
 
 use crate::agenda_tree::{put, rebuild};
 use crate::entry::{AS_SHOWN, CronEntry, NEVER, NONE, ONCE, part_of};
 use crate::era::CronEra;
-use crate::history::Begin;
+use crate::history::{Begin, first_of_history};
+use crate::history_dues::due_past;
 use crate::item::{CronItem, moment_of, write_found};
 use crate::schedule::CronSchedule;
 use crate::status::Status;
-use crate::union_dues::due_past;
-use crate::union_items::first_of_any;
+use cron_unions::AnyOf;
 
-// Puts the first item of any of the schedules past an item in its place.
+// Replaces `item` by the first item of any of the schedules after it.
 fn fire_past(schedules: &[CronSchedule], eras: &[CronEra], item: &mut CronItem) -> Status
-    ensures { FollowsIn (sets_of_all schedules.now) eras.now item.old item.new result }
+    ensures { FollowsIn (seconds_of_any schedules.now) eras.now item.old item.new result }
 {
     let Some(given) = moment_of(*item) else {
         return Status::NotAnItem;
     };
-    match first_of_any(schedules, eras, &Begin::Past(given)) {
+    match first_of_history(&AnyOf { sets: schedules }, eras, &Begin::Past(given)) {
         Ok(found) => write_found(found, item),
         Err(_) => Status::BadZone,
     }
 }
 
-// The same by a rule.
+// Replaces `item` by the next fire of any of the schedules after it, by the rule `rule`.
 fn follow(rule: u32, schedules: &[CronSchedule], eras: &[CronEra], item: &mut CronItem) -> Status
-    ensures { FollowsBy rule (sets_of_all schedules.now) eras.now item.old item.new result }
+    ensures { FollowsBy rule (seconds_of_any schedules.now) eras.now item.old item.new result }
 {
     match rule {
         AS_SHOWN => fire_past(schedules, eras, item),
-        ONCE => due_past(schedules, eras, item),
+        ONCE => due_past(&AnyOf { sets: schedules }, eras, item),
         _ => Status::NotAnItem,
     }
 }
 
-// The same of an entry, by its own schedules and eras.
+// Replaces `next` by the next fire of `entry` after it, by the entry's own schedules, eras and
+// rule.
 fn go_on(
     schedules: &[CronSchedule],
     eras: &[CronEra],
@@ -59,14 +60,14 @@ fn go_on(
     follow(entry.rule, own, zone, next)
 }
 
-// The entry with this next fire.
+// A copy of `entry` whose next fire is `next`.
 fn with_next(entry: &CronEntry, next: CronItem) -> CronEntry
     ensures { result ≡ gone_on entry.now next Done }
 {
     CronEntry { next, ..*entry }
 }
 
-// What becomes of an entry that fires no more.
+// A copy of `entry` for an entry that fires no more: its rule is `NONE`.
 fn ended(entry: &CronEntry) -> CronEntry
     ensures { result ≡ gone_on entry.now entry.now.next NoItem }
 {
@@ -76,7 +77,8 @@ fn ended(entry: &CronEntry) -> CronEntry
     }
 }
 
-// The place of the entry that comes first, if its fire is due. What never fires is never due.
+// The place of the entry that fires first, or `None` if its fire isn't due at the UTC second `now`.
+// An entry that has no fire left is never due.
 fn due_place(entries: &[CronEntry], now: i64) -> Option<usize>
     ensures { MatchOption result (NoneIsDue now entries.now) (FirstIsDue now entries.now) }
 {
@@ -120,7 +122,7 @@ fn take_first(
     Status::Done
 }
 
-// Writes an entry to a place, if there is one.
+// Writes `entry` to `place`, or returns `NotAnItem` if there is no such place.
 fn put_at(entries: &mut [CronEntry], place: usize, entry: &CronEntry) -> Status
     ensures { Puts entries.old place entry.now entries.new result }
 {
@@ -131,7 +133,7 @@ fn put_at(entries: &mut [CronEntry], place: usize, entry: &CronEntry) -> Status
     Status::Done
 }
 
-// Makes an agenda of entries.
+// Makes an agenda of `entries`, and returns `Done`.
 fn begin(entries: &mut [CronEntry]) -> Status
     ensures { Begins entries.old entries.new result }
 {
@@ -139,8 +141,9 @@ fn begin(entries: &mut [CronEntry]) -> Status
     Status::Done
 }
 
-/// Makes an agenda of entries, each with its next fire: has each of them tell which comes first
-/// from it down.
+/// Makes an agenda of `entries`, each with its next fire: a tree where place i is above the places
+/// 2i + 1 and 2i + 2. Each entry gets the instant and the place of the first fire from its place
+/// down. Returns the number of a `Status`.
 #[unsafe(no_mangle)]
 pub extern "C" fn cron_c_agenda_begin(entries: &mut [CronEntry]) -> u32
     ensures { Answers (Begins entries.old entries.new) result }
@@ -148,7 +151,8 @@ pub extern "C" fn cron_c_agenda_begin(entries: &mut [CronEntry]) -> u32
     begin(entries).code()
 }
 
-/// Puts an entry at a place of an agenda: another one with its next fire, or none in its stead.
+/// Writes `entry`, with its next fire, to `place` of an agenda. An entry of rule 0 empties the
+/// place. The status is `NotAnItem` if there is no such place. Returns the number of a `Status`.
 #[unsafe(no_mangle)]
 pub extern "C" fn cron_c_agenda_put(
     entries: &mut [CronEntry],
@@ -160,8 +164,9 @@ pub extern "C" fn cron_c_agenda_put(
     put_at(entries, place, entry).code()
 }
 
-/// Takes what fires next of all entries, if it is due: tells its place and the fire, and has the
-/// entry go on to its next one; one that fires no more is none from then on.
+/// Removes the next fire of all entries if it is due at the UTC second `now`: writes its place and
+/// the fire. Its entry goes on to its next fire, or gets the rule 0 if it fires no more. Returns
+/// the number of a `Status`.
 #[unsafe(no_mangle)]
 pub extern "C" fn cron_c_agenda_next(
     schedules: &[CronSchedule],

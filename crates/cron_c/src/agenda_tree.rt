@@ -1,5 +1,6 @@
-//! The tree of an agenda, whose place `i` stands over the places `2i + 1` and `2i + 2`: each entry
-//! tells which one comes first from it down.
+//! The tree of an agenda, where place `i` is above the places `2i + 1` and `2i + 2`. A key is the
+//! instant of a fire and the place of its entry. Each entry holds the key of the first fire from
+//! its place down.
 
 ghost use Rattle.std.specs.Prelude.{◌≡◌, ◌<◌, Some, length, map, slice_set};
 ghost use Rattle.cron_earliest.specs.Tree as tree;
@@ -8,7 +9,7 @@ ghost use Rattle.cron_c.specs.Agendas.{AreSame, AreSameBut, IsAgenda, IsAgendaBu
 use crate::entry::{CronEntry, instant_of};
 use cron_earliest::{Key, lesser};
 
-// The key of a place's own fire.
+// The key of the next fire of the entry at place `at`.
 fn own_at(entries: &[CronEntry], at: usize) -> Key
     requires { at < length entries.now }
     ensures { Some result ≡ tree.own_at (instants_of entries.now) at }
@@ -19,7 +20,7 @@ fn own_at(entries: &[CronEntry], at: usize) -> Key
     }
 }
 
-// The least key from a place down; none past the end.
+// The key that the entry at place `at` holds: the least from that place down. `None` past the end.
 fn best_at(entries: &[CronEntry], at: usize) -> Option<Key>
     ensures { result ≡ tree.best_at (map soonest entries.now) at }
 {
@@ -32,7 +33,7 @@ fn best_at(entries: &[CronEntry], at: usize) -> Option<Key>
     }
 }
 
-// Of a place's own key and those of its children the least.
+// The least of the key of place `at` and the keys of its children.
 fn best_of(entries: &[CronEntry], at: usize) -> Key
     requires { at < length entries.now }
     ensures { Some result ≡ tree.best_of (instants_of entries.now) (map soonest entries.now) at }
@@ -45,7 +46,7 @@ fn best_of(entries: &[CronEntry], at: usize) -> Key
     }
 }
 
-// The entry that tells this key.
+// A copy of `entry` that holds `key`.
 fn telling(entry: &CronEntry, key: Key) -> CronEntry
     ensures same { bare result ≡ bare entry.now }
     ensures key { soonest result ≡ Some key }
@@ -57,7 +58,7 @@ fn telling(entry: &CronEntry, key: Key) -> CronEntry
     }
 }
 
-// The entry that tells the key which another one tells.
+// A copy of `entry` that holds the key of `other`.
 fn in_place_of(entry: &CronEntry, other: &CronEntry) -> CronEntry
     ensures same { bare result ≡ bare entry.now }
     ensures key { soonest result ≡ soonest other.now }
@@ -69,7 +70,7 @@ fn in_place_of(entry: &CronEntry, other: &CronEntry) -> CronEntry
     }
 }
 
-// Has the entry at a place tell this key.
+// Writes `key` to the entry at place `at`.
 fn tell(entries: &mut [CronEntry], at: usize, key: Key)
     requires { at < length entries.old }
     ensures same { AreSame entries.old entries.new }
@@ -79,7 +80,7 @@ fn tell(entries: &mut [CronEntry], at: usize, key: Key)
     entries[at] = entry;
 }
 
-// Sets right the place and those above it, where the others are.
+// Corrects the keys of place `from` and of the places above it. The others must be correct.
 fn repair(entries: &mut [CronEntry], from: usize)
     requires { from < length entries.old }
     ensures same { AreSame entries.old entries.new }
@@ -96,7 +97,7 @@ fn repair(entries: &mut [CronEntry], from: usize)
     }
 }
 
-/// Sets right all places, the last one first.
+/// Corrects the keys of all places, the last one first.
 pub fn rebuild(entries: &mut [CronEntry])
     ensures same { AreSame entries.old entries.new }
     ensures tree { IsAgenda entries.new }
@@ -107,7 +108,7 @@ pub fn rebuild(entries: &mut [CronEntry])
     }
 }
 
-/// Writes an entry to a place.
+/// Writes `entry` to place `at`, and corrects the keys.
 pub fn put(entries: &mut [CronEntry], at: usize, entry: &CronEntry)
     requires { at < length entries.old }
     ensures same { AreSameBut entries.old at entry.now entries.new }

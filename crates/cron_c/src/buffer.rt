@@ -6,7 +6,7 @@ ghost use Rattle.cron_c.specs.Buffers.{TellsRefusal, laid_over};
 use crate::status::Status;
 use std::fmt::{self, Write};
 
-// Writes bytes to the front of a buffer as far as they fit.
+// Writes `bytes` to the front of `buffer` as far as they fit.
 fn put_first(buffer: &mut [u8], bytes: &[u8])
     ensures { buffer.new ≡ laid_over 0 bytes.now buffer.old }
 {
@@ -15,7 +15,7 @@ fn put_first(buffer: &mut [u8], bytes: &[u8])
     front.copy_from_slice(&bytes[..count]);
 }
 
-/// Writes bytes over a buffer from a place on as far as they fit.
+/// Writes `bytes` over `buffer` from place `at` on as far as they fit.
 pub fn put(buffer: &mut [u8], at: usize, bytes: &[u8])
     ensures { buffer.new ≡ laid_over at bytes.now buffer.old }
 {
@@ -25,7 +25,7 @@ pub fn put(buffer: &mut [u8], at: usize, bytes: &[u8])
     }
 }
 
-/// A buffer that takes the front of a text as far as it fits, and counts the whole.
+/// A buffer that holds the front of a text as far as it fits, with the length of the whole text.
 #[derive(Drop)]
 pub struct Sink<'a> {
     pub buffer: &'a mut [u8],
@@ -47,8 +47,8 @@ impl<'a> fmt::Write for Sink<'a> {
     }
 }
 
-/// Writes what a message prints to a buffer as far as it fits, and answers its whole length. `None`
-/// where it can't be printed whole.
+/// Writes the text of `message` to `buffer` as far as it fits, and returns its whole length. `None`
+/// if the message can't be formatted.
 pub fn tell<M: fmt::Display>(message: &M, buffer: &mut [u8]) -> Option<usize>
     ensures { IfSome (M.output message.now) (λ text. MatchOption result (Unit {0})
         (λ size. (buffer.new ≡ laid_over 0 text buffer.old) × (size ≡ length text))) }
@@ -56,7 +56,7 @@ pub fn tell<M: fmt::Display>(message: &M, buffer: &mut [u8]) -> Option<usize>
     let mut sink = Sink { buffer, length: 0 };
     let written = write!(sink, "{message}");
     let Sink { buffer, length } = sink;
-    // No effect at run time. The proof reads what the buffer holds from this use of it.
+    // No effect at run time. The proof needs this use to know what the buffer holds.
     let _ = &*buffer;
     match written {
         Ok(()) => Some(length),
@@ -64,7 +64,8 @@ pub fn tell<M: fmt::Display>(message: &M, buffer: &mut [u8]) -> Option<usize>
     }
 }
 
-/// Writes the message that refuses a text to a buffer as far as it fits, and its whole length.
+/// Writes the message of `fault`, which refuses a text, to `message` as far as it fits, and its
+/// whole length. It returns `Refused`, or `Untold` if the message can't be formatted.
 pub fn refuse<M: fmt::Display>(fault: &M, message: &mut [u8], message_length: &mut usize) -> Status
     ensures { IfSome (M.output fault.now)
         (λ told. TellsRefusal told message.old message.new message_length.new result) }

@@ -1,4 +1,4 @@
-//! The canonical text of a schedule.
+//! The canonical text of a schedule: the one text that all schedules with the same sets share.
 
 ghost use Rattle.cron_c.specs.Calls.{Answers};
 ghost use Rattle.cron_c.specs.Canonical.{WritesCanonical};
@@ -22,7 +22,9 @@ fn canonical(schedule: &CronSchedule, text: &mut [u8], text_length: &mut usize) 
     Status::Done
 }
 
-/// Writes the canonical text of a schedule to a buffer as far as it fits, and its whole length.
+/// Writes the canonical text of `schedule` to `text` as far as it fits, and its whole length to
+/// `text_length`. The status is `NotAnItem` if no text means the schedule, since a set is empty.
+/// Returns the number of a `Status`.
 #[unsafe(no_mangle)]
 pub extern "C" fn cron_c_canonical(
     schedule: &CronSchedule,

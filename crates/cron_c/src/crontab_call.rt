@@ -1,4 +1,4 @@
-//! An expression of a crontab, read into structs.
+//! A crontab expression, read into structs.
 
 ghost use Rattle.cron_crontab.specs.Views.{expression_view};
 ghost use Rattle.cron_c.specs.Calls.{Answers};
@@ -10,8 +10,8 @@ use crate::status::Status;
 use cron_crontab::{Expression, read};
 use cron_units::fields::ScheduleFields;
 
-/// Writes schedules to the front of an array, where there is room for all of them, and how many
-/// they are.
+/// Writes schedules to the front of an array if it has room for all of them, and writes their
+/// count.
 pub(crate) fn write_schedules(
     all: &[ScheduleFields],
     schedules: &mut [CronSchedule],
@@ -29,8 +29,8 @@ pub(crate) fn write_schedules(
     Status::Done
 }
 
-/// Writes the schedules of which one must match, and how many they are: of `@reboot` there are
-/// none.
+/// Writes the schedules of an expression and their count. It fires when one of them matches, and
+/// `@reboot` has none.
 pub(crate) fn write_meaning(
     meaning: &Expression,
     schedules: &mut [CronSchedule],
@@ -67,8 +67,9 @@ fn parse(
     refuse(&fault, message, message_length)
 }
 
-/// Reads an expression of a crontab into the schedules that it means, and tells how many they are;
-/// or writes the message that refuses it to a buffer as far as it fits, and its whole length.
+/// Reads a crontab expression into the schedules that it means, and writes their count. If it is
+/// refused, the message is written to a buffer as far as it fits, with its whole length. Returns
+/// the number of a `Status`.
 #[unsafe(no_mangle)]
 pub extern "C" fn cron_c_crontab_parse(
     text: &[u8],

@@ -1,92 +1,74 @@
-//! Due fires by any clock: that of a rule, or of a history.
+//! Due fires of a set of civil seconds by any clock: the clock of a rule, or of a history. A due
+//! fire is a match that fires once, also when the clock changes. Instants are in seconds since
+//! 1970-01-01T00:00:00Z.
 
-ghost use Rattle.cron_dues.specs.Clock.Dues.{dues_between, dues_past_by};
-ghost use Rattle.cron_dues.specs.Clock.FirstDues.{IsFirstDueAfter, IsFirstDuePast, IsLastDueBy};
-ghost use Rattle.cron_c.specs.Arrays.{Fills};
-ghost use Rattle.cron_c.specs.Dues.{FindsDue, FollowsDue, IsDueItem, RunsDueBetween, RunsDuePast};
-ghost use Rattle.cron_c.specs.Structs.{sets_of};
+ghost use Rattle.cron_dues.specs.Clock.FirstDues.{IsFirstDueAfter, IsLastDueBy};
+ghost use Rattle.cron_c.specs.Dues.{FindsDue, FollowsDue, RunsDueBetween, RunsDuePast};
 
-use crate::due_item::{due_of_item, item_of_due, write_due};
+use crate::due_item::{due_of_item, write_due};
 use crate::item::CronItem;
-use crate::schedule::{CronSchedule, fields_of};
+use crate::itemed::{fill_between, fill_past};
 use crate::status::Status;
 use cron_dues::clock::Clock;
 use cron_dues::dues::{first_after, first_past, last_by};
-use cron_dues::run::Run;
+use cron_dues::once::Once;
+use cron_seconds::civil_seconds::CivilSeconds;
 use jiff::Timestamp;
 
-/// Writes the first due fire after an instant.
-pub fn due_after<C: Clock>(
-    schedule: &CronSchedule,
+/// Writes the first due fire after the instant `second`.
+pub fn due_after<S: CivilSeconds, C: Clock>(
+    set: &S,
     clock: &C,
     second: i64,
     item: &mut CronItem,
 ) -> Status
-    ensures { FindsDue IsFirstDueAfter (sets_of schedule.now) second
+    ensures { FindsDue IsFirstDueAfter (S.has set.now) second
         item.old item.new (C.offsets clock.now) result }
 {
     let Ok(now) = Timestamp::from_second(second) else {
         return Status::BadInstant;
     };
-    write_due(first_after(&fields_of(schedule), now, clock), item)
+    write_due(first_after(set, now, clock), item)
 }
 
-/// Writes the last due fire by an instant.
-pub fn due_by<C: Clock>(
-    schedule: &CronSchedule,
+/// Writes the last due fire at or before the instant `second`.
+pub fn due_by<S: CivilSeconds, C: Clock>(
+    set: &S,
     clock: &C,
     second: i64,
     item: &mut CronItem,
 ) -> Status
-    ensures { FindsDue IsLastDueBy (sets_of schedule.now) second
+    ensures { FindsDue IsLastDueBy (S.has set.now) second
         item.old item.new (C.offsets clock.now) result }
 {
     let Ok(now) = Timestamp::from_second(second) else {
         return Status::BadInstant;
     };
-    write_due(last_by(&fields_of(schedule), now, clock), item)
+    write_due(last_by(set, now, clock), item)
 }
 
-/// Puts the first due fire past that of an item in its place.
-pub fn due_past<C: Clock>(schedule: &CronSchedule, clock: &C, item: &mut CronItem) -> Status
-    ensures { FollowsDue IsFirstDuePast (sets_of schedule.now)
+/// Replaces the due fire `item` by the first due fire of `set` after it.
+pub fn due_past<S: CivilSeconds, C: Clock>(set: &S, clock: &C, item: &mut CronItem) -> Status
+    ensures { FollowsDue (S.has set.now)
         item.old item.new (C.offsets clock.now) result }
 {
     let Some(given) = due_of_item(*item) else {
         return Status::NotAnItem;
     };
-    write_due(first_past(&fields_of(schedule), &given, clock), item)
+    write_due(first_past(set, &given, clock), item)
 }
 
-// Writes the due fires that a run has left, as far as they fit. One more is asked for when the
-// array is full: only that one tells whether these were all.
-fn fill<C: Clock>(mut run: Run<'_, C>, items: &mut [CronItem], count: &mut usize) -> Status
-    ensures { Fills IsDueItem run.entry items.old items.new count.new result }
-{
-    for at in 0..items.len() {
-        let Some(fire) = run.next() else {
-            *count = at;
-            return Status::Done;
-        };
-        items[at] = item_of_due(&fire);
-    }
-    *count = items.len();
-    match run.next() {
-        Some(_) => Status::More,
-        None => Status::Done,
-    }
-}
-
-/// Writes the due fires after one instant and up to and with another, as far as they fit.
-pub fn dues_between<C: Clock>(
-    schedule: &CronSchedule,
+/// Writes the due fires after the instant `last` and at or before `now` as far as they fit, and
+/// their count.
+pub fn dues_between<S: CivilSeconds, C: Clock>(
+    set: &S,
     clock: &C,
     last: i64,
     now: i64,
     items: &mut [CronItem],
     count: &mut usize,
 ) -> Status
-    ensures { RunsDueBetween dues_between (sets_of schedule.now) last now
+    ensures { RunsDueBetween (S.has set.now) last now
         items.old items.new count.new (C.offsets clock.now) result }
 {
     *count = 0;
@@ -96,20 +78,20 @@ pub fn dues_between<C: Clock>(
     let Ok(now) = Timestamp::from_second(now) else {
         return Status::BadInstant;
     };
-    let run = Run::between(fields_of(schedule), last, now, clock);
-    fill(run, items, count)
+    fill_between::<S, Once<C>>(set, last, now, clock, items, count)
 }
 
-/// Writes the due fires past that of an item and up to and with an instant, as far as they fit.
-pub fn dues_past<C: Clock>(
-    schedule: &CronSchedule,
+/// Writes the due fires after the due fire `item` and at or before the instant `now` as far as they
+/// fit, and their count.
+pub fn dues_past<S: CivilSeconds, C: Clock>(
+    set: &S,
     clock: &C,
     item: &CronItem,
     now: i64,
     items: &mut [CronItem],
     count: &mut usize,
 ) -> Status
-    ensures { RunsDuePast dues_past_by (sets_of schedule.now) item.now now
+    ensures { RunsDuePast (S.has set.now) item.now now
         items.old items.new count.new (C.offsets clock.now) result }
 {
     *count = 0;
@@ -119,6 +101,5 @@ pub fn dues_past<C: Clock>(
     let Ok(now) = Timestamp::from_second(now) else {
         return Status::BadInstant;
     };
-    let run = Run::past_by(fields_of(schedule), &given, now, clock);
-    fill(run, items, count)
+    fill_past::<S, Once<C>>(set, &given, now, clock, items, count)
 }

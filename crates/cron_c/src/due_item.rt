@@ -1,4 +1,5 @@
-//! A due fire as plain numbers.
+//! A due fire as plain numbers. A due fire is a match that fires once: at the first instant at
+//! which the clock shows it or a later time.
 
 ghost use Rattle.std.specs.Prelude.{◌≡◌, ◌+ℤ◌, ◌-ℤ◌, pos, MatchOption};
 ghost use Rattle.cron_c.specs.Arrays.{Writes};
@@ -10,7 +11,7 @@ use cron_dues::fire::{DueFire, due_second, fire_of_parts};
 use cron_moments::civil::SECONDS;
 use jiff::tz::Offset;
 
-/// The struct of a due fire.
+/// The struct that holds the due fire `fire`.
 pub fn item_of_due(fire: &DueFire) -> CronItem
     ensures { IsDueItem fire.now result }
 {
@@ -21,7 +22,7 @@ pub fn item_of_due(fire: &DueFire) -> CronItem
     }
 }
 
-/// Writes the due fire that was found, if one was.
+/// Writes the due fire `found`, or returns `NoItem` if it is `None`.
 pub fn write_due(found: Option<DueFire>, item: &mut CronItem) -> Status
     ensures { Writes IsDueItem found item.old item.new result }
 {
@@ -32,15 +33,16 @@ pub fn write_due(found: Option<DueFire>, item: &mut CronItem) -> Status
     Status::Done
 }
 
-// The number of the nominal second that a struct says, in the range or not.
+// The civil second that the due fire `item` is for, in seconds since 1970-01-01 00:00:00. It may be
+// outside 1970 to 2100.
 fn nominal_second(item: CronItem) -> i128
     ensures { result ≡ item.instant +ℤ item.offset -ℤ pos item.reserved }
 {
     item.instant as i128 + item.offset as i128 - item.reserved as i128
 }
 
-/// The due fire of a struct; `None` where the offset is longer than 25:59:59, what the clock shows
-/// lies more than 187,198 seconds past the nominal time, or that lies outside 1970 to 2100.
+/// The due fire in `item`. `None` if the offset is longer than 25:59:59, the clock shows a time
+/// more than 187,198 seconds past the nominal time, or the nominal time is outside 1970 to 2100.
 pub fn due_of_item(item: CronItem) -> Option<DueFire>
     ensures { MatchOption result
         (IsNoDue item)

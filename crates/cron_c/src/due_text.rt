@@ -1,4 +1,4 @@
-//! The text of a due fire.
+//! The text of a due fire, as `2022-03-13 03:00:00 -05:00 for 02:30:00`.
 
 ghost use Rattle.cron_c.specs.Calls.{Answers};
 ghost use Rattle.cron_c.specs.Dues.{FormatsDue};
@@ -23,7 +23,9 @@ fn format_due(item: &CronItem, text: &mut [u8], text_length: &mut usize) -> Stat
     Status::Done
 }
 
-/// Writes the text of a due fire to a buffer as far as it fits, and its whole length.
+/// Writes the text of the due fire `item` to `text` as far as it fits, and its whole length to
+/// `text_length`. If the struct is no due fire, the length is 0 and the status `NotAnItem`. Returns
+/// the number of a `Status`.
 #[unsafe(no_mangle)]
 pub extern "C" fn cron_c_due_format(
     item: &CronItem,

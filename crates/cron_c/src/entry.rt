@@ -5,21 +5,22 @@ ghost use Rattle.cron_c.specs.Agendas.{IsWithin, when};
 
 use crate::item::CronItem;
 
-/// The rule of what is no entry.
+/// The rule of a place that has no entry.
 pub const NONE: u32 = 0;
 
-/// The rule by which a repeated time is two fires, and a skipped one none.
+/// The rule of fires as the clock shows them: a repeated time is two fires, and a skipped one none.
 pub const AS_SHOWN: u32 = 1;
 
-/// The rule by which each match is one due fire.
+/// The rule of due fires: each match fires once, also when the clock changes.
 pub const ONCE: u32 = 2;
 
-/// The instant of no fire.
+/// The instant of an entry that has no fire left, in seconds since 1970.
 pub const NEVER: i64 = i64::MAX;
 
-/// What fires by some of the caller's schedules and eras, one after another from these places on,
-/// and by a rule: 1 as the clock shows, 2 each match once. Where the rule is 0 there is no entry.
-/// The last two numbers tell which entry of the agenda comes first from here down.
+/// An entry of an agenda. It fires by some of the caller's schedules and eras, each given by the
+/// first place and the count. `next` is its next fire. The rule is 1 for fires as the clock shows
+/// them, 2 for each match once, and 0 if there is no entry. The last two numbers say when and at
+/// which place the first fire comes, of this entry and those below it in the agenda's tree.
 #[repr(C)]
 #[derive(Clone, Copy)]
 pub struct CronEntry {
@@ -34,7 +35,7 @@ pub struct CronEntry {
     pub soonest_place: usize,
 }
 
-/// When an entry fires next.
+/// The instant of an entry's next fire in seconds since 1970, or `NEVER` if there is no entry.
 pub fn instant_of(entry: &CronEntry) -> i64
     ensures { result ≡ when entry.now }
 {
@@ -45,7 +46,7 @@ pub fn instant_of(entry: &CronEntry) -> i64
     }
 }
 
-/// So many members from a place on, if they are there.
+/// The `count` members of `all` from place `from` on, or `None` if they aren't all there.
 pub fn part_of<T>(all: &[T], from: usize, count: usize) -> Option<&[T]>
     ensures { MatchOption result
         (IsWithin all.now from count → ⊥)

@@ -1,4 +1,4 @@
-//! Eras: a zone with a history, as a list of the zones that held one after another.
+//! Eras: a zone with a history, as a list of zones that hold one after another.
 
 ghost use Rattle.std.specs.Prelude.{◌≡◌, ◌↔◌, ◌<◌, ◌+◌, MatchOption, true, length, slice_get};
 ghost use Rattle.jiff.specs.Words.{plain_zone};
@@ -9,8 +9,8 @@ use crate::era_table::fixed_rule;
 use crate::zone::{CronZone, FIXED, zone_in};
 use jiff::tz::{Offset, TimeZone};
 
-/// From `starts` on, in seconds since 1970-01-01T00:00:00Z, the clock is that of the zone, until
-/// the next era starts.
+/// An era: from `starts` on, in seconds since 1970-01-01T00:00:00Z, the clock is the clock of
+/// `zone`, until the next era starts.
 #[repr(C)]
 #[derive(Clone, Copy)]
 pub struct CronEra {
@@ -18,8 +18,8 @@ pub struct CronEra {
     pub zone: CronZone,
 }
 
-// Whether a struct with one offset says a zone. Most eras have one. The rule is made for the proof,
-// which names by it the zone that the struct says.
+// Returns true if a struct with one offset is a valid zone. Most eras have one. The rule is made
+// for the proof, which uses it to name the struct's zone.
 fn is_fixed(zone: &CronZone) -> bool
     requires { zone.now.kind ≡ 1 }
     ensures { (result ≡ true) ↔ IsSomeZone zone.now }
@@ -33,7 +33,7 @@ fn is_fixed(zone: &CronZone) -> bool
     }
 }
 
-// Whether the struct says a zone.
+// Returns true if `zone` is a valid zone.
 fn is_zone(zone: &CronZone) -> bool
     ensures { (result ≡ true) ↔ IsSomeZone zone.now }
 {
@@ -46,7 +46,8 @@ fn is_zone(zone: &CronZone) -> bool
     }
 }
 
-// Whether the era past this place starts no later than the one here.
+// Returns true if the era after place `at` starts no later than the era at `at`. False if there is
+// no era after it.
 fn meets_next(eras: &[CronEra], at: usize) -> bool
     requires { at < length eras.now }
     ensures { result ≡ meets (slice_get eras.now at) (slice_get eras.now (at + 1)) }
@@ -57,7 +58,7 @@ fn meets_next(eras: &[CronEra], at: usize) -> bool
     }
 }
 
-/// Whether each era says a zone, and starts later than the one before it.
+/// Returns true if each era has a valid zone, and starts later than the era before it.
 pub fn is_history(eras: &[CronEra]) -> bool
     ensures { (result ≡ true) ↔ IsHistory eras.now }
 {
@@ -72,7 +73,7 @@ pub fn is_history(eras: &[CronEra]) -> bool
     true
 }
 
-/// The zone of the era at this place. `None` where it says none, or the next one starts no later.
+/// The zone of the era at place `at`. `None` if it isn't valid, or if the next era starts no later.
 pub fn zone_at(eras: &[CronEra], at: usize) -> Option<TimeZone<'static>>
     requires { at < length eras.now }
     ensures { MatchOption result
@@ -85,7 +86,8 @@ pub fn zone_at(eras: &[CronEra], at: usize) -> Option<TimeZone<'static>>
     zone_in(&eras[at].zone)
 }
 
-/// Whether the era at this place has started by a second. Past the end there is none.
+/// Returns true if the era at place `at` starts at or before `second`, in seconds since 1970. False
+/// if there is no such era.
 pub fn has_come(eras: &[CronEra], at: usize, second: i64) -> bool
     ensures { result ≡ has_started eras.now at second }
 {

@@ -1,4 +1,5 @@
-//! The eras of a zone's table: one before its transitions, and one for each of them.
+//! The eras of the table of transitions in a zone file: one before the first transition, and one
+//! from each of them on.
 
 ghost use Rattle.std.specs.Prelude.{◌≡◌, ◌≤◌, ◌<◌, ◌↔◌, ◌+◌, None, true, length};
 ghost use Rattle.jiff_tz.specs.Tzif.{transition_at, type_after};
@@ -10,7 +11,7 @@ use crate::zone::struct_of;
 use jiff_core::Offset;
 use jiff_tz::{Abbreviation, Tzif, posix};
 
-// The second of the transition at this place.
+// The UTC second of the transition at place `at`.
 fn second_of(table: &Tzif, at: usize) -> i64
     requires { at < transition_count table.now }
     ensures { result ≡ (transition_at table.now at).second }
@@ -18,7 +19,8 @@ fn second_of(table: &Tzif, at: usize) -> i64
     table.transitions()[at].second
 }
 
-// Where the era past so many transitions starts.
+// The start of the era after `count` transitions, as a UTC second. The first era starts before
+// every instant.
 fn start_past(table: &Tzif, count: usize) -> i64
     requires { count ≤ transition_count table.now }
     ensures { result ≡ start_of table.now count }
@@ -30,7 +32,7 @@ fn start_past(table: &Tzif, count: usize) -> i64
     }
 }
 
-// The offset of the clock past so many transitions.
+// The offset of the clock after `count` transitions.
 fn offset_past(table: &Tzif, count: usize) -> Offset
     requires { count ≤ transition_count table.now }
     ensures { result ≡ (type_after table.now count).offset }
@@ -42,7 +44,7 @@ fn offset_past(table: &Tzif, count: usize) -> Offset
     }
 }
 
-/// The rule of a clock that stays at one offset.
+/// The rule of a clock that always has `offset`.
 pub fn fixed_rule(offset: Offset) -> posix::TimeZone
     ensures offset { result.std_offset ≡ offset }
     ensures saving { result.dst ≡ None }
@@ -54,8 +56,8 @@ pub fn fixed_rule(offset: Offset) -> posix::TimeZone
     }
 }
 
-// The rule of the clock past so many transitions: past all of them that of the table, if it has
-// one.
+// The rule of the clock after `count` transitions. After all of them it is the table's rule, if it
+// has one.
 fn rule_past(table: &Tzif, count: usize) -> posix::TimeZone
     requires { count ≤ transition_count table.now }
     ensures { SaysRulePast table.now count result }
@@ -69,7 +71,7 @@ fn rule_past(table: &Tzif, count: usize) -> posix::TimeZone
     }
 }
 
-// The era past so many transitions.
+// The era after `count` transitions.
 fn era_past(table: &Tzif, count: usize) -> CronEra
     requires { count ≤ transition_count table.now }
     ensures { IsEraOf table.now count result }
@@ -80,7 +82,7 @@ fn era_past(table: &Tzif, count: usize) -> CronEra
     }
 }
 
-// Whether two transitions lie at the same second.
+// Returns true if two neighbouring transitions are at the same second.
 fn has_double_transition(table: &Tzif) -> bool
     ensures { (result ≡ true) ↔ HasDoubleTransition table.now }
 {
@@ -92,7 +94,7 @@ fn has_double_transition(table: &Tzif) -> bool
     false
 }
 
-// Writes the eras of a table to the front of an array.
+// Writes the `needed` eras of `table` to the front of `eras`.
 fn fill(table: &Tzif, needed: usize, eras: &mut [CronEra])
     requires needed { needed ≡ transition_count table.now + 1 }
     requires room { needed ≤ length eras.old }
@@ -103,8 +105,9 @@ fn fill(table: &Tzif, needed: usize, eras: &mut [CronEra])
     }
 }
 
-/// Writes the eras of a table to the front of an array, where there is room for all of them, and
-/// how many they are.
+/// Writes the eras of `table` to the front of `eras` if there is room for all of them, and writes
+/// their count. It returns `More` without room for them, and `BadZone` if two transitions share a
+/// second.
 pub fn write_eras(table: &Tzif, eras: &mut [CronEra], count: &mut usize) -> Status
     ensures { WritesEras table.now eras.old eras.new count.new result }
 {

@@ -1,9 +1,9 @@
-//! Items by an instant, in the order of instants.
+//! Items found by an instant, in the order of instants.
 
 ghost use Rattle.jiff.specs.Words.{plain_zone};
 ghost use Rattle.cron_instants.specs.Instants.{IsFirstAfter, IsLastBy};
 ghost use Rattle.cron_c.specs.Calls.{Answers, Fires, FiresAt, IsNearestFire};
-ghost use Rattle.cron_c.specs.Structs.{sets_of};
+ghost use Rattle.cron_c.specs.Structs.{seconds_of_struct};
 
 use crate::item::{CronItem, item_of, write_found};
 use crate::schedule::{CronSchedule, fields_of};
@@ -15,14 +15,15 @@ use cron_units::way::Way;
 use jiff::Timestamp;
 use jiff::tz::TimeZone;
 
-// The first item after an instant, or the last one by it.
+// The first item after `now`, or, with `Way::Back`, the last item at or before it.
 fn nearest_fire(
     way: Way,
     schedule: &CronSchedule,
     zone: &TimeZone<'_>,
     now: Timestamp,
 ) -> Option<Moment>
-    ensures { IsNearestFire way (sets_of schedule.now) (plain_zone zone.now) now.nanosecond result }
+    ensures { IsNearestFire way (seconds_of_struct schedule.now) (plain_zone zone.now)
+        now.nanosecond result }
 {
     let fields = fields_of(schedule);
     match way {
@@ -38,7 +39,7 @@ fn fire(
     second: i64,
     item: &mut CronItem,
 ) -> Status
-    ensures { Fires (IsNearestFire way) (sets_of schedule.now) zone.now second
+    ensures { Fires (IsNearestFire way) (seconds_of_struct schedule.now) zone.now second
         item.old item.new result }
 {
     let Some(zone) = zone_in(zone) else {
@@ -50,8 +51,8 @@ fn fire(
     write_found(nearest_fire(way, schedule, &zone, now), item)
 }
 
-/// Writes the earliest of the items whose instant comes after this one, which is given by its
-/// seconds since 1970-01-01T00:00:00Z.
+/// Writes the earliest item with an instant after `instant`, which is in seconds since
+/// 1970-01-01T00:00:00Z. Returns the number of a `Status`.
 #[unsafe(no_mangle)]
 pub extern "C" fn cron_c_fire_after(
     schedule: &CronSchedule,
@@ -59,13 +60,14 @@ pub extern "C" fn cron_c_fire_after(
     instant: i64,
     item: &mut CronItem,
 ) -> u32
-    ensures { Answers (Fires IsFirstAfter (sets_of schedule.now) zone.now instant
+    ensures { Answers (Fires IsFirstAfter (seconds_of_struct schedule.now) zone.now instant
         item.old item.new) result }
 {
     fire(Way::Ahead, schedule, zone, instant, item).code()
 }
 
-/// Writes the latest of the items whose instant is this one or comes before it.
+/// Writes the latest item with an instant at or before `instant`, which is in seconds since
+/// 1970-01-01T00:00:00Z. Returns the number of a `Status`.
 #[unsafe(no_mangle)]
 pub extern "C" fn cron_c_fire_by(
     schedule: &CronSchedule,
@@ -73,14 +75,14 @@ pub extern "C" fn cron_c_fire_by(
     instant: i64,
     item: &mut CronItem,
 ) -> u32
-    ensures { Answers (Fires IsLastBy (sets_of schedule.now) zone.now instant
+    ensures { Answers (Fires IsLastBy (seconds_of_struct schedule.now) zone.now instant
         item.old item.new) result }
 {
     fire(Way::Back, schedule, zone, instant, item).code()
 }
 
 fn fire_at(schedule: &CronSchedule, zone: &CronZone, second: i64, item: &mut CronItem) -> Status
-    ensures { FiresAt (sets_of schedule.now) zone.now second item.old item.new result }
+    ensures { FiresAt (seconds_of_struct schedule.now) zone.now second item.old item.new result }
 {
     let Some(zone) = zone_in(zone) else {
         return Status::BadZone;
@@ -99,7 +101,8 @@ fn fire_at(schedule: &CronSchedule, zone: &CronZone, second: i64, item: &mut Cro
     Status::Done
 }
 
-/// Writes the item whose instant is this one, of two that share it the later.
+/// Writes the item at `instant`, which is in seconds since 1970-01-01T00:00:00Z. If two items share
+/// it, the one with the later civil second is written. Returns the number of a `Status`.
 #[unsafe(no_mangle)]
 pub extern "C" fn cron_c_fire_at(
     schedule: &CronSchedule,
@@ -107,7 +110,8 @@ pub extern "C" fn cron_c_fire_at(
     instant: i64,
     item: &mut CronItem,
 ) -> u32
-    ensures { Answers (FiresAt (sets_of schedule.now) zone.now instant item.old item.new) result }
+    ensures { Answers (FiresAt (seconds_of_struct schedule.now) zone.now instant
+        item.old item.new) result }
 {
     fire_at(schedule, zone, instant, item).code()
 }

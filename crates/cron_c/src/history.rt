@@ -1,9 +1,10 @@
-//! The first item of a history where a search begins, and the last one by an instant.
+//! The first item of a history from where a search begins, and the last one at or before an
+//! instant. A history is a list of eras: zones that hold one after another.
 
 ghost use Rattle.std.specs.Prelude.{◌≡◌, ◌+◌, ◌<◌, ◌≤◌, ◌≤ℤ◌, ◌<ℤ◌, pos, neg_ℤ, false, MatchOption, MatchResult, length};
 ghost use Rattle.jiff.specs.Words.{plain_zone};
-ghost use Rattle.cron_units.specs.Sets.{Sets};
 ghost use Rattle.cron_moments.specs.Readings.{Reading, instant};
+ghost use Rattle.cron_time.specs.Seconds.{Seconds};
 ghost use Rattle.cron_instants.specs.Instants.{IsBy, IsEarliest, IsItem, IsLatest};
 ghost use Rattle.cron_c.specs.Histories.{AllBelow, BeginsIn, EndsIn, IsBeyond, IsFound, IsHistory, IsItemAt, IsLastInBy, IsSought, IsZoneAt, has_started};
 
@@ -12,7 +13,7 @@ use crate::places::{left_before, place_of, place_past};
 use cron_instants::instants::{first_after, first_past, last_by};
 use cron_moments::civil::FURTHEST_OFFSET;
 use cron_moments::moment::{Moment, instant_of};
-use cron_units::fields::ScheduleFields;
+use cron_seconds::civil_seconds::CivilSeconds;
 use jiff::Timestamp;
 use jiff::tz::TimeZone;
 
@@ -21,16 +22,17 @@ use jiff::tz::TimeZone;
 pub enum Begin {
     /// After an instant.
     After(Timestamp),
-    /// Past an item.
+    /// After an item.
     Past(Moment),
 }
 
-/// That eras are no history: one that a search came to says no zone, or the next one starts no
-/// later.
+/// The error of eras that are no history. The search came to an era whose zone isn't valid, or
+/// whose next era starts no later.
 #[derive(Clone, Copy)]
 pub struct NoHistory;
 
-/// The least second in which an item may lie where the search begins. Past it each does.
+/// The least instant, in seconds since 1970, that an item of the search may have. Every item with a
+/// greater one is in the search.
 pub fn least_second(begin: &Begin) -> i64
     ensures least { (r : Reading) → IsBeyond begin.now r → result ≤ℤ instant r }
     ensures all { (r : Reading) → result <ℤ instant r → IsBeyond begin.now r }
@@ -42,7 +44,8 @@ pub fn least_second(begin: &Begin) -> i64
     }
 }
 
-/// Where a search begins in an era. `None` where the era starts too late for any item.
+/// Where the search begins in `era`: at `begin`, or just before the era if that is later. `None` if
+/// the era starts too late for any item.
 pub fn begin_in(era: &CronEra, begin: &Begin) -> Option<Begin>
     ensures { MatchOption result
         ((r : Reading) → era.now.starts ≤ℤ instant r → instant r ≤ℤ pos 4_200_000_000 → ⊥)
@@ -57,8 +60,7 @@ pub fn begin_in(era: &CronEra, begin: &Begin) -> Option<Begin>
     }
 }
 
-// The last instant before an era, or `until` where that comes earlier; `None` where no item is so
-// early.
+// The last instant before `era`, or `until` if that is earlier. `None` if no item is so early.
 fn until_before(era: &CronEra, until: Timestamp) -> Option<Timestamp>
     ensures { MatchOption result
         ((r : Reading) → instant r <ℤ era.now.starts → IsBy until.nanosecond r → ⊥)
@@ -79,8 +81,8 @@ fn until_before(era: &CronEra, until: Timestamp) -> Option<Timestamp>
     }
 }
 
-/// The last instant of the era at this place, or `now` where that comes earlier; `None` where no
-/// item is so early.
+/// The last instant of the era at place `at`, or `now` if that is earlier. `None` if no item is so
+/// early.
 pub fn until_in(eras: &[CronEra], at: usize, now: Timestamp) -> Option<Timestamp>
     requires { at < length eras.now }
     ensures { MatchOption result
@@ -94,30 +96,31 @@ pub fn until_in(eras: &[CronEra], at: usize, now: Timestamp) -> Option<Timestamp
     }
 }
 
-/// How many of the eras may have an item by an instant: of a history those up to the one that holds
-/// it.
+/// How many of the eras may have an item at or before `now`: in a history, the eras up to the one
+/// that holds `now`.
 pub fn eras_by(eras: &[CronEra], now: Timestamp) -> usize
     ensures bound { result ≤ length eras.now }
-    ensures below { (s : Sets) → IsHistory eras.now → AllBelow s eras.now now.nanosecond result }
+    ensures below { (s : Seconds) → IsHistory eras.now → AllBelow s eras.now now.nanosecond result }
 {
     let held = place_of(eras, now.to_plain().floor_second());
     eras.len().min(held + 1)
 }
 
-// The first item of a zone.
-fn first_of_zone(fields: &ScheduleFields, zone: &TimeZone<'_>, begin: &Begin) -> Option<Moment>
+// The first item of `zone` after `begin`, `None` if there is none.
+fn first_of_zone<S: CivilSeconds>(set: &S, zone: &TimeZone<'_>, begin: &Begin) -> Option<Moment>
     ensures { IsEarliest
-        (λ r. IsItem fields.now (plain_zone zone.now) r × IsBeyond begin.now r) result }
+        (λ r. IsItem (S.has set.now) (plain_zone zone.now) r × IsBeyond begin.now r) result }
 {
     match begin {
-        Begin::After(now) => first_after(fields, *now, zone),
-        Begin::Past(item) => first_past(fields, item, zone),
+        Begin::After(now) => first_after(set, *now, zone),
+        Begin::Past(item) => first_past(set, item, zone),
     }
 }
 
-// The first item of the era at this place.
-fn first_in_era(
-    fields: &ScheduleFields,
+// The first item after `begin` of the era at place `at`, whose zone is `zone`. `None` if there is
+// none.
+fn first_in_era<S: CivilSeconds>(
+    set: &S,
     eras: &[CronEra],
     at: usize,
     zone: &TimeZone<'_>,
@@ -125,12 +128,13 @@ fn first_in_era(
 ) -> Option<Moment>
     requires within { at < length eras.now }
     requires zone { IsZoneAt eras.now at (plain_zone zone.now) }
-    ensures { IsEarliest (λ r. IsItemAt fields.now eras.now at r × IsBeyond begin.now r) result }
+    ensures { IsEarliest
+        (λ r. IsItemAt (S.has set.now) eras.now at r × IsBeyond begin.now r) result }
 {
     let Some(there) = begin_in(&eras[at], begin) else {
         return None;
     };
-    let Some(found) = first_of_zone(fields, zone, &there) else {
+    let Some(found) = first_of_zone(set, zone, &there) else {
         return None;
     };
     if has_come(eras, at + 1, instant_of(&found)) {
@@ -139,14 +143,14 @@ fn first_in_era(
     Some(found)
 }
 
-/// The first item of a history.
-pub fn first_of_history(
-    fields: &ScheduleFields,
+/// The first item of a history after `begin`, `None` if there is none.
+pub fn first_of_history<S: CivilSeconds>(
+    set: &S,
     eras: &[CronEra],
     begin: &Begin,
 ) -> Result<Option<Moment>, NoHistory>
     ensures { MatchResult result
-        (λ found. IsFound eras.now IsEarliest (IsSought fields.now eras.now begin.now) found)
+        (λ found. IsFound eras.now IsEarliest (IsSought (S.has set.now) eras.now begin.now) found)
         (λ e. IsHistory eras.now → ⊥) }
 {
     let mut at = place_of(eras, least_second(begin));
@@ -154,17 +158,18 @@ pub fn first_of_history(
         let Some(zone) = zone_at(eras, at) else {
             return Err(NoHistory);
         };
-        if let Some(found) = first_in_era(fields, eras, at, &zone, begin) {
+        if let Some(found) = first_in_era(set, eras, at, &zone, begin) {
             return Ok(Some(found));
         }
-        at = place_past(fields, eras, at);
+        at = place_past(set, eras, at);
     }
     Ok(None)
 }
 
-// The last item of the era at this place by an instant.
-fn last_in_era(
-    fields: &ScheduleFields,
+// The last item of the era at place `at`, whose zone is `zone`, with an instant at or before `now`.
+// `None` if there is none.
+fn last_in_era<S: CivilSeconds>(
+    set: &S,
     eras: &[CronEra],
     at: usize,
     zone: &TimeZone<'_>,
@@ -172,12 +177,13 @@ fn last_in_era(
 ) -> Option<Moment>
     requires within { at < length eras.now }
     requires zone { IsZoneAt eras.now at (plain_zone zone.now) }
-    ensures { IsLatest (λ r. IsItemAt fields.now eras.now at r × IsBy now.nanosecond r) result }
+    ensures { IsLatest
+        (λ r. IsItemAt (S.has set.now) eras.now at r × IsBy now.nanosecond r) result }
 {
     let Some(until) = until_in(eras, at, now) else {
         return None;
     };
-    let Some(found) = last_by(fields, until, zone) else {
+    let Some(found) = last_by(set, until, zone) else {
         return None;
     };
     if !has_come(eras, at, instant_of(&found)) {
@@ -186,14 +192,14 @@ fn last_in_era(
     Some(found)
 }
 
-/// The last item of a history by an instant.
-pub fn last_of_history(
-    fields: &ScheduleFields,
+/// The last item of a history with an instant at or before `now`, `None` if there is none.
+pub fn last_of_history<S: CivilSeconds>(
+    set: &S,
     eras: &[CronEra],
     now: Timestamp,
 ) -> Result<Option<Moment>, NoHistory>
     ensures { MatchResult result
-        (λ found. IsLastInBy fields.now eras.now now.nanosecond found)
+        (λ found. IsLastInBy (S.has set.now) eras.now now.nanosecond found)
         (λ e. IsHistory eras.now → ⊥) }
 {
     let mut left = eras_by(eras, now);
@@ -202,10 +208,10 @@ pub fn last_of_history(
         let Some(zone) = zone_at(eras, at) else {
             return Err(NoHistory);
         };
-        if let Some(found) = last_in_era(fields, eras, at, &zone, now) {
+        if let Some(found) = last_in_era(set, eras, at, &zone, now) {
             return Ok(Some(found));
         }
-        left = left_before(fields, eras, at);
+        left = left_before(set, eras, at);
     }
     Ok(None)
 }

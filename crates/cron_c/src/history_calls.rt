@@ -1,8 +1,9 @@
-//! Items of a zone with a history, by instants.
+//! Items of a zone with a history, in the order of instants. Instants are in seconds since
+//! 1970-01-01T00:00:00Z.
 
 ghost use Rattle.cron_c.specs.Calls.{Answers};
-ghost use Rattle.cron_c.specs.Histories.{ChecksHistory, FiresIn, FiresInAt, IsFirstInAfter, IsHistoryItem, IsLastInBy, RunsInBetween, RunsInPast};
-ghost use Rattle.cron_c.specs.Structs.{sets_of};
+ghost use Rattle.cron_c.specs.Histories.{ChecksHistory, FiresIn, FiresInAt, IsFirstInAfter, IsLastInBy, RunsInBetween, RunsInPast};
+ghost use Rattle.cron_c.specs.Structs.{seconds_of_struct};
 
 use crate::era::{CronEra, is_history};
 use crate::history::{Begin, first_of_history, last_of_history};
@@ -10,40 +11,53 @@ use crate::history_runs::fill_history;
 use crate::item::{CronItem, item_of, moment_of, write_found};
 use crate::schedule::{CronSchedule, fields_of};
 use crate::status::Status;
+use cron_seconds::civil_seconds::CivilSeconds;
 use jiff::Timestamp;
 
-fn fire_after(schedule: &CronSchedule, eras: &[CronEra], second: i64, item: &mut CronItem) -> Status
-    ensures { FiresIn IsFirstInAfter (sets_of schedule.now) eras.now second
+/// Writes the earliest item of `set` with an instant after the UTC second `second`.
+pub fn fire_after<S: CivilSeconds>(
+    set: &S,
+    eras: &[CronEra],
+    second: i64,
+    item: &mut CronItem,
+) -> Status
+    ensures { FiresIn IsFirstInAfter (S.has set.now) eras.now second
         item.old item.new result }
 {
     let Ok(now) = Timestamp::from_second(second) else {
         return Status::BadInstant;
     };
-    match first_of_history(&fields_of(schedule), eras, &Begin::After(now)) {
+    match first_of_history(set, eras, &Begin::After(now)) {
         Ok(found) => write_found(found, item),
         Err(_) => Status::BadZone,
     }
 }
 
-fn fire_by(schedule: &CronSchedule, eras: &[CronEra], second: i64, item: &mut CronItem) -> Status
-    ensures { FiresIn IsLastInBy (sets_of schedule.now) eras.now second item.old item.new result }
+/// Writes the latest item of `set` with an instant at or before the UTC second `second`.
+pub fn fire_by<S: CivilSeconds>(
+    set: &S,
+    eras: &[CronEra],
+    second: i64,
+    item: &mut CronItem,
+) -> Status
+    ensures { FiresIn IsLastInBy (S.has set.now) eras.now second item.old item.new result }
 {
     let Ok(now) = Timestamp::from_second(second) else {
         return Status::BadInstant;
     };
-    match last_of_history(&fields_of(schedule), eras, now) {
+    match last_of_history(set, eras, now) {
         Ok(found) => write_found(found, item),
         Err(_) => Status::BadZone,
     }
 }
 
-fn fire_at(schedule: &CronSchedule, eras: &[CronEra], second: i64, item: &mut CronItem) -> Status
-    ensures { FiresInAt (sets_of schedule.now) eras.now second item.old item.new result }
+fn fire_at<S: CivilSeconds>(set: &S, eras: &[CronEra], second: i64, item: &mut CronItem) -> Status
+    ensures { FiresInAt (S.has set.now) eras.now second item.old item.new result }
 {
     let Ok(now) = Timestamp::from_second(second) else {
         return Status::BadInstant;
     };
-    let found = match last_of_history(&fields_of(schedule), eras, now) {
+    let found = match last_of_history(set, eras, now) {
         Ok(Some(found)) => found,
         Ok(None) => return Status::NoItem,
         Err(_) => return Status::BadZone,
@@ -56,15 +70,17 @@ fn fire_at(schedule: &CronSchedule, eras: &[CronEra], second: i64, item: &mut Cr
     Status::Done
 }
 
-fn run_between(
-    schedule: &CronSchedule,
+/// Writes the items of `set` with an instant after the UTC second `last` and at or before `now`, as
+/// far as they fit, and their count.
+pub fn run_between<S: CivilSeconds>(
+    set: &S,
     eras: &[CronEra],
     last: i64,
     now: i64,
     items: &mut [CronItem],
     count: &mut usize,
 ) -> Status
-    ensures { RunsInBetween IsHistoryItem (sets_of schedule.now) eras.now last now
+    ensures { RunsInBetween (S.has set.now) eras.now last now
         items.old items.new count.new result }
 {
     *count = 0;
@@ -75,18 +91,20 @@ fn run_between(
         return Status::BadInstant;
     };
     let begin = Begin::After(last);
-    fill_history(&fields_of(schedule), eras, &begin, now, items, count)
+    fill_history(set, eras, &begin, now, items, count)
 }
 
-fn run_past(
-    schedule: &CronSchedule,
+/// Writes the items of `set` that are later than `item`, with an instant at or before the UTC
+/// second `now`, as far as they fit, and their count.
+pub fn run_past<S: CivilSeconds>(
+    set: &S,
     eras: &[CronEra],
     item: &CronItem,
     now: i64,
     items: &mut [CronItem],
     count: &mut usize,
 ) -> Status
-    ensures { RunsInPast IsHistoryItem (sets_of schedule.now) eras.now item.now now
+    ensures { RunsInPast (S.has set.now) eras.now item.now now
         items.old items.new count.new result }
 {
     *count = 0;
@@ -97,7 +115,7 @@ fn run_past(
         return Status::BadInstant;
     };
     let begin = Begin::Past(given);
-    fill_history(&fields_of(schedule), eras, &begin, now, items, count)
+    fill_history(set, eras, &begin, now, items, count)
 }
 
 fn check(eras: &[CronEra]) -> Status
@@ -110,7 +128,9 @@ fn check(eras: &[CronEra]) -> Status
     }
 }
 
-/// Checks that eras are a history. The other calls look only at the eras that they come to.
+/// Checks that `eras` are a history: each has a valid zone, and starts later than the one before
+/// it. The calls for items check only the eras that they come to, and the calls for due fires check
+/// all. Returns the number of a `Status`.
 #[unsafe(no_mangle)]
 pub extern "C" fn cron_c_history_check(eras: &[CronEra]) -> u32
     ensures { Answers (ChecksHistory eras.now) result }
@@ -118,7 +138,8 @@ pub extern "C" fn cron_c_history_check(eras: &[CronEra]) -> u32
     check(eras).code()
 }
 
-/// Writes the earliest of the items of a history whose instant comes after this one.
+/// Writes the earliest item of a history with an instant after the UTC second `instant`. Returns
+/// the number of a `Status`.
 #[unsafe(no_mangle)]
 pub extern "C" fn cron_c_history_fire_after(
     schedule: &CronSchedule,
@@ -126,13 +147,14 @@ pub extern "C" fn cron_c_history_fire_after(
     instant: i64,
     item: &mut CronItem,
 ) -> u32
-    ensures { Answers (FiresIn IsFirstInAfter (sets_of schedule.now) eras.now instant
+    ensures { Answers (FiresIn IsFirstInAfter (seconds_of_struct schedule.now) eras.now instant
         item.old item.new) result }
 {
-    fire_after(schedule, eras, instant, item).code()
+    fire_after(&fields_of(schedule), eras, instant, item).code()
 }
 
-/// Writes the latest of the items of a history whose instant is this one or comes before it.
+/// Writes the latest item of a history with an instant at or before the UTC second `instant`.
+/// Returns the number of a `Status`.
 #[unsafe(no_mangle)]
 pub extern "C" fn cron_c_history_fire_by(
     schedule: &CronSchedule,
@@ -140,13 +162,14 @@ pub extern "C" fn cron_c_history_fire_by(
     instant: i64,
     item: &mut CronItem,
 ) -> u32
-    ensures { Answers (FiresIn IsLastInBy (sets_of schedule.now) eras.now instant
+    ensures { Answers (FiresIn IsLastInBy (seconds_of_struct schedule.now) eras.now instant
         item.old item.new) result }
 {
-    fire_by(schedule, eras, instant, item).code()
+    fire_by(&fields_of(schedule), eras, instant, item).code()
 }
 
-/// Writes the item of a history whose instant is this one, of two that share it the later.
+/// Writes the item of a history at the UTC second `instant`. If two items share it, the one with
+/// the later civil second is written. Returns the number of a `Status`.
 #[unsafe(no_mangle)]
 pub extern "C" fn cron_c_history_fire_at(
     schedule: &CronSchedule,
@@ -154,13 +177,14 @@ pub extern "C" fn cron_c_history_fire_at(
     instant: i64,
     item: &mut CronItem,
 ) -> u32
-    ensures { Answers (FiresInAt (sets_of schedule.now) eras.now instant item.old item.new) result }
+    ensures { Answers (FiresInAt (seconds_of_struct schedule.now) eras.now instant
+        item.old item.new) result }
 {
-    fire_at(schedule, eras, instant, item).code()
+    fire_at(&fields_of(schedule), eras, instant, item).code()
 }
 
-/// Writes the items of a history whose instant comes after `last` and not after `now`, the earliest
-/// first, as far as they fit, and how many they are.
+/// Writes the items of a history after the UTC second `last` and at or before `now`, the earliest
+/// first, as far as they fit, and writes their count. Returns the number of a `Status`.
 #[unsafe(no_mangle)]
 pub extern "C" fn cron_c_history_fires_between(
     schedule: &CronSchedule,
@@ -170,13 +194,14 @@ pub extern "C" fn cron_c_history_fires_between(
     items: &mut [CronItem],
     count: &mut usize,
 ) -> u32
-    ensures { Answers (RunsInBetween IsHistoryItem (sets_of schedule.now) eras.now last now
+    ensures { Answers (RunsInBetween (seconds_of_struct schedule.now) eras.now last now
         items.old items.new count.new) result }
 {
-    run_between(schedule, eras, last, now, items, count).code()
+    run_between(&fields_of(schedule), eras, last, now, items, count).code()
 }
 
-/// Writes the items of a history that are later than an item, and whose instant isn't after `now`.
+/// Writes the items of a history later than `item` and at or before the UTC second `now`, the
+/// earliest first, as far as they fit, and writes their count. Returns the number of a `Status`.
 #[unsafe(no_mangle)]
 pub extern "C" fn cron_c_history_fires_past(
     schedule: &CronSchedule,
@@ -186,8 +211,8 @@ pub extern "C" fn cron_c_history_fires_past(
     items: &mut [CronItem],
     count: &mut usize,
 ) -> u32
-    ensures { Answers (RunsInPast IsHistoryItem (sets_of schedule.now) eras.now item.now now
+    ensures { Answers (RunsInPast (seconds_of_struct schedule.now) eras.now item.now now
         items.old items.new count.new) result }
 {
-    run_past(schedule, eras, item, now, items, count).code()
+    run_past(&fields_of(schedule), eras, item, now, items, count).code()
 }

@@ -1,4 +1,4 @@
-//! The clock of a history.
+//! The clock of a history, which is a list of eras: zones that hold one after another.
 
 ghost use Rattle.std.specs.Prelude.{◌≡◌, ◌+◌, ◌<◌, ◌<ℤ◌, ◌≤ℤ◌, ℤ, neg_ℤ, pos, false, [], MatchOption, length};
 ghost use Rattle.jiff_core.specs.Calendar.{IsBetween};
@@ -12,8 +12,8 @@ use crate::places::place_of;
 use cron_dues::clock::Clock;
 use cron_dues::steady::Steady;
 
-/// The clock of a history: at each second that of the era which holds it, and before the first one
-/// starts that of the first.
+/// The clock of a history: at each second the clock of the era that holds it. Before the first era
+/// starts, it is the clock of the first era.
 #[derive(Clone, Copy)]
 pub struct HistoryClock<'a> {
     eras: &'a [CronEra],
@@ -21,7 +21,7 @@ pub struct HistoryClock<'a> {
     ghost some: { 0 < length eras.now },
 }
 
-/// The clock of eras. `None` where they are no history, or none.
+/// The clock of `eras`. `None` if they are no history, or if there are none.
 pub fn clock_of_eras(eras: &[CronEra]) -> Option<HistoryClock<'_>>
     ensures { MatchOption result
         (IsHistory eras.now → eras.now ≡ [])
@@ -36,7 +36,8 @@ pub fn clock_of_eras(eras: &[CronEra]) -> Option<HistoryClock<'_>>
     Some(HistoryClock { eras })
 }
 
-// Up to which second the era at this place holds, as far as `most`.
+// The UTC second that ends the era at place `at`, which isn't part of it, or `most` if that is
+// less. The last era has no end.
 fn end_of_era(eras: &[CronEra], at: usize, most: i64) -> i64
     requires { at < length eras.now }
     ensures most { result ≤ℤ most }
@@ -55,7 +56,8 @@ fn end_of_era(eras: &[CronEra], at: usize, most: i64) -> i64
     }
 }
 
-// The offset that the clock of the era at this place has at a second, and up to where it keeps it.
+// The offset of the clock of the era at place `at` at the UTC second `second`, and the end of the
+// time that it keeps that offset.
 fn steady_in_era(eras: &[CronEra], at: usize, second: i64) -> Steady
     requires history { ∥ IsHistory eras.now ∥₁ }
     requires within { at < length eras.now }

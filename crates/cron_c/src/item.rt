@@ -1,4 +1,5 @@
-//! An item as plain numbers.
+//! An item as plain numbers. An item is a civil second that matches a schedule, with an instant
+//! when the clock of a zone shows it.
 
 ghost use Rattle.std.specs.Prelude.{◌≡◌, MatchOption};
 ghost use Rattle.cron_c.specs.Arrays.{Writes};
@@ -9,10 +10,10 @@ use cron_moments::moment::{Moment, instant_of};
 use cron_moments::parts::moment_at;
 use jiff::tz::Offset;
 
-/// The instant of an item in seconds since 1970-01-01T00:00:00Z, and how far its clock is ahead of
-/// UTC in seconds. What the clock shows is their sum. In a due fire `reserved` holds by how many
-/// seconds that lies past the nominal time. In any other item it is 0, and a struct that has
-/// another number there is none of an item.
+/// An item or a due fire: its instant in seconds since 1970-01-01T00:00:00Z, and how many seconds
+/// its clock is ahead of UTC. What the clock shows is their sum. In a due fire `reserved` is the
+/// number of seconds from the nominal time to what the clock shows. In any other item it is 0, and
+/// a struct with another number there is no item.
 #[repr(C)]
 #[derive(Clone, Copy)]
 pub struct CronItem {
@@ -21,7 +22,7 @@ pub struct CronItem {
     pub reserved: u32,
 }
 
-/// The struct of a moment.
+/// The struct that holds `moment` as an item.
 pub fn item_of(moment: &Moment) -> CronItem
     ensures { IsItem moment.now result }
 {
@@ -32,7 +33,7 @@ pub fn item_of(moment: &Moment) -> CronItem
     }
 }
 
-/// Writes the item that was found, if one was.
+/// Writes the item `found`, or returns `NoItem` if it is `None`.
 pub fn write_found(found: Option<Moment>, item: &mut CronItem) -> Status
     ensures { Writes IsItem found item.old item.new result }
 {
@@ -43,7 +44,7 @@ pub fn write_found(found: Option<Moment>, item: &mut CronItem) -> Status
     Status::Done
 }
 
-/// The moment of a struct; `None` where the offset is longer than 25:59:59, the clock shows a civil
+/// The moment in `item`. `None` if the offset is longer than 25:59:59, the clock shows a civil
 /// second outside 1970 to 2100, or `reserved` isn't 0.
 pub fn moment_of(item: CronItem) -> Option<Moment>
     ensures { MatchOption result

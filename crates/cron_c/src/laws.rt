@@ -3,26 +3,31 @@
 
 ghost use Rattle.cron_c.specs.AgendaLaws.{TakenIsTheFirst, TheRestIsLeft};
 ghost use Rattle.cron_c.specs.Canonical.{CanonicalIsReadBack};
-ghost use Rattle.cron_c.specs.UnionLaws.{OneFiresAsItsUnion, OneIsDueAsItsUnion};
+ghost use Rattle.cron_c.specs.UnionLaws.{ItemsAreOfTheSchedules, OneIsItsUnion};
 
-/// One schedule is its own union: the calls over several schedules answer of one alone what those
-/// over one schedule answer in the same eras, by instants and by due fires.
+/// One schedule is its own union, in the words of the calls: those for several schedules say of a
+/// single one what those for one schedule say in the same eras, of items and of due fires.
 pub fn one_is_its_union()
-    ensures fires { OneFiresAsItsUnion }
-    ensures dues { OneIsDueAsItsUnion }
+    ensures { OneIsItsUnion }
 {}
 
-/// The canonical text that was written of a schedule is read back to the same sets.
+/// The items of several schedules in a history are the items of each of them, no more and no fewer.
+pub fn items_are_of_the_schedules()
+    ensures { ItemsAreOfTheSchedules }
+{}
+
+/// The canonical text of a schedule is read back to the same sets.
 pub fn canonical_is_read_back()
     ensures { CanonicalIsReadBack }
 {}
 
-/// What is taken of an agenda comes first of all the fires that its entries have left.
+/// The fire taken from an agenda is the first of all the fires that its entries have left.
 pub fn taken_is_the_first()
     ensures { TakenIsTheFirst }
 {}
 
-/// And what its entry has left afterwards is the rest.
+/// After a fire is taken from an agenda, its entry has left all the fires that it had left before,
+/// except the taken one.
 pub fn the_rest_is_left()
     ensures { TheRestIsLeft }
 {}

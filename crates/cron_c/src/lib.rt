@@ -1,5 +1,7 @@
-//! The C interface: calls that keep nothing between them, over structs of numbers, texts and
-//! buffers that the caller owns. `include/cron_c.h` says what the language of the boundary can't.
+//! The C interface: calls that keep no state, over structs of numbers, texts and buffers that the
+//! caller owns. Each call but `cron_c_version` returns the number of a `Status`. An instant is a
+//! number of seconds since 1970-01-01T00:00:00Z. `include/cron_c.h` states what types can't, such
+//! as that no pointer may be null.
 #![tactic(auto)]
 
 mod agenda;
@@ -20,6 +22,7 @@ mod history_clock;
 mod history_dues;
 mod history_runs;
 mod item;
+mod itemed;
 pub mod laws;
 mod line_call;
 mod listing;
@@ -35,10 +38,7 @@ mod searching;
 mod status;
 mod text;
 mod union_calls;
-mod union_due_by_clock;
-mod union_due_items;
 mod union_dues;
-mod union_items;
 mod version;
 mod zone;
 mod zone_file;

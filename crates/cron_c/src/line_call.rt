@@ -21,7 +21,7 @@ fn kind_of(is_system: u32) -> Crontab
     }
 }
 
-// Writes the schedules of an entry; other lines have none.
+// Writes the schedules of an entry. Other lines have none, and `NoItem` is returned.
 fn write_line(line: &Line<'_>, schedules: &mut [CronSchedule], count: &mut usize) -> Status
     requires { count.old ≡ 0 }
     ensures { WritesLine (line_view line.now) schedules.old schedules.new count.new result }
@@ -52,9 +52,10 @@ fn parse(
     refuse(&refusal, message, message_length)
 }
 
-/// Reads a line of a crontab, without its line feed, into the schedules of its entry, and tells how
-/// many they are; or that it is no entry; or writes the message that refuses it to a buffer as far
-/// as it fits, and its whole length.
+/// Reads a crontab line, without its line feed, into the schedules of its entry, and writes their
+/// count. `is_system` is 0 for a user's own crontab. The status is `NoItem` if the line is no
+/// entry. If it is refused, the message is written to a buffer as far as it fits, with its whole
+/// length. Returns the number of a `Status`.
 #[unsafe(no_mangle)]
 pub extern "C" fn cron_c_crontab_line_parse(
     line: &[u8],

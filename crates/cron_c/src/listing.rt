@@ -1,4 +1,5 @@
-//! Many items at once.
+//! Many items of a walk in one call. A walk visits the items of a timeline in the order of their
+//! civil seconds, ahead or back.
 
 ghost use Rattle.jiff.specs.Words.{plain_zone};
 ghost use Rattle.cron_units.specs.declared.way.Way.TheVariants.{Ahead, Back};
@@ -20,7 +21,8 @@ use cron_units::way::Way;
 use jiff::Timestamp;
 use jiff::tz::TimeZone;
 
-// Writes the items that are still to come in a walk as far as they fit, and counts them.
+// Writes the items that a walk has left as far as they fit, and returns how many it wrote. `from`
+// is where the walk is.
 fn fill(
     way: Way,
     fields: &ScheduleFields,
@@ -98,9 +100,9 @@ fn list_on(
     Status::Done
 }
 
-/// Writes the first items of a walk ahead that starts at an instant as far as they fit, and how
-/// many they are. Where it starts in a fold, the first may be at the instant itself, or one before
-/// it, and later ones may be left out.
+/// Writes the first items of a walk ahead that starts at the UTC second `instant` as far as they
+/// fit, and their count. If it starts in a fold, the first item may be at `instant` itself or
+/// before it, and later ones may be left out. Returns the number of a `Status`.
 #[unsafe(no_mangle)]
 pub extern "C" fn cron_c_list_after(
     schedule: &CronSchedule,
@@ -115,8 +117,9 @@ pub extern "C" fn cron_c_list_after(
     list(Way::Ahead, schedule, zone, instant, items, count).code()
 }
 
-/// Writes the first items of a walk back that starts at an instant. Where it starts in a fold, the
-/// first may be at the instant itself, or one after it, and earlier ones may be left out.
+/// Writes the first items of a walk back that starts at the UTC second `instant` as far as they
+/// fit, and their count. If it starts in a fold, the first item may be at `instant` itself or after
+/// it, and earlier ones may be left out. Returns the number of a `Status`.
 #[unsafe(no_mangle)]
 pub extern "C" fn cron_c_list_before(
     schedule: &CronSchedule,
@@ -131,7 +134,8 @@ pub extern "C" fn cron_c_list_before(
     list(Way::Back, schedule, zone, instant, items, count).code()
 }
 
-/// Writes the items after an item as far as they fit, and how many they are.
+/// Writes the items after `item` as far as they fit, and writes their count. Returns the number of
+/// a `Status`.
 #[unsafe(no_mangle)]
 pub extern "C" fn cron_c_list_next(
     schedule: &CronSchedule,
@@ -146,7 +150,8 @@ pub extern "C" fn cron_c_list_next(
     list_on(Way::Ahead, schedule, zone, item, items, count).code()
 }
 
-/// Writes the items before an item, the nearest first.
+/// Writes the items before `item`, the nearest first, as far as they fit, and writes their count.
+/// Returns the number of a `Status`.
 #[unsafe(no_mangle)]
 pub extern "C" fn cron_c_list_prev(
     schedule: &CronSchedule,

@@ -12,7 +12,7 @@ use crate::zone::{CronZone, struct_of_zone};
 use cron_moments::zone::zone_of;
 use jiff::tz::TimeZone;
 
-// `None` where the bytes are no UTF-8, or no text that names a zone.
+// The zone that `bytes` name. `None` if they aren't UTF-8, or if the text names no zone.
 fn zone_named(bytes: &[u8]) -> Option<TimeZone<'_>>
     ensures { MatchOption result
         (IsUtf8 bytes.now → NamesZone bytes.now → ⊥)
@@ -37,7 +37,8 @@ fn read_zone(text: &[u8], zone: &mut CronZone) -> Status
     Status::Done
 }
 
-/// Reads the text of a zone into a struct: `UTC`, or a rule as POSIX has it.
+/// Reads the text of a zone into a struct: `UTC`, or a rule in the form of POSIX. Returns the
+/// number of a `Status`.
 #[unsafe(no_mangle)]
 pub extern "C" fn cron_c_zone_parse(text: &[u8], zone: &mut CronZone) -> u32
     ensures { Answers (ReadsZone text.now zone.old zone.new) result }

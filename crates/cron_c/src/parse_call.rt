@@ -1,4 +1,4 @@
-//! A text, read into a struct.
+//! A cron expression, read into the struct of a schedule.
 
 ghost use Rattle.cron_c.specs.Calls.{Answers, Parses};
 
@@ -28,8 +28,9 @@ fn parse(
     refuse(&fault_of(text), message, message_length)
 }
 
-/// Reads a text into a schedule; or writes the message that refuses it to a buffer as far as it
-/// fits, and its whole length.
+/// Reads a cron expression, as `0 0,30 9 * * Mon-Fri`, into a schedule. If it is refused, the
+/// message is written to a buffer as far as it fits, with its whole length. Returns the number of a
+/// `Status`.
 #[unsafe(no_mangle)]
 pub extern "C" fn cron_c_parse(
     text: &[u8],

@@ -1,4 +1,5 @@
-//! Places of eras: which one holds a second, and which ones a search passes over.
+//! Places of eras: which era holds a second, and which eras a search skips. A second of UTC is
+//! counted from 1970-01-01T00:00:00Z, a civil second from 1970-01-01 00:00:00.
 
 ghost use Rattle.std.specs.Prelude.{◌≡◌, ◌+◌, ◌⊎◌, ◌<◌, ◌≤◌, ◌≤ℤ◌, ◌+ℤ◌, ◌-ℤ◌, ℕ, pos, MatchOption, true, false, length};
 ghost use Rattle.jiff_tz.specs.declared.timezone.TimeZone.{TimeZone};
@@ -9,11 +10,10 @@ ghost use Rattle.cron_c.specs.Histories.{IsHistory, IsItemAt, StartsAt, has_star
 
 use crate::era::{CronEra, has_come};
 use cron_moments::civil::{FURTHEST_OFFSET, SECONDS};
-use cron_time::search::civil_seconds::nearest_match;
-use cron_units::fields::ScheduleFields;
+use cron_seconds::civil_seconds::CivilSeconds;
 use cron_units::way::Way;
 
-/// The place of the era that holds a second, or of the first one where none has started by it.
+/// The place of the era that holds the UTC second `second`, or 0 if no era has started by then.
 pub fn place_of(eras: &[CronEra], second: i64) -> usize
     ensures begun { (result ≡ 0) ⊎ (has_started eras.now result second ≡ true) }
     ensures lasts { has_started eras.now (result + 1) second ≡ false }
@@ -32,7 +32,8 @@ pub fn place_of(eras: &[CronEra], second: i64) -> usize
     place
 }
 
-// From a second of UTC on no clock shows a civil second of the range before this one.
+// A lower bound of the civil seconds of the range that any clock shows from the UTC second `second`
+// on.
 fn shown_from(second: i64) -> i64
     ensures { (r : Reading) → second ≤ℤ instant r → result ≤ℤ pos r.second }
 {
@@ -42,7 +43,8 @@ fn shown_from(second: i64) -> i64
     second - FURTHEST_OFFSET
 }
 
-// Up to a second of UTC no clock shows a civil second of the range past this one.
+// An upper bound of the civil seconds of the range that any clock shows up to the UTC second
+// `second`.
 fn shown_by(second: i64) -> i64
     ensures { (r : Reading) → r.second < seconds_in_range → instant r ≤ℤ second
         → pos r.second ≤ℤ result }
@@ -53,7 +55,7 @@ fn shown_by(second: i64) -> i64
     second + FURTHEST_OFFSET
 }
 
-// The first second of UTC at which a clock may show a civil second.
+// The first second of UTC when a clock may show the civil second `second`.
 fn first_instant(second: u32) -> i64
     requires { second < seconds_in_range }
     ensures { result ≡ pos second -ℤ pos 93_599 }
@@ -61,7 +63,7 @@ fn first_instant(second: u32) -> i64
     second as i64 - FURTHEST_OFFSET
 }
 
-// The last second of UTC at which a clock may show a civil second.
+// The last second of UTC when a clock may show the civil second `second`.
 fn last_instant(second: u32) -> i64
     requires { second < seconds_in_range }
     ensures { result ≡ pos second +ℤ pos 93_599 }
@@ -69,51 +71,52 @@ fn last_instant(second: u32) -> i64
     second as i64 + FURTHEST_OFFSET
 }
 
-// No item from a second on lies before this one, in any zone. `None` where no zone has an item
-// there.
-fn earliest_from(fields: &ScheduleFields, second: i64) -> Option<i64>
+// A second of UTC before which no zone has an item that is at or after `second`. `None` if no zone
+// has an item at or after `second`.
+fn earliest_from<S: CivilSeconds>(set: &S, second: i64) -> Option<i64>
     ensures { MatchOption result
-        ((z : TimeZone) (r : Reading) → IsItem fields.now z r → second ≤ℤ instant r → ⊥)
-        (λ t. (z : TimeZone) (r : Reading) → IsItem fields.now z r
+        ((z : TimeZone) (r : Reading) → IsItem (S.has set.now) z r → second ≤ℤ instant r → ⊥)
+        (λ t. (z : TimeZone) (r : Reading) → IsItem (S.has set.now) z r
         → second ≤ℤ instant r → t ≤ℤ instant r) }
 {
-    let Some(next) = nearest_match(fields, Way::Ahead, shown_from(second)) else {
+    let Some(next) = set.nearest(Way::Ahead, shown_from(second)) else {
         return None;
     };
     Some(first_instant(next))
 }
 
-// No item up to a second lies past this one, in any zone. `None` where no zone has an item there.
-fn latest_by(fields: &ScheduleFields, second: i64) -> Option<i64>
+// A second of UTC after which no zone has an item that is at or before `second`. `None` if no zone
+// has an item at or before `second`.
+fn latest_by<S: CivilSeconds>(set: &S, second: i64) -> Option<i64>
     ensures { MatchOption result
-        ((z : TimeZone) (r : Reading) → IsItem fields.now z r → instant r ≤ℤ second → ⊥)
-        (λ t. (z : TimeZone) (r : Reading) → IsItem fields.now z r
+        ((z : TimeZone) (r : Reading) → IsItem (S.has set.now) z r → instant r ≤ℤ second → ⊥)
+        (λ t. (z : TimeZone) (r : Reading) → IsItem (S.has set.now) z r
         → instant r ≤ℤ second → instant r ≤ℤ t) }
 {
-    let Some(next) = nearest_match(fields, Way::Back, shown_by(second)) else {
+    let Some(next) = set.nearest(Way::Back, shown_by(second)) else {
         return None;
     };
     Some(last_instant(next))
 }
 
-/// The place of the next era to search: those in which no clock can show a match are passed over,
-/// so that a search does not grow with their number.
-pub fn place_past(fields: &ScheduleFields, eras: &[CronEra], at: usize) -> usize
+/// The place of the next era to search after `at`, or `eras.len()` if there is none. Eras where no
+/// clock can show a match are skipped, so that a search doesn't grow with their number.
+pub fn place_past<S: CivilSeconds>(set: &S, eras: &[CronEra], at: usize) -> usize
     requires { at < length eras.now }
     ensures further { at < result }
     ensures passed { IsHistory eras.now → (i : ℕ) (r : Reading) → at < i
-        → IsItemAt fields.now eras.now i r → result ≤ i }
+        → IsItemAt (S.has set.now) eras.now i r → result ≤ i }
 {
     if at + 1 == eras.len() {
         return at + 1;
     }
-    match earliest_from(fields, starts_at(eras, at + 1)) {
+    match earliest_from(set, starts_at(eras, at + 1)) {
         Some(second) => place_of(eras, second).max(at + 1),
         None => eras.len(),
     }
 }
 
-// When the era at this place starts.
+// The start of the era at place `at`, as a UTC second.
 fn starts_at(eras: &[CronEra], at: usize) -> i64
     requires { at < length eras.now }
     ensures { StartsAt eras.now at result }
@@ -124,15 +127,15 @@ fn starts_at(eras: &[CronEra], at: usize) -> i64
     }
 }
 
-/// How many eras are left to search back from one. The last of those before it are passed over, as
-/// long as no clock can show a match there.
-pub fn left_before(fields: &ScheduleFields, eras: &[CronEra], at: usize) -> usize
+/// How many of the first eras are left to search back from place `at`. The last eras before it are
+/// skipped, as long as no clock can show a match there.
+pub fn left_before<S: CivilSeconds>(set: &S, eras: &[CronEra], at: usize) -> usize
     requires { at < length eras.now }
     ensures fewer { result ≤ at }
     ensures passed { IsHistory eras.now → (i : ℕ) (r : Reading) → i < at
-        → IsItemAt fields.now eras.now i r → i < result }
+        → IsItemAt (S.has set.now) eras.now i r → i < result }
 {
-    match latest_by(fields, starts_at(eras, at)) {
+    match latest_by(set, starts_at(eras, at)) {
         Some(second) => (place_of(eras, second) + 1).min(at),
         None => 0,
     }

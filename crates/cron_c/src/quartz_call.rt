@@ -1,4 +1,4 @@
-//! An expression of Quartz, read into structs.
+//! A Quartz expression, read into structs.
 
 ghost use Rattle.cron_c.specs.Calls.{Answers};
 ghost use Rattle.cron_c.specs.Crontabs.{ParsesQuartz};
@@ -31,8 +31,9 @@ fn parse(
     refuse(&fault, message, message_length)
 }
 
-/// Reads an expression of Quartz into the schedules that it means, and tells how many they are; or
-/// writes the message that refuses it to a buffer as far as it fits, and its whole length.
+/// Reads a Quartz expression into the schedules that it means, and writes their count. If it is
+/// refused, the message is written to a buffer as far as it fits, with its whole length. Returns
+/// the number of a `Status`.
 #[unsafe(no_mangle)]
 pub extern "C" fn cron_c_quartz_parse(
     text: &[u8],

@@ -1,34 +1,56 @@
-//! Many items at once, in the order of instants.
+//! Many items in one call, in the order of instants, and of civil seconds if two share an instant.
+//! Instants are in seconds since 1970-01-01T00:00:00Z.
 
+ghost use Rattle.jiff.specs.Words.{plain_zone};
+ghost use Rattle.cron_instants.specs.Fires.{fires_between, fires_past_by};
 ghost use Rattle.cron_c.specs.Arrays.{Fills};
 ghost use Rattle.cron_c.specs.Calls.{Answers};
 ghost use Rattle.cron_c.specs.Runs.{RunsBetween, RunsPast};
-ghost use Rattle.cron_c.specs.Structs.{IsItem, sets_of};
+ghost use Rattle.cron_c.specs.Structs.{IsItem, seconds_of_struct};
 
-use crate::item::{CronItem, item_of, moment_of};
+use crate::item::{CronItem, moment_of};
+use crate::itemed::{fill_between, fill_past};
 use crate::schedule::{CronSchedule, fields_of};
 use crate::status::Status;
 use crate::zone::{CronZone, zone_in};
-use cron_instants::run::Run;
+use cron_instants::as_shown::AsShown;
+use cron_moments::moment::Moment;
+use cron_seconds::civil_seconds::CivilSeconds;
 use jiff::Timestamp;
+use jiff::tz::TimeZone;
 
-/// Writes the items that a run has left, as far as they fit. One more is asked for when the array
-/// is full: only that one tells whether these were all.
-pub fn fill(mut run: Run<'_>, items: &mut [CronItem], count: &mut usize) -> Status
-    ensures { Fills IsItem run.entry items.old items.new count.new result }
+/// Writes the items of `set` after `last` and at or before `now` as far as they fit, and their
+/// count.
+pub fn list_between<S: CivilSeconds>(
+    set: &S,
+    last: Timestamp,
+    now: Timestamp,
+    zone: &TimeZone<'_>,
+    items: &mut [CronItem],
+    count: &mut usize,
+) -> Status
+    ensures { Fills IsItem
+        (fires_between (S.has set.now) (plain_zone zone.now) last.nanosecond now.nanosecond)
+        items.old items.new count.new result }
 {
-    for at in 0..items.len() {
-        let Some(moment) = run.next() else {
-            *count = at;
-            return Status::Done;
-        };
-        items[at] = item_of(&moment);
-    }
-    *count = items.len();
-    match run.next() {
-        Some(_) => Status::More,
-        None => Status::Done,
-    }
+    fill_between::<S, AsShown<_>>(set, last, now, zone, items, count)
+}
+
+/// Writes the items of `set` that are later than `item` and at or before `now` as far as they fit,
+/// and their count.
+pub fn list_past<S: CivilSeconds>(
+    set: &S,
+    item: &Moment,
+    now: Timestamp,
+    zone: &TimeZone<'_>,
+    items: &mut [CronItem],
+    count: &mut usize,
+) -> Status
+    ensures { Fills IsItem
+        (fires_past_by (S.has set.now) (plain_zone zone.now) item.now now.nanosecond)
+        items.old items.new count.new result }
+{
+    fill_past::<S, AsShown<_>>(set, item, now, zone, items, count)
 }
 
 fn run_between(
@@ -39,7 +61,7 @@ fn run_between(
     items: &mut [CronItem],
     count: &mut usize,
 ) -> Status
-    ensures { RunsBetween (sets_of schedule.now) zone.now last now
+    ensures { RunsBetween (seconds_of_struct schedule.now) zone.now last now
         items.old items.new count.new result }
 {
     *count = 0;
@@ -52,8 +74,7 @@ fn run_between(
     let Ok(now) = Timestamp::from_second(now) else {
         return Status::BadInstant;
     };
-    let run = Run::between(fields_of(schedule), last, now, &zone);
-    fill(run, items, count)
+    list_between(&fields_of(schedule), last, now, &zone, items, count)
 }
 
 fn run_past(
@@ -64,7 +85,7 @@ fn run_past(
     items: &mut [CronItem],
     count: &mut usize,
 ) -> Status
-    ensures { RunsPast (sets_of schedule.now) zone.now item.now now
+    ensures { RunsPast (seconds_of_struct schedule.now) zone.now item.now now
         items.old items.new count.new result }
 {
     *count = 0;
@@ -77,12 +98,11 @@ fn run_past(
     let Ok(now) = Timestamp::from_second(now) else {
         return Status::BadInstant;
     };
-    let run = Run::past_by(fields_of(schedule), &given, now, &zone);
-    fill(run, items, count)
+    list_past(&fields_of(schedule), &given, now, &zone, items, count)
 }
 
-/// Writes the items whose instant comes after `last` and not after `now`, the earliest first, as
-/// far as they fit, and how many they are.
+/// Writes the items with an instant after the UTC second `last` and at or before `now`, the
+/// earliest first, as far as they fit, and writes their count. Returns the number of a `Status`.
 #[unsafe(no_mangle)]
 pub extern "C" fn cron_c_fires_between(
     schedule: &CronSchedule,
@@ -92,13 +112,15 @@ pub extern "C" fn cron_c_fires_between(
     items: &mut [CronItem],
     count: &mut usize,
 ) -> u32
-    ensures { Answers (RunsBetween (sets_of schedule.now) zone.now last now
+    ensures { Answers (RunsBetween (seconds_of_struct schedule.now) zone.now last now
         items.old items.new count.new) result }
 {
     run_between(schedule, zone, last, now, items, count).code()
 }
 
-/// Writes the items that are later than an item, and whose instant isn't after `now`.
+/// Writes the items that are later than `item`, with an instant at or before the UTC second `now`,
+/// the earliest first, as far as they fit, and writes their count. Returns the number of a
+/// `Status`.
 #[unsafe(no_mangle)]
 pub extern "C" fn cron_c_fires_past(
     schedule: &CronSchedule,
@@ -108,7 +130,7 @@ pub extern "C" fn cron_c_fires_past(
     items: &mut [CronItem],
     count: &mut usize,
 ) -> u32
-    ensures { Answers (RunsPast (sets_of schedule.now) zone.now item.now now
+    ensures { Answers (RunsPast (seconds_of_struct schedule.now) zone.now item.now now
         items.old items.new count.new) result }
 {
     run_past(schedule, zone, item, now, items, count).code()

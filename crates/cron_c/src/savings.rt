@@ -1,18 +1,19 @@
-//! What the types of a zone file say of saving time, which the reader of `jiff` takes as it comes.
+//! The flags of saving time in a zone file's types, which the reader of `jiff` doesn't check. A
+//! type is one of the file's kinds of local time: its offset, its flag and its name.
 
 ghost use Rattle.std.specs.Prelude.{◌≡◌, ◌+◌, ◌≤◌, ◌<◌, ◌↔◌, true, length};
 ghost use Rattle.jiff_tz.specs.TzifReader.{be_u32};
 ghost use Rattle.cron_c.specs.Savings.{TellSaving, TypesTellSaving, end_of_block, first_flag};
 
-// The bytes of a header.
+// The length of a header, in bytes.
 const HEADER: usize = 44;
 
-// The bytes of a type, and the greatest of its flags of saving.
+// The length of a type, in bytes, and the greatest valid flag of saving.
 const TYPE: usize = 6;
 
 const SAVING: u8 = 1;
 
-// The count at this place.
+// The big-endian number in the four bytes from place `at` on.
 fn count_at(bytes: &[u8], at: usize) -> usize
     requires { at + 4 ≤ length bytes.now }
     ensures value { result ≡ be_u32 bytes.now at }
@@ -21,7 +22,8 @@ fn count_at(bytes: &[u8], at: usize) -> usize
     u32::from_be_bytes([bytes[at], bytes[at + 1], bytes[at + 2], bytes[at + 3]]) as usize
 }
 
-// Where the flag of the first type stands in a block with times of so many bytes.
+// The place of the first type's flag in a block, which begins with its header, and whose times have
+// `time_size` bytes each.
 fn flag_of_first(bytes: &[u8], time_size: usize) -> usize
     requires header { 44 ≤ length bytes.now }
     requires size { time_size ≤ 8 }
@@ -31,7 +33,8 @@ fn flag_of_first(bytes: &[u8], time_size: usize) -> usize
     HEADER + count_at(bytes, 32) * (time_size + 1) + 4
 }
 
-// Whether each type of a block tells by 0 or 1 whether it is saving time.
+// Returns true if the flag of each type in the block is 0 or 1. A type that the block is too short
+// for has no flag.
 fn types_tell_saving(bytes: &[u8], time_size: usize) -> bool
     requires { time_size ≤ 8 }
     ensures { (result ≡ true) ↔ TypesTellSaving time_size bytes.now }
@@ -50,7 +53,7 @@ fn types_tell_saving(bytes: &[u8], time_size: usize) -> bool
     true
 }
 
-// Where a block with times of four bytes ends.
+// The length of a block whose times have four bytes each, with its header.
 fn block_end(bytes: &[u8]) -> usize
     requires { 44 ≤ length bytes.now }
     ensures { result ≡ end_of_block bytes.now }
@@ -61,8 +64,8 @@ fn block_end(bytes: &[u8]) -> usize
     HEADER + times + types + leaps + count_at(bytes, 24) + count_at(bytes, 20)
 }
 
-/// Whether each type says by 0 or 1 whether it is saving time, in the block that tells a file's
-/// transitions. A type that its block is too short for says nothing.
+/// Returns true if the flag of each type is 0 or 1, in the block that holds a file's transitions. A
+/// type that its block is too short for has no flag.
 pub fn tell_saving(bytes: &[u8]) -> bool
     ensures { (result ≡ true) ↔ TellSaving bytes.now }
 {

@@ -1,18 +1,22 @@
-//! A schedule as plain numbers, of which the caller keeps as many copies as it likes.
+//! A schedule as plain numbers. The caller may copy it.
 
 ghost use Rattle.std.specs.Prelude.{◌≡◌};
 ghost use Rattle.cron_c.specs.Structs.{IsStructOf, sets_of};
 
+use cron_seconds::civil_seconds::CivilSeconds;
+use cron_seconds::schedule::ScheduleCursor;
 use cron_units::fields::ScheduleFields;
 use cron_units::time_unit::layout::{
     bits, bits_of_days, days_from_bits, from_bits, from_three, three,
 };
+use cron_units::way::Way;
 
-/// Seven sets. Bit i of a word stands for the least ordinal of the unit plus i, so bit 0 stands for
-/// second 0, day of the month 1 or Sunday; each word of years says from which year on it counts.
-/// The last day of each month is a day too where `last_day` isn't 0. What is given may have any
-/// bits, and one past that of the greatest ordinal means nothing. What is written has none, and
-/// `last_day` is 0 or 1. What `reserved` holds means nothing, and what is written there is 0.
+/// A schedule as seven sets. Bit i of a word is the least ordinal of the unit plus i, so bit 0 is
+/// second 0, day of the month 1 or Sunday. The name of each word of years has the year of its bit
+/// 0. The last day of each month is a day too if `last_day` isn't 0. A struct that is read may have
+/// any bits: a bit past the greatest ordinal means nothing. A struct that is written has no such
+/// bits, and its `last_day` is 0 or 1. The content of `reserved` means nothing, and it is written
+/// as 0.
 #[repr(C)]
 #[derive(Clone, Copy)]
 pub struct CronSchedule {
@@ -29,7 +33,7 @@ pub struct CronSchedule {
     pub reserved: [u64; 6],
 }
 
-/// The sets that a struct says.
+/// The sets in `schedule`.
 pub fn fields_of(schedule: &CronSchedule) -> ScheduleFields
     ensures { result ≡ sets_of schedule.now }
 {
@@ -48,7 +52,7 @@ pub fn fields_of(schedule: &CronSchedule) -> ScheduleFields
     }
 }
 
-/// The struct that says these sets.
+/// The struct that holds the sets `fields`.
 pub fn schedule_of(fields: &ScheduleFields) -> CronSchedule
     ensures sets { sets_of result ≡ fields.now }
     ensures exact { IsStructOf fields.now result }
@@ -66,5 +70,34 @@ pub fn schedule_of(fields: &ScheduleFields) -> CronSchedule
         years_from_2034,
         years_from_2098,
         reserved: [0; 6],
+    }
+}
+
+// Each search makes the sets anew, so a call over one schedule passes the sets of `fields_of`
+// instead.
+impl CivilSeconds for CronSchedule {
+    ghost use Rattle.cron_seconds.specs.Schedules.{Knows};
+    ghost use Rattle.cron_c.specs.Structs.{seconds_of_struct, sets_of};
+
+    ghost has = { seconds_of_struct };
+
+    type Cursor = ScheduleCursor;
+
+    ghost knows = { λ schedule cursor. Knows (sets_of schedule) cursor };
+
+    fn nearest(&self, way: Way, from: i64) -> Option<u32> {
+        fields_of(self).nearest(way, from)
+    }
+
+    fn begin() -> ScheduleCursor {
+        ScheduleFields::begin()
+    }
+
+    fn past(&self, way: Way, second: u32, cursor: &mut ScheduleCursor) -> Option<u32> {
+        fields_of(self).past(way, second, cursor)
+    }
+
+    fn is_clear(&self, first: u32, end: u32) -> bool {
+        fields_of(self).is_clear(first, end)
     }
 }

@@ -1,4 +1,5 @@
-//! What a walk answers that starts at an instant, or goes on from an item.
+//! The first answer of a walk that starts at an instant, or goes on from an item. A walk visits the
+//! items of a timeline in the order of their civil seconds, ahead or back.
 
 ghost use Rattle.std.specs.Prelude.{◌≡◌, MatchOption};
 ghost use Rattle.jiff.specs.Words.{plain_zone};
@@ -20,7 +21,7 @@ use cron_units::way::Way;
 use jiff::Timestamp;
 use jiff::tz::TimeZone;
 
-// What a walk that starts at the instant answers first.
+// The first item of a walk that starts at `start`, ahead or back by `way`. `None` if there is none.
 fn first(way: Way, schedule: &CronSchedule, zone: &TimeZone<'_>, start: Timestamp) -> Option<Moment>
     ensures { result ≡ (step way (record {
       sets = sets_of schedule.now;
@@ -34,7 +35,8 @@ fn first(way: Way, schedule: &CronSchedule, zone: &TimeZone<'_>, start: Timestam
     state.answer()
 }
 
-// The item beside an item, if that is one.
+// The item after `item`, or before it with `Way::Back`. `Some(None)` if `item` is the last one on
+// that side, and `None` if it is no item of this timeline.
 fn beside(
     way: Way,
     schedule: &CronSchedule,
@@ -99,8 +101,9 @@ fn follow(way: Way, schedule: &CronSchedule, zone: &CronZone, item: &mut CronIte
     Status::Done
 }
 
-/// Writes what a walk ahead answers first that starts at an instant, which is given by its seconds
-/// since 1970-01-01T00:00:00Z. In a fold that may be the instant itself, or one before it.
+/// Writes the first item of a walk ahead that starts at `instant`, which is in seconds since
+/// 1970-01-01T00:00:00Z. In a fold that item may be at `instant` itself, or before it. Returns the
+/// number of a `Status`.
 #[unsafe(no_mangle)]
 pub extern "C" fn cron_c_after(
     schedule: &CronSchedule,
@@ -114,8 +117,9 @@ pub extern "C" fn cron_c_after(
     search(Way::Ahead, schedule, zone, instant, item).code()
 }
 
-/// Writes what a walk back answers first that starts at an instant. In a fold that may be the
-/// instant itself, or one after it.
+/// Writes the first item of a walk back that starts at `instant`, which is in seconds since
+/// 1970-01-01T00:00:00Z. In a fold that item may be at `instant` itself, or after it. Returns the
+/// number of a `Status`.
 #[unsafe(no_mangle)]
 pub extern "C" fn cron_c_before(
     schedule: &CronSchedule,
@@ -129,7 +133,8 @@ pub extern "C" fn cron_c_before(
     search(Way::Back, schedule, zone, instant, item).code()
 }
 
-/// Puts the item after an item in its place.
+/// Replaces `item` by the item after it, also if both are readings of one civil second in a fold.
+/// Returns the number of a `Status`.
 #[unsafe(no_mangle)]
 pub extern "C" fn cron_c_next(schedule: &CronSchedule, zone: &CronZone, item: &mut CronItem) -> u32
     ensures { Answers (Follows Ahead (sets_of schedule.now) zone.now item.old item.new) result }
@@ -137,7 +142,8 @@ pub extern "C" fn cron_c_next(schedule: &CronSchedule, zone: &CronZone, item: &m
     follow(Way::Ahead, schedule, zone, item).code()
 }
 
-/// Puts the item before an item in its place.
+/// Replaces `item` by the item before it, also if both are readings of one civil second in a fold.
+/// Returns the number of a `Status`.
 #[unsafe(no_mangle)]
 pub extern "C" fn cron_c_prev(schedule: &CronSchedule, zone: &CronZone, item: &mut CronItem) -> u32
     ensures { Answers (Follows Back (sets_of schedule.now) zone.now item.old item.new) result }

@@ -1,4 +1,4 @@
-//! The text of an item.
+//! The text of an item, as `2022-11-06 01:00:00 -05:00`.
 
 ghost use Rattle.cron_c.specs.Calls.{Answers, Formats};
 
@@ -21,7 +21,9 @@ fn format(item: &CronItem, text: &mut [u8], text_length: &mut usize) -> Status
     Status::Done
 }
 
-/// Writes the text of an item to a buffer as far as it fits, and its whole length.
+/// Writes the text of `item` to `text` as far as it fits, and its whole length to `text_length`. If
+/// the struct is no item, the length is 0 and the status `NotAnItem`. Returns the number of a
+/// `Status`.
 #[unsafe(no_mangle)]
 pub extern "C" fn cron_c_format(item: &CronItem, text: &mut [u8], text_length: &mut usize) -> u32
     ensures { Answers (Formats item.now text.old text.new text_length.new) result }

@@ -1,99 +1,21 @@
-//! Due fires of several schedules as one in a zone with a history: each match once, also where
-//! several of them have it or the clock changes.
+//! Due fires of several schedules as one in a zone with a history: each match once, also if several
+//! of them have it or when the clock changes.
 
 ghost use Rattle.std.specs.Prelude.{◌≡◌};
+ghost use Rattle.cron_dues.specs.Clock.FirstDues.{IsFirstDueAfter, IsLastDueBy};
 ghost use Rattle.cron_c.specs.Calls.{Answers};
 ghost use Rattle.cron_c.specs.Dues.{FindsDue, FollowsDue, RunsDueBetween, RunsDuePast};
 ghost use Rattle.cron_c.specs.HistoryClocks.{InHistory};
-ghost use Rattle.cron_c.specs.Unions.{IsFirstDueOfAnyAfter, IsFirstDueOfAnyPast, IsLastDueOfAnyBy, dues_any_between, dues_any_past_by, sets_of_all};
+ghost use Rattle.cron_c.specs.Unions.{seconds_of_any};
 
 use crate::era::CronEra;
-use crate::history_clock::clock_of_eras;
+use crate::history_dues::{due_after, due_by, due_past, dues_between, dues_past};
 use crate::item::CronItem;
 use crate::schedule::CronSchedule;
-use crate::status::Status;
-use crate::union_due_by_clock;
+use cron_unions::AnyOf;
 
-fn due_after(
-    schedules: &[CronSchedule],
-    eras: &[CronEra],
-    second: i64,
-    item: &mut CronItem,
-) -> Status
-    ensures { InHistory eras.now
-        (FindsDue IsFirstDueOfAnyAfter (sets_of_all schedules.now) second item.old item.new)
-        (item.new ≡ item.old) result }
-{
-    let Some(clock) = clock_of_eras(eras) else {
-        return Status::BadZone;
-    };
-    union_due_by_clock::due_after(schedules, &clock, second, item)
-}
-
-fn due_by(schedules: &[CronSchedule], eras: &[CronEra], second: i64, item: &mut CronItem) -> Status
-    ensures { InHistory eras.now
-        (FindsDue IsLastDueOfAnyBy (sets_of_all schedules.now) second item.old item.new)
-        (item.new ≡ item.old) result }
-{
-    let Some(clock) = clock_of_eras(eras) else {
-        return Status::BadZone;
-    };
-    union_due_by_clock::due_by(schedules, &clock, second, item)
-}
-
-/// Puts the first due fire past that of an item in its place.
-pub fn due_past(schedules: &[CronSchedule], eras: &[CronEra], item: &mut CronItem) -> Status
-    ensures { InHistory eras.now
-        (FollowsDue IsFirstDueOfAnyPast (sets_of_all schedules.now) item.old item.new)
-        (item.new ≡ item.old) result }
-{
-    let Some(clock) = clock_of_eras(eras) else {
-        return Status::BadZone;
-    };
-    union_due_by_clock::due_past(schedules, &clock, item)
-}
-
-fn dues_between(
-    schedules: &[CronSchedule],
-    eras: &[CronEra],
-    last: i64,
-    now: i64,
-    items: &mut [CronItem],
-    count: &mut usize,
-) -> Status
-    ensures { InHistory eras.now
-        (RunsDueBetween dues_any_between (sets_of_all schedules.now) last now
-        items.old items.new count.new)
-        ((items.new ≡ items.old) × (count.new ≡ 0)) result }
-{
-    *count = 0;
-    let Some(clock) = clock_of_eras(eras) else {
-        return Status::BadZone;
-    };
-    union_due_by_clock::dues_between(schedules, &clock, last, now, items, count)
-}
-
-fn dues_past(
-    schedules: &[CronSchedule],
-    eras: &[CronEra],
-    item: &CronItem,
-    now: i64,
-    items: &mut [CronItem],
-    count: &mut usize,
-) -> Status
-    ensures { InHistory eras.now
-        (RunsDuePast dues_any_past_by (sets_of_all schedules.now) item.now now
-        items.old items.new count.new)
-        ((items.new ≡ items.old) × (count.new ≡ 0)) result }
-{
-    *count = 0;
-    let Some(clock) = clock_of_eras(eras) else {
-        return Status::BadZone;
-    };
-    union_due_by_clock::dues_past(schedules, &clock, item, now, items, count)
-}
-
-/// Writes the first of the due fires of any of the schedules whose instant comes after this one.
+/// Writes the first due fire of any of the schedules with an instant after the UTC second
+/// `instant`. Returns the number of a `Status`.
 #[unsafe(no_mangle)]
 pub extern "C" fn cron_c_union_due_after(
     schedules: &[CronSchedule],
@@ -102,14 +24,14 @@ pub extern "C" fn cron_c_union_due_after(
     item: &mut CronItem,
 ) -> u32
     ensures { Answers (InHistory eras.now
-        (FindsDue IsFirstDueOfAnyAfter (sets_of_all schedules.now) instant item.old item.new)
+        (FindsDue IsFirstDueAfter (seconds_of_any schedules.now) instant item.old item.new)
         (item.new ≡ item.old)) result }
 {
-    due_after(schedules, eras, instant, item).code()
+    due_after(&AnyOf { sets: schedules }, eras, instant, item).code()
 }
 
-/// Writes the last of the due fires of any of the schedules whose instant is this one or comes
-/// before it.
+/// Writes the last due fire of any of the schedules with an instant at or before the UTC second
+/// `instant`. Returns the number of a `Status`.
 #[unsafe(no_mangle)]
 pub extern "C" fn cron_c_union_due_by(
     schedules: &[CronSchedule],
@@ -118,13 +40,14 @@ pub extern "C" fn cron_c_union_due_by(
     item: &mut CronItem,
 ) -> u32
     ensures { Answers (InHistory eras.now
-        (FindsDue IsLastDueOfAnyBy (sets_of_all schedules.now) instant item.old item.new)
+        (FindsDue IsLastDueBy (seconds_of_any schedules.now) instant item.old item.new)
         (item.new ≡ item.old)) result }
 {
-    due_by(schedules, eras, instant, item).code()
+    due_by(&AnyOf { sets: schedules }, eras, instant, item).code()
 }
 
-/// Puts the first due fire of any of the schedules past that of an item in its place.
+/// Replaces the due fire `item` by the first due fire of any of the schedules after it. Returns the
+/// number of a `Status`.
 #[unsafe(no_mangle)]
 pub extern "C" fn cron_c_union_due_past(
     schedules: &[CronSchedule],
@@ -132,14 +55,14 @@ pub extern "C" fn cron_c_union_due_past(
     item: &mut CronItem,
 ) -> u32
     ensures { Answers (InHistory eras.now
-        (FollowsDue IsFirstDueOfAnyPast (sets_of_all schedules.now) item.old item.new)
+        (FollowsDue (seconds_of_any schedules.now) item.old item.new)
         (item.new ≡ item.old)) result }
 {
-    due_past(schedules, eras, item).code()
+    due_past(&AnyOf { sets: schedules }, eras, item).code()
 }
 
-/// Writes the due fires of any of the schedules whose instant comes after `last` and not after
-/// `now`, in order, as far as they fit, and how many they are.
+/// Writes the due fires of any of the schedules after the UTC second `last` and at or before `now`,
+/// in order, as far as they fit, and their count. Returns the number of a `Status`.
 #[unsafe(no_mangle)]
 pub extern "C" fn cron_c_union_dues_between(
     schedules: &[CronSchedule],
@@ -150,15 +73,15 @@ pub extern "C" fn cron_c_union_dues_between(
     count: &mut usize,
 ) -> u32
     ensures { Answers (InHistory eras.now
-        (RunsDueBetween dues_any_between (sets_of_all schedules.now) last now
+        (RunsDueBetween (seconds_of_any schedules.now) last now
         items.old items.new count.new)
         ((items.new ≡ items.old) × (count.new ≡ 0))) result }
 {
-    dues_between(schedules, eras, last, now, items, count).code()
+    dues_between(&AnyOf { sets: schedules }, eras, last, now, items, count).code()
 }
 
-/// Writes the due fires of any of the schedules past that of an item whose instant isn't after
-/// `now`.
+/// Writes the due fires of any schedule after the due fire `item` and at or before the UTC second
+/// `now`, in order, as far as they fit, and their count. Returns the number of a `Status`.
 #[unsafe(no_mangle)]
 pub extern "C" fn cron_c_union_dues_past(
     schedules: &[CronSchedule],
@@ -169,9 +92,9 @@ pub extern "C" fn cron_c_union_dues_past(
     count: &mut usize,
 ) -> u32
     ensures { Answers (InHistory eras.now
-        (RunsDuePast dues_any_past_by (sets_of_all schedules.now) item.now now
+        (RunsDuePast (seconds_of_any schedules.now) item.now now
         items.old items.new count.new)
         ((items.new ≡ items.old) × (count.new ≡ 0))) result }
 {
-    dues_past(schedules, eras, item, now, items, count).code()
+    dues_past(&AnyOf { sets: schedules }, eras, item, now, items, count).code()
 }

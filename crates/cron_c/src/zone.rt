@@ -1,4 +1,4 @@
-//! A zone as plain numbers, of which the caller keeps as many copies as it likes.
+//! A zone as plain numbers. The caller may copy it.
 
 ghost use Rattle.std.specs.Prelude.{◌≡◌, MatchOption, IsTrue};
 ghost use Rattle.jiff.specs.Words.{plain_zone};
@@ -26,10 +26,11 @@ const JULIAN_ZERO: u32 = 2;
 
 const WEEKDAY_OF_MONTH: u32 = 3;
 
-/// When a clock turns each year: kind 1 is day 1 to 365 where 29 February isn't counted, kind 2 day
-/// 0 to 365, and kind 3 a day of the week, from 0 for Sunday, in week 1 to 5 of a month, where week
-/// 5 is the last. The time is in seconds from the midnight that begins the day, -604,799 to
-/// 604,799.
+/// A turn of a clock, which comes each year: on this day the clock changes from one offset to
+/// another. Kind 1 is day 1 to 365, where 29 February isn't counted, and kind 2 is day 0 to 365.
+/// Kind 3 is a day of the week, from 0 for Sunday, in week 1 to 5 of a month, where week 5 is the
+/// last. The time is in seconds from the midnight that begins the day, by the clock before the
+/// turn, -604,799 to 604,799.
 #[repr(C)]
 #[derive(Clone, Copy)]
 pub struct CronTurn {
@@ -40,9 +41,9 @@ pub struct CronTurn {
     pub time: i32,
 }
 
-/// Kind 0 is UTC, kind 1 has one offset, and kind 2 two, that of the saving from `starts` on and
-/// the other from `ends` on. Offsets are in seconds ahead of UTC, up to 25:59:59. What `reserved`
-/// holds means nothing, and what is written there is 0.
+/// A zone. Kind 0 is UTC, kind 1 has one offset, and kind 2 has two: the saving offset from
+/// `starts` on, and the other from `ends` on. Offsets are in seconds ahead of UTC, up to 25:59:59.
+/// The content of `reserved` means nothing, and it is written as 0.
 #[repr(C)]
 #[derive(Clone, Copy)]
 pub struct CronZone {
@@ -54,7 +55,7 @@ pub struct CronZone {
     pub reserved: [u32; 3],
 }
 
-// The day of a turn.
+// The day in `turn`, or `None` if it isn't valid.
 fn day_in(turn: CronTurn) -> Option<Day>
     ensures { MatchOption result
         ((day : Day) → IsTrue (is_rule_day day) → IsDayIn turn day → ⊥)
@@ -90,7 +91,7 @@ fn day_in(turn: CronTurn) -> Option<Day>
     }
 }
 
-// The turn that a struct says.
+// The day and the time in `turn`, or `None` if they aren't valid.
 fn turn_in(turn: CronTurn) -> Option<DayTime>
     ensures { MatchOption result
         ((time : DayTime) → IsTurnIn turn time → ⊥) (λ time. IsTurnIn turn time) }
@@ -107,7 +108,7 @@ fn turn_in(turn: CronTurn) -> Option<DayTime>
     })
 }
 
-// The saving that a struct says.
+// The saving time of `zone`: its offset and its two turns. `None` if they aren't valid.
 fn saving_in(zone: &CronZone) -> Option<Dst>
     ensures { MatchOption result
         ((dst : Dst) → zone.now.saving ≡ dst.offset.seconds
@@ -131,7 +132,7 @@ fn saving_in(zone: &CronZone) -> Option<Dst>
     })
 }
 
-// The zone of a rule.
+// The zone of a rule: its standard offset, and its saving time if it has one.
 fn of_rule(offset: Offset, dst: Option<Dst>) -> TimeZone<'static>
     ensures { IsRuleOf offset dst (plain_zone result) }
 {
@@ -142,7 +143,7 @@ fn of_rule(offset: Offset, dst: Option<Dst>) -> TimeZone<'static>
     }))
 }
 
-/// The zone of a struct; `None` where its numbers are of none.
+/// The zone that a struct means, or `None` if its numbers aren't valid.
 pub fn zone_in(zone: &CronZone) -> Option<TimeZone<'static>>
     ensures { MatchOption result
         (IsNoZone zone.now)
@@ -194,7 +195,7 @@ fn turn_of(turn: DayTime) -> CronTurn
     }
 }
 
-// The struct of a zone with one offset.
+// The struct of a zone without saving time: the numbers after its kind and its offset are 0.
 fn fixed(kind: u32, offset: i32) -> CronZone
     ensures kind { result.kind ≡ kind }
     ensures offset { result.offset ≡ offset }
@@ -217,7 +218,7 @@ fn fixed(kind: u32, offset: i32) -> CronZone
     }
 }
 
-/// The struct of a rule.
+/// The struct of the zone of a rule.
 pub fn struct_of(rule: posix::TimeZone) -> CronZone
     ensures { IsZoneStruct result (Posix rule) }
 {
@@ -234,7 +235,7 @@ pub fn struct_of(rule: posix::TimeZone) -> CronZone
     }
 }
 
-/// The struct of a zone; `None` where it is neither UTC nor a rule.
+/// The struct of a zone. `None` if the zone is neither UTC nor a rule.
 pub fn struct_of_zone(zone: &TimeZone<'_>) -> Option<CronZone>
     ensures { MatchOption result
         (IsOther (plain_zone zone.now))

@@ -1,6 +1,6 @@
-//! Zones from the bytes of a compiled zone file. The reader of `jiff` refuses what is no such file,
-//! `savings` what says neither 0 nor 1 of saving time, and `era_table` two transitions that share a
-//! second.
+//! Zones from the bytes of a compiled zone file. The reader of `jiff` refuses other bytes,
+//! `savings` refuses a flag of saving time other than 0 and 1, and `era_table` refuses two
+//! transitions that share a second.
 
 ghost use Rattle.cron_c.specs.Calls.{Answers};
 ghost use Rattle.cron_c.specs.ZoneFiles.{ReadsHistory};
@@ -29,9 +29,9 @@ fn read_history(alloc: Global, bytes: &[u8], eras: &mut [CronEra], count: &mut u
     }
 }
 
-/// Reads the bytes of a compiled zone file, and writes the eras that mean its zone, where there is
-/// room for all of them, and how many they are. The memory that it takes is given back before it
-/// returns.
+/// Reads the bytes of a compiled zone file, and writes the eras of its zone if there is room for
+/// all of them, and writes their count. It takes memory, and gives it back before it returns.
+/// Returns the number of a `Status`.
 #[unsafe(no_mangle)]
 pub extern "C" fn cron_c_history_read(
     alloc: Global,

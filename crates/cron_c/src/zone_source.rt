@@ -1,4 +1,4 @@
-//! Where the zone of a text is found: in the text itself, or in a file that the caller reads.
+//! Where a text's zone is found: in the text itself, or in a file that the caller reads.
 
 ghost use Rattle.std.specs.Prelude.{◌≡◌, MatchResult, length, option_map};
 ghost use Rattle.cron_c.specs.Buffers.{laid_over};
@@ -18,11 +18,11 @@ const AT_PATH: u32 = 2;
 
 const OF_MACHINE: u32 = 3;
 
-// That what TZ holds is no text.
+// The error of a TZ that isn't UTF-8.
 #[derive(Clone, Copy)]
 struct NoText;
 
-// What TZ holds, if it is set.
+// The content of TZ, or `None` if it isn't set (`is_set` is 0). An error if it isn't UTF-8.
 fn told(tz: &[u8], is_set: u32) -> Result<Option<&str>, NoText>
     ensures { MatchResult result
         (λ text. (option_map (λ s. s.now) text ≡ tz_told is_set tz.now)
@@ -38,7 +38,7 @@ fn told(tz: &[u8], is_set: u32) -> Result<Option<&str>, NoText>
     }
 }
 
-// Writes a name or a path, and its whole length.
+// Writes a file's name or path to `path` as far as it fits, and its whole length.
 fn write_path(told: &str, path: &mut [u8], path_length: &mut usize)
     ensures path { path.new ≡ laid_over 0 told.now path.old }
     ensures size { path_length.new ≡ length told.now }
@@ -105,8 +105,10 @@ fn find_source(
     write_source(source_of(text, tz), zone, place, path, path_length)
 }
 
-/// Tells where the zone of a text is found: the zone itself is written, or the name or the path of
-/// the file that has it. What TZ holds counts where `is_set` isn't 0.
+/// Writes where a text's zone is found to `place`. 0 means in the text, and then `zone` is written.
+/// 1 means in the folder of zone files, 2 at a path: the name or the path is written to `path`. 3
+/// means in the machine's own file. The content of TZ counts if `is_set` isn't 0. Returns the
+/// number of a `Status`.
 #[unsafe(no_mangle)]
 pub extern "C" fn cron_c_zone_source(
     text: &[u8],

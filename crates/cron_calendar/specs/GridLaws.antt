@@ -4,7 +4,7 @@ use Rattle.cron_moments.specs.Calendar.{day_number, first_month, length_of, mont
 use Rattle.cron_moments.specs.CivilDates.{date_numbered}
 use Rattle.cron_calendar.specs.Grids.{day_at, lead}
 
--- a day of the month stands at one place, and no other day does
+-- each day of a month is at one place of its grid, and no other day is there
 abbrev pub DaysStandOnce : Type 0
 DaysStandOnce =
     (month day place : ℕ)
@@ -12,7 +12,8 @@ DaysStandOnce =
     → day ≤ length_of month
     → (day_at month place ≡ Some day) ↔ (place ≡ lead month + (day - 1))
 
--- whose column is that of its day of the week: Monday is 0, and Sunday is 6
+-- the place of a day of a month is in the column of its day of the week: 0 for Monday to 6 for
+-- Sunday
 abbrev pub DaysStandUnderTheirWeekdays : Type 0
 DaysStandUnderTheirWeekdays =
     (month day : ℕ)

@@ -1,4 +1,5 @@
--- The grids of months: where their days stand, and their lines.
+-- The grids of months: where their days are, and their lines. Months are numbered from January of
+-- the year 0, and places of a grid from 0, seven a week.
 use Rattle.std.specs.Prelude.{ℕ, ◌+◌, ◌-◌, ◌*◌, ◌/◌, ◌%◌, ◌==◌, List, [], ◌++◌, Option, Some, None, codes, min, nat_lt, option_map, slice_index, if◌then◌else◌}
 use Rattle.std.specs.List.{flat_map, range_with_len}
 use Rattle.cron_moments.specs.Calendar.{day_number, length_of}
@@ -7,17 +8,18 @@ use Rattle.cron_calendar.specs.declared.months.Months.{Months}
 
 -- ---- days
 
--- weeks begin with Monday: so many places of its first week stand empty before a month, of which 1970-01-01 was a Thursday
+-- How many places of a month's first week are empty, before its first day. Weeks begin with Monday,
+-- and 1970-01-01 was a Thursday.
 abbrev pub lead : ℕ → ℕ
 lead month = (day_number month 1 + 3) % 7
 
--- the day of the month at a place, of which seven are a week
+-- the day of the month at a place of its grid, none if the place is empty
 abbrev pub day_at : ℕ → ℕ → Option ℕ
 day_at month place =
     if nat_lt place (lead month) then None
     else (if nat_lt (place - lead month) (length_of month) then Some (place - lead month + 1) else None)
 
--- the number of fires of a day of a month
+-- the number of fires of a day of a month, by the counts of consecutive days from `first_day` on
 abbrev pub count_of : Months → ℕ → ℕ → ℕ
 count_of ms month day = slice_index ms.counts.now (day_number month 1 + day - 1 - ms.first_day)
 
@@ -26,7 +28,7 @@ count_at ms month place = option_map (count_of ms month) (day_at month place)
 
 -- ---- lines
 
--- what a list of columns, months or lines gives, one behind another
+-- the texts of the columns, months or lines from `first` up to but without `end`, one after another
 abbrev pub from_to : (ℕ → List ℕ) → ℕ → ℕ → List ℕ
 from_to f first end = flat_map f (range_with_len first (end - first))
 
@@ -48,7 +50,8 @@ week_line ms month line = if line % 2 == 0 then days_line month (line / 2) else 
 abbrev pub heads : List ℕ
 heads = codes "   Mo   Tu   We   Th   Fr   Sa   Su"
 
--- a line of a month: its name, the days of the week, or a line of one of six weeks
+-- line `line` of a month: 0 is its name, 1 the names of the weekdays, and then come two lines for
+-- each of six weeks
 abbrev pub own_line : Months → ℕ → ℕ → List ℕ
 own_line ms month line = if line == 0 then title month else (if line == 1 then heads else week_line ms month (line - 2))
 
@@ -63,7 +66,7 @@ line_text ms first end line = from_to (λ month. month_line ms month line) first
 abbrev pub row_text : Months → ℕ → ℕ → List ℕ
 row_text ms first end = from_to (line_text ms first end) 0 14 ++ codes "\n"
 
--- the row that a month begins
+-- the row of months that begins with `month`; nothing if `month` isn't the first of a row
 abbrev pub row_from : Months → ℕ → ℕ → ℕ → ℕ → List ℕ
 row_from ms first end across month = if (month - first) % across == 0 then row_text ms month (min end (month + across)) else []
 

@@ -1,4 +1,4 @@
--- What pages hold: a year's, and months as text.
+-- What pages hold: the HTML page of a year, and the page of months as text.
 use Rattle.std.specs.Prelude.{◌≡◌, ℕ, ◌+◌, ◌-◌, ◌*◌, ◌==◌, List, [], ◌∷◌, ◌++◌, codes, fold, map, max, min, nat_lt, if◌then◌else◌}
 use Rattle.std.specs.Fmt.{decimal}
 use Rattle.std.specs.List.{flat_map}
@@ -29,20 +29,21 @@ head_text y =
     HEAD_START.now ++ (decimal y.year ++ (HEAD_STYLE.now ++ (STYLE.now ++ (HEAD_TITLE.now ++ (decimal y.year
     ++ (HEAD_ZONE.now ++ (escaped y.zone.now ++ HEAD_END.now)))))))
 
--- at most what 32 bits hold
+-- the sum of an entry's numbers of fires, at most 4,294,967,295
 abbrev pub total_of : List ℕ → ℕ
 total_of counts = fold (λ total count. min (total + count) 4_294_967_295) 0 counts
 
 abbrev pub most_of : List ℕ → ℕ
 most_of counts = fold max 0 counts
 
--- the row of an entry: its place, its name, how many fires it has, and a drawing
+-- the row of an entry in a page: its colour by its place, its name, its number of fires, and a
+-- drawing
 abbrev pub entry_row : ℕ → Entry → List Shape → List ℕ
 entry_row place e strip =
     ENTRY_START.now ++ (decimal (min place 12) ++ (codes "\"" ++ (ENTRY_NAME.now ++ (escaped e.name.now ++ (ENTRY_TOTAL.now
     ++ (decimal (total_of e.counts.now) ++ (ENTRY_STRIP.now ++ (drawing strip ++ ENTRY_END.now))))))))
 
--- a row an entry, from a place on
+-- the text has a row for each entry, and the first entry has this place
 abbrev pub AreRows : ℕ → List Entry → List ℕ → Type 0
 AreRows place [] rows = rows ≡ []
 AreRows place (e ∷ es) rows = (strip : List Shape) × (rest : List ℕ) × (rows ≡ entry_row place e strip ++ rest) × AreRows (place + 1) es rest
@@ -62,7 +63,8 @@ clock_text y = CLOCK_START.now ++ (escaped y.changes.now ++ CLOCK_END.now)
 abbrev pub table_text : Year → List ℕ
 table_text y = TABLE_START.now ++ (day_rows y.first y.days.now ++ TABLE_END.now)
 
--- the page of a year: a row an entry and a row a day, with texts of others escaped. The drawings may be any, but they hold no such text.
+-- The page of a year: a row for each entry and a row for each day, with names and other given texts
+-- escaped. The drawings may be any, but they hold no such text.
 pub record IsPage (y : Year) (text : List ℕ) : Type 0 where
   pub rows : List ℕ
   pub entries : AreRows 0 y.entries.now rows
@@ -72,33 +74,35 @@ pub record IsPage (y : Year) (text : List ℕ) : Type 0 where
 
 -- ---- months as text
 
--- the day after the last one of months up to an end, which is left out
+-- the number of the day after the months before `end`, counted from 1970-01-01
 abbrev pub days_end : ℕ → ℕ
 days_end end = if nat_lt end months_end then day_number end 1 else days_in_range
 
 abbrev pub day_count : ℕ → ℕ → ℕ
 day_count first end = days_end end - day_number first 1
 
--- `2024-03-10T02:00:00`
+-- a date and time, as `2024-03-10T02:00:00`
 abbrev pub time_of : DateTime → List ℕ
 time_of dt = day_text dt.date ++ (codes "T" ++ time_text dt.time)
 
--- what is told of civil seconds that a clock shows this often
+-- the end of the line of civil seconds that a clock shows this often
 abbrev pub told_of : ℕ → List ℕ
 told_of times = if times == 0 then codes ": the clock skips these times\n" else codes ": the clock shows these times twice\n"
 
--- the line of a change
+-- the line of a change: civil seconds that a clock skips, or shows twice
 abbrev pub change_line : Change → List ℕ
 change_line change =
     time_of (civil change.first) ++ (codes " to " ++ (time_of (civil change.end) ++ told_of change.times))
 
--- the lines of all changes on so many days
+-- the text has the lines of all changes of the zone's clock on `days` days from day `first` on,
+-- counted from 1970-01-01
 pub record TellsClock (z : TimeZone) (first days : ℕ) (text : List ℕ) : Type 0 where
   pub changes : List Change
   pub all : AreChanges z ((first + days) * 86_400) (first * 86_400) changes
   pub told : text ≡ flat_map change_line changes
 
--- the grid of months with the totals of plans, and what is told of the clock
+-- the page of months as text: their grid with the totals of the plans, and the lines of the clock's
+-- changes
 pub record IsTextPage (plans : List Plan) (shown : Shown) (z : TimeZone) (text : List ℕ) : Type 0 where
   pub months : Months
   pub first : months.first_day ≡ day_number shown.first 1
@@ -110,7 +114,7 @@ pub record IsTextPage (plans : List Plan) (shown : Shown) (z : TimeZone) (text :
 
 -- ---- the page of a year, of plans
 
--- with an entry a plan
+-- the page of a year, with an entry for each plan: its name, and its numbers of fires by day
 pub record IsYearPage (plans : List Plan) (year : ℕ) (z : TimeZone) (zone : List ℕ) (text : List ℕ) : Type 0 where
   pub shown : Year
   pub year_is : shown.year ≡ year

@@ -1,4 +1,4 @@
--- How many fires plans have on each day.
+-- How many fires plans have on each day, and in each hour. Days are numbered from 1970-01-01.
 use Rattle.std.specs.Prelude.{ℕ, ◌+◌, ◌*◌, Bool, true, false, List, fold, length, map, min, replicate, slice_index}
 use Rattle.std.specs.List.{range_with_len}
 use Rattle.jiff_tz.specs.declared.timezone.TimeZone.{TimeZone}
@@ -6,7 +6,8 @@ use Rattle.jiff_tz.specs.declared.timezone.TimeZone.TheVariants.{UTC}
 use Rattle.cron_counting.specs.Counts.{counts_by_day, counts_by_hour}
 use Rattle.cron_calendar.specs.declared.plans.Plan.{Plan}
 
--- where each match fires once its day is that of the civil second, which UTC reads once
+-- The zone by which fires are counted. If each match fires once, it counts for the day of its civil
+-- second, and UTC reads each civil second once.
 abbrev pub zone_by : Bool → TimeZone → TimeZone
 zone_by true z = UTC
 zone_by false z = z
@@ -14,14 +15,15 @@ zone_by false z = z
 abbrev pub counts_of : TimeZone → ℕ → ℕ → Plan → List ℕ
 counts_of z first days plan = counts_by_day plan.schedules.now (zone_by plan.once z) first days
 
--- and in each of the hours of these days
+-- how many fires a plan has in each hour of `days` days from day `first` on
 abbrev pub hour_counts_of : TimeZone → ℕ → ℕ → Plan → List ℕ
 hour_counts_of z first days plan = counts_by_hour plan.schedules.now (zone_by plan.once z) (first * 24) (days * 24)
 
--- numbers and others, added up one by one: at most what 32 bits hold
+-- the sums of two lists of numbers, place by place, each at most 4,294,967,295
 abbrev pub sums_with : List ℕ → List ℕ → List ℕ
 sums_with xs ys = map (λ i. min (slice_index xs i + slice_index ys i) 4_294_967_295) (range_with_len 0 (length xs))
 
--- those of all plans, in so many days or hours
+-- the sums of what all plans have, in each of `days` days or hours; `counts` gives the numbers of
+-- one plan
 abbrev pub totals : (Plan → List ℕ) → ℕ → List Plan → List ℕ
 totals counts days plans = fold (λ sums plan. sums_with sums (counts plan)) (replicate days 0) plans

@@ -1,4 +1,4 @@
--- The drawings of a page: parts that hold numbers, and words of the program.
+-- The drawings of a page as texts: parts that hold numbers, and words of the program.
 use Rattle.std.specs.Prelude.{ℕ, ◌==◌, List, ◌++◌, codes, if◌then◌else◌}
 use Rattle.std.specs.Fmt.{decimal}
 use Rattle.std.specs.List.{flat_map}
@@ -16,7 +16,7 @@ word_bytes (Weekday n) =
     if n == 0 then codes "Mon" else (if n == 1 then codes "Tue" else (if n == 2 then codes "Wed" else (if n == 3 then codes "Thu"
     else (if n == 4 then codes "Fri" else (if n == 5 then codes "Sat" else codes "Sun")))))
 
--- a text that a number and a quote end
+-- an attribute: its text `name`, a number, and a closing quote
 abbrev pub attribute : List ℕ → ℕ → List ℕ
 attribute name n = name ++ (decimal n ++ codes "\"")
 
@@ -48,6 +48,6 @@ shape_text RowEnd = codes "</tr>\n"
 shape_text (Hour hour) = hour_text hour
 shape_text HeadEnd = codes "</tr></thead>\n<tbody>\n"
 
--- one after another
+-- the text of a drawing: its parts one after another
 abbrev pub drawing : List Shape → List ℕ
 drawing shapes = flat_map shape_text shapes

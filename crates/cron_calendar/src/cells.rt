@@ -4,7 +4,8 @@ ghost use Rattle.cron_calendar.specs.Cells.{count_cell, day_cell, digit_from, fi
 
 use std::alloc::AllocError;
 
-// A digit, or a space where the number is too small for it.
+// The ASCII digit of `digit`, or a space if `number` is less than `least`: so leading zeros are
+// spaces.
 fn digit_from(least: u32, number: u32, digit: u32) -> u8
     requires { digit < 10 }
     ensures { result ≡ digit_from least number digit }
@@ -16,7 +17,7 @@ fn digit_from(least: u32, number: u32, digit: u32) -> u8
     }
 }
 
-// A number below 10,000, on the right of four columns.
+// A number below 10,000, right-aligned in four columns.
 pub(crate) fn four_columns(number: u32) -> [u8; 4]
     ensures { result ≡ four_columns number }
 {
@@ -28,7 +29,7 @@ pub(crate) fn four_columns(number: u32) -> [u8; 4]
     ]
 }
 
-// A number below 1,000, on the right of three columns.
+// A number below 1,000, right-aligned in three columns.
 fn three_columns(number: u32) -> [u8; 3]
     ensures { result ≡ three_columns number }
 {
@@ -39,7 +40,7 @@ fn three_columns(number: u32) -> [u8; 3]
     ]
 }
 
-/// Pushes the cell of a day of the month, or an empty one.
+/// Appends the cell of a day of the month, or an empty cell if there is none.
 pub(crate) fn push_day(page: &mut Vec<u8>, day: Option<u32>) -> Result<(), AllocError>
     ensures { OnOk result (page.new.items ≡ page.old.items ++ day_cell day) }
 {
@@ -50,7 +51,7 @@ pub(crate) fn push_day(page: &mut Vec<u8>, day: Option<u32>) -> Result<(), Alloc
     page.extend_from_slice(&four_columns(day))
 }
 
-// Tenths as a number with one place, `1.0` of 10.
+// A number of tenths below 100 with one decimal place: `1.0` for 10.
 fn tenths(number: u32) -> [u8; 3]
     ensures { result ≡ tenths number }
 {
@@ -61,14 +62,14 @@ fn tenths(number: u32) -> [u8; 3]
     ]
 }
 
-// Three columns and a unit.
+// Three columns of digits, and a letter for the unit after them.
 fn with_unit(columns: [u8; 3], unit: u8) -> [u8; 4]
     ensures { result ≡ columns ++ unit ∷ [] }
 {
     [columns[0], columns[1], columns[2], unit]
 }
 
-// A number in four columns, from 10,000 on cut to its thousands, millions or billions.
+// A number in four columns. From 10,000 on it is rounded down, to `86k`, `1.0M`, ` 10M` or `1.0G`.
 fn number_columns(number: u32) -> [u8; 4]
     ensures { result ≡ number_columns number }
 {
@@ -85,7 +86,7 @@ fn number_columns(number: u32) -> [u8; 4]
     }
 }
 
-// Pushes a number.
+// Appends the cell of a number: a space and four columns.
 fn push_number(page: &mut Vec<u8>, number: u32) -> Result<(), AllocError>
     ensures { OnOk result (page.new.items ≡ page.old.items ++ number_cell number) }
 {
@@ -93,7 +94,8 @@ fn push_number(page: &mut Vec<u8>, number: u32) -> Result<(), AllocError>
     page.extend_from_slice(&number_columns(number))
 }
 
-// Pushes a number of fires, which is a point where it is none.
+// Appends the cell of a number of fires: a point for 0, and other numbers green if `colour` is
+// true.
 fn push_fires(page: &mut Vec<u8>, colour: bool, number: u32) -> Result<(), AllocError>
     ensures { OnOk result (page.new.items ≡ page.old.items ++ fires_cell colour number) }
 {
@@ -108,7 +110,8 @@ fn push_fires(page: &mut Vec<u8>, colour: bool, number: u32) -> Result<(), Alloc
     page.extend_from_slice(b"\x1b[0m")
 }
 
-/// Pushes the cell of a number of fires, or an empty one.
+/// Appends the cell of a number of fires, which is green if `colour` is true, or an empty cell if
+/// there is no day.
 pub(crate) fn push_count(
     page: &mut Vec<u8>,
     colour: bool,

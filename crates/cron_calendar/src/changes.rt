@@ -1,4 +1,5 @@
-//! The civil seconds that a zone skips, or shows twice.
+//! The civil seconds that a zone skips, or shows twice. Each is a number of seconds from 1970-01-01
+//! 00:00:00 on.
 ghost use Rattle.std.specs.Prelude.{◌≡◌, ◌≢◌, ◌<◌, ◌≤◌, ℕ, IfOk, length};
 ghost use Rattle.jiff.specs.Words.{plain_zone};
 ghost use Rattle.cron_clocks.specs.Steady.{readings_at};
@@ -10,17 +11,18 @@ use cron_clocks::stretch::Stretch;
 use jiff::tz::TimeZone;
 use std::alloc::{AllocError, Global};
 
-/// Civil seconds from a first one up to an end, which is left out: a clock skips them, or shows
-/// each of them twice.
+/// Civil seconds from `first` up to but without `end`: a clock skips them, or shows each of them
+/// twice.
 #[derive(Clone, Copy)]
 pub struct Change {
     pub first: u32,
     pub end: u32,
-    /// How often a clock shows each: never, or twice.
+    /// How often a clock shows each of the civil seconds: 0 or 2 in what `changes` returns.
     pub times: u32,
 }
 
-// How often a clock shows each civil second of a stretch.
+// How often a clock shows each civil second of a stretch, that is, of civil seconds that it reads
+// at the same offsets: never, once or twice.
 fn times_of(stretch: &Stretch) -> u32
     ensures { (c : ℕ) → result ≡ length (readings_at c stretch.now.earlier stretch.now.later) }
 {
@@ -31,7 +33,8 @@ fn times_of(stretch: &Stretch) -> u32
     }
 }
 
-// The end of the civil seconds from one on that a clock shows this often each.
+// The end of the run of civil seconds from `first` on that the clock shows `times` times each. It
+// is at most `end`.
 fn run_end(zone: &TimeZone<'_>, first: u32, end: u32, times: u32) -> u32
     requires { (first ≤ end) × (end ≤ seconds_in_range) }
     ensures bounds { (first ≤ result) × (result ≤ end) }
@@ -49,7 +52,8 @@ fn run_end(zone: &TimeZone<'_>, first: u32, end: u32, times: u32) -> u32
     at
 }
 
-// The civil seconds from one on that a clock shows as often as it.
+// The run of civil seconds from `first` on that the clock shows as often as `first`, perhaps once.
+// It ends at `end` at the latest.
 fn change_from(zone: &TimeZone<'_>, first: u32, end: u32) -> Change
     requires { (first < end) × (end ≤ seconds_in_range) }
     ensures first { result.first ≡ first }
@@ -64,8 +68,9 @@ fn change_from(zone: &TimeZone<'_>, first: u32, end: u32) -> Change
     Change { first, end, times }
 }
 
-/// The changes of a zone's clock from a civil second up to an end, which is left out: each is whole,
-/// and the clock shows all other civil seconds there once.
+/// The civil seconds from `first` up to but without `end` that a zone's clock skips, or shows
+/// twice. Each run of them is whole within these bounds. The clock shows all other civil seconds
+/// there once.
 pub fn changes(
     alloc: Global,
     zone: &TimeZone<'_>,

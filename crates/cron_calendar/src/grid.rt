@@ -1,4 +1,5 @@
-//! Months side by side, with the number of fires below each day.
+//! Months side by side, with the number of fires below each day. Months are numbered from January
+//! of the year 0.
 ghost use Rattle.std.specs.Prelude.{◌≡◌, ◌+◌, ◌<◌, ◌≤◌, ◌++◌, IfOk, OnOk};
 ghost use Rattle.cron_moments.specs.Calendar.{first_month, months_end};
 ghost use Rattle.cron_calendar.specs.Grids.{grid_text, line_text, row_from, row_text};
@@ -10,14 +11,14 @@ use std::alloc::{AllocError, Global};
 /// The lines of a month: its name, the days of the week, and two for each of six weeks.
 const LINES: u32 = 14;
 
-// Months one after another.
+// Consecutive months side by side, from `first` up to but without `end`.
 #[derive(Clone, Copy)]
 struct Row {
     first: u32,
     end: u32,
 }
 
-// Pushes a line of months side by side.
+// Appends line `line` of each month of a row, side by side.
 fn push_line(page: &mut Vec<u8>, months: &Months<'_>, row: Row, line: u32) -> Result<(), AllocError>
     requires low { first_month ≤ row.first }
     requires high { row.end ≤ months_end }
@@ -33,7 +34,7 @@ fn push_line(page: &mut Vec<u8>, months: &Months<'_>, row: Row, line: u32) -> Re
     Ok(())
 }
 
-// Pushes the lines of months side by side, and an empty line.
+// Appends all lines of the months of a row, side by side, and an empty line.
 fn push_row(page: &mut Vec<u8>, months: &Months<'_>, row: Row) -> Result<(), AllocError>
     requires low { first_month ≤ row.first }
     requires high { row.end ≤ months_end }
@@ -48,7 +49,8 @@ fn push_row(page: &mut Vec<u8>, months: &Months<'_>, row: Row) -> Result<(), All
     Ok(())
 }
 
-// Pushes the row that a month begins, if it begins one.
+// Appends the row that begins with `month`, or nothing if no row does. The months `all` are in rows
+// of `across` months each.
 fn push_row_from(
     page: &mut Vec<u8>,
     months: &Months<'_>,
@@ -70,8 +72,8 @@ fn push_row_from(
     push_row(page, months, Row { first: month, end })
 }
 
-/// The months from a first one up to an end, which is left out, so many side by side. Months are
-/// numbered from January of the year 0 on.
+/// The text of the months from `first` up to but without `end`, `across` of them side by side.
+/// Months are numbered from January of the year 0.
 pub fn grid(
     alloc: Global,
     months: &Months<'_>,

@@ -1,5 +1,5 @@
 //! The page of a year: heat maps by day and by hour, its entries, and a table of its days. It needs
-//! no network and no script. What it holds is proved, but for which numbers its drawings show and
+//! no network and no script. Its contents are proved, except which numbers its drawings show and
 //! where: these are only tested.
 
 ghost use Rattle.std.specs.Prelude.{◌≡◌, ◌+◌, ◌++◌, ◌≤◌, List, IfOk, OnOk, length};
@@ -30,31 +30,31 @@ use std::alloc::{AllocError, Global};
 /// How many fires an entry has on each day of the year.
 #[derive(Clone, Copy)]
 pub struct Entry<'a> {
-    /// What the page calls it.
+    /// The entry's name on the page.
     pub name: &'a [u8],
     pub counts: &'a [u32],
 }
 
-/// What the page tells of a year.
+/// What the page of a year shows.
 #[derive(Clone, Copy)]
 pub struct Year<'a> {
-    /// 1970 to 2100.
+    /// The year, 1970 to 2100.
     pub year: u32,
-    /// What the page calls the zone.
+    /// The name of the zone on the page.
     pub zone: &'a [u8],
-    /// The number of its first day, counted from 1970-01-01.
+    /// The number of the year's first day, counted from 1970-01-01.
     pub first: u32,
-    /// How many fires each of its days has, from the first on.
+    /// The number of fires on each day of the year, from the first on.
     pub days: &'a [u32],
-    /// How many fires each of its hours has, 24 for a day.
+    /// The number of fires in each hour of the year, 24 hours a day.
     pub hours: &'a [u32],
-    /// Whose fires these are.
+    /// The entries whose fires are counted.
     pub entries: &'a [Entry<'a>],
-    /// What is told of the zone's clock.
+    /// The lines that say which civil seconds the zone's clock skips, or shows twice.
     pub changes: &'a [u8],
 }
 
-// Pushes what stands before the entries.
+// Appends the beginning of the page, up to the table of the entries.
 fn push_head(page: &mut Vec<u8>, year: &Year<'_>) -> Result<(), AllocError>
     ensures { OnOk result (page.new.items ≡ page.old.items ++ head_text year.now) }
 {
@@ -70,7 +70,7 @@ fn push_head(page: &mut Vec<u8>, year: &Year<'_>) -> Result<(), AllocError>
     Ok(())
 }
 
-// Pushes the heat map by day.
+// Appends the heat map by day: a drawing with a square for each day of the year.
 fn push_days_map(alloc: Global, page: &mut Vec<u8>, year: &Year<'_>) -> Result<(), AllocError>
     requires { (1970 ≤ year.now.year) × (year.now.year ≤ 2100) }
     ensures { OnOk result ((shapes : List Shape)
@@ -85,7 +85,7 @@ fn push_days_map(alloc: Global, page: &mut Vec<u8>, year: &Year<'_>) -> Result<(
     Ok(())
 }
 
-// Pushes the heat map by hour and weekday, which is a table.
+// Appends the heat map by weekday and hour, which is a table.
 fn push_hours_map(alloc: Global, page: &mut Vec<u8>, year: &Year<'_>) -> Result<(), AllocError>
     requires { (1970 ≤ year.now.year) × (year.now.year ≤ 2100) }
     ensures { OnOk result ((shapes : List Shape)
@@ -98,7 +98,7 @@ fn push_hours_map(alloc: Global, page: &mut Vec<u8>, year: &Year<'_>) -> Result<
     Ok(())
 }
 
-// Pushes what is told of the zone's clock.
+// Appends the section that says which civil seconds the zone's clock skips, or shows twice.
 fn push_changes(page: &mut Vec<u8>, year: &Year<'_>) -> Result<(), AllocError>
     ensures { OnOk result (page.new.items ≡ page.old.items ++ clock_text year.now) }
 {
@@ -108,7 +108,7 @@ fn push_changes(page: &mut Vec<u8>, year: &Year<'_>) -> Result<(), AllocError>
     Ok(())
 }
 
-/// The page of a year, whose number is between 1970 and 2100.
+/// The HTML page of a year from 1970 to 2100.
 pub fn page(alloc: Global, year: &Year<'_>) -> Result<Vec<u8>, AllocError>
     requires year { (1970 ≤ year.now.year) × (year.now.year ≤ 2100) }
     requires days { year.now.first + length year.now.days.now ≤ days_in_range }

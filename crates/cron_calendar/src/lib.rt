@@ -1,4 +1,5 @@
-//! Calendars of months: how many fires each day has, under its day of the week.
+//! Calendars of months: how many fires each day has, below the day of the month and in the column
+//! of its day of the week.
 #![tactic(auto)]
 
 mod cells;

@@ -1,4 +1,6 @@
-//! The lines of a month, each 38 columns wide.
+//! The lines of a month, each 38 columns wide. A month has a line of its name, one of the names of
+//! the weekdays, and for each of six weeks one of days and one of numbers of fires. Months are
+//! numbered from January of the year 0.
 ghost use Rattle.std.specs.Prelude.{◌≡◌, ◌++◌, ◌+◌, ◌*◌, ◌%◌, ◌<◌, ◌≤◌, ◌∷◌, [], OnOk};
 ghost use Rattle.std.specs.List.{flat_map, range_with_len};
 ghost use Rattle.cron_moments.specs.Calendar.{first_month, months_end};
@@ -8,7 +10,8 @@ use crate::cells::{four_columns, push_count, push_day};
 use crate::months::{Months, count_at, day_at};
 use std::alloc::AllocError;
 
-// The name of a month of the year, on the right of 17 columns, and a space.
+// The name of a month of the year, 0 for January: right-aligned in 17 columns, with a space after
+// it.
 fn month_name(month: u32) -> &'static [u8; 18]
     ensures { result.now ≡ month_name month }
 {
@@ -28,7 +31,7 @@ fn month_name(month: u32) -> &'static [u8; 18]
     }
 }
 
-// Pushes the name of a month with its year.
+// Appends the line with the name of a month and its year.
 fn push_title(page: &mut Vec<u8>, month: u32) -> Result<(), AllocError>
     ensures { OnOk result (page.new.items ≡ page.old.items ++ title month) }
 {
@@ -37,7 +40,7 @@ fn push_title(page: &mut Vec<u8>, month: u32) -> Result<(), AllocError>
     page.extend_from_slice(b"             ")
 }
 
-// Pushes the days of a week.
+// Appends the line with the days of a week of `month`; weeks are counted from 0.
 fn push_days(page: &mut Vec<u8>, month: u32, week: u32) -> Result<(), AllocError>
     requires month { (first_month ≤ month) × (month < months_end) }
     requires week { week < 7 }
@@ -49,7 +52,8 @@ fn push_days(page: &mut Vec<u8>, month: u32, week: u32) -> Result<(), AllocError
     Ok(())
 }
 
-// Pushes the numbers of fires of the days of a week.
+// Appends the line with the numbers of fires of the days of a week of `month`; weeks are counted
+// from 0.
 fn push_counts(
     page: &mut Vec<u8>,
     months: &Months<'_>,
@@ -67,7 +71,8 @@ fn push_counts(
     Ok(())
 }
 
-// Pushes a line of a week: its days, or below them their numbers of fires.
+// Appends a line of a week: its days if `line` is even, else their numbers of fires. Two lines are
+// a week.
 fn push_week_line(
     page: &mut Vec<u8>,
     months: &Months<'_>,
@@ -85,14 +90,15 @@ fn push_week_line(
     }
 }
 
-// Pushes the days of the week.
+// Appends the line with the names of the days of the week.
 fn push_heads(page: &mut Vec<u8>) -> Result<(), AllocError>
     ensures { OnOk result (page.new.items ≡ page.old.items ++ heads) }
 {
     page.extend_from_slice(b"   Mo   Tu   We   Th   Fr   Sa   Su")
 }
 
-// Pushes a line of a month: its name, the days of the week, or a line of one of six weeks.
+// Appends line `line` of a month: 0 is its name, 1 the names of the weekdays, and then come two
+// lines for each of six weeks.
 fn push_own_line(
     page: &mut Vec<u8>,
     months: &Months<'_>,
@@ -110,7 +116,7 @@ fn push_own_line(
     }
 }
 
-/// Pushes such a line, and what stands between two months.
+/// Appends line `line` of a month, and the three spaces between two months side by side.
 pub(crate) fn push_month_line(
     page: &mut Vec<u8>,
     months: &Months<'_>,

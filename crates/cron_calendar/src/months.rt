@@ -1,4 +1,5 @@
-//! Where the days of a month stand in its grid, and how many fires they have.
+//! The places of a month's days in its grid, and their numbers of fires. A grid has a row of seven
+//! places for each week, from Monday on, and places are counted from 0.
 ghost use Rattle.std.specs.Prelude.{◌≡◌, ◌<◌, ◌≤◌, IfSome};
 ghost use Rattle.cron_moments.specs.Calendar.{first_month, months_end};
 ghost use Rattle.cron_moments.specs.Calendar as calendar;
@@ -6,18 +7,18 @@ ghost use Rattle.cron_calendar.specs.Grids.{count_at, count_of, day_at, lead};
 
 use cron_moments::calendar::{KnownMonth, length_of};
 
-/// How many fires the days from one on have, and how they are shown.
+/// The numbers of fires of consecutive days, and how they are shown.
 #[derive(Clone, Copy)]
 pub struct Months<'a> {
     /// The number of the first day, counted from 1970-01-01.
     pub first_day: u32,
-    /// The numbers of fires of that day and those after it.
+    /// The numbers of fires of the first day and of the days after it.
     pub counts: &'a [u32],
-    /// Whether the numbers are green, by the codes of a terminal.
+    /// Whether the numbers of fires are green, by the codes of a terminal.
     pub colour: bool,
 }
 
-// In how many places of its first week a month hasn't begun: weeks begin with Monday.
+// The number of days of the month's first week that precede the month. Weeks begin with Monday.
 fn lead_of(month: u32) -> u32
     requires { (first_month ≤ month) × (month < months_end) }
     ensures lead { result ≡ lead month }
@@ -26,7 +27,8 @@ fn lead_of(month: u32) -> u32
     (KnownMonth::of_number(month).first_day() + 3) % 7
 }
 
-/// The day of a month at a place of its grid, of which seven are a week.
+/// The day of `month`, 1 to 31, at `place` of its grid, which has seven places a week from Monday
+/// on. `None` if no day is there.
 pub fn day_at(month: u32, place: u32) -> Option<u32>
     requires { (first_month ≤ month) × (month < months_end) }
     ensures day { result ≡ day_at month place }
@@ -43,7 +45,8 @@ pub fn day_at(month: u32, place: u32) -> Option<u32>
     }
 }
 
-// The number of fires of a day of a month, none if it isn't told.
+// The number of fires of `day` of `month`: 0 after the last counted day. A day before `first_day`
+// gets the number of `first_day`.
 fn count_of(months: &Months<'_>, month: u32, day: u32) -> u32
     requires month { (first_month ≤ month) × (month < months_end) }
     requires day { (1 ≤ day) × (day ≤ 31) }
@@ -57,7 +60,7 @@ fn count_of(months: &Months<'_>, month: u32, day: u32) -> u32
     }
 }
 
-/// The number of fires of the day at a place of the grid.
+/// The number of fires of the day of `month` at `place` of its grid. `None` if no day is there.
 pub(crate) fn count_at(months: &Months<'_>, month: u32, place: u32) -> Option<u32>
     requires { (first_month ≤ month) × (month < months_end) }
     ensures { result ≡ count_at months.now month place }

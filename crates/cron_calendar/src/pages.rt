@@ -19,23 +19,25 @@ use jiff::civil::DateTime;
 use jiff::tz::TimeZone;
 use std::alloc::{AllocError, Global};
 
-/// The month behind the last one of the range, numbered from January of the year 0.
+/// The month after the last one of the range: January 2101. Months are numbered from January of the
+/// year 0.
 pub const MONTHS_END: u32 = 25_212;
 
 /// Which months are shown, and how.
 #[derive(Clone, Copy)]
 pub struct Shown {
-    /// The first, numbered from January of the year 0.
+    /// The first month shown, numbered from January of the year 0.
     pub first: u32,
-    /// The one behind the last.
+    /// The month after the last one shown, numbered from January of the year 0.
     pub end: u32,
-    /// How many stand side by side.
+    /// How many months are side by side, 1 to 12.
     pub across: u32,
-    /// Whether numbers are green.
+    /// Whether numbers of fires are green, by the codes of a terminal.
     pub colour: bool,
 }
 
-// The days of months: the first, and how many there are.
+// The days of the months from `first` up to but without `end`: the number of the first day, counted
+// from 1970-01-01, and how many days there are.
 fn days_of(first: u32, end: u32) -> (u32, u32)
     requires low { first_month ≤ first }
     requires order { first < end }
@@ -53,7 +55,7 @@ fn days_of(first: u32, end: u32) -> (u32, u32)
     (start, behind.saturating_sub(start))
 }
 
-// Pushes what a clock shows, as `2024-03-10T02:00:00`.
+// Appends a civil second, as `2024-03-10T02:00:00`.
 fn push_time(text: &mut Vec<u8>, at: DateTime) -> Result<(), AllocError>
     ensures { OnOk result (text.new.items ≡ text.old.items ++ time_of at) }
 {
@@ -63,7 +65,8 @@ fn push_time(text: &mut Vec<u8>, at: DateTime) -> Result<(), AllocError>
     Ok(())
 }
 
-// What is told of civil seconds that a clock shows this often.
+// The end of a change's line. A clock shows the civil seconds of the change `times` times: 0 if it
+// skips them, else twice.
 fn told_of(times: u32) -> &'static str
     ensures { result.now ≡ told_of times }
 {
@@ -74,7 +77,7 @@ fn told_of(times: u32) -> &'static str
     }
 }
 
-// Pushes what is told of a change.
+// Appends the line of civil seconds that a zone's clock skips, or shows twice.
 fn push_change(text: &mut Vec<u8>, change: Change) -> Result<(), AllocError>
     ensures { OnOk result (text.new.items ≡ text.old.items ++ change_line change) }
 {
@@ -85,7 +88,7 @@ fn push_change(text: &mut Vec<u8>, change: Change) -> Result<(), AllocError>
     Ok(())
 }
 
-// Pushes what is told of changes.
+// Appends a line for each of `changes`.
 fn push_changes(text: &mut Vec<u8>, changes: &[Change]) -> Result<(), AllocError>
     ensures { OnOk result
         (text.new.items ≡ text.old.items ++ flat_map change_line changes.now) }
@@ -96,7 +99,8 @@ fn push_changes(text: &mut Vec<u8>, changes: &[Change]) -> Result<(), AllocError
     Ok(())
 }
 
-// What is told of the zone's clock on some days.
+// The lines of all changes of the zone's clock on `days` days from day `first` on, counted from
+// 1970-01-01. A change is a run of civil seconds that the clock skips, or shows twice.
 fn changes_text(
     alloc: Global,
     zone: &TimeZone<'_>,
@@ -113,7 +117,8 @@ fn changes_text(
     Ok(text)
 }
 
-/// Months with the number of fires of each day, and below them the changes of the zone's clock.
+/// The page of text: the months with the number of fires of each day, then the civil seconds that
+/// the zone's clock skips or shows twice.
 pub fn text_page(
     alloc: Global,
     plans: &[Plan<'_>],
@@ -140,7 +145,8 @@ pub fn text_page(
     Ok(text)
 }
 
-// The numbers of fires of each plan.
+// For each plan its numbers of fires on each of `days` days from day `first` on, counted from
+// 1970-01-01.
 fn counts_of_each(
     alloc: Global,
     plans: &[Plan<'_>],
@@ -159,7 +165,7 @@ fn counts_of_each(
     Ok(each)
 }
 
-// The entries of a page: plans with the numbers of their fires.
+// The entries of a page: each plan's name with its numbers of fires by day, which `each` holds.
 fn entries_of<'a>(
     alloc: Global,
     plans: &'a [Plan<'a>],
@@ -181,7 +187,7 @@ fn entries_of<'a>(
     Ok(entries)
 }
 
-/// The page of a year, in a zone that it names.
+/// The HTML page of a year from 1970 to 2100 in `zone`. The page calls the zone `zone_name`.
 pub fn html_page<'a>(
     alloc: Global,
     plans: &'a [Plan<'a>],

@@ -1,4 +1,4 @@
-//! What is planned, and how many fires it has on each day.
+//! What is planned, and how many fires it has on each day. Days are numbered from 1970-01-01.
 ghost use Rattle.std.specs.Prelude.{◌≡◌, ◌+◌, ◌*◌, ◌≤◌, IfOk, replicate, slice_index};
 ghost use Rattle.jiff.specs.Words.{plain_zone};
 ghost use Rattle.cron_moments.specs.Civil.{days_in_range};
@@ -9,17 +9,19 @@ use cron_units::fields::ScheduleFields;
 use jiff::tz::TimeZone;
 use std::alloc::{AllocError, Global};
 
-/// What is planned: schedules as one, and by which rule they fire.
+/// What is planned: a union of schedules, and its rule at clock changes.
 #[derive(Clone, Copy)]
 pub struct Plan<'a> {
-    /// What pages call it.
+    /// The plan's name on pages.
     pub name: &'a [u8],
     pub schedules: &'a [ScheduleFields],
-    /// Whether each match fires once, also where the clock changes.
+    /// Whether each match fires once, even where the clock skips or repeats it. If not, it fires
+    /// each time that the clock shows it.
     pub once: bool,
 }
 
-/// How many fires a plan has on each day. A match that fires once is one of its own day, as in UTC.
+/// The number of fires of `plan` on each of `days` days from day `first` on, counted from
+/// 1970-01-01. A match that fires once counts for its own civil day, as in UTC.
 pub fn counts_of(
     alloc: Global,
     plan: &Plan<'_>,
@@ -37,7 +39,8 @@ pub fn counts_of(
     fires_by_day(alloc, plan.schedules, first, days, zone)
 }
 
-// The same in each hour.
+// The number of fires of `plan` in each hour of `days` days from day `first` on, 24 hours a day. A
+// match that fires once counts for its own civil hour, as in UTC.
 fn hours_of(
     alloc: Global,
     plan: &Plan<'_>,
@@ -55,7 +58,7 @@ fn hours_of(
     fires_by_hour(alloc, plan.schedules, first, days, zone)
 }
 
-// The number at a place, or none.
+// The number at `place`, or 0 if there is none.
 fn number_at(counts: &[u32], place: usize) -> u32
     ensures { result ≡ slice_index counts.now place }
 {
@@ -65,7 +68,7 @@ fn number_at(counts: &[u32], place: usize) -> u32
     }
 }
 
-// Numbers and others, added up one by one: at most what 32 bits hold.
+// The sums of the numbers of `counts` and `others` at each place, at most `u32::MAX` each.
 fn sums_with(alloc: Global, counts: &[u32], others: &[u32]) -> Result<Vec<u32>, AllocError>
     ensures { IfOk result (λ sums. sums.items ≡ sums_with counts.now others.now) }
 {
@@ -76,14 +79,15 @@ fn sums_with(alloc: Global, counts: &[u32], others: &[u32]) -> Result<Vec<u32>, 
     Ok(sums)
 }
 
-// So many zeros.
+// `count` zeros.
 fn zeros(alloc: Global, count: u32) -> Result<Vec<u32>, AllocError>
     ensures { IfOk result (λ counts. counts.items ≡ replicate count 0) }
 {
     vec![in alloc; 0; count as usize]
 }
 
-/// How many fires all plans have on each day.
+/// The number of fires of all plans together on each of `days` days from day `first` on, counted
+/// from 1970-01-01. A sum is at most `u32::MAX`.
 pub fn totals(
     alloc: Global,
     plans: &[Plan<'_>],
@@ -103,7 +107,8 @@ pub fn totals(
     Ok(counts)
 }
 
-/// How many fires all plans have in each hour.
+/// The number of fires of all plans together in each hour of `days` days from day `first` on, 24
+/// hours a day. A sum is at most `u32::MAX`.
 pub fn hour_totals(
     alloc: Global,
     plans: &[Plan<'_>],

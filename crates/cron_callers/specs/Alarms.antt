@@ -3,7 +3,8 @@ use Rattle.std.specs.Prelude.{◌≡◌, ℤ, pos, ◌*ℤ◌, ◌≤ℤ◌, Opt
 use Rattle.jiff_core.specs.declared.Timestamp.{Timestamp}
 use Rattle.cron.specs.Words.{Sets, IsAfter, Shows}
 
--- the nanosecond is that of a whole second after the instant t at which a clock with this offset shows a match, and of the least one
+-- the instant, in nanoseconds, is the least whole second after the instant t at which a clock with
+-- this offset shows a match
 pub record IsLeastMatchAfter (s : Sets) (offset t nanosecond : ℤ) : Type 0 where
   pub second : ℤ
   pub is : nanosecond ≡ second *ℤ pos 1_000_000_000

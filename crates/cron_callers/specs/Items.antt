@@ -1,4 +1,4 @@
--- What callers of a schedule speak of.
+-- The items of a walk from an instant on, which are the readings on a timeline, and their dates.
 use Rattle.std.specs.Prelude.{ℤ, Bool, int_le, List}
 use Rattle.jiff_core.specs.declared.civil.date.Date.{Date}
 use Rattle.jiff_core.specs.Date.{epoch_day}
@@ -9,7 +9,7 @@ use Rattle.cron.specs.Words.{Ahead, Back, civil, Start, Reading, rest_on, Sets, 
 abbrev pub items_ahead : Sets → TimeZone → ℤ → List Reading
 items_ahead s z t = rest_on Ahead (timeline s z) z (Start t)
 
--- those behind it, the last one first
+-- the items of the timeline back from an instant, the last one first
 abbrev pub items_back : Sets → TimeZone → ℤ → List Reading
 items_back s z t = rest_on Back (timeline s z) z (Start t)
 

@@ -8,7 +8,7 @@ use cron::Schedule;
 use cron::error::ErrorKind;
 use std::alloc::{AllocError, Global};
 
-/// Why a line is refused, `None` exactly where it is in the grammar. Want of memory is no answer.
+/// Why `line` is refused, or `None` exactly if it is in the grammar. Lack of memory is an error.
 pub fn fault_of(alloc: Global, line: &str) -> Result<Option<String>, AllocError>
     ensures { IfOk result (λ fault. MatchOption fault
         (IsInGrammar line.now) (λ text. IsRefusal line.now (string_bytes text))) }

@@ -2,28 +2,28 @@
 
 ghost use Rattle.std.specs.Prelude.{◌≡◌, IfOk};
 ghost use Rattle.jiff.specs.Words.{plain_zone};
+ghost use Rattle.cron_time.specs.Timeline.{seconds_of};
 ghost use Rattle.cron_instants.specs.Fires.{fires_between};
 ghost use Rattle.cron_instants.specs.Instants.{IsFirstAfter};
 
 use cron::Schedule;
 use cron::schedule::Moment;
-use cron_fires::{first_fire_after, laws, missed};
+use cron_fires::{first_fire_after, missed};
 use jiff::Timestamp;
 use jiff::tz::TimeZone;
 use std::alloc::{AllocError, Global};
 
-/// The first fire after now, also in a fold; `None` where there is none. A loop that asks again
-/// from its instant loses none but where two items share an instant. One that asks from the time at
-/// which it woke loses what came due meanwhile.
+/// The first fire after `now`, also in a fold, or `None` if there is none. A loop that goes on from
+/// the fire's instant loses no fire, except where two items share an instant. A loop that goes on
+/// from the time when it woke loses what came due meanwhile.
 pub fn next_fire(schedule: &Schedule, now: Timestamp, zone: &TimeZone<'_>) -> Option<Moment>
-    ensures { IsFirstAfter schedule.now.sets (plain_zone zone.now) now.nanosecond result }
+    ensures { IsFirstAfter (seconds_of schedule.now.sets) (plain_zone zone.now) now.nanosecond result }
 {
-    laws::one_schedule();
     first_fire_after(schedule, now, zone)
 }
 
-/// What was missed between the last run and now: the fires whose instant comes after `last` and not
-/// after `now`, in the order of their instants, in a fold too.
+/// The runs that were missed since the last run: the fires whose instant is after `last` and not
+/// after `now`, in the order of their instants, also in a fold.
 pub fn missed_runs(
     alloc: Global,
     schedule: &Schedule,
@@ -32,8 +32,7 @@ pub fn missed_runs(
     zone: &TimeZone<'_>,
 ) -> Result<Vec<Moment>, AllocError>
     ensures { IfOk result (λ missed. missed.items
-        ≡ fires_between schedule.now.sets (plain_zone zone.now) last.nanosecond now.nanosecond) }
+        ≡ fires_between (seconds_of schedule.now.sets) (plain_zone zone.now) last.nanosecond now.nanosecond) }
 {
-    laws::one_schedule();
     missed(alloc, schedule, last, now, zone)
 }

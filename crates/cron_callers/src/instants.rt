@@ -1,4 +1,4 @@
-//! Alarms on a clock at one offset, which go off at ascending instants.
+//! Alarms on a clock with one offset, which go off at ascending instants.
 
 ghost use Rattle.std.specs.Option.{option_map};
 ghost use Rattle.std.specs.Prelude.{◌≡◌, pos, ◌*ℤ◌, MatchOption};
@@ -10,16 +10,16 @@ use cron::{Schedule, laws};
 use jiff::Timestamp;
 use jiff::tz::{Offset, TimeZone};
 
-/// The first two instants after now at which an alarm goes off.
+/// The first two instants after `now` when an alarm goes off.
 #[derive(Clone, Copy, Debug, PartialEq, Eq)]
 pub struct Alarms {
-    /// The least instant after now, if there is one.
+    /// The first alarm after `now`, or `None` if there is none.
     pub first: Option<Timestamp>,
-    /// The least one after the first, if there is one.
+    /// The first alarm after `first`, or `None` if there is none.
     pub second: Option<Timestamp>,
 }
 
-// The instant of an item, if there is one.
+// The instant of an item, or `None` if there is no item.
 fn instant_of(moment: Option<Moment>) -> Option<Timestamp>
     ensures { option_map (λ t. t.nanosecond) result
         ≡ option_map (λ r. instant r *ℤ pos 1_000_000_000) moment }
@@ -28,8 +28,8 @@ fn instant_of(moment: Option<Moment>) -> Option<Timestamp>
     Some(moment.timestamp())
 }
 
-/// The first two alarms: the least instant after now at which the clock shows a match, and the
-/// least one after that. Each is `None` exactly where there is no such instant.
+/// The first two alarms: the first instant after `now` when the clock shows a match, and the first
+/// such instant after it. Each is `None` exactly if there is no such instant.
 pub fn first_alarms(schedule: &Schedule, now: Timestamp, offset: Offset) -> Alarms
     ensures first { IsAlarmAfter schedule.now.sets offset.seconds now.nanosecond result.first }
     ensures second { MatchOption result.first (result.second ≡ None)

@@ -12,9 +12,8 @@ use jiff::civil::Date;
 use jiff::tz::TimeZone;
 use std::alloc::{AllocError, Global};
 
-/// The first so many items of a walk ahead from a start, fewer where the timeline ends. Where the
-/// start lies in a fold they may leave out later instants, or begin with the start or one before
-/// it.
+/// The first `count` items of a walk ahead from `start`, or fewer if the timeline ends. If `start`
+/// is in a fold, they may leave out later instants, or begin with `start` or an instant before it.
 pub fn first_items(
     alloc: Global,
     schedule: &Schedule,
@@ -28,9 +27,9 @@ pub fn first_items(
     schedule.after(start, zone).take(count).collect(alloc)
 }
 
-/// The first so many items of a walk back from a start, from the last one on that the clock shows
-/// before it. Where the start lies in a fold they may leave out earlier instants, or begin with the
-/// start or a later one.
+/// The first `count` items of a walk back from `start`, or fewer if the timeline ends. The first is
+/// the last item that the clock shows before `start`. If `start` is in a fold, they may leave out
+/// earlier instants, or begin with `start` or a later instant.
 pub fn last_items(
     alloc: Global,
     schedule: &Schedule,
@@ -44,8 +43,8 @@ pub fn last_items(
     schedule.after(start, zone).rev().take(count).collect(alloc)
 }
 
-/// How many items a walk ahead from a start has, up to so many. Where the start lies in a fold,
-/// later instants may be left out, and the start or an instant before it counted.
+/// The number of items of a walk ahead from `start`, at most `most`. If `start` is in a fold, later
+/// instants may be left out, and `start` or an instant before it may be counted.
 pub fn count_items(schedule: &Schedule, start: Timestamp, zone: &TimeZone<'_>, most: usize) -> usize
     ensures { result ≡ length
         (take most (items_ahead schedule.now.sets (plain_zone zone.now) start.nanosecond)) }
@@ -53,9 +52,10 @@ pub fn count_items(schedule: &Schedule, start: Timestamp, zone: &TimeZone<'_>, m
     schedule.after(start, zone).take(most).count()
 }
 
-/// The items of a date, in the order that the clock shows them: those after the eve, as long as
-/// they aren't past the date. They are those of the date alone where the clock shows the last
-/// second before it at the eve, outside a fold. In a fold of the date their instants step back.
+/// The items of `date`, in the order that the clock shows them: those after `eve`, as long as they
+/// aren't past the date. They are only the date's items if `eve` is the instant when the clock
+/// shows the last second before the date, outside a fold. In a fold of the date their instants step
+/// back.
 pub fn items_of_day(
     alloc: Global,
     schedule: &Schedule,

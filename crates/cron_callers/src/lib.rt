@@ -1,5 +1,5 @@
-//! What callers of `cron` promise, proved from its public contracts alone. Rows of `cron_vectors` ask
-//! each of them.
+//! Functions that call `cron`, with contracts that are proved only from the public contracts of
+//! `cron`. Rows of `cron_test_vectors` run each of them.
 #![tactic(auto)]
 
 mod check;

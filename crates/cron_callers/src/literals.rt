@@ -8,8 +8,8 @@ use cron::Schedule;
 use cron::error::Error;
 use std::alloc::Global;
 
-/// Half past nine from Monday to Friday. Its sets are known before it runs, and out of
-/// memory is its only error.
+/// The schedule of half past nine from Monday to Friday. Its sets are known before it runs, and
+/// lack of memory is its only error.
 pub fn work_days(alloc: Global) -> Result<Schedule, Error>
     ensures sets { IfOk result (λ schedule. schedule.sets ≡ work_days) }
     ensures source { IfOk result (λ schedule. schedule.source ≡ work_days_text) }

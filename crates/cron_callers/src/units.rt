@@ -10,7 +10,7 @@ use cron::time_unit::{Ordinal, TimeUnitSpec};
 use std::alloc::{AllocError, Global};
 use std::ops::Bound;
 
-/// How many years the schedule has: a walk over them counts as `count` does.
+/// The number of years of the schedule: a walk over them has as many members as `count` returns.
 pub fn year_count(schedule: &Schedule) -> usize
     ensures { result ≡ length schedule.now.sets.years }
 {
@@ -19,8 +19,8 @@ pub fn year_count(schedule: &Schedule) -> usize
     counted
 }
 
-/// How many hours there are from a first one to a last one, both included. The first is the last at
-/// most.
+/// The number of the schedule's hours from `first` to `last`, both included. `first` is at most
+/// `last`.
 pub fn count_hours(schedule: &Schedule, first: Ordinal, last: Ordinal) -> usize
     requires { first ≤ last }
     ensures { result
@@ -32,14 +32,14 @@ pub fn count_hours(schedule: &Schedule, first: Ordinal, last: Ordinal) -> usize
         .count()
 }
 
-/// The hours, the greatest first.
+/// The schedule's hours, the greatest first.
 pub fn descending_hours(alloc: Global, schedule: &Schedule) -> Result<Vec<Ordinal>, AllocError>
     ensures { IfOk result (λ hours. hours.items ≡ reverse schedule.now.sets.hours) }
 {
     schedule.hours().iter().rev().collect(alloc)
 }
 
-/// The minutes from a first one to a last one, both included. The first is the last at most.
+/// The schedule's minutes from `first` to `last`, both included. `first` is at most `last`.
 pub fn minutes_between(
     alloc: Global,
     schedule: &Schedule,
@@ -56,7 +56,7 @@ pub fn minutes_between(
         .collect(alloc)
 }
 
-/// The months from June to August, the last one first.
+/// The schedule's months from June to August, the last one first.
 pub fn summer_months(alloc: Global, schedule: &Schedule) -> Result<Vec<Ordinal>, AllocError>
     ensures { IfOk result (λ months. months.items
         ≡ reverse (filter (is_within (Included 6) (Included 8)) schedule.now.sets.months)) }
@@ -68,7 +68,7 @@ pub fn summer_months(alloc: Global, schedule: &Schedule) -> Result<Vec<Ordinal>,
         .collect(alloc)
 }
 
-/// The first month from June to September, if there is one.
+/// The schedule's first month from June to September, or `None` if there is none.
 pub fn some_warm_month(schedule: &Schedule) -> Option<Ordinal>
     ensures { result
         ≡ slice_get (filter (is_within (Included 6) (Included 9)) schedule.now.sets.months) 0 }
@@ -79,8 +79,8 @@ pub fn some_warm_month(schedule: &Schedule) -> Option<Ordinal>
         .next()
 }
 
-/// The greatest month from a first one to a last one, both included: there is one exactly where a
-/// month is between. The first is the last at most.
+/// The schedule's greatest month from `first` to `last`, both included, or `None` exactly if it has
+/// none there. `first` is at most `last`.
 pub fn greatest_month(schedule: &Schedule, first: Ordinal, last: Ordinal) -> Option<Ordinal>
     requires { first ≤ last }
     ensures { result ≡ reduce max
@@ -99,12 +99,12 @@ pub fn greatest_month(schedule: &Schedule, first: Ordinal, last: Ordinal) -> Opt
     greatest
 }
 
-/// Whether the schedule has a thirteenth month: none has.
+/// Whether the schedule has a thirteenth month, which is always false.
 pub fn has_thirteenth_month(schedule: &Schedule) -> bool
     ensures { result ≡ false }
 {
     let months = schedule.months();
-    // its contract tells that no member is 13
+    // the contract of `iter` says that no member is 13
     let _members = months.iter();
     months.includes(13)
 }

@@ -11,17 +11,17 @@ use Rattle.cron_text.specs.Fields.{item_symbols}
 use Rattle.cron_text.specs.Meaning.{six_units, field_sets, Means}
 use Rattle.cron_text.specs.Tokens.{Symbol, number, word, star, question, comma, dash, slash, foreign}
 
--- a number before runs of ascending numbers, each of which is its first and its last
+-- the runs after n is put in front of them; a run is the first and the last of consecutive numbers
 abbrev pub before_runs : ℕ → List (ℕ × ℕ) → List (ℕ × ℕ)
 before_runs n [] = (n, n) ∷ []
 before_runs n (r ∷ rs) = if n + 1 == r.0 then (n, r.1) ∷ rs else (n, n) ∷ r ∷ rs
 
--- the runs of ascending numbers
+-- the runs of consecutive numbers in an ascending list
 unfoldable pub runs_of : List ℕ → List (ℕ × ℕ)
 runs_of [] = []
 runs_of (n ∷ ns) = before_runs n (runs_of ns)
 
--- `5`, or `5-9`
+-- a run as an item: `5`, or `5-9`
 abbrev pub run_item : ℕ × ℕ → Item
 run_item r = plain (if r.0 == r.1 then single r.0 else number_range r.0 r.1)
 
@@ -29,7 +29,7 @@ run_item r = plain (if r.0 == r.1 then single r.0 else number_range r.0 r.1)
 abbrev pub number_items : TimeUnit → List ℕ → List Item
 number_items u ordinals = if bytes_eq ordinals (whole u) then plain every ∷ [] else map run_item (runs_of ordinals)
 
--- the items of a set, with the last day of the month behind its numbers
+-- the items of a set, with the last day of the month after its numbers
 abbrev pub short_items : TimeUnit → FieldSet → List Item
 short_items u s =
     if s.last_day then number_items u s.ordinals ++ name (codes "L") ∷ [] else number_items u s.ordinals
@@ -62,7 +62,7 @@ fields_text [] (xs ∷ []) = field_text units.years xs
 fields_text (u ∷ us) (xs ∷ xss) = field_text u xs ++ 32 ∷ fields_text us xss
 fields_text _ _ = []
 
--- the seven fields
+-- the short form of seven sets: their fields with a space between two
 unfoldable pub sets_text : Sets → List ℕ
 sets_text s = fields_text six_units (field_sets s)
 
@@ -70,17 +70,17 @@ sets_text s = fields_text six_units (field_sets s)
 abbrev pub digits_in : TimeUnit → ℕ
 digits_in u = if nat_lt u.greatest 100 then 2 else 4
 
--- no text of the numbers of a set is longer: a star, or each number with what stands behind it, but for the last one
+-- the most bytes of a set's numbers as text: each number of the unit with a comma after it
 abbrev pub longest : TimeUnit → ℕ
 longest u = 1 + ((u.greatest + 1 - u.least) * (digits_in u + 1) - 1)
 
 -- ---- laws
 
--- the short form of sets means them
+-- the short form of sets, none of them empty, is a text that means these sets
 abbrev pub ShortFormsMean : Type 0
 ShortFormsMean = (s : Sets) → AreSets s → Means (sets_text s) s
 
--- sets with one short form are the same
+-- sets with the same short form are equal
 abbrev pub ShortFormsDiffer : Type 0
 ShortFormsDiffer = (s t : Sets) → AreSets s → AreSets t → sets_text s ≡ sets_text t → s ≡ t
 

@@ -1,4 +1,4 @@
-//! Whether sets have members, without which no text means them.
+//! Whether sets have members. If a set has none, no text means the sets.
 
 ghost use Rattle.std.specs.Prelude.{◌↔◌, IsTrue};
 ghost use Rattle.cron_units.specs.Sets.{AreSets, IsFilled, IsFilledOrMarked};
@@ -19,7 +19,7 @@ fn is_filled_or_marked(days: &DaysOfMonth) -> bool
     days.iter().next().is_some() || days.last_day()
 }
 
-/// Tells whether each of the sets has a member, of which the last day of the month is one.
+/// Returns true if each of the sets has a member. The last day of the month counts as a member.
 pub fn are_filled(fields: &ScheduleFields) -> bool
     ensures { IsTrue result ↔ AreSets fields.now }
 {

@@ -8,7 +8,7 @@ pub fn short_forms_mean()
     ensures { ShortFormsMean }
 {}
 
-/// Sets with one short form are the same.
+/// Sets with the same short form are equal.
 pub fn short_forms_differ()
     ensures { ShortFormsDiffer }
 {}

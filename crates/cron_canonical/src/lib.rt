@@ -1,4 +1,4 @@
-//! The canonical text of seven sets, made without memory.
+//! The canonical text of seven sets, made without allocating memory.
 #![tactic(auto)]
 
 mod filled;

@@ -9,11 +9,11 @@ use arrayvec::ArrayVec;
 use cron_units::time_unit::{Ordinal, OrdinalIter, TimeUnitSpec};
 use itoa::Buffer;
 
-/// The longest text: each number is one that lies in a field, with a comma or a space behind it,
-/// and behind the days of the month stands `,L`.
+/// Room for the longest text: each number of each field with a comma or a space after it, and `,L`
+/// after the days of the month.
 pub const LONGEST: usize = 1245;
 
-/// The bytes of a text.
+/// The bytes of a text, `LONGEST` at most.
 pub type Text = ArrayVec<u8, LONGEST>;
 
 fn push_number(text: &mut Text, number: Ordinal)
@@ -36,14 +36,14 @@ fn push_run(text: &mut Text, first: Ordinal, last: Ordinal)
     }
 }
 
-// Whether a number comes directly after another.
+// Returns true if `ordinal` is `last + 1`.
 fn is_next(last: Ordinal, ordinal: Ordinal) -> bool
     ensures { result ≡ (last + 1 == ordinal) }
 {
     u64::from(last) + 1 == u64::from(ordinal)
 }
 
-// Pushes the runs of a start and of the ordinals after it.
+// Appends `start` and the `ordinals` after it as runs of consecutive numbers, as `0-4,30`.
 fn push_runs(text: &mut Text, start: Ordinal, ordinals: OrdinalIter<'_>)
     requires { array_vec_len text.old
         + length (items_text (map run_item (runs_of (start ∷ ordinals))))
@@ -63,7 +63,7 @@ fn push_runs(text: &mut Text, start: Ordinal, ordinals: OrdinalIter<'_>)
     push_run(text, first, last);
 }
 
-/// Pushes the numbers of a set: a star for all of them.
+/// Appends the numbers of `set`, or a star if it has all of them.
 pub fn push_numbers<T: TimeUnitSpec>(text: &mut Text, set: &T)
     requires digits { T.time_unit.greatest < 10_000 }
     requires room { array_vec_len text.old + longest T.time_unit ≤ 1245 }

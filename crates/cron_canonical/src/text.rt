@@ -12,7 +12,7 @@ use crate::numbers::push_numbers;
 use cron_units::fields::ScheduleFields;
 use cron_units::time_unit::{DaysOfMonth, TimeUnitSpec};
 
-// Pushes the numbers of a set, and a space.
+// Appends the numbers of `set` and a space.
 fn push_field<T: TimeUnitSpec>(text: &mut Text, set: &T)
     requires digits { T.time_unit.greatest < 10_000 }
     requires room { array_vec_len text.old + longest T.time_unit + 1 ≤ 1245 }
@@ -24,7 +24,8 @@ fn push_field<T: TimeUnitSpec>(text: &mut Text, set: &T)
     text.push(b' ');
 }
 
-// What stands behind the numbers of the days of the month for the last day of it.
+// The text for the last day of the month, after the numbers of the days. It is `,L`, or `L` if
+// there are no numbers, or nothing if `days` doesn't have the last day.
 fn last_day_text(days: &DaysOfMonth) -> &'static [u8]
     ensures text { field_text units.days_of_month days.now
         ≡ items_text (number_items units.days_of_month days.now.ordinals) ++ result.now }
@@ -39,7 +40,7 @@ fn last_day_text(days: &DaysOfMonth) -> &'static [u8]
     b",L"
 }
 
-// Pushes the days of the month, and a space.
+// Appends the days of the month and a space.
 fn push_days(text: &mut Text, days: &DaysOfMonth)
     requires { array_vec_len text.old + 96 ≤ 1245 }
     ensures items { text.new.items
@@ -67,8 +68,8 @@ pub fn text_of(fields: &ScheduleFields) -> Text
     text
 }
 
-/// The canonical text of sets: their short form, which means them, and no other sets have it.
-/// `None` where one of the sets has no member, so that no text means them.
+/// The canonical text of sets: their short form. It means these sets, and no other sets have it.
+/// `None` if one of the sets has no member, since no text means such sets.
 pub fn canonical_text(fields: &ScheduleFields) -> Option<Text>
     ensures { MatchOption result
         ((text : List ℕ) → Means text fields.now → ⊥)

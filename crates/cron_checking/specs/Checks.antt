@@ -11,19 +11,20 @@ use Rattle.cron_checking.specs.declared.line.Telling.{Telling}
 abbrev pub line_not_utf8 : List ℕ → ℕ → List ℕ
 line_not_utf8 front number = told front number (codes "not UTF-8")
 
--- the line that tells why a check ended, where no report tells it
+-- the last line of a check that ended since memory ran out or the reader failed; empty for any
+-- other end
 abbrev pub closing_line : Outcome → List ℕ
 closing_line OutOfMemory = codes "error: out of memory" ++ 10 ∷ []
 closing_line Unreadable = codes "error: the file can't be read" ++ 10 ∷ []
 closing_line _ = []
 
--- the last line that a check writes, which ended past so many lines
+-- the line that a check writes last, after `count` whole lines; empty if none is needed
 abbrev pub last_line : List ℕ → Outcome → ℕ → List ℕ
 last_line front NotUtf8 count = line_not_utf8 front (count + 1)
 last_line front end count = closing_line end
 
--- Where a check ended, of a reader that had `given` and has `left`: the bytes in front are the lines that were checked, none of which is
--- cut off, and a piece was read behind them.
+-- Where a check ended. The reader had the bytes `given` and has `left`. The bytes `front` are the
+-- lines that were checked, none of which is cut off, and `piece` was read after them.
 abbrev pub EndsAt : Outcome → Option (List ℕ) → Option (List ℕ) → List ℕ → List ℕ → List (List ℕ) → Bool → Type 0
 EndsAt AllRead given left front piece checked refused = IsReadThrough given left × (lines_of front ≡ checked) × (piece ≡ []) × (refused ≡ false)
 EndsAt SomeRefused given left front piece checked refused = IsReadThrough given left × (lines_of front ≡ checked) × (piece ≡ []) × (refused ≡ true)
@@ -32,13 +33,14 @@ EndsAt NotUtf8 given left front piece checked refused =
     AreEnded front checked × (line : List ℕ) × AreWhole given left piece (line ∷ []) × (IsUtf8 line → ⊥)
 EndsAt _ given left front piece checked refused = AreEnded front checked
 
--- A writer was handed this text: it holds the whole of it, and the check ended as it says; or a write failed, and it holds a beginning.
+-- The text was written whole, and the outcome is `end`. Or a write or the flush failed, and the
+-- writer holds a beginning of the text, perhaps all of it.
 abbrev pub Ends : Outcome → List ℕ → Option (List ℕ) → Option (List ℕ) → Outcome → Type 0
 Ends end text old new WriteFailed = IsFrontSent old new text
 Ends end text old new outcome = (outcome ≡ end) × Appends old new text
 
--- The lines that were read were told in order, and then why the check ended: of a reader that had `given` and has `left`, to a
--- writer that held `old` and holds `new`.
+-- The reports of the lines that were read were written in order, and then why the check ended. The
+-- reader had the bytes `given` and has `left`. The writer held `old` and holds `new`.
 pub record Checks (how : Telling) (given left old new : Option (List ℕ)) (outcome : Outcome) : Type 0 where
   pub checked : List (List ℕ)
   pub front : List ℕ
@@ -56,7 +58,7 @@ abbrev pub is_write_failure : Outcome → Bool
 is_write_failure WriteFailed = true
 is_write_failure _ = false
 
--- the exit status
+-- the exit status of a check
 abbrev pub code_of : Outcome → ℕ
 code_of AllRead = 0
 code_of SomeRefused = 1

@@ -1,4 +1,4 @@
--- What the steps of a check do.
+-- What the steps of a check do: the report of each line, and where the check ends.
 use Rattle.std.specs.Prelude.{◌≡◌, ◌≤◌, ◌+◌, ℕ, Bool, true, false, List, [], ◌++◌, Option, Some, None, Result, Ok, Err, length, IsUtf8}
 use Rattle.std.specs.Io.KnownBytes.{Consumes}
 use Rattle.std.specs.declared.io.Error.{Error}
@@ -13,30 +13,31 @@ use Rattle.cron_checking.specs.declared.check.Outcome.{Outcome}
 use Rattle.cron_checking.specs.declared.check.Outcome.TheVariants.{AllRead, SomeRefused, OutOfMemory, WriteFailed, NotUtf8}
 use Rattle.cron_checking.specs.declared.line.Telling.{Telling}
 
--- what is told of a line that may not be UTF-8
+-- the text is the report of a line, and says so if the line isn't UTF-8; the answer is whether it
+-- is refused, if it is UTF-8
 abbrev pub TellsBytes : Telling → ℕ → List ℕ → List ℕ → Option Bool → Type 0
 TellsBytes how number bytes text (Some refused) = TellsLine how number bytes text refused
 TellsBytes how number bytes text None = (IsUtf8 bytes → ⊥) × (text ≡ line_not_utf8 how.front.now number)
 
--- why the check ends at a line, and what was put of it
+-- why the check ends at a line, what of its report was gathered, and whether a write failed
 abbrev pub StopsAtLine : Telling → ℕ → List ℕ → Outcome → List ℕ → Bool → Type 0
 StopsAtLine how number line OutOfMemory text failed = text ≡ []
 StopsAtLine how number line NotUtf8 text failed = (IsUtf8 line → ⊥) × (text ≡ line_not_utf8 how.front.now number)
 StopsAtLine how number line WriteFailed text failed = (failed ≡ true) × (bad : Bool) × TellsLine how number line text bad
 StopsAtLine how number line _ text failed = ⊥
 
--- a line was told and no write of it failed, or the check ends at it
+-- the report of a line was gathered and no write failed; or the check ends at the line
 abbrev pub TellsNext : Telling → ℕ → List ℕ → Result Bool Outcome → List ℕ → Bool → Type 0
 TellsNext how number line (Ok bad) text failed = (failed ≡ false) × TellsLine how number line text bad
 TellsNext how number line (Err end) text failed = StopsAtLine how number line end text failed
 
--- what was put of the line at which a check ends
+-- what is gathered of the line at which a check ends, after `count` whole lines
 abbrev pub stop_line : List ℕ → Outcome → ℕ → List ℕ
 stop_line front NotUtf8 count = line_not_utf8 front (count + 1)
 stop_line front _ count = []
 
--- The lines that were read were told in order, until this end: of the bytes before and after, and of what was gathered and what is
--- written to, before and after.
+-- The reports of the lines that were read were gathered in order, until the check ended. `bytes`
+-- are the reader's before and after, and `old` and `new` are what is gathered, with the writer.
 pub record TellsAll {W : Type 0} (how : Telling) (bytes : Option (List ℕ) × Option (List ℕ)) (contents : W → Option (List ℕ))
     (writes : W → List ℕ → Result ℕ Error → W → Type 0) (old new : Gathered × Watched W) (end : Outcome) : Type 0 where
   pub checked : List (List ℕ)

@@ -5,4 +5,3 @@ pub mod Reads
 pub mod Puts
 pub mod Checks
 pub mod Inner
-pub mod Arguments

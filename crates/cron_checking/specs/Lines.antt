@@ -1,24 +1,24 @@
--- The lines of a file, and which of them are passed over.
+-- The lines of a file, and which of them have no report. Texts are lists of bytes.
 use Rattle.std.specs.Prelude.{◌≡◌, ◌==◌, ℕ, Bool, true, List, [], ◌∷◌, ◌++◌, ◌⊎◌, Option, IfSome, if◌then◌else◌}
 use Rattle.std.specs.Io.KnownBytes.{IsAtEnd}
 use Rattle.cron_text.specs.Tokens.{is_space}
 
--- a byte put before the first line
+-- the lines with a byte put before the first one
 abbrev pub onto_first : ℕ → List (List ℕ) → List (List ℕ)
 onto_first c [] = (c ∷ []) ∷ []
 onto_first c (line ∷ lines) = (c ∷ line) ∷ lines
 
--- A line feed ends a line, and the last line may lack it.
+-- The lines of a text. A line feed ends a line, and the last line may lack it.
 unfoldable pub lines_of : List ℕ → List (List ℕ)
 lines_of [] = []
 lines_of (c ∷ cs) = if c == 10 then [] ∷ lines_of cs else onto_first c (lines_of cs)
 
--- white space alone, or `#` before anything else
+-- whether a line is white space alone, or a comment: `#` comes before anything else
 unfoldable pub is_passed_over : List ℕ → Bool
 is_passed_over [] = true
 is_passed_over (c ∷ cs) = if is_space c then is_passed_over cs else c == 35
 
--- no byte is left of a reader whose bytes were known
+-- the reader's bytes are known, and none of them is left
 abbrev pub IsReadThrough : Option (List ℕ) → Option (List ℕ) → Type 0
 IsReadThrough given left = IfSome given (λ _. IsAtEnd left)
 

@@ -6,16 +6,17 @@ use Rattle.cron_checking.specs.Lines.{lines_of, IsReadThrough}
 use Rattle.cron_checking.specs.declared.line_reader.Given.{Given}
 use Rattle.cron_checking.specs.declared.line_reader.Given.TheVariants.{Line, End}
 
--- no byte is a line feed
+-- no byte of the line is a line feed
 abbrev pub IsOneLine : List ℕ → Type 0
 IsOneLine line = AllByRecursion (λ c. c ≢ 10) line
 
--- a line feed was taken from the end of a line, or there was none
+-- a line feed was removed from the end of a line, or there was none, as the flag says
 abbrev pub IsCut : List ℕ → List ℕ → Bool → Type 0
 IsCut old new true = (old ≡ new ++ 10 ∷ []) × IsOneLine new
 IsCut old new false = (new ≡ old) × IsOneLine new
 
--- what was read, of a reader that had some bytes and has others left
+-- What one read of a line gave. The reader had the bytes `old` and has `new` left, if they are
+-- known.
 abbrev pub Gives : Option (List ℕ) → Option (List ℕ) → List ℕ → Given → Type 0
 Gives old new line (Line last) =
     (piece : List ℕ) × Consumes old new piece × (lines_of piece ≡ line ∷ [])

@@ -1,4 +1,5 @@
-//! A check of the lines that a reader gives.
+//! A check of the lines that a reader gives: a report is written that says which of them are no
+//! cron expressions.
 
 ghost use Rattle.std.specs.Prelude.{◌≡◌, ℕ, List, Option, true, false};
 ghost use Rattle.cron_checking.specs.Checks.{Checks, Ends, closing_line, code_of, is_write_failure};
@@ -21,24 +22,24 @@ use std::alloc::Global;
 /// How a check ended.
 #[derive(Clone, Copy, Debug, PartialEq, Eq)]
 pub enum Outcome {
-    /// Every line was read, and each that wasn't passed over means something.
+    /// Every line was read, and none was refused: each is an expression, blank, or a comment.
     AllRead,
-    /// Every line was read, and one or more of them were refused.
+    /// Every line was read, and one or more of them were refused: they are no expressions.
     SomeRefused,
-    /// Memory ran out for a line or for what is told of it, as the allocator or the reader said,
-    /// and a line that tells so was written.
+    /// Memory ran out for a line or for its report, as the allocator or the reader said. A line
+    /// that says so was written.
     OutOfMemory,
     /// A write or the flush failed, and nothing more was written.
     WriteFailed,
-    /// A call of the reader failed, and a line that tells so was written.
+    /// A call of the reader failed, and a line that says so was written.
     Unreadable,
-    /// A line isn't UTF-8, and a line that tells so was written.
+    /// A line isn't UTF-8, and a line that says so was written.
     NotUtf8,
 }
 
 impl Outcome {
-    /// The exit status: 0 where every line was read and none is refused, 1 where some are refused
-    /// or memory ran out, 3 where a write failed, 4 where the lines can't be read.
+    /// The exit status. It is 0 if every line was read and none is refused, 1 if some are refused
+    /// or memory ran out. It is 3 if a write failed, and 4 if the lines can't be read.
     pub fn code(self) -> u8
         ensures { result ≡ code_of self }
     {
@@ -51,7 +52,7 @@ impl Outcome {
     }
 }
 
-// How a check ends whose lines were all read.
+// How a check ends whose lines were all read, by whether one of them was refused.
 fn end_of(refused: bool) -> Outcome
     ensures { result ≡ end_of refused }
 {
@@ -62,7 +63,8 @@ fn end_of(refused: bool) -> Outcome
     }
 }
 
-// Tells of one line, and whether it is refused; or why the check ends at it.
+// Writes the report of one line, and returns true if the line is refused. The error is why the
+// check ends at this line: memory ran out, the line isn't UTF-8, or a write failed.
 fn tell_next<W: Watchable>(
     how: &Telling<'_>,
     number: u64,
@@ -87,7 +89,8 @@ fn tell_next<W: Watchable>(
     Ok(refused)
 }
 
-// Tells of the lines that a reader gives, one after another, until one can't be told.
+// Writes the reports of the lines that a reader gives, numbered from 1, until the last one or one
+// that ends the check. It returns how the check ends.
 fn tell_lines<R: Readable, W: Watchable>(
     alloc: Global,
     how: &Telling<'_>,
@@ -120,8 +123,8 @@ fn tell_lines<R: Readable, W: Watchable>(
     Outcome::Unreadable
 }
 
-/// The line that tells why a check ended where no report tells it: memory ran out, or the reader
-/// failed. Else it is empty.
+/// The last line of a check that ended since memory ran out or the reader failed. For any other end
+/// it is empty: no line is needed, or the report has it already.
 pub fn closing_line(end: Outcome) -> &'static str
     ensures { result.now ≡ closing_line end }
 {
@@ -132,8 +135,8 @@ pub fn closing_line(end: Outcome) -> &'static str
     }
 }
 
-/// Flushes what was written whole, and tells how the check ended.
-pub(crate) fn finish<W: Watchable>(out: &mut Watched<W>, end: Outcome) -> Outcome
+// Flushes if no write failed. It returns `end`, or `WriteFailed` if a write or the flush failed.
+fn finish<W: Watchable>(out: &mut Watched<W>, end: Outcome) -> Outcome
     requires { end ≡ WriteFailed → has_failed out.old ≡ true }
     ensures ends { (origin : Option (List ℕ)) (text : List ℕ)
         → IsSent origin (W.contents (writer_of out.old)) (has_failed out.old) text
@@ -152,11 +155,11 @@ pub(crate) fn finish<W: Watchable>(out: &mut Watched<W>, end: Outcome) -> Outcom
     end
 }
 
-/// Checks the lines that a reader gives, and writes what is told of them. The lines of the
-/// report are handed to the writer many at a time, and the rest of them at the end, before the
-/// flush. The reader is called once a line, and not again where it gave none or failed. The memory
-/// of the longest line and of the longest line of the report is kept from line to line. No call of
-/// the writer may have failed before.
+/// Checks the lines that a reader gives, and writes the report on them. The report's lines are
+/// passed to the writer in blocks, and the rest of them at the end, before the flush. The reader is
+/// called once for each line, and not again after it gave none or failed. The memory for the
+/// longest line and for the longest line of the report is kept from line to line. No call of the
+/// writer may have failed before.
 pub fn check<R: Readable, W: Watchable>(
     alloc: Global,
     how: &Telling<'_>,

@@ -1,11 +1,9 @@
 //! A checker of files whose lines are cron expressions.
 #![tactic(auto)]
 
-pub mod arguments;
 pub mod check;
 pub mod line;
 mod line_reader;
 pub mod output;
 pub mod readable;
-pub mod say;
 pub mod short;

@@ -1,4 +1,4 @@
-//! What is told of one line.
+//! The report of one line: its number, and its fault or what else is wanted of it.
 
 ghost use Rattle.std.specs.Prelude.{◌≡◌, [], IfOk, OnOk};
 ghost use Rattle.std.specs.String.{string_bytes};
@@ -9,7 +9,7 @@ ghost use Rattle.cron_canonical.specs.Short.{sets_text};
 ghost use Rattle.jiff.specs.Words.{plain_zone};
 
 use crate::short::push_sets;
-use cron_fires::{Timetable, first_fire_after};
+use cron_fires::{CivilSeconds, first_fire_after};
 use cron_moments::line::text_of;
 use cron_text::{fault_of, is_space, no_ordinals, read_into};
 use cron_units::fields::ScheduleFields;
@@ -17,27 +17,27 @@ use jiff::Timestamp;
 use jiff::tz::TimeZone;
 use std::alloc::AllocError;
 
-/// What is told of a line besides its fault.
+/// What is reported of a line that means sets. A line that means nothing has its fault reported.
 #[derive(Clone, Copy)]
 pub enum Mode<'a> {
-    /// Nothing.
+    /// Nothing is reported.
     Faults,
-    /// The short form of its sets, its canonical text.
+    /// The short form of the line's sets, its canonical text.
     Short,
-    /// The first fire after an instant in a zone, or `none`.
+    /// The line's first fire after an instant in a zone, or `none`.
     Next(Timestamp, TimeZone<'a>),
 }
 
-/// How lines are told.
+/// How lines are reported.
 #[derive(Drop)]
 pub struct Telling<'a> {
-    /// What stands in front of each line's number, as a file's name and a colon; or nothing.
+    /// The text in front of each line's number, such as a file's name and a colon. It may be empty.
     pub front: &'a str,
-    /// What is told of a line besides its fault.
+    /// What is reported of a line that means sets.
     pub mode: Mode<'a>,
 }
 
-// White space alone, or a comment.
+// Returns true if the line is white space alone, or a comment. Such a line has no report.
 fn is_passed_over(line: &[u8]) -> bool
     ensures { result ≡ is_passed_over line.now }
 {
@@ -63,9 +63,9 @@ fn tell_short(
     write!(text, "\n")
 }
 
-/// Makes the line that tells the first fire of a table after an instant, or `none` where it fires no
-/// more. It takes the place of what the text held. Out of memory the text may hold a part of it.
-pub fn tell_first<T: Timetable>(
+/// Replaces `text` by a line with the first fire of `table` after `start`, or `none` if it fires no
+/// more. `front` and `number` begin the line. If memory runs out, `text` may hold a part of it.
+pub fn tell_first<T: CivilSeconds>(
     front: &str,
     number: u64,
     table: &T,
@@ -73,7 +73,7 @@ pub fn tell_first<T: Timetable>(
     zone: &TimeZone<'_>,
     text: &mut String,
 ) -> Result<(), AllocError>
-    ensures { OnOk result (TellsFirst (T.schedules table.now) (plain_zone zone.now)
+    ensures { OnOk result (TellsFirst (T.has table.now) (plain_zone zone.now)
         start.nanosecond front.now number (string_bytes text.new)) }
 {
     text.clear();
@@ -83,7 +83,7 @@ pub fn tell_first<T: Timetable>(
     }
 }
 
-// Tells what a mode tells of an expression that means these sets.
+// Appends what the mode reports of a line that means the sets `fields`.
 fn tell_sets(
     how: &Telling<'_>,
     number: u64,
@@ -102,7 +102,7 @@ fn tell_sets(
     }
 }
 
-// Tells of a line of text.
+// Appends the report of a line that is UTF-8, and returns true if the line is refused.
 fn tell_text(
     how: &Telling<'_>,
     number: u64,
@@ -126,9 +126,9 @@ fn tell_text(
     Ok(true)
 }
 
-/// Makes the text that tells of a line: its fault, or what the mode tells, or that it isn't UTF-8.
-/// Whether the line is refused is answered, `None` where it isn't UTF-8. The text is laid in memory
-/// whole, since a formatter may fail of itself, and no part of it is to be written then.
+/// Replaces `text` by the report of a line: its fault, what the mode reports, or that it isn't
+/// UTF-8. It returns true if the line is refused, and `None` if it isn't UTF-8. The report is made
+/// in memory first: formatting may fail, and then no part of it must be written.
 pub(crate) fn tell_line(
     how: &Telling<'_>,
     number: u64,

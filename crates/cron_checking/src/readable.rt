@@ -1,4 +1,4 @@
-//! What lines can be read from: every reader.
+//! The trait of readers that give lines, which every reader has.
 
 ghost use Rattle.std.specs.Prelude.{◌≡◌, ◌≤◌, ◌+◌, ◌++◌, ℕ, List, IfOk, IfSome, OnErr, OnOk, Result, vec_len};
 ghost use Rattle.std.specs.Io.BufRead.{take_through, DropsThrough};
@@ -8,15 +8,16 @@ ghost use Rattle.std.specs.declared.io.Error.{Error};
 
 use std::io::{self, BufRead};
 
-/// A reader whose calls contracts can tell one by one. What one call may do to a reader is known to
-/// its own type alone: so a function over any reader whose contract promises one call can't have
-/// made two. Every reader is such.
+/// A reader whose calls contracts describe one by one. Only the reader's own type knows what one
+/// call does. So a function over any reader whose contract promises one call makes exactly that
+/// call, and no other. Every reader has this trait.
 pub trait Readable: BufRead {
     // one call of `read_until`, at a line feed: the reader before it, the answer, the bytes that
     // were read, and the reader after it
     ghost reads: { Self → Result ℕ Error → List ℕ → Self → Type 0 };
 
-    /// Calls `read_until` once, at a line feed.
+    /// Calls `read_until` once, up to and including the next line feed, and returns how many bytes
+    /// it appended to `line`.
     fn read_once(&mut self, line: &mut Vec<u8>) -> io::Result<usize>
         ensures ok { IfOk result (λ n. vec_len line.new ≡ vec_len line.old + n) }
         ensures err { OnErr result (vec_len line.old ≤ vec_len line.new) }

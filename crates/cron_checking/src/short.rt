@@ -1,4 +1,4 @@
-//! The short form of sets, which is the canonical text that means them.
+//! The short form of sets: the canonical text, which means them.
 
 ghost use Rattle.std.specs.Prelude.{◌≡◌, ◌++◌, IfOk, OnOk};
 ghost use Rattle.std.specs.String.{string_bytes};
@@ -10,7 +10,7 @@ use cron_canonical::text_of;
 use cron_units::fields::ScheduleFields;
 use std::alloc::{AllocError, Global};
 
-/// Pushes the short form of sets.
+/// Appends the short form of the sets `fields`.
 pub(crate) fn push_sets(text: &mut String, fields: &ScheduleFields) -> Result<(), AllocError>
     ensures { OnOk result (string_bytes text.new ≡ string_bytes text.old ++ sets_text fields.now) }
 {
@@ -24,7 +24,7 @@ pub(crate) fn push_sets(text: &mut String, fields: &ScheduleFields) -> Result<()
 /// The canonical text of a schedule: seven fields with one space between two. Each is a star, or
 /// its runs of numbers as `0-4,30`, with `L` last among the days of the month. It means the sets of
 /// the schedule, and two schedules have one canonical text exactly if their sets are the same.
-/// `AllocError` comes where the allocator refuses memory for the text.
+/// `AllocError` if the allocator refuses memory for the text.
 pub fn canonical_text(alloc: Global, schedule: &Schedule) -> Result<String, AllocError>
     ensures text { IfOk result (λ text. string_bytes text ≡ sets_text schedule.now.sets) }
     ensures means { IfOk result (λ text. Means (string_bytes text) schedule.now.sets) }

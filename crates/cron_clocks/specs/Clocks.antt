@@ -8,20 +8,22 @@ use Rattle.jiff_tz.specs.Zone.{IsFixed, offset_at}
 use Rattle.cron_moments.specs.Civil.{seconds_in_range}
 use Rattle.cron_moments.specs.Readings.{Reading, readings, instant}
 
--- how many seconds a clock in the zone is ahead of UTC, n whole seconds after 1970-01-01T00:00:00Z
+-- how many seconds a clock in the zone is ahead of UTC, n seconds after 1970-01-01T00:00:00Z
 abbrev pub shown_offset : TimeZone → ℤ → ℤ
 shown_offset z n = offset_at z (nanos_of_seconds n)
 
--- in the whole second n of UTC a clock in the zone shows this offset, in seconds
+-- throughout second n of UTC, counted from 1970-01-01T00:00:00Z, a clock in the zone shows the
+-- offset o, in seconds
 abbrev pub IsShown : TimeZone → ℤ → ℤ → Type 0
 IsShown z n o = (t : ℤ) → int_div_euclid t (pos 1_000_000_000) ≡ n → offset_at z t ≡ o
 
--- from the second n of UTC on, up to one behind it, that one left out, a clock in the zone shows this offset, in seconds
+-- from second n of UTC up to `end`, which is left out, a clock in the zone shows the offset o, in
+-- seconds
 pub record IsKeptUpTo (z : TimeZone) (n : ℤ) (end : ℕ) (o : ℤ) : Type 0 where
   pub later : n <ℤ pos end
   pub shown : (k : ℤ) → n ≤ℤ k → k <ℤ pos end → shown_offset z k ≡ o
 
--- one of these readings has the instant n
+-- one of these readings has the instant n, in seconds since 1970-01-01T00:00:00Z
 pub record HasInstant (rs : List Reading) (n : ℤ) : Type 0 where
   pub place : ℕ
   pub at_place : Reading
@@ -36,7 +38,8 @@ ReadingsAreShown z =
     → slice_get (readings z c) i ≡ Some r
     → shown_offset z (instant r) ≡ r.offset.seconds
 
--- an instant at which the clock shows a civil second of the range is that of one of its readings
+-- an instant at which the clock shows a civil second of the range is the instant of one of its
+-- readings
 abbrev pub ShownAreRead : TimeZone → Type 0
 ShownAreRead z =
     (c : ℕ) (n : ℤ)
@@ -57,6 +60,6 @@ abbrev pub IsPlain : TimeZone → Type 0
 IsPlain (Posix rule) = rule.dst ≡ None
 IsPlain z = ⊥
 
--- nor do they differ in a rule with no saving
+-- with a rule with no saving the look-ups agree
 abbrev pub PlainRulesAgree : Type 0
 PlainRulesAgree = (z : TimeZone) → IsPlain z → LookupsAgree z

@@ -1,4 +1,4 @@
--- Times of the year in which a rule tells one offset in every year.
+-- Seasons: the times of the year when a rule shows one offset, in every year.
 use Rattle.std.specs.Prelude.{◌≡◌, ℕ, ◌+◌, ◌<◌, ◌≤◌, ℤ, pos, ◌+ℤ◌, ◌≤ℤ◌, ◌<ℤ◌}
 use Rattle.jiff_core.specs.Calendar.{IsYear}
 use Rattle.jiff_core.specs.declared.Offset.{Offset}
@@ -11,14 +11,15 @@ use Rattle.cron_clocks.specs.Clocks.{IsShown}
 use Rattle.cron_clocks.specs.Spans.{year_end}
 use Rattle.cron_clocks.specs.Transitions.{year_start, week, common_year}
 
--- the second n of the range, which is of UTC or civil, lies in the year y
+-- the second n of the range, counted from 1970-01-01 00:00:00 in UTC or in civil time, lies in the
+-- year y
 pub record IsYearAt (y : ℤ) (n : ℕ) : Type 0 where
   pub in_range : n < seconds_in_range
   pub year : IsYear y
   pub low : year_start y ≤ℤ pos n
   pub high : pos n <ℤ year_end y
 
--- the year of the second n begins at this one, and has as many days in the range as the shorter years
+-- the year of the second n begins at the second `first`, and its first 365 days are in the range
 pub record IsYearOf (first n : ℕ) : Type 0 where
   pub number : ℤ
   pub low_year : pos 1970 ≤ℤ number
@@ -27,12 +28,14 @@ pub record IsYearOf (first n : ℕ) : Type 0 where
   pub has : IsYearAt number n
   pub room : first + 31_536_000 ≤ seconds_in_range
 
--- the rule tells this offset alone of the civil second n, and a clock shows it in the second n of UTC
+-- the rule gives the civil second n only this offset, and a clock shows the offset in second n of
+-- UTC
 pub record TellsOne (rule : TimeZone) (n : ℕ) (o : Offset) : Type 0 where
   pub told : ambiguous_at rule (civil n) ≡ Unambiguous o
   pub shown : IsShown (Posix rule) (pos n) o.seconds
 
--- seconds of a year from a to b, and others from e to f, lie a week or more from each other and from the year's edges
+-- seconds of a year from a to b, and later ones from e to f, are a week or more from each other and
+-- from the year's edges
 pub record AreInOrder (a b e f : ℤ) : Type 0 where
   pub low : week ≤ℤ a
   pub one : a ≤ℤ b
@@ -40,15 +43,15 @@ pub record AreInOrder (a b e f : ℤ) : Type 0 where
   pub other : e ≤ℤ f
   pub high : (f +ℤ week) ≤ℤ common_year
 
--- in every year the rule tells the one offset up to its second outer_end and from outer_first on, and the other between inner_first
--- and inner_end
+-- In every year the rule tells `outer` up to the year's second `outer_end` and from `outer_first`
+-- on, and `inner` between `inner_first` and `inner_end`.
 pub record IsSeasonBounds (rule : TimeZone) (outer_end inner_first inner_end outer_first : ℕ) (outer inner : Offset) : Type 0 where
   pub before : (y : ℤ) (n : ℕ) → IsYearAt y n → pos n <ℤ (year_start y +ℤ pos outer_end) → TellsOne rule n outer
   pub between : (y : ℤ) (n : ℕ) → IsYearAt y n → (year_start y +ℤ pos inner_first) ≤ℤ pos n
       → pos n <ℤ (year_start y +ℤ pos inner_end) → TellsOne rule n inner
   pub after : (y : ℤ) (n : ℕ) → IsYearAt y n → (year_start y +ℤ pos outer_first) ≤ℤ pos n → TellsOne rule n outer
 
--- these seconds of a year come one after the other, a day or more from its beginning
+-- these seconds of a year follow one another, a day or more from its beginning
 pub record AreOrdered (outer_end inner_first inner_end outer_first : ℕ) : Type 0 where
   pub low : 86_400 ≤ outer_end
   pub one : outer_end ≤ inner_first
@@ -56,7 +59,8 @@ pub record AreOrdered (outer_end inner_first inner_end outer_first : ℕ) : Type
   pub other : inner_end ≤ outer_first
   pub high : outer_first ≤ 31_536_000
 
--- the second n lies among these seconds of the range, of each of which the rule tells this offset alone
+-- the second n lies from `first` up to `end`, in the range, and the rule tells only this offset of
+-- each second there
 pub record IsSeason (rule : TimeZone) (n first end : ℕ) (o : Offset) : Type 0 where
   pub low : first ≤ n
   pub high : n < end

@@ -1,4 +1,4 @@
--- Where in a year the transitions of a rule lie, on the clock on the wall.
+-- Where in a year the transitions of a rule lie, on the wall clock.
 use Rattle.std.specs.Prelude.{◌≡◌, ℕ, ◌⊎◌, ℤ, pos, ◌+ℤ◌, ◌-ℤ◌, ◌*ℤ◌, ◌≤ℤ◌, Some}
 use Rattle.jiff_core.specs.Calendar.{IsYear}
 use Rattle.jiff_core.specs.Timestamp.{IsOffsetSeconds, nanos_of_seconds}
@@ -10,44 +10,45 @@ use Rattle.jiff_tz.specs.declared.timezone.TimeZone.TheVariants.{Posix}
 use Rattle.jiff_tz.specs.PosixRule.{first_day, rule_day, rule_nanos}
 use Rattle.cron_clocks.specs.Clocks.{LookupsAgree}
 
--- in the year y the rule's day is one of these, counted from 0 for 1 January
+-- in the year y the rule's day is from day `first` to day `last`, counted from 0 for 1 January
 pub record IsAmong (first last : ℕ) (day : Day) (y : ℤ) : Type 0 where
   pub number : ℤ
   pub named : rule_day y day ≡ Some number
   pub low : (first_day y +ℤ pos first) ≤ℤ number
   pub high : number ≤ℤ (first_day y +ℤ pos last)
 
--- in each year it is one of these
+-- in each year the rule's day is from day `first` to day `last`, counted from 0 for 1 January
 abbrev pub IsAlwaysAmong : ℕ → ℕ → Day → Type 0
 IsAlwaysAmong first last day = (y : ℤ) → IsYear y → IsAmong first last day y
 
--- the civil second that begins the year
+-- the civil second that begins the year y, counted from 1970-01-01 00:00:00
 abbrev pub year_start : ℤ → ℤ
 year_start y = first_day y *ℤ pos 86_400
 
--- in the year y the rule's transition is that civil second, at whatever offset its clock is
+-- in the year y the rule's transition is at the civil second `second`, at whatever offset its clock
+-- is
 abbrev pub TransitionsAt : DayTime → ℤ → ℤ → Type 0
 TransitionsAt transition y second = (s : ℤ) → IsOffsetSeconds s → rule_nanos y transition s ≡ nanos_of_seconds (second -ℤ s)
 
--- and it lies so many seconds after the year's beginning
+-- in the year y the rule's transition is from `first` to `last` seconds after the year's beginning
 pub record TransitionsWithin (first last : ℤ) (transition : DayTime) (y : ℤ) : Type 0 where
   pub second : ℤ
   pub transitions : TransitionsAt transition y second
   pub low : (year_start y +ℤ first) ≤ℤ second
   pub high : second ≤ℤ (year_start y +ℤ last)
 
--- and so in each year
+-- in each year the rule's transition is from `first` to `last` seconds after the year's beginning
 abbrev pub AlwaysTransitionsWithin : ℤ → ℤ → DayTime → Type 0
 AlwaysTransitionsWithin first last transition = (y : ℤ) → IsYear y → TransitionsWithin first last transition y
 
--- a week, and 365 days, in seconds
+-- how many seconds a week has; `common_year` is how many 365 days have
 abbrev pub week : ℤ
 week = pos 604_800
 
 abbrev pub common_year : ℤ
 common_year = pos 31_536_000
 
--- so many seconds of a year lie at least a week from its edges
+-- the seconds of a year from `first` to `last` are at least a week from its edges
 abbrev pub IsInside : ℤ → ℤ → Type 0
 IsInside first last = (week ≤ℤ first) × ((last +ℤ week) ≤ℤ common_year)
 
@@ -61,14 +62,15 @@ pub record TransitionInOrder (earlier later : DayTime) (y : ℤ) : Type 0 where
   pub apart : (first +ℤ week) ≤ℤ second
   pub high : (second +ℤ week) ≤ℤ (year_start y +ℤ common_year)
 
--- in each year they do
+-- in each year the transitions are apart as in `TransitionInOrder`
 abbrev pub AlwaysInOrder : DayTime → DayTime → Type 0
 AlwaysInOrder earlier later = (y : ℤ) → IsYear y → TransitionInOrder earlier later y
 
--- the two transitions of a rule do in each year, in the one order or in the other
+-- the two transitions of a rule are a week or more from each other and from the edges of each year,
+-- in one order or the other
 abbrev pub TransitionsAreApart : Dst → Type 0
 TransitionsAreApart d = AlwaysInOrder d.rule.start d.rule.end ⊎ AlwaysInOrder d.rule.end d.rule.start
 
--- in a rule whose transitions are apart the look-ups agree
+-- with a rule whose transitions are apart the look-ups agree
 abbrev pub ApartRulesAgree : Type 0
 ApartRulesAgree = (rule : TimeZone) (d : Dst) → rule.dst ≡ Some d → TransitionsAreApart d → LookupsAgree (Posix rule)

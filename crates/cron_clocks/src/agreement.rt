@@ -9,11 +9,12 @@ use crate::transitions::transitions_apart;
 use jiff::tz::TimeZone;
 use jiff_tz::posix;
 
-/// Whether what a clock in the zone shows at an instant, and the readings of a civil second in it,
-/// are known to agree. They are in UTC, in a zone with one offset, in a rule with no saving, and in
-/// one whose two transitions lie a week or more from each other and from the edges of a year of 365
-/// days, as far as its months and weeks tell. `false` says nothing: it is answered for every other
-/// rule, and for a zone from a file.
+/// Whether the two look-ups of the zone are known to agree: the offset that its clock shows at an
+/// instant, and the readings of a civil second. Returns true for UTC, for a zone with one offset,
+/// and for a rule with no saving. Returns true also for a rule with two transitions a week or more
+/// from each other and from the edges of a year of 365 days. Each transition is judged by all days
+/// of the year that its date can fall on, by month and week. `false` says nothing: it is returned
+/// for every other rule, and for a zone from a file.
 pub fn lookups_agree(zone: &TimeZone<'_>) -> bool
     ensures agree { IsTrue result → LookupsAgree (plain_zone zone.now) }
     ensures fixed { IsFixed (plain_zone zone.now) → IsTrue result }

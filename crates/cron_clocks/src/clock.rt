@@ -1,4 +1,8 @@
 //! What a clock in a zone shows at an instant.
+//!
+//! Seconds of UTC are counted from 1970-01-01T00:00:00Z, and civil seconds from 1970-01-01
+//! 00:00:00. A stretch is civil seconds in a row that the zone reads at the same offsets. A season
+//! is a time of the year, far from its transitions, when a rule shows one offset.
 ghost use Rattle.std.specs.Prelude.{◌≡◌, ◌<◌, pos, ◌+ℤ◌, ◌≤ℤ◌, ◌<ℤ◌, IfSome, IsTrue, Some};
 ghost use Rattle.std.specs.Int.{int_div_euclid};
 ghost use Rattle.jiff.specs.Words.{plain_zone};
@@ -22,7 +26,7 @@ use jiff::Timestamp;
 use jiff::tz::{Offset, TimeZone};
 use jiff_tz::posix;
 
-/// An offset that a clock keeps up to an end, which is a second of UTC and left out.
+/// An offset that a clock keeps up to `end`, a second of UTC that is left out.
 #[derive(Clone, Copy)]
 pub struct Kept {
     /// How far the clock is ahead of UTC.
@@ -31,20 +35,19 @@ pub struct Kept {
     pub end: u32,
 }
 
-/// An offset that a clock keeps, and that which it keeps from the end of it on, if that is known.
+/// An offset that a clock keeps, and the offset that follows it, if that is known.
 #[derive(Clone, Copy)]
 pub struct Keeping {
     /// The offset, and up to where it is kept.
     pub kept: Kept,
-    /// The next one, and up to where that is kept.
+    /// The next offset, and up to where that is kept.
     pub next: Option<Kept>,
 }
 
-// Each clock is nearer to UTC, in seconds.
+// Each clock differs from UTC by less than this, in seconds.
 const FAR: i64 = FURTHEST_OFFSET + 1;
 
-// Whether a transition lies so far from the edges of its year that it lies in that year in UTC as
-// well.
+// Whether `transition` lies so far from the edges of its year that it is in the same year in UTC.
 fn is_far_inside(year: Span, transition: i64) -> bool
     requires first { IsWithin 400_000_000_000 year.first }
     requires end { IsWithin 400_000_000_000 year.end }
@@ -53,7 +56,7 @@ fn is_far_inside(year: Span, transition: i64) -> bool
     year.first + FAR <= transition && transition <= year.end - FAR
 }
 
-// Whether both transitions of a year lie so far from its edges.
+// Whether both transitions are so far from the edges of their year that they are in it in UTC.
 fn are_far_inside(transitions: Transitions) -> bool
     ensures start { IsTrue result
         → IsFarInside transitions.year.first transitions.year.end transitions.start }
@@ -64,8 +67,8 @@ fn are_far_inside(transitions: Transitions) -> bool
         && is_far_inside(transitions.year, transitions.end)
 }
 
-// The offset that a clock shows in a second of UTC, from the transitions of its year. It isn't
-// known where one of them lies at an edge of the year.
+// The offset that a clock shows in `second` of UTC, from the transitions of its year. `None` if one
+// of them lies at an edge of the year.
 #[inline(always)]
 fn offset_among(
     rule: posix::TimeZone,
@@ -103,8 +106,8 @@ fn offset_among(
     Some(Offset::from_plain(shown))
 }
 
-// The offset that a clock shows in a second of UTC, and up to where it keeps it in that year, from
-// the transitions of the year.
+// The offset that a clock shows in `second` of UTC, and up to where it keeps it in that year, from
+// the transitions of the year. `None` if one of them lies at an edge of the year.
 #[inline(always)]
 fn kept_among(
     rule: posix::TimeZone,
@@ -135,7 +138,8 @@ fn kept_among(
     })
 }
 
-// The same for a second that may lie in another year.
+// The same as `kept_among`, for any second: `None` also if it is outside of 1970 to 2100 or of the
+// year of the transitions.
 #[inline(always)]
 fn kept_if_among(
     rule: posix::TimeZone,
@@ -159,7 +163,8 @@ fn kept_if_among(
     kept_among(rule, dst, transitions, second)
 }
 
-// The stretch becomes that of a civil second, if this is one of the year of the transitions.
+// Sets `stretch` to the stretch around the civil second `second`, if that is in 1970 to 2100 and in
+// the year of the transitions.
 fn learn(
     rule: posix::TimeZone,
     dst: posix::Dst,
@@ -189,9 +194,9 @@ fn learn(
     }
 }
 
-// The offset that a clock shows in a second of UTC by a rule, if it's known from the transitions of
-// that year. Where the clock shows the same year, they tell the stretch of the civil second that it
-// shows, too.
+// The offset that a clock shows in `second` of UTC by a rule. `None` if a transition lies at an
+// edge of the second's year. If the clock shows the same year, sets `stretch` to the stretch around
+// the civil second that it shows.
 #[inline(never)]
 fn offset_by_transitions(
     rule: posix::TimeZone,
@@ -212,8 +217,9 @@ fn offset_by_transitions(
     Some(offset)
 }
 
-// The offset that a clock shows in a second of UTC by a rule, if it's known from the season of the
-// second, or else from the transitions of its year. The stretch becomes that of the season.
+// The offset that a clock shows in `second` of UTC by a rule: from the season of the second, or
+// else from the transitions of its year. Sets `stretch` to the season, if there is one. `None` if
+// neither gives the offset.
 fn offset_by(rule: posix::TimeZone, second: u32, stretch: &mut Stretch) -> Option<Offset>
     requires range { second < seconds_in_range }
     requires known { IsKnown (Posix rule) stretch.old }
@@ -233,8 +239,8 @@ fn offset_by(rule: posix::TimeZone, second: u32, stretch: &mut Stretch) -> Optio
     }
 }
 
-// The offset that a clock shows at an instant in a zone with a rule. What its transitions don't
-// tell the zone is asked.
+// The offset that a clock shows at `instant` in a zone with a rule. If the rule's seasons and
+// transitions don't give it, the zone is searched for it. May set `stretch` as `shown_at` does.
 #[inline(never)]
 fn offset_by_rule(
     zone: &TimeZone<'_>,
@@ -258,7 +264,8 @@ fn offset_by_rule(
     }
 }
 
-// The offset that a clock shows at an instant, which lies in a second of UTC.
+// The offset that a clock shows at `instant`, which lies in `second` of UTC. May set `stretch` as
+// `shown_at` does.
 #[inline(always)]
 fn offset_at(zone: &TimeZone<'_>, instant: Timestamp, second: i64, stretch: &mut Stretch) -> Offset
     requires second { second ≡ int_div_euclid instant.nanosecond (pos 1_000_000_000) }
@@ -272,8 +279,9 @@ fn offset_at(zone: &TimeZone<'_>, instant: Timestamp, second: i64, stretch: &mut
     }
 }
 
-// The offset that a clock in a zone with a rule shows at a second of UTC, up to where it keeps it,
-// and the next one in that year, from the transitions of the year.
+// The offset that a clock in a zone with a rule shows at `second` of UTC, up to where it keeps it,
+// and the next offset in that year. Both are from the transitions of the year. `None` outside of
+// 1970 to 2100, without such a rule, and if a transition lies at an edge of the year.
 #[inline(never)]
 fn keeping_by_transitions(zone: &TimeZone<'_>, second: i64) -> Option<Keeping>
     ensures kept { IfSome result
@@ -297,11 +305,12 @@ fn keeping_by_transitions(zone: &TimeZone<'_>, second: i64) -> Option<Keeping>
     })
 }
 
-/// The offset that a clock in a zone with a rule shows at a second of UTC, and up to where it keeps
-/// it, as far as the place of the second in its year tells it, or else that year's transitions,
-/// which tell the next offset too. That is up to some days before a transition, up to a transition,
-/// or to the end of the year. `None` outside of the range, in zones without a rule, for rules with
-/// one offset, and where a transition lies near another one or an edge of its year.
+/// The offset that a clock in a zone with a rule shows at `second` of UTC, and up to where it is
+/// known to keep it. The place of the second in its year is enough, or else the year's transitions
+/// are worked out, which give the next offset too. The end is some days before a transition, a
+/// transition, or the end of the year. `None` outside of 1970 to 2100, in zones without a rule, and
+/// for rules with one offset. `None` also where a transition lies near another one or an edge of
+/// its year.
 #[inline(always)]
 pub fn keeping_by_rule(zone: &TimeZone<'_>, second: i64) -> Option<Keeping>
     ensures agree { IfSome result (λ k. LookupsAgree (plain_zone zone.now)) }
@@ -329,7 +338,8 @@ pub fn keeping_by_rule(zone: &TimeZone<'_>, second: i64) -> Option<Keeping>
     })
 }
 
-/// The same without the next offset.
+/// The offset that a clock in a zone with a rule shows at `second` of UTC, and up to where it is
+/// known to keep it: what `keeping_by_rule` returns, without the next offset.
 #[inline(always)]
 pub fn kept_by_rule(zone: &TimeZone<'_>, second: i64) -> Option<Kept>
     ensures agree { IfSome result (λ kept. LookupsAgree (plain_zone zone.now)) }
@@ -339,8 +349,9 @@ pub fn kept_by_rule(zone: &TimeZone<'_>, second: i64) -> Option<Kept>
     Some(keeping_by_rule(zone, second)?.kept)
 }
 
-/// The same from the transitions of the year alone, also where they lie near each other. Near a
-/// transition this is the shorter way.
+/// The same as `kept_by_rule`, from the transitions of the year only, also where they lie near each
+/// other. `None` also if one lies at an edge of the year. Near a transition this is the shorter
+/// way.
 pub fn kept_by_transitions(zone: &TimeZone<'_>, second: i64) -> Option<Kept>
     ensures { IfSome result
         (λ kept. IsKeptUpTo (plain_zone zone.now) second kept.end kept.offset.seconds) }
@@ -348,9 +359,9 @@ pub fn kept_by_transitions(zone: &TimeZone<'_>, second: i64) -> Option<Kept>
     Some(keeping_by_transitions(zone, second)?.kept)
 }
 
-/// The number of the civil second that a clock in the zone shows at an instant. Where the
-/// transitions of a rule are worked out for it, the stretch becomes that of this civil second, if
-/// they tell it.
+/// The number of the civil second that a clock in the zone shows at `instant`. In a zone with a
+/// rule this may set `stretch`: to the season of the instant's second, or, if the transitions are
+/// worked out, to the stretch around the returned civil second.
 #[inline(always)]
 pub fn shown_at(zone: &TimeZone<'_>, instant: Timestamp, stretch: &mut Stretch) -> i64
     requires { IsKnown (plain_zone zone.now) stretch.old }

@@ -1,5 +1,5 @@
-//! Laws over the definitions: the functions do nothing, and a caller calls one for what its
-//! contract says.
+//! Laws over the definitions. Each function does nothing: a caller calls it for what its contract
+//! says.
 
 ghost use Rattle.cron_clocks.specs.Clocks.{FixedZonesAgree, PlainRulesAgree};
 ghost use Rattle.cron_clocks.specs.Transitions.{ApartRulesAgree};

@@ -1,5 +1,5 @@
-//! What a zone tells of civil seconds and of instants: when these two look-ups agree, and stretches
-//! of civil seconds that it reads at the same offsets.
+//! The two look-ups of a zone, of civil seconds and of instants, and when they agree; and stretches
+//! of civil seconds that a zone reads at the same offsets.
 #![tactic(auto)]
 
 mod agreement;

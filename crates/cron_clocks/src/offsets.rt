@@ -1,4 +1,6 @@
-//! The offsets at which a rule reads a civil second, from the seconds at which its transitions lie.
+//! The offsets of a civil second by a rule, from the transitions of its year. They are the offsets
+//! of its readings. The saving is the part of the year when the rule's offset of daylight saving
+//! time holds.
 ghost use Rattle.std.specs.Prelude.{◌≡◌, ◌+ℤ◌, ◌-ℤ◌, ◌<ℤ◌, ℤ};
 ghost use Rattle.jiff_core.specs.Calendar.{IsWithin};
 ghost use Rattle.jiff_core.specs.Timestamp.{nanos_of_seconds};
@@ -8,8 +10,9 @@ ghost use Rattle.cron_clocks.specs.Steady.{IsToldBy};
 
 use jiff::tz::Offset;
 
-/// A second among the two transitions of its year, all on the clock before it, and how far that
-/// clock is ahead in the saving.
+/// The second `at`, and the two transitions of its year. They are civil seconds, each transition on
+/// the clock before it, or all three are seconds of UTC. In the saving the clock is `saving`
+/// seconds ahead of its standard offset.
 #[derive(Clone, Copy)]
 pub(crate) struct Placed {
     pub at: i64,
@@ -33,7 +36,7 @@ impl Placed {
         }
     }
 
-    // Whether it is one of those that follow the start, as many as the clock is ahead.
+    // Whether `at` is one of the first `saving` seconds from `start` on.
     fn follows_start(self) -> bool
         ensures { result ≡ in_span self.start (self.start +ℤ self.saving) self.at }
     {
@@ -41,7 +44,7 @@ impl Placed {
         self.start <= self.at && self.at < past
     }
 
-    // As many of those that precede the start as the clock is behind.
+    // Whether `at` is one of the last `-saving` seconds before `start`.
     fn precedes_start(self) -> bool
         ensures { result ≡ in_span (self.start +ℤ self.saving) self.start self.at }
     {
@@ -49,7 +52,7 @@ impl Placed {
         first <= self.at && self.at < self.start
     }
 
-    // As many of those that precede the end as the clock is ahead.
+    // Whether `at` is one of the last `saving` seconds before `end`.
     fn precedes_end(self) -> bool
         ensures { result ≡ in_span (self.end -ℤ self.saving) self.end self.at }
     {
@@ -57,7 +60,7 @@ impl Placed {
         first <= self.at && self.at < self.end
     }
 
-    // As many of those that follow the end as the clock is behind.
+    // Whether `at` is one of the first `-saving` seconds from `end` on.
     fn follows_end(self) -> bool
         ensures { result ≡ in_span self.end (self.end -ℤ self.saving) self.at }
     {
@@ -66,8 +69,8 @@ impl Placed {
     }
 }
 
-// The offsets where the clock is ahead in the saving: what follows the start is a gap, what
-// precedes the end comes twice.
+// The offsets at which a civil second is read, if the clock is ahead in the saving. The seconds
+// after the start are a gap, and the seconds before the end come twice.
 fn offsets_ahead(
     standard: Offset,
     saving: Offset,
@@ -92,8 +95,8 @@ fn offsets_ahead(
     }
 }
 
-// The offsets where the clock is behind in the saving: what precedes the start comes twice, what
-// follows the end is a gap.
+// The offsets at which a civil second is read, if the clock is set back in the saving. The seconds
+// before the start come twice, and the seconds after the end are a gap.
 fn offsets_behind(
     standard: Offset,
     saving: Offset,
@@ -118,8 +121,8 @@ fn offsets_behind(
     }
 }
 
-/// The offsets at which a second is read: none in a gap; one; or two in a fold, that before the
-/// transition and that after it.
+/// The offsets at which a civil second is read: none in a gap, two in a fold, and otherwise one. In
+/// a fold the first is the offset before the transition, and the second the offset after it.
 pub(crate) fn offsets_among(
     standard: Offset,
     saving: Offset,

@@ -1,4 +1,8 @@
-//! The civil seconds between the transitions of a rule.
+//! The transitions of a rule in a year, and the civil seconds between them.
+//!
+//! A rule has an offset of standard time and one of the saving, the part of the year that begins at
+//! the one transition and ends at the other. Days are numbered from 1970-01-01, and civil seconds
+//! from 1970-01-01 00:00:00.
 ghost use Rattle.std.specs.Prelude.{◌≡◌, ◌≤◌, ◌<◌, ◌+◌, ◌-◌, ◌%◌, pos, neg_ℤ, ◌+ℤ◌, ◌-ℤ◌, ◌*ℤ◌, ◌≤ℤ◌, ◌<ℤ◌, IsTrue, Some, true};
 ghost use Rattle.jiff_core.specs.Calendar.{IsYear, IsBetween, IsEpochDay, IsWithin, days_in_year};
 ghost use Rattle.jiff_core.specs.Date.{epoch_day};
@@ -18,7 +22,7 @@ use jiff::tz::Offset;
 use jiff_core::civil::{Date, days_in_year, is_leap_year};
 use jiff_tz::posix::{Day, DayTime, Dst, TimeZone};
 
-/// Civil seconds from a first one to an end.
+/// Civil seconds from `first` up to `end`, which is left out.
 #[derive(Clone, Copy)]
 pub(crate) struct Span {
     pub first: i64,
@@ -26,7 +30,7 @@ pub(crate) struct Span {
 }
 
 impl Span {
-    /// Whether the civil second lies in it.
+    /// Whether the civil second lies in the span.
     pub(crate) fn has(self, second: i64) -> bool
         ensures { IsTrue result → (self.first ≤ℤ second) × (second <ℤ self.end) }
     {
@@ -34,13 +38,13 @@ impl Span {
     }
 }
 
-/// The civil seconds of the range.
+/// The civil seconds of the range, 1970-01-01 00:00:00 to 2100-12-31 23:59:59.
 pub(crate) const WHOLE: Span = Span {
     first: 0,
     end: SECONDS,
 };
 
-// The civil seconds of a year, which begins with this day.
+// The civil seconds of `year`, which begins with day `new_year`.
 fn year_span(year: i16, new_year: i32) -> Span
     requires year { IsYear year }
     requires new_year { new_year ≡ Rule.first_day year }
@@ -57,7 +61,7 @@ fn year_span(year: i16, new_year: i32) -> Span
     }
 }
 
-// The day number of a date, whose year begins with this day.
+// The day number of `date`, whose year begins with day `new_year`.
 fn number_of(date: Date, new_year: i32) -> i32
     requires { new_year ≡ Rule.first_day date.year }
     ensures value { result ≡ epoch_day date }
@@ -66,7 +70,8 @@ fn number_of(date: Date, new_year: i32) -> i32
     new_year + i32::from(date.day_of_year()) - 1
 }
 
-// How many days after a day the next such weekday is, from 0 for Sunday. Day 0 was a Thursday.
+// How many days after `day` the next `weekday` is, where 0 is Sunday; 0 if `day` is one. Day 0 was
+// a Thursday.
 fn days_ahead(day: i32, weekday: u8) -> u8
     requires bound { IsEpochDay day }
     requires weekday_in { weekday ≤ 6 }
@@ -76,7 +81,7 @@ fn days_ahead(day: i32, weekday: u8) -> u8
     (i32::from(weekday) - 4 - day).rem_euclid(7) as u8
 }
 
-// How many days before a day the last such weekday is.
+// How many days before `day` the last `weekday` is, where 0 is Sunday; 0 if `day` is one.
 fn days_back(day: i32, weekday: u8) -> u8
     requires bound { IsEpochDay day }
     requires weekday_in { weekday ≤ 6 }
@@ -86,8 +91,8 @@ fn days_back(day: i32, weekday: u8) -> u8
     (day + 4 - i32::from(weekday)).rem_euclid(7) as u8
 }
 
-// The day number of the weekday in the week of the month, where week 5 is the last. The year begins
-// with this day.
+// The day number of `weekday` in `week` of `month`, where week 5 is the last. The year begins with
+// day `new_year`.
 fn day_of_week(year: i16, new_year: i32, month: u8, week: u8, weekday: u8) -> i32
     requires year_in { IsYear year }
     requires new_year { new_year ≡ Rule.first_day year }
@@ -105,8 +110,8 @@ fn day_of_week(year: i16, new_year: i32, month: u8, week: u8, weekday: u8) -> i3
     }
 }
 
-// The number of the rule's day in the year, which begins with this day, and nothing for day 365 of
-// a year that lacks it.
+// The number of the rule's day in `year`, which begins with day `new_year`. `None` for day 365 of a
+// year that lacks it.
 fn day_in(day: Day, year: i16, new_year: i32) -> Option<i32>
     requires year_in { IsYear year }
     requires new_year { new_year ≡ Rule.first_day year }
@@ -137,7 +142,7 @@ fn day_in(day: Day, year: i16, new_year: i32) -> Option<i32>
     }
 }
 
-// The second, or the edge of the span that is nearer to it.
+// `second`, or the nearer edge of `span` if it lies outside.
 fn clamp_to_span(span: Span, second: i64) -> i64
     requires { span.first <ℤ span.end }
     ensures value { IsAtSecond span.end
@@ -157,7 +162,7 @@ fn clamp_to_span(span: Span, second: i64) -> i64
     }
 }
 
-// The civil second that is so many seconds after the day's midnight, or before it.
+// The civil second `time` seconds after the midnight of `day`, or before it if `time` is negative.
 fn second_of(day: i32, time: i32) -> i64
     requires { IsWithin 604_799 time }
     ensures { result ≡ day *ℤ pos 86_400 +ℤ time }
@@ -165,8 +170,8 @@ fn second_of(day: i32, time: i32) -> i64
     i64::from(day) * DAY + i64::from(time)
 }
 
-// The civil second at which a rule's transition lies in the year, which begins with this day, on
-// the clock before the transition.
+// The civil second of a rule's transition in `year`, on the clock before the transition. The year
+// begins with day `new_year` and has the seconds of `span`.
 fn transition_in(transition: DayTime, year: i16, new_year: i32, span: Span) -> i64
     requires year { IsYear year }
     requires new_year { new_year ≡ Rule.first_day year }
@@ -184,8 +189,8 @@ fn transition_in(transition: DayTime, year: i16, new_year: i32, span: Span) -> i
     }
 }
 
-/// The civil seconds of a year, and those at which the transitions of a rule lie in it, each on the
-/// clock before it.
+/// The civil seconds of a year, and of the rule's two transitions in it: the start and the end of
+/// the saving, each on the clock before it.
 #[derive(Clone, Copy)]
 pub(crate) struct Transitions {
     pub year: Span,
@@ -234,7 +239,8 @@ pub(crate) fn transitions_around(dst: Dst, second: u32) -> Transitions
     transitions_of(dst, year_of(second))
 }
 
-/// The part of the span that has the second in it, where the span is parted at the transition.
+/// Cuts `span` at `transition`, and returns the part that holds `second`. It is all of `span` if
+/// the transition isn't inside.
 pub(crate) fn part(span: Span, second: i64, transition: i64) -> Span
     requires low { span.first ≤ℤ second }
     requires high { second <ℤ span.end }
@@ -258,7 +264,7 @@ pub(crate) fn part(span: Span, second: i64, transition: i64) -> Span
     }
 }
 
-/// The part of a span that holds the civil second, where two transitions part the span.
+/// Cuts `span` at two transitions, and returns the part that holds `second`.
 pub(crate) fn part_twice(span: Span, second: i64, one: i64, other: i64) -> Span
     requires low { span.first ≤ℤ second }
     requires high { second <ℤ span.end }
@@ -271,7 +277,8 @@ pub(crate) fn part_twice(span: Span, second: i64, one: i64, other: i64) -> Span
     part(part(span, second, one), second, other)
 }
 
-/// How far the clock is ahead in the saving, in seconds.
+/// How far the clock is ahead of standard time in the saving, in seconds: negative if it is set
+/// back.
 pub(crate) fn saving_of(rule: TimeZone, dst: Dst) -> i64
     ensures value { result ≡ dst.offset.seconds -ℤ rule.std_offset.seconds }
     ensures bound { IsWithin 200_000 result }
@@ -279,8 +286,8 @@ pub(crate) fn saving_of(rule: TimeZone, dst: Dst) -> i64
     i64::from(dst.offset.seconds) - i64::from(rule.std_offset.seconds)
 }
 
-/// What a rule tells of a civil second: the offsets at which it is read, and the civil seconds
-/// around it of which the same is told.
+/// The offsets at which a rule or a table reads a civil second: none in a gap, two in a fold.
+/// `span` holds civil seconds around it with the same offsets.
 #[derive(Clone, Copy)]
 pub(crate) struct SpanOffsets {
     pub span: Span,
@@ -288,9 +295,9 @@ pub(crate) struct SpanOffsets {
     pub later: Option<Offset>,
 }
 
-/// What a rule tells of a civil second of the year of the transitions, and the civil seconds of the
-/// year around it with no transition between them. At a transition a gap or a fold begins or ends,
-/// and so does one as long as the saving after the start of it, and before its end.
+/// The offsets of the civil second `second` by a rule. The span is the part of its year around it
+/// with no edge of a gap or fold between. Such an edge is at each transition, one saving after the
+/// start, and one saving before the end.
 pub(crate) fn between_transitions(
     rule: TimeZone,
     dst: Dst,

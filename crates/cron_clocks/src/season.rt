@@ -1,8 +1,8 @@
-//! Seasons: the times of the year in which a rule tells one offset in every year.
+//! Seasons: the times of the year when a rule shows one offset, in every year.
 //!
-//! A year's transitions are some work to find. But where they lie apart, most seconds are far from
-//! each second at which a transition can lie in any year, and of those the place in the year tells
-//! what the clock shows.
+//! A year's transitions take some work to find. But where they lie apart, most seconds are far from
+//! each second where a transition can lie in any year. For those the place in the year is enough to
+//! know the offset.
 ghost use Rattle.std.specs.Prelude.{◌≡◌, ◌<◌, ◌≤◌, pos, ◌+ℤ◌, ◌-ℤ◌, ◌≤ℤ◌, ◌<ℤ◌, IfSome, Some, None};
 ghost use Rattle.jiff_tz.specs.PosixRule as Rule;
 ghost use Rattle.jiff_tz.specs.declared.posix.TimeZone.{TimeZone};
@@ -20,13 +20,14 @@ use cron_moments::civil::{FURTHEST_OFFSET, SECONDS, SECONDS_PER_DAY};
 use jiff::tz::Offset;
 use jiff_tz::posix::{Dst, TimeZone};
 
-// The seconds of the shorter years.
+// The seconds of a year of 365 days.
 const YEAR: u32 = 365 * SECONDS_PER_DAY;
 
-// Two clocks are nearer to each other, in seconds.
+// Two clocks differ by less than this, in seconds.
 const APART: i64 = 2 * (FURTHEST_OFFSET + 1);
 
-/// Seconds of the range from a first one to an end, and the one offset that a rule tells of them.
+/// Seconds from `first` up to `end`, which is left out, and the one offset that a rule shows in
+/// them. They count from 1970-01-01 00:00:00, both as seconds of UTC and as civil seconds.
 #[derive(Clone, Copy)]
 pub(crate) struct Season {
     pub first: u32,
@@ -35,7 +36,8 @@ pub(crate) struct Season {
 }
 
 impl Season {
-    // What a rule tells of a civil second of the season.
+    // The offset at which the rule reads each civil second of the season, with the season as the
+    // span.
     fn offsets(self) -> SpanOffsets
         ensures first { result.span.first ≡ pos self.first }
         ensures end { result.span.end ≡ pos self.end }
@@ -53,9 +55,10 @@ impl Season {
     }
 }
 
-// The bounds of a year's seasons by a rule: the seconds of every year up to which the one offset is
-// shown, from which the other is, up to which it is, and from which the one is again. What isn't
-// among them is known from the transitions of the year alone.
+// The bounds of a rule's seasons in every year, in seconds from the year's beginning. The clock
+// shows `outer` up to `outer_end`, `inner` from `inner_first` up to `inner_end`, and `outer` again
+// from `outer_first` on. For the seconds between these seasons the transitions of the year must be
+// worked out.
 #[derive(Clone, Copy)]
 struct SeasonBounds {
     outer_end: u32,
@@ -67,7 +70,8 @@ struct SeasonBounds {
     ghost order: { AreOrdered outer_end inner_first inner_end outer_first },
 }
 
-// The bounds of a year's seasons whose two transitions lie among these seconds.
+// The bounds of the seasons, if the year's first transition lies in `earlier` and its second in
+// `later`.
 fn season_bounds_among(
     earlier: SecondsOfYear,
     later: SecondsOfYear,
@@ -92,7 +96,8 @@ fn season_bounds_among(
     }
 }
 
-// The bounds of a year's seasons by a rule whose transitions lie apart.
+// The bounds of the seasons by a rule. `None` if its transitions may lie less than a week from each
+// other or from an edge of the year.
 #[inline(always)]
 fn season_bounds_of(rule: TimeZone, dst: Dst) -> Option<SeasonBounds>
     requires { rule.dst ≡ Some dst }
@@ -122,8 +127,9 @@ fn season_bounds_of(rule: TimeZone, dst: Dst) -> Option<SeasonBounds>
     }
 }
 
-// The season of a second, if it lies in one, from the second that begins its year. Those at the
-// edges of the year go on in the years beside it, which are no shorter than the shorter years.
+// The season of `second`, or `None` if it is between two seasons. `year_start` is the second that
+// begins its year. A season at an edge of the year goes on in the year beside it, which has at
+// least 365 days.
 fn season_among(season_bounds: SeasonBounds, year_start: u32, second: u32) -> Option<Season>
     requires { IsYearOf year_start second }
     ensures { (rule : TimeZone)
@@ -164,8 +170,9 @@ fn season_among(season_bounds: SeasonBounds, year_start: u32, second: u32) -> Op
     Some(Season { first, end, offset })
 }
 
-/// The season of a second of UTC, or of a civil second, if the place in its year tells it. `None`
-/// where the transitions of the rule lie near each other.
+/// The season of `second`, a second of UTC or a civil second. The inner `Option` is `None` if the
+/// second is between two seasons. The outer one is `None` if the transitions of the rule may lie
+/// near each other or near an edge of the year.
 #[inline(always)]
 pub(crate) fn season_if_apart(rule: TimeZone, dst: Dst, second: u32) -> Option<Option<Season>>
     requires range { second < seconds_in_range }
@@ -178,7 +185,7 @@ pub(crate) fn season_if_apart(rule: TimeZone, dst: Dst, second: u32) -> Option<O
     Some(season_among(season_bounds, year_start_of(second), second))
 }
 
-/// The same season, if there is one.
+/// The season of `second`, or `None` if `season_if_apart` finds none.
 #[inline(always)]
 pub(crate) fn season_at(rule: TimeZone, dst: Dst, second: u32) -> Option<Season>
     requires range { second < seconds_in_range }
@@ -188,7 +195,7 @@ pub(crate) fn season_at(rule: TimeZone, dst: Dst, second: u32) -> Option<Season>
     season_if_apart(rule, dst, second)?
 }
 
-// What a rule tells of a civil second, from the transitions of its year.
+// The offsets of the civil second `second` by a rule, from the transitions of its year.
 #[inline(never)]
 fn offsets_in_year(rule: TimeZone, dst: Dst, second: u32) -> SpanOffsets
     requires range { second < seconds_in_range }
@@ -202,7 +209,8 @@ fn offsets_in_year(rule: TimeZone, dst: Dst, second: u32) -> SpanOffsets
     between_transitions(rule, dst, transitions_around(dst, second), second)
 }
 
-/// What a rule tells of a civil second.
+/// The offsets of the civil second `second` by a rule, and civil seconds around it that have the
+/// same offsets.
 #[inline(always)]
 pub(crate) fn offsets_by_rule(rule: TimeZone, second: u32) -> SpanOffsets
     requires { second < seconds_in_range }
@@ -225,7 +233,7 @@ pub(crate) fn offsets_by_rule(rule: TimeZone, second: u32) -> SpanOffsets
     }
 }
 
-/// The same, where it is asked seldom.
+/// The same as `offsets_by_rule`, not inlined, for calls that are seldom.
 #[inline(never)]
 pub(crate) fn rule_offsets(rule: TimeZone, second: u32) -> SpanOffsets
     requires { second < seconds_in_range }

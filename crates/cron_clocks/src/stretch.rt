@@ -1,4 +1,5 @@
-//! Stretches of civil seconds that have their readings at the same offsets.
+//! Stretches: civil seconds in a row that a zone reads at the same offsets. They are counted from
+//! 1970-01-01 00:00:00.
 ghost use Rattle.std.specs.Prelude.{◌≡◌, ℕ, ◌≤◌, ◌<◌, pos, ◌≤ℤ◌, ◌<ℤ◌, IsTrue};
 ghost use Rattle.jiff.specs.Words.{plain_zone};
 ghost use Rattle.jiff_tz.specs.PosixRule as Rule;
@@ -19,21 +20,22 @@ use cron_moments::readings::Found;
 use jiff::tz::{Offset, TimeZone};
 use jiff_tz::posix;
 
-/// Civil seconds from a first one to an end, each with its readings at the same offsets: none in a
-/// gap; one; or two in a fold, that before the transition and that after it.
+/// Civil seconds from `first` up to `end` that are all read at the same offsets: at none in a gap,
+/// at two in a fold, and otherwise at one. In a fold `earlier` is the offset before the transition,
+/// and `later` the offset after it.
 #[derive(Clone, Copy)]
 pub struct Stretch {
     /// The first civil second.
     pub first: u32,
-    /// The one behind the last.
+    /// The civil second after the last.
     pub end: u32,
-    /// The offset of the only reading, or of the earlier one; none in a gap.
+    /// The offset of the only reading, or of the earlier one; `None` in a gap.
     pub earlier: Option<Offset>,
-    /// The offset of the later reading, in a fold.
+    /// The offset of the later reading; `None` outside of a fold.
     pub later: Option<Offset>,
 }
 
-// The whole range at one offset.
+// The stretch of the whole range, 1970 to 2100, at one offset.
 fn whole(offset: Offset) -> Stretch
     ensures { result ≡ whole_range offset }
 {
@@ -45,7 +47,8 @@ fn whole(offset: Offset) -> Stretch
     }
 }
 
-/// The civil seconds around this one of which a rule tells what it tells of this one.
+/// The stretch that `told` describes: the civil seconds around `second` that a rule reads at the
+/// same offsets.
 pub(crate) fn rule_stretch(rule: posix::TimeZone, second: u32, told: SpanOffsets) -> Stretch
     requires range { second < seconds_in_range }
     requires alike { IsToldAlike rule second told.span.first told.span.end }
@@ -65,7 +68,7 @@ pub(crate) fn rule_stretch(rule: posix::TimeZone, second: u32, told: SpanOffsets
     }
 }
 
-/// The civil seconds of a season.
+/// The stretch of a season: its civil seconds are all read at its offset.
 pub(crate) fn season_stretch(season: Season) -> Stretch
     ensures { (rule : PlainRule) (n : ℕ) → IsSeason rule n season.first season.end season.offset
         → IsKnown (Posix rule) result }
@@ -78,7 +81,7 @@ pub(crate) fn season_stretch(season: Season) -> Stretch
     }
 }
 
-// The civil seconds around this one of which a table tells what it tells of this one.
+// The stretch around `second`: civil seconds that a file's table reads at the same offsets.
 fn between_rows(table: &jiff_tz::Tzif, second: u32) -> Stretch
     requires { second < seconds_in_range }
     ensures steady { IsSteady (Tzif table.entry) result }
@@ -95,7 +98,7 @@ fn between_rows(table: &jiff_tz::Tzif, second: u32) -> Stretch
 }
 
 impl Stretch {
-    /// No civil second at all.
+    /// The stretch without any civil second.
     #[inline(always)]
     pub fn empty() -> Stretch
         ensures { result.end ≡ 0 }
@@ -116,7 +119,8 @@ impl Stretch {
         self.first <= second && second < self.end
     }
 
-    /// The readings of a civil second at the offsets of the stretch.
+    /// The readings of a civil second at the offsets of the stretch, where it must lie. `None` in a
+    /// gap.
     #[inline(always)]
     pub fn readings(&self, second: u32) -> Option<Found>
         ensures { items_if_any result ≡ readings_at second self.now.earlier self.now.later }
@@ -130,8 +134,8 @@ impl Stretch {
         Some(Found { first, second })
     }
 
-    /// A stretch with this civil second in it: all of the range in a zone with one offset, and else
-    /// what lies between two transitions of a rule or of a file's table.
+    /// A stretch with `second` in it. It is all of the range in a zone with one offset, and else
+    /// civil seconds between two transitions of a rule or of a file's table.
     #[inline(never)]
     pub fn at(zone: &TimeZone<'_>, second: u32) -> Stretch
         requires { second < seconds_in_range }

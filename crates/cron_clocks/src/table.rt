@@ -1,4 +1,5 @@
-//! The civil seconds between the transitions of a zone's table.
+//! The civil seconds between the transitions of a zone's table. A transition begins and ends where
+//! its gap or fold does, at civil seconds counted from 1970-01-01 00:00:00.
 ghost use Rattle.std.specs.Prelude.{◌≡◌, ◌≤◌, ◌<◌, pos, ◌≤ℤ◌, ◌<ℤ◌, false, int_le, length};
 ghost use Rattle.jiff_tz.specs.Tzif.{ambiguous_at, civil_count_at, civil_start, is_inside, offsets_in, type_after};
 ghost use Rattle.cron_moments.specs.Civil.{civil, seconds_in_range};
@@ -12,7 +13,7 @@ use jiff::tz::Offset;
 use jiff_tz::Tzif;
 use jiff_tz::tzif::Transition;
 
-// How many transitions of the table begin at or before the second, on the clock before it.
+// How many transitions of the table begin at or before the civil second `second`.
 fn transitions_by(table: &Tzif, second: i64) -> usize
     ensures value { result ≡ civil_count_at table.now second }
     ensures bound { result ≤ length (transitions_of table.now) }
@@ -24,7 +25,8 @@ fn transitions_by(table: &Tzif, second: i64) -> usize
     )
 }
 
-// The part of the span around this second up to where the transition begins that follows so many.
+// Cuts `span` where transition `count` begins, and returns the part that holds `at`. It is all of
+// `span` if there is no such transition.
 fn up_to_next(table: &Tzif, count: usize, at: i64, span: Span) -> Span
     requires low { span.first ≤ℤ at }
     requires high { at <ℤ span.end }
@@ -40,8 +42,8 @@ fn up_to_next(table: &Tzif, count: usize, at: i64, span: Span) -> Span
     part(span, at, transitions[count].civil_start())
 }
 
-// The part of it that lies between where the last of so many transitions begins or ends and where
-// the next begins.
+// Cuts `span` where transition `count - 1` begins and ends and where transition `count` begins, and
+// returns the part that holds `at`.
 fn between_transitions(table: &Tzif, count: usize, at: i64, span: Span) -> Span
     requires low { span.first ≤ℤ at }
     requires high { at <ℤ span.end }
@@ -63,7 +65,8 @@ fn between_transitions(table: &Tzif, count: usize, at: i64, span: Span) -> Span
     part_twice(ahead, at, last.civil_start(), last.civil_end())
 }
 
-// The transition in whose gap or fold the second lies, where so many begin at or before it.
+// Transition `count - 1`, if `at` lies in its gap or fold, else `None`. `count` transitions begin
+// at or before `at`.
 fn transition_around(table: &Tzif, count: usize, at: i64) -> Option<Transition>
     requires { count ≤ length (transitions_of table.now) }
     ensures { IsTransitionAround table.now count at result }
@@ -79,7 +82,8 @@ fn transition_around(table: &Tzif, count: usize, at: i64) -> Option<Transition>
     }
 }
 
-// The offsets at which a civil second is read that lies in a transition's gap or fold.
+// The offsets of a civil second in the gap or fold of `transition`: none in a gap, two in a fold,
+// and one if the transition keeps the offset.
 fn offsets_inside(transition: Transition) -> (Option<Offset>, Option<Offset>)
     ensures { IsToldBy (offsets_in transition) result.0 result.1 }
 {
@@ -96,7 +100,7 @@ fn offsets_inside(transition: Transition) -> (Option<Offset>, Option<Offset>)
     )
 }
 
-// The offset of the clock past so many transitions.
+// The offset of the clock after the first `count` transitions.
 fn offset_past(table: &Tzif, count: usize) -> Offset
     requires { count ≤ length (transitions_of table.now) }
     ensures { result ≡ (type_after table.now count).offset }
@@ -108,8 +112,8 @@ fn offset_past(table: &Tzif, count: usize) -> Offset
     }
 }
 
-// What is told of a civil second behind the last of so many transitions: past all of them by the
-// rule, if there is one.
+// The offsets of the civil second `second`, which is after the first `count` transitions and their
+// gaps and folds. After all transitions of the table its rule decides, if it has one.
 fn behind_transitions(table: &Tzif, count: usize, second: u32) -> SpanOffsets
     requires range { second < seconds_in_range }
     requires count { count ≤ length (transitions_of table.now) }
@@ -134,7 +138,7 @@ fn behind_transitions(table: &Tzif, count: usize, second: u32) -> SpanOffsets
     }
 }
 
-// What is told of a civil second past so many transitions.
+// The offsets of the civil second `second`, if `count` transitions begin at or before it.
 fn table_offsets_past(table: &Tzif, count: usize, second: u32) -> SpanOffsets
     requires range { second < seconds_in_range }
     requires count { count ≤ length (transitions_of table.now) }
@@ -162,7 +166,8 @@ fn table_offsets_past(table: &Tzif, count: usize, second: u32) -> SpanOffsets
     }
 }
 
-/// What a table tells of a civil second.
+/// The offsets of the civil second `second` by a table, and civil seconds around it that have the
+/// same offsets.
 pub(crate) fn table_offsets(table: &Tzif, second: u32) -> SpanOffsets
     requires { second < seconds_in_range }
     ensures alike { IsToldAlikeIn table.now second result.span.first result.span.end }

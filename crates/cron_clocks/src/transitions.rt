@@ -8,15 +8,15 @@ ghost use Rattle.cron_clocks.specs.Transitions.{IsAlwaysAmong, AlwaysTransitions
 use cron_moments::civil::SECONDS_PER_DAY;
 use jiff_tz::posix::{Day, DayTime, Dst};
 
-/// The seconds of a day.
+/// How many seconds a day has.
 pub(crate) const DAY: i64 = SECONDS_PER_DAY as i64;
 
 const WEEK: i64 = 7 * DAY;
 
-// The seconds of the shorter years.
+// How many seconds a year of 365 days has.
 const YEAR: i64 = 365 * DAY;
 
-// The days of the shorter years before each month.
+// How many days a year of 365 days has before each month.
 const DAYS_BEFORE: [u16; 12] = [0, 31, 59, 90, 120, 151, 181, 212, 243, 273, 304, 334];
 
 // Days of a year, from the first to the last, counted from 0 for 1 January.
@@ -53,7 +53,7 @@ pub(crate) fn is_week_inside(seconds: SecondsOfYear) -> bool
     WEEK <= seconds.first && seconds.last + WEEK <= YEAR
 }
 
-/// Whether the one ends a week or more before the other begins.
+/// Whether `earlier` ends a week or more before `later` begins.
 pub(crate) fn is_week_before(earlier: SecondsOfYear, later: SecondsOfYear) -> bool
     requires { IsWithin 100_000_000 earlier.last }
     ensures { IsTrue result → (earlier.last +ℤ week) ≤ℤ later.first }
@@ -61,7 +61,7 @@ pub(crate) fn is_week_before(earlier: SecondsOfYear, later: SecondsOfYear) -> bo
     earlier.last + WEEK <= later.first
 }
 
-/// The seconds of a year among which the transition lies in every year.
+/// The part of a year that the transition lies in, whichever the year.
 pub(crate) fn seconds_of(transition: DayTime) -> SecondsOfYear
     ensures transitions { IsInside result.first result.last
         → AlwaysTransitionsWithin result.first result.last transition }
@@ -75,7 +75,7 @@ pub(crate) fn seconds_of(transition: DayTime) -> SecondsOfYear
     }
 }
 
-// The second of the year at which such a time of such a day lies.
+// The second of the year that is `time` seconds after the midnight of `day`.
 fn second_of(day: u16, time: i32) -> i64
     requires { IsWithin 604_799 time }
     ensures { result ≡ pos day *ℤ pos 86_400 +ℤ time }
@@ -83,7 +83,7 @@ fn second_of(day: u16, time: i32) -> i64
     i64::from(day) * DAY + i64::from(time)
 }
 
-// The days of a year among which the rule's day is in every year.
+// The days of a year that the rule's day is one of, whichever the year.
 fn days_of(day: Day) -> DaysOfYear
     requires { IsTrue (is_rule_day day) }
     ensures among { result.last < 365 → IsAlwaysAmong result.first result.last day }
@@ -103,8 +103,8 @@ fn days_of(day: Day) -> DaysOfYear
     }
 }
 
-// The days of the shorter years before a month. From March on a month begins a day later in the
-// longer ones.
+// How many days a year of 365 days has before `month`. In a leap year a month begins a day later
+// from March on.
 fn days_before(month: u8) -> u16
     requires { (1 ≤ month) × (month ≤ 12) }
     ensures low { (y : ℤ) → result ≤ days_of_months y (month - 1) }
@@ -114,7 +114,8 @@ fn days_before(month: u8) -> u16
     DAYS_BEFORE[usize::from(month - 1)]
 }
 
-// The days of a week of a month. Week 5 is the last one, which may begin where the fourth does.
+// The days of a year that the days of `week` of `month` are among, whichever the year. Week 5 is
+// the last one, which may begin where the fourth does.
 fn days_of_week(month: u8, week: u8) -> DaysOfYear
     requires month_in { (1 ≤ month) × (month ≤ 12) }
     requires week_in { (1 ≤ week) × (week ≤ 5) }

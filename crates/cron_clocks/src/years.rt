@@ -1,4 +1,5 @@
-//! The years of the range, from 1970 to 2100.
+//! The years of the range, from 1970 to 2100. Seconds count from 1970-01-01 00:00:00, and days from
+//! 1970-01-01.
 ghost use Rattle.std.specs.Prelude.{◌≡◌, ◌<◌, ◌+◌, ◌*◌, ◌/◌};
 ghost use Rattle.jiff_core.specs.Calendar.{IsEpochDay};
 ghost use Rattle.jiff_tz.specs.PosixRule as Rule;
@@ -14,8 +15,8 @@ pub(crate) struct Year {
     pub new_year: i32,
 }
 
-// How many years after 1970 a second lies. Each fourth year from 1972 on is longer: 2100, which
-// isn't, is the last one.
+// How many years after 1970 the year of `second` is. From 1972 on each fourth year is longer, but
+// for 2100, which is the last year of the range.
 fn years_before(second: u32) -> u32
     requires { second < seconds_in_range }
     ensures { result ≡ (4 * (second / 86_400) + 2) / 1461 }
@@ -23,7 +24,7 @@ fn years_before(second: u32) -> u32
     (4 * (second / SECONDS_PER_DAY) + 2) / 1461
 }
 
-// The days before so many years from 1970 on.
+// How many days the first `years` years from 1970 on have.
 fn days_of(years: u32) -> u32
     requires { years < 131 }
     ensures { result ≡ (1461 * years + 1) / 4 }
@@ -31,7 +32,7 @@ fn days_of(years: u32) -> u32
     (1461 * years + 1) / 4
 }
 
-/// The second that begins the year of a second.
+/// The second that begins the year of `second`.
 pub(crate) fn year_start_of(second: u32) -> u32
     requires { second < seconds_in_range }
     ensures { IsYearOf result second }

@@ -1,4 +1,4 @@
-//! How many numbers of an ascending list lie below a bound.
+//! The number of items of an ascending list that are less than a bound.
 ghost use Rattle.std.specs.Prelude.{◌≡◌, ◌≤◌, int_lt};
 ghost use Rattle.cron_collisions.specs.Collisions.{Ascends};
 ghost use Rattle.cron_collisions.specs.Inner.Below.{below};
@@ -9,7 +9,8 @@ fn lies_below(number: i64, bound: i128) -> bool
     i128::from(number) < bound
 }
 
-// So many lie below it, of which the first `from` are known.
+// The number of `numbers` less than `bound`. The first `from` of them are known to be less and are
+// skipped.
 pub(crate) fn count_below(numbers: &[i64], from: usize, bound: i128) -> usize
     requires ascends { Ascends numbers.now }
     requires known { from ≤ below bound numbers.now }

@@ -8,22 +8,25 @@ use crate::below::count_below;
 /// How two lists of fires collide.
 #[derive(Clone, Copy, Debug, PartialEq, Eq)]
 pub struct Collisions {
-    /// The place in the first list of its earliest fire that collides.
+    /// The index in the first list of its earliest fire that collides.
     pub first: usize,
-    /// The place in the second list of the earliest there. The two collide with one another.
+    /// The index in the second list of its earliest fire that collides. The two collide with each
+    /// other.
     pub second: usize,
     /// How many pairs of fires collide.
     pub pairs: u128,
 }
 
-// Of a list of fires, how many have ended when another begins, and how many begin before it ends.
+// The fires of a list against one other fire: how many have ended when it begins, and how many
+// begin before it ends.
 #[derive(Clone, Copy)]
 struct Window {
     ended: usize,
     begun: usize,
 }
 
-// The window of a fire, of which the window of an earlier one tells a part.
+// The window over `fires` of the fire at `start`. Counting goes on from `earlier`, the window of an
+// earlier fire.
 fn window_of(fires: &[i64], earlier: Window, start: i64, length: u64) -> Window
     requires ascends { Ascends fires.now }
     requires ended { earlier.ended ≤ below (before length start) fires.now }
@@ -38,8 +41,8 @@ fn window_of(fires: &[i64], earlier: Window, start: i64, length: u64) -> Window
     }
 }
 
-/// How the fires of two lists collide, which begin at these seconds, in ascending order, and last
-/// so many each; `None` where no two do. It takes one pass over both lists.
+/// How the fires of two lists collide. Both lists hold starts in seconds, ascending, and each fire
+/// lasts `length` seconds. `None` if no two fires collide. It takes one pass over both lists.
 pub fn collisions_of(first: &[i64], second: &[i64], length: u64) -> Option<Collisions>
     requires first { Ascends first.now }
     requires second { Ascends second.now }

@@ -1,4 +1,4 @@
-//! Fires of two lists that collide, where each fire lasts as long.
+//! The pairs of fires of two lists that collide, where all fires last equally long.
 #![tactic(auto)]
 
 mod below;

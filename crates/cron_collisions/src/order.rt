@@ -2,7 +2,8 @@
 ghost use Rattle.std.specs.Prelude.{◌↔◌, IsTrue};
 ghost use Rattle.cron_collisions.specs.Collisions.{Ascends};
 
-/// Whether none of these seconds is less than one in front of it.
+/// Whether no second of the list is less than the one before it. Equal seconds may follow each
+/// other.
 pub fn ascends(seconds: &[i64]) -> bool
     ensures { IsTrue result ↔ Ascends seconds.now }
 {

@@ -10,7 +10,7 @@ pub record IsFirstAt (test : ℕ → Bool) (second : ℕ) : Type 0 where
   pub passes : test second ≡ true
   pub first : (c : ℕ) → c < second → test c ≡ false
 
--- the first civil second of the range that passes the test, and none exactly where none passes it
+-- the first civil second of the range that passes the test; `None` exactly if none passes it
 abbrev pub IsFirst : (ℕ → Bool) → Option ℕ → Type 0
 IsFirst test found = MatchOption found ((c : ℕ) → c < seconds_in_range → test c ≡ false) (IsFirstAt test)
 
@@ -18,6 +18,7 @@ IsFirst test found = MatchOption found ((c : ℕ) → c < seconds_in_range → t
 abbrev pub is_common : List Sets → List Sets → ℕ → Bool
 is_common ss ts c = matches_any ss (civil c) && matches_any ts (civil c)
 
+-- the first civil second of the range that both unions match
 abbrev pub IsFirstCommon : List Sets → List Sets → Option ℕ → Type 0
 IsFirstCommon ss ts = IsFirst (is_common ss ts)
 
@@ -30,5 +31,6 @@ differ false b = b
 abbrev pub is_difference : List Sets → List Sets → ℕ → Bool
 is_difference ss ts c = differ (matches_any ss (civil c)) (matches_any ts (civil c))
 
+-- the first civil second of the range that exactly one of the unions matches
 abbrev pub IsFirstDifference : List Sets → List Sets → Option ℕ → Type 0
 IsFirstDifference ss ts = IsFirst (is_difference ss ts)

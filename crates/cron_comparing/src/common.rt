@@ -1,4 +1,4 @@
-//! The first civil second that two unions of schedules both match.
+//! The first civil second that two unions of schedules both match. `None` means that there is none.
 ghost use Rattle.std.specs.Prelude.{◌≡◌, false};
 ghost use Rattle.cron_comparing.specs.Comparisons.{IsFirstCommon};
 ghost use Rattle.cron_comparing.specs.Inner.Common.{IsLeast, both_match, both_match_any, matches_with};
@@ -10,8 +10,8 @@ use cron_time::search::civil_seconds::nearest_match;
 use cron_units::fields::ScheduleFields;
 use cron_units::way::Way;
 
-// The first one of two schedules, of which one may have a mark of the last day: it has a number in
-// months of one length.
+// The first civil second that both schedules match, where either may mark the last day. It searches
+// the months of each length apart, since the last day has a fixed number there.
 fn first_by_lengths(fields: &ScheduleFields, other: &ScheduleFields) -> Option<u32>
     ensures { IsLeast (both_match fields.now other.now) result }
 {
@@ -24,7 +24,7 @@ fn first_by_lengths(fields: &ScheduleFields, other: &ScheduleFields) -> Option<u
     first
 }
 
-// The first one of two schedules.
+// The first civil second that both schedules match.
 fn first_of_two(fields: &ScheduleFields, other: &ScheduleFields) -> Option<u32>
     ensures { IsLeast (both_match fields.now other.now) result }
 {
@@ -34,7 +34,7 @@ fn first_of_two(fields: &ScheduleFields, other: &ScheduleFields) -> Option<u32>
     nearest_match(&common_product(fields, other), Way::Ahead, 0)
 }
 
-// The first one of a schedule and a union.
+// The first civil second that `fields` and some schedule of `union` both match.
 fn first_with(fields: &ScheduleFields, union: &[ScheduleFields]) -> Option<u32>
     ensures { IsLeast (matches_with fields.now union.now) result }
 {
@@ -45,7 +45,7 @@ fn first_with(fields: &ScheduleFields, union: &[ScheduleFields]) -> Option<u32>
     first
 }
 
-// The first one of two unions, by the least number.
+// The first civil second that both unions match.
 fn least_common(union: &[ScheduleFields], other: &[ScheduleFields]) -> Option<u32>
     ensures { IsLeast (both_match_any union.now other.now) result }
 {
@@ -57,7 +57,7 @@ fn least_common(union: &[ScheduleFields], other: &[ScheduleFields]) -> Option<u3
 }
 
 /// The number of the first civil second of 1970 to 2100 that both unions match, counted from
-/// 1970-01-01 00:00:00, and `None` exactly where there is none.
+/// 1970-01-01 00:00:00. `None` exactly if there is no such civil second.
 pub fn first_common(union: &[ScheduleFields], other: &[ScheduleFields]) -> Option<u32>
     ensures { IsFirstCommon union.now other.now result }
 {

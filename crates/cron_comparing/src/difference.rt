@@ -1,4 +1,5 @@
-//! The first civil second that one of two unions of schedules matches and the other doesn't.
+//! The first civil second that one of two unions of schedules matches and the other doesn't. `None`
+//! means that there is none.
 ghost use Rattle.std.specs.Prelude.{◌≡◌, ◌≤◌, ◌<◌, ℕ, IfSome, false};
 ghost use Rattle.cron_comparing.specs.Comparisons.{IsFirstDifference};
 ghost use Rattle.cron_comparing.specs.Inner.Common.{IsLeast};
@@ -12,8 +13,8 @@ use cron_units::fields::ScheduleFields;
 use cron_units::time_unit::layout::bits;
 use cron_units::way::Way;
 
-// Whether a schedule matches a civil second before the first one so far. Without a day of the week
-// it matches none, and a search would go through all months to tell.
+// Returns true if the schedule matches a civil second before `first`, or any if `first` is `None`.
+// A schedule without a day of the week matches none: the check saves a search through all months.
 fn begins_before(fields: &ScheduleFields, first: Option<u32>) -> bool
     ensures { result ≡ false → NoneBefore fields.now first }
 {
@@ -30,9 +31,10 @@ fn begins_before(fields: &ScheduleFields, first: Option<u32>) -> bool
     }
 }
 
-// The first one of a schedule and a union, in months of one length. For each unit it goes on with
-// what the schedule matches where all units before lie in the sets of the union's first schedule,
-// and this one doesn't: the others of the union may match that.
+// The first civil second that `fields` matches and no schedule of `union` does. All months that
+// `fields` matches have `length` days. The part that the union's first schedule doesn't match is
+// split by unit: `unit` is outside that schedule's set, and all earlier units are inside. Each part
+// is searched with the rest of the union.
 fn first_in_months(fields: &ScheduleFields, union: &[ScheduleFields], length: u32) -> Option<u32>
     requires length { (28 ≤ length) × (length ≤ 31) }
     requires unmarked { fields.now.days_of_month.last_day ≡ false }
@@ -55,7 +57,7 @@ fn first_in_months(fields: &ScheduleFields, union: &[ScheduleFields], length: u3
     first
 }
 
-// The first one of a schedule and a union.
+// The first civil second that `fields` matches and no schedule of `union` does.
 fn first_without(fields: &ScheduleFields, union: &[ScheduleFields]) -> Option<u32>
     ensures { IsLeast (matches_without fields.now union.now) result }
 {
@@ -67,7 +69,7 @@ fn first_without(fields: &ScheduleFields, union: &[ScheduleFields]) -> Option<u3
     first
 }
 
-// The first one that one union matches and the other doesn't.
+// The first civil second that `union` matches and `other` doesn't.
 fn first_alone(union: &[ScheduleFields], other: &[ScheduleFields]) -> Option<u32>
     ensures { IsLeast (matches_alone union.now other.now) result }
 {
@@ -78,8 +80,8 @@ fn first_alone(union: &[ScheduleFields], other: &[ScheduleFields]) -> Option<u32
     first
 }
 
-/// The number of the first civil second of 1970 to 2100 that one of the unions matches and the
-/// other doesn't, counted from 1970-01-01 00:00:00. `None` exactly where they match the same.
+/// The number of the first civil second of 1970 to 2100 that exactly one of the unions matches,
+/// counted from 1970-01-01 00:00:00. `None` exactly if both match the same civil seconds.
 pub fn first_difference(union: &[ScheduleFields], other: &[ScheduleFields]) -> Option<u32>
     ensures { IsFirstDifference union.now other.now result }
 {

@@ -1,4 +1,4 @@
-//! Months of one length, in which the last day has a number.
+//! Months of one length: in these the last day has a fixed number.
 ghost use Rattle.std.specs.Prelude.{◌≡◌, ◌≤◌, ◌==◌, ◌||◌, ◌&&◌, ℕ, false};
 ghost use Rattle.jiff_core.specs.Calendar.{days_in_month};
 ghost use Rattle.jiff_core.specs.declared.civil.datetime.DateTime.{DateTime};
@@ -12,22 +12,23 @@ use cron_units::fields::ScheduleFields;
 use cron_units::time_unit::layout::{bits_of_days, days_from_bits, from_bits, from_three};
 use cron_units::time_unit::{DaysOfMonth, Months, TimeUnitField, Years};
 
-/// Months as bits, the first for January.
+/// February, in a set of months as bits. The lowest bit is for January.
 const FEBRUARY: u64 = 0b10;
 
 const MONTHS_OF_30: u64 = 0b0101_0010_1000;
 
 const MONTHS_OF_31: u64 = 0b1010_1101_0101;
 
-/// Years as bits, the first for 1970, and for 64 years later: each fourth from 1972 on.
+/// The leap years in a set of 64 years as bits: each fourth year from 1972 on. The lowest bit is
+/// for 1970, or for 2034, 64 years later.
 const LEAP_YEARS: u64 = 0x4444_4444_4444_4444;
 
 const COMMON_YEARS: u64 = 0xbbbb_bbbb_bbbb_bbbb;
 
-/// The years 2098, 2099 and 2100, of which none is a leap year.
+/// The years 2098, 2099 and 2100, none of them a leap year. The lowest bit is for 2098.
 const LAST_YEARS: u64 = 0b111;
 
-// The months that have this length in some years.
+// The months that have `length` days in some year.
 fn months_of(length: u32) -> Months
     requires { (28 ≤ length) × (length ≤ 31) }
     ensures { (m : ℕ) → 1 ≤ m → m ≤ 12 → contains result m ≡ can_have length m }
@@ -39,7 +40,7 @@ fn months_of(length: u32) -> Months
     }
 }
 
-// The years in which February has this length, or all years if it is a length of other months.
+// The years in which February has `length` days. All years if `length` is 30 or 31.
 fn years_of(length: u32) -> Years
     requires { (28 ≤ length) × (length ≤ 31) }
     ensures { (y : ℕ) → 1970 ≤ y → y ≤ 2100 → contains result y ≡ suits_year length y }
@@ -51,7 +52,8 @@ fn years_of(length: u32) -> Years
     }
 }
 
-// The days by number in months of this length.
+// The days of `days` as numbers, in months of `length` days: the last day, if marked, is day
+// `length`.
 fn days_of(days: &DaysOfMonth, length: u32) -> DaysOfMonth
     requires { (28 ≤ length) × (length ≤ 31) }
     ensures numbers { (d : ℕ) → contains result.ordinals d
@@ -66,7 +68,8 @@ fn days_of(days: &DaysOfMonth, length: u32) -> DaysOfMonth
     }
 }
 
-/// What a schedule matches in months of this length, as a schedule without a mark of the last day.
+/// A schedule that matches what `fields` matches in months of `length` days. It doesn't mark the
+/// last day.
 pub(crate) fn in_months_of(fields: &ScheduleFields, length: u32) -> ScheduleFields
     requires { (28 ≤ length) × (length ≤ 31) }
     ensures matches { (dt : DateTime) → matches result dt

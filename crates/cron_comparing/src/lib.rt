@@ -1,5 +1,5 @@
-//! Where two unions of schedules match, over the civil seconds of 1970 to 2100. No zone is asked,
-//! and nothing takes memory.
+//! Where two unions of schedules match, over the civil seconds of 1970 to 2100. No zone is queried,
+//! and nothing is allocated.
 #![tactic(auto)]
 
 pub mod common;

@@ -1,4 +1,4 @@
-//! What two schedules without a mark of the last day both match, as a schedule.
+//! The intersection of two schedules that don't mark the last day, as one schedule.
 ghost use Rattle.std.specs.Prelude.{◌≡◌, ◌&&◌, false};
 ghost use Rattle.jiff_core.specs.declared.civil.datetime.DateTime.{DateTime};
 ghost use Rattle.cron_time.specs.Matches.{matches};
@@ -6,7 +6,7 @@ ghost use Rattle.cron_time.specs.Matches.{matches};
 use cron_unions::members::{common_days, common_members, common_years};
 use cron_units::fields::ScheduleFields;
 
-/// What both match.
+/// The schedule that matches exactly the civil seconds that `fields` and `other` both match.
 pub(crate) fn common_product(fields: &ScheduleFields, other: &ScheduleFields) -> ScheduleFields
     requires unmarked { fields.now.days_of_month.last_day ≡ false }
     requires other_unmarked { other.now.days_of_month.last_day ≡ false }

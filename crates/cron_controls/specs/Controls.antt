@@ -3,7 +3,8 @@ use Rattle.std.specs.Prelude.{ℕ, Bool, List, [], ◌∷◌, ◌++◌, ◌+◌,
 use Rattle.cron_controls.specs.declared.Controls.{Controls}
 use Rattle.cron_controls.specs.declared.Controls.TheVariants.{Raw, Shown}
 
--- a byte is a control character of ASCII, but no tab and no line feed; or after the byte 194 the end of one of the 32 others
+-- A byte is a control character of ASCII other than a tab or a line feed; or it follows the byte
+-- 194 and ends one of the 32 control characters outside ASCII.
 abbrev pub is_control : ℕ → ℕ → Bool
 is_control before c =
     (nat_lt c 32 && not (c == 9 || c == 10)) || (c == 127 || (before == 194 && (nat_le 128 c && nat_le c 159)))
@@ -12,7 +13,8 @@ is_control before c =
 abbrev pub digit : ℕ → ℕ
 digit n = if nat_lt n 10 then 48 + n else 87 + n
 
--- a byte as it is shown, after the byte before it: `\x1b`, or itself
+-- a byte, which follows the byte `before`, as a terminal shows it: `\x1b` for a control character,
+-- or the byte itself
 abbrev pub shown_byte : ℕ → ℕ → List ℕ
 shown_byte before c = if is_control before c then 92 ∷ 120 ∷ digit (c / 16) ∷ digit (c % 16) ∷ [] else c ∷ []
 

@@ -1,4 +1,4 @@
-//! Control characters of a file, which a terminal would obey.
+//! Control characters of a text, which a terminal would obey.
 #![tactic(auto)]
 
 ghost use Rattle.std.specs.Prelude.{◌≡◌, ◌++◌, ◌<◌, IfOk, OnOk};
@@ -9,14 +9,14 @@ use std::alloc::{AllocError, Global};
 /// How control characters are written.
 #[derive(Clone, Copy, Debug, PartialEq, Eq)]
 pub enum Controls {
-    /// As they are.
+    /// Unchanged.
     Raw,
-    /// Each as `\x1b`, for a terminal.
+    /// Each byte as `\x1b`, for a terminal.
     Shown,
 }
 
-// Tells whether a byte that stands after another is a control character, but for a tab and a line
-// feed. Those past ASCII have two bytes, of which the first is 194.
+// Returns true if `byte` after `before` is a control character other than a tab or a line feed.
+// Control characters outside of ASCII have two bytes, where the first is 194.
 fn is_control(before: u8, byte: u8) -> bool
     ensures { result ≡ is_control before byte }
 {
@@ -36,7 +36,8 @@ fn digit(number: u8) -> u8
     }
 }
 
-// Appends a byte as it is shown, after the byte before it.
+// Appends `byte`, which follows `before`, or its number in hexadecimal, as `\x1b`, if it is of a
+// control character.
 fn push_byte(made: &mut Vec<u8>, before: u8, byte: u8) -> Result<(), AllocError>
     ensures { OnOk result (made.new.items ≡ made.old.items ++ shown_byte before byte) }
 {
@@ -48,7 +49,7 @@ fn push_byte(made: &mut Vec<u8>, before: u8, byte: u8) -> Result<(), AllocError>
     Ok(())
 }
 
-/// A text with its control characters as a terminal is to show them.
+/// Returns a text with each byte that `is_control` finds written in hexadecimal, as `\x1b`.
 pub fn shown(alloc: Global, bytes: &[u8]) -> Result<Vec<u8>, AllocError>
     ensures { IfOk result (λ made. made.items ≡ shown_by Controls.Shown bytes.now) }
 {
@@ -61,7 +62,7 @@ pub fn shown(alloc: Global, bytes: &[u8]) -> Result<Vec<u8>, AllocError>
     Ok(made)
 }
 
-/// A text with its control characters as they are wanted.
+/// A text with its control characters written as `controls` says.
 pub fn shown_as(alloc: Global, controls: Controls, text: Vec<u8>) -> Result<Vec<u8>, AllocError>
     ensures { IfOk result (λ made. made.items ≡ shown_by controls text.items) }
 {

@@ -4,14 +4,14 @@ use Rattle.std.specs.Prelude.{filter, slice_get}
 use Rattle.std.proofs.lemmas.Bool.{cases_lt, le-leb, le-ltb, lt-leb}
 use Rattle.jiff_tz.specs.declared.timezone.TimeZone.{TimeZone}
 use Rattle.cron_units.specs.Sets.{Sets}
-use Rattle.cron_moments.specs.Civil.{civil, seconds_in_range}
+use Rattle.cron_moments.specs.Civil.{seconds_in_range}
 use Rattle.cron_moments.specs.Readings.{Reading, readings}
-use Rattle.cron_time.specs.Timeline.{numbers_below}
+use Rattle.cron_time.specs.Seconds.{items_below, numbers_below, timeline}
 use Rattle.cron_time.proofs.JoinedLemmas.{flat_map-filter, joined, joined-suc, joined-zero}
 use Rattle.cron_time.proofs.ListLemmas.{filter-all, filter-none}
 use Rattle.cron_time.proofs.PlaceLemmas.{nothing_in_nil}
 use Rattle.cron_time.proofs.TimelineLemmas.{readings-second}
-use Rattle.cron_unions.specs.Unions.{matches_any, seconds_of_any, timeline_any}
+use Rattle.cron_unions.specs.Unions.{any_of}
 use Rattle.cron_counting.specs.Counts.{is_in, items_in}
 use Rattle.cron_counting.specs.Inner.Totals.{only_if, total}
 use Rattle.cron_counting.proofs.TotalLemmas.{total-alike, total-none, total-suc, total-window}
@@ -39,11 +39,11 @@ filter-joined p g (suc n) =
 
 module _ (ss : List Sets) (z : TimeZone) where
   abbrev pub items_at : ℕ → List Reading
-  items_at c = cond (matches_any ss (civil c)) (readings z c) []
+  items_at c = cond (any_of ss c) (readings z c) []
 
-  timeline-joined : timeline_any ss z ≡ joined items_at seconds_in_range
-  unfolding timeline_any seconds_of_any
-  timeline-joined = flat_map-filter (readings z) (λ c. matches_any ss (civil c)) (numbers_below seconds_in_range)
+  timeline-joined : timeline (any_of ss) z ≡ joined items_at seconds_in_range
+  unfolding timeline items_below
+  timeline-joined = flat_map-filter (readings z) (any_of ss) (numbers_below seconds_in_range)
 
   own_if : (b : Bool) (c i : ℕ) (r : Reading) → slice_get (cond b (readings z c) []) i ≡ Some r → r.second ≡ c
   own_if true c i r e = readings-second z c i r e
@@ -52,10 +52,10 @@ module _ (ss : List Sets) (z : TimeZone) where
   in_at : (first end c : ℕ) (b : Bool) → (nat_le first c && nat_lt c end) ≡ b → length (filter (is_in first end) (items_at c)) ≡ only_if b (length (items_at c))
   in_at first end c true e =
       ap length (filter-all (is_in first end) (items_at c)
-      (λ r at. ap (λ s. nat_le first s && nat_lt s end) (own_if (matches_any ss (civil c)) c at.0 r at.1) ∙ e))
+      (λ r at. ap (λ s. nat_le first s && nat_lt s end) (own_if (any_of ss c) c at.0 r at.1) ∙ e))
   in_at first end c false e =
       ap length (filter-none (is_in first end) (items_at c)
-      (λ r at. ap (λ s. nat_le first s && nat_lt s end) (own_if (matches_any ss (civil c)) c at.0 r at.1) ∙ e))
+      (λ r at. ap (λ s. nat_le first s && nat_lt s end) (own_if (any_of ss c) c at.0 r at.1) ∙ e))
 
   outside : (first end a b c : ℕ) → a ≤ first → end ≤ b → (c < a) ⊎ (b ≤ c) → (nat_le first c && nat_lt c end) ≡ false
   outside first end a b c low high (inl before) = ap (λ v. v && nat_lt c end) (lt-leb first c (omega arith))

@@ -5,7 +5,8 @@ use Rattle.std.specs.List.{range_with_len}
 use Rattle.std.proofs.lemmas.Bool.{cases_lt, le-leb, le-ltb, lt-leb, lt-ltb}
 use Rattle.std.proofs.lemmas.List.Sums.{sum_by-cons}
 use Rattle.cron_moments.specs.Readings.{Reading}
-use Rattle.cron_unions.specs.Unions.{timeline_any}
+use Rattle.cron_time.specs.Seconds.{timeline}
+use Rattle.cron_unions.specs.Unions.{any_of}
 use Rattle.cron_counting.specs.Counts.{is_in}
 use Rattle.cron_counting.specs.CountLaws.{DaysAddUp, HoursAddUp}
 
@@ -77,7 +78,7 @@ parts_add_up size l (suc parts) first end e =
         omega arith
 
 pub days_add_up : DaysAddUp
-days_add_up ss z first days = parts_add_up 86_400 (timeline_any ss z) days first ((first + days) * 86_400) refl
+days_add_up ss z first days = parts_add_up 86_400 (timeline (any_of ss) z) days first ((first + days) * 86_400) refl
 
 pub hours_add_up : HoursAddUp
-hours_add_up ss z first hours = parts_add_up 3600 (timeline_any ss z) hours first ((first + hours) * 3600) refl
+hours_add_up ss z first hours = parts_add_up 3600 (timeline (any_of ss) z) hours first ((first + hours) * 3600) refl

@@ -1,4 +1,4 @@
-//! How many fires lie on each civil day of a stretch, and in each civil hour.
+//! The number of fires on each of some civil days, and in each civil hour.
 ghost use Rattle.std.specs.Prelude.{◌≡◌, ◌+◌, ◌*◌, ◌<◌, ◌≤◌, ◌++◌, IfOk, OnOk, map};
 ghost use Rattle.std.specs.List.{range_with_len};
 ghost use Rattle.jiff.specs.Words.{plain_zone};
@@ -25,7 +25,7 @@ const DAY: Span = Span {
     end: SECONDS_PER_DAY,
 };
 
-// Gathers the times of the schedules that have a day.
+// Replaces `times` by the times of day of each schedule that matches `day`.
 fn gather_day(
     schedules: &[ScheduleFields],
     day: u32,
@@ -37,9 +37,9 @@ fn gather_day(
     gather(schedules, civil_of(day * SECONDS_PER_DAY).date(), times)
 }
 
-/// How many fires the schedules have as one on each of so many civil days, from the one with this
-/// number on, counted from 1970-01-01, in a zone: each reading of a matching civil second is a
-/// fire, and is one of the day that its clock shows.
+/// The number of fires of the union of `schedules` on each of `days` civil days in `zone`. Day
+/// `first` is the first, counted from 1970-01-01. Each instant when the clock shows a matching
+/// civil second is a fire. It counts for the day that the clock shows.
 pub fn fires_by_day(
     alloc: Global,
     schedules: &[ScheduleFields],
@@ -61,14 +61,14 @@ pub fn fires_by_day(
     Ok(counts)
 }
 
-// A number where an hour is one of these, and else 0.
+// `count` if `hour` is among `hours`, else 0.
 fn count_at(hours: u64, hour: u32, count: u32) -> u32
     ensures { result ≡ only_if (has_bit hours hour) count }
 {
     if hours.contains(hour) { count } else { 0 }
 }
 
-// Adds for each hour of a day a number where it is one of these, and else 0.
+// Appends one number for each hour of a day: `count` if the hour is among `hours`, else 0.
 fn push_alike(hours: u64, count: u32, counts: &mut Vec<u32>) -> Result<(), AllocError>
     ensures { OnOk result (counts.new.items ≡ counts.old.items
         ++ map (λ hour. only_if (has_bit hours hour) count) (range_with_len 0 24)) }
@@ -79,7 +79,7 @@ fn push_alike(hours: u64, count: u32, counts: &mut Vec<u32>) -> Result<(), Alloc
     Ok(())
 }
 
-// Adds how many readings the times have in each hour of a day, hour by hour.
+// Appends the number of fires that `times` have in each hour of `day`, counting each hour apart.
 fn push_each(
     times: &[Times],
     day: u32,
@@ -105,8 +105,8 @@ fn push_each(
     Ok(())
 }
 
-// Adds how many readings the times have in each hour of a day. Where the day has no transition, all
-// hours of one schedule have as many.
+// Appends the number of fires that `times` have in each hour of `day`. On a day without a
+// transition, each hour of a single schedule has the same number.
 fn push_hours(
     times: &[Times],
     day: u32,
@@ -130,7 +130,8 @@ fn push_hours(
     }
 }
 
-/// The same in each of their hours: 24 for a day, also where its clock skips or repeats some.
+/// The number of fires in each civil hour of `days` days from day `first` on, counted as in
+/// `fires_by_day`. Each day has 24 hours, even if its clock skips or repeats some.
 pub fn fires_by_hour(
     alloc: Global,
     schedules: &[ScheduleFields],

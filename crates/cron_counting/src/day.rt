@@ -1,4 +1,5 @@
-//! How many fires a day has.
+//! The number of fires on a day. A stretch is civil seconds that the zone reads at the same
+//! offsets, so each match in it has the same number of fires.
 ghost use Rattle.std.specs.Prelude.{◌≡◌, ◌+◌, ◌*◌, ◌<◌, ◌≤◌, ◌∷◌, [], ℕ, length, IsTrue};
 ghost use Rattle.jiff.specs.Words.{plain_zone};
 ghost use Rattle.cron_clocks.specs.Steady.{IsKnown, readings_at};
@@ -14,7 +15,7 @@ use cron_clocks::stretch::Stretch;
 use cron_moments::civil::SECONDS_PER_DAY;
 use jiff::tz::TimeZone;
 
-// How many times a schedule has in each of its hours.
+// The number of times of day that a schedule has in each of its hours.
 fn count_hourly(times: &Times) -> u32
     ensures value { result ≡ total (λ u. ones (has_rest times.now u)) 3_600 }
     ensures few { result ≤ 3_600 }
@@ -22,7 +23,7 @@ fn count_hourly(times: &Times) -> u32
     times.minutes.below(60).count() * times.seconds.below(60).count()
 }
 
-// How many times of day a schedule has.
+// The number of times of day that a schedule has.
 fn count_product(times: &Times) -> u32
     ensures value { result ≡ total (λ t. ones (fits_any (times.now ∷ []) t)) 86_400 }
     ensures few { result ≤ 86_400 }
@@ -30,7 +31,7 @@ fn count_product(times: &Times) -> u32
     times.hours.below(24).count() * count_hourly(times)
 }
 
-// How many of the times lie in a span: hour by hour, from that in which it begins.
+// The number of `times` within `span`, counted hour by hour from the span's first hour.
 fn count_hours(times: &[Times], span: Span) -> u32
     ensures value { result ≡ total (λ t. ones (fits_in times.now span t)) 86_400 }
     ensures few { result ≤ 86_400 }
@@ -44,7 +45,8 @@ fn count_hours(times: &[Times], span: Span) -> u32
     count
 }
 
-/// How many of the times lie in a span. Those of one schedule on a whole day are a product.
+/// The number of `times` within `span`. For one schedule and a whole day it is the product of its
+/// numbers of hours, minutes and seconds.
 pub(crate) fn count_times(times: &[Times], span: Span) -> u32
     ensures value { result ≡ total (λ t. ones (fits_in times.now span t)) 86_400 }
     ensures few { result ≤ 86_400 }
@@ -55,7 +57,7 @@ pub(crate) fn count_times(times: &[Times], span: Span) -> u32
     }
 }
 
-// How many readings each civil second of a stretch has.
+// The number of instants, 0 to 2, when the clock shows each civil second of `stretch`.
 fn readings_of(stretch: &Stretch) -> u32
     ensures value { (k : ℕ)
         → result ≡ length (readings_at k stretch.now.earlier stretch.now.later) }
@@ -68,7 +70,7 @@ fn readings_of(stretch: &Stretch) -> u32
     }
 }
 
-// The stretch becomes one with this civil second in it.
+// Replaces `stretch` by one that holds the civil second `second`, unless it already does.
 fn move_to(stretch: &mut Stretch, second: u32, zone: &TimeZone<'_>)
     requires range { second < seconds_in_range }
     requires known { IsKnown (plain_zone zone.now) stretch.old }
@@ -81,7 +83,8 @@ fn move_to(stretch: &mut Stretch, second: u32, zone: &TimeZone<'_>)
     }
 }
 
-/// The stretch becomes one with the first second of a day in it. Whether it has the whole day.
+/// Moves `stretch` to one that holds the first second of `day`. Returns true if it holds the whole
+/// day.
 pub(crate) fn covers_day(stretch: &mut Stretch, day: u32, zone: &TimeZone<'_>) -> bool
     requires day { day < days_in_range }
     requires known { IsKnown (plain_zone zone.now) stretch.old }
@@ -94,7 +97,7 @@ pub(crate) fn covers_day(stretch: &mut Stretch, day: u32, zone: &TimeZone<'_>) -
     midnight + SECONDS_PER_DAY <= stretch.end
 }
 
-/// How many readings the times of a schedule have in each of its hours, on a day of a stretch.
+/// The number of fires of one schedule in each of its hours, on a day within `stretch`.
 pub(crate) fn hourly_readings(times: &Times, stretch: &Stretch) -> u32
     ensures { (k : ℕ)
         → result
@@ -104,8 +107,8 @@ pub(crate) fn hourly_readings(times: &Times, stretch: &Stretch) -> u32
     readings_of(stretch) * count_hourly(times)
 }
 
-/// How many readings those of the times have that lie in a span of a day. The stretch is one of the
-/// zone, from which on it is asked.
+/// The number of fires that `times` have within `span` of `day`. `stretch` is a stretch of `zone`:
+/// it is moved on as needed, so that later calls can go on from it.
 pub(crate) fn count_readings(
     times: &[Times],
     day: u32,

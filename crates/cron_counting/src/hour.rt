@@ -1,4 +1,4 @@
-//! How many times of day lie in an hour.
+//! The number of times of day in an hour.
 ghost use Rattle.std.specs.Prelude.{◌≡◌, ◌+◌, ◌*◌, ◌<◌, ◌≤◌, ◌&&◌, ℕ};
 ghost use Rattle.std.specs.List.{list_any};
 ghost use Rattle.cron_bits.specs.Words.{has_bit};
@@ -9,7 +9,7 @@ use crate::span::{HOUR, Span};
 use crate::times::Times;
 use cron_bits::words::Words;
 
-// The seconds at which some of the times have a minute of this hour.
+// The seconds of all `times` that include `hour`.
 fn seconds_at(times: &[Times], hour: u32) -> u64
     ensures { (s : ℕ) → has_bit result s ≡ list_any (has_second hour s) times.now }
 {
@@ -22,7 +22,7 @@ fn seconds_at(times: &[Times], hour: u32) -> u64
     seconds
 }
 
-// The minutes of an hour at which some of the times have this second.
+// The minutes of all `times` that include `hour` and `second`.
 fn minutes_at(times: &[Times], hour: u32, second: u32) -> u64
     ensures { (m : ℕ) → has_bit result m ≡ list_any (has_minute hour m second) times.now }
 {
@@ -35,15 +35,15 @@ fn minutes_at(times: &[Times], hour: u32, second: u32) -> u64
     minutes
 }
 
-// Whether a minute is one of these, and a second of it lies in a span.
+// Whether `minute` is among `minutes` and `span` holds `time`, a second of that minute.
 fn is_taken(minutes: u64, minute: u32, time: u32, span: Span) -> bool
     ensures { result ≡ (is_within span time && has_bit minutes minute) }
 {
     span.has(time) && minutes.contains(minute)
 }
 
-// How many of the minutes of an hour have a second of theirs in a span. The second of the first
-// minute is so many seconds after midnight.
+// The number of `minutes` of an hour whose second is within `span`. The second of minute 0 is
+// `start` seconds after midnight. The second of minute `m` is `m * 60` seconds later.
 fn count_cut(minutes: u64, start: u32, span: Span) -> u32
     requires { start < 86_400 }
     ensures value { result
@@ -57,7 +57,7 @@ fn count_cut(minutes: u64, start: u32, span: Span) -> u32
     count
 }
 
-// How many of the times in an hour have this second and lie in a span.
+// The number of `times` in `hour` at `second` that are within `span`.
 fn count_second(times: &[Times], hour: u32, second: u32, span: Span) -> u32
     requires hour { hour < 24 }
     requires second { second < 60 }
@@ -73,8 +73,9 @@ fn count_second(times: &[Times], hour: u32, second: u32, span: Span) -> u32
     }
 }
 
-/// How many of the times lie in an hour and in a span. A whole hour is counted by its minutes at
-/// each second, and only one that the span cuts by its seconds.
+/// The number of `times` that are in `hour` and within `span`. In an hour that the span covers, the
+/// minutes of each second are counted by bits. Only in an hour that the span cuts, each minute is
+/// checked.
 pub(crate) fn count_hour(times: &[Times], hour: u32, span: Span) -> u32
     requires hour { hour < 24 }
     ensures value { result

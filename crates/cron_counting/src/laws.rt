@@ -3,8 +3,8 @@
 
 ghost use Rattle.cron_counting.specs.CountLaws.{DaysAddUp, HoursAddUp};
 
-/// The counts of days one after another add up to the items of all of them, and so do those of
-/// hours: no fire is counted twice or left out.
+/// The counts of consecutive days add up to the number of items of all these days. The counts of
+/// hours do so too: no fire is counted twice or left out.
 pub fn counts_add_up()
     ensures days { DaysAddUp }
     ensures hours { HoursAddUp }

@@ -1,9 +1,7 @@
-//! How often schedules fire: how many of their fires lie on each civil day of a stretch, or in each
-//! civil hour.
+//! How often schedules fire: the number of fires on each of some civil days, or in each civil hour.
 #![tactic(auto)]
 
 pub mod counts;
-mod date;
 mod day;
 mod hour;
 pub mod laws;

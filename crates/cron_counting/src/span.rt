@@ -7,7 +7,7 @@ use cron_moments::civil::SECONDS_PER_DAY;
 /// The seconds of an hour.
 pub(crate) const HOUR: u32 = 3_600;
 
-/// Times of day, in seconds after midnight, from a first one up to an end, which is left out.
+/// Times of day in seconds after midnight, from `first` up to but without `end`.
 #[derive(Clone, Copy)]
 pub(crate) struct Span {
     pub(crate) first: u32,
@@ -15,14 +15,14 @@ pub(crate) struct Span {
 }
 
 impl Span {
-    /// Whether a time of day lies in it.
+    /// Whether the span holds a time of day.
     pub(crate) fn has(self, time: u32) -> bool
         ensures { result ≡ is_within self time }
     {
         self.first <= time && time < self.end
     }
 
-    /// Whether all times of an hour lie in it.
+    /// Returns true only if the span holds all times of `hour`.
     pub(crate) fn covers_hour(self, hour: u32) -> bool
         requires { hour < 24 }
         ensures { IsTrue result
@@ -32,14 +32,14 @@ impl Span {
         self.first <= start && start + HOUR <= self.end
     }
 
-    /// Whether all times of a day lie in it.
+    /// Returns true only if the span holds all times of a day.
     pub(crate) fn covers_day(self) -> bool
         ensures { IsTrue result → (t : ℕ) → t < 86_400 → is_within self t ≡ true }
     {
         self.first == 0 && SECONDS_PER_DAY <= self.end
     }
 
-    /// Whether no time of an hour lies in it.
+    /// Returns true only if the span holds no time of `hour`.
     pub(crate) fn misses_hour(self, hour: u32) -> bool
         requires { hour < 24 }
         ensures { IsTrue result

@@ -4,7 +4,7 @@ ghost use Rattle.std.specs.List.{list_any};
 ghost use Rattle.cron_time.specs.Matches.{matches_date};
 ghost use Rattle.cron_counting.specs.Inner.Times.{fits_any, has_time};
 
-use crate::date::includes_date;
+use cron_time::matching::includes_date;
 use cron_units::fields::ScheduleFields;
 use cron_units::time_unit::layout::bits;
 use jiff::civil::Date;
@@ -18,7 +18,7 @@ pub(crate) struct Times {
     pub(crate) seconds: u64,
 }
 
-// Those of a schedule.
+// The times of day of a schedule.
 fn times_of(fields: &ScheduleFields) -> Times
     ensures { (t : ℕ) → fits_any (result ∷ []) t ≡ has_time fields.now t }
 {
@@ -29,7 +29,7 @@ fn times_of(fields: &ScheduleFields) -> Times
     }
 }
 
-/// Gathers those of the schedules that have a date.
+/// Replaces `times` by the times of day of each schedule that matches `date`.
 pub(crate) fn gather(
     schedules: &[ScheduleFields],
     date: Date,

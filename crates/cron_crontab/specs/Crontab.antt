@@ -17,7 +17,7 @@ use Rattle.cron_crontab.specs.declared.field.Field.TheVariants.{Minute, Hour, Da
 abbrev pub is_filled : List ℕ → Bool
 is_filled word = nat_lt 0 (length word)
 
--- what stands between white space
+-- the words of a text: what white space separates
 abbrev pub words : List ℕ → List (List ℕ)
 words text = filter is_filled (slice_split is_space text)
 
@@ -29,18 +29,18 @@ abbrev pub first_of : List (List ℕ) → Option (List ℕ)
 first_of [] = None
 first_of (word ∷ more) = Some word
 
--- the first word behind the first line break; a text that has one is more than one line
+-- the first word after the first line break; a text that has one is more than one line
 abbrev pub further_word : List ℕ → Option (List ℕ)
 further_word text = first_of (words (after_first is_break text))
 
 -- ---- fields
 
--- an item, or its fault
+-- what was read of a text, or the fault of that text in its field
 abbrev pub item_or_fault : Field → List ℕ → Result Progression Reason → Result Progression Fault
 item_or_fault f text (Ok item) = Ok item
 item_or_fault f text (Err reason) = Err (refused f text reason)
 
--- the items of a field behind some that were read; the first that is none is refused
+-- the items of a field, after those already read; the first text that is no item is refused
 abbrev pub items_from : Field → List Progression → List (List ℕ) → Result (List Progression) Fault
 items_from f items [] = Ok items
 items_from f items (text ∷ texts) = and_then (item_or_fault f text (item_of f text)) (λ item. items_from f (items ++ item ∷ []) texts)
@@ -57,7 +57,7 @@ pub record FieldRead : Type 0 where
 abbrev pub field_read : List ℕ → List Progression → FieldRead
 field_read word items = record { items = items; star = begins_with_star word }
 
--- the first of some words as a field, and the words behind it
+-- the first of some words as a field, and the words after it
 abbrev pub field_of : Field → List (List ℕ) → Result (FieldRead × List (List ℕ)) Fault
 field_of f [] = Err (no_field f)
 field_of f (word ∷ more) = and_then (items_of f word) (λ items. Ok (field_read word items, more))
@@ -73,7 +73,7 @@ abbrev pub ended : List (List ℕ) → Five → Result Five Fault
 ended [] five = Ok five
 ended (word ∷ more) five = Err (sixth_field word)
 
--- five words as the five fields, in this order; the first fault from the left is told
+-- five words as the five fields, in this order, or the first fault from the left
 abbrev pub five_of : List (List ℕ) → Result Five Fault
 five_of ws =
     and_then (field_of Minute ws) (λ a.
@@ -85,15 +85,15 @@ five_of ws =
 
 -- ---- the day rule
 
--- a number lies in a field
+-- x is one of the numbers of a field
 abbrev pub lies_in : FieldRead → ℕ → Bool
 lies_in field x = in_items field.items x
 
--- the day of the week lies in its field, by its number from 1 for Sunday; in a crontab Sunday is 0, and 7 too
+-- the day of the week, from 1 for Sunday, lies in its field, where Sunday is 0, and 7 too
 abbrev pub on_weekday : FieldRead → ℕ → Bool
 on_weekday field day = lies_in field (day - 1) || (day == 1 && lies_in field 7)
 
--- both kinds of day must lie in their fields
+-- the schedule whose days lie in both fields of days
 abbrev pub on_both : Five → Sets
 on_both five = record {
   seconds = 0 ∷ [];
@@ -105,8 +105,8 @@ on_both five = record {
   years = whole units.years;
 }
 
--- Where one of the two fields begins with a star both must match, else one of them must: a schedule for the days of the month, and one for
--- the days of the week.
+-- If one of the two fields of days begins with a star, both must match. Else one of them must: a
+-- schedule for the days of the month, and one for the days of the week.
 abbrev pub schedules_of : Five → List Sets
 schedules_of five =
     if five.day_of_month.star || five.day_of_week.star then on_both five ∷ []
@@ -114,7 +114,7 @@ schedules_of five =
 
 -- ---- nicknames
 
--- each with the expression that it stands for
+-- the nicknames, each with the expression that it stands for
 abbrev pub nicknames : List (List ℕ × List ℕ)
 nicknames =
     (codes "@yearly", codes "0 0 1 1 *") ∷ (codes "@annually", codes "0 0 1 1 *") ∷ (codes "@monthly", codes "0 0 1 * *") ∷ (codes "@weekly", codes "0 0 * * 0")
@@ -139,11 +139,11 @@ has_word es word = list_any (λ e. str_eq_ignore_ascii_case e.0 word) es
 abbrev pub is_capital : List ℕ → Bool
 is_capital word = str_eq_ignore_ascii_case (codes "@reboot") word || has_word nicknames word
 
--- a word that is no nickname
+-- the fault of a word that begins with `@` and is no nickname
 abbrev pub unknown : List ℕ → Fault
 unknown word = if is_capital word then capital_nickname word else no_nickname word
 
--- nothing stands behind a nickname
+-- the meaning of a nickname, or the fault if a word follows it
 abbrev pub last_word : List (List ℕ) → Meaning → Result Meaning Fault
 last_word [] meaning = Ok meaning
 last_word (word ∷ more) meaning = Err (behind_nickname word)
@@ -168,7 +168,7 @@ abbrev pub outcome_of : List (List ℕ) → Result Meaning Fault
 outcome_of [] = meant_by []
 outcome_of (word ∷ more) = if begins_with_at word then and_then (nickname_of word) (last_word more) else meant_by (word ∷ more)
 
--- the outcome of a text that has no further word
+-- the outcome of a text, or the fault if a word follows its first line
 abbrev pub on_one_line : Option (List ℕ) → Result Meaning Fault → Result Meaning Fault
 on_one_line None outcome = outcome
 on_one_line (Some word) outcome = Err (second_line word)

@@ -17,7 +17,7 @@ least DayOfMonth = 1
 least Month = 1
 least DayOfWeek = 0
 
--- the days of a week go from 0 to 7, and both are Sunday
+-- the greatest number of a field; days of the week go from 0 to 7, and both are Sunday
 abbrev pub greatest : Field → ℕ
 greatest Minute = 59
 greatest Hour = 23
@@ -34,7 +34,7 @@ abbrev pub day_names : List (List ℕ × ℕ)
 day_names =
     (codes "sun", 0) ∷ (codes "mon", 1) ∷ (codes "tue", 2) ∷ (codes "wed", 3) ∷ (codes "thu", 4) ∷ (codes "fri", 5) ∷ (codes "sat", 6) ∷ []
 
--- names in small letters, with their numbers
+-- the names of a field's numbers, in small letters
 abbrev pub names : Field → List (List ℕ × ℕ)
 names Month = month_names
 names DayOfWeek = day_names

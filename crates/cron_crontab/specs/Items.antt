@@ -9,30 +9,31 @@ use Rattle.cron_crontab.specs.Fields.{least, greatest, names}
 use Rattle.cron_crontab.specs.Refusals.{Reason, missing, no_number, long_number, outside, ignored, lone_step, no_step, zero_step}
 use Rattle.cron_crontab.specs.declared.field.Field.{Field}
 
--- what is read, or else why it isn't
+-- the next step of a reading, or the error of the step before it
 abbrev pub and_then : {A B E : Type 0} → Result A E → (A → Result B E) → Result B E
 and_then (Ok a) next = next a
 and_then (Err e) next = Err e
 
--- a text cut at each byte of one kind
+-- the pieces of a text between the bytes that are `mark`
 abbrev pub pieces : ℕ → List ℕ → List (List ℕ)
 pieces mark text = slice_split (λ b. b == mark) text
 
 -- ---- numbers
 
--- the letters and digits at the front of a text, and what stands behind them
+-- the letters and digits at the front of a text; `behind` is the rest of the text after them
 abbrev pub front : List ℕ → List ℕ
 front text = take_while is_ascii_alphanumeric text
 
 abbrev pub behind : List ℕ → List ℕ
 behind text = drop (prefix_len is_ascii_alphanumeric text) text
 
--- Digits, and nine at most. Where a text has none, or letters too, there is another reading or another reason.
+-- The number that a text of at most nine digits spells; more digits are refused. If the text has
+-- none, or other bytes too, the result is `other`.
 abbrev pub spelt : List ℕ → Result ℕ Reason → Result ℕ Reason
 spelt text other =
     if nat_lt 0 (length text) && list_all is_ascii_digit text then (if nat_lt 9 (length text) then Err long_number else Ok (digits_value 10 text)) else other
 
--- the number that a name stands for
+-- the number that a name stands for, or the reason if there is none
 abbrev pub named : Option ℕ → Reason → Result ℕ Reason
 named (Some n) reason = Ok n
 named None reason = Err reason
@@ -40,7 +41,7 @@ named None reason = Err reason
 abbrev pub bounded : Field → ℕ → Result ℕ Reason
 bounded f n = if nat_le (least f) n && nat_le n (greatest f) then Ok n else Err (outside n)
 
--- the number, where nothing stands behind its front
+-- n, or the fault of a text that goes on after the letters and digits at its front
 abbrev pub alone : List ℕ → ℕ → Result ℕ Reason
 alone text n = if length (behind text) == 0 then Ok n else Err (ignored (front text))
 
@@ -60,7 +61,7 @@ step_of text =
 
 -- ---- items
 
--- what stands before a step: one number, or all from one to another
+-- the part of an item before its step: one number, or all from one to another
 pub data Base : Type 0 where
   single : ℕ → Base
   range : ℕ → ℕ → Base
@@ -69,7 +70,7 @@ pub data Base : Type 0 where
 abbrev pub star_of : Field → List ℕ → Result Base Reason
 star_of f text = if length text == 1 then Ok (range (least f) (greatest f)) else Err (ignored (codes "*"))
 
--- nothing more is wanted behind a text
+-- what was found, or the fault if more pieces follow `text`
 abbrev pub last_of : {A : Type 0} → List ℕ → List (List ℕ) → A → Result A Reason
 last_of text [] found = Ok found
 last_of text (more ∷ rest) found = Err (ignored text)
@@ -94,12 +95,12 @@ abbrev pub is_lone : Base → Bool
 is_lone (single n) = true
 is_lone (range n m) = false
 
--- a step, if there is one, stands behind a star or a range
+-- a base with its step, if there is one; only a star or a range may have one
 abbrev pub stepped : List (List ℕ) → Base → Result Progression Reason
 stepped [] base = Ok (by_step base 1)
 stepped (step ∷ more) base = if is_lone base then Err lone_step else and_then (step_of step) (λ s. last_of step more (by_step base s))
 
--- a base, and perhaps a step behind a slash
+-- a base, and perhaps a step after a slash
 abbrev pub cut_item : Field → List (List ℕ) → Result Progression Reason
 cut_item f [] = Err missing
 cut_item f (base ∷ steps) = and_then (base_of f base) (stepped steps)

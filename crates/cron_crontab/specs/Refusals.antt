@@ -16,8 +16,9 @@ pub data Reason : Type 0 where
   no_step : List ℕ → Reason
   zero_step : Reason
 
--- Why a text is refused: an item of a field, a field that isn't there, a word behind the fifth field, a word that begins with `@` and is
--- no nickname, or is one in capital letters, a word behind a nickname, and one behind a line break.
+-- Why a text is refused. An item of a field is refused, or a field is missing. A word follows the
+-- fifth field, a nickname or a line break. Or a word that begins with `@` is no nickname, or is one
+-- in capital letters.
 pub data Fault : Type 0 where
   refused : Field → List ℕ → Reason → Fault
   no_field : Field → Fault
@@ -27,7 +28,7 @@ pub data Fault : Type 0 where
   behind_nickname : List ℕ → Fault
   second_line : List ℕ → Fault
 
--- what is told of a text that is no number, behind the text
+-- the end of the message about a text that is no number, after the text itself
 abbrev pub no_number_text : Field → List ℕ
 no_number_text Month = codes "' is no number and no name of a month in three letters"
 no_number_text DayOfWeek = codes "' is no number and no name of a day in three letters"

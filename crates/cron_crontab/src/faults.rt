@@ -1,4 +1,4 @@
-//! Why a text is refused. A fault borrows words of the text, and prints the message.
+//! Why a text is refused. A fault borrows words of the text, and its `Display` is the message.
 
 ghost use Rattle.std.specs.Prelude.{◌≡◌, Some};
 ghost use Rattle.cron_crontab.specs.Refusals.{fault_text, reason_text};
@@ -11,17 +11,18 @@ use std::fmt;
 /// Why an item of a field is refused.
 #[derive(Clone, Copy, Debug, PartialEq, Eq)]
 pub enum Reason<'a> {
-    /// No number stands where one is wanted, or no item.
+    /// A number or an item is missing where one is wanted.
     Missing,
-    /// This is no number of the field, and no name.
+    /// This text is neither a number of the field nor a name.
     NoNumber(&'a str),
     /// A number has more than nine digits.
     LongNumber,
     /// The number isn't one of the field's.
     Outside(u32),
-    /// Something stands behind this, which one of two crons doesn't heed.
+    /// Something follows this text in the item. Debian's cron ignores it, and cronie refuses the
+    /// item.
     Ignored(&'a str),
-    /// A step stands behind a lone number.
+    /// A step follows a lone number.
     LoneStep,
     /// The step is no number.
     NoStep(&'a str),
@@ -42,21 +43,21 @@ pub struct RefusedItem<'a> {
 pub enum Fault<'a> {
     /// An item is refused.
     Refused(RefusedItem<'a>),
-    /// There are fewer than five fields, and this is the first that isn't there.
+    /// There are fewer than five fields, and this is the first that is missing.
     NoField(Field),
-    /// This word stands behind the fifth field.
+    /// This word follows the fifth field.
     SixthField(&'a str),
     /// The word begins with `@` and is no nickname.
     NoNickname(&'a str),
-    /// The word is a nickname in capital letters.
+    /// The word is a nickname with capital letters.
     CapitalNickname(&'a str),
-    /// This word stands behind a nickname.
+    /// This word follows a nickname.
     BehindNickname(&'a str),
-    /// This is the first word behind a line feed, or a carriage return.
+    /// This is the first word after a line feed or a carriage return.
     SecondLine(&'a str),
 }
 
-// The words for a reason, which name the numbers and the names of the field.
+// The message of `reason`, which names the numbers and the kind of name that `field` takes.
 #[derive(Clone, Copy)]
 struct ReasonWords<'a> {
     field: Field,

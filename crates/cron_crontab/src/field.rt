@@ -1,4 +1,4 @@
-//! The five fields.
+//! The five fields of a crontab's expression: their titles, their numbers and names.
 
 ghost use Rattle.std.specs.Prelude.{◌≡◌};
 ghost use Rattle.std.specs.Str.{str_eq_ignore_ascii_case};
@@ -41,7 +41,7 @@ const DAY_NAMES: [(&str, u32); 7] = [
     ("sat", 6),
 ];
 
-/// Tells whether two names are the same but for the case of their letters.
+/// Returns true if `name` and `other` are the same but for the case of their letters.
 #[inline(always)]
 pub(crate) fn is_same_name(name: &str, other: &str) -> bool
     ensures { result ≡ str_eq_ignore_ascii_case name.now other.now }
@@ -58,7 +58,7 @@ pub(crate) fn is_same_name(name: &str, other: &str) -> bool
     true
 }
 
-/// The number of a name, in any case of its letters.
+/// The number of the name `sought`, in any case of its letters. `None` if it isn't in `names`.
 #[inline(always)]
 fn number_named(names: &[(&str, u32)], sought: &str) -> Option<u32>
     ensures { result ≡ named_in (ordinals_view names.now) sought.now }
@@ -72,7 +72,7 @@ fn number_named(names: &[(&str, u32)], sought: &str) -> Option<u32>
 }
 
 impl Field {
-    /// What messages call the field.
+    /// The field's name in messages.
     pub fn title(self) -> &'static str
         ensures { result.now ≡ title self }
     {
@@ -85,7 +85,7 @@ impl Field {
         }
     }
 
-    /// The least number.
+    /// The least number of the field.
     pub fn least(self) -> u32
         ensures { result ≡ least self }
     {
@@ -95,7 +95,7 @@ impl Field {
         }
     }
 
-    /// The greatest number.
+    /// The greatest number of the field.
     pub fn greatest(self) -> u32
         ensures { result ≡ greatest self }
     {
@@ -108,7 +108,8 @@ impl Field {
         }
     }
 
-    /// The number of a name of three letters.
+    /// The number of the month or day whose name of three letters is `name`. `None` if the field
+    /// has no such name.
     pub(crate) fn number_named(self, name: &str) -> Option<u32>
         ensures { result ≡ named_in (names self) name.now }
     {

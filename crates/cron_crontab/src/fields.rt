@@ -16,8 +16,8 @@ use cron_units::fields::ScheduleFields;
 use cron_units::time_unit::layout::{days_from_bits, from_bits};
 use cron_units::time_unit::{only, whole};
 
-/// The numbers of a field, a bit for each from the least on, and whether the field begins with a
-/// star.
+/// The numbers of a field as bits, where bit 0 is the field's least number, and whether the field
+/// begins with a star.
 #[derive(Clone, Copy)]
 pub(crate) struct FieldNumbers {
     numbers: u64,
@@ -34,7 +34,7 @@ pub(crate) struct FiveNumbers {
     day_of_week: FieldNumbers,
 }
 
-/// The numbers of a field that is one star. Most fields are.
+/// All numbers of `field` as bits if `word` is a lone star, as most fields are. Else `None`.
 #[inline(always)]
 fn star_numbers(field: Field, word: &str) -> Option<u64>
     ensures { IfSome result (λ bits. AreRead field word.now bits × (bits < 2 ^ 64)) }
@@ -45,8 +45,9 @@ fn star_numbers(field: Field, word: &str) -> Option<u64>
     Some(numbers_of(field, Base::Range(field.least(), field.greatest()), 1))
 }
 
-/// Reads the items of a field, which have commas between them. A fault is written where the caller
-/// has room for it: as a result it would be moved through memory after each field, read ones too.
+/// Reads the items of a field, with commas between them, and returns their numbers as bits. If an
+/// item is refused, writes the fault to `fault` and returns `None`. As part of the result, a fault
+/// would be copied through memory after each field, even after one without a fault.
 #[inline(never)]
 fn read_items<'a>(field: Field, word: &'a str, fault: &mut Fault<'a>) -> Option<u64>
     ensures items { MatchOption result
@@ -87,7 +88,8 @@ fn read_numbers<'a>(field: Field, word: &'a str, fault: &mut Fault<'a>) -> Optio
     }
 }
 
-/// Reads the first word of a text as a field, and finds what stands behind it.
+/// Reads the first word of `text` as `field`, and returns its numbers and the text after it. `None`
+/// if there is no word or it is refused; `fault` then says why.
 #[inline(always)]
 fn next_field<'a>(
     field: Field,
@@ -108,7 +110,8 @@ fn next_field<'a>(
     Some((FieldNumbers { numbers, star }, rest))
 }
 
-/// Reads five fields, behind which nothing stands.
+/// Reads a text of five fields and nothing after them. `None` if it is refused; `fault` then says
+/// why.
 pub(crate) fn read_five<'a>(text: &'a str, fault: &mut Fault<'a>) -> Option<FiveNumbers>
     ensures five { MatchOption result
         (five_of (words text.now) ≡ Err (fault_view fault.new)) (AreFiveRead (words text.now)) }
@@ -132,8 +135,7 @@ pub(crate) fn read_five<'a>(text: &'a str, fault: &mut Fault<'a>) -> Option<Five
     })
 }
 
-/// Days of the week, of which the first and the eighth are Sunday, with the first wherever the
-/// eighth is.
+/// Returns the days of the week `days` with bit 0 set if bit 7 is set, since both bits are Sunday.
 #[inline(always)]
 fn with_sunday(days: u64) -> u64
     requires { days < 2 ^ 64 }
@@ -143,7 +145,7 @@ fn with_sunday(days: u64) -> u64
 }
 
 impl FiveNumbers {
-    // Both kinds of day must lie in their sets.
+    // The schedule whose days must be in both sets: the days of the month and the days of the week.
     fn on_both(&self) -> ScheduleFields
         requires { self.now.day_of_week.numbers < 2 ^ 64 }
         ensures { (five : Five) → AreKept five self.now → result ≡ on_both five }
@@ -159,7 +161,8 @@ impl FiveNumbers {
         }
     }
 
-    /// The schedules that five fields mean.
+    /// The schedules that the five fields mean: one if a field of days begins with a star, else
+    /// two, one for each field of days.
     pub(crate) fn schedules(&self) -> Schedules
         requires { self.now.day_of_week.numbers < 2 ^ 64 }
         ensures { (five : Five) → AreKept five self.now → result ≡ schedules_of five }

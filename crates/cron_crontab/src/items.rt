@@ -1,4 +1,4 @@
-//! Items of a field: numbers, ranges and stars, and the steps behind them.
+//! Items of a field: numbers, ranges and stars, and their steps.
 
 ghost use Rattle.std.specs.Prelude.{◌≡◌, ◌<◌, ◌≤◌, ◌+◌, ◌-◌, ◌^◌, ℕ, IfOk, IfSome, MatchResult, Ok, Err};
 ghost use Rattle.cron_bits.specs.Words.{has_bit};
@@ -13,14 +13,14 @@ use crate::numbers::{lone_number, read_number, read_step};
 use crate::words::cut_at;
 use cron_bits::words::Words;
 
-/// What stands before a step.
+/// The part of an item before its step. A star is a range.
 #[derive(Clone, Copy)]
 pub(crate) enum Base {
     Single(u32),
     Range(u32, u32),
 }
 
-/// Tells whether a word begins with a star.
+/// Returns true if `text` begins with a star.
 #[inline(always)]
 pub fn begins_with_star(text: &str) -> bool
     ensures { result ≡ begins_with_star text.now }
@@ -52,7 +52,7 @@ fn read_range<'a>(field: Field, text: &'a str) -> Result<Base, Reason<'a>>
     }
 }
 
-/// Reads what stands before a step.
+/// Reads the part of an item before its step: a star, a number or a range.
 #[inline(always)]
 pub(crate) fn read_base<'a>(field: Field, text: &'a str) -> Result<Base, Reason<'a>>
     ensures base { MatchResult result
@@ -70,7 +70,7 @@ pub(crate) fn read_base<'a>(field: Field, text: &'a str) -> Result<Base, Reason<
     }
 }
 
-/// The numbers from a first one to a last one by steps, a bit for each from the least number on.
+/// The numbers from `first` to `last` by steps of `every`, as bits, where bit 0 is `least`.
 #[inline(always)]
 fn bits_of(least: u32, first: u32, last: u32, every: u32) -> u64
     requires first { least ≤ first }
@@ -86,7 +86,8 @@ fn bits_of(least: u32, first: u32, last: u32, every: u32) -> u64
     u64::every_nth(first - least, every).below(last - least + 1)
 }
 
-/// The numbers of a base by steps. A step past the last number leaves the first alone.
+/// The numbers of `base` by steps of `every`, as bits, where bit 0 is the field's least number. A
+/// step that goes past the last number leaves only the first.
 #[inline(always)]
 pub(crate) fn numbers_of(field: Field, base: Base, every: u32) -> u64
     requires within { IsBaseWithin field base }
@@ -101,7 +102,8 @@ pub(crate) fn numbers_of(field: Field, base: Base, every: u32) -> u64
     bits_of(field.least(), first, last, every)
 }
 
-/// The numbers of an item that is one number.
+/// The bit of an item that is one number, where bit 0 is the field's least number. `None` if `text`
+/// is no number of `field`.
 #[inline(always)]
 fn single_bits(field: Field, text: &str) -> Option<u64>
     ensures { IfSome result (λ bits. IsItemRead field text.now bits × (bits < 2 ^ 64)) }
@@ -110,7 +112,7 @@ fn single_bits(field: Field, text: &str) -> Option<u64>
     Some(numbers_of(field, Base::Single(number), 1))
 }
 
-/// Reads an item of a field, where it isn't one number.
+/// Reads an item of a field that isn't one number, or returns why it is refused.
 fn read_longer<'a>(field: Field, text: &'a str) -> Result<u64, Reason<'a>>
     ensures item { MatchResult result
         (IsItemRead field text.now) (λ r. item_of field text.now ≡ Err (reason_view r)) }
@@ -132,7 +134,8 @@ fn read_longer<'a>(field: Field, text: &'a str) -> Result<u64, Reason<'a>>
     }
 }
 
-/// Reads an item of a field.
+/// Reads an item of a field, and returns its numbers as bits, where bit 0 is the field's least
+/// number.
 #[inline(always)]
 pub(crate) fn read_item<'a>(field: Field, text: &'a str) -> Result<u64, Reason<'a>>
     ensures item { MatchResult result

@@ -1,5 +1,5 @@
-//! Crontabs: what an expression of five fields or a nickname means, as one schedule or two, and why
-//! another text is refused.
+//! The expressions of crontabs: what five fields or a nickname mean, as one schedule or two, and
+//! why another text is refused.
 #![tactic(auto)]
 
 mod faults;

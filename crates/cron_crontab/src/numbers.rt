@@ -1,4 +1,4 @@
-//! Numbers and steps, as they are written.
+//! Reads numbers, names and steps.
 
 ghost use Rattle.std.specs.Prelude.{◌≡◌, ◌<◌, ◌≤◌, ℕ, IfOk, IfSome, MatchOption, MatchResult, Result, Ok, Err, length, slice_index, true, false};
 ghost use Rattle.std.specs.Char.{is_ascii_alphabetic, is_ascii_alphanumeric, is_ascii_digit};
@@ -12,10 +12,10 @@ ghost use Rattle.cron_crontab.specs.Inner.Reading.{AreDigits, IsNamed, IsNumber,
 use crate::faults::Reason;
 use crate::field::Field;
 
-/// The most digits that a number has, so that 32 bits hold it.
+/// The most digits that a number may have. 32 bits hold every such number.
 const MOST_DIGITS: usize = 9;
 
-/// How many letters and digits stand at the front of a text.
+/// The number of letters and digits at the front of `text`.
 #[inline(always)]
 fn front_len(text: &[u8]) -> usize
     ensures { result ≡ prefix_len is_ascii_alphanumeric text.now }
@@ -28,7 +28,7 @@ fn front_len(text: &[u8]) -> usize
     text.len()
 }
 
-/// The letters and digits at the front of a text, and what stands behind them.
+/// Cuts `text` into the letters and digits at its front and the rest.
 #[inline(always)]
 fn cut_front(text: &str) -> (&str, &str)
     ensures front { result.0.now ≡ front text.now }
@@ -50,7 +50,8 @@ fn are_digits(text: &[u8]) -> bool
     true
 }
 
-/// The number that a text spells which is digits alone, nine at most. They are looked at once.
+/// The number that `text` spells in digits. `None` if it isn't one to nine digits. Each digit is
+/// read once.
 #[inline(always)]
 fn lone_digits(text: &[u8]) -> Option<u32>
     ensures { MatchOption result
@@ -74,9 +75,9 @@ fn lone_digits(text: &[u8]) -> Option<u32>
 #[derive(Clone, Copy)]
 enum Spelling {
     Number(u32),
-    /// Digits, but too many.
+    /// More than nine digits.
     Long,
-    /// No digits, or letters too.
+    /// Nothing, or a run with letters.
     Other,
 }
 
@@ -104,7 +105,8 @@ fn are_letters(text: &[u8]) -> bool
     true
 }
 
-/// The number that a text of three letters names.
+/// The number of the month or day whose name of three letters is `text`. `None` if `field` has no
+/// such name.
 #[inline(always)]
 fn lone_name(field: Field, text: &str) -> Option<u32>
     ensures { IfSome result (IsNamed field text.now) }
@@ -115,7 +117,7 @@ fn lone_name(field: Field, text: &str) -> Option<u32>
     field.number_named(text)
 }
 
-/// The number that a whole text is, where it is one of the field's.
+/// The number of `field` that the whole of `text` spells or names. `None` if it is no such number.
 #[inline(always)]
 pub(crate) fn lone_number(field: Field, text: &str) -> Option<u32>
     ensures { IfSome result (IsNumber field text.now) }
@@ -131,7 +133,8 @@ pub(crate) fn lone_number(field: Field, text: &str) -> Option<u32>
     }
 }
 
-/// Reads a number of a field, or a name, as it is written.
+/// Reads a number of `field`, or a name, if `lone_number` doesn't take it. The error says why
+/// `text` is refused.
 fn read_front<'a>(field: Field, text: &'a str) -> Result<u32, Reason<'a>>
     ensures number { MatchResult result
         (λ n. number_of field text.now ≡ Ok n)
@@ -173,7 +176,7 @@ pub(crate) fn read_number<'a>(field: Field, text: &'a str) -> Result<u32, Reason
     }
 }
 
-/// Reads a step.
+/// Reads a step: a number of at most nine digits, and at least 1.
 #[inline(always)]
 pub(crate) fn read_step(text: &str) -> Result<u32, Reason<'_>>
     ensures step { MatchResult result

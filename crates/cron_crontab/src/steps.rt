@@ -1,4 +1,5 @@
-//! Items of a field by their numbers, for callers that look at how a field is written.
+//! Items of a field as first number, last number and step, for callers that look at how a field is
+//! written.
 
 ghost use Rattle.std.specs.Prelude.{◌≡◌, ◌<◌, IfOk, MatchResult, Ok, Err};
 ghost use Rattle.cron_crontab.specs.Items.{by_step, item_of};
@@ -11,8 +12,8 @@ use crate::items::{Base, read_base};
 use crate::numbers::read_step;
 use crate::words::cut_at;
 
-/// An item of a field: the numbers from a first one to a last one by steps. There are none where
-/// the first is above the last. Of a lone number both ends are that number.
+/// An item of a field: the numbers from `first` to `last` by steps of `every`. There are none if
+/// `first` is greater than `last`. For a lone number, both are that number.
 #[derive(Clone, Copy, Debug, PartialEq, Eq)]
 pub struct Item {
     pub first: u32,

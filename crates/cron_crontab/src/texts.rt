@@ -13,7 +13,7 @@ use crate::words::{next_word, word_behind_break};
 
 const REBOOT: &str = "@reboot";
 
-/// The nicknames, with the expressions that they stand for.
+/// The nicknames other than `@reboot`, with the expressions that they stand for.
 const NICKNAMES: [(&str, &str); 7] = [
     ("@yearly", "0 0 1 1 *"),
     ("@annually", "0 0 1 1 *"),
@@ -27,13 +27,13 @@ const NICKNAMES: [(&str, &str); 7] = [
 /// What an expression means.
 #[derive(Drop)]
 pub enum Expression {
-    /// One schedule, or two of which one suffices.
+    /// One schedule, or two: the entry fires when either does.
     Fires(Schedules),
-    /// A run at the start of the machine, and at no other time: `@reboot`.
+    /// `@reboot`: a run when the machine starts, and at no other time.
     Reboot,
 }
 
-/// The text beside a word in a table.
+/// The text that `table` has for the name `word`, or `None` if it has none.
 fn text_beside<'t>(table: &[(&'t str, &'t str)], word: &str) -> Option<&'t str>
     ensures { option_map (λ text. text.now) result ≡ text_in (table_view table.now) word.now }
 {
@@ -45,7 +45,7 @@ fn text_beside<'t>(table: &[(&'t str, &'t str)], word: &str) -> Option<&'t str>
     None
 }
 
-/// Tells whether a table has a word, in any case of its letters.
+/// Returns true if `table` has the name `word`, in any case of its letters.
 fn has_word(table: &[(&str, &str)], word: &str) -> bool
     ensures { result ≡ has_word (table_view table.now) word.now }
 {
@@ -57,14 +57,14 @@ fn has_word(table: &[(&str, &str)], word: &str) -> bool
     false
 }
 
-/// The expression that a nickname stands for.
+/// The expression that the nickname `word` stands for, or `None` if `NICKNAMES` doesn't have it.
 fn expansion(word: &str) -> Option<&'static str>
     ensures { option_map (λ text. text.now) result ≡ text_in nicknames word.now }
 {
     text_beside(&NICKNAMES, word)
 }
 
-/// Tells whether a word is a nickname but for the case of its letters.
+/// Returns true if `word` is a nickname in any case of its letters.
 fn is_capital(word: &str) -> bool
     ensures { result ≡ is_capital word.now }
 {
@@ -100,7 +100,7 @@ fn read_nickname(word: &str) -> Result<Expression, Fault<'_>>
     }
 }
 
-/// Tells whether a word begins with `@`, as a nickname does.
+/// Returns true if `word` begins with `@`, as nicknames do.
 pub fn begins_with_at(word: &str) -> bool
     ensures { result ≡ begins_with_at word.now }
 {
@@ -110,7 +110,7 @@ pub fn begins_with_at(word: &str) -> bool
     }
 }
 
-/// Reads the words of a text, on whatever lines they stand.
+/// Reads the words of `text`. Line breaks between them count as white space.
 fn read_words(text: &str) -> Result<Expression, Fault<'_>>
     ensures { MatchResult result
         (λ e. outcome_of (words text.now) ≡ Ok (expression_view e))
@@ -129,8 +129,8 @@ fn read_words(text: &str) -> Result<Expression, Fault<'_>>
     Ok(read)
 }
 
-/// Reads an expression of a crontab: five fields, or a nickname, on one line, with spaces and tabs
-/// around and between them. Line breaks may stand at its end alone.
+/// Reads an expression of a crontab: five fields or a nickname, on one line, with spaces and tabs
+/// around and between them. Line breaks are allowed only at its end.
 pub fn read(text: &str) -> Result<Expression, Fault<'_>>
     ensures { MatchResult result
         (λ e. Means text.now (expression_view e)) (λ fault. Refuses text.now (fault_view fault)) }

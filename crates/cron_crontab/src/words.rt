@@ -1,4 +1,4 @@
-//! Texts cut in pieces: at white space, and at single marks.
+//! Texts cut in pieces: at white space, and at single bytes such as `,`.
 
 ghost use Rattle.std.specs.Prelude.{◌≡◌, ◌==◌, ◌<◌, ◌≤◌, ◌∷◌, [], ℕ, IfSome, MatchOption, length, slice_index, true, false};
 ghost use Rattle.std.specs.List.{position_or_len};
@@ -10,7 +10,7 @@ ghost use Rattle.cron_crontab.specs.Items.{pieces};
 
 use cron_text::is_space;
 
-/// The index of the first mark, or the length where there is none.
+/// The index of the first `mark`, or the length of `text` if there is none.
 #[inline(always)]
 fn mark_at(text: &[u8], mark: u8) -> usize
     ensures { result ≡ position_or_len (λ b. b == mark) text.now }
@@ -23,8 +23,8 @@ fn mark_at(text: &[u8], mark: u8) -> usize
     text.len()
 }
 
-/// What stands before the first mark, a byte of ASCII, and what stands behind it, where there is
-/// one.
+/// Cuts `text` at the first `mark`, an ASCII byte. Returns the text before it and the text after
+/// it, which is `None` if there is no `mark`.
 #[inline(always)]
 pub fn cut_at(text: &str, mark: u8) -> (&str, Option<&str>)
     requires { mark < 128 }
@@ -41,7 +41,7 @@ pub fn cut_at(text: &str, mark: u8) -> (&str, Option<&str>)
     (&text[..end], Some(&text[end + 1..]))
 }
 
-/// The first index from one on at which no white space stands.
+/// The index of the first byte that isn't white space, or the length of `text` if there is none.
 #[inline(always)]
 fn word_start(text: &[u8]) -> usize
     ensures within { result ≤ length text.now }
@@ -56,7 +56,7 @@ fn word_start(text: &[u8]) -> usize
     text.len()
 }
 
-/// The first index from one on at which white space stands.
+/// The index of the first white space at or after `from`, or the length of `text` if there is none.
 #[inline(always)]
 fn word_end(text: &[u8], from: usize) -> usize
     requires { from ≤ length text.now }
@@ -73,7 +73,8 @@ fn word_end(text: &[u8], from: usize) -> usize
     text.len()
 }
 
-/// The first word of a text, and what stands behind it. White space stands between words.
+/// The first word of `text`, and the text after it. `None` if there is no word. White space
+/// separates words.
 pub fn next_word(text: &str) -> Option<(&str, &str)>
     ensures words { MatchOption result
         (words text.now ≡ []) (λ r. words text.now ≡ r.0.now ∷ words r.1.now) }
@@ -95,7 +96,7 @@ fn is_break(byte: u8) -> bool
     byte == b'\n' || byte == b'\r'
 }
 
-/// The index of the first line break, or the length where there is none.
+/// The index of the first line break, or the length of `text` if there is none.
 #[inline(always)]
 fn break_at(text: &[u8]) -> usize
     ensures { result ≡ position_or_len is_break text.now }
@@ -108,7 +109,7 @@ fn break_at(text: &[u8]) -> usize
     text.len()
 }
 
-/// The first word behind the first line break.
+/// The first word after the first line break, or `None` if there is none.
 #[inline(always)]
 pub(crate) fn word_behind_break(text: &str) -> Option<&str>
     ensures { option_map (λ word. word.now) result ≡ further_word text.now }

@@ -3,14 +3,15 @@
 
 ghost use Rattle.cron_dialects.specs.Dialects.{MeaningsAgree, NicknamesAloneAreBoth, NicknamesAreBoth};
 
-/// A text that means something to a crontab, and to this library too, is a nickname, and both take
-/// it for the same schedule. So five fields are never six or seven, however they are spaced.
+/// A text that means something both to a crontab and to this library is a nickname, and means the
+/// same schedule to both. So five fields are never six or seven, however they are spaced.
 pub fn nicknames_alone_are_both()
     ensures nickname { NicknamesAloneAreBoth }
     ensures same { MeaningsAgree }
 {}
 
-/// Each nickname means the same to both. `@reboot` stands for no schedule, and is none of them.
+/// Each nickname means the same to a crontab and to this library. `@reboot` means no schedule, and
+/// isn't one of them.
 pub fn nicknames_are_both()
     ensures { NicknamesAreBoth }
 {}

@@ -1,4 +1,4 @@
-//! Which texts mean something to a crontab and to this library too: laws over both definitions.
+//! Laws of the texts that mean something both to a crontab and to this library.
 #![tactic(auto)]
 
 pub mod laws;

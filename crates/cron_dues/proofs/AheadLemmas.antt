@@ -3,10 +3,9 @@ use Rattle.std.proofs.Common.{◌≡◌, Bool, ℕ, ◌-◌, ◌≤◌, ◌<◌,
 use Rattle.std.proofs.lemmas.Int.{by_lt_z}
 use Rattle.jiff_core.proofs.SignedLemmas.{signed_arith}
 use Rattle.cron_units.specs.Nearest.{IsNearestAt}
-use Rattle.cron_units.specs.Sets.{Sets}
+use Rattle.cron_time.specs.Seconds.{Seconds, is_match}
 use Rattle.cron_units.specs.declared.way.Way.{Way}
 use Rattle.cron_units.specs.declared.way.Way.TheVariants.{Ahead}
-use Rattle.cron_time.specs.Matches.{is_match}
 use Rattle.cron_moments.specs.Civil.{seconds_in_range}
 use Rattle.cron_dues.specs.Clock.Due.{CanBeDue, Clock, Due, due, due_instant, shows}
 use Rattle.cron_dues.specs.Known.{AreDueFrom, IsNextDue}
@@ -54,7 +53,7 @@ due_can_be clock c range =
     let past = as_natural (shows clock (due_instant clock c) -ℤ pos c) (omega (arith, signed_arith)) in
     (range, omega (arith, signed_arith, near.1, shown.1))
 
-pub next_is : (s : Sets) (clock : Clock) (from : ℤ) (c : ℕ) (d : Due) (known : Known) → IsNearestAt Ahead (is_match s) from c
+pub next_is : (s : Seconds) (clock : Clock) (from : ℤ) (c : ℕ) (d : Due) (known : Known) → IsNearestAt Ahead (is_match s) from c
     → d ≡ due clock c → AreDueFrom clock (pos c) known → IsNextDue s clock from (Some d) known
 next_is s clock from c d known near own h =
     subst (λ (e : Due). IsNextDue s clock from (Some e) known) (sym own)

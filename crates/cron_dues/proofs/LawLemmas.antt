@@ -1,38 +1,37 @@
 -- Laws of due fires.
 use Rattle.std.proofs.Common.{◌≡◌, ℕ, ◌<◌, ◌≤◌, ℤ, pos, ◌-ℤ◌, ◌≤ℤ◌, [], ◌∷◌, ◌++◌, nat_lt, Some, inl, inr, refl, sym, ap, ◌∙◌, arith}
-use Rattle.std.specs.Prelude.{filter, slice_get}
+use Rattle.std.specs.Prelude.{slice_get}
 use Rattle.std.proofs.lemmas.Bool.{cases_lt}
 use Rattle.jiff_core.proofs.SignedLemmas.{signed_arith}
 use Rattle.jiff_tz.specs.declared.timezone.TimeZone.{TimeZone}
-use Rattle.cron_units.specs.Sets.{Sets}
+use Rattle.cron_time.specs.Seconds.{Seconds, is_match, matching_seconds}
 use Rattle.cron_moments.specs.Civil.{seconds_in_range}
 use Rattle.cron_moments.specs.Readings.{Reading, readings}
 use Rattle.cron_moments.specs.Readings as moments
-use Rattle.cron_time.specs.Matches.{is_match}
 use Rattle.cron_time.proofs.PlaceLemmas.{nothing_in_nil}
 use Rattle.cron_time.proofs.TimelineLemmas.{readings-second}
 use Rattle.cron_clocks.specs.Clocks.{HasInstant, LookupsAgree}
 use Rattle.cron_dues.specs.Clock.Due.{Clock, Due, clock_of, due, due_instant, instant, shows}
-use Rattle.cron_dues.specs.Clock.Dues.{dues, matching_seconds}
+use Rattle.cron_dues.specs.Clock.Dues.{dues}
 use Rattle.cron_dues.specs.Clock.FirstDues.{IsDue}
-use Rattle.cron_dues.specs.DueLaws.{IsFirstReading, FiresAreTheMatches, NominalSecondsAscend, DueInstantsNeverDecrease, FirstReadingsAreDue, GapsArePassedOver, CutListsGoOn}
+use Rattle.cron_dues.specs.DueLaws.{IsFirstReading, FiresAreTheMatches, NominalSecondsAscend, DueInstantsNeverDecrease, FirstReadingsAreDue, GapsArePassedOver}
 use Rattle.cron_dues.proofs.DueLemmas.{as_natural, due_ascends, due_by, due_is, fire_due}
 use Rattle.cron_time.proofs.ListLemmas.{map-back}
 use Rattle.cron_dues.specs.Ascent.{Ascends}
-use Rattle.cron_dues.proofs.ListLemmas.{ascends-at, cut-behind}
+use Rattle.cron_dues.proofs.ListLemmas.{ascends-at}
 use Rattle.cron_dues.proofs.MemberLemmas.{all-ascend, own-of, sets-match}
 use Rattle.cron_dues.proofs.WayLemmas.{back}
 
 pub fires_are_matches : FiresAreTheMatches
 fires_are_matches s clock = map-back (due clock) (λ d. d.second) (matching_seconds s) (λ c. refl)
 
-pub dues-ascend : (s : Sets) (clock : Clock) → Ascends (λ (d : Due). d.second) (dues s clock)
+pub dues-ascend : (s : Seconds) (clock : Clock) → Ascends (λ (d : Due). d.second) (dues s clock)
 dues-ascend s clock = all-ascend (matching_seconds s) (is_match s) clock (sets-match s)
 
 pub nominal_ascend : NominalSecondsAscend
 nominal_ascend s clock i j d e less here there = ascends-at (λ (x : Due). x.second) (dues s clock) i j d e (dues-ascend s clock) less here there
 
-pub due_no_later : (s : Sets) (clock : Clock) (d e : Due) → IsDue s clock d → IsDue s clock e → d.second ≤ e.second → instant d ≤ℤ instant e
+pub due_no_later : (s : Seconds) (clock : Clock) (d e : Due) → IsDue s clock d → IsDue s clock e → d.second ≤ e.second → instant d ≤ℤ instant e
 due_no_later s clock d e here there le =
     let one = own-of (matching_seconds s) (is_match s) clock (sets-match s) d here in
     let other = own-of (matching_seconds s) (is_match s) clock (sets-match s) e there in
@@ -96,10 +95,3 @@ gaps_passed z c agree range none = elim (cases_lt 0 (due (clock_of z) c).past) [
   | inl more ↦ more
   | inr le ↦ absurd (nothing_read z c (due_instant (clock_of z) c) none (agree.shown_read c (due_instant (clock_of z) c) range (shown_then z c (omega arith))))
 ]
-
--- ---- cut lists
-
-pub cut_lists : CutListsGoOn
-cut_lists s clock done fire rest e =
-    let up : Ascends (λ (d : Due). d.second) (done ++ fire ∷ rest) = rw (← e) (dues-ascend s clock) in
-    ap (filter (λ (d : Due). nat_lt fire.second d.second)) e ∙ cut-behind (λ (d : Due). d.second) done fire rest up

@@ -9,6 +9,7 @@ pub mod ReachLemmas
 pub mod ListLemmas
 pub mod MemberLemmas
 pub mod LawLemmas
-pub mod RunLemmas
+pub mod RuleLemmas
+pub mod StandLemmas
 pub mod TextLemmas
 pub mod ReaderLemmas

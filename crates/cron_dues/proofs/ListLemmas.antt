@@ -1,9 +1,9 @@
 -- Lists that ascend by a key.
-use Rattle.std.proofs.Common.{◌≡◌, ℕ, zero, suc, ◌<◌, ◌≤◌, nat_lt, Bool, true, false, cond, List, [], ◌∷◌, ◌++◌, Some, inl, inr, refl, sym, ap, ◌∙◌, arith}
+use Rattle.std.proofs.Common.{◌≡◌, ℕ, zero, suc, ◌<◌, Bool, true, false, cond, List, [], ◌∷◌, ◌++◌, Some, inl, inr, refl, sym, ap, ◌∙◌, arith}
 use Rattle.std.specs.Prelude.{filter, map, slice_get}
-use Rattle.cron_time.proofs.ListLemmas.{Among, among-below, among-cases, among-filter, among-first, among-join, among-map, among-none, among-rest, filter-all, filter-within, join-among}
+use Rattle.cron_time.proofs.ListLemmas.{Among, among-below, among-cases, among-filter, among-first, among-join, among-map, among-none, among-rest}
 use Rattle.cron_time.proofs.PlaceLemmas.{nothing_in_nil}
-use Rattle.cron_time.specs.Timeline.{numbers_below}
+use Rattle.cron_time.specs.Seconds.{numbers_below}
 use Rattle.cron_dues.specs.Ascent.{Ascends}
 
 pub ascends-at : {A : Type 0} (key : A → ℕ) (l : List A) (i j : ℕ) (x y : A) → Ascends key l → i < j → slice_get l i ≡ Some x → slice_get l j ≡ Some y
@@ -47,72 +47,6 @@ numbers-ascend (suc n) =
       | inl e ↦ let less = among-below n x one in omega arith
       | inr none ↦ absurd (among-none y none)
     ])
-
-past_no : (a b : ℕ) → a ≤ b → nat_lt b a ≡ false
-past_no a b h = grind arith
-
-past_yes : (a b : ℕ) → b < a → nat_lt b a ≡ true
-past_yes a b h = grind arith
-
--- a test that is passed by an element of a list is passed by those of greater keys
-abbrev pub KeepsOn : {A : Type 0} → (A → ℕ) → (A → Bool) → List A → Type 0
-KeepsOn {A} key p l = (a b : A) → Among l a → Among l b → p a ≡ true → key a < key b → p b ≡ true
-
--- of an ascending list what passes a test that is passed from there on: the first, and those behind it
-pub first-passing : {A : Type 0} (key : A → ℕ) (p : A → Bool) (l : List A) (r : A) → KeepsOn key p l
-    → Ascends key l → Among l r → p r ≡ true → ((q : A) → Among l q → p q ≡ true → key r ≤ key q) → filter p l ≡ r ∷ filter (λ q. nat_lt (key r) (key q)) l
-first-passing key p [] r on up here passes least = absurd (among-none r here)
-first-passing key p (x ∷ l) r on up here passes least =
-    by_test (p x) (λ there. first-passing key p l r (λ a b h k. on a b (among-rest x a l h) (among-rest x b l k)) up.1 there passes
-    (λ q h t. least q (among-rest x q l h) t)) refl
-  where
-    at_first : p x ≡ true → r ≡ x
-    at_first is = elim (among-cases x l r here) [
-      | inl e ↦ e
-      | inr there ↦ let later = up.0 r there in let first = least x (among-first x l) is in absurd (omega arith)
-    ]
-
-    by_test : (b : Bool) → (Among l r → filter p l ≡ r ∷ filter (λ q. nat_lt (key r) (key q)) l) → p x ≡ b
-        → cond b (x ∷ filter p l) (filter p l) ≡ r ∷ cond (nat_lt (key r) (key x)) (x ∷ filter (λ q. nat_lt (key r) (key q)) l) (filter (λ q. nat_lt (key r) (key q)) l)
-    by_test true below is =
-        let all : filter p l ≡ l = filter-all p l (λ q h. on x q (among-first x l) (among-rest x q l h) is (up.0 q h)) in
-        let later : filter (λ q. nat_lt (key x) (key q)) l ≡ l = filter-all (λ q. nat_lt (key x) (key q)) l (λ q h. past_yes (key q) (key x) (up.0 q h)) in
-        let itself : nat_lt (key x) (key x) ≡ false = past_no (key x) (key x) (omega arith) in
-        rw (at_first is, itself) (ap (λ m. x ∷ m) (all ∙ sym later))
-    by_test false below is = elim (among-cases x l r here) [
-      | inl e ↦ let same : p x ≡ true = ap p (sym e) ∙ passes in absurd (cc)
-      | inr there ↦
-          let less = up.0 r there in
-          let fails : nat_lt (key r) (key x) ≡ false = past_no (key x) (key r) (omega arith) in
-          rw fails (below there)
-    ]
-
--- behind an element of an ascending list come those of greater keys
-pub cut-behind : {A : Type 0} (key : A → ℕ) (done : List A) (r : A) (rest : List A) → Ascends key (done ++ r ∷ rest)
-    → filter (λ q. nat_lt (key r) (key q)) (done ++ r ∷ rest) ≡ rest
-cut-behind key [] r rest up =
-    let itself : nat_lt (key r) (key r) ≡ false = past_no (key r) (key r) (omega arith) in
-    rw itself (filter-all (λ q. nat_lt (key r) (key q)) rest (λ q h. past_yes (key q) (key r) (up.0 q h)))
-cut-behind key (x ∷ done) r rest up =
-    let less = up.0 r (join-among done (r ∷ rest) r (inr (among-first r rest))) in
-    let fails : nat_lt (key r) (key x) ≡ false = past_no (key x) (key r) (omega arith) in
-    rw fails (cut-behind key done r rest up.1)
-
-pub among-cut : {A : Type 0} (done : List A) (r : A) (rest : List A) → Among (done ++ r ∷ rest) r
-among-cut done r rest = join-among done (r ∷ rest) r (inr (among-first r rest))
-
-less_yes : (a b : ℕ) → nat_lt a b ≡ true → a < b
-less_yes a b h = grind arith
-
--- behind an element of what passes such a test come those of greater keys
-pub cut-passing : {A : Type 0} (key : A → ℕ) (p : A → Bool) (l done : List A) (r : A) (rest : List A) → KeepsOn key p l → Ascends key l
-    → filter p l ≡ done ++ r ∷ rest → filter (λ q. nat_lt (key r) (key q)) l ≡ rest
-cut-passing key p l done r rest on up e =
-    let both = among-filter p l r (rw e (among-cut done r rest)) in
-    let cut_up : Ascends key (done ++ r ∷ rest) = rw (← e) (ascends-filter key p l up) in
-    sym (filter-within p (λ q. nat_lt (key r) (key q)) l (λ q h t. on r q both.0 h both.1 (less_yes (key r) (key q) t)))
-    ∙ ap (filter (λ q. nat_lt (key r) (key q))) e
-    ∙ cut-behind key done r rest cut_up
 
 -- ---- two lists with the same elements
 

@@ -1,5 +1,5 @@
 -- The due fires of civil seconds that pass a test, in order: which they are, the first and the last of them.
-use Rattle.std.proofs.Common.{◌≡◌, ℕ, ◌<◌, ◌≤◌, ℤ, pos, ◌*ℤ◌, ◌+ℤ◌, ◌≤ℤ◌, nat_lt, Bool, true, false, ◌&&◌, List, map, Option, Some, None, refl, sym, ap, ◌∙◌, inl, inr, arith}
+use Rattle.std.proofs.Common.{◌≡◌, ℕ, ◌<◌, ◌≤◌, ℤ, pos, ◌*ℤ◌, ◌+ℤ◌, ◌-ℤ◌, ◌≤ℤ◌, nat_lt, Bool, true, false, ◌&&◌, List, map, Option, Some, None, refl, sym, ap, ◌∙◌, inl, inr, arith}
 use Rattle.std.specs.Prelude.{filter}
 use Rattle.std.specs.Int.{int_div_euclid}
 use Rattle.std.proofs.lemmas.Bool.{cases_lt}
@@ -7,19 +7,18 @@ use Rattle.std.proofs.lemmas.Int.{by_lt_z}
 use Rattle.jiff_core.proofs.SignedLemmas.{signed_arith}
 use Rattle.cron_units.specs.declared.way.Way.TheVariants.{Ahead, Back}
 use Rattle.cron_units.specs.Nearest.{IsNearestAt}
-use Rattle.cron_units.specs.Sets.{Sets}
-use Rattle.cron_moments.specs.Civil.{civil, seconds_in_range}
-use Rattle.cron_time.specs.Matches.{is_match, matches}
-use Rattle.cron_time.specs.Timeline.{numbers_below}
-use Rattle.cron_instants.proofs.FireLemmas.{int_le-true, int_lt-true}
+use Rattle.cron_time.specs.Seconds.{Seconds, is_match, numbers_below, matching_seconds}
+use Rattle.cron_moments.specs.Civil.{seconds_in_range}
+use Rattle.cron_seconds.proofs.IntLemmas.{int_le-true, int_lt-true}
 use Rattle.cron_clocks.proofs.Windows.{le_yes, lt_yes}
 use Rattle.cron_dues.specs.Clock.Due.{Clock, Due, due, due_instant, instant}
-use Rattle.cron_dues.specs.Clock.Dues.{matching_seconds, is_due_after, is_due_by, is_past}
+use Rattle.cron_dues.specs.Clock.Dues.{is_due_after, is_due_by, is_past}
 use Rattle.cron_dues.specs.Clock.FirstDues.{IsFirst, IsLast}
 use Rattle.cron_dues.specs.Reached.{IsReachedBy}
 use Rattle.cron_dues.specs.Nearest.{IsNearestDue}
 use Rattle.cron_dues.proofs.DueLemmas.{fire_due}
-use Rattle.cron_time.proofs.ListLemmas.{Among, among-below, among-filter, among-map, below-among, filter-among, map-among}
+use Rattle.cron_time.proofs.ListLemmas.{Among, among-map, map-among}
+use Rattle.cron_seconds.proofs.SetLemmas.{among-matching, match_in_range, matching-among}
 use Rattle.cron_dues.specs.Ascent.{Ascends}
 use Rattle.cron_dues.proofs.ListLemmas.{ascends-filter, ascends-map, numbers-ascend}
 
@@ -32,33 +31,18 @@ pub record AreMatches (cs : List ℕ) (test : ℕ → Bool) : Type 0 where
   pub passing : (c : ℕ) → Among cs c → test c ≡ true
   pub range : (c : ℕ) → test c ≡ true → c < seconds_in_range
 
--- a number of the range, and a test of it
-pub passes_in : (c : ℕ) (m : Bool) → c < seconds_in_range → m ≡ true → (nat_lt c seconds_in_range && m) ≡ true
-passes_in c m range is = grind arith
-
-pub passes_of : (c : ℕ) (m : Bool) → (nat_lt c seconds_in_range && m) ≡ true → m ≡ true
-passes_of c true h = refl
-passes_of c false h = grind arith
-
-pub range_of : (c : ℕ) (m : Bool) → (nat_lt c seconds_in_range && m) ≡ true → c < seconds_in_range
-range_of c true h = grind arith
-range_of c false h = grind arith
-
-pub filter-matches : (m : ℕ → Bool) → AreMatches (filter m (numbers_below seconds_in_range)) (λ c. nat_lt c seconds_in_range && m c)
-filter-matches m = record {
-  up = ascends-filter (λ k. k) m (numbers_below seconds_in_range) (numbers-ascend seconds_in_range);
-  among = λ c h.
-      filter-among m (numbers_below seconds_in_range) c (below-among seconds_in_range c (range_of c (m c) h)) (passes_of c (m c) h);
-  passing = λ c h.
-      let both = among-filter m (numbers_below seconds_in_range) c h in
-      passes_in c (m c) (among-below seconds_in_range c both.0) both.1;
-  range = λ c h. range_of c (m c) h;
-}
-
--- so has that of seven sets
-pub sets-match : (s : Sets) → AreMatches (matching_seconds s) (is_match s)
+matching-ascend : (s : Seconds) → Ascends (λ k. k) (matching_seconds s)
 unfolding matching_seconds
-sets-match s = filter-matches (λ c. matches s (civil c))
+matching-ascend s = ascends-filter (λ k. k) s (numbers_below seconds_in_range) (numbers-ascend seconds_in_range)
+
+-- so has that of a set
+pub sets-match : (s : Seconds) → AreMatches (matching_seconds s) (is_match s)
+sets-match s = record {
+  up = matching-ascend s;
+  among = among-matching s;
+  passing = matching-among s;
+  range = match_in_range s;
+}
 
 -- ---- numbers
 
@@ -184,3 +168,10 @@ module _ (cs : List ℕ) (test : ℕ → Bool) (clock : Clock) (are : AreMatches
       first-of (is_past fire) (pos fire.second +ℤ pos 1) answer
       (λ c match past. let less = less-true fire.second c past in omega (arith, signed_arith))
       (λ c match lies. true-less fire.second c (omega (arith, signed_arith))) near
+
+  pub last_before : (fire : Due) (answer : Option Due) → IsNearestDue Back test clock (pos fire.second -ℤ pos 1) answer
+      → IsLast (λ d. Among (map (due clock) cs) d × (is_past d fire ≡ true)) answer
+  last_before fire answer near =
+      last-of (λ d. is_past d fire) (pos fire.second -ℤ pos 1) answer
+      (λ c match past. let less = less-true c fire.second past in omega (arith, signed_arith))
+      (λ c match lies. true-less c fire.second (omega (arith, signed_arith))) near

@@ -3,7 +3,7 @@ use Rattle.std.proofs.Common.{◌≡◌, ℕ, ◌<◌, ◌≤◌, false, true, �
 use Rattle.std.proofs.lemmas.Int.{by_lt_z}
 use Rattle.jiff_core.proofs.SignedLemmas.{signed_arith}
 use Rattle.cron_clocks.proofs.TableLemmas.{same_offset}
-use Rattle.cron_instants.proofs.FireLemmas.{int_le-true, int_le-false}
+use Rattle.cron_seconds.proofs.IntLemmas.{int_le-true, int_le-false}
 use Rattle.cron_dues.specs.Clock.Due.{Clock, IsDueAt, shows, due, due_instant, parts}
 use Rattle.cron_dues.specs.Steady.{IsKept}
 use Rattle.cron_dues.specs.Reached.{IsAhead, IsOnTheWay, IsUnreachedBefore, ends_before, left_until}

@@ -11,7 +11,7 @@ use Rattle.jiff_tz.specs.PosixRule.{first_day}
 use Rattle.jiff_tz.proofs.YearLemmas.{back_year}
 use Rattle.cron_clocks.specs.Transitions.{year_start}
 use Rattle.cron_clocks.proofs.RuleYears.{first_day-next, year_of_nanos-is}
-use Rattle.cron_instants.proofs.FireLemmas.{int_le-false}
+use Rattle.cron_seconds.proofs.IntLemmas.{int_le-false}
 use Rattle.cron_dues.specs.Steady.{IsOneYear}
 
 -- a second of UTC lies in the year of its date

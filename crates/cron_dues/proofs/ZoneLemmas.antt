@@ -16,7 +16,7 @@ use Rattle.jiff_tz.specs.Tzif as Tables
 use Rattle.jiff_tz.specs.Zone.{offset_at, next_at}
 use Rattle.jiff_tz.specs.Year.{year_of_nanos}
 use Rattle.cron_clocks.proofs.Windows.{le_yes, le_no}
-use Rattle.cron_instants.proofs.FireLemmas.{int_le-true}
+use Rattle.cron_seconds.proofs.IntLemmas.{int_le-true}
 use Rattle.cron_dues.specs.Clock.Due.{clock_of}
 use Rattle.cron_dues.specs.Steady.{IsKept, IsShortOf}
 use Rattle.cron_dues.proofs.SteadyLemmas.{lowest, highest, rule_kept}

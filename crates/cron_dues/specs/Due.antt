@@ -1,4 +1,4 @@
--- When a civil second is due in a zone: when it is by the zone's clock.
+-- When a civil second is due in a zone, by the zone's clock.
 use Rattle.std.specs.Prelude.{ℕ, ℤ}
 use Rattle.jiff_tz.specs.declared.timezone.TimeZone.{TimeZone}
 pub use Rattle.cron_dues.specs.Clock.Due.{Due, CanBeDue, clock_of, instant, parts, zone_clock}
@@ -8,11 +8,11 @@ use Rattle.cron_dues.specs.Clock.Due as clocks
 abbrev pub clock : TimeZone → ℤ → ℤ
 clock z = clocks.shows (clock_of z)
 
--- n is the first instant at which it shows the civil second c or a later one
+-- n is the first instant at which the zone's clock shows the civil second c or a later one
 abbrev pub IsDueAt : TimeZone → ℕ → ℤ → Type 0
 IsDueAt z = clocks.IsDueAt (clock_of z)
 
--- that instant
+-- the instant when a civil second is due
 abbrev pub due_instant : TimeZone → ℕ → ℤ
 due_instant z = clocks.due_instant (clock_of z)
 

@@ -9,12 +9,14 @@ use Rattle.cron_dues.specs.Clock.Due.{Due}
 abbrev pub shown : Due → Reading
 shown d = reading (d.second + d.past) d.offset
 
--- the nominal time, `02:30:00`; with its date, `2011-12-30 02:30:00`, where what the clock shows is of another day
+-- the nominal time, `02:30:00`; with its date, `2011-12-30 02:30:00`, if the clock shows another
+-- day at the due instant
 abbrev pub nominal_text : Due → List ℕ
 nominal_text d =
     if d.second / 86_400 == (d.second + d.past) / 86_400 then time_text (civil d.second).time
     else date_text (civil d.second).date ++ (codes " " ++ time_text (civil d.second).time)
 
--- the text of the moment shown, and where that isn't the nominal second the nominal time too: `2022-03-13 03:00:00 -05:00 for 02:30:00`
+-- the text of the moment that the clock shows and, if that isn't the nominal second, the nominal
+-- time too: `2022-03-13 03:00:00 -05:00 for 02:30:00`
 unfoldable pub due_text : Due → List ℕ
 due_text d = moment_text (shown d) ++ (if d.past == 0 then [] else codes " for " ++ nominal_text d)

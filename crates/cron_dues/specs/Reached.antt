@@ -16,7 +16,7 @@ pub record IsShownBy (clock : Clock) (n m : ℤ) : Type 0 where
   pub by : at ≤ℤ n
   pub shown : shows clock at ≡ m
 
--- and none later
+-- m is the greatest civil second that the clock has shown up to n
 pub record IsGreatestBy (clock : Clock) (n m : ℤ) : Type 0 where
   pub shown : IsShownBy clock n m
   pub greatest : (k : ℤ) → k ≤ℤ n → shows clock k ≤ℤ m
@@ -33,7 +33,8 @@ pub record IsOnTheWay (clock : Clock) (c : ℕ) (from : ℤ) (steady : Steady) :
   pub kept : IsKept clock from steady.end steady.offset.seconds
   pub later : from <ℤ steady.end
 
--- the same, also long before c is due
+-- from an instant on, up to an end, the clock keeps this offset; before it, and it may be long
+-- before, the civil second c isn't reached
 pub record IsAhead (clock : Clock) (c : ℕ) (from : ℤ) (steady : Steady) : Type 0 where
   pub unreached : IsUnreachedBefore clock c from
   pub high : from ≤ℤ (pos c +ℤ pos 93_599)
@@ -48,8 +49,9 @@ left_until c from = unsigned_abs (pos c +ℤ pos 93_600 -ℤ from)
 abbrev pub ends_before : Steady → ℕ → Bool
 ends_before steady c = int_le (steady.end +ℤ steady.offset.seconds) (pos c)
 
--- up to an instant, that one left out, the clock has shown nothing later than this second; it has shown it, or it is earlier than
--- what the clock shows at n
+-- a search for the greatest civil second shown up to n has come to `from`: before it the clock has
+-- shown nothing later than `greatest`. That was shown up to n, or is earlier than what the clock
+-- shows at n
 pub record IsGathered (clock : Clock) (n from greatest : ℤ) (steady : Steady) : Type 0 where
   pub most : (k : ℤ) → k <ℤ from → shows clock k ≤ℤ greatest
   pub reached : (greatest ≡ n -ℤ pos 93_600) ⊎ IsShownBy clock n greatest
@@ -60,10 +62,10 @@ pub record IsGathered (clock : Clock) (n from greatest : ℤ) (steady : Steady) 
   pub low_greatest : (n -ℤ pos 93_600) ≤ℤ greatest
   pub high_greatest : greatest ≤ℤ (n +ℤ pos 93_600)
 
--- how many instants are left up to n
+-- how many instants are left from `from` up to n
 abbrev pub left_to : ℤ → ℤ → ℕ
 left_to n from = unsigned_abs (n +ℤ pos 1 -ℤ from)
 
--- later civil seconds are due from these instants on, if they are known
+-- the civil seconds after m are due from the start of the span on, if the span is known
 abbrev pub LeadsOn : Clock → ℤ → Option DueSpan → Type 0
 LeadsOn clock m span = IfSome span (λ s. (c : ℕ) → m <ℤ pos c → IsAhead clock c s.from s.steady)

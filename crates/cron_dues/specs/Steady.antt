@@ -9,7 +9,7 @@ use Rattle.cron_dues.specs.Clock.Due.{Clock}
 abbrev pub IsOneYear : ℤ → ℤ → Type 0
 IsOneYear n end = (k : ℤ) → n ≤ℤ k → k <ℤ end → year_of_nanos (nanos_of_seconds k) ≡ year_of_nanos (nanos_of_seconds n)
 
--- and at each the clock shows this offset
+-- at each whole second from n on, up to an end, the clock shows this offset
 abbrev pub IsKept : Clock → ℤ → ℤ → ℤ → Type 0
 IsKept clock n end o = (k : ℤ) → n ≤ℤ k → k <ℤ end → (clock k).seconds ≡ o
 

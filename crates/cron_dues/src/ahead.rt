@@ -1,8 +1,8 @@
-//! The due fire that comes next, by what is known after the one before it.
+//! The next due fire, by what is known after the previous one. A civil second that matches is due
+//! when the clock first shows it or a later one.
 ghost use Rattle.std.specs.Prelude.{◌≡◌, ℕ, ◌<◌, ◌≤◌, pos, ◌≤ℤ◌, ◌<ℤ◌, false, IfSome};
 ghost use Rattle.cron_moments.specs.Civil.{seconds_in_range};
-ghost use Rattle.cron_time.specs.Matches.{is_match};
-ghost use Rattle.cron_time.specs.Search.Inner.MonthDays.{KnowsDays};
+ghost use Rattle.cron_time.specs.Seconds.{is_match};
 ghost use Rattle.cron_units.specs.Nearest.{IsNearest};
 ghost use Rattle.cron_units.specs.declared.way.Way.TheVariants.{Ahead};
 ghost use Rattle.cron_dues.specs.Clock.Due.{due};
@@ -13,15 +13,12 @@ use crate::clock::Clock;
 use crate::fire::{DueFire, due_fire};
 use crate::steady::DueSpan;
 use crate::way_to::span_of;
-use cron_time::search::civil_seconds::{match_past, nearest_match};
-use cron_time::search::minute::Minute;
-use cron_time::search::month_days::MonthDays;
-use cron_units::fields::ScheduleFields;
+use cron_seconds::civil_seconds::CivilSeconds;
 use cron_units::way::Way;
 use jiff::tz::Offset;
 
-/// What is known of the civil seconds from one on, up to an end: each is due at this offset, when
-/// the clock shows it, or shows the first where it skips it.
+/// What is known of the civil seconds from some number on and before `end`: each is due at
+/// `offset`. One that the clock shows is due then; one that it skips is due when it shows `first`.
 #[derive(Clone, Copy)]
 pub struct Known {
     pub first: u32,
@@ -30,7 +27,7 @@ pub struct Known {
 }
 
 impl Known {
-    /// Nothing is known.
+    /// The value if nothing is known.
     pub fn nothing() -> Known
         ensures { result.end ≡ 0 }
     {
@@ -42,7 +39,7 @@ impl Known {
     }
 }
 
-// The number of a civil second, or the nearest one that a word holds.
+// `number`, or the nearest number that a `u32` can hold.
 fn clamp(number: i64) -> u32
     ensures low { (k : ℕ) → result ≤ k → k < 4_294_967_295 → number ≤ℤ pos k }
     ensures high { (k : ℕ) → k < result → pos k <ℤ number }
@@ -56,7 +53,7 @@ fn clamp(number: i64) -> u32
     number as u32
 }
 
-// What is known from a civil second on.
+// What is known from `second` on, by the span of instants where `second` is due.
 fn known_of<C: Clock>(_clock: &C, second: u32, span: &DueSpan) -> Known
     requires range { second < seconds_in_range }
     requires ahead { IsAhead (C.offsets _clock.now) second span.now.from span.now.steady }
@@ -71,7 +68,7 @@ fn known_of<C: Clock>(_clock: &C, second: u32, span: &DueSpan) -> Known
     }
 }
 
-// The clock is asked what is known from a civil second on, that one included.
+// Queries the clock, and sets `known` to what is known from `second` on, `second` included.
 #[inline(never)]
 fn learn<C: Clock>(clock: &C, second: u32, known: &mut Known)
     requires { second < seconds_in_range }
@@ -81,7 +78,7 @@ fn learn<C: Clock>(clock: &C, second: u32, known: &mut Known)
     *known = known_of(clock, second, &span_of(clock, second));
 }
 
-// The clock is asked only where nothing is known of the civil second.
+// Makes sure that `known` includes `second`. Queries the clock only if it doesn't yet.
 #[inline(always)]
 fn extend<C: Clock>(clock: &C, second: u32, known: &mut Known)
     requires range { second < seconds_in_range }
@@ -94,7 +91,7 @@ fn extend<C: Clock>(clock: &C, second: u32, known: &mut Known)
     }
 }
 
-// The due fire of a civil second of which this is known.
+// The due fire of `second`, which `known` includes.
 #[inline(always)]
 fn known_due<C: Clock>(_clock: &C, second: u32, known: &Known) -> DueFire
     requires range { second < seconds_in_range }
@@ -105,8 +102,9 @@ fn known_due<C: Clock>(_clock: &C, second: u32, known: &Known) -> DueFire
     due_fire(second, known.first.saturating_sub(second), known.offset)
 }
 
-/// The due fire of a civil second. From that one on something may be known before, and more after.
-/// What is known is lent: a copy at each fire would wait for what the fire before it stored.
+/// The due fire of `second`. Something may be known from `second` on before the call, and more
+/// after it. `known` is passed by reference: a copy at each fire would wait for what the previous
+/// fire stored.
 #[inline(always)]
 pub fn due_ahead<C: Clock>(clock: &C, second: u32, known: &mut Known) -> DueFire
     requires range { second < seconds_in_range }
@@ -119,45 +117,43 @@ pub fn due_ahead<C: Clock>(clock: &C, second: u32, known: &mut Known) -> DueFire
     known_due(clock, second, known)
 }
 
-// The nearest civil second that matches, from a number on. Past one that does the days of the
-// month tell it.
+// The first match at or after `from`, or `None` if there is none. If something is known, `from - 1`
+// is a match, and the search uses what `cursor` has learned.
 #[inline(always)]
-fn next_match(
-    fields: &ScheduleFields,
+fn next_match<S: CivilSeconds>(
+    set: &S,
     from: i64,
     known: &Known,
-    minute: &mut Minute,
-    days: &mut MonthDays,
+    cursor: &mut S::Cursor,
 ) -> Option<u32>
-    requires known { IsPastIfKnown fields.now from known.now }
-    requires days { KnowsDays fields.now days.old }
-    ensures nearest { IsNearest Ahead (is_match fields.now) from result }
+    requires known { IsPastIfKnown (S.has set.now) from known.now }
+    requires knows { S.knows set.now cursor.old }
+    ensures nearest { IsNearest Ahead (is_match (S.has set.now)) from result }
     ensures bound { IfSome result (λ n. n < seconds_in_range) }
-    ensures days { KnowsDays fields.now days.new }
+    ensures knows { S.knows set.now cursor.new }
 {
     if known.end == 0 {
-        return nearest_match(fields, Way::Ahead, from);
+        return set.nearest(Way::Ahead, from);
     }
-    match_past(fields, Way::Ahead, (from - 1) as u32, minute, days)
+    set.past(Way::Ahead, (from - 1) as u32, cursor)
 }
 
-/// The due fire of the nearest civil second that matches, from a number on. Where something is
-/// known, that number is past a match.
+/// The due fire of the first match at or after `from`, or `None` if there is none. If something is
+/// known, `from - 1` is a match.
 #[inline(always)]
-pub(crate) fn next_due<C: Clock>(
-    fields: &ScheduleFields,
+pub(crate) fn next_due<S: CivilSeconds, C: Clock>(
+    set: &S,
     clock: &C,
     from: i64,
     known: &mut Known,
-    minute: &mut Minute,
-    days: &mut MonthDays,
+    cursor: &mut S::Cursor,
 ) -> Option<DueFire>
-    requires known { IsKnown fields.now (C.offsets clock.now) from known.old }
-    requires days { KnowsDays fields.now days.old }
-    ensures next { IsNextDue fields.now (C.offsets clock.now) from result known.new }
-    ensures days { KnowsDays fields.now days.new }
+    requires known { IsKnown (S.has set.now) (C.offsets clock.now) from known.old }
+    requires knows { S.knows set.now cursor.old }
+    ensures next { IsNextDue (S.has set.now) (C.offsets clock.now) from result known.new }
+    ensures knows { S.knows set.now cursor.new }
 {
-    let Some(second) = next_match(fields, from, known, minute, days) else {
+    let Some(second) = next_match(set, from, known, cursor) else {
         return None;
     };
     Some(due_ahead(clock, second, known))

@@ -1,4 +1,4 @@
-//! A due fire.
+//! A due fire: a civil second that matches, with the instant when it is due by a clock.
 ghost use Rattle.jiff_core.specs.Calendar.{IsBetween};
 ghost use Rattle.std.specs.Prelude.{◌≡◌, neg_ℤ, pos, ◌*ℤ◌, ◌+ℤ◌, MatchOption};
 ghost use Rattle.jiff_core.specs.DateTime.{civil_nanos};
@@ -15,9 +15,9 @@ use jiff::civil::DateTime;
 use jiff::tz::Offset;
 use std::marker::Model;
 
-/// A due fire: a matching civil second, which is the nominal time, the instant at which it is due,
-/// and how far the clock is ahead of UTC then. Two fires of one gap share their instant, and no
-/// nominal time.
+/// A due fire. It has a nominal time, which is the matching civil second, a due instant, and the
+/// clock's offset from UTC at that instant. Two fires of one gap share their instant, but have
+/// different nominal times.
 #[derive(Clone, Copy, Debug, PartialEq, Eq)]
 pub struct DueFire {
     second: u32,
@@ -52,15 +52,15 @@ impl DueFire {
         Timestamp::from_second(due_second(self)).unwrap()
     }
 
-    /// How far the clock is ahead of UTC at the due instant.
+    /// The clock's offset from UTC at the due instant.
     pub fn offset(&self) -> Offset
         ensures { result ≡ self.now.offset }
     {
         self.offset
     }
 
-    /// By how many seconds what the clock shows at the due instant lies past the nominal time: 0
-    /// outside of gaps.
+    /// The number of seconds from the nominal time to what the clock shows at the due instant. It
+    /// is 0 outside of gaps.
     pub fn seconds_past(&self) -> u32
         ensures value { result ≡ self.now.past }
         ensures range { CanBeDue self.now }
@@ -68,8 +68,7 @@ impl DueFire {
         self.past
     }
 
-    /// What the clock shows at the due instant. After the last matches of 2100 that may lie in
-    /// 2101.
+    /// What the clock shows at the due instant. After the last matches of 2100 this may be in 2101.
     pub fn shown(&self) -> DateTime
         ensures { civil_nanos result ≡ nanos_of_seconds (pos self.now.second +ℤ pos self.now.past) }
     {
@@ -77,14 +76,13 @@ impl DueFire {
     }
 }
 
-/// The furthest that what a clock shows at a due instant can lie past the nominal time: twice the
-/// longest offset.
+/// The greatest number of seconds from a nominal time to what a clock shows at the due instant:
+/// twice the longest offset.
 const FURTHEST_PAST: u32 = 187_198;
 
-/// A due fire from the number of the civil second that matches, by how many seconds what the clock
-/// shows at the due instant lies past it, and the clock's offset then. `None` where no clock can be
-/// so: the civil second lies outside 1970 to 2100, or what the clock shows lies more than 187,198
-/// seconds past it.
+/// The due fire of the civil second with number `second`. At the due instant the clock is at
+/// `offset`, and what it shows is `past` seconds past `second`. `None` if no clock allows that: if
+/// `second` is outside 1970 to 2100, or if `past` is more than 187,198.
 pub fn fire_of_parts(second: u32, past: u32, offset: Offset) -> Option<DueFire>
     ensures { MatchOption result
         (CanBeDue (parts second past offset) → ⊥)
@@ -121,7 +119,7 @@ pub fn due_second(fire: &DueFire) -> i64
     i64::from(fire.second) + i64::from(fire.past) - i64::from(fire.offset.seconds())
 }
 
-/// The number of the civil second that matches.
+/// The nominal time, as the number of the civil second that matches.
 #[inline(always)]
 pub fn nominal_second(fire: &DueFire) -> u32
     ensures { result ≡ fire.now.second }

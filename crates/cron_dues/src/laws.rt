@@ -1,17 +1,17 @@
 //! Laws over the definitions: the functions do nothing, and a caller calls one for what its
-//! contract says.
+//! contract says. A zone has two look-ups, of instants and of civil seconds. They agree if each
+//! gives the offsets that the other gives.
 
 ghost use Rattle.cron_dues.specs.Clock.Due.{DueInstantsAreFirst, FiresAreDue};
 ghost use Rattle.cron_dues.specs.DueReading.{TextsDiffer};
 ghost use Rattle.cron_dues.specs.DueLaws.{CutListsGoOn, DueInstantsNeverDecrease, FiresAreTheMatches, FirstReadingsAreDue, GapsArePassedOver, NominalSecondsAscend};
 
-/// The due instant of a civil second is the first at which the clock shows it or a later one, by
-/// any clock.
+/// By any clock, a civil second is due at the first instant when the clock shows it or a later one.
 pub fn due_instants_are_first()
     ensures { DueInstantsAreFirst }
 {}
 
-/// A due fire is due at that instant.
+/// A due fire is due at the due instant of its nominal second.
 pub fn fires_are_due()
     ensures { FiresAreDue }
 {}
@@ -21,12 +21,12 @@ pub fn fires_are_the_matches()
     ensures { FiresAreTheMatches }
 {}
 
-/// Each is greater than those before it.
+/// Each nominal second of the due fires is greater than the ones before it.
 pub fn nominal_seconds_ascend()
     ensures { NominalSecondsAscend }
 {}
 
-/// Due instants never decrease from fire to fire, by any clock.
+/// By any clock, due instants never decrease from one fire to the next.
 pub fn due_instants_never_decrease()
     ensures { DueInstantsNeverDecrease }
 {}
@@ -37,17 +37,18 @@ pub fn first_readings_are_due()
     ensures { FirstReadingsAreDue }
 {}
 
-/// Where they agree, a civil second with no reading is due when the clock passes over it.
+/// Where the look-ups of a zone agree, a civil second with no reading is due when the clock passes
+/// over it.
 pub fn gaps_are_passed_over()
     ensures { GapsArePassedOver }
 {}
 
-/// A list of all due fires that is cut after one of them goes on past that one.
+/// If the list of all due fires is cut after one of them, the fires past that one continue it.
 pub fn cut_lists_go_on()
     ensures { CutListsGoOn }
 {}
 
-/// No two due fires that can be have one text.
+/// No two possible due fires have the same text.
 pub fn texts_differ()
     ensures { TextsDiffer }
 {}

@@ -1,4 +1,4 @@
-//! How far a clock has come.
+//! How far a clock has come: the greatest civil second that it has shown up to an instant.
 ghost use Rattle.std.specs.Prelude.{◌≡◌, neg_ℤ, pos};
 ghost use Rattle.jiff_core.specs.Calendar.{IsBetween};
 ghost use Rattle.std.specs.Int.{int_div_euclid};
@@ -13,13 +13,14 @@ use jiff::Timestamp;
 /// How far a clock has come by an instant.
 #[derive(Clone, Copy)]
 pub(crate) struct Reach {
-    /// The number up to which civil seconds of the range are due.
+    /// A civil second of the range is due exactly if its number is at most this one.
     pub second: i64,
-    /// Instants among which later ones may be due, if some are known.
+    /// The span where later civil seconds may be due, if it is known.
     pub span: Option<DueSpan>,
 }
 
-// The greatest second that a clock has shown up to a second of UTC.
+// How far a clock has come by `second`, a second of UTC: the greatest civil second that it has
+// shown, and the span where it keeps its present offset.
 #[inline(always)]
 fn greatest_by<C: Clock>(clock: &C, second: i64) -> Reach
     requires { IsBetween (neg_ℤ (pos 200_000)) (pos 5_000_000_000) second }
@@ -65,7 +66,8 @@ pub(crate) fn reach_by<C: Clock>(clock: &C, now: Timestamp) -> Reach
     greatest_by(clock, second)
 }
 
-/// The number up to which civil seconds of the range are due by an instant.
+/// The number up to which civil seconds are due: one of the range is due by `now` exactly if its
+/// number is at most this one.
 pub fn reached_by<C: Clock>(clock: &C, now: Timestamp) -> i64
     ensures reached { IsReachedBy (C.offsets clock.now)
         (int_div_euclid now.nanosecond (pos 1_000_000_000)) result }

@@ -18,7 +18,7 @@ use std::error::Error;
 use std::fmt;
 use std::str::FromStr;
 
-/// A text is no due fire's.
+/// The error for a text that isn't the text of a due fire.
 #[derive(Clone, Copy, Debug, PartialEq, Eq)]
 pub struct NoDueText;
 
@@ -35,7 +35,7 @@ impl fmt::Display for NoDueText {
 
 impl Error for NoDueText {}
 
-// The number of two digits at a place. Of other bytes it is some number.
+// The number of the two digits at `at`. For other bytes it is an arbitrary number.
 fn two_at(text: &[u8], at: usize) -> u32
     requires { at + 2 ≤ length text.now }
     ensures value { result ≡ number_at text.now at }
@@ -44,7 +44,8 @@ fn two_at(text: &[u8], at: usize) -> u32
     u32::from(text[at].saturating_sub(b'0')) * 10 + u32::from(text[at + 1].saturating_sub(b'0'))
 }
 
-// The number of the first second of a day, by its date.
+// The number of the first second of a day, from the text of its date. `None` if no date has that
+// text.
 fn midnight_of(text: &[u8]) -> Option<i64>
     requires { length text.now ≡ 10 }
     ensures { (c : ℕ) → c < 2 ^ 32
@@ -61,7 +62,7 @@ fn midnight_of(text: &[u8]) -> Option<i64>
     Some(civil_number(date.to_datetime(Time::midnight())))
 }
 
-// The seconds since midnight of a time of day.
+// The seconds since midnight, from the text of a time of day.
 fn seconds_of_day(text: &[u8]) -> u32
     requires { length text.now ≡ 8 }
     ensures value { (c : ℕ) → text.now ≡ time_text (civil c).time → result ≡ c % 86_400 }
@@ -70,7 +71,8 @@ fn seconds_of_day(text: &[u8]) -> u32
     two_at(text, 0) * 3600 + two_at(text, 3) * 60 + two_at(text, 6)
 }
 
-// The number of a civil second, by its date and its time.
+// The number of a civil second, from the texts of its date and its time. `None` if no date has the
+// first text.
 fn second_of(date: &[u8], time: &[u8]) -> Option<u32>
     requires date { length date.now ≡ 10 }
     requires time { length time.now ≡ 8 }
@@ -83,7 +85,7 @@ fn second_of(date: &[u8], time: &[u8]) -> Option<u32>
     u32::try_from(midnight.saturating_add(i64::from(seconds_of_day(time)))).ok()
 }
 
-// The seconds of an offset, without its sign.
+// The seconds of an offset without its sign, from its text.
 fn offset_size(text: &[u8]) -> i32
     requires { (length text.now ≡ 6) ⊎ (length text.now ≡ 9) }
     ensures value { (o : Offset) → text.now ≡ offset_text o.seconds
@@ -97,7 +99,7 @@ fn offset_size(text: &[u8]) -> i32
     (minutes * 60 + two_at(text, 7)) as i32
 }
 
-// The offset of a clock, by its text.
+// The offset of a clock, from its text. `None` if no clock has such an offset.
 fn offset_of(text: &[u8]) -> Option<Offset>
     requires { (length text.now ≡ 6) ⊎ (length text.now ≡ 9) }
     ensures { (o : Offset) → text.now ≡ offset_text o.seconds → result ≡ Some o }
@@ -107,7 +109,8 @@ fn offset_of(text: &[u8]) -> Option<Offset>
     Offset::from_seconds(seconds).ok()
 }
 
-// Where the text of the offset ends: with the whole, or before a nominal time.
+// The place where the text of the offset ends, in a text of `len` bytes. It is the end of the text,
+// or the beginning of ` for ` and a nominal time. `None` if no due fire's text has this length.
 fn offset_end(len: usize) -> Option<usize>
     ensures ends { IfSome result (CanEnd len) }
     ensures only { (end : ℕ) → CanEnd len end → result ≡ Some end }
@@ -119,7 +122,8 @@ fn offset_end(len: usize) -> Option<usize>
     }
 }
 
-// The number of the nominal second: the one shown, or a time of that day, or of another day.
+// The number of the nominal second, from a text whose offset ends at `end`. Without a nominal time
+// it is `shown`. On the day of `shown` the text has only a time, and otherwise a date and a time.
 fn nominal_of(text: &[u8], end: usize, shown: u32) -> Option<u32>
     requires { CanEnd (length text.now) end }
     ensures { (d : Due) → CanBeDue d
@@ -136,7 +140,7 @@ fn nominal_of(text: &[u8], end: usize, shown: u32) -> Option<u32>
     second_of(&text[end + 5..end + 15], &text[end + 16..])
 }
 
-// The due fire with these numbers.
+// The due fire with these numbers, or `None` if there can't be one.
 fn fire_of(nominal: u32, shown: u32, offset: Offset) -> Option<DueFire>
     ensures { (d : Due) → CanBeDue d
         → nominal ≡ d.second
@@ -154,7 +158,8 @@ fn fire_of(nominal: u32, shown: u32, offset: Offset) -> Option<DueFire>
     Some(due_fire(nominal, past, offset))
 }
 
-// The due fire whose text it is, if it is one's. Of other texts it is some fire or none.
+// The due fire whose text is `text`, if there is one. For other texts it is an arbitrary fire or
+// `None`.
 fn guess(text: &[u8]) -> Option<DueFire>
     ensures { (d : Due) → CanBeDue d → text.now ≡ due_text d → result ≡ Some d }
 {
@@ -164,8 +169,8 @@ fn guess(text: &[u8]) -> Option<DueFire>
     fire_of(nominal, shown, offset_of(&text[20..end])?)
 }
 
-/// Reads the text of a due fire, as its `Display` prints it: `2022-03-13 03:00:00 -05:00 for
-/// 02:30:00`. Each other text is refused, also where it only says more or less than it need.
+/// Reads the text of a due fire, in the form that its `Display` prints: `2022-03-13 03:00:00 -05:00
+/// for 02:30:00`. Each other text is an error, even if it only says more or less than is needed.
 pub fn read(text: &str) -> Result<DueFire, NoDueText>
     ensures text { IfOk result (HasText text.now) }
     ensures only { (d : Due) → HasText text.now d → result ≡ Ok d }

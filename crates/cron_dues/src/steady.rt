@@ -21,11 +21,10 @@ const DAYS_FROM_FIRST_DATE: i64 = 4_371_587;
 
 const DAY: i64 = SECONDS_PER_DAY as i64;
 
-// Past each instant at which a civil second of the range can be due.
+// A second of UTC after the due instants of all civil seconds of the range, by any clock.
 const NEVER: i64 = 2 * SECONDS;
 
-/// An offset that a clock keeps up to an end, which is in whole seconds since 1970-01-01T00:00:00Z,
-/// and that one left out.
+/// An offset that a clock keeps before `end`, which is in whole seconds since 1970-01-01T00:00:00Z.
 #[derive(Clone, Copy)]
 pub struct Steady {
     pub offset: Offset,
@@ -34,7 +33,7 @@ pub struct Steady {
 }
 
 impl Steady {
-    /// What the clock shows at a second of UTC, as the number of a civil second.
+    /// What the clock shows at `at`, a second of UTC, as the number of a civil second.
     #[inline(always)]
     pub(crate) fn shown(&self, at: i64) -> i64
         requires { IsBetween (neg_ℤ (pos 1_000_000)) (pos 8_267_961_600) at }
@@ -45,8 +44,8 @@ impl Steady {
     }
 }
 
-/// Instants from one on, among which a civil second is due: none before them shows it or a later
-/// one.
+/// A span of instants from `from` on where a civil second is due. Before `from` the clock shows
+/// neither that civil second nor a later one.
 #[derive(Clone, Copy)]
 pub struct DueSpan {
     pub from: i64,
@@ -54,7 +53,7 @@ pub struct DueSpan {
     pub ghost near: { IsBetween (neg_ℤ (pos 1_000_000)) (pos 8_267_961_600) from },
 }
 
-// The date of a second of UTC.
+// The UTC date of `second`.
 fn date_at(second: i64) -> Date
     requires { IsBetween (neg_ℤ (pos 1_000_000)) (pos 8_000_000_000) second }
     ensures { epoch_day result ≡ int_div_euclid second (pos 86_400) }
@@ -63,7 +62,7 @@ fn date_at(second: i64) -> Date
     Date::from_days_since_min(day as u32)
 }
 
-// The second of UTC that begins a year.
+// The second of UTC that begins `year`.
 fn new_year(year: i16) -> i64
     requires { IsYear year }
     ensures value { result ≡ first_day year *ℤ pos 86_400 }
@@ -72,7 +71,8 @@ fn new_year(year: i16) -> i64
     i64::from(Date::constrain(year, 1, 1).to_unix_epoch_day()) * DAY
 }
 
-// The second of UTC that ends the year of a second.
+// The second of UTC that begins the year after the year of `second`. In the year 9999 it is the
+// second after `second`.
 fn year_end(second: i64) -> i64
     requires { IsBetween (neg_ℤ (pos 1_000_000)) (pos 8_000_000_000) second }
     ensures year { IsOneYear second result }
@@ -86,7 +86,8 @@ fn year_end(second: i64) -> i64
     new_year(year + 1)
 }
 
-// Up to which second of UTC no transition comes, as far as the next one tells.
+// The second of UTC of the zone's first transition after `second`. `NEVER` if there is none before
+// that.
 fn transition_end(zone: jiff_tz::TimeZone<'_>, at: jiff_core::Timestamp, second: i64) -> i64
     requires at { at.nanosecond ≡ nanos_of_seconds second }
     requires bound { IsBetween (neg_ℤ (pos 1_000_000)) (pos 8_000_000_000) second }
@@ -105,7 +106,8 @@ fn transition_end(zone: jiff_tz::TimeZone<'_>, at: jiff_core::Timestamp, second:
     lesser(whole, NEVER)
 }
 
-// An offset that a clock in a zone keeps up to the next transition or the end of the year.
+// The offset that a clock in `zone` keeps from `second` to the next transition or the end of the
+// year, whichever is earlier.
 #[inline(never)]
 fn steady_up_to_transition(zone: &TimeZone<'_>, second: i64) -> Steady
     requires { IsBetween (neg_ℤ (pos 1_000_000)) (pos 8_000_000_000) second }
@@ -121,7 +123,7 @@ fn steady_up_to_transition(zone: &TimeZone<'_>, second: i64) -> Steady
     }
 }
 
-// The offset of a zone that has only one.
+// The offset of a zone without rule or table, which has only one. `None` for other zones.
 #[inline(always)]
 fn only_offset(zone: &TimeZone<'_>) -> Option<Offset>
     ensures { IfSome result
@@ -134,7 +136,7 @@ fn only_offset(zone: &TimeZone<'_>) -> Option<Offset>
     }
 }
 
-// What a clock keeps, as numbers that may be negative.
+// `kept` as a `Steady`, whose numbers may be negative.
 #[inline(always)]
 fn steady_of(kept: Kept) -> Steady
     ensures offset { result.offset ≡ kept.offset }
@@ -146,7 +148,8 @@ fn steady_of(kept: Kept) -> Steady
     }
 }
 
-/// The offset that a clock in a zone shows at a second of UTC, and up to where it keeps it.
+/// The offset that a clock in `zone` shows at `second`, a second of UTC, and up to where it keeps
+/// it.
 pub(crate) fn steady_in(zone: &TimeZone<'_>, second: i64) -> Steady
     requires { IsBetween (neg_ℤ (pos 1_000_000)) (pos 8_000_000_000) second }
     ensures kept { IsKept (zone_clock zone.now) second result.end result.offset.seconds }
@@ -161,7 +164,8 @@ pub(crate) fn steady_in(zone: &TimeZone<'_>, second: i64) -> Steady
     }
 }
 
-/// The same of a second near which a transition lies.
+/// The same as `steady_in`, for a `second` near a transition: first the transitions of its year are
+/// worked out.
 #[inline(never)]
 pub(crate) fn steady_near_transition(zone: &TimeZone<'_>, second: i64) -> Steady
     requires { IsBetween (neg_ℤ (pos 1_000_000)) (pos 8_000_000_000) second }

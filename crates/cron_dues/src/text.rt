@@ -1,4 +1,4 @@
-//! The text of a due fire, made without memory.
+//! The text of a due fire, written without taking memory.
 ghost use Rattle.std.specs.Prelude.{◌≡◌, ◌≤◌, ◌+◌, ◌/◌, ◌==◌, ◌++◌, codes, if◌then◌else◌, length};
 ghost use Rattle.arrayvec.specs.ArrayVec.{array_vec_len};
 ghost use Rattle.cron_moments.specs.MomentText.{moment_text};
@@ -14,7 +14,7 @@ use std::fmt;
 /// The longest text: `2101-01-01 23:30:00 +25:59:59 for 2100-12-31 23:30:00`.
 const LONGEST: usize = 53;
 
-/// Where the time of day begins in the text of a moment, and where it ends.
+/// The places in the text of a moment where the time of day begins, and where it ends.
 const TIME: usize = 11;
 
 const TIME_END: usize = 19;
@@ -22,7 +22,7 @@ const TIME_END: usize = 19;
 /// The bytes of a text.
 pub type Text = ArrayVec<u8, LONGEST>;
 
-// Appends bytes.
+// Appends `bytes` to `text`.
 fn push_bytes(text: &mut Text, bytes: &[u8])
     requires { array_vec_len text.old + length bytes.now ≤ 53 }
     ensures items { text.new.items ≡ text.old.items ++ bytes.now }
@@ -31,8 +31,8 @@ fn push_bytes(text: &mut Text, bytes: &[u8])
     text.try_extend_from_slice(bytes).unwrap();
 }
 
-// Where the nominal time begins in the text of its moment: the date is left out where it is the one
-// shown.
+// The place where the nominal time begins in the text of the nominal moment. The date is left out
+// if it is also the date that the clock shows.
 fn nominal_start(fire: &DueFire) -> usize
     ensures { result
         ≡ if fire.now.second / 86_400 == (fire.now.second + fire.now.past) / 86_400 then 11
@@ -46,7 +46,7 @@ fn nominal_start(fire: &DueFire) -> usize
     }
 }
 
-// The nominal time at the due instant's offset, whose text begins with date and time.
+// The text of the nominal time at the due instant's offset. It begins with date and time.
 fn nominal_line(fire: &DueFire) -> Line
     ensures text { result.items ≡ moment_text (reading fire.now.second fire.now.offset) }
     ensures long { 19 ≤ array_vec_len result }
@@ -54,7 +54,7 @@ fn nominal_line(fire: &DueFire) -> Line
     line::text_of(&nominal_moment(fire))
 }
 
-// The nominal time in its text.
+// The part of `line` that is the nominal time in the fire's text.
 fn nominal_bytes<'l>(line: &'l Line, fire: &DueFire) -> &'l [u8]
     requires text { line.now.items ≡ moment_text (reading fire.now.second fire.now.offset) }
     requires long { 19 ≤ array_vec_len line.now }
@@ -64,7 +64,7 @@ fn nominal_bytes<'l>(line: &'l Line, fire: &DueFire) -> &'l [u8]
     &line.as_slice()[nominal_start(fire)..TIME_END]
 }
 
-// Appends ` for ` and the nominal time.
+// Appends ` for ` and the nominal time to `text`.
 fn push_nominal(text: &mut Text, fire: &DueFire)
     requires { array_vec_len text.old ≤ 29 }
     ensures { text.new.items ≡ text.old.items ++ (codes " for " ++ nominal_text fire.now) }

@@ -1,4 +1,5 @@
-//! When a civil second is due.
+//! When a civil second is due: at the first instant when the clock shows it or a later one. A span
+//! is instants, from one on, where the clock keeps its offset.
 ghost use Rattle.std.specs.Prelude.{◌≡◌, ◌⊎◌, ◌<◌, ◌+ℤ◌, ◌-ℤ◌, ◌≤ℤ◌, neg_ℤ, pos, false, IfSome};
 ghost use Rattle.jiff_core.specs.Calendar.{IsBetween};
 ghost use Rattle.cron_moments.specs.Civil.{seconds_in_range};
@@ -10,7 +11,7 @@ use crate::fire::{DueFire, due_fire};
 use crate::steady::{DueSpan, Steady};
 use cron_moments::civil::FURTHEST_OFFSET;
 
-// Whether the clock comes to the end before it shows the civil second or a later one.
+// Returns true if the clock comes to the end of `steady` before it shows `second` or a later one.
 #[inline(always)]
 fn ends_before(steady: &Steady, second: u32) -> bool
     ensures { result ≡ ends_before steady.now second }
@@ -18,7 +19,7 @@ fn ends_before(steady: &Steady, second: u32) -> bool
     steady.shown(steady.end) <= i64::from(second)
 }
 
-// By how many seconds what a clock shows lies past a civil second, if it does.
+// The number of seconds from `second` to `shown`, or 0 if `shown` isn't later.
 fn seconds_past(shown: i64, second: u32) -> u32
     requires { IsBetween (neg_ℤ (pos 2_000_000)) (pos 4_294_967_295) shown }
     ensures most { (shown -ℤ pos second) ≤ℤ pos result }
@@ -31,7 +32,7 @@ fn seconds_past(shown: i64, second: u32) -> u32
     (shown - nominal) as u32
 }
 
-/// The due fire of a civil second.
+/// The due fire of `second`, which is due in `span`.
 #[inline(always)]
 fn fire_in<C: Clock>(_clock: &C, second: u32, span: &DueSpan) -> DueFire
     requires range { second < seconds_in_range }
@@ -43,7 +44,7 @@ fn fire_in<C: Clock>(_clock: &C, second: u32, span: &DueSpan) -> DueFire
     due_fire(second, past, span.steady.offset)
 }
 
-// The instants among which a civil second is due, which isn't shown before this one.
+// The span where `second` is due. The clock shows neither `second` nor a later one before `start`.
 #[inline(never)]
 fn span_from<C: Clock>(clock: &C, second: u32, start: i64) -> DueSpan
     requires range { second < seconds_in_range }
@@ -62,7 +63,7 @@ fn span_from<C: Clock>(clock: &C, second: u32, start: i64) -> DueSpan
     DueSpan { from, steady }
 }
 
-/// The instants among which a civil second is due.
+/// The span where `second` is due.
 pub(crate) fn span_of<C: Clock>(clock: &C, second: u32) -> DueSpan
     requires { second < seconds_in_range }
     ensures ahead { IsAhead (C.offsets clock.now) second result.from result.steady }
@@ -71,7 +72,8 @@ pub(crate) fn span_of<C: Clock>(clock: &C, second: u32) -> DueSpan
     span_from(clock, second, i64::from(second) - FURTHEST_OFFSET)
 }
 
-// The same from the end of what was told before, where a transition may lie.
+// The span where `second` is due. `from` is the end of a period that the clock returned before, and
+// a transition may be there.
 #[inline(never)]
 fn span_behind<C: Clock>(clock: &C, second: u32, from: i64) -> DueSpan
     requires range { second < seconds_in_range }
@@ -88,7 +90,8 @@ fn span_behind<C: Clock>(clock: &C, second: u32, from: i64) -> DueSpan
     DueSpan { from, steady }
 }
 
-// The same of a civil second that isn't shown before those of an earlier one.
+// The span where `second` is due. The clock doesn't show `second` before the span `earlier` of an
+// earlier civil second.
 #[inline(always)]
 fn span_past<C: Clock>(clock: &C, second: u32, earlier: DueSpan) -> DueSpan
     requires range { second < seconds_in_range }
@@ -106,8 +109,8 @@ fn span_past<C: Clock>(clock: &C, second: u32, earlier: DueSpan) -> DueSpan
     span_behind(clock, second, from)
 }
 
-/// The due fire of a civil second, and the instants among which it is due. Those of an earlier one,
-/// if they are known, may be its own.
+/// The due fire of `second`, and the span where it is due. `earlier` is the span of an earlier
+/// civil second, if it is known, and may be the span of `second` too.
 #[inline(always)]
 pub fn due_past<C: Clock>(clock: &C, second: u32, earlier: Option<DueSpan>) -> (DueFire, DueSpan)
     requires range { second < seconds_in_range }
@@ -123,7 +126,7 @@ pub fn due_past<C: Clock>(clock: &C, second: u32, earlier: Option<DueSpan>) -> (
     (fire_in(clock, second, &span), span)
 }
 
-/// The due fire of a civil second: in a fold that of the first pass. In a gap it is due at the
+/// The due fire of `second`. In a fold it is due in the first pass. In a gap it is due at the
 /// transition, since there the clock first shows a later second.
 pub fn due_of<C: Clock>(clock: &C, second: u32) -> DueFire
     requires { second < seconds_in_range }

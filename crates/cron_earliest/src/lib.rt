@@ -1,18 +1,19 @@
-//! The tree that tells which of some places comes first as their instants change. Whoever keeps one
-//! has a key at each place; the definitions say which, and the lemmas what the first place has.
+//! A tree that finds the earliest of several places as their instants change. Its owner keeps a key
+//! at each place of the tree: the least of the place's own and those of the places below it. The
+//! definitions say this exactly, and the lemmas say what the first place has.
 #![tactic(auto)]
 
 ghost use Rattle.std.specs.Prelude.{◌≡◌};
 ghost use Rattle.cron_earliest.specs.Tree as tree;
 
-/// The instant of a place, in seconds.
+/// A place and its instant, in seconds.
 #[derive(Clone, Copy)]
 pub struct Key {
     pub instant: i64,
     pub place: usize,
 }
 
-// Whether a key comes before another.
+// Returns true if `key` comes before `other`: by instant, or by place if they share the instant.
 #[inline(always)]
 fn is_less(key: &Key, other: &Key) -> bool
     ensures { result ≡ tree.is_less key.now other.now }
@@ -24,7 +25,7 @@ fn is_less(key: &Key, other: &Key) -> bool
     }
 }
 
-/// The lesser of two keys.
+/// The lesser of two keys. If one is `None`, it is the other one.
 #[inline(always)]
 pub fn lesser(one: Option<Key>, other: Option<Key>) -> Option<Key>
     ensures { result ≡ tree.lesser one other }

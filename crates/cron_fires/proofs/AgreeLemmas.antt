@@ -6,35 +6,34 @@ use Rattle.std.proofs.lemmas.Int.{by_lt_z}
 use Rattle.jiff_core.proofs.SignedLemmas.{signed_arith}
 use Rattle.jiff_core.specs.declared.Offset.{Offset}
 use Rattle.jiff_tz.specs.declared.timezone.TimeZone.{TimeZone}
-use Rattle.cron_units.specs.Sets.{Sets}
+use Rattle.cron_time.specs.Seconds.{Seconds, is_match, matching_seconds}
 use Rattle.cron_moments.specs.Readings.{Reading, instant, readings}
 use Rattle.cron_clocks.specs.Clocks.{LookupsAgree, shown_offset}
 use Rattle.cron_clocks.proofs.TableLemmas.{same_offset}
 use Rattle.cron_clocks.proofs.Windows.{le_yes, lt_yes}
-use Rattle.cron_instants.specs.Fires.{is_after, is_by}
+use Rattle.cron_instants.specs.Fires.{fires, fires_after, fires_between, is_after, is_by}
 use Rattle.cron_instants.specs.Order.{is_earlier}
 use Rattle.cron_instants.specs.Instants as items
-use Rattle.cron_instants.proofs.AscentLemmas as ascent
-use Rattle.cron_instants.proofs.FireLemmas.{int_le-true, int_lt-true}
+use Rattle.cron_instants.specs.Instants.{IsItem}
+use Rattle.cron_instants.proofs.AscentLemmas.{earlier-order}
+use Rattle.cron_instants.proofs.FireLemmas.{fires-ascend, fires-of_item, item-of_fires}
+use Rattle.cron_instants.proofs.ItemLemmas.{item_read, read_item}
+use Rattle.cron_seconds.proofs.OrderLemmas.{rises-filter}
+use Rattle.cron_seconds.proofs.SetLemmas.{match_in_range}
+use Rattle.cron_seconds.proofs.IntLemmas.{int_le-true, int_lt-true}
 use Rattle.cron_instants.proofs.OrderLemmas.{before-true}
 use Rattle.cron_dues.specs.Due as due
 use Rattle.cron_dues.specs.Due.{Due, IsDueAt, clock, clock_of, due_instant, parts}
-use Rattle.cron_dues.specs.Dues.{is_due_after, is_due_by}
+use Rattle.cron_dues.specs.Dues.{dues, dues_after, dues_between, is_due_after, is_due_by}
 use Rattle.cron_dues.proofs.DueLemmas.{due_is, due_once, fire_due}
 use Rattle.cron_time.proofs.TimelineLemmas.{readings-second}
 use Rattle.cron_time.proofs.ListLemmas.{Among, among-filter, among-first, among-map, among-rest, filter-among, map-among}
 use Rattle.cron_dues.specs.Ascent.{Ascends}
 use Rattle.cron_dues.proofs.ListLemmas.{ascends-filter, ascends-map, same_lists}
-use Rattle.cron_dues.proofs.MemberLemmas.{due-of, own-of}
+use Rattle.cron_dues.proofs.LawLemmas.{dues-ascend}
+use Rattle.cron_dues.proofs.MemberLemmas.{due-of, own-of, sets-match}
 use Rattle.cron_dues.proofs.WayLemmas.{back}
-use Rattle.cron_unions.specs.FirstOfAny.{IsItemOfAny}
-use Rattle.cron_unions.specs.Nearest.{is_match_any}
-use Rattle.cron_unions.specs.UnionDues.{dues_any, dues_any_after, dues_any_between}
-use Rattle.cron_unions.specs.Unions.{fires_any, fires_any_after, fires_any_between, seconds_of_any, timeline_any}
-use Rattle.cron_unions.proofs.LawLemmas.{dues_any-ascend}
-use Rattle.cron_unions.proofs.UnionLemmas.{any-matches, any_read, fires_any-ascend, item_read}
-use Rattle.cron_fires.specs.DueLaws.{BothRulesAgree, IsFreshStretch, as_due}
-use Rattle.cron_fires.proofs.MatchLemmas.{matches_of}
+use Rattle.cron_fires.specs.Laws.{BothRulesAgree, IsFreshStretch, as_due}
 
 abbrev second_of : ℤ → ℤ
 second_of t = int_div_euclid t (pos 1_000_000_000)
@@ -60,34 +59,34 @@ due_plain z c k o at shown offset =
 
 -- ---- a fire, as a due fire
 
-record IsFired (ss : List Sets) (z : TimeZone) (last now : ℤ) (r : Reading) : Type 0 where
-  item : IsItemOfAny ss z r
+record IsFired (s : Seconds) (z : TimeZone) (last now : ℤ) (r : Reading) : Type 0 where
+  item : IsItem s z r
   after : last <ℤ (instant r *ℤ pos 1_000_000_000)
   by : (instant r *ℤ pos 1_000_000_000) ≤ℤ now
 
-fired : (ss : List Sets) (z : TimeZone) (last now : ℤ) (r : Reading) → Among (fires_any_between ss z last now) r → IsFired ss z last now r
-fired ss z last now r h =
-    let by = among-filter (is_by now) (fires_any_after ss z last) r h in
-    let after = among-filter (is_after last) (fires_any ss z) r by.0 in
+fired : (s : Seconds) (z : TimeZone) (last now : ℤ) (r : Reading) → Among (fires_between s z last now) r → IsFired s z last now r
+fired s z last now r h =
+    let by = among-filter (is_by now) (fires_after s z last) r h in
+    let after = among-filter (is_after last) (fires s z) r by.0 in
     record {
-      item = ascent.among-earliest_first (timeline_any ss z) r after.0;
+      item = item-of_fires s z r after.0;
       after = int_lt-true last (instant r *ℤ pos 1_000_000_000) after.1;
       by = int_le-true (instant r *ℤ pos 1_000_000_000) now by.1;
     }
 
-offset_is : (ss : List Sets) (z : TimeZone) (last now : ℤ) (r : Reading) → LookupsAgree z → IsFreshStretch z (second_of last) (second_of now)
-    → IsFired ss z last now r → shown_offset z (second_of last) ≡ r.offset.seconds
-offset_is ss z last now r agree stretch is =
-    let st = item_read ss z r is.item in
+offset_is : (s : Seconds) (z : TimeZone) (last now : ℤ) (r : Reading) → LookupsAgree z → IsFreshStretch z (second_of last) (second_of now)
+    → IsFired s z last now r → shown_offset z (second_of last) ≡ r.offset.seconds
+offset_is s z last now r agree stretch is =
+    let st = item_read s z r is.item in
     let shown = agree.readings_shown r.second st.0.place r st.0.in_range st.0.here in
     let after = is.after in
     let by = is.by in
     sym (stretch.kept (instant r) (omega (arith, signed_arith)) (omega (arith, signed_arith))) ∙ shown
 
-fired_due : (ss : List Sets) (z : TimeZone) (last now : ℤ) (r : Reading) → LookupsAgree z → IsFreshStretch z (second_of last) (second_of now)
-    → IsFired ss z last now r → due.due z r.second ≡ as_due r
-fired_due ss z last now r agree stretch is =
-    let st = item_read ss z r is.item in
+fired_due : (s : Seconds) (z : TimeZone) (last now : ℤ) (r : Reading) → LookupsAgree z → IsFreshStretch z (second_of last) (second_of now)
+    → IsFired s z last now r → due.due z r.second ≡ as_due r
+fired_due s z last now r agree stretch is =
+    let st = item_read s z r is.item in
     let shown = agree.readings_shown r.second st.0.place r st.0.in_range st.0.here in
     let after = is.after in
     let by = is.by in
@@ -95,47 +94,47 @@ fired_due ss z last now r agree stretch is =
     let at = due_when z (second_of last) (second_of now) r.second (instant r) stretch (omega (arith, signed_arith)) (omega (arith, signed_arith)) there in
     due_plain z r.second (instant r) r.offset at there shown
 
-between_of : (ss : List Sets) (z : TimeZone) (last now : ℤ) (d : Due) → Among (dues_any ss z) d → last <ℤ (due.instant d *ℤ pos 1_000_000_000)
-    → (due.instant d *ℤ pos 1_000_000_000) ≤ℤ now → Among (dues_any_between ss z last now) d
-between_of ss z last now d h after by =
-    filter-among (is_due_by now) (dues_any_after ss z last) d
-    (filter-among (is_due_after last) (dues_any ss z) d h (lt_yes last (due.instant d *ℤ pos 1_000_000_000) after))
+between_of : (s : Seconds) (z : TimeZone) (last now : ℤ) (d : Due) → Among (dues s z) d → last <ℤ (due.instant d *ℤ pos 1_000_000_000)
+    → (due.instant d *ℤ pos 1_000_000_000) ≤ℤ now → Among (dues_between s z last now) d
+between_of s z last now d h after by =
+    filter-among (is_due_by now) (dues_after s z last) d
+    (filter-among (is_due_after last) (dues s z) d h (lt_yes last (due.instant d *ℤ pos 1_000_000_000) after))
     (le_yes (due.instant d *ℤ pos 1_000_000_000) now by)
 
-fired-due : (ss : List Sets) (z : TimeZone) (last now : ℤ) (d : Due) → LookupsAgree z → IsFreshStretch z (second_of last) (second_of now)
-    → Among (map as_due (fires_any_between ss z last now)) d → Among (dues_any_between ss z last now) d
-fired-due ss z last now d agree stretch h =
-    let source = among-map as_due (fires_any_between ss z last now) d h in
+fired-due : (s : Seconds) (z : TimeZone) (last now : ℤ) (d : Due) → LookupsAgree z → IsFreshStretch z (second_of last) (second_of now)
+    → Among (map as_due (fires_between s z last now)) d → Among (dues_between s z last now) d
+fired-due s z last now d agree stretch h =
+    let source = among-map as_due (fires_between s z last now) d h in
     let r = source.of in
-    let is = fired ss z last now r source.there in
-    let st = item_read ss z r is.item in
-    let same : due.due z r.second ≡ as_due r = fired_due ss z last now r agree stretch is in
-    let own : Among (dues_any ss z) (as_due r) = rw (← same) (due-of (seconds_of_any ss) (is_match_any ss) (clock_of z) (any-matches ss) r.second st.1) in
+    let is = fired s z last now r source.there in
+    let st = item_read s z r is.item in
+    let same : due.due z r.second ≡ as_due r = fired_due s z last now r agree stretch is in
+    let own : Among (dues s z) (as_due r) = rw (← same) (due-of (matching_seconds s) (is_match s) (clock_of z) (sets-match s) r.second st.1) in
     let after = is.after in
     let by = is.by in
-    rw source.is (between_of ss z last now (as_due r) own (omega (arith, signed_arith)) (omega (arith, signed_arith)))
+    rw source.is (between_of s z last now (as_due r) own (omega (arith, signed_arith)) (omega (arith, signed_arith)))
 
 -- ---- a due fire, as a fire
 
-read_item : (ss : List Sets) (z : TimeZone) (c place : ℕ) (r : Reading) → is_match_any ss c ≡ true → r.second ≡ c → slice_get (readings z c) place ≡ Some r
-    → IsItemOfAny ss z r
-read_item ss z c place r match second here =
-    let own : is_match_any ss r.second ≡ true = subst (λ (n : ℕ). is_match_any ss n ≡ true) (sym second) match in
-    any_read ss z r (record {
-      in_range = (matches_of ss r.second own).0;
+item_at : (s : Seconds) (z : TimeZone) (c place : ℕ) (r : Reading) → is_match s c ≡ true → r.second ≡ c → slice_get (readings z c) place ≡ Some r
+    → IsItem s z r
+item_at s z c place r match second here =
+    let own : is_match s r.second ≡ true = subst (λ (n : ℕ). is_match s n ≡ true) (sym second) match in
+    read_item s z r (record {
+      in_range = match_in_range s r.second own;
       place = place;
       here = subst (λ (n : ℕ). slice_get (readings z n) place ≡ Some r) (sym second) here;
     }) own
 
-due-fired : (ss : List Sets) (z : TimeZone) (last now : ℤ) (d : Due) → LookupsAgree z → IsFreshStretch z (second_of last) (second_of now)
-    → Among (dues_any_between ss z last now) d → Among (map as_due (fires_any_between ss z last now)) d
-due-fired ss z last now d agree stretch h =
+due-fired : (s : Seconds) (z : TimeZone) (last now : ℤ) (d : Due) → LookupsAgree z → IsFreshStretch z (second_of last) (second_of now)
+    → Among (dues_between s z last now) d → Among (map as_due (fires_between s z last now)) d
+due-fired s z last now d agree stretch h =
     let c = d.second in
-    let late = among-filter (is_due_by now) (dues_any_after ss z last) d h in
-    let early = among-filter (is_due_after last) (dues_any ss z) d late.0 in
+    let late = among-filter (is_due_by now) (dues_after s z last) d h in
+    let early = among-filter (is_due_after last) (dues s z) d late.0 in
     let by = int_le-true (due.instant d *ℤ pos 1_000_000_000) now late.1 in
     let after = int_lt-true last (due.instant d *ℤ pos 1_000_000_000) early.1 in
-    let own = own-of (seconds_of_any ss) (is_match_any ss) (clock_of z) (any-matches ss) d early.0 in
+    let own = own-of (matching_seconds s) (is_match s) (clock_of z) (sets-match s) d early.0 in
     let when : due.instant d ≡ due_instant z c = ap due.instant own.own ∙ fire_due (clock_of z) c in
     let k : ℤ = due_instant z c in
     let reached = (due_is (clock_of z) c).reached in
@@ -143,21 +142,21 @@ due-fired ss z last now d agree stretch h =
     let here = stretch.kept k (omega (arith, signed_arith)) (omega (arith, signed_arith)) in
     let there = stretch.kept (k -ℤ pos 1) (omega (arith, signed_arith)) (omega (arith, signed_arith)) in
     let shown : clock z k ≡ pos c = omega (arith, signed_arith) in
-    let range = (matches_of ss c own.matching).0 in
+    let range = match_in_range s c own.matching in
     let read = agree.shown_read c k range shown in
     let r = read.at_place in
     let second : r.second ≡ c = readings-second z c read.place r read.here in
     let read_shown = agree.readings_shown c read.place r range read.here in
     let offset : shown_offset z k ≡ r.offset.seconds = ap (shown_offset z) (sym read.is) ∙ read_shown in
     let plain : due.due z c ≡ parts c 0 r.offset = due_plain z c k r.offset (due_is (clock_of z) c) shown offset in
-    let item = read_item ss z c read.place r own.matching second read.here in
-    let fire : Among (fires_any_between ss z last now) r =
-    filter-among (is_by now) (fires_any_after ss z last) r
-    (filter-among (is_after last) (fires_any ss z) r (ascent.earliest_first-among (timeline_any ss z) r item)
+    let item = item_at s z c read.place r own.matching second read.here in
+    let fire : Among (fires_between s z last now) r =
+    filter-among (is_by now) (fires_after s z last) r
+    (filter-among (is_after last) (fires s z) r (fires-of_item s z r item)
     (let instant_is = read.is in lt_yes last (instant r *ℤ pos 1_000_000_000) (omega (arith, signed_arith))))
     (let instant_is = read.is in le_yes (instant r *ℤ pos 1_000_000_000) now (omega (arith, signed_arith))) in
     let is : d ≡ as_due r = own.own ∙ plain ∙ ap (λ n. parts n 0 r.offset) (sym second) in
-    rw is (map-among as_due (fires_any_between ss z last now) r fire)
+    rw is (map-among as_due (fires_between s z last now) r fire)
 
 -- ---- both lists
 
@@ -175,14 +174,14 @@ by_second o (r ∷ l) own up = (
 )
 
 pub both_agree : BothRulesAgree
-both_agree ss z last now agree stretch =
-    let up = ascent.ascends-filter (is_by now) (fires_any_after ss z last) (ascent.ascends-filter (is_after last) (fires_any ss z) (fires_any-ascend ss z)) in
-    let offsets : (r : Reading) → Among (fires_any_between ss z last now) r → shown_offset z (second_of last) ≡ r.offset.seconds =
-    λ r h. offset_is ss z last now r agree stretch (fired ss z last now r h) in
-    same_lists (λ (d : Due). d.second) (dues_any_between ss z last now) (map as_due (fires_any_between ss z last now))
-    (ascends-filter (λ (d : Due). d.second) (is_due_by now) (dues_any_after ss z last)
-    (ascends-filter (λ (d : Due). d.second) (is_due_after last) (dues_any ss z) (dues_any-ascend ss z)))
-    (ascends-map (λ (d : Due). d.second) as_due (fires_any_between ss z last now)
-    (by_second (shown_offset z (second_of last)) (fires_any_between ss z last now) offsets up))
-    (λ d h. due-fired ss z last now d agree stretch h)
-    (λ d h. fired-due ss z last now d agree stretch h)
+both_agree s z last now agree stretch =
+    let up = rises-filter is_earlier earlier-order (is_by now) (fires_after s z last) (rises-filter is_earlier earlier-order (is_after last) (fires s z) (fires-ascend s z)) in
+    let offsets : (r : Reading) → Among (fires_between s z last now) r → shown_offset z (second_of last) ≡ r.offset.seconds =
+    λ r h. offset_is s z last now r agree stretch (fired s z last now r h) in
+    same_lists (λ (d : Due). d.second) (dues_between s z last now) (map as_due (fires_between s z last now))
+    (ascends-filter (λ (d : Due). d.second) (is_due_by now) (dues_after s z last)
+    (ascends-filter (λ (d : Due). d.second) (is_due_after last) (dues s z) (dues-ascend s (clock_of z))))
+    (ascends-map (λ (d : Due). d.second) as_due (fires_between s z last now)
+    (by_second (shown_offset z (second_of last)) (fires_between s z last now) offsets up))
+    (λ d h. due-fired s z last now d agree stretch h)
+    (λ d h. fired-due s z last now d agree stretch h)

@@ -1,94 +1,84 @@
--- What holds of the fires of every table in every zone: of several schedules as one.
-use Rattle.std.specs.Prelude.{◌≡◌, ◌↔◌, ℤ, pos, ◌*ℤ◌, ◌≤ℤ◌, List, [], ◌∷◌, ◌++◌, Option, Some, length, take}
+-- What holds of the fires of every set in every zone. The items are the readings on the timeline of
+-- a set.
+use Rattle.std.specs.Prelude.{◌≡◌, ◌↔◌, ℤ, pos, ◌*ℤ◌, ◌≤ℤ◌, List, [], ◌∷◌, Any, Some, length, map, take}
+use Rattle.std.specs.Int.{int_div_euclid}
 use Rattle.jiff_tz.specs.declared.timezone.TimeZone.{TimeZone}
-use Rattle.cron_clocks.specs.Clocks.{LookupsAgree}
+use Rattle.cron_clocks.specs.Clocks.{LookupsAgree, shown_offset}
 use Rattle.cron_units.specs.Sets.{Sets}
 use Rattle.cron_moments.specs.Readings.{Reading, instant}
-use Rattle.cron_instants.specs.Instants.{IsAfter, IsAmong, IsBy, IsFirstAfter, IsFirstPast, IsItem, IsLastBy}
-use Rattle.cron_instants.specs.Fires as single
-use Rattle.cron_dues.specs.Dues as single_dues
-use Rattle.cron_dues.specs.Due.{Due}
-use Rattle.cron_dues.specs.FirstDues.{IsFirstDueAfter, IsFirstDuePast, IsLastDueBy}
-use Rattle.cron_unions.specs.UnionDues.{IsFirstDueAfterAny, IsFirstDuePastAny, IsLastDueByAny, dues_any}
-use Rattle.cron_unions.specs.Unions.{fires_any, fires_any_after, fires_any_between, fires_any_past, fires_any_past_by}
-use Rattle.cron_unions.specs.FirstOfAny.{IsFirstAfterAny, IsFirstPastAny, IsItemOfAny, IsLastByAny}
+use Rattle.cron_time.specs.Seconds.{Seconds}
+use Rattle.cron_time.specs.Timeline.{seconds_of}
+use Rattle.cron_instants.specs.Fires.{fires, fires_after, fires_between, fires_past}
+use Rattle.cron_instants.specs.Instants.{IsAfter, IsAmong, IsBy, IsFirstAfter, IsItem}
+use Rattle.cron_dues.specs.Due.{Due, clock, parts}
+use Rattle.cron_dues.specs.Dues.{dues_between}
+use Rattle.cron_dues.specs.FirstDues.{IsDue}
+use Rattle.cron_unions.specs.Unions.{any_of}
 
--- the fires are the items of the timeline ..
+-- the fires are the items of the timeline
 abbrev pub FiresAreTheItems : Type 0
-FiresAreTheItems = (ss : List Sets) (z : TimeZone) (r : Reading) → IsAmong (fires_any ss z) r ↔ IsItemOfAny ss z r
+FiresAreTheItems = (s : Seconds) (z : TimeZone) (r : Reading) → IsAmong (fires s z) r ↔ IsItem s z r
 
--- .. and between two instants they are those items whose instant lies there
+-- the fires between two instants are the items whose instant lies there
 abbrev pub StretchesHaveTheirItems : Type 0
 StretchesHaveTheirItems =
-    (ss : List Sets) (z : TimeZone) (last now : ℤ) (r : Reading)
-    → IsAmong (fires_any_between ss z last now) r ↔ (IsItemOfAny ss z r × IsAfter last r × IsBy now r)
+    (s : Seconds) (z : TimeZone) (last now : ℤ) (r : Reading)
+    → IsAmong (fires_between s z last now) r ↔ (IsItem s z r × IsAfter last r × IsBy now r)
 
--- the runs over two stretches that meet are the run over both
-abbrev pub StretchesAreJoined : Type 0
-StretchesAreJoined =
-    (ss : List Sets) (z : TimeZone) (a b c : ℤ)
-    → a ≤ℤ b
-    → b ≤ℤ c
-    → fires_any_between ss z a b ++ fires_any_between ss z b c ≡ fires_any_between ss z a c
+-- the items of several schedules as one are the items of each schedule
+abbrev pub ItemsAreOfTheSchedules : Type 0
+ItemsAreOfTheSchedules = (ss : List Sets) (z : TimeZone) (r : Reading) → IsItem (any_of ss) z r ↔ Any (λ s. IsItem (seconds_of s) z r) ss
 
--- a run that is cut after an item goes on from that item as the run uncut
-abbrev pub CutRunsGoOn : Type 0
-CutRunsGoOn =
-    (ss : List Sets) (z : TimeZone) (t : ℤ) (done : List Reading) (item : Reading) (rest : List Reading)
-    → fires_any_after ss z t ≡ done ++ item ∷ rest
-    → fires_any_past ss z item ≡ rest
-
--- also one past an item
-abbrev pub CutRunsPastGoOn : Type 0
-CutRunsPastGoOn =
-    (ss : List Sets) (z : TimeZone) (start : Reading) (done : List Reading) (item : Reading) (rest : List Reading)
-    → fires_any_past ss z start ≡ done ++ item ∷ rest
-    → fires_any_past ss z item ≡ rest
-
--- and one up to an instant
-abbrev pub CutStretchesGoOn : Type 0
-CutStretchesGoOn =
-    (ss : List Sets) (z : TimeZone) (last now : ℤ) (done : List Reading) (item : Reading) (rest : List Reading)
-    → fires_any_between ss z last now ≡ done ++ item ∷ rest
-    → fires_any_past_by ss z item now ≡ rest
+-- the due fires of several schedules as one are the due fires of each schedule
+abbrev pub DuesAreOfTheSchedules : Type 0
+DuesAreOfTheSchedules = (ss : List Sets) (z : TimeZone) (d : Due) → IsDue (any_of ss) z d ↔ Any (λ s. IsDue (seconds_of s) z d) ss
 
 -- no two items share an instant
-abbrev pub HaveOwnInstants : List Sets → TimeZone → Type 0
-HaveOwnInstants ss z = (r q : Reading) → IsItemOfAny ss z r → IsItemOfAny ss z q → instant r ≡ instant q → r ≡ q
+abbrev pub HaveOwnInstants : Seconds → TimeZone → Type 0
+HaveOwnInstants s z = (r q : Reading) → IsItem s z r → IsItem s z q → instant r ≡ instant q → r ≡ q
 
--- so where the zone's two look-ups agree
+-- where the zone's two look-ups, of instants and of civil seconds, agree, no two items share an
+-- instant
 abbrev pub AgreeingZonesTellApart : Type 0
-AgreeingZonesTellApart = (ss : List Sets) (z : TimeZone) → LookupsAgree z → HaveOwnInstants ss z
+AgreeingZonesTellApart = (s : Seconds) (z : TimeZone) → LookupsAgree z → HaveOwnInstants s z
 
--- there the first item after the instant of an item is the first one past it
+-- where no two items share an instant, the fires after the instant of an item are those past it
 abbrev pub NextIsPast : Type 0
 NextIsPast =
-    (ss : List Sets) (z : TimeZone) (item : Reading)
-    → HaveOwnInstants ss z
-    → IsItemOfAny ss z item
-    → fires_any_after ss z (instant item *ℤ pos 1_000_000_000) ≡ fires_any_past ss z item
+    (s : Seconds) (z : TimeZone) (item : Reading)
+    → HaveOwnInstants s z
+    → IsItem s z item
+    → fires_after s z (instant item *ℤ pos 1_000_000_000) ≡ fires_past s z item
 
--- each of the answers is the first item after an instant: the first after t, each other after the instant of the one before
-abbrev pub AreAskedInTurn : List Sets → TimeZone → ℤ → List Reading → Type 0
-AreAskedInTurn ss z t [] = Unit {0}
-AreAskedInTurn ss z t (r ∷ answers) = IsFirstAfterAny ss z t (Some r) × AreAskedInTurn ss z (instant r *ℤ pos 1_000_000_000) answers
+-- each of the answers is the first item after an instant: the first after t, each other after the
+-- instant of the answer before
+abbrev pub AreAskedInTurn : Seconds → TimeZone → ℤ → List Reading → Type 0
+AreAskedInTurn s z t [] = Unit {0}
+AreAskedInTurn s z t (r ∷ answers) = IsFirstAfter s z t (Some r) × AreAskedInTurn s z (instant r *ℤ pos 1_000_000_000) answers
 
--- and a loop that asks so is a run
+-- where no two items share an instant, the answers of a loop that always searches after the last
+-- instant are a run
 abbrev pub LoopsAreRuns : Type 0
 LoopsAreRuns =
-    (ss : List Sets) (z : TimeZone) (t : ℤ) (answers : List Reading)
-    → HaveOwnInstants ss z
-    → AreAskedInTurn ss z t answers
-    → take (length answers) (fires_any_after ss z t) ≡ answers
+    (s : Seconds) (z : TimeZone) (t : ℤ) (answers : List Reading)
+    → HaveOwnInstants s z
+    → AreAskedInTurn s z t answers
+    → take (length answers) (fires_after s z t) ≡ answers
 
--- one schedule has what the union of that one has, by both rules, and its answers are those of the union
-pub record OneScheduleIsATable : Type 0 where
-  pub items : (s : Sets) (z : TimeZone) (r : Reading) → IsItemOfAny (s ∷ []) z r ↔ IsItem s z r
-  pub fires : (s : Sets) (z : TimeZone) → fires_any (s ∷ []) z ≡ single.fires s z
-  pub dues : (s : Sets) (z : TimeZone) → dues_any (s ∷ []) z ≡ single_dues.dues s z
-  pub first_after : (s : Sets) (z : TimeZone) (t : ℤ) (answer : Option Reading) → IsFirstAfterAny (s ∷ []) z t answer → IsFirstAfter s z t answer
-  pub first_past : (s : Sets) (z : TimeZone) (item : Reading) (answer : Option Reading) → IsFirstPastAny (s ∷ []) z item answer → IsFirstPast s z item answer
-  pub last_by : (s : Sets) (z : TimeZone) (t : ℤ) (answer : Option Reading) → IsLastByAny (s ∷ []) z t answer → IsLastBy s z t answer
-  pub first_due_after : (s : Sets) (z : TimeZone) (t : ℤ) (answer : Option Due) → IsFirstDueAfterAny (s ∷ []) z t answer → IsFirstDueAfter s z t answer
-  pub first_due_past : (s : Sets) (z : TimeZone) (fire : Due) (answer : Option Due) → IsFirstDuePastAny (s ∷ []) z fire answer → IsFirstDuePast s z fire answer
-  pub last_due_by : (s : Sets) (z : TimeZone) (t : ℤ) (answer : Option Due) → IsLastDueByAny (s ∷ []) z t answer → IsLastDueBy s z t answer
+-- up to the second n of UTC the clock has shown nothing later than what it shows then, and it keeps its offset up to m
+pub record IsFreshStretch (z : TimeZone) (n m : ℤ) : Type 0 where
+  pub fresh : (k : ℤ) → k ≤ℤ n → clock z k ≤ℤ clock z n
+  pub kept : (k : ℤ) → n ≤ℤ k → k ≤ℤ m → shown_offset z k ≡ shown_offset z n
+
+-- a time at which the clock shows a match, as a due fire
+abbrev pub as_due : Reading → Due
+as_due r = parts r.second 0 r.offset
+
+-- where the look-ups of the zone agree, both rules give the same fires between two instants, if the
+-- clock keeps its offset there and has shown nothing later before
+abbrev pub BothRulesAgree : Type 0
+BothRulesAgree =
+    (s : Seconds) (z : TimeZone) (last now : ℤ)
+    → LookupsAgree z
+    → IsFreshStretch z (int_div_euclid last (pos 1_000_000_000)) (int_div_euclid now (pos 1_000_000_000))
+    → dues_between s z last now ≡ map as_due (fires_between s z last now)

@@ -1,5 +1,3 @@
-pub mod Laws
 pub mod Rules
-pub mod DueLaws
+pub mod Laws
 pub mod Matches
-pub mod Inner

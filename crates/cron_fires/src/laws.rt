@@ -1,75 +1,49 @@
 //! Laws over the definitions: the functions do nothing, and a caller calls one for what its
-//! contract says.
+//! contract says. An item is a reading of a matching civil second, by a clock of the zone. The two
+//! look-ups of a zone, of instants and of civil seconds, agree if each gives the offsets that the
+//! other gives.
 
-ghost use Rattle.cron_fires.specs.DueLaws.{BothRulesAgree, CutDueRunsGoOn, CutDueRunsPastGoOn, CutDueStretchesGoOn, DueStretchesAreJoined};
-ghost use Rattle.cron_fires.specs.Laws.{AgreeingZonesTellApart, CutRunsGoOn, CutRunsPastGoOn, CutStretchesGoOn, FiresAreTheItems, LoopsAreRuns, NextIsPast, OneScheduleIsATable, StretchesAreJoined, StretchesHaveTheirItems};
-ghost use Rattle.cron_unions.specs.UnionLaws.{FiresAscend};
+ghost use Rattle.cron_fires.specs.Laws.{AgreeingZonesTellApart, BothRulesAgree, DuesAreOfTheSchedules, FiresAreTheItems, ItemsAreOfTheSchedules, LoopsAreRuns, NextIsPast, StretchesHaveTheirItems};
 
-/// One schedule has the items, the fires and the due fires of the table that has it alone. So what
-/// a call tells of that table holds in the words of one schedule.
-pub fn one_schedule()
-    ensures { OneScheduleIsATable }
-{}
+pub use cron_seconds::laws::{cut_runs, instants_never_decrease, joined_stretches};
 
 /// The fires are the items of the timeline, no more and no fewer.
 pub fn fires_are_the_items()
     ensures { FiresAreTheItems }
 {}
 
-/// Each fire is earlier than those behind it, so none comes twice.
-pub fn fires_ascend()
-    ensures { FiresAscend }
-{}
-
-/// The fires between two instants are the items whose instant comes after the first and not after
+/// The fires between two instants are the items with an instant after the first and at or before
 /// the second.
 pub fn stretches_have_their_items()
     ensures { StretchesHaveTheirItems }
 {}
 
-/// The runs over two stretches that meet are the run over both.
-pub fn joined_stretches()
-    ensures { StretchesAreJoined }
+/// The items and the due fires of several schedules as one are the items and the due fires of each
+/// schedule, no more and no fewer.
+pub fn fires_are_of_the_schedules()
+    ensures items { ItemsAreOfTheSchedules }
+    ensures dues { DuesAreOfTheSchedules }
 {}
 
-/// A run after an instant, past an item or between two instants that is cut after an item goes on
-/// from that item as the run uncut.
-pub fn cut_runs()
-    ensures after { CutRunsGoOn }
-    ensures past { CutRunsPastGoOn }
-    ensures between { CutStretchesGoOn }
-{}
-
-/// Where the look-ups of a zone agree, no two items share an instant.
+/// If the look-ups of a zone agree, no two items share an instant.
 pub fn own_instants()
     ensures { AgreeingZonesTellApart }
 {}
 
-/// Where no two items share an instant, the fires after the instant of an item are those past it.
+/// If no two items share an instant, the fires after an item's instant are the fires that follow
+/// it.
 pub fn next_is_past()
     ensures { NextIsPast }
 {}
 
-/// There a loop that asks for the first fire after the instant of the one before is a run.
+/// If no two items share an instant, a loop that always searches for the first fire after the
+/// instant of the fire before gives a run.
 pub fn loops_are_runs()
     ensures { LoopsAreRuns }
 {}
 
-/// The runs of due fires over two stretches that meet are the run over both.
-pub fn joined_due_stretches()
-    ensures { DueStretchesAreJoined }
-{}
-
-/// A run of due fires after an instant, past a fire or between two instants that is cut after a
-/// fire goes on past that fire as the run uncut.
-pub fn cut_due_runs()
-    ensures after { CutDueRunsGoOn }
-    ensures past { CutDueRunsPastGoOn }
-    ensures between { CutDueStretchesGoOn }
-{}
-
-/// Where the look-ups of a zone agree, a stretch has the same fires by both rules if its clock
-/// keeps its offset there, and has shown nothing later before.
+/// Let the look-ups of a zone agree. In a stretch where the clock keeps its offset, both rules give
+/// the same fires, if the clock showed nothing later before the stretch.
 pub fn both_rules_agree()
     ensures { BothRulesAgree }
 {}

@@ -6,7 +6,7 @@ use Rattle.cron_ics.specs.Calendars.{AreEvents, IsBody, IsRefusal, total, wanted
 use Rattle.cron_ics.specs.declared.calendar.Wanted.{Wanted}
 use Rattle.cron_ics.specs.declared.entry.Entry.{Entry}
 use Rattle.cron_ics.specs.declared.error.IcsError.{IcsError}
-use Rattle.cron_ics.specs.declared.error.IcsError.TheVariants.{NoEvents, OutOfMemory, TooMany, TooManySchedules}
+use Rattle.cron_ics.specs.declared.error.IcsError.TheVariants.{NoEvents, OutOfMemory, TooMany}
 
 front : (es : List Entry) (i : ℕ) (e : Entry) → i < length es → e ≡ get_or es i e → take i es ++ e ∷ [] ≡ take (i + 1) es
 front es i e within is =
@@ -41,11 +41,9 @@ no_more w es i pushed past makes =
 -- what one entry is refused for is what all are refused for
 pub refused : (w : Wanted) (es : List Entry) (i count room : ℕ) (e : Entry) (why : IcsError) → i < length es → e ≡ get_or es i e
     → total w es ≡ count + total w (drop i es) → count ≤ w.most → room + count ≡ w.most
-    → (why ≡ TooMany → room < length (wanted_fires w e)) → (why ≡ TooManySchedules → 12 < length e.schedules.now)
+    → (why ≡ TooMany → room < length (wanted_fires w e))
     → (why ≡ NoEvents → ⊥) → IsRefusal w es why
-refused w es i count room e NoEvents within is all few left many crowded some = absurd (some refl)
-refused w es i count room e TooMany within is all few left many crowded some =
+refused w es i count room e NoEvents within is all few left many some = absurd (some refl)
+refused w es i count room e TooMany within is all few left many some =
     omega (arith, more_fires w es i e within is, all, few, left, many refl)
-refused w es i count room e TooManySchedules within is all few left many crowded some =
-    (i, e, slice_get_read es (length es) i e refl within is, crowded refl)
-refused w es i count room e OutOfMemory within is all few left many crowded some = tt
+refused w es i count room e OutOfMemory within is all few left many some = tt

@@ -14,24 +14,27 @@ use Rattle.cron_ics.specs.declared.event.Heading.{Heading}
 use Rattle.cron_ics.specs.declared.fires.Fire.{Fire}
 use Rattle.jiff_core.specs.declared.civil.datetime.DateTime.{DateTime}
 
--- 32 digits that stand for a text
+-- the digest of a text: the first 16 bytes of its SHA-256, as 32 hexadecimal digits
 abbrev pub digest_text : List ℕ → List ℕ
 digest_text text = encode_lower (take 16 (sha256 text))
 
--- how many of some entries have this text
+-- how many of the entries have this text
 abbrev pub copies : List ℕ → List Entry → ℕ
 copies text es = count_by (λ e. bytes_eq e.text.now text) es
 
--- its entry, by its text and how many before it have the same; its instant; the civil second that matches; and the domain of who writes
+-- The line of an event's UID: the digest of its entry's text, and how many entries before it have
+-- the same text. Then come the fire's instant, the civil second that matches, and the domain of the
+-- calendar's writer.
 abbrev pub uid_line : List ℕ → ℕ → Fire → List ℕ → List ℕ
 uid_line digest copy f domain =
     codes "UID:" ++ digest ++ codes "-" ++ decimal copy ++ codes "-" ++ signed_decimal f.second ++ codes "-" ++ decimal f.civil ++ codes "@" ++ domain
 
--- what is not UTF-8 is U+FFFD
+-- the line of a summary: U+FFFD replaces what isn't UTF-8, and control characters
 abbrev pub summary_line : List ℕ → List ℕ
 summary_line text = codes "SUMMARY:" ++ escaped (shown (utf8_lossy text))
 
--- what the events of an entry share: `stamp` is when they were written
+-- what the events of an entry share: `stamp` is the time of UTC when they are written, and each
+-- lasts `minutes`
 pub record Shared : Type 0 where
   pub digest : List ℕ
   pub copy : ℕ
@@ -44,7 +47,7 @@ abbrev pub time_lines : DateTime → ℕ → Fire → List (List ℕ)
 time_lines stamp minutes f =
     (codes "DTSTAMP:" ++ stamp_text stamp) ∷ (codes "DTSTART:" ++ stamp_text f.utc) ∷ (codes "DURATION:PT" ++ decimal minutes ++ codes "M") ∷ []
 
--- an event of so many minutes, which leaves its time free
+-- the lines of an event; it lasts some minutes, and leaves the time free for other events
 abbrev pub event_lines : Shared → Fire → List (List ℕ)
 event_lines s f =
     (codes "BEGIN:VEVENT" ∷ uid_line s.digest s.copy f s.domain ∷ [])
@@ -56,7 +59,7 @@ folded_lines lines = flat_map folded lines
 abbrev pub event_text : Shared → Fire → List ℕ
 event_text s f = folded_lines (event_lines s f)
 
--- as the program holds it
+-- what the events of an entry share, as the program holds it
 abbrev pub shared : Heading → Shared
 shared h = record {
   digest = string_bytes h.digest;

@@ -1,4 +1,4 @@
--- The fires of an entry, and what is written of each.
+-- The fires of an entry, and what a calendar holds of each.
 use Rattle.std.specs.Prelude.{◌≡◌, ℕ, ℤ, Bool, true, false, List, [], ◌∷◌, map, Option, Some, None}
 use Rattle.jiff.specs.Words.{plain_zone}
 use Rattle.jiff_core.specs.DateTime.{civil_nanos}
@@ -7,8 +7,9 @@ use Rattle.jiff_tz.specs.declared.timezone.TimeZone.{TimeZone}
 use Rattle.cron_units.specs.Sets.{Sets}
 use Rattle.cron_moments.specs.Readings as moments
 use Rattle.cron_dues.specs.Due as dues
-use Rattle.cron_unions.specs.UnionDues.{dues_any_between}
-use Rattle.cron_unions.specs.Unions.{fires_any_between}
+use Rattle.cron_dues.specs.Dues.{dues_between}
+use Rattle.cron_unions.specs.Unions.{any_of}
+use Rattle.cron_instants.specs.Fires.{fires_between}
 use Rattle.cron_ics.specs.declared.entry.Entry.{Entry}
 use Rattle.cron_ics.specs.declared.fires.Fire.{Fire}
 
@@ -23,16 +24,18 @@ told_moment m = record { instant = moments.instant m; second = m.second }
 abbrev pub told_due : dues.Due → Told
 told_due d = record { instant = dues.instant d; second = d.second }
 
--- after one instant and up to and with another, by the rule that each match fires once or by the other
+-- The fires of several schedules as one after the instant `start`, up to and including `end`. If
+-- the flag is true each match fires once, and else each time that the clock shows it.
 abbrev pub fires_by : Bool → List Sets → TimeZone → ℤ → ℤ → List Told
-fires_by true ss z start end = map told_due (dues_any_between ss z start end)
-fires_by false ss z start end = map told_moment (fires_any_between ss z start end)
+fires_by true ss z start end = map told_due (dues_between (any_of ss) z start end)
+fires_by false ss z start end = map told_moment (fires_between (any_of ss) z start end)
 
--- those of an entry
+-- the fires of an entry after `start`, up to and including `end`; both are in nanoseconds since
+-- 1970
 abbrev pub fires_of : ℤ → ℤ → Entry → List Told
 fires_of start end e = fires_by e.once e.schedules.now (plain_zone e.zone.now) start end
 
--- what is written of a fire: its second, the civil second, and what UTC shows then
+-- the program's fire f holds the fire t: its instant, its civil second, and the time of UTC then
 abbrev pub Tells : Told → Fire → Type 0
 Tells t f = (f.second ≡ t.instant) × (f.civil ≡ t.second) × (civil_nanos f.utc ≡ nanos_of_seconds t.instant)
 
@@ -42,7 +45,7 @@ AreTold [] (f ∷ fs) = ⊥
 AreTold (t ∷ ts) [] = ⊥
 AreTold (t ∷ ts) (f ∷ fs) = Tells t f × AreTold ts fs
 
--- the first of some fires is taken
+-- the first of the fires `old` is taken, and `new` are left; or no fire was left
 abbrev pub TakesFirst : List Told → Option Fire → List Told → Type 0
 TakesFirst old None new = old ≡ []
 TakesFirst old (Some f) new = (t : Told) × (old ≡ t ∷ new) × Tells t f

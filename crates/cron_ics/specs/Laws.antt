@@ -1,4 +1,4 @@
--- What a reader finds in what is written.
+-- Laws: a reader gets back what was written.
 use Rattle.std.specs.Prelude.{◌≡◌, ◌<◌, ◌^◌, ℕ, nat_abs, List, ◌++◌}
 use Rattle.std.specs.Str.{IsUtf8}
 use Rattle.cron_ics.specs.Events.{digest_text, summary_line, uid_line}
@@ -6,23 +6,24 @@ use Rattle.cron_ics.specs.Folding.{HasNoReturn, IsFolded, folded, line_end, unfo
 use Rattle.cron_ics.specs.Texts.{escaped, unescaped}
 use Rattle.cron_ics.specs.declared.fires.Fire.{Fire}
 
--- a text that is escaped reads back
+-- a text that is escaped reads back unchanged
 abbrev pub EscapedReadsBack : Type 0
 EscapedReadsBack = (text : List ℕ) → unescaped (escaped text) ≡ text
 
--- a line that is folded reads back
+-- a line that is folded reads back unchanged, with its line end
 abbrev pub FoldedReadsBack : Type 0
 FoldedReadsBack = (line : List ℕ) → HasNoReturn line → unfolded (folded line) ≡ line ++ line_end
 
--- its pieces have at most 75 octets, and none cuts a character
+-- the pieces of a folded line have at most 75 octets with the space before them, and none cuts a
+-- character
 abbrev pub FoldedIsFolded : Type 0
 FoldedIsFolded = (line : List ℕ) → IsUtf8 line → IsFolded line (folded line)
 
--- each summary is such a line, whatever the bytes of its text are
+-- the line of each summary is UTF-8 and has no carriage return, whatever the bytes of its text are
 abbrev pub SummariesAreLines : Type 0
 SummariesAreLines = (text : List ℕ) → IsUtf8 (summary_line text) × HasNoReturn (summary_line text)
 
--- what two events share
+-- two events have the same digest and copy of their entry, the same fire and the same domain
 pub record IsOneEvent (text other : List ℕ) (copy another : ℕ) (f g : Fire) (domain place : List ℕ) : Type 0 where
   pub same_digest : digest_text text ≡ digest_text other
   pub same_copy : copy ≡ another
@@ -30,8 +31,9 @@ pub record IsOneEvent (text other : List ℕ) (copy another : ℕ) (f g : Fire) 
   pub same_civil : f.civil ≡ g.civil
   pub same_domain : domain ≡ place
 
--- The UIDs of two events differ, unless these share their entry's digest and its copy, the instant, the civil second that matches, and the
--- domain. Two fires of one gap share their instant.
+-- Two events with the same UID share the digest and the copy of their entry, the instant, the civil
+-- second that matches, and the domain. The civil second is needed: two fires of one gap share their
+-- instant.
 abbrev pub UidsTellEventsApart : Type 0
 UidsTellEventsApart =
     (text other : List ℕ) (copy another : ℕ) (f g : Fire) (domain place : List ℕ)

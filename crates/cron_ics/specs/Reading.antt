@@ -1,9 +1,10 @@
--- How a reader takes a calendar: as lines.
+-- How a reader splits a calendar into lines.
 use Rattle.std.specs.Prelude.{◌≡◌, ℕ, ◌==◌, ◌&&◌, false, List, [], ◌∷◌, ◌++◌, if◌then◌else◌}
 use Rattle.cron_ics.specs.Events.{folded_lines}
 use Rattle.cron_ics.specs.Folding.{HasNoReturn, is_blank, unfolded}
 
--- the lines of an unfolded text, of the first of which this was read already: each up to its carriage return and line feed
+-- The lines of an unfolded text: each is ended by a carriage return and a line feed. The bytes
+-- `line` of the first one were read before.
 abbrev pub lines_from : List ℕ → List ℕ → List (List ℕ)
 lines_from line [] = []
 lines_from line (a ∷ []) = []
@@ -21,6 +22,6 @@ abbrev pub AreLines : List (List ℕ) → Type 0
 AreLines [] = Unit {0}
 AreLines (line ∷ lines) = IsLine line × AreLines lines
 
--- lines that are folded one behind another read back
+-- lines that are folded one after another read back unchanged
 abbrev pub LinesReadBack : Type 0
 LinesReadBack = (lines : List (List ℕ)) → AreLines lines → read_lines (folded_lines lines) ≡ lines

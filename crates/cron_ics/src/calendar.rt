@@ -1,4 +1,5 @@
-//! The calendar of entries.
+//! The calendar of entries: the text of a file of RFC 5545 (iCalendar), with one event for each
+//! fire.
 ghost use Rattle.std.specs.Prelude.{◌≡◌, ◌<◌, ◌≤◌, ◌+◌, ◌++◌, [], List, ℕ, IfErr, IfOk, OnOk, length, slice_get, take, Some, string_bytes};
 ghost use Rattle.jiff_core.specs.DateTime.{civil_nanos};
 ghost use Rattle.cron_ics.specs.Calendars.{AreEvents, IsBody, IsCalendar, IsRefusal, head_text, total, wanted_fires};
@@ -15,24 +16,24 @@ use jiff::Timestamp;
 use jiff::tz::Offset;
 use std::alloc::{AllocError, Global};
 
-/// Which fires are events, how long these are, and who writes them when.
+/// Which fires become events, how long these last, and who writes the calendar when.
 #[derive(Clone, Copy)]
 pub struct Wanted<'a> {
-    /// Fires come after it,
+    /// Only fires after this instant become events.
     pub start: Timestamp,
-    /// up to and with it.
+    /// Only fires up to and including this instant become events.
     pub end: Timestamp,
     /// How many minutes an event lasts.
     pub minutes: u32,
-    /// How many events there are at most.
+    /// The greatest number of events: a calendar with more is refused.
     pub most: usize,
-    /// When the calendar is written.
+    /// The instant when the calendar is written.
     pub written: Timestamp,
-    /// Who writes it.
+    /// The name of the calendar's writer, which each event's UID ends with.
     pub domain: Domain<'a>,
 }
 
-// What the events of an entry share, which stands behind others.
+// What all events of `entry` share. The entries `before` precede it in the calendar.
 fn heading_of<'a>(
     alloc: Global,
     before: &[Entry<'_>],
@@ -56,8 +57,8 @@ fn heading_of<'a>(
     })
 }
 
-// Pushes the events of an entry, which stands behind others, if they are no more than so many, and
-// answers how many they are.
+// Appends the events of `entry` and returns their number. The entries `before` precede it. If it
+// has more than `room` fires, that is an error.
 fn push_entry(
     alloc: Global,
     page: &mut Vec<u8>,
@@ -72,8 +73,6 @@ fn push_entry(
         × (n ≤ room)) }
     ensures many { IfErr result (λ why. why ≡ IcsError.TooMany
         → room < length (wanted_fires wanted.now entry.now)) }
-    ensures crowded { IfErr result (λ why. why ≡ IcsError.TooManySchedules
-        → 12 < length entry.now.schedules.now) }
     ensures some { IfErr result (λ why. why ≡ IcsError.NoEvents → ⊥) }
 {
     let fires = fires_of(alloc, entry, wanted.start, wanted.end, room)?;
@@ -87,7 +86,7 @@ fn push_entry(
     Ok(list.len())
 }
 
-// A page with the lines that stand before all events.
+// A text with the lines that precede all events.
 fn page_head(alloc: Global) -> Result<Vec<u8>, AllocError>
     ensures { IfOk result (λ page. page.items ≡ head_text) }
 {
@@ -98,7 +97,8 @@ fn page_head(alloc: Global) -> Result<Vec<u8>, AllocError>
     Ok(page)
 }
 
-// Pushes the events of all entries, and answers how many they are.
+// Appends the events of all entries and returns their number. More than `wanted.most` events are an
+// error.
 fn push_body(
     alloc: Global,
     page: &mut Vec<u8>,
@@ -119,9 +119,10 @@ fn push_body(
     Ok(count)
 }
 
-/// The calendar of entries: an event a fire, of one entry after another, if there are some and no
-/// more than are wanted. Equal texts of entries are told apart by how many stand before. What
-/// stands in summaries and is no UTF-8, or a control character, is U+FFFD.
+/// The calendar of `entries`, with one event for each fire, entry by entry. It is refused if it has
+/// no event, or more than `wanted.most`. Entries with equal texts are distinguished by how many of
+/// them come before. In summaries U+FFFD replaces bytes that aren't UTF-8, and control characters
+/// other than a tab and a line feed.
 pub fn calendar(
     alloc: Global,
     entries: &[Entry<'_>],

@@ -1,31 +1,31 @@
-//! Whose calendar it is.
+//! The domain that names a calendar's writer.
 ghost use Rattle.std.specs.Prelude.{◌≡◌, codes, false, true, MatchOption};
 ghost use Rattle.std.specs.List.{list_all};
 ghost use Rattle.cron_ics.specs.Domains.{is_domain, is_domain_byte};
 
-/// The name of who writes a calendar, as of a machine: the same lines on another one have other
-/// UIDs. It is not empty, and has letters and digits of ASCII, `-`, `.` and `_` alone.
+/// The name of a calendar's writer, such as a machine: the same entries on another machine get
+/// other UIDs. It isn't empty, and has only ASCII letters and digits, `-`, `.` and `_`.
 #[derive(Clone, Copy)]
 pub struct Domain<'a> {
     pub text: &'a [u8],
     ghost plain: { is_domain text.now ≡ true },
 }
 
-// Whether a byte may stand in one.
+// Whether a domain may hold `byte`.
 fn is_domain_byte(byte: u8) -> bool
     ensures { result ≡ is_domain_byte byte }
 {
     byte.is_ascii_alphanumeric() || byte == b'-' || byte == b'.' || byte == b'_'
 }
 
-// Whether all of these may.
+// Whether a domain may hold all of `bytes`.
 fn are_domain_bytes(bytes: &[u8]) -> bool
     ensures { result ≡ list_all is_domain_byte bytes.now }
 {
     bytes.iter().all(|byte| is_domain_byte(*byte))
 }
 
-// Whether a text is one.
+// Whether `text` is a domain.
 fn is_domain(text: &[u8]) -> bool
     ensures { result ≡ is_domain text.now }
 {
@@ -33,7 +33,7 @@ fn is_domain(text: &[u8]) -> bool
 }
 
 impl<'a> Domain<'a> {
-    /// The name that a text is, if it is one.
+    /// The domain `text`, or `None` if `text` is no domain.
     pub fn new(text: &'a [u8]) -> Option<Domain<'a>>
         ensures { MatchOption result
             (is_domain text.now ≡ false)
@@ -45,7 +45,7 @@ impl<'a> Domain<'a> {
         Some(Domain { text })
     }
 
-    /// The name of the program, for want of another one.
+    /// The domain `crontool`, the program's name, for calendars that are given no other domain.
     pub fn of_program() -> Domain<'static>
         ensures { result.text.now ≡ codes "crontool" }
     {

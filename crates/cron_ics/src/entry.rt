@@ -1,25 +1,26 @@
-//! What fires, and under which text.
+//! The entries of a calendar: what fires, and the text that identifies it.
 ghost use Rattle.std.specs.Prelude.{◌≡◌, ◌≤◌, length};
 ghost use Rattle.cron_ics.specs.Events.{copies};
 
 use cron_units::fields::ScheduleFields;
 use jiff::tz::TimeZone;
 
-/// What fires.
+/// An entry: a union of schedules in a zone.
 #[derive(Clone, Copy)]
 pub struct Entry<'a> {
-    /// What its events are told by from run to run.
+    /// The text that identifies the entry's events from run to run.
     pub text: &'a [u8],
-    /// What its events are called.
+    /// The summary of the entry's events, which a calendar shows as their title.
     pub summary: &'a [u8],
-    /// Up to twelve schedules, of which one suffices.
+    /// The entry's schedules: it fires when any of them does.
     pub schedules: &'a [ScheduleFields],
-    /// Whether each match fires once, also where the clock changes.
+    /// Whether each match fires once, even where the clock skips or repeats it. If not, it fires
+    /// each time that the clock shows it.
     pub once: bool,
     pub zone: &'a TimeZone<'a>,
 }
 
-/// How many of some entries have this text.
+/// The number of `entries` whose text is `text`.
 pub(crate) fn copies(entries: &[Entry<'_>], text: &[u8]) -> usize
     ensures value { result ≡ copies text.now entries.now }
     ensures bound { result ≤ length entries.now }

@@ -1,14 +1,12 @@
-//! What stands in the way of a calendar.
+//! Why a calendar can't be made.
 
-/// Why there is none.
+/// Why there is no calendar.
 #[derive(Clone, Copy, Debug, PartialEq, Eq)]
 pub enum IcsError {
-    /// It would have no event, and a calendar of RFC 5545 has one or more.
+    /// The calendar would have no event, and a calendar of RFC 5545 has one or more.
     NoEvents,
-    /// It would have more events than are wanted.
+    /// The calendar would have more events than are wanted.
     TooMany,
-    /// An entry has more than twelve schedules.
-    TooManySchedules,
     /// Memory ran out.
     OutOfMemory,
 }

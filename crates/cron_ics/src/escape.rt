@@ -1,18 +1,20 @@
-//! Texts as values.
+//! Texts as values of RFC 5545. No value may hold a control character, except a tab and a line
+//! feed.
 ghost use Rattle.std.specs.Prelude.{◌≡◌, ◌++◌, IfOk, OnOk};
 ghost use Rattle.cron_ics.specs.Events.{summary_line};
 ghost use Rattle.cron_ics.specs.Texts.{escaped, escaped_byte, is_control, shown, shown_byte};
 
 use std::alloc::{AllocError, Global};
 
-// Whether no value may hold a byte.
+// Whether `byte` is a control character that no value may hold. It is false for a tab and a line
+// feed.
 fn is_control(byte: u8) -> bool
     ensures { result ≡ is_control byte }
 {
     (byte < 32 && !(byte == b'\t' || byte == b'\n')) || byte == 127
 }
 
-// Pushes a byte, or U+FFFD in its place.
+// Appends a byte, or U+FFFD in place of a control character that no value may hold.
 fn push_shown(text: &mut Vec<u8>, byte: u8) -> Result<(), AllocError>
     ensures { OnOk result (text.new.items ≡ text.old.items ++ shown_byte byte) }
 {
@@ -22,7 +24,7 @@ fn push_shown(text: &mut Vec<u8>, byte: u8) -> Result<(), AllocError>
     text.extend_from_slice(&[byte])
 }
 
-// A text with U+FFFD in place of what no value may hold.
+// A text with U+FFFD in place of each byte that no value may hold.
 fn shown(alloc: Global, text: &[u8]) -> Result<Vec<u8>, AllocError>
     ensures { IfOk result (λ list. list.items ≡ shown text.now) }
 {
@@ -33,7 +35,7 @@ fn shown(alloc: Global, text: &[u8]) -> Result<Vec<u8>, AllocError>
     Ok(list)
 }
 
-// Pushes a byte as a reader of values takes it.
+// Appends a byte, escaped for a value of RFC 5545.
 fn push_byte(line: &mut Vec<u8>, byte: u8) -> Result<(), AllocError>
     ensures { OnOk result (line.new.items ≡ line.old.items ++ escaped_byte byte) }
 {
@@ -44,7 +46,7 @@ fn push_byte(line: &mut Vec<u8>, byte: u8) -> Result<(), AllocError>
     }
 }
 
-// Pushes a text as a reader of values takes it.
+// Appends a text, escaped for a value of RFC 5545.
 fn push_escaped(line: &mut Vec<u8>, text: &[u8]) -> Result<(), AllocError>
     ensures { OnOk result (line.new.items ≡ line.old.items ++ escaped text.now) }
 {
@@ -54,7 +56,8 @@ fn push_escaped(line: &mut Vec<u8>, text: &[u8]) -> Result<(), AllocError>
     Ok(())
 }
 
-/// The line of a summary. Bytes that are no UTF-8 are U+FFFD in it, as are control characters.
+/// The line of a summary. U+FFFD replaces bytes that aren't UTF-8, and control characters other
+/// than a tab and a line feed.
 pub(crate) fn summary_line(alloc: Global, text: &[u8]) -> Result<Vec<u8>, AllocError>
     ensures { IfOk result (λ line. line.items ≡ summary_line text.now) }
 {

@@ -15,27 +15,27 @@ use jiff::civil::DateTime;
 use sha2::{Digest, Sha256};
 use std::alloc::{AllocError, Global};
 
-/// How many bytes of a digest are told.
+/// The number of bytes of a SHA-256 that a digest has. Each is two hexadecimal digits.
 const TOLD: usize = 16;
 
 /// What all events of an entry share.
 #[derive(Drop)]
 pub(crate) struct Heading<'a> {
-    /// What stands for its text.
+    /// The digest of the entry's text, in hexadecimal digits.
     pub(crate) digest: String,
-    /// How many entries before it have the same text.
+    /// How many entries before the entry have the same text. Equal entries so get different UIDs.
     pub(crate) copy: usize,
-    /// Who writes them.
+    /// The name of the calendar's writer.
     pub(crate) domain: Domain<'a>,
-    /// What UTC shows when they are written.
+    /// The time in UTC when the events are written.
     pub(crate) stamp: DateTime,
-    /// How long an event is.
+    /// How many minutes an event lasts.
     pub(crate) minutes: u32,
-    /// The line of its summary.
+    /// The line of the events' summary.
     pub(crate) summary: Vec<u8>,
 }
 
-/// What stands for a text.
+/// The digest of a text: the first 16 bytes of its SHA-256, in hexadecimal digits.
 pub(crate) fn digest_of(alloc: Global, text: &[u8]) -> Result<String, AllocError>
     ensures { IfOk result (λ digits. string_bytes digits ≡ digest_text text.now) }
 {
@@ -43,21 +43,22 @@ pub(crate) fn digest_of(alloc: Global, text: &[u8]) -> Result<String, AllocError
     hex::encode(alloc, &digest[..TOLD])
 }
 
-// Pushes a number that may lie below zero.
+// Appends a number in decimal digits, with a `-` if it is negative.
 fn push_number(line: &mut Vec<u8>, number: i64) -> Result<(), AllocError>
     ensures { OnOk result (line.new.items ≡ line.old.items ++ signed_decimal number) }
 {
     line.extend_from_slice(Buffer::new().format(number).as_bytes())
 }
 
-// Pushes a number.
+// Appends a number in decimal digits.
 fn push_count(line: &mut Vec<u8>, number: u64) -> Result<(), AllocError>
     ensures { OnOk result (line.new.items ≡ line.old.items ++ decimal number) }
 {
     line.extend_from_slice(Buffer::new().format(number).as_bytes())
 }
 
-// The line by which an event is told from all others.
+// The line of the UID, which identifies an event: the digest and the copy of its entry, the fire's
+// instant and civil second, and the domain.
 fn uid_line(alloc: Global, heading: &Heading<'_>, fire: &Fire) -> Result<Vec<u8>, AllocError>
     ensures { IfOk result (λ line. line.items
         ≡ uid_line (string_bytes heading.now.digest) heading.now.copy fire.now
@@ -76,7 +77,7 @@ fn uid_line(alloc: Global, heading: &Heading<'_>, fire: &Fire) -> Result<Vec<u8>
     Ok(line)
 }
 
-// Pushes that line.
+// Appends the line of the UID, folded.
 fn push_uid(
     alloc: Global,
     page: &mut Vec<u8>,
@@ -91,7 +92,7 @@ fn push_uid(
     push_line(page, line.as_slice())
 }
 
-// Pushes the line of the summary.
+// Appends the line of the summary, folded.
 fn push_summary(page: &mut Vec<u8>, heading: &Heading) -> Result<(), AllocError>
     ensures { OnOk result (page.new.items
         ≡ page.old.items ++ folded heading.now.summary.items) }
@@ -99,7 +100,7 @@ fn push_summary(page: &mut Vec<u8>, heading: &Heading) -> Result<(), AllocError>
     push_line(page, heading.summary.as_slice())
 }
 
-// Pushes a line with a time of UTC.
+// Appends a line with a time of UTC after `name`, such as `DTSTART:`.
 fn push_time(
     alloc: Global,
     page: &mut Vec<u8>,
@@ -115,7 +116,7 @@ fn push_time(
     push_line(page, line.as_slice())
 }
 
-// Pushes the line of how long an event is.
+// Appends the line of an event's duration.
 fn push_duration(alloc: Global, page: &mut Vec<u8>, minutes: u32) -> Result<(), AllocError>
     ensures { OnOk result (page.new.items ≡ page.old.items
         ++ folded (codes "DURATION:PT" ++ decimal minutes ++ codes "M")) }
@@ -126,7 +127,7 @@ fn push_duration(alloc: Global, page: &mut Vec<u8>, minutes: u32) -> Result<(), 
     push_line(page, line.as_slice())
 }
 
-// Pushes the lines of when an event is.
+// Appends the lines of an event's times: when it was written, its start, and its duration.
 fn push_times(
     alloc: Global,
     page: &mut Vec<u8>,
@@ -141,7 +142,7 @@ fn push_times(
     push_duration(alloc, page, heading.minutes)
 }
 
-// Pushes an event.
+// Appends the lines of one event.
 fn push_event(
     alloc: Global,
     page: &mut Vec<u8>,
@@ -160,7 +161,7 @@ fn push_event(
     Ok(())
 }
 
-/// Pushes the events of some fires.
+/// Appends one event for each fire.
 pub(crate) fn push_events(
     alloc: Global,
     page: &mut Vec<u8>,

@@ -1,31 +1,37 @@
-//! The fires of an entry.
+//! The fires of an entry, by either rule: a match fires each time that the clock shows it, or it
+//! fires once.
 ghost use Rattle.std.specs.Prelude.{◌≡◌, ◌<◌, ◌≤◌, List, IfErr, IfOk, length};
 ghost use Rattle.cron_ics.specs.Fires.{AreTold, TakesFirst, Told, fires_of};
 
 use crate::entry::Entry;
 use crate::error::IcsError;
 use cron_dues::fire::{due_second, nominal_second};
+use cron_dues::once::Once;
+use cron_instants::as_shown::AsShown;
 use cron_moments::moment::{civil_second, instant_of};
-use cron_unions::due_run::DueRun;
-use cron_unions::run::Run;
+use cron_seconds::run::Run;
+use cron_unions::Union;
 use jiff::Timestamp;
 use jiff::civil::DateTime;
-use jiff::tz::Offset;
+use jiff::tz::{Offset, TimeZone};
 use std::alloc::Global;
 
-/// How many schedules an entry has at most.
-const SCHEDULES: usize = 12;
-
-/// What is written of a fire.
+/// A fire, as a calendar needs it.
 #[derive(Clone, Copy)]
 pub struct Fire {
-    /// Its instant, in seconds since 1970-01-01T00:00:00Z.
+    /// The fire's instant, in seconds since 1970-01-01T00:00:00Z.
     pub second: i64,
-    /// The number of the civil second that matches.
+    /// The civil second that matches, in seconds since 1970-01-01 00:00:00 on the zone's clock.
     pub civil: u32,
-    /// What UTC shows.
+    /// The date and time in UTC at the fire.
     pub utc: DateTime,
 }
+
+// The fires of a union of schedules that aren't taken yet: each time that the clock shows a match,
+// or each match once.
+type ShownRun<'a> = Run<'a, Union<'a>, AsShown<TimeZone<'a>>>;
+
+type DueRun<'a> = Run<'a, Union<'a>, Once<TimeZone<'a>>>;
 
 // A fire from its parts.
 fn fire_of(second: i64, civil: u32, utc: DateTime) -> Fire
@@ -36,17 +42,17 @@ fn fire_of(second: i64, civil: u32, utc: DateTime) -> Fire
     Fire { second, civil, utc }
 }
 
-/// Fires that are taken one after another.
+/// A sequence of fires that are taken one after another.
 trait Left {
-    // those that are left
+    // the fires that aren't taken yet
     ghost left: { Self → List Told };
 
-    /// Takes the first that is left.
+    /// Removes the first fire that is left and returns it. `None` if no fire is left.
     fn take_first(&mut self) -> Option<Fire>
         ensures { TakesFirst (left self.old) result (left self.new) };
 }
 
-impl<'a> Left for Run<'a, 12> {
+impl<'a> Left for ShownRun<'a> {
     ghost use Rattle.std.specs.Prelude.{map};
     ghost use Rattle.cron_ics.specs.Fires.{told_moment};
 
@@ -82,13 +88,12 @@ impl<'a> Left for DueRun<'a> {
     }
 }
 
-// All that are left, if they are no more than so many.
+// All fires that are left. More than `room` of them are an error.
 fn collect<L: Left>(alloc: Global, left: &mut L, room: usize) -> Result<Vec<Fire>, IcsError>
     ensures told { IfOk result (λ fires. AreTold (L.left left.old) fires.items) }
     ensures few { IfOk result (λ fires. length (L.left left.old) ≤ room) }
     ensures many { IfErr result
         (λ why. why ≡ IcsError.TooMany → room < length (L.left left.old)) }
-    ensures crowded { IfErr result (λ why. why ≡ IcsError.TooManySchedules → ⊥) }
     ensures some { IfErr result (λ why. why ≡ IcsError.NoEvents → ⊥) }
 {
     let mut fires = Vec::new(alloc);
@@ -103,8 +108,8 @@ fn collect<L: Left>(alloc: Global, left: &mut L, room: usize) -> Result<Vec<Fire
     Ok(fires)
 }
 
-/// The fires of an entry after one instant, up to and with another, if they are no more than so
-/// many.
+/// The fires of `entry` after `start`, up to and including `end`. More than `room` of them are an
+/// error.
 pub(crate) fn fires_of(
     alloc: Global,
     entry: &Entry<'_>,
@@ -118,17 +123,21 @@ pub(crate) fn fires_of(
         (fires_of start.nanosecond end.nanosecond entry.now) ≤ room) }
     ensures many { IfErr result (λ why. why ≡ IcsError.TooMany → room < length
         (fires_of start.nanosecond end.nanosecond entry.now)) }
-    ensures crowded { IfErr result (λ why. why ≡ IcsError.TooManySchedules
-        → 12 < length entry.now.schedules.now) }
     ensures some { IfErr result (λ why. why ≡ IcsError.NoEvents → ⊥) }
 {
+    let table = Union {
+        schedules: entry.schedules,
+    };
     if entry.once {
-        let mut run = DueRun::between(entry.schedules, start, end, entry.zone);
-        return collect(alloc, &mut run, room);
+        return collect(
+            alloc,
+            &mut DueRun::between(table, start, end, entry.zone),
+            room,
+        );
     }
-    if entry.schedules.len() > SCHEDULES {
-        return Err(IcsError::TooManySchedules);
-    }
-    let mut run: Run<'_, 12> = Run::between(entry.schedules, start, end, entry.zone);
-    collect(alloc, &mut run, room)
+    collect(
+        alloc,
+        &mut ShownRun::between(table, start, end, entry.zone),
+        room,
+    )
 }

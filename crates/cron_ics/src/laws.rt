@@ -4,20 +4,21 @@
 ghost use Rattle.cron_ics.specs.Laws.{EscapedReadsBack, FoldedIsFolded, FoldedReadsBack, SummariesAreLines, UidsTellEventsApart};
 ghost use Rattle.cron_ics.specs.Reading.{LinesReadBack};
 
-/// What is escaped and folded reads back.
+/// Texts that are escaped and lines that are folded read back unchanged.
 pub fn what_is_written_reads_back()
     ensures escaped { EscapedReadsBack }
     ensures folded { FoldedReadsBack }
     ensures lines { LinesReadBack }
 {}
 
-/// Lines have at most 75 octets, and no character is cut.
+/// Folded lines have pieces of at most 75 octets, and no character is cut.
 pub fn lines_are_short()
     ensures folded { FoldedIsFolded }
     ensures summaries { SummariesAreLines }
 {}
 
-/// No two events share their UID, unless they share entry, fire and domain.
+/// Two events with the same UID share the digest and the copy of their entry, the fire's instant
+/// and civil second, and the domain.
 pub fn uids_tell_events_apart()
     ensures { UidsTellEventsApart }
 {}

@@ -1,4 +1,4 @@
-//! The fires of expressions as a calendar of RFC 5545: an event a fire.
+//! The fires of expressions as a calendar of RFC 5545, with one event for each fire.
 #![tactic(auto)]
 
 pub mod calendar;

@@ -1,4 +1,4 @@
-//! Times of UTC.
+//! Times of UTC as a calendar writes them, as `20220313T080000Z`.
 ghost use Rattle.std.specs.Prelude.{◌≡◌, ◌+◌, ◌%◌, IfOk, unsigned_abs};
 ghost use Rattle.cron_ics.specs.Stamps.{date_digits, stamp_text, time_digits};
 

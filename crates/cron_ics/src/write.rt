@@ -1,4 +1,4 @@
-//! A calendar that is written.
+//! Writes a calendar to a writer that remembers whether a call of it failed.
 ghost use Rattle.std.specs.Prelude.{◌≡◌, ◌<◌, ◌≤◌, List, ℕ, Option, IfErr, OnErr, OnOk, false};
 ghost use Rattle.cron_ics.specs.Calendars.{IsCalendar, IsRefusal, total};
 ghost use Rattle.cron_writer.specs.Calls.{HandsOnFlushed, IsFlushed};
@@ -11,7 +11,7 @@ use cron_writer::watchable::Watchable;
 use cron_writer::watched::{Watched, send};
 use std::alloc::Global;
 
-// Flushes a writer of which no call has failed.
+// Flushes the writer, unless a call of the writer has failed.
 fn flush<W: Watchable>(out: &mut Watched<W>)
     ensures bytes { (origin : Option (List ℕ)) (text : List ℕ)
         → IsSent origin (W.contents (writer_of out.old)) (has_failed out.old) text
@@ -24,9 +24,9 @@ fn flush<W: Watchable>(out: &mut Watched<W>)
     }
 }
 
-/// Writes the calendar of entries, once it is made whole, and flushes. Nothing is written where
-/// there is none. The writer tells whether a call failed: it isn't called again then, and holds
-/// what it took before. None may have failed before this call.
+/// Writes the calendar of `entries` once it is complete, and flushes. On an error nothing is
+/// written. The writer records whether a call of it failed: then it isn't called again, and holds
+/// what it took before. No call of the writer may have failed before.
 pub fn write_calendar<W: Watchable>(
     alloc: Global,
     entries: &[Entry<'_>],

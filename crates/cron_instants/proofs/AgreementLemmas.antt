@@ -8,19 +8,12 @@ use Rattle.jiff_core.proofs.SignedLemmas.{signed_arith}
 use Rattle.jiff_core.specs.Timestamp.{IsOffsetSeconds}
 use Rattle.jiff_core.specs.declared.Offset.{Offset}
 use Rattle.jiff_tz.specs.declared.timezone.TimeZone.{TimeZone}
-use Rattle.cron_units.specs.Sets.{Sets}
-use Rattle.cron_moments.specs.Civil.{civil}
-use Rattle.cron_time.specs.Walk.FixedLaws.{Shows}
-use Rattle.cron_time.specs.Matches.{matches}
+use Rattle.cron_time.specs.Seconds.{Seconds, items_of, timeline}
 use Rattle.cron_moments.specs.Readings.{Reading, readings}
-use Rattle.cron_time.specs.Search.{items_of}
-use Rattle.cron_time.specs.Timeline.{timeline}
-use Rattle.cron_time.proofs.JoinedLemmas.{owner}
-use Rattle.cron_time.proofs.PlaceLemmas.{nothing_in_nil}
-use Rattle.cron_time.proofs.TimelineLemmas.{before, item_in, items_of-second, timeline-joined}
-use Rattle.cron_time.proofs.TimelineLaws.{items_match, stand_once}
+use Rattle.cron_time.proofs.TimelineLemmas.{before, item_in, item_of, items_of-matching}
+use Rattle.cron_time.proofs.TimelineLaws.{stands_once}
 use Rattle.cron_clocks.specs.Clocks.{LookupsAgree, HasInstant, shown_offset}
-use Rattle.cron_instants.specs.ClockLaws.{InstantsAreApart, ItemsAreTheMatches}
+use Rattle.cron_instants.specs.ClockLaws.{InstantsAreApart, ItemsAreTheMatches, Shows}
 
 pub same_offset : (a b : Offset) → a.seconds ≡ b.seconds → a ≡ b
 same_offset a b e =
@@ -32,47 +25,18 @@ same_offset a b e =
 pub same_reading : (r q : Reading) → r.second ≡ q.second → r.offset ≡ q.offset → r ≡ q
 same_reading r q e o = λ i. record { second = e i; offset = o i }
 
--- an item is a reading of its civil second
-record IsItem (s : Sets) (z : TimeZone) (r : Reading) : Type 0 where
-  place : ℕ
-  here : slice_get (readings z r.second) place ≡ Some r
-  in_range : r.second < 4_133_980_800
-
-in_readings : (s : Sets) (z : TimeZone) (c i : ℕ) (r : Reading) → slice_get (items_of s z c) i ≡ Some r → slice_get (readings z c) i ≡ Some r
-unfolding items_of
-in_readings s z c i r =
-    elim (matches s (civil c)) as (λ m. slice_get (cond m (readings z c) []) i ≡ Some r → slice_get (readings z c) i ≡ Some r) [
-      | true ↦ λ e. e
-      | false ↦ λ e. absurd (nothing_in_nil i r e)
-    ]
-
-is_item : (s : Sets) (z : TimeZone) (k : ℕ) (r : Reading) → slice_get (timeline s z) k ≡ Some r → IsItem s z r
-is_item s z k r e =
-    let own = owner (items_of s z) 4_133_980_800 k r (rw (timeline-joined s z) at e) in
-    let second = items_of-second s z own.number own.place r own.here in
-    let below = own.below in
-    record {
-      place = own.place;
-      here = ap (λ c. slice_get (readings z c) own.place) second ∙ in_readings s z own.number own.place r own.here;
-      in_range = omega arith;
-    }
-
 pub instants_apart : InstantsAreApart
 instants_apart s z i j r q agree here there same =
-    let a = is_item s z i r here in
-    let b = is_item s z j q there in
+    let a = item_of s z i r here in
+    let b = item_of s z j q there in
     let shown = agree.readings_shown r.second a.place r a.in_range a.here in
     let other = agree.readings_shown q.second b.place q b.in_range b.here in
     let offsets : r.offset.seconds ≡ q.offset.seconds = sym shown ∙ ap (shown_offset z) same ∙ other in
     let seconds : r.second ≡ q.second = omega (arith, signed_arith) in
     let equal = same_reading r q seconds (same_offset r.offset q.offset offsets) in
-    stand_once s z i j r here (there ∙ ap Some (sym equal))
+    stands_once s z i j r here (there ∙ ap Some (sym equal))
 
-items_of-matching : (s : Sets) (z : TimeZone) (c : ℕ) → matches s (civil c) ≡ true → items_of s z c ≡ readings z c
-unfolding items_of
-items_of-matching s z c m = rw m refl
-
-shown_item : (s : Sets) (z : TimeZone) (n : ℤ) → LookupsAgree z → Shows s (shown_offset z n) n → HasInstant (timeline s z) n
+shown_item : (s : Seconds) (z : TimeZone) (n : ℤ) → LookupsAgree z → Shows s (shown_offset z n) n → HasInstant (timeline s z) n
 shown_item s z n agree k =
     let r = agree.shown_read k.second n k.in_range k.is in
     let same = items_of-matching s z k.second k.matching in
@@ -84,10 +48,10 @@ shown_item s z n agree k =
       is = r.is;
     }
 
-item_shown : (s : Sets) (z : TimeZone) (n : ℤ) → LookupsAgree z → HasInstant (timeline s z) n → Shows s (shown_offset z n) n
+item_shown : (s : Seconds) (z : TimeZone) (n : ℤ) → LookupsAgree z → HasInstant (timeline s z) n → Shows s (shown_offset z n) n
 item_shown s z n agree k =
     let r = k.at_place in
-    let a = is_item s z k.place r k.here in
+    let a = item_of s z k.place r k.here in
     let shown = agree.readings_shown r.second a.place r a.in_range a.here in
     let instant_is = k.is in
     let offset : shown_offset z n ≡ r.offset.seconds = ap (shown_offset z) (sym instant_is) ∙ shown in
@@ -95,7 +59,7 @@ item_shown s z n agree k =
       second = r.second;
       is = omega (arith, signed_arith);
       in_range = a.in_range;
-      matching = items_match s z k.place r k.here;
+      matching = a.matching;
     }
 
 pub items_matches : ItemsAreTheMatches

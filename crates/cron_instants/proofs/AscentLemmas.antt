@@ -1,15 +1,14 @@
 -- Lists of readings in the order of their instants.
-use Rattle.std.proofs.Common.{◌≡◌, ℕ, zero, suc, ◌<◌, Bool, true, false, cond, List, [], ◌∷◌, ◌++◌, subst, Option, Some, None, ◌⊎◌, inl, inr, refl, sym, ap, ◌∙◌, arith}
-use Rattle.std.specs.Prelude.{filter, slice_get, MatchOption}
-use Rattle.std.proofs.lemmas.Bool.{cases_lt}
+use Rattle.std.proofs.Common.{◌≡◌, ℕ, suc, Bool, true, false, cond, List, [], ◌∷◌, Some, ◌⊎◌, inl, inr, refl, sym, ap, ◌∙◌, arith}
+use Rattle.std.specs.Prelude.{slice_get}
 use Rattle.jiff_core.proofs.SignedLemmas.{signed_arith}
 use Rattle.cron_instants.proofs.AgreementLemmas.{same_offset, same_reading}
 use Rattle.cron_moments.specs.Readings.{Reading, instant}
-use Rattle.cron_time.proofs.ListLemmas.{among-cases, among-filter, among-first, among-none, among-rest, filter-all, filter-fails, filter-none}
-use Rattle.cron_time.proofs.PlaceLemmas.{nothing_in_nil}
+use Rattle.cron_time.proofs.ListLemmas.{among-cases, among-none, among-rest}
 use Rattle.cron_units.specs.declared.way.Way.TheVariants.{Ahead}
 use Rattle.cron_instants.specs.Fires.{insert, earliest_first}
-use Rattle.cron_instants.specs.Instants.{Ascends, IsAmong, IsEarliest}
+use Rattle.cron_seconds.specs.Rules.{IsAmong, IsOrder}
+use Rattle.cron_instants.specs.Instants.{Ascends}
 use Rattle.cron_instants.specs.Order.{is_earlier}
 use Rattle.cron_instants.proofs.OrderLemmas.{before-false, before-not_shared, before-through, nearer-not_back}
 
@@ -138,101 +137,6 @@ ascends-earliest_first [] once = tt
 ascends-earliest_first (r ∷ l) once =
     ascends-insert r (earliest_first l) (ascends-earliest_first l once.1) (λ h. once.0 (among-earliest_first l r h))
 
--- by places
-pub ascends-at : (l : List Reading) (i j : ℕ) (x y : Reading) → Ascends l → i < j → slice_get l i ≡ Some x → slice_get l j ≡ Some y → is_earlier x y ≡ true
-ascends-at [] i j x y up lt e f = absurd (nothing_in_nil i x e)
-ascends-at (r ∷ l) i zero x y up lt e f = absurd (omega arith)
-ascends-at (r ∷ l) zero (suc j) x y up lt e f =
-    let same : r ≡ x = cc in ap (λ v. is_earlier v y) (sym same) ∙ up.0 y (j, f)
-ascends-at (r ∷ l) (suc i) (suc j) x y up lt e f = ascends-at l i j x y up.1 (omega arith) e f
-
--- ---- what is left of a list
-
--- what passes the test passes it from there on
-abbrev pub KeepsOn : (Reading → Bool) → Type 0
-KeepsOn p = (a b : Reading) → p a ≡ true → is_earlier a b ≡ true → p b ≡ true
-
--- of the readings of an ascending list that pass such a test, the earliest and those that are later than it
-pub first-passing : (p : Reading → Bool) (l : List Reading) (r : Reading) → KeepsOn p → Ascends l → IsAmong l r → p r ≡ true
-    → ((q : Reading) → IsAmong l q → p q ≡ true → is_earlier q r ≡ false) → filter p l ≡ r ∷ filter (is_earlier r) l
-first-passing p [] r on up here passes least = absurd (among-none r here)
-first-passing p (x ∷ l) r on up here passes least =
-    by_test (p x) (λ there. first-passing p l r on up.1 there passes (λ q h t. least q (among-rest x q l h) t)) refl
-  where
-    at_first : p x ≡ true → r ≡ x
-    at_first is = elim (among-cases x l r here) [
-      | inl e ↦ e
-      | inr there ↦ let later = up.0 r there in let first = least x (among-first x l) is in absurd (cc)
-    ]
-
-    by_test : (b : Bool) → (IsAmong l r → filter p l ≡ r ∷ filter (is_earlier r) l) → p x ≡ b
-        → cond b (x ∷ filter p l) (filter p l) ≡ r ∷ cond (is_earlier r x) (x ∷ filter (is_earlier r) l) (filter (is_earlier r) l)
-    by_test true below is =
-        let all : filter p l ≡ l = filter-all p l (λ q h. on x q is (up.0 q h)) in
-        let later : filter (is_earlier x) l ≡ l = filter-all (is_earlier x) l up.0 in
-        let not_itself = earlier-not_itself x in
-        rw (at_first is, not_itself) (ap (λ m. x ∷ m) (all ∙ sym later))
-    by_test false below is = elim (among-cases x l r here) [
-      | inl e ↦ let same : p x ≡ true = ap p (sym e) ∙ passes in absurd (cc)
-      | inr there ↦
-          let fails : is_earlier r x ≡ false = earlier-not_back x r (up.0 r there) in
-          rw fails (below there)
-    ]
-
-none_by : (p : Reading → Bool) (l : List Reading) → ((r : Reading) → IsAmong l r × (p r ≡ true) → ⊥) → (q : Reading) → IsAmong l q → p q ≡ false
-none_by p l none q h = by_test (p q) refl
-  where
-    by_test : (b : Bool) → p q ≡ b → b ≡ false
-    by_test true is = absurd (none q (h, is))
-    by_test false is = refl
-
--- what is left of an ascending list, by its first
-pub first-left : (p : Reading → Bool) (l : List Reading) (answer : Option Reading) → KeepsOn p → Ascends l
-    → IsEarliest (λ r. IsAmong l r × (p r ≡ true)) answer → MatchOption answer (filter p l ≡ []) (λ r. filter p l ≡ r ∷ filter (is_earlier r) l)
-first-left p l None on up none = filter-none p l (none_by p l none)
-first-left p l (Some r) on up found = first-passing p l r on up found.0.0 found.0.1 (λ q h t. found.1 q (h, t))
-
--- ---- parts of an ascending list
-
-ascends_filter-by : (p : Reading → Bool) (r : Reading) (l : List Reading) (b : Bool) → Ascends (r ∷ l) → Ascends (filter p l)
-    → Ascends (cond b (r ∷ filter p l) (filter p l))
-ascends_filter-by p r l true up below = (λ q h. up.0 q (among-filter p l q h).0, below)
-ascends_filter-by p r l false up below = below
-
-pub ascends-filter : (p : Reading → Bool) (l : List Reading) → Ascends l → Ascends (filter p l)
-ascends-filter p [] up = up
-ascends-filter p (r ∷ l) up = ascends_filter-by p r l (p r) up (ascends-filter p l up.1)
-
-once_by : (l : List Reading) (i j : ℕ) (x : Reading) → Ascends l → i < j → slice_get l i ≡ Some x → slice_get l j ≡ Some x → ⊥
-once_by l i j x up lt e f = let later = ascends-at l i j x x up lt e f in let itself = earlier-not_itself x in cc
-
--- a list that ascends has each reading once
-pub once-ascending : (l : List Reading) (i j : ℕ) (x : Reading) → Ascends l → slice_get l i ≡ Some x → slice_get l j ≡ Some x → i ≡ j
-once-ascending l i j x up e f = elim (cases_lt i j) [
-  | inl less ↦ absurd (once_by l i j x up less e f)
-  | inr high ↦ elim (cases_lt j i) [
-    | inl more ↦ absurd (once_by l j i x up more f e)
-    | inr low ↦ omega arith
-  ]
-]
-
-among-behind : (done : List Reading) (last : Reading) (rest : List Reading) → IsAmong (done ++ last ∷ rest) last
-among-behind [] last rest = among-first last rest
-among-behind (x ∷ done) last rest = among-rest x last (done ++ last ∷ rest) (among-behind done last rest)
-
--- what is later than a reading of an ascending list is what stands behind it
-pub later-behind : (done : List Reading) (last : Reading) (rest : List Reading) → Ascends (done ++ last ∷ rest)
-    → filter (is_earlier last) (done ++ last ∷ rest) ≡ rest
-later-behind [] last rest up = filter-fails (is_earlier last) last rest (earlier-not_itself last) ∙ filter-all (is_earlier last) rest up.0
-later-behind (x ∷ done) last rest up =
-    filter-fails (is_earlier last) x (done ++ last ∷ rest) (earlier-not_back x last (up.0 last (among-behind done last rest)))
-    ∙ later-behind done last rest up.1
-
--- the rest of a list that is cut after a reading, by what is later than it
-pub cut-behind : (l : List Reading) (done : List Reading) (last : Reading) (rest : List Reading) → Ascends l → l ≡ done ++ last ∷ rest
-    → filter (is_earlier last) l ≡ rest
-cut-behind l done last rest up e =
-    let whole : Ascends (done ++ last ∷ rest) = subst Ascends e up in ap (filter (is_earlier last)) e ∙ later-behind done last rest whole
-
-pub among-cut : (l : List Reading) (done : List Reading) (last : Reading) (rest : List Reading) → l ≡ done ++ last ∷ rest → IsAmong l last
-among-cut l done last rest e = let h = among-behind done last rest in (h.0, ap (λ m. slice_get m h.0) e ∙ h.1)
+-- the order of a rule
+pub earlier-order : IsOrder is_earlier
+earlier-order = record { not_itself = earlier-not_itself; through = earlier-through }

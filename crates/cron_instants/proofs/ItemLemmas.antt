@@ -6,61 +6,33 @@ use Rattle.std.proofs.lemmas.Option.{slice_get_within}
 use Rattle.jiff_core.proofs.SignedLemmas.{signed_arith}
 use Rattle.jiff_tz.specs.declared.timezone.TimeZone.{TimeZone}
 use Rattle.cron_units.specs.declared.way.Way.TheVariants.{Ahead, Back}
-use Rattle.cron_units.specs.Sets.{Sets}
-use Rattle.cron_moments.specs.Civil.{civil, seconds_in_range}
-use Rattle.cron_time.specs.Matches.{matches}
+use Rattle.cron_time.specs.Seconds.{Seconds, is_match, items_of}
+use Rattle.cron_moments.specs.Civil.{seconds_in_range}
 use Rattle.cron_moments.specs.Readings.{Reading, instant, readings}
-use Rattle.cron_time.specs.Search.{items_of}
-use Rattle.cron_time.proofs.JoinedLemmas.{Owner, owner}
-use Rattle.cron_time.proofs.PlaceLemmas.{nothing_in_nil}
-use Rattle.cron_time.proofs.TimelineLemmas.{before, item_in, items_of-second, timeline-joined}
+use Rattle.cron_time.proofs.TimelineLemmas as timeline
+use Rattle.cron_seconds.proofs.SetLemmas.{passes_in, passes_of, match_in_range}
+use Rattle.cron_time.proofs.TimelineLemmas.{before, item_in, items_of-matching}
 use Rattle.cron_instants.specs.Instants.{IsItem, IsAfter, IsBy, IsFirstAfter, IsFirstPast, IsLastBefore, IsLastBy}
+use Rattle.cron_instants.specs.OffsetRange.{IsRead}
 use Rattle.cron_instants.specs.Order.{is_earlier}
 use Rattle.cron_instants.specs.Beyond.{beyond, IsBest, IsBeyond, Stands}
 use Rattle.cron_instants.proofs.BestLemmas.{best_of_more}
-use Rattle.cron_instants.proofs.MatchLemmas.{match_in_range}
 use Rattle.cron_instants.proofs.OrderLemmas.{before-true, before-less, before-up_to}
 
 -- ---- the timeline
 
-matching_by : (s : Sets) (z : TimeZone) (c place : ℕ) (r : Reading) (m : Bool) → slice_get (cond m (readings z c) []) place ≡ Some r
-    → (m ≡ true) × (slice_get (readings z c) place ≡ Some r)
-matching_by s z c place r true e = (refl, e)
-matching_by s z c place r false e = absurd (nothing_in_nil place r e)
-
-matching_of : (s : Sets) (z : TimeZone) (c place : ℕ) (r : Reading) → slice_get (items_of s z c) place ≡ Some r
-    → (matches s (civil c) ≡ true) × (slice_get (readings z c) place ≡ Some r)
-unfolding items_of
-matching_of s z c place r e = matching_by s z c place r (matches s (civil c)) e
-
-is_match_by : (c : ℕ) (m : Bool) → c < seconds_in_range → m ≡ true → (nat_lt c seconds_in_range && m) ≡ true
-is_match_by c m high is = rw is (grind arith)
-
-matches_of : (c : ℕ) (m : Bool) → (nat_lt c seconds_in_range && m) ≡ true → m ≡ true
-matches_of c true h = refl
-matches_of c false h = grind arith
-
-pub stands_of : (s : Sets) (z : TimeZone) (r : Reading) → IsItem s z r → Stands s z r
+pub stands_of : (s : Seconds) (z : TimeZone) (r : Reading) → IsItem s z r → Stands s z r
 stands_of s z r item =
-    let own : Owner (items_of s z) seconds_in_range item.0 r = owner (items_of s z) seconds_in_range item.0 r (rw (timeline-joined s z) at item.1) in
-    let second = items_of-second s z own.number own.place r own.here in
-    let there : slice_get (items_of s z r.second) own.place ≡ Some r =
-    subst (λ (n : ℕ). slice_get (items_of s z n) own.place ≡ Some r) (sym second) own.here in
-    let both = matching_of s z r.second own.place r there in
-    let below = own.below in
+    let own = timeline.item_of s z item.0 r item.1 in
     record {
-      matching = is_match_by r.second (matches s (civil r.second)) (omega arith) both.0;
+      matching = passes_in r.second (s r.second) own.in_range own.matching;
       place = own.place;
-      here = both.1;
+      here = own.here;
     }
 
-items_of-all : (s : Sets) (z : TimeZone) (c : ℕ) → matches s (civil c) ≡ true → items_of s z c ≡ readings z c
-unfolding items_of
-items_of-all s z c e = rw e refl
-
-pub item_of : (s : Sets) (z : TimeZone) (r : Reading) → Stands s z r → IsItem s z r
+pub item_of : (s : Seconds) (z : TimeZone) (r : Reading) → Stands s z r → IsItem s z r
 item_of s z r st =
-    let same = items_of-all s z r.second (matches_of r.second (matches s (civil r.second)) st.matching) in
+    let same = items_of-matching s z r.second (passes_of r.second (s r.second) st.matching) in
     let there : slice_get (items_of s z r.second) st.place ≡ Some r = ap (λ xs. slice_get xs st.place) same ∙ st.here in (
       before s z r.second + st.place,
       item_in s z r.second st.place (match_in_range s r.second st.matching)
@@ -88,30 +60,39 @@ beyond_by t i r is past = elim (before-true (instant r) r.second i 4_294_967_295
   | inr same ↦ let equal = same.0 in omega (arith, signed_arith)
 ]
 
-pub first_after : (s : Sets) (z : TimeZone) (t i : ℤ) (best : Option Reading) → i ≡ int_div_euclid t (pos 1_000_000_000)
+pub first_after : (s : Seconds) (z : TimeZone) (t i : ℤ) (best : Option Reading) → i ≡ int_div_euclid t (pos 1_000_000_000)
     → IsBest Ahead (IsBeyond Ahead s z i 4_294_967_295) best → IsFirstAfter s z t best
 first_after s z t i best is found =
     best_of_more Ahead (IsBeyond Ahead s z i 4_294_967_295) (λ r. IsItem s z r × IsAfter t r) best found
     (λ r m. (item_of s z r m.0, beyond_after t i r is (match_in_range s r.second m.0.matching) m.1))
     (λ r m. inl (stands_of s z r m.0, after_beyond t i r is m.1))
 
-pub first_past : (s : Sets) (z : TimeZone) (item : Reading) (best : Option Reading) → IsBest Ahead (IsBeyond Ahead s z (instant item) item.second) best
+pub first_past : (s : Seconds) (z : TimeZone) (item : Reading) (best : Option Reading) → IsBest Ahead (IsBeyond Ahead s z (instant item) item.second) best
     → IsFirstPast s z item best
 first_past s z item best found =
     best_of_more Ahead (IsBeyond Ahead s z (instant item) item.second) (λ r. IsItem s z r × (is_earlier item r ≡ true)) best found
     (λ r m. (item_of s z r m.0, m.1))
     (λ r m. inl (stands_of s z r m.0, m.1))
 
-pub last_by : (s : Sets) (z : TimeZone) (t i : ℤ) (best : Option Reading) → i ≡ int_div_euclid t (pos 1_000_000_000)
+pub last_by : (s : Seconds) (z : TimeZone) (t i : ℤ) (best : Option Reading) → i ≡ int_div_euclid t (pos 1_000_000_000)
     → IsBest Back (IsBeyond Back s z i 4_294_967_295) best → IsLastBy s z t best
 last_by s z t i best is found =
     best_of_more Back (IsBeyond Back s z i 4_294_967_295) (λ r. IsItem s z r × IsBy t r) best found
     (λ r m. (item_of s z r m.0, beyond_by t i r is m.1))
     (λ r m. let there = stands_of s z r m.0 in inl (there, by_beyond t i r is (match_in_range s r.second there.matching) m.1))
 
-pub last_before : (s : Sets) (z : TimeZone) (item : Reading) (best : Option Reading) → IsBest Back (IsBeyond Back s z (instant item) item.second) best
+pub last_before : (s : Seconds) (z : TimeZone) (item : Reading) (best : Option Reading) → IsBest Back (IsBeyond Back s z (instant item) item.second) best
     → IsLastBefore s z item best
 last_before s z item best found =
     best_of_more Back (IsBeyond Back s z (instant item) item.second) (λ r. IsItem s z r × (is_earlier r item ≡ true)) best found
     (λ r m. (item_of s z r m.0, m.1))
     (λ r m. inl (stands_of s z r m.0, m.1))
+
+-- an item is a reading of a civil second of the range that the set has
+pub item_read : (s : Seconds) (z : TimeZone) (r : Reading) → IsItem s z r → IsRead z r × (is_match s r.second ≡ true)
+item_read s z r item =
+    let at = stands_of s z r item in
+    (record { in_range = match_in_range s r.second at.matching; place = at.place; here = at.here }, at.matching)
+
+pub read_item : (s : Seconds) (z : TimeZone) (r : Reading) → IsRead z r → is_match s r.second ≡ true → IsItem s z r
+read_item s z r read match = item_of s z r (record { matching = match; place = read.place; here = read.here })

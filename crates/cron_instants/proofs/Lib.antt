@@ -1,4 +1,3 @@
-pub mod MatchLemmas
 pub mod OrderLemmas
 pub mod BestLemmas
 pub mod StretchLemmas
@@ -6,7 +5,7 @@ pub mod ItemLemmas
 pub mod AgreementLemmas
 pub mod AscentLemmas
 pub mod FireLemmas
-pub mod RunLemmas
+pub mod StandLemmas
 pub mod MonotoneLemmas
 pub mod TransitionLemmas
 pub mod OffsetRangeLemmas

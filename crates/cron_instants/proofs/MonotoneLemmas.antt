@@ -7,17 +7,16 @@ use Rattle.jiff_core.specs.declared.Offset.{Offset}
 use Rattle.jiff_tz.specs.declared.timezone.TimeZone.{TimeZone}
 use Rattle.cron_units.specs.declared.way.Way.TheVariants.{Ahead}
 use Rattle.cron_units.specs.Nearest.{IsNearestAt}
-use Rattle.cron_units.specs.Sets.{Sets}
+use Rattle.cron_time.specs.Seconds.{Seconds, is_match}
 use Rattle.cron_moments.specs.Civil.{seconds_in_range}
 use Rattle.cron_moments.specs.Readings.{Reading, instant, reading, readings}
 use Rattle.cron_instants.specs.Order.{is_earlier}
-use Rattle.cron_time.specs.Matches.{is_match}
 use Rattle.cron_instants.specs.Beyond.{beyond, IsBest, IsBeyond}
 use Rattle.cron_instants.specs.Monotone.{IsMonotone, IsInOrder, IsKnownMonotone, IsNext, IsSettled}
 use Rattle.cron_instants.specs.OffsetRange.{IsRead}
 use Rattle.cron_instants.specs.declared.monotone.Monotone.{Monotone}
 use Rattle.cron_instants.proofs.BestLemmas.{best_of_more}
-use Rattle.cron_instants.proofs.MatchLemmas.{match_in_range}
+use Rattle.cron_seconds.proofs.SetLemmas.{match_in_range}
 use Rattle.cron_instants.proofs.OrderedLemmas.{only_reading}
 use Rattle.cron_instants.proofs.OrderLemmas.{before-true, before-less, before-not_less, not_nearer}
 
@@ -85,7 +84,7 @@ module _ (test : ℕ → Bool) (z : TimeZone) (i : ℤ) (c m : ℕ) (o : Offset)
     pub nearest_read : IsBest Ahead (IsReadBeyond test z i m) (Some (reading n p))
     nearest_read = (item, no_nearer)
 
-nearest_there : (s : Sets) (z : TimeZone) (i : ℤ) (c m : ℕ) (o : Offset) → i ≡ pos c -ℤ o.seconds → c ≤ m → IsSettled z c o
+nearest_there : (s : Seconds) (z : TimeZone) (i : ℤ) (c m : ℕ) (o : Offset) → i ≡ pos c -ℤ o.seconds → c ≤ m → IsSettled z c o
     → (n : ℕ) (p : Offset) → IsNearestAt Ahead (is_match s) (pos c +ℤ pos 1) n → IsInOrder z n p → c < seconds_in_range
     → IsBest Ahead (IsBeyond Ahead s z i m) (Some (reading n p))
 nearest_there s z i c m o instant_is upto settled n p next in_order range =
@@ -101,7 +100,7 @@ still_monotone z c n monotone known after before =
     record { settled = here.settled; on = λ k from to. known.on k (omega arith) to }
 
 -- the next match that is in order is the next item
-pub next_apart : (s : Sets) (z : TimeZone) (i : ℤ) (c n : ℕ) (old new : Monotone) → IsKnownMonotone s z i c old
+pub next_apart : (s : Seconds) (z : TimeZone) (i : ℤ) (c n : ℕ) (old new : Monotone) → IsKnownMonotone s z i c old
     → IsNearestAt Ahead (is_match s) (pos c +ℤ pos 1) n → IsMonotone z n new → n < new.end
     → IsNext s z i c (Some (reading n new.offset)) (Some new)
 next_apart s z i c n old new known next there before = record {
@@ -111,21 +110,21 @@ next_apart s z i c n old new known next there before = record {
 }
 
 -- and so is one before the end
-pub next_monotone : (s : Sets) (z : TimeZone) (i : ℤ) (c n : ℕ) (old : Monotone) → IsKnownMonotone s z i c old
+pub next_monotone : (s : Seconds) (z : TimeZone) (i : ℤ) (c n : ℕ) (old : Monotone) → IsKnownMonotone s z i c old
     → IsNearestAt Ahead (is_match s) (pos c +ℤ pos 1) n → n < old.end → IsNext s z i c (Some (reading n old.offset)) (Some old)
 next_monotone s z i c n old known next before =
     let lies = next.lies in
     next_apart s z i c n old old known next (still_monotone z c n old known.monotone (omega (arith, signed_arith)) before) before
 
 -- beyond an instant at which a settled civil second is read, too
-pub first_monotone : (s : Sets) (z : TimeZone) (i : ℤ) (c m n : ℕ) (known : Monotone) → IsMonotone z c known → i ≡ pos c -ℤ known.offset.seconds → c ≤ m
+pub first_monotone : (s : Seconds) (z : TimeZone) (i : ℤ) (c m n : ℕ) (known : Monotone) → IsMonotone z c known → i ≡ pos c -ℤ known.offset.seconds → c ≤ m
     → c < 4_133_980_800
     → IsNearestAt Ahead (is_match s) (pos c +ℤ pos 1) n → n < known.end → IsBest Ahead (IsBeyond Ahead s z i m) (Some (reading n known.offset))
 first_monotone s z i c m n known monotone instant_is upto range next before =
     let lies = next.lies in
     nearest_there s z i c m known.offset instant_is upto monotone.settled n known.offset next (monotone.on n (omega (arith, signed_arith)) before) range
 
-pub first_apart : (s : Sets) (z : TimeZone) (i : ℤ) (c m n : ℕ) (known there : Monotone) → IsMonotone z c known → i ≡ pos c -ℤ known.offset.seconds → c ≤ m
+pub first_apart : (s : Seconds) (z : TimeZone) (i : ℤ) (c m n : ℕ) (known there : Monotone) → IsMonotone z c known → i ≡ pos c -ℤ known.offset.seconds → c ≤ m
     → c < 4_133_980_800 → IsNearestAt Ahead (is_match s) (pos c +ℤ pos 1) n → IsMonotone z n there → n < there.end
     → IsBest Ahead (IsBeyond Ahead s z i m) (Some (reading n there.offset))
 first_apart s z i c m n known there monotone instant_is upto range next on before =

@@ -9,9 +9,8 @@ use Rattle.jiff_core.specs.declared.Offset.{Offset}
 use Rattle.jiff_tz.specs.declared.timezone.TimeZone.{TimeZone}
 use Rattle.cron_units.specs.declared.way.Way.TheVariants.{Ahead}
 use Rattle.cron_units.specs.Nearest.{IsNearest}
-use Rattle.cron_units.specs.Sets.{Sets}
+use Rattle.cron_time.specs.Seconds.{Seconds, is_match}
 use Rattle.cron_moments.specs.Readings.{Reading, instant, reading, readings}
-use Rattle.cron_time.specs.Matches.{is_match}
 use Rattle.cron_time.proofs.PlaceLemmas.{nothing_in_nil}
 use Rattle.cron_time.proofs.TimelineLemmas.{readings-second}
 use Rattle.cron_clocks.specs.Clocks.{IsKeptUpTo, LookupsAgree}
@@ -22,10 +21,10 @@ use Rattle.cron_instants.specs.OffsetRange.{IsOnce, IsRead}
 use Rattle.cron_instants.specs.Inner.Periods.{IsPeriod, IsReadFrom}
 use Rattle.cron_instants.specs.Inner.Shown.{HasNone, IsFrom, IsItemIn}
 use Rattle.cron_instants.proofs.AgreementLemmas.{same_offset, same_reading}
-use Rattle.cron_instants.proofs.MatchLemmas.{match_in_range}
+use Rattle.cron_seconds.proofs.SetLemmas.{match_in_range}
 use Rattle.cron_instants.proofs.OrderLemmas.{before-not_less, before-not_shared}
 
-is_read : (s : Sets) (z : TimeZone) (r : Reading) → Stands s z r → IsRead z r
+is_read : (s : Seconds) (z : TimeZone) (r : Reading) → Stands s z r → IsRead z r
 is_read s z r st = record { in_range = match_in_range s r.second st.matching; place = st.place; here = st.here }
 
 -- where the look-ups agree, the time for which a clock keeps its offset is a period
@@ -43,7 +42,7 @@ period_kept z a kept agree keeps = record {
       record { in_range = range; place = found.place; here = found.here ∙ ap Some same };
 }
 
-module _ (s : Sets) (z : TimeZone) (a : ℤ) (kept : Kept) (period : IsPeriod z a (pos kept.end) kept.offset) (next : Option ℕ)
+module _ (s : Seconds) (z : TimeZone) (a : ℤ) (kept : Kept) (period : IsPeriod z a (pos kept.end) kept.offset) (next : Option ℕ)
     (nearest : IsNearest Ahead (is_match s) (a +ℤ kept.offset.seconds) next) where
   offset_in : (q : Reading) → Stands s z q → a ≤ℤ instant q → instant q <ℤ pos kept.end → q.offset.seconds ≡ kept.offset.seconds
   offset_in q st from to = period.only q (is_read s z q st) from to
@@ -98,7 +97,7 @@ only_reading z n o p once h same =
     only (suc i) e = absurd (nothing_in_nil i p e)
 
 -- from an instant on nothing is read before a civil second: the nearest match from that one on, if it is in order, is the first item
-pub best_in_order : (s : Sets) (z : TimeZone) (a from : ℤ) (n : ℕ) (o : Offset) → IsReadFrom z a from → IsNearest Ahead (is_match s) from (Some n) → IsInOrder z n o
+pub best_in_order : (s : Seconds) (z : TimeZone) (a from : ℤ) (n : ℕ) (o : Offset) → IsReadFrom z a from → IsNearest Ahead (is_match s) from (Some n) → IsInOrder z n o
     → a ≤ℤ (pos n -ℤ o.seconds) → IsBest Ahead (IsFrom s z a) (Some (reading n o))
 best_in_order s z a from n o reads found order later = (
   (record { matching = found.passes; place = 0; here = ap (λ l. slice_get l 0) order.settled.once }, later),

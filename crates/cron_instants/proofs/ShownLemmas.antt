@@ -8,10 +8,9 @@ use Rattle.jiff_core.specs.declared.Offset.{Offset}
 use Rattle.jiff_tz.specs.declared.timezone.TimeZone.{TimeZone}
 use Rattle.cron_units.specs.declared.way.Way.TheVariants.{Ahead}
 use Rattle.cron_units.specs.Nearest.{IsNearest}
-use Rattle.cron_units.specs.Sets.{Sets}
+use Rattle.cron_time.specs.Seconds.{Seconds, is_match}
 use Rattle.cron_moments.specs.Civil.{seconds_in_range}
 use Rattle.cron_moments.specs.Readings.{Reading, instant}
-use Rattle.cron_time.specs.Matches.{is_match}
 use Rattle.cron_time.proofs.TimelineLemmas.{readings-second}
 use Rattle.cron_clocks.specs.Clocks.{IsKeptUpTo, LookupsAgree, shown_offset}
 use Rattle.cron_clocks.specs.declared.clock.Kept.{Kept}
@@ -19,7 +18,7 @@ use Rattle.cron_instants.specs.Beyond.{IsBest, IsBeyond, Stands}
 use Rattle.cron_instants.specs.Inner.Shown.{HasNone, IsFirstShown, IsFrom, IsItemIn, IsShownAt}
 use Rattle.cron_instants.proofs.AgreementLemmas.{same_offset, same_reading}
 use Rattle.cron_instants.proofs.BestLemmas.{best_of_more}
-use Rattle.cron_instants.proofs.MatchLemmas.{match_in_range}
+use Rattle.cron_seconds.proofs.SetLemmas.{match_in_range}
 use Rattle.cron_instants.proofs.OrderLemmas.{before-true, before-less, before-not_less, before-not_shared}
 
 pub if_some : {A : Type 0} {P Q : A → Type 0} → ((x : A) → P x → Q x) → (o : Option A) → IfSome o P → IfSome o Q
@@ -27,16 +26,16 @@ if_some f None h = tt
 if_some f (Some x) h = f x h
 
 -- no civil second from one number on, and before another, matches
-abbrev NoMatch : Sets → ℤ → ℤ → Type 0
+abbrev NoMatch : Seconds → ℤ → ℤ → Type 0
 NoMatch s low high = (k : ℕ) → low ≤ℤ pos k → pos k <ℤ high → is_match s k ≡ false
 
-no_match_none : (s : Sets) (low high : ℤ) → IsNearest Ahead (is_match s) low None → NoMatch s low high
+no_match_none : (s : Seconds) (low high : ℤ) → IsNearest Ahead (is_match s) low None → NoMatch s low high
 no_match_none s low high none = λ k from to. none k from
 
-no_match_before : (s : Sets) (low : ℤ) (n : ℕ) → IsNearest Ahead (is_match s) low (Some n) → NoMatch s low (pos n)
+no_match_before : (s : Seconds) (low : ℤ) (n : ℕ) → IsNearest Ahead (is_match s) low (Some n) → NoMatch s low (pos n)
 no_match_before s low n next = λ k from to. next.nearest k from (omega (arith, signed_arith))
 
-module _ (s : Sets) (z : TimeZone) (agree : LookupsAgree z) where
+module _ (s : Seconds) (z : TimeZone) (agree : LookupsAgree z) where
   shown_at : (q : Reading) → Stands s z q → IsShownAt z q
   shown_at q st = agree.readings_shown q.second st.place q (match_in_range s q.second st.matching) st.here
 
@@ -127,14 +126,14 @@ first_there z c kept r keeps item =
 
 -- ---- from a later instant on, and beyond a mark
 
-pub best_on : (s : Sets) (z : TimeZone) (a b : ℤ) (best : Option Reading) → a ≤ℤ b → HasNone s z a b → IsBest Ahead (IsFrom s z b) best
+pub best_on : (s : Seconds) (z : TimeZone) (a b : ℤ) (best : Option Reading) → a ≤ℤ b → HasNone s z a b → IsBest Ahead (IsFrom s z b) best
     → IsBest Ahead (IsFrom s z a) best
 best_on s z a b best le none found =
     best_of_more Ahead (IsFrom s z b) (IsFrom s z a) best found
     (λ r m. let from = m.1 in (m.0, omega (arith, signed_arith, from, le)))
     (λ r m. by_lt_z (instant r) b (λ less. absurd (none r m.0 m.1 less)) (λ ge. inl (m.0, ge)))
 
-pub best_beyond : (s : Sets) (z : TimeZone) (i a : ℤ) (m : ℕ) (best : Option Reading) → a ≡ i +ℤ pos 1 → seconds_in_range ≤ m
+pub best_beyond : (s : Seconds) (z : TimeZone) (i a : ℤ) (m : ℕ) (best : Option Reading) → a ≡ i +ℤ pos 1 → seconds_in_range ≤ m
     → IsBest Ahead (IsFrom s z a) best → IsBest Ahead (IsBeyond Ahead s z i m) best
 best_beyond s z i a m best next high found =
     best_of_more Ahead (IsFrom s z a) (IsBeyond Ahead s z i m) best found

@@ -7,19 +7,18 @@ use Rattle.jiff_tz.specs.declared.timezone.TimeZone.{TimeZone}
 use Rattle.cron_units.specs.declared.way.Way.{Way}
 use Rattle.cron_units.specs.declared.way.Way.TheVariants.{Ahead, Back}
 use Rattle.cron_units.specs.Nearest.{LiesFrom, Precedes, IsNearestAt}
-use Rattle.cron_units.specs.Sets.{Sets}
+use Rattle.cron_time.specs.Seconds.{Seconds, is_match}
 use Rattle.cron_moments.specs.Readings.{Reading, reading}
 use Rattle.cron_clocks.specs.declared.stretch.Stretch.{Stretch}
-use Rattle.cron_time.specs.Matches.{is_match}
 use Rattle.cron_instants.specs.Beyond.{entry_of, IsBest, IsBettered, IsBeyond, IsEntered, IsPassed, IsSought, IsGoneOn, LiesPast, IsNotPast, IsInside, IsStartAt, IsMatchAt, IsMatchIn}
 use Rattle.cron_clocks.specs.Steady.{IsSteady, readings_at}
-use Rattle.cron_instants.proofs.MatchLemmas.{match_in_range}
+use Rattle.cron_seconds.proofs.SetLemmas.{match_in_range}
 use Rattle.cron_instants.proofs.OrderLemmas.{past_entry, entry_past, not_nearer}
 use Rattle.cron_instants.proofs.BestLemmas.{best_of_more, best_kept, best_chained}
 
 -- ---- at one offset
 
-module _ (way : Way) (s : Sets) (i : ℤ) (c low high : ℕ) (o : Offset) where
+module _ (way : Way) (s : Seconds) (i : ℤ) (c low high : ℕ) (o : Offset) where
   -- a match of the stretch lies where a search from the entry comes to
   lies_from : (r : Reading) → IsMatchAt way s i c low high o r → LiesFrom way (entry_of way i c o.seconds) r.second
   lies_from r m = subst (λ (x : Offset). LiesFrom way (entry_of way i c x.seconds) r.second) m.at (past_entry way i c r m.past)
@@ -57,14 +56,14 @@ past_by Ahead low high n k inside from to (inr more) = omega arith
 past_by Back low high n k inside from to (inl less) = omega arith
 past_by Back low high n k inside from to (inr more) = absurd (omega arith)
 
-pub found_outside : (way : Way) (s : Sets) (i : ℤ) (c low high : ℕ) (o : Offset) (start : ℤ) → IsStartAt way low high (entry_of way i c o.seconds) start
+pub found_outside : (way : Way) (s : Seconds) (i : ℤ) (c low high : ℕ) (o : Offset) (start : ℤ) → IsStartAt way low high (entry_of way i c o.seconds) start
     → (n : ℕ) → IsNearestAt way (is_match s) start n → (n < low) ⊎ (high ≤ n) → (r : Reading) → IsMatchAt way s i c low high o r → ⊥
 found_outside way s i c low high o start st n near out r m =
     nearest_passes way s i c low high o start st n near r m (past_by way low high n r.second (st.inside n near.lies) m.from m.to out)
 
 -- ---- at the offsets of a stretch
 
-module _ (way : Way) (s : Sets) (i : ℤ) (c : ℕ) (st : Stretch) where
+module _ (way : Way) (s : Seconds) (i : ℤ) (c : ℕ) (st : Stretch) where
   abbrev at_offset : Offset → Reading → Type 0
   at_offset o = IsMatchAt way s i c st.first st.end o
 
@@ -158,7 +157,7 @@ within_not_past : (way : Way) (low high k : ℕ) → low ≤ k → k < high → 
 within_not_past Ahead low high k from to = to
 within_not_past Back low high k from to = from
 
-module _ (way : Way) (s : Sets) (z : TimeZone) (i : ℤ) (c n : ℕ) (old new : Option Reading) (st : Stretch) (steady : IsSteady z st)
+module _ (way : Way) (s : Seconds) (z : TimeZone) (i : ℤ) (c n : ℕ) (old new : Option Reading) (st : Stretch) (steady : IsSteady z st)
     (low : st.first ≤ n) (high : n < st.end) (sought : IsSought way s z i c (Some n) old) (found : IsBettered way (IsMatchIn way s i c st) old new) where
   abbrev Early_item : Reading → Type 0
   Early_item r = IsBeyond way s z i c r × Precedes way r.second n
@@ -225,11 +224,11 @@ module _ (way : Way) (s : Sets) (z : TimeZone) (i : ℤ) (c n : ℕ) (old new : 
         ]),
   )
 
-pub sought_first : (way : Way) (s : Sets) (z : TimeZone) (i : ℤ) (c : ℕ) (first : Option ℕ) → IsEntered way i c first → IsSought way s z i c first None
+pub sought_first : (way : Way) (s : Seconds) (z : TimeZone) (i : ℤ) (c : ℕ) (first : Option ℕ) → IsEntered way i c first → IsSought way s z i c first None
 sought_first way s z i c None none = (tt, λ r m. none r (match_in_range s r.second m.0.0.matching) m.0.1)
 sought_first way s z i c (Some n) on = (on.0, λ r m. on.1 r (match_in_range s r.second m.0.0.matching) m.0.1 m.1)
 
-pub sought_all : (way : Way) (s : Sets) (z : TimeZone) (i : ℤ) (c : ℕ) (best : Option Reading) → IsSought way s z i c None best
+pub sought_all : (way : Way) (s : Seconds) (z : TimeZone) (i : ℤ) (c : ℕ) (best : Option Reading) → IsSought way s z i c None best
     → IsBest way (IsBeyond way s z i c) best
 sought_all way s z i c best sought =
     best_of_more way (λ r. IsBeyond way s z i c r × Unit {0}) (IsBeyond way s z i c) best sought.1 (λ r m. m.0) (λ r m. inl (m, tt))

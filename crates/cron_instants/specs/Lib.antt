@@ -1,4 +1,5 @@
 pub mod Order
+pub mod Places
 pub mod Fires
 pub mod Instants
 pub mod ClockLaws

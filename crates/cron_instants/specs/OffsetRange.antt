@@ -12,11 +12,11 @@ pub record IsRead (z : TimeZone) (r : Reading) : Type 0 where
   pub place : ℕ
   pub here : slice_get (readings z r.second) place ≡ Some r
 
--- the only one
+-- the reading is the only one of its civil second
 abbrev pub IsOnce : TimeZone → Reading → Type 0
 IsOnce z r = readings z r.second ≡ r ∷ []
 
--- the offset, in seconds, is none beyond the least and the greatest of a range of offsets
+-- the offset, in seconds, lies from the least to the greatest of a range of offsets
 abbrev pub IsAmongOffsets : OffsetRange → ℤ → Type 0
 IsAmongOffsets p o = (p.least ≤ℤ o) × (o ≤ℤ p.greatest)
 
@@ -24,8 +24,8 @@ IsAmongOffsets p o = (p.least ≤ℤ o) × (o ≤ℤ p.greatest)
 abbrev pub width : OffsetRange → ℤ
 width p = p.greatest -ℤ p.least
 
--- from the edge on the readings are at offsets from the least to the greatest
--- before it those of two civil seconds come in their order, if one of them is the only one of its second
+-- from the edge on the readings are at offsets from the least to the greatest. Before it two
+-- readings come in the order of their civil seconds, if one is the only reading of its civil second
 pub record IsOffsetRange (z : TimeZone) (p : OffsetRange) : Type 0 where
   pub some : p.least ≤ℤ p.greatest
   pub ordered : (q r : Reading) → IsRead z q → IsRead z r → q.second < r.second → pos r.second <ℤ p.edge → IsOnce z q ⊎ IsOnce z r → instant q <ℤ instant r
@@ -33,7 +33,7 @@ pub record IsOffsetRange (z : TimeZone) (p : OffsetRange) : Type 0 where
   pub past : (q r : Reading) → IsRead z q → IsRead z r → pos q.second <ℤ p.edge → (p.edge +ℤ width p) ≤ℤ pos r.second → instant q <ℤ instant r
   pub among : (r : Reading) → IsRead z r → p.edge ≤ℤ pos r.second → IsAmongOffsets p r.offset.seconds
 
--- the offsets of a rule are none beyond the least and the greatest
+-- the offsets of a rule lie from the least to the greatest of a range of offsets
 pub record HasOffsets (rule : Rule) (p : OffsetRange) : Type 0 where
   pub standard : IsAmongOffsets p rule.std_offset.seconds
   pub saving : IfSome rule.dst (λ d. IsAmongOffsets p d.offset.seconds)

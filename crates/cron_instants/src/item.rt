@@ -1,4 +1,4 @@
-//! Which of two items is nearer among the instants.
+//! The order of items, which are readings of civil seconds, and the nearer of two items.
 ghost use Rattle.std.specs.Prelude.{◌≡◌};
 ghost use Rattle.cron_instants.specs.Beyond.{is_nearer, nearer_of};
 ghost use Rattle.cron_instants.specs.Order as order;
@@ -6,7 +6,8 @@ ghost use Rattle.cron_instants.specs.Order as order;
 use cron_moments::moment::{Moment, civil_second, instant_of};
 use cron_units::way::Way;
 
-/// Whether an item is earlier than another: by instant, and where that is shared by civil second.
+/// Returns true if `item` is earlier than `other`: by instant, or by civil second if they share the
+/// instant.
 #[inline(always)]
 pub fn is_earlier(item: &Moment, other: &Moment) -> bool
     ensures { result ≡ order.is_earlier item.now other.now }
@@ -19,7 +20,7 @@ pub fn is_earlier(item: &Moment, other: &Moment) -> bool
     }
 }
 
-// Whether an item is reached before another, in this direction.
+// Returns true if a search in direction `way` reaches `item` before `other`.
 #[inline(always)]
 fn is_nearer(way: Way, item: &Moment, other: &Moment) -> bool
     ensures { result ≡ is_nearer way item.now other.now }
@@ -30,7 +31,7 @@ fn is_nearer(way: Way, item: &Moment, other: &Moment) -> bool
     }
 }
 
-/// The nearer of two items, in this direction.
+/// The nearer of `best` and `other` in direction `way`. If one is `None`, it is the other one.
 #[inline(always)]
 pub fn nearer(way: Way, best: &Option<Moment>, other: Option<Moment>) -> Option<Moment>
     ensures { result ≡ nearer_of way best.now other }

@@ -1,4 +1,5 @@
-//! Stretches that touch at one offset, as those of two years do in a zone with a rule, as one.
+//! Joins adjacent stretches at the same offset, such as the stretches of two years in a zone with a
+//! rule. A stretch is civil seconds that the zone reads at the same offsets.
 ghost use Rattle.std.specs.Prelude.{◌≡◌, ◌≤◌, ◌<◌, IfSome, IsTrue, Some, None};
 ghost use Rattle.jiff.specs.Words.{plain_zone};
 ghost use Rattle.cron_clocks.specs.Steady.{IsKnown};
@@ -8,7 +9,7 @@ use cron_clocks::stretch::Stretch;
 use cron_moments::civil::SECONDS;
 use jiff::tz::{Offset, TimeZone};
 
-/// The one offset at which the stretch is read, if it is read at one alone.
+/// The offset of the stretch if it is read at only one offset, otherwise `None`.
 #[inline(always)]
 pub(crate) fn one_offset(stretch: &Stretch) -> Option<Offset>
     ensures { IfSome result (λ o. (stretch.now.earlier ≡ Some o) × (stretch.now.later ≡ None)) }
@@ -19,7 +20,7 @@ pub(crate) fn one_offset(stretch: &Stretch) -> Option<Offset>
     }
 }
 
-// The stretch around a civil second, if it is read at this offset alone.
+// The stretch around `second`, or `None` if it isn't read at `offset` only.
 fn around_at(zone: &TimeZone<'_>, second: u32, offset: Offset) -> Option<Stretch>
     requires { second < seconds_in_range }
     ensures known { IfSome result (λ st. IsKnown (plain_zone zone.now) st) }
@@ -34,7 +35,8 @@ fn around_at(zone: &TimeZone<'_>, second: u32, offset: Offset) -> Option<Stretch
     Some(stretch)
 }
 
-// The stretch together with the one that follows it, if that is read at the same offset.
+// The stretch joined with the next one, if that is read at `offset` only. Otherwise the stretch
+// unchanged.
 fn with_next(zone: &TimeZone<'_>, stretch: &Stretch, offset: Offset) -> Stretch
     requires one { (stretch.now.earlier ≡ Some offset) × (stretch.now.later ≡ None) }
     requires known { IsKnown (plain_zone zone.now) stretch.now }
@@ -57,7 +59,8 @@ fn with_next(zone: &TimeZone<'_>, stretch: &Stretch, offset: Offset) -> Stretch
     }
 }
 
-// The stretch together with the one before it, if that is read at the same offset.
+// The stretch joined with the previous one, if that is read at `offset` only. Otherwise the stretch
+// unchanged.
 fn with_previous(zone: &TimeZone<'_>, stretch: &Stretch, offset: Offset) -> Stretch
     requires one { (stretch.now.earlier ≡ Some offset) × (stretch.now.later ≡ None) }
     requires known { IsKnown (plain_zone zone.now) stretch.now }
@@ -80,7 +83,8 @@ fn with_previous(zone: &TimeZone<'_>, stretch: &Stretch, offset: Offset) -> Stre
     }
 }
 
-/// The stretch around a civil second together with those that it touches at its one offset.
+/// The stretch around `second`, joined with the adjacent stretches that are read at the same single
+/// offset. A gap or a fold is returned unchanged.
 #[inline(never)]
 pub(crate) fn join_around(zone: &TimeZone<'_>, stretch: &Stretch, second: u32) -> Stretch
     requires low { stretch.now.first ≤ second }

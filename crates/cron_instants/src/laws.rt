@@ -1,5 +1,6 @@
 //! Laws over the definitions: the functions do nothing, and a caller calls one for what its
-//! contract says.
+//! contract says. A zone has two look-ups, of instants and of civil seconds. They agree if each
+//! gives the offsets that the other gives.
 
 ghost use Rattle.cron_instants.specs.ClockLaws.{InstantsAreApart, ItemsAreTheMatches};
 
@@ -8,8 +9,8 @@ pub fn instants_are_apart()
     ensures { InstantsAreApart }
 {}
 
-/// Where they agree, an instant shows a matching civil second of the range exactly if an item has
-/// that instant.
+/// Where the look-ups of a zone agree, a clock shows a matching civil second of the range at an
+/// instant exactly if an item has that instant.
 pub fn items_are_the_matches()
     ensures { ItemsAreTheMatches }
 {}

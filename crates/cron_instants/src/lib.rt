@@ -1,7 +1,9 @@
-//! The items of a timeline by their instants: the earliest after an instant, or later than an item,
-//! the latest by an instant, and runs over them.
+//! The fires of a set of civil seconds at the instants when a clock shows them. This crate finds
+//! the earliest fire after an instant or a fire, and the latest at or before an instant or before a
+//! fire. It also has the rule for runs over these fires.
 #![tactic(auto)]
 
+pub mod as_shown;
 mod first;
 pub mod instants;
 pub mod item;
@@ -12,5 +14,4 @@ pub mod monotone;
 mod nearest;
 mod offset_range;
 mod periods;
-pub mod run;
 mod shown;

@@ -1,12 +1,12 @@
-//! What is known after an item about which the clock and the instants have one order: the next
-//! match is the next item.
+//! Ranges of civil seconds in the same order as their instants. In such a range the next match is
+//! the next item: items are readings of matches, in the order of their instants. A mark is a place
+//! in that order. A stretch is civil seconds that the zone reads at the same offsets.
 ghost use Rattle.std.specs.Prelude.{◌≡◌, ℕ, ◌≤◌, ◌<◌, ℤ, pos, ◌+ℤ◌, ◌≤ℤ◌, ◌<ℤ◌, IfSome};
 ghost use Rattle.jiff.specs.Words.{plain_zone};
 ghost use Rattle.jiff_core.specs.Calendar.{IsBetween};
 ghost use Rattle.jiff_tz.specs.declared.timezone.TimeZone.{TimeZone as Zone};
 ghost use Rattle.cron_clocks.specs.Steady.{IsKnown as IsKnownStretch};
 ghost use Rattle.cron_moments.specs.Civil.{seconds_in_range};
-ghost use Rattle.cron_time.specs.Search.Inner.MonthDays.{KnowsDays};
 ghost use Rattle.cron_instants.specs.Monotone.{IsMonotone, IsInOrder, IsKnown, IsNext};
 ghost use Rattle.cron_instants.specs.OffsetRange.{IsOffsetRange};
 
@@ -17,23 +17,21 @@ use crate::offset_range::{APART, OffsetRange, offset_range_of};
 use cron_clocks::stretch::Stretch;
 use cron_moments::civil::SECONDS;
 use cron_moments::moment::{Moment, civil_second, moment_numbered};
-use cron_time::search::civil_seconds::match_past;
-use cron_time::search::minute::Minute;
-use cron_time::search::month_days::MonthDays;
-use cron_units::fields::ScheduleFields;
+use cron_seconds::civil_seconds::CivilSeconds;
 use cron_units::way::Way;
 use jiff::tz::{Offset, TimeZone};
 
-/// What is known of a civil second that is read once, at this offset, with those before it read
-/// earlier: each one from it on up to the end is read once at this offset too, with those before it
-/// read earlier and those behind it later. The end may lie before the civil second itself.
+/// What is known of a civil second that is read once, at `offset`, if all before it are read
+/// earlier. Each civil second from it on and before `end` is then in order: it is read once, at
+/// `offset`, those before it are read earlier, and those after it later. `end` may be before the
+/// civil second itself.
 #[derive(Clone, Copy)]
 pub struct Monotone {
     pub offset: Offset,
     pub end: u32,
 }
 
-// Civil seconds that end so many seconds before an end, if there are any.
+// A range of civil seconds that ends `width` seconds before `end`, or at 0 if that is negative.
 fn monotone_up_to(offset: Offset, end: i64, width: i64) -> Monotone
     requires width { IsBetween (pos 0) (pos 4_294_967_295) width }
     requires end { IsBetween (pos 0) (pos seconds_in_range) end }
@@ -49,8 +47,9 @@ fn monotone_up_to(offset: Offset, end: i64, width: i64) -> Monotone
     }
 }
 
-// Up to where the civil seconds of a stretch from this one on are in order, if those before it are
-// read earlier. Far before the edge that is the end of the stretch.
+// What is known of `second` by its stretch: up to where civil seconds are in order, if those before
+// `second` are read earlier. If the stretch ends at least `APART` seconds before the edge of
+// `offset_range`, its end is the answer. `None` if nothing is known.
 fn monotone_in(stretch: &Stretch, second: u32, offset_range: OffsetRange) -> Option<Monotone>
     requires low { stretch.now.first ≤ second }
     requires high { second < stretch.now.end }
@@ -77,8 +76,9 @@ fn monotone_in(stretch: &Stretch, second: u32, offset_range: OffsetRange) -> Opt
     Some(monotone_up_to(offset, end, width))
 }
 
-/// What is known of a civil second about which the clock and the instants have one order: if
-/// possible that it is in order itself, and not only those before it.
+/// What is known of `second`, by its stretch or by the stretches joined to it. If possible, the
+/// answer says that `second` itself is in order, and not only the civil seconds before it. `None`
+/// if nothing is known.
 pub(crate) fn monotone_around(
     zone: &TimeZone<'_>,
     stretch: &Stretch,
@@ -99,7 +99,8 @@ pub(crate) fn monotone_around(
     monotone_in(&join_around(zone, stretch, second), second, offset_range)
 }
 
-// What is known after an item.
+// What is known of the civil second of `item`. `None` if nothing is known, or if it is known at
+// another offset than the item's.
 fn monotone_at(zone: &TimeZone<'_>, item: &Moment) -> Option<Monotone>
     requires { item.now.second < seconds_in_range }
     ensures monotone { IfSome result
@@ -115,9 +116,9 @@ fn monotone_at(zone: &TimeZone<'_>, item: &Moment) -> Option<Monotone>
     Some(monotone)
 }
 
-/// What is known of a civil second that is in order: it is read once, what the clock shows before it
-/// is read earlier, and what it shows after it later. `None` says nothing, and comes near gaps and
-/// folds.
+/// What is known of `second` if it is in order: it is read once, what the clock shows before it is
+/// read earlier, and what the clock shows after it later. `None` says nothing, and is returned near
+/// gaps and folds.
 #[inline(never)]
 pub fn monotone_past(zone: &TimeZone<'_>, second: u32) -> Option<Monotone>
     requires { second < seconds_in_range }
@@ -132,47 +133,48 @@ pub fn monotone_past(zone: &TimeZone<'_>, second: u32) -> Option<Monotone>
     Some(monotone)
 }
 
-// The next item by a search, and what is known after it.
+// The first item beyond `mark`, found by a search, and what is known after that item. Both are
+// `None` if there is no item.
 #[inline(never)]
-fn search_next(
-    fields: &ScheduleFields,
+fn search_next<S: CivilSeconds>(
+    set: &S,
     zone: &TimeZone<'_>,
     mark: Mark,
 ) -> (Option<Moment>, Option<Monotone>)
-    ensures { IsNext fields.now (plain_zone zone.now) mark.instant mark.second result.0 result.1 }
+    ensures { IsNext (S.has set.now) (plain_zone zone.now) mark.instant mark.second result.0 result.1 }
 {
-    let Some(item) = nearest_item(fields, zone, Way::Ahead, mark, &Stretch::empty()) else {
+    let Some(item) = nearest_item(set, zone, Way::Ahead, mark, &Stretch::empty()) else {
         return (None, None);
     };
     let monotone = monotone_at(zone, &item);
     (Some(item), monotone)
 }
 
-/// The nearest item ahead of the place of one, by what is known after that and by the days of the
-/// month that were looked up last, and what is known after the answer.
+/// The first item beyond `mark`, and what is known after that item. Both are `None` if there is no
+/// item. `known` is what is known after `mark`, and `cursor` is what the last search of the set
+/// knew.
 #[inline(always)]
-pub(crate) fn next_item(
-    fields: &ScheduleFields,
+pub(crate) fn next_item<S: CivilSeconds>(
+    set: &S,
     zone: &TimeZone<'_>,
     mark: Mark,
     known: Option<Monotone>,
-    minute: &mut Minute,
-    days: &mut MonthDays,
+    cursor: &mut S::Cursor,
 ) -> (Option<Moment>, Option<Monotone>)
-    requires known { IsKnown fields.now (plain_zone zone.now) mark.instant mark.second known }
-    requires days { KnowsDays fields.now days.old }
-    ensures next { IsNext fields.now
+    requires known { IsKnown (S.has set.now) (plain_zone zone.now) mark.instant mark.second known }
+    requires knows { S.knows set.now cursor.old }
+    ensures next { IsNext (S.has set.now)
         (plain_zone zone.now)
         mark.instant
         mark.second
         result.0
         result.1 }
-    ensures days { KnowsDays fields.now days.new }
+    ensures knows { S.knows set.now cursor.new }
 {
     let Some(monotone) = known else {
-        return search_next(fields, zone, mark);
+        return search_next(set, zone, mark);
     };
-    let Some(next) = match_past(fields, Way::Ahead, mark.second, minute, days) else {
+    let Some(next) = set.past(Way::Ahead, mark.second, cursor) else {
         return (None, None);
     };
     if next < monotone.end {
@@ -180,6 +182,6 @@ pub(crate) fn next_item(
     }
     match monotone_past(zone, next) {
         Some(there) => (Some(moment_numbered(next, there.offset)), Some(there)),
-        None => search_next(fields, zone, mark),
+        None => search_next(set, zone, mark),
     }
 }

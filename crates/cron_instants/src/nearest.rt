@@ -1,4 +1,6 @@
-//! The nearest item beyond a place among the instants.
+//! The nearest item beyond a mark, ahead or back. An item is a reading of a civil second of the
+//! set, and a mark a place in the order of items. A stretch is civil seconds that the zone reads at
+//! the same offsets. The search passes stretch after stretch and keeps the best item so far.
 ghost use Rattle.std.specs.Prelude.{◌≡◌, ◌≤◌, ◌<◌, IfSome, IsTrue, Some};
 ghost use Rattle.jiff.specs.Words.{plain_zone};
 ghost use Rattle.cron_clocks.specs.Steady.{IsKnown, IsSteady};
@@ -11,12 +13,12 @@ use crate::mark::Mark;
 use cron_clocks::stretch::Stretch;
 use cron_moments::civil::{FURTHEST_OFFSET, SECONDS};
 use cron_moments::moment::{Moment, instant_of, moment_numbered};
-use cron_time::search::civil_seconds::nearest_match;
-use cron_units::fields::ScheduleFields;
+use cron_seconds::civil_seconds::CivilSeconds;
 use cron_units::way::Way;
 use jiff::tz::{Offset, TimeZone};
 
-// The civil second from which on an item can lie beyond the mark, if there is one.
+// The first civil second in direction `way` whose items can be beyond `mark`. `None` if there is no
+// such civil second.
 fn entrance(way: Way, mark: Mark) -> Option<u32>
     ensures { IsEntered way mark.instant mark.second result }
 {
@@ -38,7 +40,8 @@ fn entrance(way: Way, mark: Mark) -> Option<u32>
     }
 }
 
-// From which civil second on those at an offset lie beyond the mark.
+// The first civil second in direction `way` that is beyond `mark` if a clock shows it at `offset`.
+// It may be outside of the range.
 #[inline(always)]
 fn entry(way: Way, mark: Mark, offset: Offset) -> i64
     ensures { result ≡ entry_of way mark.instant mark.second offset.seconds }
@@ -62,7 +65,8 @@ fn entry(way: Way, mark: Mark, offset: Offset) -> i64
     }
 }
 
-// Where a search of a stretch starts that goes on from a number, if it comes into the stretch.
+// The number where a search from `from` starts within the stretch. `None` if the search doesn't
+// come into the stretch.
 #[inline(always)]
 fn start_in(stretch: &Stretch, way: Way, from: i64) -> Option<i64>
     requires { stretch.now.first < stretch.now.end }
@@ -85,9 +89,9 @@ fn start_in(stretch: &Stretch, way: Way, from: i64) -> Option<i64>
     }
 }
 
-// The nearest item of a stretch at one of its offsets.
-fn item_at(
-    fields: &ScheduleFields,
+// The nearest item beyond `mark` that the stretch has at `offset`, or `None` if it has none.
+fn item_at<S: CivilSeconds>(
+    set: &S,
     stretch: &Stretch,
     way: Way,
     mark: Mark,
@@ -96,13 +100,13 @@ fn item_at(
     requires some { stretch.now.first < stretch.now.end }
     requires high { stretch.now.end ≤ seconds_in_range }
     ensures { IsBest way
-        (IsMatchAt way fields.now mark.instant mark.second stretch.now.first stretch.now.end offset)
+        (IsMatchAt way (S.has set.now) mark.instant mark.second stretch.now.first stretch.now.end offset)
         result }
 {
     let Some(from) = start_in(stretch, way, entry(way, mark, offset)) else {
         return None;
     };
-    let Some(second) = nearest_match(fields, way, from) else {
+    let Some(second) = set.nearest(way, from) else {
         return None;
     };
     if second < stretch.first {
@@ -114,7 +118,7 @@ fn item_at(
     Some(moment_numbered(second, offset))
 }
 
-// Whether no civil second of a stretch, read at an offset, is better than the best so far.
+// Returns true only if no civil second of the stretch, read at `offset`, is nearer than `best`.
 #[inline(always)]
 fn is_too_late(stretch: &Stretch, way: Way, offset: Offset, best: &Option<Moment>) -> bool
     ensures { IsTrue result → (r : Reading) → stretch.now.first ≤ r.second
@@ -130,9 +134,9 @@ fn is_too_late(stretch: &Stretch, way: Way, offset: Offset, best: &Option<Moment
     }
 }
 
-// The nearest of the best so far and the items of a stretch at one of its offsets.
-fn best_at(
-    fields: &ScheduleFields,
+// The nearest of `best` and the items beyond `mark` that the stretch has at `offset`.
+fn best_at<S: CivilSeconds>(
+    set: &S,
     stretch: &Stretch,
     way: Way,
     mark: Mark,
@@ -142,19 +146,19 @@ fn best_at(
     requires some { stretch.now.first < stretch.now.end }
     requires high { stretch.now.end ≤ seconds_in_range }
     ensures { IsBettered way
-        (IsMatchAt way fields.now mark.instant mark.second stretch.now.first stretch.now.end offset)
+        (IsMatchAt way (S.has set.now) mark.instant mark.second stretch.now.first stretch.now.end offset)
         best.now
         result }
 {
     if is_too_late(stretch, way, offset, best) {
         return *best;
     }
-    nearer(way, best, item_at(fields, stretch, way, mark, offset))
+    nearer(way, best, item_at(set, stretch, way, mark, offset))
 }
 
-// The nearest of the best so far and the items of a stretch.
-fn best_in(
-    fields: &ScheduleFields,
+// The nearest of `best` and the items beyond `mark` that the stretch has at any offset.
+fn best_in<S: CivilSeconds>(
+    set: &S,
     stretch: &Stretch,
     way: Way,
     mark: Mark,
@@ -163,24 +167,25 @@ fn best_in(
     requires some { stretch.now.first < stretch.now.end }
     requires high { stretch.now.end ≤ seconds_in_range }
     ensures { IsBettered way
-        (IsMatchIn way fields.now mark.instant mark.second stretch.now)
+        (IsMatchIn way (S.has set.now) mark.instant mark.second stretch.now)
         best.now
         result }
 {
     let Some(earlier) = stretch.earlier else {
         return *best;
     };
-    let first = best_at(fields, stretch, way, mark, earlier, best);
+    let first = best_at(set, stretch, way, mark, earlier, best);
     let Some(later) = stretch.later else {
         return first;
     };
-    best_at(fields, stretch, way, mark, later, &first)
+    best_at(set, stretch, way, mark, later, &first)
 }
 
-// From which civil second behind a stretch to go on, if a better item than the best so far can lie
-// there. Past a best one the next stretch mostly has no better, so it is entered without a search.
-fn next_past(
-    fields: &ScheduleFields,
+// The civil second past the stretch where the search goes on. `None` if no item there can be nearer
+// than `best`. If `best` is `Some`, the next stretch is entered without a search for a match, since
+// it rarely has a nearer item.
+fn next_past<S: CivilSeconds>(
+    set: &S,
     stretch: &Stretch,
     way: Way,
     best: &Option<Moment>,
@@ -189,7 +194,7 @@ fn next_past(
     requires high { stretch.now.end ≤ seconds_in_range }
     requires best { IfSome best.now
         (λ b. IsNotPast way stretch.now.first stretch.now.end b.second) }
-    ensures { IsGoneOn way fields.now stretch.now.first stretch.now.end best.now result }
+    ensures { IsGoneOn way (S.has set.now) stretch.now.first stretch.now.end best.now result }
 {
     let edge = match way {
         Way::Ahead => {
@@ -201,7 +206,7 @@ fn next_past(
         Way::Back => stretch.first.checked_sub(1)?,
     };
     let Some(item) = *best else {
-        return nearest_match(fields, way, edge as i64);
+        return set.nearest(way, edge as i64);
     };
     let gap = match way {
         Way::Ahead => edge as i64 - instant_of(&item),
@@ -214,7 +219,7 @@ fn next_past(
     }
 }
 
-/// The stretch around a civil second. It may be the one that is known.
+/// The stretch around `second`. It isn't looked up if `second` lies in `known`.
 pub(crate) fn stretch_around(zone: &TimeZone<'_>, known: &Stretch, second: u32) -> Stretch
     requires range { second < seconds_in_range }
     requires known { IsKnown (plain_zone zone.now) known.now }
@@ -228,10 +233,10 @@ pub(crate) fn stretch_around(zone: &TimeZone<'_>, known: &Stretch, second: u32) 
     Stretch::at(zone, second)
 }
 
-// A stretch with this civil second in it is passed: the best so far becomes the nearest of it and
-// the items of the stretch, and the answer is from where to go on.
-fn pass(
-    fields: &ScheduleFields,
+// Passes the stretch around `second`. `best` becomes the nearest of `best` and the stretch's items
+// beyond `mark`. Returns the civil second where the search goes on, or `None` if it has ended.
+fn pass<S: CivilSeconds>(
+    set: &S,
     zone: &TimeZone<'_>,
     way: Way,
     mark: Mark,
@@ -240,13 +245,13 @@ fn pass(
     best: &mut Option<Moment>,
 ) -> Option<u32>
     requires known { IsKnown (plain_zone zone.now) known.now }
-    requires sought { IsSought way fields.now
+    requires sought { IsSought way (S.has set.now)
         (plain_zone zone.now)
         mark.instant
         mark.second
         (Some second)
         best.old }
-    ensures sought { IsSought way fields.now
+    ensures sought { IsSought way (S.has set.now)
         (plain_zone zone.now)
         mark.instant
         mark.second
@@ -255,13 +260,14 @@ fn pass(
     ensures less { left_to_pass way result < left_to_pass way (Some second) }
 {
     let stretch = stretch_around(zone, known, second);
-    *best = best_in(fields, &stretch, way, mark, best);
-    next_past(fields, &stretch, way, best)
+    *best = best_in(set, &stretch, way, mark, best);
+    next_past(set, &stretch, way, best)
 }
 
-/// The nearest item beyond a mark. A stretch that is known isn't looked up again.
-pub(crate) fn nearest_item(
-    fields: &ScheduleFields,
+/// The nearest item beyond `mark` in direction `way`, or `None` if there is none. The stretch
+/// `known` isn't looked up again.
+pub(crate) fn nearest_item<S: CivilSeconds>(
+    set: &S,
     zone: &TimeZone<'_>,
     way: Way,
     mark: Mark,
@@ -269,13 +275,13 @@ pub(crate) fn nearest_item(
 ) -> Option<Moment>
     requires { IsKnown (plain_zone zone.now) known.now }
     ensures { IsBest way
-        (IsBeyond way fields.now (plain_zone zone.now) mark.instant mark.second)
+        (IsBeyond way (S.has set.now) (plain_zone zone.now) mark.instant mark.second)
         result }
 {
     let mut best = None;
     let mut next = entrance(way, mark);
     while let Some(second) = next {
-        next = pass(fields, zone, way, mark, known, second, &mut best);
+        next = pass(set, zone, way, mark, known, second, &mut best);
     }
     best
 }

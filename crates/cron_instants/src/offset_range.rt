@@ -1,4 +1,4 @@
-//! How far the readings of a zone can lie from the order of their civil seconds.
+//! How far the order of a zone's readings can differ from the order of their civil seconds.
 ghost use Rattle.std.specs.Prelude.{◌≡◌, ℤ, pos, ◌≤ℤ◌};
 ghost use Rattle.jiff.specs.Words.{plain_zone};
 ghost use Rattle.jiff_core.specs.Calendar.{IsBetween};
@@ -10,11 +10,11 @@ use jiff::tz::TimeZone;
 use jiff_tz::posix;
 use jiff_tz::tzif::Transition;
 
-/// Two clocks are nearer to each other, in seconds.
+/// The offsets of any two clocks differ by less than this, in seconds.
 pub(crate) const APART: i64 = 2 * (FURTHEST_OFFSET + 1);
 
-/// From the edge on the readings of a zone are at offsets from the least to the greatest, in
-/// seconds. Before it they come in the order of a table's transitions.
+/// The offsets of a zone, in seconds: from `edge` on its readings are at offsets from `least` to
+/// `greatest`. Before `edge` they come in the order of a table's transitions.
 #[derive(Clone, Copy)]
 pub(crate) struct OffsetRange {
     pub edge: i64,
@@ -22,7 +22,7 @@ pub(crate) struct OffsetRange {
     pub greatest: i32,
 }
 
-// One offset, in seconds, from the edge on.
+// The range of the single offset `seconds` from `edge` on.
 fn at_one_offset(edge: i64, seconds: i32) -> OffsetRange
     ensures edge { result.edge ≡ edge }
     ensures least { result.least ≡ seconds }
@@ -36,7 +36,7 @@ fn at_one_offset(edge: i64, seconds: i32) -> OffsetRange
 }
 
 impl OffsetRange {
-    /// How far apart two of its offsets can be.
+    /// The difference between the greatest and the least offset, in seconds.
     #[inline(always)]
     pub(crate) fn width(self) -> i64
         requires { self.least ≤ℤ self.greatest }
@@ -46,7 +46,7 @@ impl OffsetRange {
         i64::from(self.greatest) - i64::from(self.least)
     }
 
-    // One more offset from the edge on.
+    // The range widened to include the offset `seconds`.
     fn with(self, seconds: i32) -> OffsetRange
         requires { self.least ≤ℤ self.greatest }
         ensures edge { result.edge ≡ self.edge }
@@ -71,7 +71,7 @@ impl OffsetRange {
     }
 }
 
-// The offsets of a rule and one more.
+// The range of the offsets of `rule` and the offset `last`.
 fn offsets_with(rule: posix::TimeZone, last: i32, edge: i64) -> OffsetRange
     ensures edge { result.edge ≡ edge }
     ensures rule { HasOffsets rule result }
@@ -84,9 +84,9 @@ fn offsets_with(rule: posix::TimeZone, last: i32, edge: i64) -> OffsetRange
     }
 }
 
-// Past the last transition of a table the offsets are that transition's and those of the table's
-// rule. Without a rule the edge is the end of the range, so nothing lies past it; without a
-// transition it is the beginning.
+// The offset range of a table. After the last transition it has that transition's offset and the
+// offsets of the table's rule. Without a rule the edge is the end of the range of civil seconds, so
+// nothing is past it. Without a transition the edge is the beginning.
 fn offset_range_in(table: &jiff_tz::Tzif) -> OffsetRange
     ensures { IsOffsetRange (Tzif table.entry) result }
 {
@@ -101,7 +101,7 @@ fn offset_range_in(table: &jiff_tz::Tzif) -> OffsetRange
     offsets_with(rule, last.after.offset.seconds, last.civil_end())
 }
 
-/// How far the readings in the zone can lie from the order of their civil seconds.
+/// The offset range of `zone`.
 pub(crate) fn offset_range_of(zone: &TimeZone<'_>) -> OffsetRange
     ensures { IsOffsetRange (plain_zone zone.now) result }
 {

@@ -1,4 +1,5 @@
-//! The periods of a table: from one of its transitions to the next a clock keeps its offset.
+//! The periods of a zone's table. A clock keeps its offset from one transition of the table to the
+//! next.
 ghost use Rattle.std.specs.Prelude.{◌≡◌, ◌+◌, ◌<◌, ◌≤◌, ℤ, pos, ◌+ℤ◌, IfSome, int_le, vec_len};
 ghost use Rattle.jiff_tz.specs.Tzif.{count_at, transition_at};
 ghost use Rattle.jiff_tz.specs.declared.timezone.TimeZone.TheVariants.{Tzif};
@@ -10,7 +11,7 @@ use cron_moments::civil::SECONDS;
 use jiff::tz::Offset;
 use jiff_tz::tzif::Transition;
 
-/// How many transitions of the table don't come after an instant.
+/// The number of transitions of the table at or before `at`, in seconds since 1970-01-01T00:00:00Z.
 pub(crate) fn transitions_by(table: &jiff_tz::Tzif, at: i64) -> usize
     ensures value { result ≡ count_at table.now at }
     ensures bound { result ≤ vec_len table.now.transitions }
@@ -22,8 +23,9 @@ pub(crate) fn transitions_by(table: &jiff_tz::Tzif, at: i64) -> usize
     )
 }
 
-/// The offset of a clock past so many transitions of the table, and up to where it keeps it. `None`
-/// where the next transition isn't days before the last one, or no second of the range.
+/// The offset that a clock keeps after the first `count` transitions of the table, and up to where.
+/// `None` if there is no next transition, if it comes less than `APART` seconds before the table's
+/// last one, or if it isn't in the range.
 pub(crate) fn period_past(table: &jiff_tz::Tzif, count: usize) -> Option<Kept>
     ensures more { IfSome result (λ kept. count < vec_len table.now.transitions) }
     ensures end { IfSome result (λ kept. (transition_at table.now count).second ≡ pos kept.end) }

@@ -4,7 +4,8 @@ use Rattle.jiff_core.specs.declared.civil.date.Date.{Date}
 use Rattle.jiff_core.specs.Calendar.{days_from_civil, days_in_month}
 use Rattle.jiff_core.specs.Date.{weekday_of}
 
--- months are numbered from January of the year 0 on: January 1970, and the end behind December 2100
+-- months are numbered from January of the year 0 on: January 1970 is the first of the range, and
+-- the end is the number after December 2100
 abbrev pub first_month : ℕ
 first_month = 23_640
 
@@ -20,7 +21,7 @@ month_of month = month % 12 + 1
 abbrev pub length_of : ℕ → ℕ
 length_of month = days_in_month (pos (year_of month)) (month_of month)
 
--- the day number of a day of a month
+-- the number of a day of a month, counted from 1970-01-01
 abbrev pub day_number : ℕ → ℕ → ℕ
 day_number month day = unsigned_abs (days_from_civil (pos (year_of month)) (month_of month) day)
 
@@ -28,7 +29,7 @@ day_number month day = unsigned_abs (days_from_civil (pos (year_of month)) (mont
 abbrev pub rank : ℕ → ℕ → ℕ
 rank month day = month * 100 + day
 
--- the number of a date's month, and the rank of the date
+-- the number of a date's month, counted from January of the year 0
 abbrev pub month_number : Date → ℕ
 month_number d = unsigned_abs d.year * 12 + (d.month - 1)
 
@@ -39,6 +40,6 @@ rank_of_date d = rank (month_number d) d.day
 abbrev pub weekday_number : Date → ℕ
 weekday_number d = (weekday_of d + 1) % 7 + 1
 
--- the leap days of a year of the range
+-- how many leap days a year of the range has
 abbrev pub leap_days_of : ℕ → ℕ
 leap_days_of year = cond (nat_eq (year % 4) 0 && nat_lt year 2100) 1 0

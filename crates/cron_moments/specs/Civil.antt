@@ -5,11 +5,12 @@ use Rattle.jiff_core.specs.declared.civil.time.Time.{Time}
 use Rattle.jiff_core.specs.declared.civil.datetime.DateTime.{DateTime}
 use Rattle.cron_moments.specs.CivilDates.{date_numbered}
 
--- 1970-01-01 00:00:00 to 2100-12-31 23:59:59: the days, and the civil seconds
+-- how many days the range has, 1970-01-01 to 2100-12-31; `seconds_in_range` is how many civil
+-- seconds
 abbrev pub days_in_range : ℕ
 days_in_range = 47_847
 
--- 1970 to 2100: the years
+-- how many years the range has: 1970 to 2100
 abbrev pub years_in_range : ℕ
 years_in_range = 131
 
@@ -28,7 +29,7 @@ second_fits s = omega arith
 pub no_fraction : 0 < 1_000_000_000
 no_fraction = omega arith
 
--- the time of day that many seconds after a midnight
+-- the time of day s seconds after a midnight
 unfoldable pub time_numbered : ℕ → Time
 time_numbered s = record {
   hour = s % 86_400 / 3600;

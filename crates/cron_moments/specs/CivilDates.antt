@@ -11,7 +11,7 @@ use Rattle.jiff_core.proofs.SignedLemmas.{signed_arith}
 use Rattle.jiff_core.proofs.DateLemmas.{days_from_civil-day, days_from_civil-next_month, days_from_civil-next_year, days_from_civil-max}
 use Rattle.jiff_core.proofs.CalendarLemmas.{days_in_month_bounds}
 
--- a date that has a day number, and the same for the day after
+-- a date with the day number n, counted from 1970-01-01
 abbrev Dated : ℤ → Type 0
 Dated n = (d : Date) × (epoch_day d ≡ n)
 
@@ -65,7 +65,7 @@ next_day d h =
       ]
     ]
 
--- the date with this day number, counted from 1970-01-01; there is one alone (`epoch_day_injective`)
+-- the date with this day number, counted from 1970-01-01; there is only one (`epoch_day_injective`)
 pub date_numbered : (n : ℕ) → (d : Date) × (n ≤ 2_932_896 → epoch_day d ≡ pos n)
 date_numbered zero = (first_date.0, λ _. first_date.1)
 date_numbered (suc n) =

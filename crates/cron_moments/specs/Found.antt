@@ -3,11 +3,11 @@ use Rattle.std.specs.Prelude.{ℕ, option_map, List, [], ◌∷◌, Option, Some
 use Rattle.cron_moments.specs.Readings.{Reading}
 use Rattle.cron_moments.specs.declared.readings.Found.{Found}
 
--- the readings of the civil second that was found
+-- the readings of the civil second that was found, the earlier one first
 abbrev pub found_items : Found → List Reading
 found_items f = f.first ∷ option_to_list f.second
 
--- and none where nothing was found
+-- the readings that were found, or the empty list if nothing was
 abbrev pub items_if_any : Option Found → List Reading
 items_if_any None = []
 items_if_any (Some f) = found_items f

@@ -5,7 +5,7 @@ use Rattle.jiff_core.specs.declared.civil.time.Time.{Time}
 use Rattle.cron_moments.specs.Civil.{civil}
 use Rattle.cron_moments.specs.Readings.{Reading}
 
--- the last two and the last four digits of a number
+-- the last two digits of a number; `four_digits` is the last four
 abbrev pub two_digits : ℕ → List ℕ
 two_digits n = (48 + n / 10 % 10) ∷ (48 + n % 10) ∷ []
 
@@ -25,12 +25,12 @@ date_text d = four_digits (size_of d.year) ++ (codes "-" ++ (two_digits d.month 
 abbrev pub time_text : Time → List ℕ
 time_text t = two_digits t.hour ++ (codes ":" ++ (two_digits t.minute ++ (codes ":" ++ two_digits t.second)))
 
--- `-` where the offset is below zero, else `+`
+-- the sign of an offset: `-` if it is below zero, else `+`
 abbrev pub sign_text : ℤ → List ℕ
 sign_text (pos n) = codes "+"
 sign_text (negsuc n) = codes "-"
 
--- `:SS` where the seconds aren't zero
+-- the seconds of an offset as `:SS`, or nothing if they are zero
 abbrev pub seconds_text : ℕ → List ℕ
 seconds_text n = if n == 0 then [] else codes ":" ++ two_digits n
 
@@ -44,6 +44,6 @@ unfoldable pub moment_text : Reading → List ℕ
 moment_text r =
     date_text (civil r.second).date ++ (codes " " ++ (time_text (civil r.second).time ++ (codes " " ++ offset_text r.offset.seconds)))
 
--- the text of an item, and a line feed
+-- the line of a moment: its text and a line feed
 abbrev pub item_line : Reading → List ℕ
 item_line r = moment_text r ++ 10 ∷ []

@@ -1,7 +1,8 @@
-//! Days of the range and their numbers, in closed form.
+//! Days of the range, 1970-01-01 to 2100-12-31, and their numbers, computed without a loop. Day 0
+//! is 1970-01-01, and months are numbered from January of the year 0.
 //!
 //! Years and their months are counted from March, so that a leap day ends its year. Of the years of
-//! the range that 4 divides, 2100 alone has no leap day.
+//! the range that 4 divides, only 2100 has no leap day.
 ghost use Rattle.std.specs.Prelude.{◌≡◌, cond, nat_lt, ◌+◌, ◌-◌, ◌*◌, ◌/◌, ◌<◌, ◌≤◌};
 ghost use Rattle.cron_moments.specs.Civil.{days_in_range};
 ghost use Rattle.cron_moments.specs.CivilDates.{date_numbered};
@@ -16,20 +17,20 @@ const FIRST_MONTH: u32 = 23_640;
 /// The number of March 1969, where the first year that reaches into the range begins.
 const FIRST_MARCH: u32 = 23_630;
 
-/// The days from 1969-03-01 to 1970-01-01.
+/// How many days there are from 1969-03-01 to 1970-01-01.
 const DAYS_FROM_FIRST_MARCH: u32 = 306;
 
-/// The number of March 2100, before which a leap day is lacking.
+/// The number of March 2100, before which the leap day of a fourth year is missing.
 const MARCH_2100: u32 = 25_202;
 
-/// The days from 1970-01-01 to 2100-03-01.
+/// How many days there are from 1970-01-01 to 2100-03-01.
 const DAYS_TO_MARCH_2100: u32 = 47_541;
 
-/// The days before each month of a year that begins in March.
+/// How many days a year that begins in March has before each of its months.
 const DAYS_BEFORE: [u32; 12] = [0, 31, 61, 92, 122, 153, 184, 214, 245, 275, 306, 337];
 
-// The days of so many years from March 1969 on. The third of them ends in a leap day, and each
-// fourth after it.
+// How many days the first `years` years from March 1969 on have. The third of them ends in a leap
+// day, and so does each fourth one after it.
 #[inline(always)]
 fn days_of_years(years: u32) -> u32
     requires { years < 1000 }
@@ -38,7 +39,7 @@ fn days_of_years(years: u32) -> u32
     (1461 * years + 1) / 4
 }
 
-// The days of so many months from March on.
+// How many days the first `months` months of a year that begins in March have.
 #[inline(always)]
 fn days_of_months(months: u32) -> u32
     requires { months < 12 }
@@ -47,14 +48,14 @@ fn days_of_months(months: u32) -> u32
     DAYS_BEFORE[months as usize]
 }
 
-/// The days before each month of a year, from January on: in years without a leap day, and in those
+/// How many days a year has before each month, from January on: first without a leap day, and then
 /// with one.
 const DAYS_BEFORE_IN_YEAR: [u32; 24] = [
     0, 31, 59, 90, 120, 151, 181, 212, 243, 273, 304, 334, 0, 31, 60, 91, 121, 152, 182, 213, 244,
     274, 305, 335,
 ];
 
-// The days of a year before one of its months, from 0 for January.
+// How many days a year has before the month `place`, where 0 is January.
 #[inline(always)]
 fn days_before(leap_days: u32, place: u32) -> u32
     requires place { place < 12 }
@@ -65,7 +66,7 @@ fn days_before(leap_days: u32, place: u32) -> u32
     DAYS_BEFORE_IN_YEAR[(12 * leap_days + place) as usize]
 }
 
-// The leap day that is lacking from a number on.
+// 1 if `number` is at least `from`, where the leap day of 2100 is missing, and else 0.
 #[inline(always)]
 fn missing_leap_day(number: u32, from: u32) -> u32
     ensures value { result ≡ cond (nat_lt number from) 0 1 }
@@ -74,7 +75,7 @@ fn missing_leap_day(number: u32, from: u32) -> u32
     if number < from { 0 } else { 1 }
 }
 
-/// The number of a day of a month, counted from 1970-01-01.
+/// The number of the day `day` of the month with the number `month`, counted from 1970-01-01.
 #[inline(always)]
 fn number_of(month: u32, day: u32) -> u32
     requires month { (first_month ≤ month) × (month < months_end) }
@@ -87,7 +88,7 @@ fn number_of(month: u32, day: u32) -> u32
     first + day - missing_leap_day(month, MARCH_2100) - (DAYS_FROM_FIRST_MARCH + 1)
 }
 
-/// The month and the day of the month with this number.
+/// The number of the month, and the day of the month, of the day `number` days after 1970-01-01.
 #[inline(always)]
 fn month_and_day(number: u32) -> (u32, u32)
     requires { number < days_in_range }
@@ -105,8 +106,8 @@ fn month_and_day(number: u32) -> (u32, u32)
     )
 }
 
-/// The day of the week of a day number, from 1 for Sunday: day 0 was a Thursday. A number of 16 bits
-/// is divided by fewer steps than one of 32.
+/// The day of the week of a day number, from 1 for Sunday: day 0 was a Thursday. The division is of
+/// a number of 16 bits, which takes fewer steps than one of 32 bits.
 #[inline(always)]
 pub fn weekday_of(number: u32) -> u32
     requires { number < days_in_range }
@@ -116,10 +117,10 @@ pub fn weekday_of(number: u32) -> u32
     (number + 4) % 7 + 1
 }
 
-/// Each month has so many days, or more.
+/// The length of the shortest month: each month has this many days, or more.
 pub const SHORTEST: u32 = 28;
 
-/// The number of the last day of a month.
+/// How many days a month has. Months are numbered from January of the year 0.
 #[inline(always)]
 pub fn length_of(month: u32) -> u32
     requires { month < months_end }
@@ -129,7 +130,7 @@ pub fn length_of(month: u32) -> u32
     days_in_month((month / 12) as i16, (month % 12 + 1) as u8) as u32
 }
 
-/// A month of the range with the number of its first day, which is made once for all its days.
+/// A month of the range with the number of its first day, which is computed once for all its days.
 #[derive(Clone, Copy)]
 pub struct KnownMonth {
     month: u32,
@@ -157,7 +158,7 @@ impl KnownMonth {
     ghost use Rattle.cron_moments.specs.CivilDates.{date_numbered};
     ghost use Rattle.cron_moments.specs.Calendar.{day_number, first_month, length_of, months_end, rank, rank_of_date};
 
-    /// The month with this number.
+    /// The month with this number, counted from January of the year 0.
     #[inline(always)]
     pub fn of_number(month: u32) -> KnownMonth
         requires { (first_month ≤ month) × (month < months_end) }
@@ -167,7 +168,7 @@ impl KnownMonth {
         KnownMonth { month, first }
     }
 
-    /// The number of the month.
+    /// The number of the month, counted from January of the year 0.
     #[inline(always)]
     pub fn number(self) -> u32
         ensures number { result ≡ self }
@@ -176,7 +177,7 @@ impl KnownMonth {
         self.month
     }
 
-    /// The number of its first day.
+    /// The number of the month's first day, counted from 1970-01-01.
     #[inline(always)]
     pub fn first_day(self) -> u32
         ensures number { result ≡ day_number self 1 }
@@ -193,7 +194,7 @@ impl KnownMonth {
         KnownMonth::of_number(FIRST_MONTH)
     }
 
-    /// The month with this number: itself, if it is the one.
+    /// The month with the number `month`. It is computed only if it isn't `self`.
     #[inline(always)]
     pub fn or_numbered(self, month: u32) -> KnownMonth
         requires { (first_month ≤ month) × (month < months_end) }
@@ -205,7 +206,7 @@ impl KnownMonth {
         KnownMonth::of_number(month)
     }
 
-    /// The number of a day of the month.
+    /// The number of the day `day` of the month, counted from 1970-01-01.
     #[inline(always)]
     pub fn number_of(self, day: u32) -> u32
         requires { (1 ≤ day) × (day ≤ length_of self) }
@@ -215,8 +216,8 @@ impl KnownMonth {
         self.first + day - 1
     }
 
-    /// The month and the day of the month with this number. It costs little where it is one of the
-    /// days of this month that each month has.
+    /// The number of the month, and the day of the month, of the day `number` days after
+    /// 1970-01-01. This is fast if it is one of the first 28 days of `self`.
     #[inline(always)]
     pub fn month_and_day(self, number: u32) -> (u32, u32)
         requires { number < days_in_range }
@@ -235,7 +236,7 @@ impl KnownMonth {
     }
 }
 
-/// A year of the range with the number of its first day, which is made once for all its months.
+/// A year of the range with the number of its first day, which is computed once for all its months.
 #[derive(Clone, Copy)]
 pub struct KnownYear {
     year: u32,

@@ -1,4 +1,4 @@
-//! The text and the line of an item, made without memory.
+//! The text of a moment, and its line, made without allocating memory.
 
 ghost use Rattle.std.specs.Prelude.{◌≡◌, ◌≤◌, ◌+◌, ◌++◌};
 ghost use Rattle.arrayvec.specs.ArrayVec.{array_vec_len};
@@ -13,10 +13,10 @@ use std::fmt;
 /// The longest line: `2022-11-06 01:00:00 -05:50:36` and a line feed.
 const LONGEST: usize = 30;
 
-/// The bytes of a line.
+/// The bytes of a moment's text or line.
 pub type Line = ArrayVec<u8, LONGEST>;
 
-// Appends the last two digits of a number.
+// Appends the last two digits of `number`.
 fn push_two(line: &mut Line, number: u32)
     requires { array_vec_len line.old + 2 ≤ 30 }
     ensures items { line.new.items ≡ line.old.items ++ two_digits number }
@@ -69,7 +69,7 @@ fn push_offset(line: &mut Line, offset: Offset)
     }
 }
 
-/// The text of a moment, as its `Display` prints it.
+/// The text of a moment, as its `Display` prints it: `2022-11-06 01:00:00 -05:00`.
 pub fn text_of(moment: &Moment) -> Line
     ensures text { result.items ≡ moment_text moment.now }
     ensures room { array_vec_len result + 1 ≤ 30 }
@@ -95,7 +95,7 @@ impl fmt::Display for Moment {
     fn fmt<W: fmt::Write>(&self, f: &mut fmt::Formatter<W>) -> fmt::Result {
         match str::from_utf8(text_of(self).as_slice()) {
             Ok(text) => f.write_str(text),
-            // never, since digits and signs are UTF-8
+            // never happens, since digits and signs are UTF-8
             Err(_) => Err(fmt::Error),
         }
     }

@@ -1,4 +1,4 @@
-//! An item of a timeline.
+//! Moments: the items that walks over schedules and runs over fires yield.
 ghost use Rattle.std.specs.Prelude.{◌≡◌, ◌*ℤ◌, pos, neg_ℤ};
 ghost use Rattle.jiff_core.specs.Calendar.{IsBetween};
 ghost use Rattle.cron_moments.specs.Civil.{civil};
@@ -10,7 +10,7 @@ use jiff::civil::DateTime;
 use jiff::tz::Offset;
 use std::marker::Model;
 
-/// A civil second as a clock at an offset shows it.
+/// A civil second with an offset: what a clock shows, and how far it is ahead of UTC.
 #[derive(Clone, Copy, Debug, PartialEq, Eq)]
 pub struct Moment {
     second: u32,
@@ -28,14 +28,14 @@ impl Model for Moment {
 }
 
 impl Moment {
-    /// What the clock shows.
+    /// The civil datetime that the clock shows.
     pub fn datetime(&self) -> DateTime
         ensures { result ≡ civil self.now.second }
     {
         civil_of(self.second)
     }
 
-    /// The instant: the clock is ahead of UTC by its offset.
+    /// The instant, which is the civil second less the offset.
     pub fn timestamp(&self) -> Timestamp
         ensures { result.nanosecond ≡ instant self.now *ℤ pos 1_000_000_000 }
     {
@@ -50,7 +50,7 @@ impl Moment {
     }
 }
 
-/// The civil second with this number as a clock at this offset shows it. Numbers count from
+/// The civil second with the number `second`, as a clock at `offset` shows it. Numbers count from
 /// 1970-01-01 00:00:00.
 pub fn moment_numbered(second: u32, offset: Offset) -> Moment
     ensures { result ≡ reading second offset }
@@ -67,7 +67,7 @@ pub fn instant_of(moment: &Moment) -> i64
     moment.second as i64 - moment.offset.seconds() as i64
 }
 
-/// The number of a moment's civil second.
+/// The number of a moment's civil second, counted from 1970-01-01 00:00:00.
 pub fn civil_second(moment: &Moment) -> u32
     ensures { result ≡ moment.now.second }
 {

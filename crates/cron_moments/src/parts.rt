@@ -10,8 +10,8 @@ use jiff::civil::DateTime;
 use jiff::tz::Offset;
 
 impl Moment {
-    /// The civil second that a clock at this offset shows, as `2022-11-06 01:00:00` at `-05:00`. It
-    /// is `None` where the datetime has a part of a second, or lies outside 1970 to 2100.
+    /// The moment of `date_time` on a clock at `offset`, as `2022-11-06 01:00:00` at `-05:00`.
+    /// `None` if the datetime has a part of a second, or is outside of 1970 to 2100.
     pub fn from_parts(date_time: DateTime, offset: Offset) -> Option<Moment>
         ensures parts { IfSome result (HasParts date_time offset) }
         ensures only { (m : Reading) → HasParts date_time offset m → result ≡ Some m }
@@ -30,8 +30,8 @@ impl Moment {
     }
 }
 
-/// The civil second that a clock at this offset shows at an instant, by its seconds since
-/// 1970-01-01T00:00:00Z. It is `None` where that lies outside 1970 to 2100.
+/// The moment that a clock at `offset` shows at the instant `second`, in seconds since
+/// 1970-01-01T00:00:00Z. `None` if the civil second is outside of 1970 to 2100.
 pub fn moment_at(second: i64, offset: Offset) -> Option<Moment>
     ensures parts { IfSome result (ShowsAt second offset) }
     ensures only { (m : Reading) → ShowsAt second offset m → result ≡ Some m }

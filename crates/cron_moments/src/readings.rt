@@ -1,4 +1,5 @@
-//! The readings of a civil second in a zone.
+//! The readings of a civil second in a zone: the offsets at which a clock there shows it. There is
+//! none in a gap, and there are two in a fold.
 ghost use Rattle.std.specs.Prelude.{◌≡◌, [], ◌∷◌};
 ghost use Rattle.jiff.specs.Words.{plain_zone};
 ghost use Rattle.cron_moments.specs.Found.{found_items, items_if_any};
@@ -8,17 +9,16 @@ use crate::civil::civil_of;
 use crate::moment::{Moment, moment_numbered};
 use jiff::tz::{AmbiguousOffset, Offset, TimeZone};
 
-/// The readings of a civil second that has some: the earlier one first, and the later one where
-/// there are two.
+/// The one or two readings of a civil second, the earlier one first.
 #[derive(Clone, Copy, Debug, PartialEq, Eq)]
 pub struct Found {
     /// The only reading, or the earlier one.
     pub first: Moment,
-    /// The later one, in a fold.
+    /// The later reading, in a fold; else `None`.
     pub second: Option<Moment>,
 }
 
-// A civil second at one offset.
+// The only reading of a civil second, at `offset`.
 #[inline(always)]
 fn single(second: u32, offset: Offset) -> Found
     ensures { found_items result ≡ reading second offset ∷ [] }
@@ -29,8 +29,8 @@ fn single(second: u32, offset: Offset) -> Found
     }
 }
 
-/// The readings of the civil second with this number, `None` in a gap of the zone. A zone with one
-/// offset is answered without its general question.
+/// The readings of the civil second with the number `second`, `None` in a gap of the zone. A zone
+/// with one offset isn't searched for transitions.
 #[inline(always)]
 pub fn readings_of(zone: &TimeZone<'_>, second: u32) -> Option<Found>
     ensures { items_if_any result ≡ readings (plain_zone zone.now) second }
@@ -42,7 +42,7 @@ pub fn readings_of(zone: &TimeZone<'_>, second: u32) -> Option<Found>
     }
 }
 
-// The readings in any zone, as `jiff` tells them.
+// The readings of a civil second in any zone, found by `jiff`. `None` in a gap.
 #[inline(never)]
 fn readings_by_rule(zone: &TimeZone<'_>, second: u32) -> Option<Found>
     ensures { items_if_any result ≡ readings (plain_zone zone.now) second }

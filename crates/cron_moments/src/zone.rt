@@ -6,7 +6,7 @@ ghost use Rattle.cron_moments.specs.Zones.{NamesZone, IsZoneOf};
 
 use jiff::tz::TimeZone;
 
-/// `UTC`, or a rule text as POSIX has it.
+/// The zone that `text` names: `UTC`, or the zone of a POSIX rule text. `None` if it is neither.
 pub fn zone_of(text: &str) -> Option<TimeZone<'_>>
     ensures succeeds { IsSome result ↔ NamesZone text.now }
     ensures value { IfSome result (λ zone. IsZoneOf text.now (plain_zone zone)) }

@@ -1,12 +1,12 @@
-//! `cron_next EXPRESSION START ZONE COUNT [back]` lists the next items of a cron expression, or
-//! those before.
+//! `cron_next EXPRESSION START ZONE COUNT [back]` lists the next items of a cron expression, or,
+//! with `back`, the previous ones.
 #![tactic(auto)]
 
 #[cfg(test)]
 mod tests;
 
-use cron_listing::answer::{Status, answer, usage};
-use cron_listing::run::refuse;
+use cron_walk_listing::answer::{Status, answer, usage};
+use cron_walk_listing::run::refuse;
 use cron_writer::watched::Watched;
 use std::env;
 use std::io::{self, ErrorKind};

@@ -1,13 +1,14 @@
-//! Calls where no memory is left: those that need some say so and change nothing, and the others
-//! need none. The tests take all of it, so they aren't for `rt try`, whose sanitizer then takes the
-//! machine's. Rows of `cron_vectors` ask the rest of `cron_listing`.
+//! Tests of calls without any memory left: calls that need memory return an error and change
+//! nothing, and the other calls need none. The tests take all memory, so they aren't for `rt try`,
+//! whose sanitizer would take the machine's memory. Rows of `cron_test_vectors` test the rest of
+//! `cron_walk_listing`.
 
 ghost use Rattle.std.specs.Prelude.{Some};
 
 use cron::Schedule;
 use cron::error::{Error, ErrorKind};
 use cron::schedule::{Moment, Turn};
-use cron_listing::run::{Outcome, run};
+use cron_walk_listing::run::{Outcome, run};
 use cron_writer::watched::Watched;
 use jiff::Timestamp;
 use jiff::tz::TimeZone;
@@ -22,7 +23,7 @@ const MOST_BLOCKS: usize = 20_000;
 
 type Blocks = Vec<Vec<u8>>;
 
-// Takes blocks of this size until one is refused.
+// Takes blocks of `size` bytes until one is refused, or until `blocks` is full.
 fn take_blocks(blocks: &mut Blocks, alloc: Global, size: usize) {
     for _ in blocks.len()..blocks.capacity() {
         match Vec::with_capacity(alloc, size) {
@@ -49,24 +50,26 @@ fn take_all(rt: &(impl Abort + AllocGlobal)) -> Blocks {
     blocks
 }
 
-// Gives the blocks back, and looks whether they were all that memory had.
+// Gives the blocks back, and checks that they were fewer than `MOST_BLOCKS`: then the last one was
+// refused, so that they were all of memory.
 fn give_back(rt: &impl Abort, mut blocks: Blocks) {
     let taken = blocks.len();
     blocks.truncate(0);
     assert!(rt; taken < MOST_BLOCKS, "{taken} blocks");
 }
 
-// Compares what is told with what is wanted.
+// Checks that the actual value `told` equals `wanted`.
 fn check_same<T: PartialEq + Debug + Copy>(rt: &impl Abort, told: T, wanted: T) {
     assert_eq!(rt; told, wanted);
 }
 
-// The start of 2020.
+// The instant 2020-01-01T00:00:00Z.
 fn start(rt: &impl Abort) -> Timestamp {
     "2020-01-01T00:00:00Z".parse().expect(rt, "an instant")
 }
 
-// Asks for two items while no memory is left.
+// Checks that a list of two items of the expression, run without any memory left, is refused with
+// the message that memory ran out.
 fn check_wanting_run(rt: &(impl Abort + AllocGlobal), expression: &str) {
     let (alloc, start, zone) = (rt.alloc(), start(rt), TimeZone::UTC);
     let mut out = Watched::new(Vec::with_capacity(alloc, 100).expect(rt, "memory"));
@@ -85,7 +88,8 @@ fn a_run_without_memory_says_so(rt: HostRuntime) {
     }
 }
 
-// Takes all memory in its first write, and looks in each whether a byte is left.
+// A writer that takes all memory in its first write, and checks in each write whether a byte is
+// left.
 #[derive(Drop)]
 struct Greedy {
     held: Vec<u8>,
@@ -113,7 +117,8 @@ impl Write for Greedy {
     }
 }
 
-// A list of 400 seconds, whose lines are 27 bytes each, is the same that is written with memory.
+// Checks that a list of 400 items is `text`, the list made with memory, though no memory is left
+// from the first write on. Each line has 27 bytes.
 fn check_begun(rt: &(impl Abort + AllocGlobal), text: &[u8]) {
     let (alloc, start, zone) = (rt.alloc(), start(rt), TimeZone::UTC);
     let mut out = Watched::new(Greedy {
@@ -152,7 +157,8 @@ fn is_wanting(read: &Result<Schedule, Error>) -> bool {
     }
 }
 
-// Whether each reader that copies a text answers want of memory.
+// Returns true if each function that reads a schedule and copies its text returns an out-of-memory
+// error.
 fn readers_want(alloc: Global, text: &str) -> bool {
     is_wanting(&Schedule::from_str(alloc, text))
         && is_wanting(&Schedule::try_from_str(alloc, text))
@@ -166,7 +172,7 @@ const TEXTS: [&str; 4] = [
     "no expression",
 ];
 
-// Two schedules are one by both comparisons.
+// Checks that two schedules are equal by both comparisons.
 fn check_equal(rt: &impl Abort, one: &Schedule, other: &Schedule) {
     assert!(rt; *one == *other && one.timeunitspec_eq(other), "{other}");
 }
@@ -185,7 +191,7 @@ fn calls_without_memory_say_so_and_change_nothing(rt: HostRuntime) {
     check_equal(&rt, &schedule.clone().expect(&rt, "memory"), &schedule);
 }
 
-// Compares what an item shows with what is wanted.
+// Checks that there is an item, and that its printed text equals `wanted`.
 fn check_item(rt: &(impl Abort + AllocGlobal), item: Option<Moment>, wanted: &str) {
     let item = item.expect(rt, "no item").to_string(rt.alloc());
     check_same(rt, item.expect(rt, "memory").as_str(), wanted);
@@ -243,8 +249,9 @@ const ACCEPTED: [&str; 32] = [
     "@daily",
 ];
 
-// Reads the texts, as strings or as owned texts of another type, and tells whether there was room
-// for the schedules. The list of the texts stays, so that no room comes free.
+// Reads schedules of the texts, as strings or as owned `CowStr`s, and appends the results to
+// `read`. An error if there is no room for them. The list of the texts stays, so that no room
+// becomes free.
 fn read_all(
     alloc: Global,
     texts: &mut [String],

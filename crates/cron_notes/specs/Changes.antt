@@ -2,14 +2,16 @@
 use Rattle.std.specs.Prelude.{◌≡◌, ◌⊎◌, ℕ, List, [], ◌∷◌, Result, Ok, Err, ⊤}
 use Rattle.std.specs.declared.io.Error.{Error}
 
--- what is asked of the files: to write one anew, to sync it, to give it another path, and to sync a folder
+-- a call that changes files: it writes one whole, syncs it, gives it another path, or syncs a
+-- folder
 pub data Change : Type 0 where
   Write : List ℕ → List ℕ → Change
   Sync : List ℕ → Change
   Rename : List ℕ → List ℕ → Change
   SyncFolder : List ℕ → Change
 
--- These calls were made in this order, up to and with the first that failed, whose error is the answer.
+-- These calls were made in this order, up to and with the first that failed, whose error is the
+-- answer. If none failed, the answer is `Ok`.
 abbrev pub AreMade : {S : Type 0} → (S → Change → Result ⊤ Error → S → Type 0) → List Change → S → Result ⊤ Error → S → Type 0
 AreMade does [] old answer new = (answer ≡ Ok tt) × (new ≡ old)
 AreMade {S} does (c ∷ cs) old answer new =

@@ -9,7 +9,7 @@ use std::io;
 use std::rt::Files;
 
 /// The files of the machine. They are read as `MachineFiles` reads them: a file that is longer than
-/// 1 MiB, or no regular file, isn't read.
+/// 1 MiB, or that is no regular file, isn't read.
 #[derive_where(Clone, Copy)]
 pub struct MachineStore<'a, R>(pub &'a R);
 

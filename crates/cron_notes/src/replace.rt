@@ -8,7 +8,7 @@ use crate::store::Store;
 use std::alloc::{AllocError, Global};
 use std::io::{self, ErrorKind};
 
-// The path of the file that is written first.
+// The path of the draft, the file that is written first.
 fn draft_of(alloc: Global, path: &str) -> Result<String, AllocError>
     ensures { IfOk result (λ draft. string_bytes draft ≡ draft_of path.now) }
 {
@@ -17,7 +17,7 @@ fn draft_of(alloc: Global, path: &str) -> Result<String, AllocError>
     Ok(draft)
 }
 
-// The folder of a path.
+// The folder of a path, with a slash at its end, or `.` if the path has no slash.
 fn folder_of(path: &str) -> &str
     ensures { IsFolder path.now result.now }
 {
@@ -27,7 +27,7 @@ fn folder_of(path: &str) -> &str
     }
 }
 
-// Makes the calls, until one fails.
+// Makes the four calls of the replacement in their order, until one fails.
 fn make_changes<S: Store>(
     path: &str,
     draft: &str,
@@ -45,10 +45,10 @@ fn make_changes<S: Store>(
     store.sync_folder(folder)
 }
 
-/// Replaces the file at a path by one with these bytes, also where there is none. It is written and
-/// synced as `PATH.new` first, and then takes the path: so whoever reads the path, also after a
-/// crash, reads the old bytes or the new ones. An error is that of the call that failed, after
-/// which no other is made; where memory runs out none was.
+/// Replaces the file at `path` by one with these bytes, or makes it if there is none. It is written
+/// and synced as `PATH.new` first, and then gets the path. So a reader of the path, even after a
+/// crash, reads the old bytes or the new ones. The error is the one of the call that failed, after
+/// which no other call is made. If memory runs out no call is made.
 pub fn replace<S: Store>(alloc: Global, path: &str, bytes: &[u8], store: &mut S) -> io::Result<()>
     ensures { Replaces S.does path.now bytes.now store.old result store.new }
 {

@@ -8,10 +8,11 @@ use Rattle.cron_moments.specs.Civil.{civil, seconds_in_range}
 use Rattle.cron_units.specs.Sets.{Sets}
 use Rattle.cron_dues.specs.Clock.Due.{Due, IsDueAt, clock_of, due, due_instant, instant, shows}
 use Rattle.cron_dues.proofs.DueLemmas.{as_natural, due_is, due_once, fire_due}
-use Rattle.cron_dues.proofs.MemberLemmas.{due-of, own-of, passes_in, passes_of, range_of}
+use Rattle.cron_dues.proofs.MemberLemmas.{due-of, own-of, sets-match}
+use Rattle.cron_seconds.proofs.SetLemmas.{passes_in, passes_of, range_of}
 use Rattle.cron_unions.specs.Nearest.{is_match_any}
-use Rattle.cron_unions.specs.Unions.{matches_any, seconds_of_any}
-use Rattle.cron_unions.proofs.UnionLemmas.{any-matches}
+use Rattle.cron_unions.specs.Unions.{matches_any, any_of}
+use Rattle.cron_time.specs.Seconds.{matching_seconds}
 use Rattle.cron_oncalendar.specs.Calendars.{line_matches}
 use Rattle.cron_oncalendar.specs.Elapses.{ElapsesAt, IsShownAt}
 
@@ -26,7 +27,7 @@ module _ (ss : List Sets) (lines : List (List ℕ)) (same : (c : ℕ) → c < se
       let past = as_natural (shows (clock_of z) (due_instant (clock_of z) c) -ℤ pos c) (omega (arith, signed_arith, there)) in
       record {
         fire = due (clock_of z) c;
-        among = due-of (seconds_of_any ss) (is_match_any ss) (clock_of z) (any-matches ss) c match;
+        among = due-of (matching_seconds (any_of ss)) (is_match_any ss) (clock_of z) (sets-match (any_of ss)) c match;
         shown = omega (arith, signed_arith, past, there);
         then = fire_due (clock_of z) c ∙ at;
       }
@@ -34,7 +35,7 @@ module _ (ss : List Sets) (lines : List (List ℕ)) (same : (c : ℕ) → c < se
   elapses_then : (z : TimeZone) (n : ℤ) → IsShownAt ss z n → ElapsesAt lines z n
   elapses_then z n h =
       let c = h.fire.second in
-      let own = own-of (seconds_of_any ss) (is_match_any ss) (clock_of z) (any-matches ss) h.fire h.among in
+      let own = own-of (matching_seconds (any_of ss)) (is_match_any ss) (clock_of z) (sets-match (any_of ss)) h.fire h.among in
       let within = range_of c (matches_any ss (civil c)) own.matching in
       let at : due_instant (clock_of z) c ≡ n = sym (fire_due (clock_of z) c) ∙ (ap instant (sym own.own) ∙ h.then) in
       let none : (due (clock_of z) c).past ≡ 0 = ap (λ (d : Due). d.past) (sym own.own) ∙ h.shown in

@@ -21,8 +21,10 @@ use Rattle.cron_units.specs.Sets.{Sets}
 use Rattle.cron_units.specs.Units.{FieldSet, contains}
 use Rattle.cron_time.specs.Matches.{contains_year, has_day, is_match, matches, matches_time}
 use Rattle.cron_time.proofs.ListLemmas.{Among}
-use Rattle.cron_dues.specs.Clock.Dues.{matching_seconds}
-use Rattle.cron_dues.proofs.MemberLemmas.{not_both, passes_in, passes_of, sets-match}
+use Rattle.cron_time.specs.Seconds.{matching_seconds}
+use Rattle.cron_time.specs.Timeline.{seconds_of}
+use Rattle.cron_dues.proofs.MemberLemmas.{not_both, sets-match}
+use Rattle.cron_seconds.proofs.SetLemmas.{passes_in, passes_of}
 use Rattle.cron_unions.specs.Unions.{matches_any}
 use Rattle.cron_oncalendar.specs.Calendars.{calendar_of, line_matches, parts}
 use Rattle.cron_oncalendar.specs.Unions.{IsNever, SaysUnion, last_lines, line_count, never_fires, numbered_lines}
@@ -195,8 +197,8 @@ empty_length (x ∷ xs) none = absurd (none x (0, refl))
 
 never_of : (s : Sets) → ((c : ℕ) → matches s (civil c) ≡ false) → never_fires s ≡ true
 never_of s none =
-    eq-eqb (length (matching_seconds s)) 0
-    (empty_length (matching_seconds s) (λ c there. not_both (matches s (civil c)) (passes_of c (matches s (civil c)) ((sets-match s).passing c there)) (none c)))
+    eq-eqb (length (matching_seconds (seconds_of s))) 0
+    (empty_length (matching_seconds (seconds_of s)) (λ c there. not_both (matches s (civil c)) (passes_of c (matches s (civil c)) ((sets-match (seconds_of s)).passing c there)) (none c)))
 
 -- as a search from the first civil second on finds
 pub never_found : (s : Sets) (found : Option ℕ) (never : Bool) → IsNearest Ahead (is_match s) (pos 0) found → is_some found ≡ not never
@@ -204,11 +206,11 @@ pub never_found : (s : Sets) (found : Option ℕ) (never : Bool) → IsNearest A
 never_found s None false near e = absurd (false≢true e)
 never_found s (Some n) true near e = absurd (false≢true (sym e))
 never_found s None true none e =
-    sym (eq-eqb (length (matching_seconds s)) 0
-    (empty_length (matching_seconds s) (λ c there. not_both (is_match s c) ((sets-match s).passing c there) (none c (omega (arith, signed_arith))))))
+    sym (eq-eqb (length (matching_seconds (seconds_of s))) 0
+    (empty_length (matching_seconds (seconds_of s)) (λ c there. not_both (is_match s c) ((sets-match (seconds_of s)).passing c there) (none c (omega (arith, signed_arith))))))
 never_found s (Some n) false near e =
-    let there = (sets-match s).among n near.passes in
-    sym (ne_eqb (length (matching_seconds s)) 0 (λ empty. let less = slice_get_within (matching_seconds s) there.0 n there.1 in omega arith))
+    let there = (sets-match (seconds_of s)).among n near.passes in
+    sym (ne_eqb (length (matching_seconds (seconds_of s))) 0 (λ empty. let less = slice_get_within (matching_seconds (seconds_of s)) there.0 n there.1 in omega arith))
 
 isnt_true : (b : Bool) → (b ≡ true → ⊥) → b ≡ false
 isnt_true true h = absurd (h refl)
@@ -217,9 +219,9 @@ isnt_true false h = refl
 pub none_matching : (s : Sets) → never_fires s ≡ true → (c : ℕ) → c < seconds_in_range → matches s (civil c) ≡ false
 none_matching s never c less =
     isnt_true (matches s (civil c)) (λ match.
-    let there = (sets-match s).among c (passes_in c (matches s (civil c)) less match) in
-    let within = slice_get_within (matching_seconds s) there.0 c there.1 in
-    let none : length (matching_seconds s) ≡ 0 = eqb-true (length (matching_seconds s)) 0 never in omega arith)
+    let there = (sets-match (seconds_of s)).among c (passes_in c (matches s (civil c)) less match) in
+    let within = slice_get_within (matching_seconds (seconds_of s)) there.0 c there.1 in
+    let none : length (matching_seconds (seconds_of s)) ≡ 0 = eqb-true (length (matching_seconds (seconds_of s))) 0 never in omega arith)
 
 pub whole_where_it_fires : (s : Sets) → never_fires s ≡ false → IsWhole s
 whole_where_it_fires s e =

@@ -1,4 +1,5 @@
-//! The numbers of a set, as a component of a line.
+//! The numbers of a set, as a component of a line: a star, or ranges such as `09..17` with commas
+//! between.
 
 ghost use Rattle.std.specs.Prelude.{◌≡◌, ◌≤◌, ◌==◌, ◌+◌, ◌%◌, ◌++◌, ◌∷◌, [], ℕ, true, OnOk};
 ghost use Rattle.std.specs.String.{string_bytes};
@@ -11,12 +12,12 @@ use cron_units::time_unit::layout::{bits, from_bits};
 use cron_units::time_unit::{DaysOfWeek, Ordinal, OrdinalIter, TimeUnitField, TimeUnitSpec};
 use std::alloc::AllocError;
 
-/// How a number is written.
+/// How the numbers of a component are written.
 #[derive(Clone, Copy)]
 pub(crate) enum Spelling {
-    /// By two digits at least.
+    /// In decimal, with two digits or more.
     Digits,
-    /// By a name, from 1 for Monday on.
+    /// By the name of a day of the week, from 1 for Monday on.
     Names,
 }
 
@@ -63,14 +64,15 @@ fn push_range(
     push_word(text, spelling, last)
 }
 
-// Whether a number comes directly after another.
+// Whether `ordinal` is `last` plus 1.
 fn is_next(last: Ordinal, ordinal: Ordinal) -> bool
     ensures { result ≡ (last + 1 == ordinal) }
 {
     u64::from(last) + 1 == u64::from(ordinal)
 }
 
-// Pushes the ranges of a start and of the ordinals after it.
+// Appends the ranges of `start` and of the `ordinals` after it, which ascend. Consecutive numbers
+// are one range.
 fn push_ranges(
     text: &mut String,
     spelling: Spelling,
@@ -92,7 +94,7 @@ fn push_ranges(
     push_range(text, spelling, first, last)
 }
 
-/// Pushes a component: a star for all numbers of the unit, else their ranges.
+/// Appends a component: a star for all numbers of the unit, else their ranges.
 pub(crate) fn push_component<T: TimeUnitSpec>(text: &mut String, set: &T) -> Result<(), AllocError>
     requires unit { is_listable T.time_unit ≡ true }
     requires filled { T.ordinals set.now ≡ [] → ⊥ }
@@ -109,7 +111,7 @@ pub(crate) fn push_component<T: TimeUnitSpec>(text: &mut String, set: &T) -> Res
     }
 }
 
-// The days of the week, of which Monday is 1 and Sunday is 7.
+// The same days of the week, numbered from 1 for Monday to 7 for Sunday; in `days` Sunday is 1.
 fn from_monday(days: &DaysOfWeek) -> DaysOfWeek
     ensures { (n : ℕ) → 1 ≤ n → n ≤ 7 → contains result n ≡ contains days.now (n % 7 + 1) }
 {
@@ -121,7 +123,7 @@ fn from_monday(days: &DaysOfWeek) -> DaysOfWeek
     }
 }
 
-/// Pushes the days of the week and a space, or nothing for all of them.
+/// Appends the days of the week and a space, or nothing for all of them.
 pub(crate) fn push_weekdays(text: &mut String, days: &DaysOfWeek) -> Result<(), AllocError>
     requires filled { days.now ≡ [] → ⊥ }
     ensures { OnOk result (Pushes (AreWeekdays days.now)

@@ -1,4 +1,4 @@
-//! The lines of schedules, and of their unions.
+//! The lines of schedules and of their unions, as `Mon..Fri *-*-* 09:30:00`.
 
 ghost use Rattle.std.specs.Prelude.{◌≡◌, ◌≤◌, [], true, false, ℕ, OnOk, IfOk, MatchOption, sum_by};
 ghost use Rattle.std.specs.Option.{ForSome, option_map};
@@ -17,7 +17,8 @@ use cron_units::time_unit::TimeUnitSpec;
 use cron_units::way::Way;
 use std::alloc::{AllocError, Global};
 
-// Pushes the years, the months and the days of the month: those by number, or else the last one.
+// Appends the years, the months and the days of the month: the last day if `last_day`, else the
+// days by number.
 fn push_date(text: &mut String, fields: &ScheduleFields, last_day: bool) -> Result<(), AllocError>
     requires whole { IsWhole fields.now }
     requires numbered { last_day ≡ false → fields.now.days_of_month.ordinals ≡ [] → ⊥ }
@@ -46,8 +47,8 @@ fn push_time(text: &mut String, fields: &ScheduleFields) -> Result<(), AllocErro
     push_component(text, &fields.seconds)
 }
 
-// Pushes the line of the days by number, or else of the last day of the month, and what stands
-// after each line.
+// Appends a line of the schedule, with `after` and a line feed at its end. It is for the last day
+// of the month if `last_day`, else for the days by number.
 fn push_line(
     text: &mut String,
     fields: &ScheduleFields,
@@ -67,7 +68,7 @@ fn push_line(
     writeln!(text)
 }
 
-// Pushes the line of the days by number, if there are any.
+// Appends the line of the days by number, if there are any.
 fn push_numbered(text: &mut String, fields: &ScheduleFields, after: &str) -> Result<(), AllocError>
     requires whole { IsWhole fields.now }
     ensures { OnOk result (Pushes
@@ -80,7 +81,7 @@ fn push_numbered(text: &mut String, fields: &ScheduleFields, after: &str) -> Res
     push_line(text, fields, false, after)
 }
 
-// Pushes the line of the last day of the month, if it is marked.
+// Appends the line of the last day of the month, if it is marked.
 fn push_last(text: &mut String, fields: &ScheduleFields, after: &str) -> Result<(), AllocError>
     requires whole { IsWhole fields.now }
     ensures { OnOk result (Pushes
@@ -93,14 +94,14 @@ fn push_last(text: &mut String, fields: &ScheduleFields, after: &str) -> Result<
     push_line(text, fields, true, after)
 }
 
-// Whether no civil second matches.
+// Whether the schedule matches no civil second of 1970 to 2100.
 fn never_fires(fields: &ScheduleFields) -> bool
     ensures { result ≡ never_fires fields.now }
 {
     nearest_match(fields, Way::Ahead, 0).is_none()
 }
 
-// Pushes the lines of a schedule, of which there are none where it never fires.
+// Appends the lines of a schedule, or nothing if it never fires.
 fn push_lines(text: &mut String, fields: &ScheduleFields, after: &str) -> Result<(), AllocError>
     ensures { OnOk result (Pushes (AreLines after.now (line_count fields.now) (matches fields.now))
         (string_bytes text.old) (string_bytes text.new)) }
@@ -127,8 +128,8 @@ fn push_union(
     Ok(())
 }
 
-/// Whether a text is one word of a line, as the name of each zone is: it has neither a space nor a
-/// line feed.
+/// Whether a text can be one word of a line: it has neither a space nor a line feed. The name of
+/// each zone is one word.
 pub fn is_word(text: &str) -> bool
     ensures { result ≡ is_word text.now }
 {
@@ -137,7 +138,7 @@ pub fn is_word(text: &str) -> bool
         .all(|byte| !(*byte == b' ' || *byte == b'\n'))
 }
 
-// What stands after each line: a space and the name of a zone, or nothing.
+// The end of each line: a space and the name of the zone, or nothing if no zone is given.
 fn zone_text(alloc: Global, zone: Option<&str>) -> Result<String, AllocError>
     ensures { IfOk result (λ after. string_bytes after
         ≡ zone_text (option_map (λ name. name.now) zone.entry)) }
@@ -150,12 +151,11 @@ fn zone_text(alloc: Global, zone: Option<&str>) -> Result<String, AllocError>
     Ok(after)
 }
 
-/// The lines of systemd's `OnCalendar` for a union: from 1970 to 2100 they match just what it does.
-/// A schedule has one line, or two where the last day of the month is marked beside numbers, and
-/// none where it never fires. The name of a zone stands after each line, if one is given; else a
-/// line elapses by the machine's clock. A star among the years means those after 2100 too. `None`
-/// says that the union never fires. `AllocError` comes where the allocator refuses memory for the
-/// text.
+/// The lines of systemd's `OnCalendar` for a union. From 1970 to 2100 they match exactly what the
+/// union matches. A schedule has one line, or two if it has both days by number and the mark of the
+/// last day. A schedule that never fires has no line. If `zone` is given, its name ends each line;
+/// else a line elapses by the machine's clock. A star for the years also means those after 2100.
+/// `None` if the union never fires. `AllocError` if the allocator refuses memory for the text.
 pub fn calendar_lines(
     alloc: Global,
     schedules: &[ScheduleFields],

@@ -1,12 +1,13 @@
--- What Quartz writes in its two fields of days, and the schedules of seven sets that each form is.
+-- What Quartz writes in its two fields of days, and the schedules that each form means.
 use Rattle.std.specs.Prelude.{ℕ, ◌==◌, ◌&&◌, ◌+◌, ◌-◌, ◌*◌, ◌++◌, Bool, true, not, pos, nat_le, nat_lt, List, [], ◌∷◌, filter, if◌then◌else◌}
 use Rattle.jiff_core.specs.Calendar.{days_in_month, is_leap_year}
 use Rattle.cron_units.specs.Sets.{Sets}
 use Rattle.cron_units.specs.Units.{FieldSet, set_of, unmarked, with_mark}
 use Rattle.cron_units.specs.Units as units
 
--- Days of the month, or one by its place: `L` and `L-3` count from the last, `15W` is the workday nearest to the 15th, and `LW` and `L-3W`
--- that nearest to the last and to the third before it. Or days of the week, the last such day of its month, `6L`, or the n-th, `6#3`.
+-- Days of the month, or one by its place: `L` and `L-3` count from the last day, and `15W` is the
+-- workday nearest to the 15th. `LW` and `L-3W` are the workdays nearest to the last day and to the
+-- third before it. Or days of the week, the last such day of its month, `6L`, or the n-th, `6#3`.
 pub data Days : Type 0 where
   dates : FieldSet → Days
   before_last : ℕ → Days
@@ -18,36 +19,36 @@ pub data Days : Type 0 where
 
 -- ---- months by their length
 
--- the month has this length in a leap year, for the length 29, and else in a common one
+-- month m has n days, in a leap year if n is 29, and else in a common year
 abbrev pub has_length : ℕ → ℕ → Bool
 has_length n m = days_in_month (if n == 29 then pos 2000 else pos 2001) m == n
 
--- of February the years in which it has this length
+-- February of the year y has n days; true of every year if n is neither 28 nor 29
 abbrev pub year_fits : ℕ → ℕ → Bool
 year_fits n y = if n == 29 then is_leap_year (pos y) else if n == 28 then not (is_leap_year (pos y)) else true
 
--- a schedule in months of this length alone
+-- a schedule limited to months of n days
 abbrev pub in_length : ℕ → Sets → Sets
 in_length n s = record s { months = filter (has_length n) s.months; years = filter (year_fits n) s.years }
 
--- the schedules for months of each length
+-- the schedules of a form for months of each length, 28 to 31
 abbrev pub by_length : (ℕ → Sets → List Sets) → Sets → List Sets
 by_length form s = ((form 28 (in_length 28 s) ++ form 29 (in_length 29 s)) ++ form 30 (in_length 30 s)) ++ form 31 (in_length 31 s)
 
 -- ---- the days of each form
 
--- the days of the month from a first to a last one
+-- the days of the month from a first to a last
 abbrev pub from_to : ℕ → ℕ → FieldSet
 from_to first last = unmarked (set_of units.days_of_month (λ d. nat_le first d && nat_le d last))
 
 abbrev pub on_days : FieldSet → List ℕ → Sets → List Sets
 on_days days week s = record s { days_of_month = days; days_of_week = week } ∷ []
 
--- the day before which so many are left, in a month of this length
+-- the schedule of the day that k more days follow in a month of this length, if there is one
 abbrev pub before_end : ℕ → ℕ → Sets → List Sets
 before_end k length s = if nat_lt k length then on_days (from_to (length - k) (length - k)) s.days_of_week s else []
 
--- such a day of the week among the last seven days
+-- the schedule of the day of the week w among the last seven days of a month of this length
 abbrev pub in_last_week : ℕ → ℕ → Sets → List Sets
 in_last_week w length s = on_days (from_to (length - 6) length) (w ∷ []) s
 
@@ -55,24 +56,26 @@ in_last_week w length s = on_days (from_to (length - 6) length) (w ∷ []) s
 abbrev pub workdays : List ℕ
 workdays = set_of units.days_of_week (λ w. nat_le 2 w && nat_le w 6)
 
--- the n-th day itself, where it is a workday
+-- the schedule of the n-th day itself, if it is a workday
 abbrev pub on_day : ℕ → Sets → List Sets
 on_day n s = on_days (from_to n n) workdays s
 
--- The Monday behind it: the next day, where it is a Sunday. Behind a Saturday only that of the 1st, which has no Friday.
+-- The Monday after the n-th day: the next day, if the n-th is a Sunday. For the 1st it may also be
+-- the 3rd, if the 1st is a Saturday. The last day has none.
 abbrev pub on_monday : ℕ → ℕ → Sets → List Sets
 on_monday n length s = if n == length then [] else on_days (from_to (n + 1) (if n == 1 then 3 else n + 1)) (2 ∷ []) s
 
--- The Friday before it: the day before, where it is a Saturday. Before a Sunday only that of the last day, which has no Monday.
+-- The Friday before the n-th day: the day before, if the n-th is a Saturday. For the last day it
+-- may also be two days before, if that is a Sunday. The 1st has none.
 abbrev pub on_friday : ℕ → ℕ → Sets → List Sets
 on_friday n length s = if n == 1 then [] else on_days (from_to (if n == length then n - 2 else n - 1) (n - 1)) (6 ∷ []) s
 
--- the workday nearest to the n-th, in a month of this length
+-- the schedules of the workday nearest to the n-th, in months of this length that have that day
 abbrev pub near_day : ℕ → ℕ → Sets → List Sets
 near_day n length s =
     if nat_lt 0 n && nat_le n length then on_day n s ++ (on_monday n length s ++ on_friday n length s) else []
 
--- the schedules of a form, by one that has all days
+-- the schedules of a form, where s is the schedule of the other fields, with all days
 abbrev pub schedules_of : Days → Sets → List Sets
 schedules_of (dates days) s = on_days days s.days_of_week s
 schedules_of (before_last k) s = if k == 0 then on_days (with_mark [] true) s.days_of_week s else by_length (before_end k) s

@@ -11,7 +11,7 @@ use Rattle.cron_quartz.specs.Refusals.{Reason, missing, no_number, long_number, 
 
 -- ---- numbers
 
--- what digits spell, of which there are nine at most
+-- the number that digits spell, of which there are nine at most
 abbrev pub value_of : List ℕ → Result ℕ Reason
 value_of text =
     if length text == 0 then Err missing
@@ -22,7 +22,7 @@ value_of text =
 abbrev pub bounded : ℕ → ℕ → ℕ → Result ℕ Reason
 bounded low high n = if nat_le low n && nat_le n high then Ok n else Err (outside n low high)
 
--- digits that spell a number between two others
+-- the number from `low` to `high` that digits spell
 abbrev pub number_in : ℕ → ℕ → List ℕ → Result ℕ Reason
 number_in low high text = and_then (value_of text) (bounded low high)
 
@@ -31,7 +31,7 @@ pub record End : Type 0 where
   pub number : ℕ
   pub named : Bool
 
--- names have three letters, in any case
+-- the number that a name stands for; names have three letters, in any case
 abbrev pub name_of : TimeUnit → List ℕ → Option ℕ
 name_of u text = if length text == 3 then ordinal_of u text else None
 
@@ -50,11 +50,11 @@ pub data Base : Type 0 where
   one : End → Base
   range : End → End → Base
 
--- years don't begin anew, as all else does
+-- a range may go past the end of the unit and on from its least number, except in years
 abbrev pub begins_anew : TimeUnit → Bool
 begins_anew u = nat_lt u.greatest 1970
 
--- a name and a number
+-- one end of a range is a name, and the other a number
 abbrev pub are_mixed : Bool → Bool → Bool
 are_mixed true false = true
 are_mixed false true = true
@@ -66,7 +66,7 @@ range_of u a b =
     else if not (begins_anew u) && nat_lt b.number a.number then Err backward
     else Ok (range a b)
 
--- nothing more is wanted behind a text
+-- what was found, or the fault if more pieces follow `text`
 abbrev pub last_of : {A : Type 0} → List ℕ → List (List ℕ) → A → Result A Reason
 last_of text [] found = Ok found
 last_of text (more ∷ rest) found = Err (ignored text)
@@ -82,13 +82,14 @@ base_of u text = if bytes_eq text (codes "*") then Ok all else between u (pieces
 
 -- ---- items
 
--- the numbers from a first one by steps to a last one, round the end of the unit where that is less
+-- the numbers of a base, as a first one, a last one and the step; if the last is less, they go
+-- round the end of the unit
 abbrev pub plain : TimeUnit → Base → Progression
 plain u all = record { first = u.least; last = u.greatest; every = 1 }
 plain u (one a) = record { first = a.number; last = a.number; every = 1 }
 plain u (range a b) = record { first = a.number; last = b.number; every = 1 }
 
--- with a step one number goes on to the greatest of the unit
+-- the numbers of a base with a step; a single number goes on to the greatest of the unit
 abbrev pub by_steps : TimeUnit → ℕ → Base → Progression
 by_steps u s all = record { first = u.least; last = u.greatest; every = s }
 by_steps u s (one a) = record { first = a.number; last = u.greatest; every = s }
@@ -105,16 +106,16 @@ step_within high n = if nat_lt 0 n && nat_le n high then Ok n else Err (outside_
 abbrev pub step_of : TimeUnit → List ℕ → Result ℕ Reason
 step_of u text = and_then (value_of text) (step_within u.greatest)
 
--- a step stands behind a star, a number or a range of numbers
+-- a base with its step; only a star, a number or a range of numbers may have one
 abbrev pub stepped : TimeUnit → List ℕ → List (List ℕ) → Base → Result Progression Reason
 stepped u step more base =
     if is_named base then Err named_step else and_then (step_of u step) (λ s. last_of step more (by_steps u s base))
 
--- a step may stand alone: `/5` is `*/5`
+-- the base before a step, which may be left out: `/5` is `*/5`
 abbrev pub stepped_base : TimeUnit → List ℕ → Result Base Reason
 stepped_base u text = if length text == 0 then Ok all else base_of u text
 
--- a base, and perhaps a step behind a slash
+-- a base, and perhaps a step after a slash
 abbrev pub cut_item : TimeUnit → List (List ℕ) → Result Progression Reason
 cut_item u [] = Err missing
 cut_item u (base ∷ []) = and_then (base_of u base) (λ b. Ok (plain u b))
@@ -125,11 +126,11 @@ item_of u text = cut_item u (pieces 47 text)
 
 -- ---- which numbers lie in items
 
--- how far a number lies behind another, round the end of the unit where it is less
+-- how many numbers x is after `from`, counted round the end of the unit if x is less
 abbrev pub way_on : TimeUnit → ℕ → ℕ → ℕ
 way_on u from x = if nat_le from x then x - from else (x - u.least) + (u.greatest + 1 - from)
 
--- a number of the unit lies in an item: no further on than the last, by whole steps
+-- x lies in an item: it is at most as far on from the first number as the last is, by whole steps
 abbrev pub lies_in : TimeUnit → Progression → ℕ → Bool
 lies_in u item x = nat_le (way_on u item.first x) (way_on u item.first item.last) && way_on u item.first x % item.every == 0
 
@@ -138,12 +139,12 @@ lies_in_one u items x = list_any (λ item. lies_in u item x) items
 
 -- ---- fields
 
--- what is read of a text, or the fault of it in its field
+-- what was read of a text, or the fault of that text in its field
 abbrev pub told : {A : Type 0} → TimeUnit → List ℕ → Result A Reason → Result A Fault
 told u text (Ok found) = Ok found
 told u text (Err reason) = Err (refused u text reason)
 
--- the items of a field behind some that were read; the first that is none is refused
+-- the items of a field, after those already read; the first text that is no item is refused
 abbrev pub items_from : TimeUnit → List Progression → List (List ℕ) → Result (List Progression) Fault
 items_from u items [] = Ok items
 items_from u items (text ∷ texts) = and_then (told u text (item_of u text)) (λ item. items_from u (items ++ item ∷ []) texts)

@@ -13,7 +13,7 @@ use Rattle.cron_quartz.specs.Days.{Days, dates, before_last, nearest_workday, la
 
 -- ---- days of the month
 
--- letters stand in any case
+-- the text begins with the letter, in either case
 abbrev pub begins_with : ℕ → List ℕ → Bool
 begins_with letter text = eq_ignore_ascii_case (slice_index text 0) letter
 
@@ -24,17 +24,17 @@ ends_with letter text = eq_ignore_ascii_case (slice_index text (length text - 1)
 abbrev pub all_but_last : List ℕ → List ℕ
 all_but_last text = take (length text - 1) text
 
--- `15W`, without the `W`
+-- the form `15W`, of which `text` is the part before the `W`
 abbrev pub near_of : List ℕ → Result Days Reason
 near_of text = and_then (number_in 1 31 text) (λ n. Ok (nearest_workday n))
 
--- `L-3` or `L-3W`, from the number on
+-- the form `L-3` or `L-3W`, of which `text` is the part after `L-`
 abbrev pub offset_of : List ℕ → Result Days Reason
 offset_of text =
     if ends_with 87 text then and_then (number_in 0 30 (all_but_last text)) (λ k. Ok (last_workday k))
     else and_then (number_in 0 30 text) (λ k. Ok (before_last k))
 
--- `L`, `LW`, `L-3` or `L-3W`, without the `L`
+-- the form `L`, `LW`, `L-3` or `L-3W`, of which `text` is the part after the `L`
 abbrev pub last_form_of : List ℕ → Result Days Reason
 last_form_of text =
     if length text == 0 then Ok (before_last 0)
@@ -42,7 +42,7 @@ last_form_of text =
     else if length text == 1 && begins_with 87 text then Ok (last_workday 0)
     else Err no_form
 
--- the word is one of the forms, or else items
+-- what the field of the days of the month means: one of the forms, or else items
 abbrev pub dates_of : List ℕ → Result Days Fault
 dates_of word =
     if begins_with 76 word then told units.days_of_month word (last_form_of (drop 1 word))
@@ -54,7 +54,7 @@ dates_of word =
 abbrev pub last_weekday_of : List ℕ → Result Days Reason
 last_weekday_of text = and_then (end_of units.days_of_week text) (λ w. Ok (last_weekday w.number))
 
--- `6#3`: the day, and what stands behind the `#`
+-- the form `6#3` of the day of the week w, from the pieces after the `#`
 abbrev pub nth_place : ℕ → List (List ℕ) → Result Days Reason
 nth_place w [] = Err missing
 nth_place w (place ∷ more) = and_then (number_in 1 5 place) (λ n. last_of place more (nth_weekday w n))
@@ -66,7 +66,8 @@ abbrev pub cut_weekdays : List ℕ → List (List ℕ) → Result Days Fault
 cut_weekdays word (day ∷ place ∷ more) = told units.days_of_week word (nth_of day (place ∷ more))
 cut_weekdays word _ = and_then (set_read units.days_of_week word) (λ week. Ok (weekdays week))
 
--- the word is one of the forms, or else items; `L` alone is Saturday
+-- what the field of the days of the week means: one of the forms, or else items; the word `L` is
+-- Saturday
 abbrev pub weekdays_of : List ℕ → Result Days Fault
 weekdays_of word =
     if length word == 1 && begins_with 76 word then Ok (weekdays (7 ∷ []))
@@ -75,7 +76,7 @@ weekdays_of word =
 
 -- ---- texts
 
--- the words of the fields
+-- the word of each field, where the years may be missing
 pub record Texts : Type 0 where
   pub second : List ℕ
   pub minute : List ℕ
@@ -85,12 +86,12 @@ pub record Texts : Type 0 where
   pub day_of_week : List ℕ
   pub year : Option (List ℕ)
 
--- the first of some words, and those behind it
+-- the first of some words, and the words after it
 abbrev pub word_of : TimeUnit → List (List ℕ) → Result (List ℕ × List (List ℕ)) Fault
 word_of u [] = Err (no_field u)
 word_of u (word ∷ more) = Ok (word, more)
 
--- the year, if there is one, behind which nothing stands
+-- the word of the years, if there is one; no word may follow it
 abbrev pub year_of : List (List ℕ) → Result (Option (List ℕ)) Fault
 year_of [] = Ok None
 year_of (year ∷ []) = Ok (Some year)
@@ -112,7 +113,7 @@ abbrev pub years_of : Option (List ℕ) → Result (List ℕ) Fault
 years_of None = Ok (whole units.years)
 years_of (Some word) = set_read units.years word
 
--- the schedule of an expression but for its days
+-- the schedule of an expression's other fields, with all days
 abbrev pub times_of : Texts → Result Sets Fault
 times_of t =
     and_then (set_read units.seconds t.second) (λ seconds.
@@ -133,7 +134,7 @@ times_of t =
 abbrev pub is_question : List ℕ → Bool
 is_question word = bytes_eq word (codes "?")
 
--- one kind of day is `?`, and the other is read
+-- what the two fields of days mean: one is `?`, and the other is read
 abbrev pub days_of : List ℕ → List ℕ → Result Days Fault
 days_of month_days week_days =
     if is_question month_days then (if is_question week_days then Err no_days else weekdays_of week_days)

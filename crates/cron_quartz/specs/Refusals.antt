@@ -16,8 +16,8 @@ pub data Reason : Type 0 where
   backward : Reason
   no_form : Reason
 
--- Why a text is refused: an item of a field, a field that isn't there, a word behind the seventh field, or kinds of day of which none or
--- both are `?`. Fields go by their units.
+-- Why a text is refused: an item of a field, a field that is missing, a word after the seventh
+-- field, or fields of days of which none or both are `?`. Each field is named by its unit.
 pub data Fault : Type 0 where
   refused : TimeUnit → List ℕ → Reason → Fault
   no_field : TimeUnit → Fault

@@ -1,4 +1,4 @@
-//! The two fields of days: forms that are known as whole words, and items.
+//! The two fields of days: forms that are a whole field, as `L` or `15W`, and lists of items.
 
 ghost use Rattle.std.specs.Prelude.{◌≡◌, ◌<◌, ◌==◌, ◌&&◌, IfOk, MatchOption, MatchResult, Ok, Err, drop, length, true, false};
 ghost use Rattle.cron_crontab.specs.Items.{pieces};
@@ -18,24 +18,25 @@ use cron_units::time_unit::{DaysOfMonth, DaysOfWeek, only};
 
 const SATURDAY: u32 = 7;
 
-/// The days of an expression. Days of the week go from 1 for Sunday.
+/// The days of an expression. Days of the week are numbered from 1 for Sunday.
 #[derive(Clone, Copy)]
 pub(crate) enum Days {
     Dates(DaysOfMonth),
-    /// `L` or `L-3`: so many days before the last one, 30 at most.
+    /// `L` or `L-3`: the day this number of days before the last of the month, 30 at most.
     BeforeLast(u32),
     /// `15W`: the workday nearest to this day of the month.
     NearestWorkday(u32),
-    /// `LW` or `L-3W`: the workday nearest to so many days before the last one, 30 at most.
+    /// `LW` or `L-3W`: the workday nearest to the day this number of days before the last of the
+    /// month, 30 at most.
     LastWorkday(u32),
     Weekdays(DaysOfWeek),
-    /// `6L`: the last such day of the week.
+    /// `6L`: the last such day of the week in the month.
     LastWeekday(u32),
-    /// `6#3`: the third such day of the week, the fifth at most.
+    /// `6#3`: the third such day of the week in the month. The second number is 5 at most.
     NthWeekday(u32, u32),
 }
 
-// Tells whether a text begins with a letter, or another sign.
+// Returns true if `text` begins with `letter` in either case. `letter` may be another sign.
 fn begins_with(text: &str, letter: u8) -> bool
     requires { 0 < letter }
     ensures { result ≡ begins_with letter text.now }
@@ -56,7 +57,7 @@ fn ends_with(text: &str, letter: u8) -> bool
     }
 }
 
-// What stands behind a letter at the front of a text.
+// `text` without its first byte, or `None` if that byte isn't `letter` in either case.
 fn behind_first(text: &str, letter: u8) -> Option<&str>
     requires some { 0 < letter }
     requires ascii { letter < 128 }
@@ -71,7 +72,7 @@ fn behind_first(text: &str, letter: u8) -> Option<&str>
     }
 }
 
-// What stands before a letter at the end of a text.
+// `text` without its last byte, or `None` if that byte isn't `letter` in either case.
 fn before_last(text: &str, letter: u8) -> Option<&str>
     requires some { 0 < letter }
     requires ascii { letter < 128 }
@@ -86,7 +87,7 @@ fn before_last(text: &str, letter: u8) -> Option<&str>
     }
 }
 
-// Tells whether a text is one letter.
+// Returns true if `text` is only `letter`, in either case.
 fn is_letter(text: &str, letter: u8) -> bool
     requires { 0 < letter }
     ensures { result ≡ (length text.now == 1 && begins_with letter text.now) }
@@ -94,7 +95,7 @@ fn is_letter(text: &str, letter: u8) -> bool
     text.len() == 1 && begins_with(text, letter)
 }
 
-// The fault of a word that is none of the forms of a field.
+// The fault of `word`, which as the whole of `field` is refused for `reason`.
 fn refused<'a>(field: Field, word: &'a str, reason: Reason<'a>) -> Fault<'a>
     ensures { fault_view result ≡ refused (unit_of field) word.now (reason_view reason.entry) }
 {
@@ -105,7 +106,7 @@ fn refused<'a>(field: Field, word: &'a str, reason: Reason<'a>) -> Fault<'a>
     })
 }
 
-// Reads `L-3` or `L-3W` from the number on.
+// Reads `L-3` or `L-3W`. `text` is the part after `L-`.
 fn read_offset(text: &str) -> Result<Days, Reason<'_>>
     ensures days { MatchResult result
         (λ d. offset_of text.now ≡ Ok (days_view d))
@@ -118,7 +119,7 @@ fn read_offset(text: &str) -> Result<Days, Reason<'_>>
     }
 }
 
-// Reads `L`, `LW`, `L-3` or `L-3W`, without the `L`.
+// Reads `L`, `LW`, `L-3` or `L-3W`. `text` is the part after the `L`.
 fn read_last_form(text: &str) -> Result<Days, Reason<'_>>
     ensures days { MatchResult result
         (λ d. last_form_of text.now ≡ Ok (days_view d))
@@ -138,7 +139,7 @@ fn read_last_form(text: &str) -> Result<Days, Reason<'_>>
     }
 }
 
-// Reads the days of the month.
+// Reads the field of the days of the month.
 fn read_dates(word: &str) -> Result<Days, Fault<'_>>
     ensures days { MatchResult result
         (λ d. dates_of word.now ≡ Ok (days_view d))
@@ -160,7 +161,7 @@ fn read_dates(word: &str) -> Result<Days, Fault<'_>>
     Ok(Days::Dates(read_set(Field::DayOfMonth, word)?))
 }
 
-// Reads `6#3`, cut at the `#`.
+// Reads `6#3`. `day` is the part before the `#`, and `rest` is the part after it.
 fn read_nth<'a>(day: &'a str, rest: &'a str) -> Result<Days, Reason<'a>>
     ensures days { MatchResult result
         (λ d. nth_of day.now (pieces 35 rest.now) ≡ Ok (days_view d))
@@ -176,7 +177,7 @@ fn read_nth<'a>(day: &'a str, rest: &'a str) -> Result<Days, Reason<'a>>
     }
 }
 
-// Reads days of the week that are no form with an `L`.
+// Reads a field of days of the week that doesn't end with `L`: `6#3`, or items.
 fn read_cut_weekdays(word: &str) -> Result<Days, Fault<'_>>
     ensures days { MatchResult result
         (λ d. cut_weekdays word.now (pieces 35 word.now) ≡ Ok (days_view d))
@@ -193,7 +194,7 @@ fn read_cut_weekdays(word: &str) -> Result<Days, Fault<'_>>
     }
 }
 
-// Reads the days of the week. `L` alone is Saturday.
+// Reads the field of the days of the week. The word `L` is Saturday.
 fn read_weekdays(word: &str) -> Result<Days, Fault<'_>>
     ensures days { MatchResult result
         (λ d. weekdays_of word.now ≡ Ok (days_view d))
@@ -212,7 +213,7 @@ fn read_weekdays(word: &str) -> Result<Days, Fault<'_>>
     }
 }
 
-/// Reads both kinds of day, of which one is `?`.
+/// Reads both fields of days. Exactly one of them must be `?`.
 pub(crate) fn read_days<'a>(dates: &'a str, weekdays: &'a str) -> Result<Days, Fault<'a>>
     ensures days { MatchResult result
         (λ d. days_of dates.now weekdays.now ≡ Ok (days_view d))

@@ -16,7 +16,7 @@ use crate::texts::{Texts, cut_fields};
 use cron_units::fields::ScheduleFields;
 use cron_units::time_unit::{Years, whole};
 
-// Reads the years, which are all where no word names them.
+// Reads the field of years. All years are meant if there is no such field.
 fn read_years(word: Option<&str>) -> Result<Years, Fault<'_>>
     ensures { MatchResult result
         (λ years. years_of (option_map (λ w. w.now) word.entry) ≡ Ok years)
@@ -28,7 +28,7 @@ fn read_years(word: Option<&str>) -> Result<Years, Fault<'_>>
     }
 }
 
-// Reads all but the days.
+// Reads all fields but the two of days. The schedule that it returns has all days.
 fn read_times<'a>(texts: Texts<'a>) -> Result<ScheduleFields, Fault<'a>>
     ensures { MatchResult result
         (λ times. times_of (texts_view texts.entry) ≡ Ok times)

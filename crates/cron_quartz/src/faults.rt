@@ -1,4 +1,4 @@
-//! Why a text is refused. A fault borrows words of the text, and prints the message.
+//! Why a text is refused. A fault borrows words of the text, and its `Display` is the message.
 
 ghost use Rattle.std.specs.Prelude.{◌≡◌, Some};
 ghost use Rattle.cron_quartz.specs.Refusals.{fault_text, reason_text};
@@ -11,25 +11,25 @@ use std::fmt;
 /// Why an item of a field is refused.
 #[derive(Clone, Copy, Debug, PartialEq, Eq)]
 pub enum Reason<'a> {
-    /// No number stands where one is wanted, or no item.
+    /// A number or an item is missing where one is wanted.
     Missing,
-    /// This is no number, and no name of the field.
+    /// This text is neither a number nor a name of the field.
     NoNumber(&'a str),
     /// A number has more than nine digits.
     LongNumber,
-    /// The first number doesn't lie between the other two.
+    /// The first number is less than the second or greater than the third.
     Outside(u32, u32, u32),
-    /// The step is 0, or greater than the second number.
+    /// The step, which is the first number, is 0 or greater than the second number.
     OutsideStep(u32, u32),
-    /// Something stands behind this, which Quartz doesn't heed.
+    /// Something follows this text that Quartz ignores.
     Ignored(&'a str),
-    /// A step stands behind a name, which Quartz doesn't heed.
+    /// A step follows a name. Quartz ignores such a step.
     NamedStep,
     /// A range has a name and a number.
     Mixed,
-    /// A range of years has the greater first.
+    /// The first year of a range is greater than the last.
     Backward,
-    /// The word begins with `L`, and is no form of it.
+    /// The word begins with `L`, and is none of `L`, `L-3`, `LW` and `L-3W`.
     NoForm,
 }
 
@@ -46,13 +46,13 @@ pub struct RefusedItem<'a> {
 pub enum Fault<'a> {
     /// An item is refused.
     Refused(RefusedItem<'a>),
-    /// There are fewer than six fields, and this is the first that isn't there.
+    /// There are fewer than six fields, and this is the first that is missing.
     NoField(Field),
-    /// This word stands behind the seventh field.
+    /// This word follows the seventh field.
     EighthField(&'a str),
-    /// Both kinds of day are `?`.
+    /// Both fields of days are `?`.
     NoDays,
-    /// No kind of day is `?`.
+    /// Neither field of days is `?`.
     BothDays,
 }
 

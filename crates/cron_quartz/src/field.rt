@@ -1,4 +1,4 @@
-//! The seven fields.
+//! The seven fields of Quartz's expressions.
 
 ghost use Rattle.std.specs.Prelude.{◌≡◌};
 ghost use Rattle.cron_quartz.specs.Fields.{unit_of};
@@ -16,7 +16,7 @@ pub enum Field {
 }
 
 impl Field {
-    /// What messages call the field.
+    /// The field's name in messages.
     pub fn title(self) -> &'static str
         ensures { result.now ≡ (unit_of self).title }
     {

@@ -1,4 +1,5 @@
-//! The schedules that each form of days is.
+//! The schedules that each form of days means, as `L-3`, `15W` or `6#3`. Where the day depends on
+//! the length of the month, there are schedules for months of each length.
 
 ghost use Rattle.std.specs.Prelude.{◌≡◌, ◌<◌, ◌≤◌, ◌+◌, ◌++◌, [], ℕ, length, nat_le, true};
 ghost use Rattle.cron_units.specs.Units.{with_mark};
@@ -16,7 +17,7 @@ const MONDAY: u32 = 2;
 
 const FRIDAY: u32 = 6;
 
-/// A form whose days hang on the length of the month.
+/// A form whose days depend on the length of the month.
 #[derive(Clone, Copy)]
 pub(crate) enum Counted {
     BeforeLast(u32),
@@ -25,7 +26,7 @@ pub(crate) enum Counted {
     LastWeekday(u32),
 }
 
-// The day, or the last that a month can have.
+// `day`, or 31 if `day` is greater.
 fn clipped(day: u32) -> u32
     ensures fits { result ≤ 31 }
     ensures same { (d : ℕ) → d ≤ 31 → nat_le d result ≡ nat_le d day }
@@ -33,7 +34,7 @@ fn clipped(day: u32) -> u32
     if day <= 31 { day } else { 31 }
 }
 
-// The days of the month from a first to a last one.
+// The days of the month from `first` to `last`, or to 31 if `last` is greater.
 fn from_to(first: u32, last: u32) -> DaysOfMonth
     requires { 1 ≤ first }
     ensures { result ≡ from_to first last }
@@ -51,7 +52,7 @@ fn workdays() -> DaysOfWeek
     week
 }
 
-// Adds the schedule with these days.
+// Adds to `list` the schedule `fields` with the days `days` and `week`.
 fn add(list: &mut Expression, days: DaysOfMonth, week: DaysOfWeek, fields: &ScheduleFields)
     requires { length list.old < 12 }
     ensures schedules { list.new ≡ list.old ++ on_days days week fields.now }
@@ -64,7 +65,9 @@ fn add(list: &mut Expression, days: DaysOfMonth, week: DaysOfWeek, fields: &Sche
     });
 }
 
-// Adds the Monday behind a day.
+// Adds the Monday that is the workday nearest to `day`. It is the next day, if `day` is a Sunday.
+// For day 1 it may also be day 3, if day 1 is a Saturday. The last day of the month, `end`, has
+// none.
 fn add_monday(list: &mut Expression, day: u32, end: u32, fields: &ScheduleFields)
     requires room { length list.old < 12 }
     requires day { day ≤ end }
@@ -79,7 +82,9 @@ fn add_monday(list: &mut Expression, day: u32, end: u32, fields: &ScheduleFields
     add(list, from_to(day + 1, last), only(MONDAY), fields);
 }
 
-// Adds the Friday before a day.
+// Adds the Friday that is the workday nearest to `day`. It is the day before, if `day` is a
+// Saturday. For the last day, `end`, it may also be two days before, if `end` is a Sunday. Day 1
+// has none.
 fn add_friday(list: &mut Expression, day: u32, end: u32, fields: &ScheduleFields)
     requires room { length list.old < 12 }
     requires low { 1 ≤ day }
@@ -94,7 +99,8 @@ fn add_friday(list: &mut Expression, day: u32, end: u32, fields: &ScheduleFields
     add(list, from_to(first, day - 1), only(FRIDAY), fields);
 }
 
-// Adds the workday nearest to a day, where the month has that day.
+// Adds the schedules of the workday nearest to `day` in months of `end` days, if they have that
+// day.
 fn add_near(list: &mut Expression, day: u32, end: u32, fields: &ScheduleFields)
     requires room { length list.old + 3 ≤ 12 }
     requires end { IsLength end }
@@ -110,7 +116,7 @@ fn add_near(list: &mut Expression, day: u32, end: u32, fields: &ScheduleFields)
 }
 
 impl Counted {
-    // Adds the schedules for months of a length.
+    // Adds the form's schedules for months of `end` days.
     fn add_to(self, list: &mut Expression, end: u32, fields: &ScheduleFields)
         requires form { IsCounted self }
         requires room { length list.old + 3 ≤ 12 }
@@ -134,7 +140,7 @@ impl Counted {
         }
     }
 
-    // The schedules for months of each length.
+    // The form's schedules for months of each length.
     fn schedules(self, fields: &ScheduleFields) -> Expression
         requires { IsCounted self }
         ensures { result ≡ by_length (counted self) fields.now }
@@ -148,7 +154,7 @@ impl Counted {
     }
 }
 
-// The one schedule with these days.
+// The expression of one schedule: `fields` with the days `days` and `week`.
 fn one(days: DaysOfMonth, week: DaysOfWeek, fields: &ScheduleFields) -> Expression
     ensures { result ≡ on_days days week fields.now }
 {
@@ -157,7 +163,7 @@ fn one(days: DaysOfMonth, week: DaysOfWeek, fields: &ScheduleFields) -> Expressi
     list
 }
 
-// The last day of the month alone.
+// The set of only the last day of the month.
 fn last_day() -> DaysOfMonth
     ensures { result ≡ with_mark [] true }
 {
@@ -166,7 +172,7 @@ fn last_day() -> DaysOfMonth
     days
 }
 
-/// The schedules of a form, by one that has all days.
+/// The schedules of the form `days`. `fields` is the schedule of the other fields, with all days.
 pub(crate) fn schedules_of(days: &Days, fields: &ScheduleFields) -> Expression
     requires { AreDays days.now }
     ensures { result ≡ schedules_of (days_view days.now) fields.now }

@@ -1,4 +1,4 @@
-//! Items of a field: stars, numbers and ranges, and the steps behind them.
+//! Items of a field: stars, numbers and ranges, and their steps.
 
 ghost use Rattle.std.specs.Prelude.{◌≡◌, ◌<◌, ◌≤◌, IfOk, MatchResult, Ok, Err};
 ghost use Rattle.cron_crontab.specs.Items.{pieces};
@@ -12,10 +12,10 @@ use crate::numbers::{End, read_end, read_step};
 use cron_crontab::cut_at;
 use cron_units::time_unit::TimeUnitField;
 
-/// Years begin here, and nothing else reaches it.
+/// The least year. The numbers of all other fields are less.
 const FIRST_YEAR: u32 = 1970;
 
-/// What stands before a step.
+/// The part of an item before its step.
 #[derive(Clone, Copy)]
 pub(crate) enum Base {
     All,
@@ -23,8 +23,8 @@ pub(crate) enum Base {
     Range(End, End),
 }
 
-/// The numbers from a first one by steps to a last one, round the end of the field where that is
-/// less.
+/// The numbers from `first` by steps of `every` to `last`. If `last` is less than `first`, they go
+/// past the end of the field and on from its least number.
 #[derive(Clone, Copy)]
 pub(crate) struct Item {
     pub first: u32,
@@ -32,7 +32,8 @@ pub(crate) struct Item {
     pub every: u32,
 }
 
-// The range between two ends.
+// The range from `first` to `last`. Refuses a range of a name and a number, and years in descending
+// order.
 fn range_of<'a, T: TimeUnitField>(first: End, last: End) -> Result<Base, Reason<'a>>
     requires first { IsWithin T.unit first.number }
     requires last { IsWithin T.unit last.number }
@@ -71,7 +72,7 @@ fn read_range<'a, T: TimeUnitField>(text: &'a str) -> Result<Base, Reason<'a>>
     }
 }
 
-// Reads what stands before a step.
+// Reads the part of an item before its step: a star, a number, a name or a range.
 fn read_base<'a, T: TimeUnitField>(text: &'a str) -> Result<Base, Reason<'a>>
     ensures base { MatchResult result
         (λ b. base_of T.unit text.now ≡ Ok (base_view b))
@@ -85,7 +86,7 @@ fn read_base<'a, T: TimeUnitField>(text: &'a str) -> Result<Base, Reason<'a>>
     }
 }
 
-// Reads what stands before a slash, where it may be nothing.
+// Reads the part of an item before its slash. An empty part is a star.
 fn read_stepped_base<'a, T: TimeUnitField>(text: &'a str) -> Result<Base, Reason<'a>>
     ensures base { MatchResult result
         (λ b. stepped_base T.unit text.now ≡ Ok (base_view b))
@@ -100,7 +101,7 @@ fn read_stepped_base<'a, T: TimeUnitField>(text: &'a str) -> Result<Base, Reason
 }
 
 impl Base {
-    // Whether it is written by names.
+    // Returns true if the base is written with names.
     fn is_named(self) -> bool
         ensures { result ≡ is_named (base_view self) }
     {
@@ -111,7 +112,7 @@ impl Base {
         }
     }
 
-    // The item without a step.
+    // The item of this base without a step.
     fn plain<T: TimeUnitField>(self) -> Item
         requires { IsBaseWithin T.unit self }
         ensures item { item_view result ≡ plain T.unit (base_view self) }
@@ -129,7 +130,8 @@ impl Base {
         }
     }
 
-    // The item with a step, by which one number goes on to the greatest.
+    // The item of this base with the step `every`. A lone number with a step goes on to the field's
+    // greatest number.
     fn by_steps<T: TimeUnitField>(self, every: u32) -> Item
         requires base { IsBaseWithin T.unit self }
         requires positive { 0 < every }

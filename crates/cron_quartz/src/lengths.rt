@@ -1,4 +1,4 @@
-//! Schedules in months of one length alone.
+//! Schedules limited to months of one length.
 
 ghost use Rattle.std.specs.Prelude.{◌≡◌, ◌≤◌, ◌&&◌, filter, pos};
 ghost use Rattle.jiff_core.specs.Calendar.{is_leap_year};
@@ -8,14 +8,15 @@ ghost use Rattle.cron_quartz.specs.Days.{has_length, in_length, year_fits};
 use cron_units::fields::ScheduleFields;
 use cron_units::time_unit::{Months, TimeUnitField, Years, empty};
 
-// Tells whether a year has a 29th of February.
+// Returns true if `year` has a 29th of February.
 fn is_leap_year(year: u32) -> bool
     ensures { result ≡ is_leap_year (pos year) }
 {
     year % 4 == 0 && (year % 100 != 0 || year % 400 == 0)
 }
 
-// Tells whether a month has a length: in a leap year, for the length 29, and else in a common one.
+// Returns true if `month` has `length` days. The year is a leap year if `length` is 29, else a
+// common year.
 fn has_length(length: u32, month: u32) -> bool
     requires low { 1 ≤ month }
     requires high { month ≤ 12 }
@@ -30,7 +31,7 @@ fn has_length(length: u32, month: u32) -> bool
     days == length
 }
 
-// Tells whether February can have a length in a year.
+// Returns false if `length` is 28 or 29 and February of `year` has another length, else true.
 fn year_fits(length: u32, year: u32) -> bool
     ensures { result ≡ year_fits length year }
 {
@@ -81,7 +82,7 @@ fn years_of(length: u32, years: &Years) -> Years
     kept
 }
 
-/// The schedule in months of a length alone.
+/// The schedule `fields` limited to months of `length` days.
 pub(crate) fn in_length(length: u32, fields: &ScheduleFields) -> ScheduleFields
     ensures { result ≡ in_length length fields.now }
 {

@@ -1,4 +1,4 @@
-//! Numbers and names, as they are written.
+//! Reads numbers, names and steps.
 
 ghost use Rattle.std.specs.Prelude.{◌≡◌, ◌<◌, ◌≤◌, ℕ, IfOk, IfSome, MatchResult, MatchOption, Ok, Err, length, true, false};
 ghost use Rattle.std.specs.Char.{is_ascii_digit};
@@ -10,7 +10,7 @@ ghost use Rattle.cron_quartz.specs.Views.{end_view, reason_view};
 use crate::faults::Reason;
 use cron_units::time_unit::TimeUnitField;
 
-/// The most digits that a number has, so that 32 bits hold it.
+/// The most digits that a number may have. 32 bits hold every such number.
 const MOST_DIGITS: usize = 9;
 
 /// A number of a field, and whether it is written as a name.
@@ -31,7 +31,7 @@ fn are_digits(text: &[u8]) -> bool
     true
 }
 
-// The number that digits spell.
+// The number that `digits` spell.
 fn value_of(digits: &[u8]) -> u32
     requires few { length digits.now ≤ 9 }
     requires digits { list_all is_ascii_digit digits.now ≡ true }
@@ -60,7 +60,7 @@ fn read_value(text: &str) -> Result<u32, Reason<'_>>
     Ok(value_of(text.as_bytes()))
 }
 
-/// Reads digits that spell a number between two others.
+/// Reads digits that spell a number from `low` to `high`.
 pub(crate) fn read_number(text: &str, low: u32, high: u32) -> Result<u32, Reason<'_>>
     ensures number { MatchResult result
         (λ n. number_in low high text.now ≡ Ok n)
@@ -75,7 +75,7 @@ pub(crate) fn read_number(text: &str, low: u32, high: u32) -> Result<u32, Reason
     }
 }
 
-// The number of a name of three letters.
+// The number whose name of three letters is `text`. `None` if the field has no such name.
 fn number_named<T: TimeUnitField>(text: &str) -> Option<u32>
     ensures name { result ≡ name_of T.unit text.now }
     ensures within { IfSome result (λ n. (T.unit.least ≤ n) × (n ≤ T.unit.greatest)) }
@@ -107,7 +107,7 @@ pub(crate) fn read_end<T: TimeUnitField>(text: &str) -> Result<End, Reason<'_>>
     })
 }
 
-/// Reads a step.
+/// Reads a step: a number from 1 to the greatest number of the field.
 pub(crate) fn read_step<T: TimeUnitField>(text: &str) -> Result<u32, Reason<'_>>
     ensures step { MatchResult result
         (λ n. step_of T.unit text.now ≡ Ok n)

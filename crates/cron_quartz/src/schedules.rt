@@ -1,15 +1,15 @@
-//! A union of few schedules.
+//! A union of at most twelve schedules.
 
 ghost use Rattle.std.specs.Prelude.{◌≡◌, ◌<◌, ◌≤◌, ◌++◌, [], ◌∷◌, length};
 
 use cron_units::fields::ScheduleFields;
 use std::marker::Model;
 
-/// The most schedules that an expression is: three for each of four lengths of a month.
+/// The most schedules that an expression means: three for each of the four lengths of a month.
 const MOST: usize = 12;
 
-/// What an expression means: a union of at most twelve schedules, seen as a list. It fires when any
-/// of them does.
+/// What an expression means: a union of at most twelve schedules, which contracts see as a list. It
+/// fires when any of them does.
 #[derive(Drop)]
 pub struct Expression {
     schedules: [ScheduleFields; MOST],
@@ -28,7 +28,7 @@ impl Model for Expression {
 }
 
 impl Expression {
-    /// No schedules, with room for more that are like this one.
+    /// An empty union. Its unused places are filled with `fields`.
     pub(crate) fn none(fields: &ScheduleFields) -> Expression
         ensures { result ≡ [] }
     {
@@ -47,7 +47,7 @@ impl Expression {
         self.count += 1;
     }
 
-    /// The schedules.
+    /// Returns the schedules of the union.
     pub fn as_slice(&self) -> &[ScheduleFields]
         ensures list { result.now ≡ self.now }
         ensures few { length result.now ≤ 12 }

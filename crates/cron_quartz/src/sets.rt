@@ -1,4 +1,4 @@
-//! Whole fields, and their sets.
+//! Reads whole fields into sets.
 
 ghost use Rattle.std.specs.Prelude.{◌≡◌, ◌<◌, ◌≤◌, ◌&&◌, ◌||◌, MatchResult, IfOk, Ok, Err, false};
 ghost use Rattle.cron_units.specs.Units.{contains, set_of};
@@ -14,7 +14,8 @@ use crate::items::{Item, read_item};
 use cron_crontab::cut_at;
 use cron_units::time_unit::{TimeUnitField, empty};
 
-// How far a number lies behind another, round the end of the field where it is less.
+// The distance from `from` up to `number`. If `number` is less, the way goes past the end of the
+// field and on from its least number.
 fn way_on<T: TimeUnitField>(from: u32, number: u32) -> u32
     requires from { IsWithin T.unit from }
     requires number { IsWithin T.unit number }
@@ -27,7 +28,7 @@ fn way_on<T: TimeUnitField>(from: u32, number: u32) -> u32
     }
 }
 
-// Tells whether a number lies in an item.
+// Returns true if `number` is one of the numbers of `item`.
 fn lies_in<T: TimeUnitField>(item: Item, number: u32) -> bool
     requires item { IsItemWithin T.unit item }
     requires number { IsWithin T.unit number }

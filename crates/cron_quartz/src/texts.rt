@@ -1,4 +1,4 @@
-//! The words of the fields, in their order.
+//! The words of an expression, one for each field, in their order.
 
 ghost use Rattle.std.specs.Prelude.{◌≡◌, MatchResult, Ok, Err};
 ghost use Rattle.std.specs.Option.{option_map};
@@ -12,7 +12,7 @@ use crate::faults::Fault;
 use crate::field::Field;
 use cron_crontab::next_word;
 
-/// The words of the fields.
+/// The word of each field. The field of years may be missing.
 #[derive(Clone, Copy)]
 pub(crate) struct Texts<'a> {
     pub second: &'a str,
@@ -24,7 +24,7 @@ pub(crate) struct Texts<'a> {
     pub year: Option<&'a str>,
 }
 
-// The first word of a text, which is a field, and what stands behind it.
+// The first word of `text`, which is the word of `field`, and the text after it.
 fn next_field<'a>(field: Field, text: &'a str) -> Result<(&'a str, &'a str), Fault<'a>>
     ensures { MatchResult result
         (λ r. word_of (unit_of field) (words text.now) ≡ Ok (r.0.now, words r.1.now))
@@ -36,7 +36,7 @@ fn next_field<'a>(field: Field, text: &'a str) -> Result<(&'a str, &'a str), Fau
     }
 }
 
-// The year, if there is one, behind which nothing stands.
+// The word of the field of years, or `None` if `text` has no word. A second word is refused.
 fn last_field(text: &str) -> Result<Option<&str>, Fault<'_>>
     ensures { MatchResult result
         (λ year. year_of (words text.now) ≡ Ok (option_map (λ word. word.now) year))

@@ -4,7 +4,7 @@ use Rattle.cron_units.specs.Steps.{Progression, in_steps}
 use Rattle.cron_units.specs.Units.{TimeUnit}
 use Rattle.cron_quartz.specs.Items.{lies_in}
 
--- a number of the unit
+-- n is a number of the unit
 pub record IsOf (u : TimeUnit) (n : ℕ) : Type 0 where
   pub low : u.least ≤ n
   pub high : n ≤ u.greatest
@@ -13,7 +13,8 @@ pub record IsOf (u : TimeUnit) (n : ℕ) : Type 0 where
 abbrev pub StepsGoOn : Type 0
 StepsGoOn = (u : TimeUnit) (item : Progression) (x : ℕ) → IsOf u x → IsOf u item.last → item.first ≤ item.last → lies_in u item x ≡ in_steps item x
 
--- another one goes on from the first to the end of the unit, and from its beginning up to the last
+-- a range whose last number is less than its first goes on to the end of the unit, and from its
+-- beginning to the last number
 abbrev pub RangesComeRound : Type 0
 RangesComeRound =
     (u : TimeUnit) (first last x : ℕ) → IsOf u x → IsOf u first → IsOf u last → last < first

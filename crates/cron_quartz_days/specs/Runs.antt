@@ -13,16 +13,17 @@ use Rattle.cron_time.specs.Matches.{contains_year, has_day, matches_time}
 use Rattle.cron_tabs.specs.DayRule.{matches_one}
 use Rattle.cron_quartz.specs.Days.{Days, dates, before_last, weekdays, last_weekday, nth_weekday, schedules_of}
 
--- both kinds of day are whole, as those of a schedule that a form of days is added to
+-- a schedule has all days of the month and of the week, as the one that a form of days is added to
 pub record HasAllDays (s : Sets) : Type 0 where
   pub days_of_month : s.days_of_month ≡ unmarked (whole units.days_of_month)
   pub days_of_week : s.days_of_week ≡ whole units.days_of_week
 
--- all but the days matches
+-- the year, the month and the time of day match
 abbrev pub matches_but_days : Sets → DateTime → Bool
 matches_but_days s dt = contains_year s.years dt.date.year && contains s.months dt.date.month && matches_time s dt.time
 
--- the schedules of a form match where all else does and the date is so
+-- the schedules of a form match a datetime exactly if all but the days matches and its date has the
+-- property
 abbrev pub RunsOn : Days → (Date → Type 0) → Type 0
 RunsOn days IsSo =
     (s : Sets) (dt : DateTime) → HasAllDays s → (matches_one (schedules_of days s) dt ≡ true) ↔ ((matches_but_days s dt ≡ true) × IsSo dt.date)
@@ -32,7 +33,7 @@ RunsOn days IsSo =
 abbrev pub DatesRun : Type 0
 DatesRun = (days : FieldSet) → RunsOn (dates days) (λ d. has_day days (days_in_month d.year d.month) d.day ≡ true)
 
--- so many days lie behind it in its month
+-- `L` or `L-3` runs on exactly the day that k more days of its month follow
 abbrev pub BeforeLastRuns : Type 0
 BeforeLastRuns = (k : ℕ) → RunsOn (before_last k) (λ d. d.day + k ≡ days_in_month d.year d.month)
 
@@ -45,7 +46,7 @@ weekday_in year month day = (calendar.weekday_number (days_from_civil year month
 abbrev pub WeekdaysRun : Type 0
 WeekdaysRun = (week : List ℕ) → RunsOn (weekdays week) (λ d. contains week (weekday_number d) ≡ true)
 
--- it is such a day of the week, and no later day of its month is
+-- the date d has the day of the week w, and no later day of its month has it
 pub record IsLastWeekday (w : ℕ) (d : Date) : Type 0 where
   pub weekday : weekday_number d ≡ w
   pub last : (day : ℕ) → d.day < day → day ≤ days_in_month d.year d.month → weekday_in d.year d.month day ≡ w → ⊥
@@ -53,11 +54,11 @@ pub record IsLastWeekday (w : ℕ) (d : Date) : Type 0 where
 abbrev pub LastWeekdayRuns : Type 0
 LastWeekdayRuns = (w : ℕ) → RunsOn (last_weekday w) (IsLastWeekday w)
 
--- how many days of its month, up to and with it, have its day of the week
+-- how many days of its month, up to the date itself, have its day of the week
 abbrev pub place_in_month : Date → ℕ
 place_in_month d = count_by (λ day. weekday_in d.year d.month day == weekday_number d) (range_with_len 1 d.day)
 
--- it is such a day of the week, and the n-th of its month
+-- the date d has the day of the week w, and is the n-th day of its month that has it
 pub record IsNthWeekday (w n : ℕ) (d : Date) : Type 0 where
   pub weekday : weekday_number d ≡ w
   pub place : place_in_month d ≡ n

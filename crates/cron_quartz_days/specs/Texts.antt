@@ -1,4 +1,4 @@
--- What is told of each text: one meaning, or one fault; and what a meaning is made of.
+-- What each text has: one meaning, or one fault; and what a meaning is made of.
 use Rattle.std.specs.Prelude.{◌≡◌, ◌⊎◌, ℕ, List}
 use Rattle.cron_units.specs.Sets.{Sets}
 use Rattle.cron_quartz.specs.Refusals.{Fault}
@@ -16,7 +16,8 @@ pub record IsToldOnce (text : List ℕ) : Type 0 where
 abbrev pub EachIsToldOnce : Type 0
 EachIsToldOnce = (text : List ℕ) → IsToldOnce text
 
--- Each meaning is that of a form of days, over a schedule that has all days: the laws of the forms speak of it.
+-- Each meaning is the schedules of a form of days, made of a schedule that has all days. So the
+-- laws of the forms apply to it.
 abbrev pub MeaningsHaveDays : Type 0
 MeaningsHaveDays =
     (text : List ℕ) (schedules : List Sets) → Means text schedules → (days : Days) × (times : Sets) × HasAllDays times × (schedules ≡ schedules_of days times)

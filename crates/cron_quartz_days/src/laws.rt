@@ -6,52 +6,53 @@ ghost use Rattle.cron_quartz_days.specs.Runs.{DatesRun, BeforeLastRuns, Weekdays
 ghost use Rattle.cron_quartz_days.specs.Texts.{EachIsToldOnce, MeaningsHaveDays};
 ghost use Rattle.cron_quartz_days.specs.Workdays.{NearestWorkdayRuns, LastWorkdayRuns, NearLastRuns};
 
-/// Numbered days of the month match just these.
+/// Numbers of days of the month match exactly these days.
 pub fn dates_run()
     ensures { DatesRun }
 {}
 
-/// `L` and `L-3` match just the day behind which so many days of its month lie.
+/// `L` matches exactly the last day of a month, and `L-3` the day that 3 more days of its month
+/// follow.
 pub fn before_last_runs()
     ensures { BeforeLastRuns }
 {}
 
-/// Days of the week match just these.
+/// Days of the week match exactly these days.
 pub fn weekdays_run()
     ensures { WeekdaysRun }
 {}
 
-/// `6L` matches just the Friday behind which its month has none.
+/// `6L` matches exactly the last Friday of a month.
 pub fn last_weekday_runs()
     ensures { LastWeekdayRuns }
 {}
 
-/// `6#3` matches just the third Friday of a month.
+/// `6#3` matches exactly the third Friday of a month.
 pub fn nth_weekday_runs()
     ensures { NthWeekdayRuns }
 {}
 
-/// `15W` matches just the workday to whose 15th no workday of the month is nearer.
+/// `15W` matches exactly the workday of a month that is nearest to its 15th.
 pub fn nearest_workday_runs()
     ensures { NearestWorkdayRuns }
 {}
 
-/// `LW` matches just the workday behind which its month has none.
+/// `LW` matches exactly the last workday of a month.
 pub fn last_workday_runs()
     ensures { LastWorkdayRuns }
 {}
 
-/// `L-3W` matches just the workday that is nearest to the third day before the last.
+/// `L-3W` matches exactly the workday of a month that is nearest to the third day before its last.
 pub fn near_last_runs()
     ensures { NearLastRuns }
 {}
 
-/// Each text means something or is refused, not both, and in one way.
+/// Each text either means something or is refused, and has only one meaning or one refusal.
 pub fn each_is_told_once()
     ensures { EachIsToldOnce }
 {}
 
-/// Each meaning is that of a form of days, over a schedule that has all days.
+/// Each meaning is a form of days, over a schedule that has all days.
 pub fn meanings_have_days()
     ensures { MeaningsHaveDays }
 {}
@@ -61,7 +62,8 @@ pub fn steps_go_on()
     ensures { StepsGoOn }
 {}
 
-/// Another range goes on to the end of its field, and from there on to the last.
+/// A range whose last number is less than its first goes on to the end of its unit, and from the
+/// unit's beginning to the last number.
 pub fn ranges_come_round()
     ensures { RangesComeRound }
 {}

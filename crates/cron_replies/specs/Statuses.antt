@@ -8,7 +8,7 @@ use Rattle.cron_writer.specs.declared.watched.Watched.{Watched}
 use Rattle.cron_replies.specs.declared.status.Status.{Status}
 use Rattle.cron_replies.specs.declared.status.Status.TheVariants.{Done, No, WrongWords, WriteFailed, Unreadable}
 
--- the exit status
+-- the exit status of a subcommand
 abbrev pub code_of : Status → ℕ
 code_of Done = 0
 code_of No = 1
@@ -16,7 +16,7 @@ code_of WrongWords = 2
 code_of WriteFailed = 3
 code_of Unreadable = 4
 
--- of two ends the one whose exit status is greater
+-- the one of two statuses whose exit status is greater
 abbrev pub worse : Status → Status → Status
 worse a b = if nat_lt (code_of a) (code_of b) then b else a
 
@@ -24,21 +24,24 @@ abbrev pub is_write_failure : Status → Bool
 is_write_failure WriteFailed = true
 is_write_failure _ = false
 
--- A writer was handed this text: it holds the whole of it, and the status is `done`; or a write failed, and it holds a beginning.
+-- A writer was passed this text. It has all of it, and the status is `done`. Or a write or a flush
+-- failed, and it has a beginning of it.
 abbrev pub Ends : Status → List ℕ → Option (List ℕ) → Option (List ℕ) → Status → Type 0
 Ends done text old new status =
     ((status ≡ done) × Appends old new text) ⊎ ((status ≡ WriteFailed) × IsFrontSent old new text)
 
--- what is so of a writer's bytes, before and after, and of the status
+-- a property of a writer's bytes before and after, and of the status
 abbrev pub Ending : Type 1
 Ending = Option (List ℕ) → Option (List ℕ) → Status → Type 0
 
--- an ending by what was done to a writer
+-- a statement about a writer before and after a subcommand, by the property of its bytes and the
+-- status
 abbrev pub Reporting : Type 0 → Type 1
 Reporting W = Ending → W → Status → W → Type 0
 
--- A writer was told how a subcommand ended. Some writes and then one flush were made, none of them once a call has failed, and the status
--- tells whether one has.
+-- A subcommand ended with this status, and the writer's bytes have the property. Some writes and
+-- then one flush were made, none after a call that failed. The status is `WriteFailed` exactly if
+-- one failed.
 abbrev pub Reports :
     {W : Type 0} → (W → Option (List ℕ)) → (W → List ℕ → Result ℕ Error → W → Type 0) → (W → Result ⊤ Error → W → Type 0) → Ending → Watched W
     → Status → Watched W → Type 0

@@ -1,7 +1,7 @@
--- Lines of the things of a list that have a property.
+-- The lines of those items of a list that have a property.
 use Rattle.std.specs.Prelude.{◌≡◌, ◌⊎◌, ◌++◌, ℕ, List, [], ◌∷◌}
 
--- the lines of those things of a list that have a property, in the list's order
+-- the text is the lines of those items of a list that have the property `has`, in the list's order
 abbrev pub TellsThose : {A : Type 0} → (A → Type 0) → (A → List ℕ) → List A → List ℕ → Type 0
 TellsThose has line [] text = text ≡ []
 TellsThose has line (x ∷ xs) text =

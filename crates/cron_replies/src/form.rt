@@ -1,10 +1,11 @@
-//! In which form fires are written.
+//! The forms of fires that are written.
 
 /// How fires are written.
 #[derive(Clone, Copy, Debug, PartialEq, Eq)]
 pub enum Form {
-    /// Each as it is printed, on a line of its own.
+    /// Each fire as its text, on a line of its own.
     Text,
-    /// An object of JSON a line: `fire`, as it is printed, and `epoch`, its instant in seconds.
+    /// Each fire as a JSON object on a line of its own: `fire`, its text, and `epoch`, its instant
+    /// in seconds.
     Json,
 }

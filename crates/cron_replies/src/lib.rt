@@ -1,4 +1,4 @@
-//! How a subcommand ends, over any writer, and in which form it writes fires.
+//! How a subcommand ends, over any writer, and the forms of fires that it writes.
 #![tactic(auto)]
 
 pub mod form;

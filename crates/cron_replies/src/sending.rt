@@ -1,4 +1,4 @@
-//! Bytes that are all that a subcommand writes.
+//! The reply of a subcommand that writes only bytes made beforehand.
 
 ghost use Rattle.std.specs.Prelude.{◌≡◌, false};
 ghost use Rattle.cron_writer.specs.Calls.{AreWritesFlushed};
@@ -9,7 +9,8 @@ use crate::status::{Status, finish};
 use cron_writer::watchable::Watchable;
 use cron_writer::watched::{Watched, send};
 
-/// Writes bytes, all of them, and flushes. No call of the writer may have failed before.
+/// Writes all of `bytes` and flushes. Returns `done`, or `WriteFailed` if a call of the writer
+/// fails. No call of it may have failed before.
 pub fn send_bytes<W: Watchable>(bytes: &[u8], done: Status, out: &mut Watched<W>) -> Status
     requires out { has_failed out.old ≡ false }
     requires done { is_write_failure done ≡ false }

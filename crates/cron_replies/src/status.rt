@@ -24,7 +24,7 @@ pub enum Status {
 }
 
 impl Status {
-    /// The exit status: 0 to 4, in the order above.
+    /// The exit status, 0 to 4, in the order of the variants.
     pub fn code(self) -> u8
         ensures { result ≡ code_of self }
     {
@@ -37,7 +37,7 @@ impl Status {
         }
     }
 
-    /// Of two ends the one whose exit status is greater.
+    /// The one of two statuses whose exit status is greater.
     pub fn worse(self, other: Status) -> Status
         ensures { result ≡ worse self other }
     {
@@ -49,7 +49,8 @@ impl Status {
     }
 }
 
-/// Flushes what was written whole, and tells how the subcommand ended.
+/// Flushes the writer if no call failed. Returns `done`, or `WriteFailed` if a write or the flush
+/// failed.
 pub fn finish<W: Watchable>(out: &mut Watched<W>, done: Status) -> Status
     requires { is_write_failure done ≡ false }
     ensures ends { (origin : Option (List ℕ)) (text : List ℕ)

@@ -4,7 +4,7 @@ use Rattle.std.specs.Prelude.{filter}
 use Rattle.std.proofs.lemmas.List.Elements.{filter-append}
 use Rattle.std.proofs.lemmas.List.{append-nil}
 use Rattle.jiff_core.specs.declared.Timestamp.{Timestamp}
-use Rattle.cron_fires.specs.Rules.{is_by}
+use Rattle.cron_seconds.specs.Rules.{is_by}
 use Rattle.cron_scheduler.specs.Runs.{is_due}
 use Rattle.cron_scheduler.specs.Passing.{AllPass, NonePass}
 

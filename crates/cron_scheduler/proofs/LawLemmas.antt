@@ -3,10 +3,10 @@ use Rattle.std.proofs.Common.{◌≡◌, ℕ, zero, suc, ℤ, Bool, true, false,
 use Rattle.std.specs.Prelude.{◌≤ℤ◌, slice_get}
 use Rattle.std.proofs.lemmas.Int.{ints}
 use Rattle.jiff_core.specs.declared.Timestamp.{Timestamp}
-use Rattle.cron_fires.specs.Rules.{IsCut, is_by}
+use Rattle.cron_seconds.specs.Rules.{IsCut, is_by}
 use Rattle.cron_time.proofs.ListLemmas.{filter-alike}
 use Rattle.jiff_tz.specs.declared.timezone.TimeZone.{TimeZone}
-use Rattle.cron_units.specs.Sets.{Sets}
+use Rattle.cron_time.specs.Seconds.{Seconds}
 use Rattle.cron_scheduler.specs.declared.plan.Start.TheVariants.{After, Past}
 use Rattle.cron_scheduler.specs.Runs.{is_due}
 use Rattle.cron_scheduler.specs.Laws.{DueUpToTheGreatest, IsGreatest, RestartsGoOn}
@@ -56,8 +56,8 @@ due_up_to_the_greatest instant fires times g is = filter-alike (is_due instant t
 
 -- ---- restarts
 
-pub restarts_go_on : {A : Type 0} (after : List Sets → TimeZone → ℤ → List A) (past : List Sets → TimeZone → A → List A)
-    → ((ss : List Sets) (z : TimeZone) (t : ℤ) → IsCut (after ss z t) (past ss z)) → ((ss : List Sets) (z : TimeZone) (r : A) → IsCut (past ss z r) (past ss z))
+pub restarts_go_on : {A : Type 0} (after : Seconds → TimeZone → ℤ → List A) (past : Seconds → TimeZone → A → List A)
+    → ((s : Seconds) (z : TimeZone) (t : ℤ) → IsCut (after s z t) (past s z)) → ((s : Seconds) (z : TimeZone) (r : A) → IsCut (past s z r) (past s z))
     → RestartsGoOn after past
-restarts_go_on after past cut_after cut_past ss z (After now) = cut_after ss z now.nanosecond
-restarts_go_on after past cut_after cut_past ss z (Past item) = cut_past ss z item
+restarts_go_on after past cut_after cut_past s z (After now) = cut_after s z now.nanosecond
+restarts_go_on after past cut_after cut_past s z (Past item) = cut_past s z item

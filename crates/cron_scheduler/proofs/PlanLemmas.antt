@@ -4,21 +4,21 @@ use Rattle.std.specs.Prelude.{◌*ℤ◌, ◌<ℤ◌, ◌≤ℤ◌, pos, slice_g
 use Rattle.std.specs.Option.{option_eq}
 use Rattle.std.proofs.lemmas.Int.{ints}
 use Rattle.jiff_tz.specs.declared.timezone.TimeZone.{TimeZone}
-use Rattle.cron_units.specs.Sets.{Sets}
-use Rattle.cron_fires.specs.Rules.{IsFirstOf, NeverDecreases, is_by}
+use Rattle.cron_time.specs.Seconds.{Seconds}
+use Rattle.cron_seconds.specs.Rules.{IsFirstOf, NeverDecreases, is_by}
 use Rattle.cron_scheduler.specs.declared.plan.Start.{Start}
 use Rattle.cron_scheduler.specs.declared.plan.Start.TheVariants.{After, Past}
 use Rattle.cron_scheduler.specs.Plans.{fires_from, first_of, planned}
 use Rattle.cron_scheduler.specs.Passing.{IsFirst, NonePass, planned_past}
 
-pub first_planned : {A : Type 0} (after : List Sets → TimeZone → ℤ → List A) (past : List Sets → TimeZone → A → List A) (ss : List Sets) (z : TimeZone) (start : Start A)
+pub first_planned : {A : Type 0} (after : Seconds → TimeZone → ℤ → List A) (past : Seconds → TimeZone → A → List A) (s : Seconds) (z : TimeZone) (start : Start A)
     (most : Option ℕ) (answer : Option A) → (option_eq nat_eq most (Some 0) ≡ false)
-    → IsFirstOf (fires_from (after ss z) (past ss z) start) (past ss z) answer → IsFirst after past ss z start most answer
-first_planned after past ss z start None None some h = h
-first_planned after past ss z start None (Some r) some h = h
-first_planned after past ss z start (Some zero) answer some h = absurd (cc)
-first_planned after past ss z start (Some (suc n)) None some h = ap (take (suc n)) h
-first_planned after past ss z start (Some (suc n)) (Some r) some h =
+    → IsFirstOf (fires_from (after s z) (past s z) start) (past s z) answer → IsFirst after past s z start most answer
+first_planned after past s z start None None some h = h
+first_planned after past s z start None (Some r) some h = h
+first_planned after past s z start (Some zero) answer some h = absurd (cc)
+first_planned after past s z start (Some (suc n)) None some h = ap (take (suc n)) h
+first_planned after past s z start (Some (suc n)) (Some r) some h =
     let less : suc n - 1 ≡ n = omega arith in rw less (ap (take (suc n)) h)
 
 none_by : {A : Type 0} (p : A → Bool) (l : List A) → ((i : ℕ) (q : A) → slice_get l i ≡ Some q → p q ≡ false) → NonePass p l
@@ -58,13 +58,13 @@ order_from instant after past (After now) afters pasts = afters now.nanosecond
 order_from instant after past (Past r) afters pasts = pasts r
 
 -- where the first isn't due, none is
-pub none_due : {A : Type 0} (instant : A → ℤ) (after : List Sets → TimeZone → ℤ → List A) (past : List Sets → TimeZone → A → List A) (ss : List Sets) (z : TimeZone)
-    (start : Start A) (most : Option ℕ) (now : ℤ) (r : A) → ((t : ℤ) → NeverDecreases instant (after ss z t)) → ((q : A) → NeverDecreases instant (past ss z q))
-    → planned after past ss z start most ≡ r ∷ planned_past after past ss z r most → is_by instant now r ≡ false
-    → NonePass (is_by instant now) (planned after past ss z start most)
-none_due instant after past ss z start most now r afters pasts e late =
-    none_first instant most (fires_from (after ss z) (past ss z) start) r (planned_past after past ss z r most) now
-    (order_from instant (after ss z) (past ss z) start afters pasts) e late
+pub none_due : {A : Type 0} (instant : A → ℤ) (after : Seconds → TimeZone → ℤ → List A) (past : Seconds → TimeZone → A → List A) (s : Seconds) (z : TimeZone)
+    (start : Start A) (most : Option ℕ) (now : ℤ) (r : A) → ((t : ℤ) → NeverDecreases instant (after s z t)) → ((q : A) → NeverDecreases instant (past s z q))
+    → planned after past s z start most ≡ r ∷ planned_past after past s z r most → is_by instant now r ≡ false
+    → NonePass (is_by instant now) (planned after past s z start most)
+none_due instant after past s z start most now r afters pasts e late =
+    none_first instant most (fires_from (after s z) (past s z) start) r (planned_past after past s z r most) now
+    (order_from instant (after s z) (past s z) start afters pasts) e late
 
 pub late_by : {A : Type 0} (instant : A → ℤ) (i now : ℤ) (r : A) → i ≡ instant r *ℤ pos 1_000_000_000 → now <ℤ i → is_by instant now r ≡ false
 late_by instant i now r e late = grind (arith, ints)

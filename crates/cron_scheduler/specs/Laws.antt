@@ -2,13 +2,13 @@
 use Rattle.std.specs.Prelude.{◌≡◌, ◌≤ℤ◌, ℕ, ℤ, Some, List, filter, slice_get}
 use Rattle.jiff_core.specs.declared.Timestamp.{Timestamp}
 use Rattle.jiff_tz.specs.declared.timezone.TimeZone.{TimeZone}
-use Rattle.cron_units.specs.Sets.{Sets}
-use Rattle.cron_fires.specs.Rules.{IsCut, is_by}
+use Rattle.cron_time.specs.Seconds.{Seconds}
+use Rattle.cron_seconds.specs.Rules.{IsCut, is_by}
 use Rattle.cron_scheduler.specs.declared.plan.Start.{Start}
 use Rattle.cron_scheduler.specs.Plans.{fires_from}
 use Rattle.cron_scheduler.specs.Runs.{is_due}
 
--- one of the times, and none of them is later
+-- `greatest` is one of the times, and none of them is later
 pub record IsGreatest (times : List Timestamp) (greatest : Timestamp) : Type 0 where
   pub place : ℕ
   pub there : slice_get times place ≡ Some greatest
@@ -20,7 +20,8 @@ DueUpToTheGreatest {A} instant =
     (fires : List A) (times : List Timestamp) (greatest : Timestamp) → IsGreatest times greatest
     → filter (is_due instant times) fires ≡ filter (is_by instant greatest.nanosecond) fires
 
--- Past one of the fires from a start come those behind it: a run that is begun past the last fire of another goes on from there.
-abbrev pub RestartsGoOn : {A : Type 0} → (List Sets → TimeZone → ℤ → List A) → (List Sets → TimeZone → A → List A) → Type 0
+-- Where the fires from a start are cut after one of them, the rest are those past it. So a run that
+-- begins past the last fire of another goes on from there.
+abbrev pub RestartsGoOn : {A : Type 0} → (Seconds → TimeZone → ℤ → List A) → (Seconds → TimeZone → A → List A) → Type 0
 RestartsGoOn {A} after past =
-    (ss : List Sets) (z : TimeZone) (start : Start A) → IsCut (fires_from (after ss z) (past ss z) start) (past ss z)
+    (s : Seconds) (z : TimeZone) (start : Start A) → IsCut (fires_from (after s z) (past s z) start) (past s z)

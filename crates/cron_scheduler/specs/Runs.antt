@@ -2,7 +2,7 @@
 use Rattle.std.specs.Prelude.{◌≡◌, ◌⊎◌, ◌++◌, ◌*ℤ◌, ℤ, pos, ◌-◌, ◌^◌, ℕ, Bool, true, false, ◌||◌, Option, Some, None, MatchOption, List, [], ◌∷◌, Result, Ok, Err, ⊤, length, filter, slice_get}
 use Rattle.std.specs.Option.{option_map}
 use Rattle.jiff_core.specs.declared.Timestamp.{Timestamp}
-use Rattle.cron_fires.specs.Rules.{is_by}
+use Rattle.cron_seconds.specs.Rules.{is_by}
 use Rattle.cron_scheduler.specs.declared.stop.Stop.{Stop}
 use Rattle.cron_scheduler.specs.declared.stop.Stop.TheVariants.{Clock, Job}
 
@@ -20,7 +20,8 @@ pub record ClockCalls (C E : Type 0) : Type 1 where
 abbrev pub clock_calls : {C E : Type 0} → (C → Result Timestamp E → C → Type 0) → (C → Timestamp → Result ⊤ E → C → Type 0) → ClockCalls C E
 clock_calls shows waits = record { shows = shows; waits = waits }
 
--- the clock was asked to wait until an instant, and where it did it was read
+-- a wait until an instant and, if it didn't fail, a reading of the clock; the answer is the
+-- reading, or the failure of one of them
 abbrev pub Wakes : {C E : Type 0} → (C → Result Timestamp E → C → Type 0) → (C → Timestamp → Result ⊤ E → C → Type 0) → Timestamp
     → C → Result Timestamp E → C → Type 0
 Wakes {C} shows waits t c (Ok now) c' = (mid : C) × waits c t (Ok tt) mid × shows mid (Ok now) c'
@@ -49,7 +50,7 @@ shown (Look (Ok t) ∷ es) = t ∷ shown es
 shown (Look (Err e) ∷ es) = shown es
 shown (Run r answer ∷ es) = shown es
 
--- one of these times is the fire's instant, or past it
+-- the fire's instant is at or before one of these times
 abbrev pub is_due : {A : Type 0} → (A → ℤ) → List Timestamp → A → Bool
 is_due instant [] r = false
 is_due instant (t ∷ ts) r = is_by instant t.nanosecond r || is_due instant ts r
@@ -58,7 +59,7 @@ is_due instant (t ∷ ts) r = is_by instant t.nanosecond r || is_due instant ts 
 abbrev pub due : {A E F : Type 0} → (A → ℤ) → List A → List (Event A E F) → List A
 due instant fires es = filter (is_due instant (shown es)) fires
 
--- the first one that wasn't run
+-- the first of the fires for which the job wasn't run
 abbrev pub next : {A E F : Type 0} → List A → List (Event A E F) → Option A
 next fires es = slice_get fires (length (ran es))
 

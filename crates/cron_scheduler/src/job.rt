@@ -4,13 +4,13 @@ ghost use Rattle.std.specs.Prelude.{⊤, Result};
 
 /// What is run at each fire.
 pub trait Job<F> {
-    /// Why it failed, which ends a run.
+    /// Why the job failed, which ends a run.
     type Error;
 
-    // the job may be run, now and ever after
+    // the statement that the job may be run, now and ever after
     ghost can_run: { Self → Type 0 } = { λ _. Unit {0} };
 
-    // one run: the job before it, the fire, the answer, and the job after it
+    // a run of the job: the job before it, the fire, the answer, and the job after it
     ghost runs: { Self → F → Result ⊤ Self.Error → Self → Type 0 } = { λ _ _ _ _. Unit {0} };
 
     /// Runs the job for a fire.

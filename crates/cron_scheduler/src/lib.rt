@@ -1,5 +1,6 @@
-//! Runs a job at each fire of a table, over any clock that can wait. Each fire is run once, in
-//! order, none before its instant, and none is lost, however the clock goes.
+//! Runs a job at each fire of a table, over any clock that can wait. A table is a schedule, or
+//! another set of civil seconds. Each fire is run once, in order, none before its instant, and none
+//! is lost, however the clock goes.
 //!
 //! ```text
 //! let mut clock = MachineClock(&rt);
@@ -12,7 +13,7 @@
 //! plan.run(&mut clock, &mut |fire: Moment| println!(rt; "{fire}"))?;
 //! ```
 //!
-//! A job that takes a `DueFire` in place of a `Moment` is run once for each match, also where the
+//! A job that takes a `DueFire` in place of a `Moment` is run once for each match, also when the
 //! clock changes.
 #![tactic(auto)]
 

@@ -9,15 +9,16 @@ use std::rt::Clock;
 use std::thread;
 use std::time::Duration;
 
-/// The clock of the machine that the program runs on. It wakes once a minute at least and is read
-/// again, so a clock that is set while it waits is followed.
+/// The clock of the machine that the program runs on. A wait ends after a minute at the latest. A
+/// run then reads the clock and waits again, so it follows a clock that is set meanwhile.
 #[derive_where(Clone, Copy)]
 pub struct MachineClock<'a, R>(pub &'a R);
 
 /// The longest sleep, in nanoseconds.
 const MINUTE: i128 = 60_000_000_000;
 
-// How long to sleep from now, until an instant or for a minute.
+// How long to sleep from `now`: until `instant`, but at most a minute. It is 0 if `instant` isn't
+// later.
 fn sleep_between(now: Timestamp, instant: Timestamp) -> Duration
     ensures past { instant.nanosecond ≤ℤ now.nanosecond → as_nanos result ≡ 0 }
     ensures near { now.nanosecond ≤ℤ instant.nanosecond

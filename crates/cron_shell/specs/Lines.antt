@@ -8,11 +8,12 @@ use Rattle.cron_shell.specs.Words.{AreWords, IsWord}
 use Rattle.cron_shell.specs.declared.lines.ShellJob.{ShellJob}
 use Rattle.cron_shell.specs.declared.lines.Variable.{Variable}
 
--- a name and its value
+-- `NAME=VALUE`, from a name and its value
 abbrev pub assignment : List ℕ × List ℕ → List ℕ
 assignment v = v.0 ++ 61 ∷ v.1
 
--- what is run: names with their values, the shell, the command, what it reads, and after how many seconds it is ended
+-- a job: its variables with their values, its shell, its command, its input, and after how many
+-- seconds it is ended
 pub record Work : Type 0 where
   pub variables : List (List ℕ × List ℕ)
   pub shell : List ℕ
@@ -35,7 +36,7 @@ work_of j = record {
   timeout = j.timeout;
 }
 
--- what `env` is given
+-- the words that `env` gets after `--`: the variables, the shell, `-c` and the command
 abbrev pub arguments : Work → List (List ℕ)
 arguments w = map assignment w.variables ++ w.shell ∷ codes "-c" ∷ w.command ∷ []
 
@@ -43,41 +44,43 @@ abbrev pub onto_first : ℕ → List (List ℕ) → List (List ℕ)
 onto_first c [] = (c ∷ []) ∷ []
 onto_first c (line ∷ lines) = (c ∷ line) ∷ lines
 
--- the lines of a text without their line feeds; behind the last line feed there is none
+-- the lines of a text without their line feeds; after a line feed at its end there is no empty line
 abbrev pub input_lines : List ℕ → List (List ℕ)
 input_lines [] = []
 input_lines (c ∷ cs) = if c == 10 then [] ∷ input_lines cs else onto_first c (input_lines cs)
 
 -- ---- what a shell takes the line for
 
--- the command reads these lines, which `printf` writes, or nothing
+-- the line runs the command with these lines as its input, which `printf` writes, or with no input
 abbrev pub IsFed : List (List ℕ) → List ℕ → List ℕ → Type 0
 IsFed [] command line = line ≡ command ++ codes " </dev/null"
 IsFed (first ∷ lines) command line =
     (words : List ℕ) × AreWords (first ∷ lines) words × (line ≡ codes "printf '%s\\n'" ++ (words ++ (codes " | " ++ command)))
 
--- `timeout` ends the command after so many seconds
+-- the line runs the command under `timeout`, which ends it after this number of seconds
 abbrev pub IsTimed : Option ℕ → List ℕ → List ℕ → Type 0
 IsTimed None command line = line ≡ command
 IsTimed (Some seconds) command line =
     (number : List ℕ) × IsWord (decimal seconds) number × (line ≡ codes "timeout" ++ (number ++ (codes " " ++ command)))
 
--- `flock` locks the file, as long as the command runs. Where it is locked, that is told on standard error, and the command isn't run.
+-- The line runs the command while `flock` locks the file. If the file is already locked, a message
+-- goes to standard error instead.
 abbrev pub IsAlone : Option (List ℕ) → List ℕ → List ℕ → Type 0
 IsAlone None command line = line ≡ command
 IsAlone (Some file) command line =
     (path : List ℕ) × IsWord file path
     × (line ≡ codes "if flock -n 9; then " ++ (command ++ (codes "; else printf 'crontool: passed over while its last command runs: %s\\n'" ++ (path ++ (codes " >&2; fi 9>>" ++ path)))))
 
--- The command is run in the background. Behind what the file holds the fire is put, with a line feed, and then what the command writes.
+-- The line runs the command in the background. If there is a log file, the fire with a line feed
+-- and then the command's output are appended to it.
 abbrev pub IsLogged : Option (List ℕ) → List ℕ → List ℕ → List ℕ → Type 0
 IsLogged None fire command line = line ≡ command ++ codes " &\n"
 IsLogged (Some file) fire command line =
     (told : List ℕ) × (path : List ℕ) × IsWord fire told × IsWord file path
     × (line ≡ codes "{ printf '%s\\n'" ++ (told ++ (codes "; " ++ (command ++ (codes "; } >>" ++ (path ++ codes " 2>&1 &\n"))))))
 
--- At a fire: `env` sets the variables and runs the shell with the command, timed, fed, alone by the file that is locked, and logged in the
--- file that the output is put behind.
+-- The line of a job at a fire. `env` sets the variables and runs the shell with the command. The
+-- command has its timeout, its input, its lock and its log, each if there is one.
 abbrev pub IsJobLine : Work → Option (List ℕ) → Option (List ℕ) → List ℕ → List ℕ → Type 0
 IsJobLine w lock log fire line =
     (words : List ℕ) × (timed : List ℕ) × (fed : List ℕ) × (alone : List ℕ) × AreWords (arguments w) words
@@ -86,21 +89,21 @@ IsJobLine w lock log fire line =
 
 -- ---- the line that is written
 
--- what stands in front of a command that is ended after so many seconds
+-- the words before a command that end it after this number of seconds
 abbrev pub timer : Option ℕ → List ℕ
 timer None = []
 timer (Some seconds) = codes "timeout" ++ (word (decimal seconds) ++ codes " ")
 
--- what is timed
+-- the command that is run, under its timeout
 abbrev pub timed : Work → List ℕ
 timed w = timer w.timeout ++ (codes "env --" ++ words (arguments w))
 
--- a command that reads these lines, or nothing
+-- a command with these lines as its input, or with none
 abbrev pub fed : List (List ℕ) → List ℕ → List ℕ
 fed [] command = command ++ codes " </dev/null"
 fed (first ∷ lines) command = codes "printf '%s\\n'" ++ (words (first ∷ lines) ++ (codes " | " ++ command))
 
--- what stands in front of a command that is run under a lock, and behind it
+-- the text before a command that is run under a lock; `lock_end` is the text after the command
 abbrev pub lock_front : Option (List ℕ) → List ℕ
 lock_front None = []
 lock_front (Some file) = codes "if flock -n 9; then "
@@ -110,7 +113,7 @@ lock_end None = []
 lock_end (Some file) =
     codes "; else printf 'crontool: passed over while its last command runs: %s\\n'" ++ (word file ++ (codes " >&2; fi 9>>" ++ word file))
 
--- what stands in front of a line whose output goes to a file: it writes the fire
+-- the front of a line whose output goes to a log file: it writes the fire there
 abbrev pub log_front : List ℕ → List ℕ
 log_front fire = codes "{ printf '%s\\n'" ++ (word fire ++ codes "; ")
 
@@ -123,7 +126,7 @@ abbrev pub line_end : Option (List ℕ) → List ℕ
 line_end None = codes " &\n"
 line_end (Some file) = codes "; } >>" ++ (word file ++ codes " 2>&1 &\n")
 
--- the line but for what stands in front of it
+-- the line of a job without the front that writes the fire
 abbrev pub job_tail : Work → Option (List ℕ) → Option (List ℕ) → List ℕ
 job_tail w lock log = lock_front lock ++ (fed (input_lines w.input) (timed w) ++ (lock_end lock ++ line_end log))
 

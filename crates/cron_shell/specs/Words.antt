@@ -1,7 +1,7 @@
--- What a POSIX shell takes a word for that is made of single quotes and backslashes.
+-- Which text a POSIX shell takes a word for that is made of single quotes and backslashes.
 use Rattle.std.specs.Prelude.{◌≡◌, ◌++◌, ◌==◌, ℕ, List, [], ◌∷◌, Option, Some, None, if◌then◌else◌}
 
--- where a reader stands: outside of quotes, within them, or behind a backslash outside of them
+-- where a reader of a word is: outside of quotes, within them, or after a backslash outside of them
 pub data Place : Type 0 where
   outside : Place
   within : Place
@@ -11,8 +11,9 @@ abbrev pub with_byte : ℕ → Option (List ℕ) → Option (List ℕ)
 with_byte c None = None
 with_byte c (Some text) = Some (c ∷ text)
 
--- What the rest of a word is taken for. Within quotes each byte stands for itself, up to the next quote. Outside, a quote opens, and a
--- backslash keeps the byte behind it, a line feed aside. A word with anything else, or whose quotes are open, is taken for nothing.
+-- The text that the rest of a word is taken for. Within quotes each byte is itself, up to the next
+-- quote. Outside, a quote opens, and a backslash keeps the byte after it, unless that is a line
+-- feed. `None` for a word with anything else, or with open quotes.
 abbrev pub taken_for : Place → List ℕ → Option (List ℕ)
 taken_for outside [] = Some []
 taken_for within [] = None
@@ -25,15 +26,15 @@ taken_for behind_backslash (c ∷ cs) = if c == 10 then None else with_byte c (t
 abbrev pub IsTakenFor : List ℕ → List ℕ → Type 0
 IsTakenFor text word = taken_for outside word ≡ Some text
 
--- such a word, with a blank in front
+-- a word that a shell takes for this text, with a blank in front
 abbrev pub IsWord : List ℕ → List ℕ → Type 0
 IsWord text line = (word : List ℕ) × (line ≡ 32 ∷ word) × IsTakenFor text word
 
--- such a word stands behind what was there, and behind a blank
+-- a blank and a word that a shell takes for this text were appended
 abbrev pub PushesWord : List ℕ → List ℕ → List ℕ → Type 0
 PushesWord text old new = (word : List ℕ) × (new ≡ old ++ 32 ∷ word) × IsTakenFor text word
 
--- words for these texts, each with a blank in front
+-- words that a shell takes for these texts, each with a blank in front
 abbrev pub AreWords : List (List ℕ) → List ℕ → Type 0
 AreWords [] line = line ≡ []
 AreWords (text ∷ texts) line =

@@ -1,5 +1,5 @@
 //! Lines that a POSIX shell runs in the background: a command with its variables, its shell and its
-//! input, in words that the shell takes as they are.
+//! input. They are quoted words, which the shell doesn't interpret.
 #![tactic(auto)]
 
 pub mod laws;

@@ -1,4 +1,4 @@
-//! The line of a job.
+//! The line of a job, which a POSIX shell runs in the background.
 
 ghost use Rattle.std.specs.Prelude.{◌≡◌, ◌<◌, ◌≤◌, ◌++◌, ◌∷◌, OnOk, codes, length, map};
 ghost use Rattle.cron_shell.specs.Lines.{arguments, assignment, fed, input_lines, job_tail, line_end, lock_end, lock_front, log_front, path_view, timed, timer, variable_view, work_of};
@@ -16,22 +16,23 @@ pub struct Variable<'a> {
     pub value: &'a [u8],
 }
 
-/// What a shell runs.
+/// A job: what a shell runs.
 #[derive(Clone, Copy)]
 pub struct ShellJob<'a> {
-    /// What is added to the environment; of two of one name the later one holds.
+    /// The variables that are added to the environment. If two have the same name, the later one
+    /// holds.
     pub variables: &'a [Variable<'a>],
-    /// The shell that runs the command. With a `=` it isn't found.
+    /// The shell that runs the command. A shell whose name has a `=` isn't found.
     pub shell: &'a [u8],
     /// The command.
     pub command: &'a [u8],
-    /// What the command reads, by lines. The last one may lack its line feed.
+    /// The lines that the command reads as its input. The last line may lack its line feed.
     pub input: &'a [u8],
-    /// After how many seconds the command is ended.
+    /// The number of seconds after which the command is ended. `None` for no limit.
     pub timeout: Option<u64>,
 }
 
-// Pushes `NAME=VALUE` as a word.
+// Appends `NAME=VALUE` as a word.
 fn push_variable(line: &mut Vec<u8>, variable: &Variable<'_>) -> Result<(), AllocError>
     ensures { OnOk result
         (line.new.items ≡ line.old.items
@@ -56,7 +57,7 @@ fn push_variables(line: &mut Vec<u8>, variables: &[Variable<'_>]) -> Result<(), 
     Ok(())
 }
 
-// How many bytes stand in front of the first line feed.
+// The number of bytes before the first line feed, or the length of `text` if there is none.
 fn front_len(text: &[u8]) -> usize
     ensures is { result ≡ front_len text.now }
     ensures within { result ≤ length text.now }
@@ -69,7 +70,7 @@ fn front_len(text: &[u8]) -> usize
     text.len()
 }
 
-// The first line of a text, and what stands behind its line feed.
+// Cuts `text` into its first line, without the line feed, and the rest after the line feed.
 fn cut_line(text: &[u8]) -> (&[u8], &[u8])
     requires { 0 < length text.now }
     ensures lines { input_lines text.now ≡ result.0.now ∷ input_lines result.1.now }
@@ -82,7 +83,7 @@ fn cut_line(text: &[u8]) -> (&[u8], &[u8])
     (&text[..end], &text[end + 1..])
 }
 
-// Pushes the lines of a text as words.
+// Appends each line of `text` as a word.
 fn push_lines(line: &mut Vec<u8>, text: &[u8]) -> Result<(), AllocError>
     ensures { OnOk result (line.new.items ≡ line.old.items ++ words (input_lines text.now)) }
 {
@@ -95,7 +96,7 @@ fn push_lines(line: &mut Vec<u8>, text: &[u8]) -> Result<(), AllocError>
     Ok(())
 }
 
-// Pushes what ends a command after so many seconds.
+// Appends the words that end a command after the seconds of `timeout`, or nothing if it is `None`.
 fn push_timer(line: &mut Vec<u8>, timeout: Option<u64>) -> Result<(), AllocError>
     ensures { OnOk result (line.new.items ≡ line.old.items ++ timer timeout) }
 {
@@ -108,7 +109,7 @@ fn push_timer(line: &mut Vec<u8>, timeout: Option<u64>) -> Result<(), AllocError
     Ok(())
 }
 
-// Pushes what runs the command, with its variables and its shell.
+// Appends the words that run the command with its variables and its shell.
 fn push_command(line: &mut Vec<u8>, job: &ShellJob<'_>) -> Result<(), AllocError>
     ensures { OnOk result
         (line.new.items ≡ line.old.items
@@ -122,7 +123,8 @@ fn push_command(line: &mut Vec<u8>, job: &ShellJob<'_>) -> Result<(), AllocError
     Ok(())
 }
 
-// Pushes what runs the command, and ends it after so many seconds.
+// Appends the words that run the command and end it after the seconds of `timeout`, if the job has
+// one.
 fn push_timed(line: &mut Vec<u8>, job: &ShellJob<'_>) -> Result<(), AllocError>
     ensures { OnOk result (line.new.items ≡ line.old.items ++ timed (work_of job.now)) }
 {
@@ -131,7 +133,7 @@ fn push_timed(line: &mut Vec<u8>, job: &ShellJob<'_>) -> Result<(), AllocError>
     Ok(())
 }
 
-// Pushes the command, fed with its input.
+// Appends the command, fed with its input by `printf`, or with `/dev/null` if it has no input.
 fn push_fed(line: &mut Vec<u8>, job: &ShellJob<'_>) -> Result<(), AllocError>
     ensures { OnOk result (line.new.items ≡ line.old.items
         ++ fed (input_lines job.now.input.now) (timed (work_of job.now))) }
@@ -148,7 +150,7 @@ fn push_fed(line: &mut Vec<u8>, job: &ShellJob<'_>) -> Result<(), AllocError>
     Ok(())
 }
 
-// Pushes what stands in front of a command that is run under a lock.
+// Appends the text before a command that is run under a lock, or nothing if `lock` is `None`.
 fn push_lock_front(line: &mut Vec<u8>, lock: Option<&[u8]>) -> Result<(), AllocError>
     ensures { OnOk result (line.new.items ≡ line.old.items ++ lock_front (path_view lock.entry)) }
 {
@@ -158,7 +160,7 @@ fn push_lock_front(line: &mut Vec<u8>, lock: Option<&[u8]>) -> Result<(), AllocE
     }
 }
 
-// Pushes what stands behind it.
+// Appends the text after a command that is run under a lock, or nothing if `lock` is `None`.
 fn push_lock_end(line: &mut Vec<u8>, lock: Option<&[u8]>) -> Result<(), AllocError>
     ensures { OnOk result (line.new.items ≡ line.old.items ++ lock_end (path_view lock.entry)) }
 {
@@ -174,7 +176,7 @@ fn push_lock_end(line: &mut Vec<u8>, lock: Option<&[u8]>) -> Result<(), AllocErr
     Ok(())
 }
 
-// Pushes the end of a line.
+// Appends the end of a job's line. If there is a file `log`, the output is appended to that file.
 fn push_end(line: &mut Vec<u8>, log: Option<&[u8]>) -> Result<(), AllocError>
     ensures { OnOk result (line.new.items ≡ line.old.items ++ line_end (path_view log.entry)) }
 {
@@ -187,8 +189,8 @@ fn push_end(line: &mut Vec<u8>, log: Option<&[u8]>) -> Result<(), AllocError>
     Ok(())
 }
 
-/// Pushes what writes a fire into the file that the output is put behind. The rest of the line
-/// stands behind it.
+/// Appends the front of a job's line that writes `fire` to the log, before the output. The caller
+/// appends the rest of the line with `push_line`.
 pub fn push_log_front(line: &mut Vec<u8>, fire: &[u8]) -> Result<(), AllocError>
     ensures { OnOk result (line.new.items ≡ line.old.items ++ log_front fire.now) }
 {
@@ -198,14 +200,15 @@ pub fn push_log_front(line: &mut Vec<u8>, fire: &[u8]) -> Result<(), AllocError>
     Ok(())
 }
 
-/// Pushes the line of a job, which a shell runs in the background: `env` with the variables, the
-/// shell and the command, each as one word, fed by `printf` with the input, or by nothing; ended by
-/// `timeout`. Where a file is to be locked, `flock` does so while the command runs, and it isn't
-/// run where the file is locked already. Where there is a file for the output, that is put behind
-/// it, and a [front](push_log_front) is to stand before the line. Without line feeds in the
-/// variables, the shell, the command and the files it is one line.
-/// [`lines_are_taken_as_they_are`](crate::laws::lines_are_taken_as_they_are) says what a shell
-/// takes it for.
+/// Appends the line of a job, which a shell runs in the background. It runs `env` with the
+/// variables, the shell and the command, each as one word. `printf` feeds the command its input; a
+/// command without input reads nothing. `timeout` ends the command, if the job has a timeout. If
+/// there is a file `lock`, `flock` locks it while the command runs, and the command isn't run if
+/// the file is already locked. If there is a file `log`, the output is appended to it, and the
+/// caller must put a [front](push_log_front) before the line. The line is one line if the
+/// variables, the shell, the command and the files have no line feed.
+/// [`lines_are_taken_as_they_are`](crate::laws::lines_are_taken_as_they_are) says how a shell reads
+/// it.
 pub fn push_line(
     line: &mut Vec<u8>,
     job: &ShellJob<'_>,

@@ -1,4 +1,4 @@
-//! Words in single quotes, which a shell takes as they are.
+//! Words in single quotes, which a shell doesn't interpret.
 
 ghost use Rattle.std.specs.Prelude.{◌≡◌, ◌++◌, ◌∷◌, OnOk};
 ghost use Rattle.std.specs.List.{flat_map};
@@ -7,8 +7,8 @@ ghost use Rattle.cron_shell.specs.Quoted.{escaped, quoted};
 
 use std::alloc::AllocError;
 
-// Pushes a byte as it stands within quotes. A quote ends them, comes behind a backslash, and is
-// followed by an opening one.
+// Appends `byte` as part of a quoted word. A quote is written as `'\''`: the open quote is closed,
+// an escaped quote follows, and a new quote is opened.
 fn push_byte(line: &mut Vec<u8>, byte: u8) -> Result<(), AllocError>
     ensures { OnOk result (line.new.items ≡ line.old.items ++ escaped byte) }
 {
@@ -19,7 +19,7 @@ fn push_byte(line: &mut Vec<u8>, byte: u8) -> Result<(), AllocError>
     Ok(())
 }
 
-/// Pushes bytes as they stand within quotes.
+/// Appends `text` as part of a quoted word.
 pub(crate) fn push_bytes(line: &mut Vec<u8>, text: &[u8]) -> Result<(), AllocError>
     ensures { OnOk result (line.new.items ≡ line.old.items ++ flat_map escaped text.now) }
 {
@@ -29,8 +29,8 @@ pub(crate) fn push_bytes(line: &mut Vec<u8>, text: &[u8]) -> Result<(), AllocErr
     Ok(())
 }
 
-/// Pushes a text as a word of a shell, with a blank in front. Any byte may stand in it; a shell
-/// reads no NUL.
+/// Appends `text` as a word of a shell, with a blank before it. `text` may have any byte, but a
+/// shell reads no NUL.
 pub fn push_word(line: &mut Vec<u8>, text: &[u8]) -> Result<(), AllocError>
     ensures word { OnOk result (PushesWord text.now line.old.items line.new.items) }
     ensures quoted { OnOk result (line.new.items ≡ line.old.items ++ 32 ∷ quoted text.now) }

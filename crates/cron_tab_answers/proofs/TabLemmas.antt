@@ -7,8 +7,8 @@ use Rattle.std.proofs.lemmas.Str.{IsUtf8-from_is_utf8, is_utf8-from_IsUtf8, utf8
 use Rattle.hex.specs.Hex.{encode_lower}
 use Rattle.json.specs.Token.{Token, key, string}
 use Rattle.cron_agenda.specs.Entries.{Listed}
-use Rattle.cron_tab_listing.specs.declared.listing.TabFire.{TabFire}
-use Rattle.cron_tab_listing.specs.declared.tab_entry.TabEntry.{TabEntry}
+use Rattle.cron_tab_agenda.specs.declared.listing.TabFire.{TabFire}
+use Rattle.cron_tab_agenda.specs.declared.tab_entry.TabEntry.{TabEntry}
 use Rattle.cron_tab_answers.specs.Inner.TabRows.{list_end}
 use Rattle.cron_replies.specs.Statuses.{Ends, is_write_failure}
 use Rattle.cron_tab_answers.specs.TabRows.{AreRows, ListEndsAs, StopsBy, Wanted, is_failed, shown_row, text_members}

@@ -1,5 +1,5 @@
-//! A check of a crontab's lines: which are refused and why, and what of the others may not be
-//! meant.
+//! A check of a crontab's lines: which are refused and why, and what in the others is probably a
+//! mistake.
 
 ghost use Rattle.std.specs.Prelude.{◌≡◌, ◌&&◌, ◌++◌, IfOk, OnErr, OnOk, false, take};
 ghost use Rattle.std.specs.Str.Lossy.{utf8_valid_len};
@@ -28,17 +28,18 @@ use cron_writer::watchable::Watchable;
 use cron_writer::watched::Watched;
 use std::alloc::{AllocError, Global};
 
-/// What is wanted of a check, and of which crontab.
+/// What a check reports, and the kind of crontab.
 #[derive(Clone, Copy)]
 pub struct Wanted<'a> {
-    /// Whose crontab it is.
+    /// Whether the crontab is a user's or the system's, whose entries name a user.
     pub kind: Crontab,
-    /// What stands in front of each line's number, as the file's name and a colon; or nothing.
+    /// The text in front of each line's number, such as the file's name and a colon. It may be
+    /// empty.
     pub front: &'a str,
-    /// Whether warnings are told too.
+    /// Whether warnings are written too.
     pub warn: bool,
-    /// Whether a last line that no line feed ends is refused, as it may be half written. Else a note
-    /// tells of it.
+    /// Whether a last line without a line feed is refused, since it may be half written. If not, a
+    /// note is written for it.
     pub needs_feed: bool,
     /// How control characters of the file are written.
     pub controls: Controls,
@@ -46,7 +47,7 @@ pub struct Wanted<'a> {
     pub names: &'a [NamedZone<'a>],
 }
 
-// Tells that a line names no zone, where it doesn't, and answers whether it is so.
+// Appends that the `CRON_TZ` of a line names no zone, if so. Returns true in that case.
 fn tell_zone(
     wanted: &Wanted<'_>,
     line: &FileLine<'_>,
@@ -69,7 +70,7 @@ fn tell_zone(
     Ok(refused)
 }
 
-// Tells why a line is refused, and answers whether it is.
+// Appends why a line is refused, if it is. Returns true in that case.
 fn tell_refusal(
     wanted: &Wanted<'_>,
     line: &FileLine<'_>,
@@ -91,8 +92,7 @@ fn tell_refusal(
     }
 }
 
-// Tells that no line feed ends the last line, where none does, and answers whether the line is
-// refused for it.
+// Appends that no line feed ends the last line, if so. Returns true if the line is refused for it.
 fn tell_unended(
     wanted: &Wanted<'_>,
     line: &FileLine<'_>,
@@ -117,7 +117,7 @@ fn tell_unended(
     Ok(wanted.needs_feed)
 }
 
-// Tells which warnings are due of an expression, by a text that begins with it.
+// Appends the warnings that apply to an expression. The text `fields` begins with it.
 fn tell_warnings(
     wanted: &Wanted<'_>,
     number: usize,
@@ -138,7 +138,8 @@ fn tell_warnings(
     Ok(())
 }
 
-// Tells whether a warning is told of a line. That no line feed ends it is told apart.
+// Whether a warning on a line itself is written. A missing line feed is reported by `tell_unended`
+// instead.
 fn is_told(warning: LineWarning, line: &FileLine<'_>) -> bool
     ensures { result ≡ is_told warning (file_line_view line.now) }
 {
@@ -148,7 +149,7 @@ fn is_told(warning: LineWarning, line: &FileLine<'_>) -> bool
     }
 }
 
-// Tells which warnings are due of a line itself.
+// Appends the warnings that apply to a line itself.
 fn tell_line_warnings(front: &str, line: &FileLine<'_>, text: &mut String) -> Result<(), AllocError>
     ensures { OnOk result (AppendsTold (TellsOfLine front.now (file_line_view line.now))
         (string_bytes text.old) (string_bytes text.new)) }
@@ -162,7 +163,7 @@ fn tell_line_warnings(front: &str, line: &FileLine<'_>, text: &mut String) -> Re
     Ok(())
 }
 
-// Tells which warnings are due of the expression of a line's entry.
+// Appends the warnings that apply to the expression of a line's entry, if the line is an entry.
 fn tell_entry_warnings(
     wanted: &Wanted<'_>,
     line: &FileLine<'_>,
@@ -184,7 +185,7 @@ fn tell_entry_warnings(
     Ok(())
 }
 
-// Tells which warnings are due of a line, where they are wanted.
+// Appends the warnings that apply to a line, if warnings are wanted.
 fn tell_if_wanted(
     wanted: &Wanted<'_>,
     line: &FileLine<'_>,
@@ -202,7 +203,7 @@ fn tell_if_wanted(
     Ok(())
 }
 
-// Makes the text that tells of a line, and answers whether the line is refused.
+// Replaces `text` by the report on a line. Returns true if the line is refused.
 fn tell_line(
     wanted: &Wanted<'_>,
     line: &FileLine<'_>,
@@ -220,7 +221,8 @@ fn tell_line(
     Ok(refused || unended)
 }
 
-// Gathers what is told of a line. Out of memory nothing is.
+// Gathers `text`, the report on a line, with control characters as `controls` says. If memory runs
+// out, nothing of it is gathered.
 fn put_told<W: Watchable>(
     alloc: Global,
     controls: Controls,
@@ -242,7 +244,7 @@ fn put_told<W: Watchable>(
     Ok(())
 }
 
-// Tells of lines one after another, until a write fails, and answers whether one was refused.
+// Reports on one line after another, until a write fails. Returns true if a line was refused.
 fn tell_lines<W: Watchable>(
     alloc: Global,
     wanted: &Wanted<'_>,
@@ -266,7 +268,8 @@ fn tell_lines<W: Watchable>(
     Ok(refused)
 }
 
-// How a check ends where no write fails.
+// The status of a check if no write fails. `told` is whether a line was refused, or that memory ran
+// out.
 fn end_of(told: Result<bool, AllocError>) -> Status
     ensures { result ≡ end_of told }
 {
@@ -277,11 +280,11 @@ fn end_of(told: Result<bool, AllocError>) -> Status
     }
 }
 
-/// Checks the lines of a crontab's file, and writes which are refused and why, in their order, that
-/// no line feed ends the last one, and their warnings where these are wanted. It answers `No` where
-/// some line is refused, and `Unreadable` where memory runs out for what is told of a line: the
-/// lines before it are told then. The report is handed on many lines at a time, and the rest of it
-/// at the end, before the flush. No call of the writer may have failed before.
+/// Checks the lines of a crontab's file. In the order of the lines it writes which are refused and
+/// why, whether the last one lacks a line feed, and the warnings if these are wanted. The status is
+/// `No` if a line is refused. It is `Unreadable` if memory runs out for the report on a line: the
+/// lines before it are reported then. The report is handed to the writer many lines at a time, and
+/// its rest at the end, before the flush. No call of the writer may have failed before.
 pub fn check<W: Watchable>(
     alloc: Global,
     wanted: &Wanted<'_>,

@@ -4,12 +4,12 @@ use cron_agenda::ZoneMissing;
 use std::error::Error;
 use std::fmt;
 
-/// Why a list ends before all that was asked for is listed.
+/// Why a list ends before all requested fires are listed.
 #[derive(Clone, Copy, Debug, PartialEq, Eq)]
 pub enum ListFault {
-    /// The zone of the entry that comes first isn't lent.
+    /// The zone of the entry that fires next isn't among the zones.
     Zone(ZoneMissing),
-    /// No source stands at the place of the entry that comes first.
+    /// The entry that fires next has no source, which is its file and its command.
     Source,
     /// Memory ran out.
     OutOfMemory,

@@ -1,5 +1,5 @@
-//! What `crontool` does with crontabs, over any writer: checks of their lines, and the fires of their
-//! entries as rows.
+//! What `crontool` does with crontabs, over any writer. It checks their lines, and lists the fires
+//! of their entries as rows.
 #![tactic(auto)]
 
 pub mod check;

@@ -1,40 +1,41 @@
-//! The entries of crontabs, added to an agenda with where each stands.
+//! The entries of crontabs, added to an agenda, which knows when each fires next. Each entry has a
+//! source: its file, user, command and input.
 
 ghost use Rattle.std.specs.Prelude.{◌≡◌, IfErr, OnOk, Some, map};
 ghost use Rattle.jiff.specs.Words.{plain_zone};
 ghost use Rattle.cron_tab_lines.specs.Files.{file_lines};
 ghost use Rattle.cron_tab_lines.specs.Views.{bytes_view, file_line_view};
-ghost use Rattle.cron_tab_listing.specs.Adding.{start_of};
+ghost use Rattle.cron_tab_agenda.specs.Adding.{start_of};
 ghost use Rattle.cron_tab_answers.specs.TabFiles.{FailsAt, IsNotLoaded, LoadsIn, LoadsLine, LoadsLines, agenda_view, given, nothing};
 
 use crate::tab_row::Source;
 use cron_agenda::{AddError, Agenda};
+use cron_tab_agenda::{Clock, TabEntry, TabFile, add_line};
 use cron_tab_lines::{FileLine, Line, Lines, NamedZone, zone_below};
-use cron_tab_listing::{Clock, TabEntry, TabFile, add_line};
 use jiff::Timestamp;
 use jiff::tz::TimeZone;
 use std::alloc::Global;
 
-/// Entries of crontabs, with where each stands.
+/// Entries of crontabs in an agenda, each with its source: its file, user, command and input.
 #[derive(Drop)]
 pub struct TabAgenda<'a> {
     pub agenda: Agenda<TabEntry>,
-    /// Each at the place of its entry's id.
+    /// The source of each entry. Its index is the entry's id.
     pub sources: Vec<Source<'a>>,
 }
 
-/// How entries fire, and from when on.
+/// How entries fire, and after which instant.
 #[derive(Clone, Copy)]
 pub struct Firing<'a> {
     pub clock: Clock,
-    /// They fire after it.
+    /// Entries fire after this instant.
     pub start: Timestamp,
     /// The zones that `CRON_TZ` may name.
     pub names: &'a [NamedZone<'a>],
 }
 
 impl<'a> TabAgenda<'a> {
-    /// No entries.
+    /// Returns an agenda without entries.
     pub fn new(alloc: Global) -> TabAgenda<'a>
         ensures { agenda_view result ≡ nothing }
     {
@@ -45,7 +46,7 @@ impl<'a> TabAgenda<'a> {
     }
 }
 
-// Adds the entry of a line, with its source.
+// Adds the entry of a line with its source, if the line is an entry that fires again.
 fn load_line<'a>(
     tabs: &mut TabAgenda<'a>,
     file: Option<&'a str>,
@@ -87,7 +88,8 @@ fn load_line<'a>(
     }
 }
 
-// Adds the entry of a line in the zone with this number. Without a zone it is left out.
+// Adds the entry of a line in the zone with number `here`. If `here` is `None`, the entry is left
+// out.
 fn load_in<'a>(
     tabs: &mut TabAgenda<'a>,
     file: Option<&'a str>,
@@ -108,10 +110,10 @@ fn load_in<'a>(
     }
 }
 
-/// Adds the entries of a crontab: their fires in the first of the zones, or below a line that sets
-/// `CRON_TZ` in the one that it names. Where that is none of the names, the entries below it are
-/// left out. Lines that are refused are passed over, and entries that never fire again. An error
-/// leaves the entries of the lines before it.
+/// Adds the entries of a crontab. They fire in the first of `zones`. After a line that sets
+/// `CRON_TZ`, they fire in the zone that it names. If that is none of the names, the entries after
+/// the line are left out. Refused lines are skipped, and so are entries that never fire again.
+/// After an error the entries of the earlier lines remain.
 pub fn load_file<'a>(
     tabs: &mut TabAgenda<'a>,
     file: &TabFile<'a>,

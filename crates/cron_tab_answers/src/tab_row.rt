@@ -1,4 +1,4 @@
-//! What is written of a fire of a crontab's entry: cells with tabs between, or an object of JSON.
+//! The row of a fire of a crontab's entry: cells with tabs between them, or an object of JSON.
 
 ghost use Rattle.std.specs.Prelude.{◌≡◌, ◌++◌, ◌∷◌, [], IfOk, OnOk, string_bytes};
 ghost use Rattle.std.specs.Str.Lossy.{utf8_lossy};
@@ -11,25 +11,25 @@ ghost use Rattle.cron_tab_answers.specs.TabRows.{file_cell, file_member, fire_me
 use cron_agenda::EntryFire;
 use cron_controls::{Controls, shown_as};
 use cron_replies::form::Form;
-use cron_tab_listing::{TabFire, fire_second, fire_text};
+use cron_tab_agenda::{TabFire, fire_second, fire_text};
 use itoa::Buffer;
 use json::Writer;
 use std::alloc::{AllocError, Global};
 
-/// Where an entry stands, and what it runs.
+/// The file of an entry, and what the entry runs.
 #[derive(Clone, Copy)]
 pub struct Source<'a> {
-    /// Its file, where several are listed.
+    /// The name of the entry's file, if several files are listed.
     pub file: Option<&'a str>,
-    /// In system crontabs the user.
+    /// The user, in a system crontab.
     pub user: Option<&'a [u8]>,
-    /// The command as it stands in the line, up to a bare percent sign.
+    /// The command as the line has it, up to an unescaped percent sign.
     pub command: &'a [u8],
-    /// What stands after that sign: the command's input.
+    /// The command's input, which follows the percent sign.
     pub input: Option<&'a [u8]>,
 }
 
-// Appends bytes and a byte behind them.
+// Appends bytes and then the byte `end`.
 fn push_cell(row: &mut Vec<u8>, bytes: &[u8], end: u8) -> Result<(), AllocError>
     ensures { OnOk result (row.new.items ≡ row.old.items ++ (bytes.now ++ end ∷ [])) }
 {
@@ -38,7 +38,7 @@ fn push_cell(row: &mut Vec<u8>, bytes: &[u8], end: u8) -> Result<(), AllocError>
     Ok(())
 }
 
-// Appends the file and a colon, where it is told.
+// Appends the file and a colon, if there is a file.
 fn push_file(row: &mut Vec<u8>, file: Option<&str>) -> Result<(), AllocError>
     ensures { OnOk result (row.new.items ≡ row.old.items ++ file_cell file.entry) }
 {
@@ -48,7 +48,7 @@ fn push_file(row: &mut Vec<u8>, file: Option<&str>) -> Result<(), AllocError>
     }
 }
 
-// Appends the user and a tab, where there is one.
+// Appends the user and a tab, if there is a user.
 fn push_user(row: &mut Vec<u8>, user: Option<&[u8]>) -> Result<(), AllocError>
     ensures { OnOk result (row.new.items ≡ row.old.items ++ user_cell user.entry) }
 {
@@ -58,7 +58,7 @@ fn push_user(row: &mut Vec<u8>, user: Option<&[u8]>) -> Result<(), AllocError>
     }
 }
 
-// Appends the command, with a percent sign and the input where there is one, and a line feed.
+// Appends the command, then a percent sign and the input if there is one, and a line feed.
 fn push_task(row: &mut Vec<u8>, source: &Source<'_>) -> Result<(), AllocError>
     ensures { OnOk result (row.new.items ≡ row.old.items ++ (task_cell source.now ++ 10 ∷ [])) }
 {
@@ -71,7 +71,7 @@ fn push_task(row: &mut Vec<u8>, source: &Source<'_>) -> Result<(), AllocError>
     }
 }
 
-// Makes the row of a fire in cells.
+// Makes the row of a fire as cells with tabs between them, in the empty vector `row`.
 fn make_text_row(
     source: &Source<'_>,
     fire: &TabFire,
@@ -94,7 +94,8 @@ fn fire_string(alloc: Global, fire: &EntryFire) -> Result<String, AllocError>
     format!(in alloc; "{fire}")
 }
 
-// Writes the members that tell when it fires, and in which line it stands.
+// Writes the members with the fire, its instant in seconds since 1970, and the number of the
+// entry's line.
 fn write_fire(alloc: Global, object: &mut Writer, fire: &TabFire) -> Result<(), AllocError>
     ensures { OnOk result (Writes (fire_members fire.now) object.old object.new) }
 {
@@ -106,7 +107,7 @@ fn write_fire(alloc: Global, object: &mut Writer, fire: &TabFire) -> Result<(), 
     object.u64(fire.line as u64)
 }
 
-// Writes the member of the file, where it is told.
+// Writes the member with the file, if there is a file.
 fn write_file(object: &mut Writer, file: Option<&str>) -> Result<(), AllocError>
     ensures { OnOk result (Writes (file_member file.entry) object.old object.new) }
 {
@@ -119,7 +120,8 @@ fn write_file(object: &mut Writer, file: Option<&str>) -> Result<(), AllocError>
     }
 }
 
-// Writes bytes that are no text as one, and then in hexadecimal.
+// Writes bytes that are no UTF-8: as a text with U+FFFD in place of what is invalid, and then in
+// hexadecimal.
 fn write_lossy(
     alloc: Global,
     object: &mut Writer,
@@ -137,7 +139,7 @@ fn write_lossy(
     object.string(digits.as_str())
 }
 
-// Writes bytes as a text, and where they are none also in hexadecimal.
+// Writes bytes as a text, and also in hexadecimal if they are no UTF-8.
 fn write_bytes(
     alloc: Global,
     object: &mut Writer,
@@ -155,7 +157,7 @@ fn write_bytes(
     }
 }
 
-// Writes the members of the user, where there is one.
+// Writes the members with the user, if there is a user.
 fn write_user(alloc: Global, object: &mut Writer, user: Option<&[u8]>) -> Result<(), AllocError>
     ensures { OnOk result (Writes (user_members user.entry) object.old object.new) }
 {
@@ -165,7 +167,7 @@ fn write_user(alloc: Global, object: &mut Writer, user: Option<&[u8]>) -> Result
     }
 }
 
-// Writes the members of the input, where there is one.
+// Writes the members with the input, if there is input.
 fn write_input(alloc: Global, object: &mut Writer, input: Option<&[u8]>) -> Result<(), AllocError>
     ensures { OnOk result (Writes (input_members input.entry) object.old object.new) }
 {
@@ -175,7 +177,7 @@ fn write_input(alloc: Global, object: &mut Writer, input: Option<&[u8]>) -> Resu
     }
 }
 
-// Makes the row of a fire as an object.
+// Makes the row of a fire as an object of JSON, in the empty vector `row`.
 fn make_json_row(
     alloc: Global,
     source: &Source<'_>,
@@ -206,7 +208,7 @@ pub struct Style {
     pub controls: Controls,
 }
 
-/// Makes the row of a fire, in place of another.
+/// Makes the row of a fire. It replaces the contents of `row`, whose memory is used again.
 pub(crate) fn make_row(
     alloc: Global,
     style: Style,

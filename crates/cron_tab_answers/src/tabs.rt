@@ -12,7 +12,7 @@ use crate::tab_row::{Source, Style, make_row};
 use cron_agenda::Agenda;
 use cron_checking::output::put;
 use cron_replies::status::{Status, finish};
-use cron_tab_listing::{TabEntry, next_fire};
+use cron_tab_agenda::{TabEntry, next_fire};
 use cron_writer::gathered::Gathered;
 use cron_writer::watchable::Watchable;
 use cron_writer::watched::Watched;
@@ -20,7 +20,8 @@ use jiff::Timestamp;
 use jiff::tz::TimeZone;
 use std::alloc::Global;
 
-// Gathers the rows of the fires that are due by an instant, at most so many, until a write fails.
+// Gathers the rows of the fires up to and including `until`, at most `limit` of them, until a write
+// fails.
 fn gather_tabs<W: Watchable>(
     alloc: Global,
     style: Style,
@@ -60,7 +61,7 @@ fn gather_tabs<W: Watchable>(
     Ok(())
 }
 
-// How a list ends: a write that failed comes before a fault.
+// How a list ends. If a write failed, that is `status`, which takes precedence over a fault.
 fn list_end(answer: Result<(), ListFault>, status: Status) -> Result<Status, ListFault>
     ensures { result ≡ list_end answer status }
 {
@@ -70,10 +71,10 @@ fn list_end(answer: Result<(), ListFault>, status: Status) -> Result<Status, Lis
     }
 }
 
-/// Writes a row for each fire of an agenda's entries up to and with an instant, at most so many,
-/// and flushes: by instant, of one instant in the order in which the entries were added. Each
-/// entry's source stands at the place of its id. Where it ends by a fault, the rows before are
-/// written. No call of the writer may have failed before.
+/// Writes a row for each fire of an agenda's entries up to and including `until`, at most `limit`
+/// rows, and flushes. Fires are ordered by instant. Those of one instant are in the order of adding
+/// their entries. The index of an entry's source is the entry's id. If the list ends by a fault,
+/// the rows before it are written. No call of the writer may have failed before.
 pub fn list<W: Watchable>(
     alloc: Global,
     style: Style,

@@ -14,7 +14,7 @@ use Rattle.cron_tab_fires.specs.declared.error.FiresError.TheVariants.{OutOfMemo
 use Rattle.cron_tab_fires.proofs.AscendLemmas.{all_ascend-append, entries_ascend}
 use Rattle.cron_tab_lines.specs.Files.{file_lines}
 use Rattle.cron_tab_lines.specs.Views.{bytes_view}
-use Rattle.cron_tab_listing.specs.declared.tab_file.TabFile.{TabFile}
+use Rattle.cron_tab_agenda.specs.declared.tab_file.TabFile.{TabFile}
 use Rattle.cron_tab_collisions.specs.Collisions.{IsFilesError, TellsAll, TellsPair, TellsWith, entries_of}
 use Rattle.cron_tab_collisions.specs.Inner.Telling.{Adds}
 use Rattle.cron_tab_collisions.specs.Rows.{later, row}

@@ -6,16 +6,17 @@ use Rattle.cron_agenda.specs.declared.fire.EntryFire.{EntryFire}
 use Rattle.cron_tab_fires.specs.Entries.{TabFires}
 use Rattle.cron_agenda.specs.Messages.{fire_text}
 
--- the later of two fires, and the first of them where they share an instant
+-- the later of two fires, or the first one if they share an instant
 abbrev pub later : EntryFire → EntryFire → EntryFire
 later f g = if int_lt (instant f) (instant g) then g else f
 
--- the file and a colon, where it is told
+-- a file's name and a colon, or nothing if no name is given
 abbrev pub file_cell : Option (List ℕ) → List ℕ
 file_cell None = []
 file_cell (Some file) = file ++ 58 ∷ []
 
--- where both stand, a fire and a number, with tabs between, and a line feed
+-- the row of two entries: the file and the line of each, a fire and a number, with tabs between,
+-- and a line feed
 abbrev pub row : TabFires → TabFires → EntryFire → ℕ → List ℕ
 row a b fire number =
     file_cell a.file ++ (decimal a.line ++ 9 ∷ (file_cell b.file ++ (decimal b.line ++ 9 ∷ (fire_text fire ++ 9 ∷ (decimal number ++ 10 ∷ [])))))

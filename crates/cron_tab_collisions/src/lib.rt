@@ -1,4 +1,5 @@
-//! Entries of crontabs that collide, where each of their fires lasts as long, written as rows.
+//! Rows for the entries of crontabs that collide, where all their fires last equally long. Two
+//! fires collide if each begins before the other ends.
 #![tactic(auto)]
 
 mod pairs;

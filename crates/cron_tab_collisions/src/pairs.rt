@@ -1,4 +1,5 @@
-//! What is told of entries, two by two.
+//! The rows of all pairs of entries that collide: a fire of one begins before a fire of the other
+//! ends, and the other way round. Each fire lasts `length` seconds.
 ghost use Rattle.std.specs.Prelude.{◌≡◌, IfOk, OnOk, map};
 ghost use Rattle.cron_agenda.specs.Fires.{instant};
 ghost use Rattle.cron_collisions.specs.Collisions.{Ascends};
@@ -10,11 +11,11 @@ ghost use Rattle.cron_tab_collisions.specs.Inner.Telling.{Adds};
 use crate::rows::{later, push_row};
 use cron_agenda::EntryFire;
 use cron_collisions::collisions_of;
+use cron_tab_agenda::fire_second;
 use cron_tab_fires::TabFires;
-use cron_tab_listing::fire_second;
 use std::alloc::{AllocError, Global};
 
-// The instants of fires, in seconds.
+// The instants of fires, in seconds since 1970-01-01T00:00:00Z.
 fn seconds_of(alloc: Global, fires: &[EntryFire]) -> Result<Vec<i64>, AllocError>
     ensures { IfOk result (λ seconds. seconds.items ≡ map instant fires.now) }
 {
@@ -25,7 +26,7 @@ fn seconds_of(alloc: Global, fires: &[EntryFire]) -> Result<Vec<i64>, AllocError
     Ok(seconds)
 }
 
-// Tells of two entries, where they collide.
+// Appends the row of two entries, if they collide where each fire lasts `length` seconds.
 fn tell_pair(
     alloc: Global,
     length: u64,
@@ -48,7 +49,8 @@ fn tell_pair(
     Ok(())
 }
 
-// Tells of an entry and each of others.
+// Appends a row for each of `others` that collides with `first`, where each fire lasts `length`
+// seconds.
 fn tell_with(
     alloc: Global,
     length: u64,
@@ -67,7 +69,7 @@ fn tell_with(
     Ok(())
 }
 
-/// Tells of each entry with those behind it.
+/// Appends a row for each pair of entries that collide, where each fire lasts `length` seconds.
 pub(crate) fn tell_all(
     alloc: Global,
     length: u64,

@@ -9,15 +9,15 @@ ghost use Rattle.cron_writer.specs.Watching.{has_failed};
 use crate::pairs::tell_all;
 use cron_replies::sending::send_bytes;
 use cron_replies::status::Status;
+use cron_tab_agenda::TabFile;
 use cron_tab_fires::{Asked, FiresError, TabFires, add_fires};
 use cron_tab_lines::Lines;
-use cron_tab_listing::TabFile;
 use cron_writer::watchable::Watchable;
 use cron_writer::watched::Watched;
 use jiff::tz::TimeZone;
 use std::alloc::Global;
 
-// The entries of crontabs, each with its fires.
+// The entries of crontabs, one file after another, each with the fires that `asked` wants.
 fn entries_of<'a>(
     alloc: Global,
     files: &[TabFile<'a>],
@@ -37,7 +37,7 @@ fn entries_of<'a>(
     Ok(entries)
 }
 
-// The rows of those that collide.
+// The rows of the pairs of entries that collide, where each fire lasts `minutes` minutes.
 fn report_of(
     alloc: Global,
     minutes: u32,
@@ -59,7 +59,7 @@ fn report_of(
     }
 }
 
-// How it ends: whether a row is told.
+// The status: `Done` if there is a row, else `No`.
 fn found_status(report: &[u8]) -> Status
     ensures status { result ≡ found_status report.now }
     ensures done { is_write_failure result ≡ false }
@@ -71,10 +71,10 @@ fn found_status(report: &[u8]) -> Status
     }
 }
 
-/// Writes a row for each two entries of crontabs that collide, where each fire lasts so many
-/// minutes: where both stand, their first collision and the number of collisions. The status is
-/// `Done`, or no two collide, and it is `No`. An error writes nothing. No call of the writer may
-/// have failed before.
+/// Writes a row for each pair of entries of crontabs that collide, where each fire lasts `minutes`
+/// minutes. The row has the lines of both entries, their first collision and the number of
+/// collisions. The status is `Done`, `No` if no entries collide, or `WriteFailed` if a write or the
+/// flush fails. On an error nothing is written. No call of the writer may have failed before.
 pub fn tell_collisions<W: Watchable>(
     alloc: Global,
     minutes: u32,

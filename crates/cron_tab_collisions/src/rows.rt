@@ -1,16 +1,17 @@
-//! The row of two entries that collide.
+//! The row of two entries that collide: where they are, their first collision, and how many there
+//! are.
 ghost use Rattle.std.specs.Prelude.{◌≡◌, ◌++◌, ◌∷◌, [], OnOk};
 ghost use Rattle.cron_tab_lines.specs.Views.{bytes_view};
 ghost use Rattle.cron_tab_fires.specs.Entries.{view};
 ghost use Rattle.cron_tab_collisions.specs.Rows.{file_cell, later, row};
 
 use cron_agenda::EntryFire;
+use cron_tab_agenda::{fire_second, fire_text};
 use cron_tab_fires::TabFires;
-use cron_tab_listing::{fire_second, fire_text};
 use itoa::Buffer;
 use std::alloc::AllocError;
 
-/// The later of two fires, and the first of them where they share an instant.
+/// The later of two fires, or `first` if they share an instant.
 pub(crate) fn later(first: EntryFire, second: EntryFire) -> EntryFire
     ensures { result ≡ later first second }
 {
@@ -21,7 +22,7 @@ pub(crate) fn later(first: EntryFire, second: EntryFire) -> EntryFire
     }
 }
 
-// Appends bytes and a byte behind them.
+// Appends bytes and then the byte `end`.
 fn push_cell(report: &mut Vec<u8>, bytes: &[u8], end: u8) -> Result<(), AllocError>
     ensures { OnOk result (report.new.items ≡ report.old.items ++ (bytes.now ++ end ∷ [])) }
 {
@@ -30,7 +31,7 @@ fn push_cell(report: &mut Vec<u8>, bytes: &[u8], end: u8) -> Result<(), AllocErr
     Ok(())
 }
 
-// Appends the file and a colon, where it is told.
+// Appends the file's name and a colon, or nothing if no name is given.
 fn push_file(report: &mut Vec<u8>, file: Option<&str>) -> Result<(), AllocError>
     ensures { OnOk result (report.new.items
         ≡ report.old.items ++ file_cell (bytes_view file.entry)) }
@@ -41,7 +42,8 @@ fn push_file(report: &mut Vec<u8>, file: Option<&str>) -> Result<(), AllocError>
     }
 }
 
-/// Appends the row of two entries, with their first collision and the number of all.
+/// Appends the row of two entries. `fire` is the later of the two fires that collide first, and
+/// `pairs` is the number of pairs of fires that collide.
 pub(crate) fn push_row(
     report: &mut Vec<u8>,
     first: &TabFires<'_>,

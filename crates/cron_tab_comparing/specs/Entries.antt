@@ -1,4 +1,4 @@
--- The entries of a crontab, as they stand in its file.
+-- The entries of a crontab, as its file has them.
 use Rattle.std.specs.Prelude.{◌++◌, ℕ, List, [], ◌∷◌, Option, Result, Ok}
 use Rattle.std.specs.Borrow.{Bor}
 use Rattle.std.specs.Option.{option_map}
@@ -11,8 +11,8 @@ use Rattle.cron_tab_lines.specs.Refusals.{Refusal}
 use Rattle.cron_tab_lines.specs.Views.{bytes_view}
 use Rattle.cron_tab_comparing.specs.declared.entries.Known.{Known}
 
--- an entry: the number of its line; the line; what `CRON_TZ` is set to there, or nothing; what it runs; and its schedules, none where no
--- clock fires it
+-- An entry: the number of its line, the line, the value of the last `CRON_TZ` before it, or
+-- nothing, and what it runs. Its schedules are none if no clock fires it.
 pub record Entry : Type 0 where
   pub line : ℕ
   pub text : List ℕ
@@ -36,7 +36,7 @@ view k = record {
 abbrev pub other_view : Option (Bor Known) → Option Entry
 other_view k = option_map (λ b. view b.now) k
 
--- an expression's schedules; none where no clock fires it
+-- the schedules of an expression; none for `@reboot`, which no clock fires
 abbrev pub schedules_of : crontab.Meaning → List Sets
 schedules_of (crontab.schedules ss) = ss
 schedules_of crontab.reboot = []
@@ -52,12 +52,12 @@ entry_of here l e = record {
   schedules = schedules_of e.meaning;
 }
 
--- that of a line, if it is one
+-- the entry of a line, if it is one; `here` is the value of the last `CRON_TZ` before it
 abbrev pub entry_in : List ℕ → FileLine → Result Meaning Refusal → List Entry
 entry_in here l (Ok (entry e)) = entry_of here l e ∷ []
 entry_in here l _ = []
 
--- what `CRON_TZ` is set to below a line
+-- the value of the last `CRON_TZ` up to and including a line; `above` is its value before the line
 abbrev pub zone_below : List ℕ → Result Meaning Refusal → List ℕ
 zone_below above (Ok (zone value)) = value
 zone_below above _ = above

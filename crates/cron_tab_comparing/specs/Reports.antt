@@ -8,17 +8,17 @@ use Rattle.cron_replies.specs.declared.status.Status.TheVariants.{Done, No, Unre
 use Rattle.cron_tab_comparing.specs.Changes.{TellsAll}
 use Rattle.cron_tab_comparing.specs.Entries.{Entry}
 
--- there is no row, or there is one
+-- the status of a report: `Done` without a row, and else `No`
 abbrev pub changed_status : List ℕ → Status
 changed_status [] = Done
 changed_status (c ∷ cs) = No
 
--- the rows were written, with control characters as they are wanted
+-- the rows of what differs were written, with control characters as `controls` wants them
 pub record AreTold (controls : Controls) (es fs : List Entry) (was is : Option (List ℕ)) (status : Status) : Type 0 where
   pub report : List ℕ
   pub tells : TellsAll es fs report
   pub ends : Ends (changed_status report) (shown_by controls report) was is status
 
--- What differs was written; or nothing was, since memory ran out.
+-- The rows of what differs were written; or nothing was, since memory ran out.
 abbrev pub TellsChanges : {W : Type 0} → Controls → List Entry → List Entry → Reporting W → W → Status → W → Type 0
 TellsChanges controls es fs out old status new = out (AreTold controls es fs) old status new ⊎ ((status ≡ Unreadable) × (new ≡ old))

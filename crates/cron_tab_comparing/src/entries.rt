@@ -1,4 +1,5 @@
-//! The entries of a crontab, as they stand in its file.
+//! The entries of a crontab, as its file has them: each with its line, and with the zone that is
+//! set before it.
 ghost use Rattle.std.specs.Prelude.{◌≡◌, ◌++◌, [], IfOk, OnOk, map};
 ghost use Rattle.cron_crontab.specs.Views.{expression_view};
 ghost use Rattle.cron_tab_lines.specs.Files.{without_feed};
@@ -13,16 +14,16 @@ use std::alloc::{AllocError, Global};
 /// An entry of a crontab.
 #[derive(Drop)]
 pub(crate) struct Known<'a> {
-    /// The number of its line, from 1 on.
+    /// The number of the entry's line, from 1 on.
     pub(crate) line: usize,
-    /// Its line, without the line feed.
+    /// The entry's line, without the line feed.
     pub(crate) text: &'a [u8],
-    /// What the last `CRON_TZ` above it is set to, or nothing.
+    /// The value of the last `CRON_TZ` before the entry's line. It is empty if there is none.
     pub(crate) zone: &'a [u8],
     pub(crate) user: Option<&'a [u8]>,
     pub(crate) command: &'a [u8],
     pub(crate) input: Option<&'a [u8]>,
-    /// None where no clock fires it.
+    /// The entry's schedules: none if it is `@reboot`.
     pub(crate) schedules: Vec<ScheduleFields>,
 }
 
@@ -35,7 +36,7 @@ fn without_feed(bytes: &[u8]) -> &[u8]
     }
 }
 
-// The schedules of an expression.
+// The schedules of an expression: none for `@reboot`.
 fn schedules_of(alloc: Global, expression: &Expression) -> Result<Vec<ScheduleFields>, AllocError>
     ensures { IfOk result (λ schedules. schedules.items
         ≡ schedules_of (expression_view expression.now)) }
@@ -47,7 +48,8 @@ fn schedules_of(alloc: Global, expression: &Expression) -> Result<Vec<ScheduleFi
     Ok(schedules)
 }
 
-// Puts the entry of a line behind others, if it is one.
+// Appends the entry of a line, if the line is an entry. `zone` is the value of the last `CRON_TZ`
+// before it.
 fn push_line<'a>(
     alloc: Global,
     entries: &mut Vec<Known<'a>>,
@@ -73,7 +75,7 @@ fn push_line<'a>(
     Ok(())
 }
 
-// What `CRON_TZ` is set to below a line.
+// The value of the last `CRON_TZ` up to and including a line. `above` is its value before the line.
 fn zone_below<'a>(above: &'a [u8], line: &FileLine<'a>) -> &'a [u8]
     ensures { result.now ≡ zone_below above.now (file_line_view line.now).outcome }
 {
@@ -83,7 +85,7 @@ fn zone_below<'a>(above: &'a [u8], line: &FileLine<'a>) -> &'a [u8]
     }
 }
 
-/// The entries of lines.
+/// The entries of `lines`, in their order.
 pub(crate) fn entries_of<'a>(alloc: Global, lines: Lines<'a>) -> Result<Vec<Known<'a>>, AllocError>
     ensures { IfOk result (λ entries. map view entries.items ≡ entries_in [] lines.entry) }
 {

@@ -1,4 +1,5 @@
-//! Which entry of the one crontab is which of the other.
+//! How the entries of two crontabs correspond: both run the same, and the same number of such
+//! entries precede them.
 ghost use Rattle.std.specs.Prelude.{◌≡◌, map};
 ghost use Rattle.std.specs.List.{count_by};
 ghost use Rattle.cron_tab_lines.specs.Views.{bytes_view};
@@ -8,7 +9,7 @@ ghost use Rattle.cron_tab_comparing.specs.Keys.{are_alike, are_one_kind, other_o
 use crate::entries::Known;
 use cron_units::fields::ScheduleFields;
 
-// Whether both have the same bytes, or neither has any.
+// Returns true if both are the same bytes, or both are `None`.
 fn are_alike(first: Option<&[u8]>, second: Option<&[u8]>) -> bool
     ensures { result ≡ are_alike (bytes_view first.entry) (bytes_view second.entry) }
 {
@@ -19,14 +20,16 @@ fn are_alike(first: Option<&[u8]>, second: Option<&[u8]>) -> bool
     }
 }
 
-// Whether a clock fires both, or neither.
+// Returns true if a clock fires both entries, or neither of them. An entry without schedules is
+// `@reboot`.
 fn are_one_kind(first: &[ScheduleFields], second: &[ScheduleFields]) -> bool
     ensures { result ≡ are_one_kind first.now second.now }
 {
     first.is_empty() == second.is_empty()
 }
 
-// Whether two entries run the same.
+// Returns true if two entries run the same: command, user, input and zone are equal, and a clock
+// fires both or neither.
 fn same(first: &Known<'_>, second: &Known<'_>) -> bool
     ensures { result ≡ same (view first.now) (view second.now) }
 {
@@ -37,7 +40,7 @@ fn same(first: &Known<'_>, second: &Known<'_>) -> bool
         && are_one_kind(first.schedules.as_slice(), second.schedules.as_slice())
 }
 
-// How many of some entries run the same as one.
+// The number of `entries` that run the same as `one`.
 fn count_same(one: &Known<'_>, entries: &[Known<'_>]) -> usize
     ensures { result ≡ count_by (same (view one.now)) (map view entries.now) }
 {
@@ -50,7 +53,9 @@ fn count_same(one: &Known<'_>, entries: &[Known<'_>]) -> usize
     count
 }
 
-/// Of the other crontab's entries the one that is an entry, which stands behind these.
+/// The entry of the other crontab that corresponds to `one`. The entries `before` precede `one` in
+/// its crontab. If `n` of these run the same as `one`, the result is entry `n`, counted from 0, of
+/// the `others` that run the same as `one`. `None` if there is none.
 pub(crate) fn other_of<'a, 'b>(
     others: &'a [Known<'b>],
     before: &[Known<'_>],

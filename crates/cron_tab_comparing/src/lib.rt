@@ -1,4 +1,4 @@
-//! What differs between two crontabs: which entries went, which came, and which match other
+//! What differs between two crontabs: which entries are gone, which are new, and which match other
 //! civil seconds.
 #![tactic(auto)]
 

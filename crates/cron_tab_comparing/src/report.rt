@@ -17,7 +17,7 @@ use cron_writer::watchable::Watchable;
 use cron_writer::watched::Watched;
 use std::alloc::{AllocError, Global};
 
-// The rows of what differs.
+// The rows of all differences between the crontabs `old` and `new`, which are both of this kind.
 fn report_of(alloc: Global, kind: Crontab, old: &[u8], new: &[u8]) -> Result<Vec<u8>, AllocError>
     ensures { IfOk result (λ report. TellsAll (entries_in [] (file_lines kind old.now))
         (entries_in [] (file_lines kind new.now)) report.items) }
@@ -30,7 +30,7 @@ fn report_of(alloc: Global, kind: Crontab, old: &[u8], new: &[u8]) -> Result<Vec
     Ok(report)
 }
 
-// How it ends: whether a row is told.
+// The status: `Done` if there is no row, else `No`.
 fn changed_status(report: &[u8]) -> Status
     ensures status { result ≡ changed_status report.now }
     ensures done { is_write_failure result ≡ false }
@@ -42,11 +42,11 @@ fn changed_status(report: &[u8]) -> Status
     }
 }
 
-/// Writes a row for each entry of the first crontab that went or matches other civil seconds, and
-/// then for each of the second that came. An entry of the one is the entry of the other that runs the same: of
-/// those that do, each is that at the same place among them. The status is `Done` where there is no
-/// row, else `No`. It is `Unreadable` where memory runs out; nothing is written then. No call of
-/// the writer may have failed before.
+/// Writes a row for each entry of the crontab `old` that is gone or matches other civil seconds,
+/// and then for each entry of `new` that is new. Entries that run the same correspond to each
+/// other: the first to the first, the second to the second, and so on. The status is `Done` if
+/// there is no row, else `No`. It is `WriteFailed` if a write or the flush fails, and `Unreadable`
+/// if memory runs out: nothing is written then. No call of the writer may have failed before.
 pub fn tell_changes<W: Watchable>(
     alloc: Global,
     controls: Controls,

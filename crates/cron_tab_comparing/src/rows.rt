@@ -1,4 +1,5 @@
-//! The rows that are told of entries.
+//! The rows of a report on entries: `- 12`, a tab and the line; `~ 12 14`, a tab and a civil
+//! second.
 ghost use Rattle.std.specs.Prelude.{◌≡◌, ◌++◌, ◌∷◌, [], OnOk};
 ghost use Rattle.cron_tab_comparing.specs.Entries.{view};
 ghost use Rattle.cron_tab_comparing.specs.Rows.{difference_row, entry_row};
@@ -8,7 +9,7 @@ use cron_moments::civil::civil_of;
 use itoa::Buffer;
 use std::alloc::{AllocError, Global};
 
-// Appends bytes and a byte behind them.
+// Appends bytes and then the byte `end`.
 fn push_cell(report: &mut Vec<u8>, bytes: &[u8], end: u8) -> Result<(), AllocError>
     ensures { OnOk result (report.new.items ≡ report.old.items ++ (bytes.now ++ end ∷ [])) }
 {
@@ -17,7 +18,8 @@ fn push_cell(report: &mut Vec<u8>, bytes: &[u8], end: u8) -> Result<(), AllocErr
     Ok(())
 }
 
-/// Appends the row of an entry that went, or of one that came, behind a sign.
+/// Appends the row of an entry that is gone or new. It begins with `sign`: `-` if it is gone, `+`
+/// if it is new.
 pub(crate) fn push_entry(
     report: &mut Vec<u8>,
     sign: u8,
@@ -32,7 +34,8 @@ pub(crate) fn push_entry(
     push_cell(report, entry.text, b'\n')
 }
 
-/// Appends the row of two entries, of which the one alone matches a civil second.
+/// Appends the row of two corresponding entries. Only one of them matches the civil second
+/// `second`, which counts from 1970-01-01 00:00:00.
 pub(crate) fn push_difference(
     alloc: Global,
     report: &mut Vec<u8>,

@@ -1,4 +1,4 @@
-//! What is told of the entries of two crontabs.
+//! The report on the entries of two crontabs.
 ghost use Rattle.std.specs.Prelude.{◌≡◌, ◌++◌, [], OnOk, map};
 ghost use Rattle.cron_tab_comparing.specs.Changes.{TellsDifference, TellsOfOld, TellsOld, new_row, new_rows};
 ghost use Rattle.cron_tab_comparing.specs.Entries.{other_view, view};
@@ -10,7 +10,8 @@ use crate::rows::{push_difference, push_entry};
 use cron_comparing::difference::first_difference;
 use std::alloc::{AllocError, Global};
 
-// Tells of two entries that run the same, where they match other civil seconds.
+// Appends the row of two corresponding entries with the first civil second that only one of them
+// matches, or nothing if there is none.
 fn tell_difference(
     alloc: Global,
     one: &Known<'_>,
@@ -26,7 +27,8 @@ fn tell_difference(
     }
 }
 
-// Tells of an entry of the first crontab, with the second one's that it is.
+// Appends the row of an entry of the first crontab, if it is gone or matches other civil seconds.
+// `other` is the corresponding entry of the second, or `None` if it is gone.
 fn tell_of_old(
     alloc: Global,
     one: &Known<'_>,
@@ -42,7 +44,8 @@ fn tell_of_old(
     }
 }
 
-/// Tells of the first crontab's entries, with the second one's.
+/// Appends a row for each of the first crontab's `entries` that is gone or matches other civil
+/// seconds. `others` are the second crontab's entries.
 pub(crate) fn tell_old(
     alloc: Global,
     entries: &[Known<'_>],
@@ -60,7 +63,8 @@ pub(crate) fn tell_old(
     Ok(())
 }
 
-// Tells of an entry of the second crontab, where it is none of the first.
+// Appends the row of an entry of the second crontab, if it is new. `other` is the corresponding
+// entry of the first, or `None` if it is new.
 fn tell_of_new(
     one: &Known<'_>,
     other: Option<&Known<'_>>,
@@ -75,7 +79,8 @@ fn tell_of_new(
     }
 }
 
-/// Tells of the second crontab's entries that are none of the first's.
+/// Appends a row for each of the second crontab's `entries` that is new. `others` are the first
+/// crontab's entries.
 pub(crate) fn tell_new(
     entries: &[Known<'_>],
     others: &[Known<'_>],

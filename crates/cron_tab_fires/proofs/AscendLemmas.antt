@@ -5,12 +5,12 @@ use Rattle.std.proofs.lemmas.Int.{ints}
 use Rattle.jiff_tz.specs.declared.timezone.TimeZone.{TimeZone}
 use Rattle.cron_units.specs.Sets.{Sets}
 use Rattle.cron_collisions.specs.Collisions.{Ascends}
-use Rattle.cron_instants.specs.Fires.{is_by}
+use Rattle.cron_time.specs.Seconds.{Seconds}
+use Rattle.cron_instants.specs.Fires.{fires_after, is_by}
 use Rattle.cron_instants.specs.Order.{comes_before}
 use Rattle.cron_instants.proofs.OrderLemmas.{before-true}
-use Rattle.cron_dues.specs.Dues.{is_due_by}
-use Rattle.cron_unions.specs.Unions.{fires_any_after}
-use Rattle.cron_unions.specs.UnionDues.{dues_any_after}
+use Rattle.cron_dues.specs.Dues.{dues_after, is_due_by}
+use Rattle.cron_unions.specs.Unions.{any_of}
 use Rattle.cron_fires.specs.declared.changes.ClockChanges.{ClockChanges}
 use Rattle.cron_fires.specs.declared.changes.ClockChanges.TheVariants as rule
 use Rattle.cron_agenda.specs.Fires.{civil_second, instant}
@@ -20,7 +20,7 @@ use Rattle.cron_agenda.specs.declared.fire.EntryFire.TheVariants.{AsShown, Once}
 use Rattle.cron_agenda.proofs.FireLemmas.{fires_ascend}
 use Rattle.cron_tab_lines.specs.Files.{FileLine}
 use Rattle.cron_tab_lines.specs.Zones.{zone_below}
-use Rattle.cron_tab_listing.specs.Tabs.{schedules_in}
+use Rattle.cron_tab_agenda.specs.Tabs.{schedules_in}
 use Rattle.cron_tab_fires.specs.Entries.{Given, TabFires, entries_in, entry_if, entry_in}
 use Rattle.cron_tab_fires.specs.Fires.{fires_between}
 use Rattle.cron_tab_fires.specs.Laws.{AllAscend}
@@ -71,9 +71,9 @@ passing_ascend {A} f p (x ∷ xs) up = by_test (p x) (from_passing f p (f x) xs 
     by_test true least rest = λ i j d le short. cons_at (instant (f x)) (map instant (map f (filter p xs))) i j d least rest le short
     by_test false least rest = rest
 
-pub fires_between-ascend : (ss : List Sets) (z : TimeZone) (changes : ClockChanges) (t u : ℤ) → Ascends (map instant (fires_between ss z changes t u))
-fires_between-ascend ss z rule.AsShown t u = passing_ascend AsShown (is_by u) (fires_any_after ss z t) (fires_ascend.after ss z rule.AsShown t)
-fires_between-ascend ss z rule.Once t u = passing_ascend Once (is_due_by u) (dues_any_after ss z t) (fires_ascend.after ss z rule.Once t)
+pub fires_between-ascend : (s : Seconds) (z : TimeZone) (changes : ClockChanges) (t u : ℤ) → Ascends (map instant (fires_between s z changes t u))
+fires_between-ascend s z rule.AsShown t u = passing_ascend AsShown (is_by u) (fires_after s z t) (fires_ascend.after s z rule.AsShown t)
+fires_between-ascend s z rule.Once t u = passing_ascend Once (is_due_by u) (dues_after s z t) (fires_ascend.after s z rule.Once t)
 
 -- ---- of all entries
 
@@ -84,7 +84,7 @@ all_ascend-append (e ∷ a) b one other = (one.0, all_ascend-append a b one.1 ot
 if_ascends : (g : Given) (file : Option (List ℕ)) (line : FileLine) (ss : Option (List Sets)) (z : Option TimeZone) → AllAscend (entry_if g file line ss z)
 if_ascends g file line None z = tt
 if_ascends g file line (Some ss) None = tt
-if_ascends g file line (Some ss) (Some z) = (fires_between-ascend ss z _ g.t g.u, tt)
+if_ascends g file line (Some ss) (Some z) = (fires_between-ascend (any_of ss) z _ g.t g.u, tt)
 
 in_ascends : (g : Given) (file : Option (List ℕ)) (line : FileLine) (here : Option ℕ) → AllAscend (entry_in g file line here)
 in_ascends g file line None = tt

@@ -11,22 +11,23 @@ abbrev pub fires_error_text : FiresError → List ℕ
 fires_error_text (NoZone line) = codes "line " ++ (decimal line ++ codes ": its zone is not lent")
 fires_error_text OutOfMemory = codes "out of memory"
 
--- a line has this number, and its zone isn't lent
+-- the line has this number, and the zone of its entry isn't among the zones
 abbrev pub LacksZone : Given → Option ℕ → FileLine → ℕ → Type 0
 LacksZone g None line number = ⊥
 LacksZone g (Some zone) line number = (number ≡ line.number) × (slice_get g.zones zone ≡ None)
 
--- so it is at one of some lines, each in the zone of the last `CRON_TZ` above it
+-- one of the lines, each in the zone of the last `CRON_TZ` above it, has this number, and its zone
+-- isn't among the zones
 abbrev pub LacksZones : Given → Option ℕ → List FileLine → ℕ → Type 0
 LacksZones g here [] number = ⊥
 LacksZones g here (line ∷ lines) number = LacksZone g here line number ⊎ LacksZones g (zone_below g.names here line.outcome) lines number
 
--- why the entry of a line can't be put behind others, in the zone with this number
+-- why the entry of a line can't be appended, in the zone with the number `here`
 abbrev pub IsLineError : Given → Option ℕ → FileLine → FiresError → Type 0
 IsLineError g here line (NoZone number) = LacksZone g here line number
 IsLineError g here line OutOfMemory = ⊤
 
--- why those of lines can't be
+-- why the entries of lines can't be appended
 abbrev pub IsFiresError : Given → Option ℕ → List FileLine → FiresError → Type 0
 IsFiresError g here lines (NoZone number) = LacksZones g here lines number
 IsFiresError g here lines OutOfMemory = ⊤

@@ -1,4 +1,4 @@
-//! The entries of crontabs with their fires.
+//! The entries of crontabs with their fires between two instants.
 ghost use Rattle.std.specs.Prelude.{◌≡◌, ◌++◌, IfErr, OnOk, Some, map};
 ghost use Rattle.jiff.specs.Words.{plain_zone};
 ghost use Rattle.cron_tab_lines.specs.Views.{bytes_view, file_line_view};
@@ -9,8 +9,8 @@ use crate::error::FiresError;
 use crate::fires::fires_between;
 use cron_agenda::EntryFire;
 use cron_crontab::Expression;
+use cron_tab_agenda::{Clock, changes_of};
 use cron_tab_lines::{FileLine, Line, Lines, NamedZone, zone_below};
-use cron_tab_listing::{Clock, changes_of};
 use jiff::Timestamp;
 use jiff::tz::TimeZone;
 use std::alloc::Global;
@@ -18,28 +18,29 @@ use std::alloc::Global;
 /// An entry of a crontab, with its fires.
 #[derive(Drop)]
 pub struct TabFires<'a> {
-    /// Its file, where several are read.
+    /// The name of the entry's file, if several files are read.
     pub file: Option<&'a str>,
-    /// The number of its line, from 1 on.
+    /// The number of the entry's line in its file, from 1 on.
     pub line: usize,
-    /// By instant.
+    /// The entry's fires, ordered by instant.
     pub fires: Vec<EntryFire>,
 }
 
-/// Which fires of entries are wanted.
+/// Which fires of entries are listed: those after `start` and at or before `end`.
 #[derive(Clone, Copy)]
 pub struct Asked<'a> {
-    /// By which rule they fire.
+    /// The rule of entries when the clock changes.
     pub clock: Clock,
-    /// They fire after it.
+    /// The instant after which the listed fires come.
     pub start: Timestamp,
-    /// They fire up to and with it.
+    /// The last instant of the listed fires; a fire at it is listed.
     pub end: Timestamp,
     /// The zones that `CRON_TZ` may name.
     pub names: &'a [NamedZone<'a>],
 }
 
-// Puts the entry of a line, in the zone with this number, behind others.
+// Appends the entry of `line` in `zones[number]` to `entries`. Nothing if the line is no entry, or
+// one that no clock fires.
 fn push_entry<'a>(
     alloc: Global,
     entries: &mut Vec<TabFires<'a>>,
@@ -77,7 +78,8 @@ fn push_entry<'a>(
     Ok(())
 }
 
-// Puts the entry of a line behind others. Without a zone it is left out.
+// Appends the entry of `line` to `entries`, in the zone with the number `here`. If `here` is
+// `None`, the entry has no zone and is left out.
 fn push_line<'a>(
     alloc: Global,
     entries: &mut Vec<TabFires<'a>>,
@@ -99,10 +101,10 @@ fn push_line<'a>(
     }
 }
 
-/// Puts the entries of a file's lines behind others, each with its fires in the first of the zones,
-/// or below a line that sets `CRON_TZ` in the one that it names. Where that is none of the names,
-/// the entries below it are left out, as are lines that are refused and entries that no clock
-/// fires. An error leaves the entries of the lines before it.
+/// Appends the entries of a file's lines to `entries`, each with its fires. An entry fires in
+/// `zones[0]`, or, after a line that sets `CRON_TZ`, in the zone that it names. If that isn't in
+/// `asked.names`, the entries after it are left out. Refused lines and entries that no clock fires
+/// are left out too. On an error the entries of the lines before it stay.
 pub fn add_fires<'a>(
     alloc: Global,
     entries: &mut Vec<TabFires<'a>>,

@@ -6,7 +6,8 @@ use std::fmt;
 /// Why the fires of entries can't be listed.
 #[derive(Clone, Copy, Debug, PartialEq, Eq)]
 pub enum FiresError {
-    /// The zone of the entry in the line with this number isn't lent.
+    /// The entry in the line with this number fires in a zone that isn't among the zones of the
+    /// call.
     NoZone(usize),
     /// Memory ran out.
     OutOfMemory,

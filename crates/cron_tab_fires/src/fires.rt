@@ -1,6 +1,7 @@
-//! The fires of schedules between two instants, by either rule at clock changes.
+//! The fires of several schedules as one between two instants, by either rule at clock changes.
 ghost use Rattle.std.specs.Prelude.{◌≡◌, IfOk, map};
 ghost use Rattle.jiff.specs.Words.{plain_zone};
+ghost use Rattle.cron_unions.specs.Unions.{any_of};
 ghost use Rattle.cron_tab_fires.specs.Fires.{dues_between, fires_between, shown_between};
 
 use cron_agenda::EntryFire;
@@ -10,7 +11,8 @@ use jiff::Timestamp;
 use jiff::tz::TimeZone;
 use std::alloc::{AllocError, Global};
 
-// Each time that the clock shows a match.
+// The fires of the schedules after `start` and at or before `end`, one for each time that the clock
+// shows a match.
 fn shown_between(
     alloc: Global,
     schedules: &[ScheduleFields],
@@ -19,7 +21,7 @@ fn shown_between(
     zone: &TimeZone<'_>,
 ) -> Result<Vec<EntryFire>, AllocError>
     ensures { IfOk result (λ fires. fires.items
-        ≡ shown_between schedules.now (plain_zone zone.now) start.nanosecond end.nanosecond) }
+        ≡ shown_between (any_of schedules.now) (plain_zone zone.now) start.nanosecond end.nanosecond) }
 {
     let mut fires = Vec::new(alloc);
     let table = Union { schedules };
@@ -29,7 +31,8 @@ fn shown_between(
     Ok(fires)
 }
 
-// Each match once.
+// The due fires of the schedules after `start` and at or before `end`: one for each match, also if
+// the clock skips it or shows it twice.
 fn dues_between(
     alloc: Global,
     schedules: &[ScheduleFields],
@@ -38,7 +41,7 @@ fn dues_between(
     zone: &TimeZone<'_>,
 ) -> Result<Vec<EntryFire>, AllocError>
     ensures { IfOk result (λ fires. fires.items
-        ≡ dues_between schedules.now (plain_zone zone.now) start.nanosecond end.nanosecond) }
+        ≡ dues_between (any_of schedules.now) (plain_zone zone.now) start.nanosecond end.nanosecond) }
 {
     let mut fires = Vec::new(alloc);
     let table = Union { schedules };
@@ -48,7 +51,8 @@ fn dues_between(
     Ok(fires)
 }
 
-/// The fires of several schedules as one after an instant, up to and with another, by a rule.
+/// The fires of several schedules as one after `start` and at or before `end`, by the rule
+/// `changes`.
 pub(crate) fn fires_between(
     alloc: Global,
     schedules: &[ScheduleFields],
@@ -58,7 +62,7 @@ pub(crate) fn fires_between(
     zone: &TimeZone<'_>,
 ) -> Result<Vec<EntryFire>, AllocError>
     ensures { IfOk result (λ fires. fires.items ≡ fires_between
-        schedules.now (plain_zone zone.now) changes start.nanosecond end.nanosecond) }
+        (any_of schedules.now) (plain_zone zone.now) changes start.nanosecond end.nanosecond) }
 {
     match changes {
         ClockChanges::AsShown => shown_between(alloc, schedules, start, end, zone),

@@ -5,12 +5,12 @@ use Rattle.cron_tab_lines.specs.Lines.{Meaning, outcome_of}
 use Rattle.cron_tab_lines.specs.Refusals.{Refusal, byte_order_mark}
 use Rattle.cron_tab_lines.specs.declared.kinds.Crontab.{Crontab}
 
--- a byte in front of the first line
+-- the lines with one more byte in front of the first one
 abbrev pub with_byte : ℕ → List (List ℕ) → List (List ℕ)
 with_byte c [] = (c ∷ []) ∷ []
 with_byte c (line ∷ lines) = (c ∷ line) ∷ lines
 
--- a file cut behind each line feed
+-- the lines of a file, which is cut after each line feed
 abbrev pub lines_of : List ℕ → List (List ℕ)
 lines_of [] = []
 lines_of (c ∷ cs) = if c == 10 then (c ∷ []) ∷ lines_of cs else with_byte c (lines_of cs)
@@ -18,7 +18,7 @@ lines_of (c ∷ cs) = if c == 10 then (c ∷ []) ∷ lines_of cs else with_byte 
 abbrev pub without_feed : List ℕ → List ℕ
 without_feed bytes = if slice_index bytes (length bytes - 1) == 10 then take (length bytes - 1) bytes else bytes
 
--- U+FEFF
+-- the bytes begin with a byte order mark, U+FEFF
 abbrev pub has_mark : List ℕ → Bool
 has_mark bytes = starts_with nat_eq bytes (239 ∷ 187 ∷ 191 ∷ [])
 
@@ -28,7 +28,7 @@ pub record FileLine : Type 0 where
   pub bytes : List ℕ
   pub outcome : Result Meaning Refusal
 
--- A byte order mark at the front of the file is refused.
+-- What the line with this number is. A byte order mark at the front of the file is refused.
 abbrev pub numbered_outcome : Crontab → ℕ → List ℕ → Result Meaning Refusal
 numbered_outcome kind number bytes = if number == 1 && has_mark bytes then Err byte_order_mark else outcome_of kind (without_feed bytes)
 
@@ -40,6 +40,6 @@ numbered kind number (bytes ∷ more) =
 abbrev pub file_lines : Crontab → List ℕ → List FileLine
 file_lines kind file = numbered kind 1 (lines_of file)
 
--- the lines one behind another
+-- the bytes of all lines, joined
 abbrev pub written_out : List FileLine → List ℕ
 written_out lines = flat_map (λ line. line.bytes) lines

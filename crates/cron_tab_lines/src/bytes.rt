@@ -12,13 +12,13 @@ pub(crate) enum Class {
     Blank,
     /// All but space and tab.
     Word,
-    /// What C's `isspace` is true of.
+    /// White space as in C's `isspace`: a space, and the bytes 9 to 13.
     White,
     /// All but white space and `=`.
     Name,
-    /// All but the quotation mark and `=`.
+    /// All but this quotation mark and `=`.
     QuotedName(u8),
-    /// All but the quotation mark.
+    /// All but this quotation mark.
     Quoted(u8),
 }
 
@@ -61,7 +61,7 @@ impl Class {
     }
 }
 
-/// How many bytes at the front are of a class.
+/// The number of bytes at the front of `text` that are in `class`.
 fn run_len(text: &[u8], class: Class) -> usize
     ensures is { result ≡ prefix_len (in_class class) text.now }
     ensures within { result ≤ length text.now }
@@ -74,7 +74,7 @@ fn run_len(text: &[u8], class: Class) -> usize
     text.len()
 }
 
-/// The bytes of a class at the front, and what stands behind them.
+/// Cuts `text` into the bytes of `class` at its front and the rest.
 pub(crate) fn cut(text: &[u8], class: Class) -> (&[u8], &[u8])
     ensures front { result.0.now ≡ take_while (in_class class) text.now }
     ensures behind { result.1.now ≡ behind (in_class class) text.now }
@@ -83,7 +83,7 @@ pub(crate) fn cut(text: &[u8], class: Class) -> (&[u8], &[u8])
     (&text[..end], &text[end..])
 }
 
-/// What stands behind the bytes of a class at the front.
+/// The rest of `text` after the bytes of `class` at its front.
 pub(crate) fn behind(text: &[u8], class: Class) -> &[u8]
     ensures is { result.now ≡ behind (in_class class) text.now }
     ensures shorter { length result.now ≤ length text.now }

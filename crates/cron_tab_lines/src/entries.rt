@@ -1,4 +1,5 @@
-//! Entries: fields, in system crontabs a user, a command, and perhaps its input.
+//! Entries: five fields or a nickname, a user (only in system crontabs), a command, and perhaps its
+//! input.
 
 ghost use Rattle.std.specs.Prelude.{◌≡◌, ◌≤◌, ◌==◌, Ok, Err, MatchResult, length};
 ghost use Rattle.std.specs.List.{list_all};
@@ -14,7 +15,7 @@ use crate::refusals::Refusal;
 use cron_crontab::{Expression, read};
 use std::str;
 
-/// The text without the carriage return at its end.
+/// Returns `text` without the carriage return at its end, if it has one.
 fn without_return(text: &[u8]) -> &[u8]
     ensures is { result.now ≡ without_return text.now }
     ensures shorter { length result.now ≤ length text.now }
@@ -25,7 +26,8 @@ fn without_return(text: &[u8]) -> &[u8]
     }
 }
 
-/// A nickname is one word, fields are five.
+/// The number of words that say when an entry fires: 1 for a nickname, which begins with `@`, else
+/// 5.
 fn field_count(text: &[u8]) -> usize
     ensures { result ≡ field_count text.now }
 {
@@ -35,7 +37,7 @@ fn field_count(text: &[u8]) -> usize
     }
 }
 
-/// What stands behind some words, and behind the blanks that follow each.
+/// The rest of `text` after `count` words and the blanks that follow each of them.
 fn behind_words(text: &[u8], count: usize) -> &[u8]
     ensures is { result.now ≡ behind_words count text.now }
     ensures shorter { length result.now ≤ length text.now }
@@ -76,7 +78,8 @@ fn read_fields(fields: &[u8]) -> Result<Expression, Refusal<'_>>
     }
 }
 
-/// The command and its input. `task` lacks the carriage return that `whole` may have at its end.
+/// Makes the entry of `expression` and `user`. Its command and its input are read from `whole`.
+/// `task` is `whole` without the carriage return that may be at its end.
 fn read_task<'a>(
     expression: Expression,
     user: Option<&'a [u8]>,
@@ -105,7 +108,8 @@ fn read_task<'a>(
     })
 }
 
-/// What stands behind the fields.
+/// Reads the part of an entry after its fields. `text` is the whole entry, and `core` is `text`
+/// without a carriage return at its end. `rest` is the part of `core` after the fields.
 fn read_behind<'a>(
     kind: Crontab,
     expression: Expression,
@@ -147,7 +151,7 @@ fn begins_with_star(text: &[u8]) -> bool
     }
 }
 
-/// Reads an entry.
+/// Reads a line without its leading spaces and tabs as an entry, or returns why it is refused.
 pub(crate) fn read_entry(kind: Crontab, text: &[u8]) -> Result<Entry<'_>, Refusal<'_>>
     ensures { MatchResult result
         (λ e. entry_of kind text.now ≡ Ok (entry_view e))

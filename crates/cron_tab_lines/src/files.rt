@@ -13,16 +13,16 @@ use std::marker::Model;
 /// A line of a file.
 #[derive(Drop)]
 pub struct FileLine<'a> {
-    /// The first line's is 1.
+    /// The line's number. The first line has number 1.
     pub number: usize,
-    /// Its bytes, with the line feed. The last line may have none.
+    /// The line's bytes, with the line feed. The last line may have no line feed.
     pub bytes: &'a [u8],
-    /// What it is, or why it is refused.
+    /// What the line is, or why it is refused.
     pub read: Result<Line<'a>, Refusal<'a>>,
 }
 
-/// The lines of a file, one after another, the refused ones too. It takes no memory. Contracts see
-/// the list of the lines that are left.
+/// An iterator over the lines of a file, with the refused ones. It allocates no memory. In
+/// contracts it is the list of the lines that are left.
 #[derive(Drop)]
 pub struct Lines<'a> {
     kind: Crontab,
@@ -54,7 +54,7 @@ fn line_len(text: &[u8]) -> usize
     text.len()
 }
 
-/// The first line, and what stands behind it.
+/// Cuts `text` into its first line, with the line feed, and the rest.
 fn cut_line(text: &[u8]) -> (&[u8], &[u8])
     requires { 0 < length text.now }
     ensures lines { lines_of text.now ≡ result.0.now ∷ lines_of result.1.now }
@@ -73,7 +73,7 @@ fn without_feed(bytes: &[u8]) -> &[u8]
     }
 }
 
-/// Reads a line, of which the first may have a byte order mark.
+/// Reads the line `number` of a file. A byte order mark at the front of line 1 is refused.
 fn read_numbered<'a>(kind: Crontab, number: usize, bytes: &'a [u8]) -> Result<Line<'a>, Refusal<'a>>
     ensures { outcome_view result ≡ numbered_outcome kind number bytes.now }
 {
@@ -84,7 +84,7 @@ fn read_numbered<'a>(kind: Crontab, number: usize, bytes: &'a [u8]) -> Result<Li
 }
 
 impl<'a> Lines<'a> {
-    /// The lines of a file. Written out again they are the file.
+    /// The lines of `file`, a crontab of `kind`. The bytes of all lines, joined, are `file`.
     pub fn of(kind: Crontab, file: &'a [u8]) -> Lines<'a>
         ensures lines { result ≡ file_lines kind file.now }
         ensures whole { written_out result ≡ file.now }

@@ -11,35 +11,36 @@ pub enum Crontab {
     System,
 }
 
-/// A name, and the value that it has for the entries below.
+/// A setting: a name, and the value that it has for the entries below.
 #[derive(Clone, Copy, Debug, PartialEq, Eq)]
 pub struct Setting<'a> {
     pub name: &'a [u8],
     pub value: &'a [u8],
 }
 
-/// When a command runs, for whom, and what it is.
+/// An entry: when a command runs, the user that it runs as, and the command.
 #[derive(Drop)]
 pub struct Entry<'a> {
     pub expression: Expression,
-    /// Only entries of system crontabs have one.
+    /// The user. Only entries of system crontabs have one.
     pub user: Option<&'a [u8]>,
-    /// The bytes in front of the first bare percent sign, as they stand in the line.
+    /// The bytes before the first percent sign that no backslash escapes, unchanged from the line.
     pub command: &'a [u8],
-    /// The bytes behind that sign, as they stand in the line.
+    /// The bytes after the percent sign that ends the command, unchanged from the line. `None` if
+    /// no percent sign does.
     pub input: Option<&'a [u8]>,
 }
 
 /// What a line is.
 #[derive(Drop)]
 pub enum Line<'a> {
-    /// Spaces and tabs alone, or nothing.
+    /// Only spaces and tabs, or nothing.
     Blank,
-    /// It begins with `#`, behind spaces and tabs.
+    /// A comment: `#` is the first byte after any spaces and tabs.
     Comment,
-    /// A setting of another name than `CRON_TZ`.
+    /// A setting whose name isn't `CRON_TZ`.
     Setting(Setting<'a>),
-    /// The value of `CRON_TZ`. Whether it names a zone isn't looked at.
+    /// The value of `CRON_TZ`. It isn't checked here whether it names a zone.
     Zone(&'a [u8]),
     Entry(Entry<'a>),
 }

@@ -1,5 +1,5 @@
-//! Crontabs: what a line is (blank, a comment, a setting, an entry), why another is refused, and
-//! the lines of a file.
+//! The lines of crontabs: what a line is (blank, a comment, a setting, an entry), why a line is
+//! refused, and the lines of a file.
 #![tactic(auto)]
 
 mod bytes;

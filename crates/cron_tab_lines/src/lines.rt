@@ -1,4 +1,4 @@
-//! What a line is.
+//! Reads one line: blank, a comment, a setting, the value of `CRON_TZ`, or an entry.
 
 ghost use Rattle.std.specs.Prelude.{◌≡◌, ◌==◌, Ok, Err, MatchResult};
 ghost use Rattle.std.specs.List.{list_any};
@@ -29,7 +29,7 @@ fn without_last(line: &[u8]) -> &[u8]
     &line[..line.len().saturating_sub(1)]
 }
 
-/// Reads the value of a setting.
+/// Reads `text` as the value of the setting `name`. A setting of `CRON_TZ` is a `Line::Zone`.
 fn read_setting<'a>(name: &'a [u8], text: &'a [u8]) -> Result<Line<'a>, Refusal<'a>>
     ensures { MatchResult result
         (λ l. setting_of name.now text.now ≡ Ok (line_view l))
@@ -46,7 +46,8 @@ fn read_setting<'a>(name: &'a [u8], text: &'a [u8]) -> Result<Line<'a>, Refusal<
     }
 }
 
-/// Reads a line as an entry that is no setting for a reason.
+/// Reads `text` as an entry, after it was refused as a setting for `refusal`. Returns `refusal` if
+/// it is `NoValue`, or if `text` is no entry either.
 fn read_no_setting<'a>(
     kind: Crontab,
     text: &'a [u8],
@@ -66,7 +67,8 @@ fn read_no_setting<'a>(
     }
 }
 
-/// Reads a line that has a name and `=`.
+/// Reads the line `text`, which begins with `name` and `=`: as a setting, or else as an entry.
+/// `value` is the text after the `=`.
 fn read_named<'a>(
     kind: Crontab,
     text: &'a [u8],
@@ -83,7 +85,7 @@ fn read_named<'a>(
     }
 }
 
-/// Reads a line from its first byte on that isn't blank.
+/// Reads a line without its leading spaces and tabs.
 fn read_text(kind: Crontab, text: &[u8]) -> Result<Line<'_>, Refusal<'_>>
     ensures { MatchResult result
         (λ l. text_outcome kind text.now ≡ Ok (line_view l))
@@ -107,7 +109,7 @@ fn read_text(kind: Crontab, text: &[u8]) -> Result<Line<'_>, Refusal<'_>>
     }
 }
 
-/// Reads a line without its line feed. A line feed in front of its last byte is refused.
+/// Reads a line, given without its line feed. A line feed before its last byte is refused.
 pub fn read_line(kind: Crontab, line: &[u8]) -> Result<Line<'_>, Refusal<'_>>
     ensures { MatchResult result
         (λ l. IsLine kind line.now (line_view l)) (λ r. IsRefused kind line.now (refusal_view r)) }

@@ -8,7 +8,8 @@ ghost use Rattle.cron_tab_lines.specs.Views.{bytes_view};
 
 use std::marker::Model;
 
-/// How many bytes stand in front of the first bare percent sign.
+/// The number of bytes before the first percent sign that no backslash escapes, or the length of
+/// `task` if there is none.
 pub(crate) fn before_percent(task: &[u8]) -> usize
     ensures { result ≡ before_percent false task.now }
 {
@@ -22,7 +23,8 @@ pub(crate) fn before_percent(task: &[u8]) -> usize
     task.len()
 }
 
-/// The command, and its input, as they stand in the line, where the command ends at the index.
+/// Cuts `task` into the command, which ends at the index `end`, and the input after the percent
+/// sign there. Both are unchanged from the line. The input is `None` if there is no such sign.
 pub(crate) fn cut_task(task: &[u8], end: usize) -> (&[u8], Option<&[u8]>)
     requires { end ≡ before_percent false task.now }
     ensures command { result.0.now ≡ command_of task.now }
@@ -34,8 +36,9 @@ pub(crate) fn cut_task(task: &[u8], end: usize) -> (&[u8], Option<&[u8]>)
     (&task[..end], Some(&task[end + 1..]))
 }
 
-/// The bytes of a command or of its input, one after another, without the backslashes of percent
-/// signs. It takes no memory. Contracts see the list of the bytes that are left.
+/// An iterator over the bytes of a command or of its input, without the backslashes of percent
+/// signs. A percent sign that no backslash escapes becomes a line feed. The iterator allocates no
+/// memory. In contracts it is the list of the bytes that are left.
 #[derive(Drop)]
 pub struct Unescaped<'a> {
     rest: &'a [u8],
@@ -51,8 +54,8 @@ impl<'a> Model for Unescaped<'a> {
 }
 
 impl<'a> Unescaped<'a> {
-    /// What the shell gets of an entry's command, or a command of its input. Crons end an input by
-    /// a line feed; it isn't among these bytes.
+    /// The bytes that the shell gets as an entry's command, or that the command reads as its input.
+    /// Crons end an input with a line feed; it isn't among these bytes.
     pub fn of(text: &'a [u8]) -> Unescaped<'a>
         ensures { result ≡ unescaped text.now }
     {
@@ -85,7 +88,8 @@ fn begins_with_percent(text: &[u8]) -> bool
     }
 }
 
-/// The first byte without backslashes, and the bytes that are left.
+/// The first byte of `text` without its backslash, and the bytes that are left. `None` if `text` is
+/// empty. A percent sign that no backslash escapes is a line feed.
 fn first_unescaped(text: &[u8]) -> Option<(u8, &[u8])>
     ensures { MatchOption result
         (unescaped text.now ≡ []) (λ r. unescaped text.now ≡ r.0 ∷ unescaped r.1.now) }

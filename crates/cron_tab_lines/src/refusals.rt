@@ -1,4 +1,4 @@
-//! Why a line is refused. A refusal borrows words of the line, and prints the message.
+//! Why a line is refused. A refusal borrows words of the line, and its `Display` is the message.
 
 ghost use Rattle.std.specs.Prelude.{Some};
 ghost use Rattle.cron_tab_lines.specs.Refusals.{refusal_text};
@@ -11,27 +11,27 @@ use std::fmt;
 /// Why a line is refused.
 #[derive(Clone, Copy, Debug, PartialEq, Eq)]
 pub enum Refusal<'a> {
-    /// It has a NUL.
+    /// The line has a NUL byte.
     Nul,
-    /// A byte order mark stands at the front of the file.
+    /// The file begins with a byte order mark.
     ByteOrderMark,
-    /// A line feed stands in front of its last byte.
+    /// The line has a line feed before its last byte.
     SecondLine,
-    /// It is a carriage return alone.
+    /// After its leading spaces and tabs, the line is only a carriage return.
     LoneReturn,
-    /// Nothing stands behind the `=` of a setting.
+    /// A setting has no value: at most white space follows its `=`.
     NoValue,
-    /// The quotation mark in front of a value has no other behind it.
+    /// A value begins with a quotation mark that isn't closed.
     OpenQuote,
-    /// Something other than white space stands behind a quoted value.
+    /// Something other than white space follows a quoted value.
     BehindQuote,
-    /// The fields have a byte that is no printable ASCII.
+    /// The fields have a byte that is neither printable ASCII nor a tab.
     StrangeByte,
     /// The fields, or the nickname, are refused.
     Expression(Fault<'a>),
-    /// What stands behind the fields begins with a star.
+    /// The text after the fields or the nickname begins with a star.
     SixthField,
-    /// Nothing stands behind the fields of a system crontab.
+    /// Nothing follows the fields of an entry in a system crontab.
     NoUser,
     /// The command is missing.
     NoCommand,

@@ -8,7 +8,7 @@ ghost use Rattle.cron_tab_lines.specs.Views.{refusal_view};
 use crate::bytes::{Class, behind, cut, is_quote, is_white};
 use crate::refusals::Refusal;
 
-/// The first byte, if it is a quotation mark.
+/// The first byte of `text` if it is a quotation mark, else `None`.
 fn opening(text: &[u8]) -> Option<u8>
     ensures { MatchOption result
         (is_quote (first text.now) ≡ false)
@@ -22,7 +22,7 @@ fn opening(text: &[u8]) -> Option<u8>
     }
 }
 
-/// What stands behind the first byte, if that is the one which is wanted.
+/// The rest of `text` after its first byte, or `None` if that byte isn't `wanted`.
 fn behind_byte(text: &[u8], wanted: u8) -> Option<&[u8]>
     requires { 0 < wanted }
     ensures { MatchOption result
@@ -35,7 +35,8 @@ fn behind_byte(text: &[u8], wanted: u8) -> Option<&[u8]>
     }
 }
 
-/// A name, bare or quoted, and what stands behind it.
+/// Cuts `text` into a name, bare or quoted, and the rest after it. `None` if a quoted name isn't
+/// closed or has a `=`.
 fn cut_name(text: &[u8]) -> Option<(&[u8], &[u8])>
     ensures { MatchOption result
         (name_at text.now ≡ None) (λ cut. name_at text.now ≡ Some (cut.0.now, cut.1.now)) }
@@ -48,7 +49,8 @@ fn cut_name(text: &[u8]) -> Option<(&[u8], &[u8])>
     Some((name, rest))
 }
 
-/// A name, and what stands behind the `=` that follows it.
+/// Reads a name and the `=` after it. Returns the name and the text after the `=`. White space
+/// around the `=` is skipped. `None` if there is no such name or no `=`.
 pub(crate) fn read_name(text: &[u8]) -> Option<(&[u8], &[u8])>
     ensures { MatchOption result
         (name_of text.now ≡ None) (λ cut. name_of text.now ≡ Some (cut.0.now, cut.1.now)) }
@@ -71,7 +73,8 @@ fn trim_end(text: &[u8]) -> &[u8]
     &text[..end]
 }
 
-/// A value, bare or quoted.
+/// Reads `text` as a value, bare or quoted. A bare value has no white space at its end, and a
+/// quoted value is the text between the quotation marks.
 pub(crate) fn read_value(text: &[u8]) -> Result<&[u8], Refusal<'_>>
     ensures { MatchResult result
         (λ value. value_of text.now ≡ Ok value.now)

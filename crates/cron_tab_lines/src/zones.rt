@@ -1,4 +1,4 @@
-//! In which zone entries fire: that of the last `CRON_TZ` above them.
+//! The zone that entries fire in: the last `CRON_TZ` above them names it.
 
 ghost use Rattle.std.specs.Prelude.{◌≡◌};
 ghost use Rattle.cron_tab_lines.specs.Views.{file_line_view};
@@ -10,13 +10,13 @@ use crate::kinds::Line;
 /// A zone that `CRON_TZ` may name.
 #[derive(Clone, Copy)]
 pub struct NamedZone<'a> {
-    /// Its name, as `CRON_TZ` has it.
+    /// The zone's name, as a value of `CRON_TZ`.
     pub name: &'a [u8],
-    /// Its number among the caller's zones.
+    /// The zone's number among the caller's zones.
     pub zone: usize,
 }
 
-// The zone of this name.
+// The zone of the first of `names` whose name is `value`, or `None` if there is none.
 fn zone_named(names: &[NamedZone<'_>], value: &[u8]) -> Option<usize>
     ensures { result ≡ zone_named names.now value.now }
 {
@@ -28,9 +28,9 @@ fn zone_named(names: &[NamedZone<'_>], value: &[u8]) -> Option<usize>
     None
 }
 
-/// The zone of the entries below a line, by the zone of those above it: the one that the line
-/// names, if it sets `CRON_TZ`, else the same. `None` where that is none of these names; the
-/// entries below have no zone then.
+/// The zone of the entries below `line`. If `line` sets `CRON_TZ`, it is the zone that the value
+/// names, else `above`, the zone of the entries above. `None` if the value is none of `names`; the
+/// entries below `line` then have no zone.
 pub fn zone_below(
     names: &[NamedZone<'_>],
     above: Option<usize>,
@@ -44,7 +44,7 @@ pub fn zone_below(
     }
 }
 
-/// Whether a line sets `CRON_TZ` to what is none of these names.
+/// Returns true if `line` sets `CRON_TZ` to a value that is none of `names`.
 pub fn names_no_zone(names: &[NamedZone<'_>], line: &FileLine<'_>) -> bool
     ensures { result ≡ names_no_zone names.now (file_line_view line.now).outcome }
 {

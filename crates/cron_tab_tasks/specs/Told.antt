@@ -1,4 +1,4 @@
--- What is told of lines that are refused.
+-- The messages about lines that are refused.
 use Rattle.std.specs.Prelude.{◌++◌, ℕ, Bool, true, false, List, [], ◌∷◌, Result, Ok, Err, codes}
 use Rattle.std.specs.Fmt.{decimal}
 use Rattle.cron_tab_lines.specs.Files.{FileLine}
@@ -7,11 +7,11 @@ use Rattle.cron_tab_lines.specs.Refusals.{Refusal, refusal_text}
 use Rattle.cron_tab_lines.specs.Zones.{names_no_zone, no_zone_text}
 use Rattle.cron_tab_lines.specs.declared.zones.NamedZone.{NamedZone}
 
--- `NAME:NUMBER: ` and a text
+-- a message as a line: `NAME:NUMBER: ` and the text
 abbrev pub told_as : List ℕ → ℕ → List ℕ → List ℕ
 told_as name number text = name ++ (codes ":" ++ (decimal number ++ (codes ": " ++ (text ++ 10 ∷ []))))
 
--- why a line is refused, by what it is and whether it names no zone
+-- the message about a line that is refused, or, if `lost` is true, that sets `CRON_TZ` to no zone
 abbrev pub told_by : List ℕ → ℕ → Bool → Result Meaning Refusal → List ℕ
 told_by name number lost (Err refusal) = told_as name number (refusal_text refusal)
 told_by name number true (Ok meaning) = told_as name number no_zone_text
@@ -20,7 +20,7 @@ told_by name number false (Ok meaning) = []
 abbrev pub told_line : List ℕ → List NamedZone → FileLine → List ℕ
 told_line name names line = told_by name line.number (names_no_zone names line.outcome) line.outcome
 
--- those of a file's lines
+-- the messages about the lines of a file
 abbrev pub told_lines : List ℕ → List NamedZone → List FileLine → List ℕ
 told_lines name names [] = []
 told_lines name names (line ∷ lines) = told_line name names line ++ told_lines name names lines

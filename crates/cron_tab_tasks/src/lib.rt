@@ -1,5 +1,6 @@
-//! What is written of a crontab's entries when they fire: their commands, or lines that a shell
-//! runs with the settings above them and their input. And what is told of lines that are refused.
+//! The text that is written for a crontab's entries when they fire. It is a command, or a line that
+//! a shell runs with the entry's input and the settings above the entry. The messages about refused
+//! lines are here too.
 #![tactic(auto)]
 
 mod names;

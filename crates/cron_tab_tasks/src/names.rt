@@ -1,4 +1,4 @@
-//! What the files of an entry are named.
+//! The names of an entry's files.
 
 ghost use Rattle.std.specs.Prelude.{◌≡◌, ◌++◌, ◌∷◌, IfOk, OnOk, map, option_map, string_bytes, take};
 ghost use Rattle.cron_shell.specs.Lines.{variable_view};
@@ -11,10 +11,10 @@ use cron_shell::Variable;
 use sha2::{Digest, Sha256};
 use std::alloc::{AllocError, Global};
 
-/// How many bytes of a line its name shows.
+/// The number of bytes of a line that the names of its files show.
 const SHOWN: usize = 64;
 
-/// How many bytes of a digest are told.
+/// The number of bytes of a digest that a file's name shows.
 const TOLD: usize = 8;
 
 fn is_kept(byte: u8) -> bool
@@ -23,7 +23,7 @@ fn is_kept(byte: u8) -> bool
     byte.is_ascii_alphanumeric() || byte == b'-' || byte == b'.' || byte == b'_'
 }
 
-// What stands for a byte in a name.
+// The byte that a file's name has for `byte`: `_` if `byte` isn't allowed in names, else `byte`.
 fn kept(byte: u8) -> u8
     ensures { result ≡ kept byte }
 {
@@ -48,7 +48,7 @@ fn without_feed(bytes: &[u8]) -> &[u8]
     }
 }
 
-// What an entry is known by.
+// The key of an entry: its zone, a tab and its line. The entry's digest is made of this key.
 fn known_by(alloc: Global, zone: &[u8], line: &[u8]) -> Result<Vec<u8>, AllocError>
     ensures { IfOk result (λ key. key.items ≡ known_by zone.now line.now) }
 {
@@ -58,7 +58,7 @@ fn known_by(alloc: Global, zone: &[u8], line: &[u8]) -> Result<Vec<u8>, AllocErr
     Ok(key)
 }
 
-// What stands for a text.
+// The digest of `text`: the first 8 bytes of its SHA-256, in hexadecimal digits.
 fn digest_of(alloc: Global, text: &[u8]) -> Result<String, AllocError>
     ensures { IfOk result (λ digits. string_bytes digits ≡ digest_text text.now) }
 {
@@ -66,7 +66,7 @@ fn digest_of(alloc: Global, text: &[u8]) -> Result<String, AllocError>
     hex::encode(alloc, &digest[..TOLD])
 }
 
-// The front of a line.
+// The first 64 bytes of `line`, or all of it if it is shorter.
 fn front_of(line: &[u8]) -> &[u8]
     ensures { result.now ≡ take 64 line.now }
 {
@@ -77,7 +77,7 @@ fn front_of(line: &[u8]) -> &[u8]
     }
 }
 
-// Pushes the name of an entry in a zone.
+// Appends the name of the entry `line` in `zone`: the front of the line, a dash and the digest.
 fn push_name(file: &mut Vec<u8>, alloc: Global, zone: &[u8], line: &[u8]) -> Result<(), AllocError>
     ensures { OnOk result (file.new.items ≡ file.old.items ++ name_of zone.now line.now) }
 {
@@ -89,7 +89,7 @@ fn push_name(file: &mut Vec<u8>, alloc: Global, zone: &[u8], line: &[u8]) -> Res
     Ok(())
 }
 
-// The file of this ending that an entry has in a folder.
+// The path in `folder` of the file with `ending` that belongs to the entry `line` in `zone`.
 fn file_within(
     alloc: Global,
     folder: &[u8],
@@ -107,7 +107,8 @@ fn file_within(
     Ok(file)
 }
 
-/// The file of this ending that the entry of a line has in a folder, where there is a folder.
+/// The path in `folder` of the file with `ending` that belongs to the entry of `line`, in the zone
+/// that `variables` set. `None` if `folder` is `None`.
 pub(crate) fn file_in(
     alloc: Global,
     folder: Option<&[u8]>,

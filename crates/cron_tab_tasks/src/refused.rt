@@ -1,4 +1,4 @@
-//! What is told of lines that are refused.
+//! The messages about lines that are refused.
 
 ghost use Rattle.std.specs.Prelude.{◌≡◌, ◌++◌, OnOk};
 ghost use Rattle.std.specs.String.{string_bytes};
@@ -8,7 +8,7 @@ ghost use Rattle.cron_tab_tasks.specs.Told.{told_line, told_lines};
 use cron_tab_lines::{FileLine, Lines, NamedZone, names_no_zone};
 use std::alloc::AllocError;
 
-// Pushes what is told of a line.
+// Appends a message if `line` is refused, or sets `CRON_TZ` to none of `names`.
 fn push_refusal(
     told: &mut String,
     name: &str,
@@ -30,8 +30,8 @@ fn push_refusal(
     }
 }
 
-/// Pushes a line for each line of a file that is refused, and for each one whose `CRON_TZ` is none
-/// of these names.
+/// Appends a line for each line of a file that is refused, and for each whose `CRON_TZ` is none of
+/// `names`. `name` is the file's name in these messages.
 pub fn push_refusals(
     told: &mut String,
     name: &str,

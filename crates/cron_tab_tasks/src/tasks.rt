@@ -1,4 +1,5 @@
-//! What lines of a file are for what is written: settings, and entries.
+//! The use of a file's lines for the text that is written: settings become variables, and entries
+//! become text.
 
 ghost use Rattle.std.specs.Prelude.{◌≡◌, ◌++◌, IfOk, OnOk, map, option_map};
 ghost use Rattle.cron_shell.specs.Lines.{variable_view};
@@ -12,7 +13,7 @@ use cron_shell::Variable;
 use cron_tab_lines::{FileLine, Line};
 use std::alloc::{AllocError, Global};
 
-/// Pushes the variables that a file's entries have without a setting.
+/// Appends the variables that a file's entries have without a setting: `SHELL`, which is `/bin/sh`.
 pub fn push_defaults<'a>(variables: &mut Vec<Variable<'a>>) -> Result<(), AllocError>
     ensures { OnOk result (map variable_view variables.new.items
         ≡ map variable_view variables.old.items ++ defaults) }
@@ -24,8 +25,8 @@ pub fn push_defaults<'a>(variables: &mut Vec<Variable<'a>>) -> Result<(), AllocE
     Ok(())
 }
 
-/// Pushes the variable of a line, if it is a setting or sets `CRON_TZ`, behind those of the lines
-/// above it.
+/// Appends the variable that `line` sets, if it is a setting or sets `CRON_TZ`. `variables` are set
+/// by the lines above.
 pub fn push_variable<'a>(
     variables: &mut Vec<Variable<'a>>,
     line: &FileLine<'a>,
@@ -47,7 +48,8 @@ pub fn push_variable<'a>(
     Ok(())
 }
 
-/// What is written of a line below these variables: nothing where it is no entry that is taken.
+/// The text that is written for `line`, where the lines above set `variables`. `None` if `line` is
+/// no entry that `orders` selects.
 pub fn text_in(
     alloc: Global,
     orders: &Orders<'_>,

@@ -1,4 +1,4 @@
-//! What is written of an entry.
+//! The text that is written for an entry.
 
 ghost use Rattle.std.specs.Prelude.{◌≡◌, ◌++◌, ◌∷◌, [], IfOk, OnOk, map, option_map};
 ghost use Rattle.cron_crontab.specs.Views.{expression_view};
@@ -15,7 +15,7 @@ use cron_shell::{ShellJob, Variable, push_line, push_log_front};
 use cron_tab_lines::{Entry, Unescaped};
 use std::alloc::{AllocError, Global};
 
-// What a command reads.
+// The input that a command reads. It is empty if `input` is `None`.
 fn input_text(alloc: Global, input: Option<&[u8]>) -> Result<Vec<u8>, AllocError>
     ensures { IfOk result (λ text. text.items ≡ input_text (bytes_view input.entry)) }
 {
@@ -25,7 +25,8 @@ fn input_text(alloc: Global, input: Option<&[u8]>) -> Result<Vec<u8>, AllocError
     }
 }
 
-// Where an entry is one of `@reboot`, pushes what writes that into the file of its output.
+// Appends the front that writes `@reboot` to the log, if the entry is an `@reboot` entry and `logs`
+// is given.
 fn push_start(
     text: &mut Vec<u8>,
     logs: Option<&[u8]>,
@@ -40,7 +41,7 @@ fn push_start(
     }
 }
 
-// A file's name, if there is a file.
+// The name of `file`, or `None` if there is no file.
 fn lent(file: &Option<Vec<u8>>) -> Option<&[u8]>
     ensures { bytes_view result ≡ option_map (λ f. f.items) file.now }
 {
@@ -50,7 +51,8 @@ fn lent(file: &Option<Vec<u8>>) -> Option<&[u8]>
     }
 }
 
-// The line by which a shell runs the entry of a line, but for what writes a fire.
+// The line that makes a shell run the entry of `line`, without the front that writes the instant of
+// a fire to the log.
 fn shell_text(
     alloc: Global,
     ways: &Ways<'_>,
@@ -89,7 +91,7 @@ fn command_text(alloc: Global, command: &[u8]) -> Result<Vec<u8>, AllocError>
     Ok(text)
 }
 
-/// What is written of the entry of a line below these variables.
+/// The text in `form` for the entry of `line`, where the lines above set `variables`.
 pub(crate) fn text_of(
     alloc: Global,
     form: &Form<'_>,

@@ -1,4 +1,4 @@
-//! What variables are set to.
+//! The values of variables.
 
 ghost use Rattle.std.specs.Prelude.{◌≡◌, None, [], codes, map, unwrap_or};
 ghost use Rattle.cron_shell.specs.Lines.{variable_view};
@@ -7,10 +7,10 @@ ghost use Rattle.cron_tab_tasks.specs.Names.{value_in};
 
 use cron_shell::Variable;
 
-/// The shell of entries that set none.
+/// The shell of entries without a setting of `SHELL`.
 pub(crate) const SHELL: &[u8] = b"/bin/sh";
 
-// What the last variable of a name is set to.
+// The value of the last variable named `name`, or `None` if there is none.
 fn value_of<'a>(variables: &[Variable<'a>], name: &[u8]) -> Option<&'a [u8]>
     ensures { bytes_view result ≡ value_in name.now None (map variable_view variables.now) }
 {
@@ -23,7 +23,7 @@ fn value_of<'a>(variables: &[Variable<'a>], name: &[u8]) -> Option<&'a [u8]>
     value
 }
 
-/// The shell that the variables name.
+/// The shell that the variables set, or `/bin/sh` if they set none.
 pub(crate) fn shell_of<'a>(variables: &[Variable<'a>]) -> &'a [u8]
     ensures { result.now ≡ unwrap_or
         (value_in (codes "SHELL") None (map variable_view variables.now)) (codes "/bin/sh") }
@@ -34,7 +34,7 @@ pub(crate) fn shell_of<'a>(variables: &[Variable<'a>]) -> &'a [u8]
     }
 }
 
-/// The zone that the variables name, or no byte.
+/// The zone that the variables set with `CRON_TZ`, or an empty text if they set none.
 pub(crate) fn zone_of<'a>(variables: &[Variable<'a>]) -> &'a [u8]
     ensures { result.now ≡ unwrap_or
         (value_in (codes "CRON_TZ") None (map variable_view variables.now)) [] }

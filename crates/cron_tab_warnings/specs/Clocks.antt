@@ -5,7 +5,7 @@ use Rattle.cron_crontab.specs.Crontab.{begins_with_at}
 use Rattle.cron_crontab.specs.Items.{begins_with_star}
 use Rattle.cron_tab_warnings.specs.Written.{word_at}
 
--- its minute or its hour begins with a star, or it is `@hourly`
+-- whether an entry follows the clock: its minute or its hour begins with a star, or it is `@hourly`
 abbrev pub follows_clock : List ℕ → Bool
 follows_clock text =
     if begins_with_at (word_at text 0) then bytes_eq (word_at text 0) (codes "@hourly")

@@ -1,4 +1,4 @@
--- What warnings say.
+-- The messages of warnings.
 use Rattle.std.specs.Prelude.{ℕ, List, ◌++◌, codes}
 use Rattle.cron_crontab.specs.Fields.{title}
 use Rattle.cron_crontab.specs.declared.field.Field.{Field}
@@ -8,7 +8,7 @@ use Rattle.cron_tab_warnings.specs.declared.files.LineWarning.TheVariants.{Ignor
 use Rattle.cron_tab_warnings.specs.declared.warnings.Warning.{Warning}
 use Rattle.cron_tab_warnings.specs.declared.warnings.Warning.TheVariants.{NeverFires, Backward, StepPastEnd, UnevenStep, StarStep, LeftOutDays, SixFields, SevenFields}
 
--- what goes round
+-- when the numbers of a field begin anew
 abbrev pub round_text : Field → List ℕ
 round_text Minute = codes "each hour"
 round_text Hour = codes "each day"

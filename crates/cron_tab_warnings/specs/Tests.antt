@@ -1,4 +1,4 @@
--- What the tests of items are.
+-- Whether the numbers of an item pass a test: its first number, its last one and its step.
 use Rattle.std.specs.Prelude.{Bool, true}
 use Rattle.cron_units.specs.Steps.{Progression, in_steps}
 use Rattle.cron_crontab.specs.declared.field.Field.{Field}

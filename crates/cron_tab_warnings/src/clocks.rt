@@ -6,10 +6,10 @@ ghost use Rattle.cron_tab_warnings.specs.Clocks.{follows_clock};
 use crate::words::word_at;
 use cron_crontab::{begins_with_at, begins_with_star};
 
-/// Tells whether an entry follows the clock, by its line or its expression: where a clock goes back
-/// it runs again, and where one goes ahead it leaves out what is passed over. Its minute or its
-/// hour begins with `*`, or it is `@hourly`. Every other entry has a fixed time and runs once for
-/// it.
+/// Returns true if an entry follows the clock, by its line or its expression. When the clock goes
+/// back such an entry runs again, and when the clock goes ahead it leaves out the skipped times.
+/// Its minute or its hour begins with `*`, or it is `@hourly`. Every other entry has a fixed time
+/// and runs once for it.
 ///
 /// `*/10 2 * * *` follows the clock, `0,10 2 * * *` doesn't.
 pub fn follows_clock(text: &str) -> bool

@@ -1,4 +1,4 @@
-//! Days that are left out.
+//! Days of the month that some named month lacks, and star steps over days.
 
 ghost use Rattle.std.specs.Prelude.{◌≡◌, ◌≤◌};
 ghost use Rattle.cron_tab_warnings.specs.Written.{names_all};
@@ -8,7 +8,7 @@ use crate::items::names;
 use crate::words::{field_word, size};
 use cron_crontab::{Field, begins_with_star};
 
-/// Tells whether a field names all its numbers.
+/// Returns true if the field `word` has all numbers of `field`, by whichever items.
 fn names_all(field: Field, word: &str) -> bool
     ensures { result ≡ names_all field word.now }
 {
@@ -20,7 +20,7 @@ fn names_all(field: Field, word: &str) -> bool
     true
 }
 
-/// The days of a month in its shortest year.
+/// The number of days of `month` in a year that isn't a leap year.
 fn shortest(month: u32) -> u32
     ensures { result ≡ shortest month }
 {
@@ -31,14 +31,15 @@ fn shortest(month: u32) -> u32
     }
 }
 
-/// Tells whether a month that a field names lacks a day.
+/// Returns true if the month field `months` names `month`, and `month` has no `day` in some or all
+/// years.
 fn lacks(months: &str, month: u32, day: u32) -> bool
     ensures { result ≡ lacks months.now month day }
 {
     shortest(month) < day && names(Field::Month, months, month)
 }
 
-/// Tells whether a field names a month that lacks a day.
+/// Returns true if the month field `months` names a month that has no `day` in some or all years.
 fn some_lacks(months: &str, day: u32) -> bool
     ensures { result ≡ some_lacks months.now day 12 }
 {
@@ -57,7 +58,8 @@ fn is_left_out(text: &str, day: u32) -> bool
         && some_lacks(field_word(text, Field::Month), day)
 }
 
-/// Tells whether a day is named that a month lacks, though not all days are.
+/// Returns true if the day field of `text` names a day that a month in its month field lacks, in
+/// some or all years. A day field that begins with a star or names all days isn't counted.
 pub(crate) fn leaves_out(text: &str) -> bool
     ensures { result ≡ leaves_out text.now }
 {
@@ -86,7 +88,8 @@ fn stars_step(field: Field, text: &str) -> bool
         && !names_all(field, word)
 }
 
-/// Tells whether of the two kinds of day this one alone begins with a star, and leaves days out.
+/// Returns true if `field` is one of the two kinds of day, begins with a star and leaves days out,
+/// and the other kind doesn't begin with a star. Both kinds must match then.
 pub(crate) fn is_star_step(field: Field, text: &str) -> bool
     ensures { result ≡ is_star_step field text.now }
 {

@@ -1,4 +1,4 @@
-//! Lines of files that another cron reads otherwise, or refuses.
+//! Lines of files that another cron reads differently, or refuses.
 
 ghost use Rattle.std.specs.Prelude.{◌≡◌, ◌==◌, ◌<◌, ◌+◌, nat_le, length};
 ghost use Rattle.cron_tab_lines.specs.Bytes.{is_white};
@@ -7,41 +7,42 @@ ghost use Rattle.cron_tab_warnings.specs.Files.{entry_warns, has_content, has_da
 
 use cron_tab_lines::{Entry, FileLine, Line, Refusal, Setting};
 
-/// How many bytes of a command Debian's cron refuses.
+/// The length in bytes from which Debian's cron refuses a command.
 const LONG: usize = 999;
 
-/// How many bytes of a name and a value it cuts.
+/// The length in bytes of a name and a value from which Debian's cron cuts them.
 const LONG_SETTING: usize = 998;
 
 /// A warning of a file's line.
 #[derive(Clone, Copy, Debug, PartialEq, Eq)]
 pub enum LineWarning {
-    /// It sets `CRON_TZ`, of which Debian's cron takes no notice.
+    /// The line sets `CRON_TZ`, which Debian's cron ignores.
     IgnoredZone,
-    /// Its command, with the input behind a percent sign, has 999 bytes or more: Debian's cron
-    /// refuses it.
+    /// The line's command, with the input after a percent sign, has 999 bytes or more: Debian's
+    /// cron refuses it.
     LongCommand,
-    /// Its command, or the input behind a percent sign, ends in a carriage return, which stands in
-    /// front of the line feed of another system and stays.
+    /// The line's command, or the input after a percent sign, ends in a carriage return. Another
+    /// system writes one in front of the line feed, and here it stays part of the command or the
+    /// input.
     ReturnAtEnd,
-    /// Two backslashes stand one behind the other in its command. Debian's cron makes one of them.
+    /// The line's command has two backslashes in a row. Debian's cron reads them as one.
     TwoBackslashes,
-    /// Its command begins with `-`, which cronie takes as an option.
+    /// The line's command begins with `-`, which cronie reads as an option.
     DashInFront,
-    /// Its value is quoted, and ends in white space or has a second pair of quotation marks around
-    /// it. Debian's cron takes those away.
+    /// The value of the line's setting is quoted, and ends in white space or has a second pair of
+    /// quotation marks around it. Debian's cron removes those.
     ShortenedValue,
-    /// Its name and its value have 998 bytes or more without the `=`: Debian's cron cuts the end
-    /// off.
+    /// The name and the value of the line's setting, without the `=`, have 998 bytes or more:
+    /// Debian's cron cuts off the end.
     LongSetting,
-    /// It is the first past 10,000 lines: Debian's cron refuses the file.
+    /// The line is line 10,001: Debian's cron refuses a file with more than 10,000 lines.
     ManyLines,
-    /// It is the last, isn't blank and no comment, and no line feed ends it: Debian's cron refuses
-    /// the file, and cronie passes over the line.
+    /// The line is the last one, isn't blank and no comment, and has no line feed at its end:
+    /// Debian's cron refuses the file, and cronie ignores the line.
     NoLineFeed,
 }
 
-/// All warnings of a file's line.
+/// All warnings of a file's line, each once.
 pub const LINE_WARNINGS: [LineWarning; 9] = [
     LineWarning::IgnoredZone,
     LineWarning::LongCommand,
@@ -54,7 +55,7 @@ pub const LINE_WARNINGS: [LineWarning; 9] = [
     LineWarning::NoLineFeed,
 ];
 
-/// Tells whether a command and its input, with the percent sign between, have 999 bytes or more.
+/// Returns true if a command and its input, with the percent sign between, have 999 bytes or more.
 fn is_long_task(entry: &Entry<'_>) -> bool
     ensures { result ≡ nat_le LONG (task_len (entry_view entry.now)) }
 {
@@ -111,7 +112,7 @@ fn has_dash(command: &[u8]) -> bool
     }
 }
 
-/// Tells whether a warning of entries is due of one.
+/// Returns true if `warning` is one for entries and applies to `entry`.
 fn warns_entry(warning: LineWarning, entry: &Entry<'_>) -> bool
     ensures { result ≡ warns_entry warning (entry_view entry.now) }
 {
@@ -124,7 +125,7 @@ fn warns_entry(warning: LineWarning, entry: &Entry<'_>) -> bool
     }
 }
 
-/// Tells whether it is due of an entry that was read.
+/// Returns true if a line was read as an entry, and `warning` is one for entries and applies to it.
 fn entry_warns(warning: LineWarning, read: &Result<Line<'_>, Refusal<'_>>) -> bool
     ensures { result ≡ entry_warns warning (outcome_view read.now) }
 {
@@ -143,7 +144,7 @@ fn ends_white(value: &[u8]) -> bool
     }
 }
 
-/// Tells whether a pair of quotation marks stands around a value.
+/// Returns true if a value begins and ends with the same quotation mark.
 fn is_wrapped(value: &[u8]) -> bool
     ensures { result ≡ is_wrapped value.now }
 {
@@ -154,7 +155,7 @@ fn is_wrapped(value: &[u8]) -> bool
     (first == b'\'' || first == b'"') && value[value.len() - 1] == first
 }
 
-/// Tells whether a name and a value have 998 bytes or more.
+/// Returns true if a name and a value have 998 bytes or more together.
 fn is_long_setting(setting: &Setting<'_>) -> bool
     ensures { result
         ≡ nat_le LONG_SETTING (length setting.now.name.now + length setting.now.value.now) }
@@ -180,7 +181,7 @@ fn loses_ends(read: &Result<Line<'_>, Refusal<'_>>) -> bool
     }
 }
 
-/// Tells whether a line isn't blank, and no comment.
+/// Returns true if a line isn't blank, and no comment.
 fn has_content(read: &Result<Line<'_>, Refusal<'_>>) -> bool
     ensures { result ≡ has_content (outcome_view read.now) }
 {
@@ -191,7 +192,7 @@ fn has_content(read: &Result<Line<'_>, Refusal<'_>>) -> bool
     }
 }
 
-/// Tells whether a warning is due of a file's line.
+/// Returns true if `warning` applies to the file's line `line`.
 pub fn warns_line(warning: LineWarning, line: &FileLine<'_>) -> bool
     ensures { result ≡ warns_line warning (file_line_view line.now) }
 {
@@ -205,7 +206,7 @@ pub fn warns_line(warning: LineWarning, line: &FileLine<'_>) -> bool
     }
 }
 
-/// Each warning of a file's line stands in `LINE_WARNINGS`.
+/// Each warning of a file's line is in `LINE_WARNINGS`.
 pub fn all_line_warnings_are_listed()
     ensures { AllStandIn LINE_WARNINGS }
 {}

@@ -30,8 +30,8 @@ fn none_matches(schedules: &[ScheduleFields]) -> bool
     true
 }
 
-/// Tells whether an expression never fires: no civil second of 1970 to 2100 matches, as of
-/// `0 0 30 2 *`.
+/// Returns true if an expression never fires, as `0 0 30 2 *`: no civil second of 1970 to 2100
+/// matches. False for `@reboot`, which no clock fires.
 pub fn never_runs(expression: &Expression) -> bool
     ensures { IsTrue result ↔ NeverRuns (expression_view expression.now) }
 {
@@ -41,7 +41,7 @@ pub fn never_runs(expression: &Expression) -> bool
     }
 }
 
-/// Five fields never fire exactly if they say to run at no civil second of 1970 to 2100.
+/// A law: five fields never fire exactly if they match no civil second of 1970 to 2100.
 pub fn never_runs_by_fields()
     ensures { NeverRunsByFields }
 {}

@@ -1,4 +1,5 @@
-//! Items of a field, by tests of their numbers.
+//! Tests of the items of a field, by their numbers. An item is one of the parts between commas: a
+//! first number, a last one and a step.
 
 ghost use Rattle.std.specs.Prelude.{◌≡◌, ◌<◌};
 ghost use Rattle.cron_crontab.specs.Items.{item_of};
@@ -12,15 +13,15 @@ use cron_crontab::{Field, Item, cut_at, read_steps};
 /// A test of the numbers of an item.
 #[derive(Clone, Copy)]
 pub(crate) enum Test {
-    /// The first lies above the last.
+    /// The item's first number is greater than its last.
     Backward,
-    /// The step is longer than the whole range.
+    /// The item's step is longer than its whole range, so that the item has only its first number.
     PastEnd,
-    /// It is the whole field, by a step that doesn't divide it.
+    /// The item is the whole field, with a step that doesn't divide it.
     Uneven,
-    /// This number is one of the item's.
+    /// The item has this number.
     Has(u32),
-    /// It is an item.
+    /// The item can be read as one of the field's.
     Any,
 }
 
@@ -34,7 +35,7 @@ fn divides_round(field: Field, step: u32) -> bool
     }
 }
 
-/// Tells whether an item's range has all the numbers of a field.
+/// Returns true if an item's range has all numbers of `field`.
 fn is_whole(field: Field, item: Item) -> bool
     ensures { result ≡ is_whole field (item_view item) }
 {
@@ -73,7 +74,7 @@ fn item_passes(test: Test, field: Field, item: &str) -> bool
     }
 }
 
-/// Tells whether some item of a field passes a test.
+/// Returns true if some item of the field `word` passes `test`.
 pub(crate) fn has_item(test: Test, field: Field, word: &str) -> bool
     ensures { result ≡ has_item (test_of test field) field word.now }
 {
@@ -90,7 +91,7 @@ pub(crate) fn has_item(test: Test, field: Field, word: &str) -> bool
     }
 }
 
-/// Tells whether each item of a word is one of a field's.
+/// Returns true if each item of `word`, between its commas, can be read as one of `field`.
 pub(crate) fn is_field(field: Field, word: &str) -> bool
     ensures { result ≡ is_field field word.now }
 {
@@ -107,7 +108,7 @@ pub(crate) fn is_field(field: Field, word: &str) -> bool
     }
 }
 
-/// Tells whether a field names a number.
+/// Returns true if an item of the field `word` has `number`.
 pub(crate) fn names(field: Field, word: &str, number: u32) -> bool
     ensures { result ≡ names field word.now number }
 {

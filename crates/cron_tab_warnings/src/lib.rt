@@ -1,4 +1,4 @@
-//! Warnings of crontabs' lines: what is read as it stands, and may yet not be what was meant.
+//! Warnings of crontab lines: lines that can be read, but are probably a mistake.
 #![tactic(auto)]
 
 mod clocks;

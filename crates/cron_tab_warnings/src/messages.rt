@@ -1,4 +1,4 @@
-//! What warnings say.
+//! The messages of warnings.
 
 ghost use Rattle.std.specs.Prelude.{◌≡◌};
 ghost use Rattle.cron_tab_warnings.specs.Messages.{line_warning_text, round_text};

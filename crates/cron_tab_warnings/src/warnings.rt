@@ -1,4 +1,4 @@
-//! Warnings of fields.
+//! Warnings of the fields of an entry, by their text and by what they mean.
 
 ghost use Rattle.std.specs.Prelude.{◌≡◌, ◌↔◌, IsTrue};
 ghost use Rattle.cron_crontab.specs.Views.{expression_view};
@@ -11,26 +11,29 @@ use crate::words::{field_word, has_fields, word_at};
 use cron_crontab::{Expression, Field};
 use cron_tab_lines::Crontab;
 
-/// What may not be meant.
+/// What is probably a mistake in the fields of an entry.
 #[derive(Clone, Copy, Debug, PartialEq, Eq)]
 pub enum Warning {
     /// No civil second of 1970 to 2100 matches: `0 0 30 2 *`.
     NeverFires,
-    /// A range goes from a greater number to a lesser one, and has none: `22-2`.
+    /// A range goes from a greater number to a lesser one, and has no number: `22-2`.
     Backward(Field),
-    /// A step is longer than its range, of which the first number is left alone: `*/60`.
+    /// A step is longer than its range, so that only the range's first number is left: `*/60`.
     StepPastEnd(Field),
-    /// A step over a whole field doesn't divide it, and begins anew before it is done: `*/7`.
+    /// A step over a whole field doesn't divide it, so that the field begins anew within a step:
+    /// `*/7`.
     UnevenStep(Field),
-    /// One kind of day alone begins with a star and leaves days out, so that both kinds must match:
-    /// `0 0 */2 * sun`.
+    /// Only one kind of day begins with a star, and it leaves days out, so that both kinds must
+    /// match: `0 0 */2 * sun`.
     StarStep(Field),
-    /// Some month that is named lacks a day that is named: `0 0 31 * *`.
+    /// A month that is named lacks a day that is named, in some or all years: `0 0 31 * *`.
     LeftOutDays,
-    /// The first word after five fields is itself a field, as after one of seconds, or a question
-    /// mark. A user's name is none, as `sun` in a system crontab.
+    /// The first word after five fields is itself a field of days of the week, as in an expression
+    /// that begins with seconds, or a question mark. A user's name, such as `sun` in a system
+    /// crontab, is no field.
     SixFields,
-    /// The first two words after five fields are themselves fields, the second one of years.
+    /// The first two words after five fields are themselves fields, the second one of numbers, as
+    /// the years of an expression that begins with seconds.
     SevenFields,
 }
 
@@ -65,7 +68,7 @@ fn in_numbers(byte: u8) -> bool
     byte.is_ascii_digit() || byte == b',' || byte == b'-' || byte == b'*' || byte == b'/'
 }
 
-/// Tells whether a word is digits, commas, dashes, stars and slashes.
+/// Returns true if `word` isn't empty and has only digits, commas, dashes, stars and slashes.
 fn is_numbers(word: &str) -> bool
     ensures { result ≡ is_numbers word.now }
 {
@@ -77,7 +80,8 @@ fn is_numbers(word: &str) -> bool
     !word.is_empty()
 }
 
-/// Tells whether the word after five fields is itself a field of days of the week.
+/// Returns true if `word`, the word after five fields, is itself a field of days of the week. In a
+/// system crontab it must be in numbers, since a user may have a day's name.
 fn is_sixth(kind: Crontab, word: &str) -> bool
     ensures { result ≡ is_sixth kind word.now }
 {
@@ -115,9 +119,9 @@ fn is_so(kind: Crontab, warning: Warning, text: &str) -> bool
     }
 }
 
-/// Tells whether a warning is due of an expression, by its text and what it means. The text may
-/// also be a line of a crontab that begins with the fields; what follows the fifth is looked at by
-/// `SixFields` and `SevenFields` alone.
+/// Returns true if `warning` applies to an expression, by its text and its meaning. `text` may also
+/// be a crontab line that begins with the fields. Only `SixFields` and `SevenFields` look at what
+/// follows the fifth field.
 pub fn warns(kind: Crontab, warning: Warning, text: &str, expression: &Expression) -> bool
     ensures { IsTrue result ↔ Warns kind warning text.now (expression_view expression.now) }
 {
@@ -127,7 +131,7 @@ pub fn warns(kind: Crontab, warning: Warning, text: &str, expression: &Expressio
     }
 }
 
-/// Each warning that is due of some text stands in `WARNINGS`.
+/// Each warning that applies to some text is in `WARNINGS`.
 pub fn all_are_listed()
     ensures { AllAreListed WARNINGS }
 {}

@@ -1,11 +1,11 @@
-//! Words of a line, and fields among them.
+//! Words of a line, with white space between, and the fields of an entry among them.
 
 ghost use Rattle.std.specs.Prelude.{◌≡◌};
 ghost use Rattle.cron_tab_warnings.specs.Written.{field_word, has_fields, place, size, word_at};
 
 use cron_crontab::{Field, begins_with_at, next_word};
 
-/// The word at a place, from 0 on. It is empty past the last one.
+/// The word number `place` of `text`, counted from 0. It is empty after the last word.
 pub(crate) fn word_at(text: &str, place: usize) -> &str
     ensures { result.now ≡ word_at text.now place }
 {
@@ -34,21 +34,22 @@ fn place(field: Field) -> usize
     }
 }
 
-/// The word that stands where a field does.
+/// The word of `text` at the position of `field`.
 pub(crate) fn field_word(text: &str, field: Field) -> &str
     ensures { result.now ≡ field_word text.now field }
 {
     word_at(text, place(field))
 }
 
-/// A nickname has no fields.
+/// Returns true if the expression that `text` begins with has fields. A nickname, which begins with
+/// `@`, has none.
 pub(crate) fn has_fields(text: &str) -> bool
     ensures { result ≡ has_fields text.now }
 {
     !begins_with_at(word_at(text, 0))
 }
 
-/// How many numbers a field has. Of the days of the week 0 and 7 are one.
+/// How many different numbers `field` has. In days of the week 0 and 7 are the same number.
 pub(crate) fn size(field: Field) -> u32
     ensures { result ≡ size field }
 {

@@ -1,4 +1,4 @@
-//! When crontabs run: the law that the schedules of an expression match just when its fields say
+//! When crontabs run: the law that the schedules of an expression match exactly when its fields say
 //! so.
 #![tactic(auto)]
 

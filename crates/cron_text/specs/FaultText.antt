@@ -1,4 +1,4 @@
--- The text of a fault that a reader answers.
+-- The message of a `Fault` of the code.
 use Rattle.std.specs.Prelude.{ℕ, List}
 use Rattle.cron_units.specs.Refusals.{message}
 use Rattle.cron_units.specs.Tables.{definition_view}

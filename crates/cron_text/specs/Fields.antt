@@ -35,12 +35,13 @@ is_connector dash = true
 is_connector slash = true
 is_connector _ = false
 
--- of a wildcard and a connector side by side, the second has no white space before it
+-- if one of two tokens side by side is a wildcard and the other a connector, no white space is
+-- between them
 abbrev pub spacing_fits : Token → Token → Bool
 spacing_fits t u =
     not u.spaced || not ((is_wildcard (symbol_of t) && is_connector (symbol_of u)) || (is_connector (symbol_of t) && is_wildcard (symbol_of u)))
 
--- each two tokens side by side keep to this
+-- each two tokens side by side keep to `spacing_fits`
 abbrev pub spacing_fits_all : List Token → Bool
 spacing_fits_all [] = true
 spacing_fits_all (t ∷ []) = true

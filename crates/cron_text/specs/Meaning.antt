@@ -65,7 +65,8 @@ monthly = record daily { days_of_month = unmarked (1 ∷ []) }
 abbrev pub yearly : Sets
 yearly = record monthly { months = 1 ∷ [] }
 
--- five words that stand for a whole schedule, and what they mean: those of the grammar without `@annually` and `@midnight`
+-- The first five of the words that stand for a whole schedule, and what they mean. An earlier
+-- grammar had only these (`MeantEarlier`).
 abbrev pub earlier_shorthands : List (List ℕ × Sets)
 earlier_shorthands =
     (codes "@yearly", yearly) ∷ (codes "@monthly", monthly) ∷ (codes "@weekly", weekly) ∷ (codes "@daily", daily) ∷ (codes "@hourly", hourly) ∷ []
@@ -82,7 +83,7 @@ meaning_in (e ∷ es) word = if bytes_eq word e.0 then Some e.1 else meaning_in 
 abbrev pub shorthand_of : List ℕ → Option Sets
 shorthand_of word = meaning_in shorthands word
 
--- a text without the white space before it
+-- a text without the white space at its front
 unfoldable pub trimmed_front : List ℕ → List ℕ
 trimmed_front [] = []
 trimmed_front (c ∷ cs) = if is_space c then trimmed_front cs else c ∷ cs
@@ -91,7 +92,7 @@ abbrev pub before_rest : ℕ → List ℕ → List ℕ
 before_rest c [] = if is_space c then [] else c ∷ []
 before_rest c (d ∷ ds) = c ∷ d ∷ ds
 
--- a text without the white space behind it
+-- a text without the white space at its end
 unfoldable pub trimmed_end : List ℕ → List ℕ
 trimmed_end [] = []
 trimmed_end (c ∷ cs) = before_rest c (trimmed_end cs)

@@ -10,7 +10,7 @@ use Rattle.cron_text.specs.Tokens.{tokens}
 abbrev pub IsInGrammar : List ℕ → Type 0
 IsInGrammar text = (s : Sets) × Means text s
 
--- a text means at most seven sets
+-- a text means at most one schedule: the same seven sets each time
 abbrev pub MeansOnce : Type 0
 MeansOnce = (text : List ℕ) (a b : Sets) → Means text a → Means text b → a ≡ b
 
@@ -18,7 +18,8 @@ MeansOnce = (text : List ℕ) (a b : Sets) → Means text a → Means text b →
 abbrev pub MeansSets : Type 0
 MeansSets = (text : List ℕ) (s : Sets) → Means text s → AreSets s
 
--- A text that is no shorthand is in the grammar exactly if its longest fronts are six or seven fields that denote sets, with nothing left over.
+-- A text that is no shorthand is in the grammar exactly if its longest fields, taken from the left,
+-- are six or seven that denote sets, with nothing left over.
 abbrev pub LongestFrontsAgree : Type 0
 LongestFrontsAgree =
     (text : List ℕ) → ((s : Sets) → IsShorthand text s → ⊥) → IsInGrammar text ↔ ((s : Sets) × TakeSets six_units (tokens text) (field_sets s))
@@ -27,10 +28,12 @@ LongestFrontsAgree =
 abbrev pub HasOneFault : Type 0
 HasOneFault = (text a b : List ℕ) → IsFault text a → IsFault text b → a ≡ b
 
--- what a text means by the grammar without a word for the last day of the month, and with the first five shorthands alone
+-- what a text means by an earlier grammar, without a word for the last day of the month, and with
+-- only the first five shorthands
 abbrev pub MeantEarlier : List ℕ → Sets → Type 0
 MeantEarlier text s = MeansBy (map without_last_day six_units) earlier_shorthands text s
 
--- a text that means seven sets by that grammar means the same ones, and has no mark
+-- a text that means seven sets by the earlier grammar (`MeantEarlier`) still means them, without
+-- the mark of the last day
 abbrev pub KeepsItsMeaning : Type 0
 KeepsItsMeaning = (text : List ℕ) (s : Sets) → MeantEarlier text s → Means text s × (s.days_of_month.last_day ≡ false)

@@ -1,4 +1,4 @@
-//! Why a text means nothing.
+//! Why a text means nothing as a schedule, and the message about it.
 
 ghost use Rattle.std.specs.Prelude.{◌≡◌};
 ghost use Rattle.cron_text.specs.FaultText.{fault_text};
@@ -9,10 +9,10 @@ use cron_units::specifier::{RefusedItem, item_error, text_error};
 use std::alloc::Global;
 use std::fmt;
 
-// What is told of a text that can't be read.
+// The message about a text that can't be read.
 const SYNTAX: &str = "Invalid cron expression.";
 
-/// Why a text means nothing. It borrows words of the text, and prints the message.
+/// Why a text means nothing. A fault borrows words of the text, and its `Display` is the message.
 #[derive(Clone, Copy)]
 pub enum Fault<'a> {
     /// The text can't be read, or its seventh field is refused.
@@ -35,7 +35,7 @@ impl<'a> fmt::Display for Fault<'a> {
     }
 }
 
-/// Makes the error that tells a fault.
+/// Makes an error with the message of `fault`.
 pub fn fault_error(alloc: Global, fault: Fault<'_>) -> Error
     ensures { Tells (λ text. text ≡ fault_text fault.entry) result }
 {

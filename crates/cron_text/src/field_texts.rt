@@ -1,5 +1,9 @@
-//! One field, read once from the left and joined into its set on the way. What white space beside a
-//! star means is decided here.
+//! Reads one field from left to right, once, and adds its items to its set on the way. A token is a
+//! number, a word or a sign. White space between a wildcard (`*` or `?`) and a connector ends the
+//! field.
+//!
+//! The two parts of a place are written one by one. A copy of the whole place would move its
+//! padding too, in pieces that overlap.
 
 ghost use Rattle.std.specs.Prelude.{◌≡◌, ◌<◌, length, MatchOption, IfSome, OnErr, OnOk, Some, None, List, false};
 ghost use Rattle.cron_units.specs.Views.{item_view};
@@ -44,7 +48,7 @@ fn connector_of(byte: u8) -> Option<Connector>
     }
 }
 
-/// The connector at a place.
+/// Returns the connector at `place`, or `None` if there is none.
 #[inline(always)]
 pub fn connector_at(text: &[u8], place: Place) -> Option<Connector>
     requires { IsPlace text.now place }
@@ -65,12 +69,12 @@ fn is_wildcard(symbol: Symbol<'_>) -> bool
     matches!(symbol, Symbol::Star | Symbol::Question)
 }
 
-/// What a connector and a token make of the item before them.
+/// The effect of a connector and a token on the item before them.
 #[derive(Clone, Copy)]
 pub enum Growth<'a> {
-    /// The item grows.
+    /// The token belongs to the item, which now is this one.
     Grown(Item<'a>),
-    /// The item is finished, and another follows it.
+    /// The item is complete, and this item follows it.
     Next(Item<'a>),
 }
 
@@ -94,9 +98,10 @@ fn growth_by<'a, T: TimeUnitField>(
     }
 }
 
-/// The next connector and token, where the field goes on with them: what they make of the item,
-/// whether the token is a wildcard as the last one was, and the place after it. Of a wildcard and a
-/// connector side by side, the second has no white space before it.
+/// Reads the next connector and token of the field. Returns their effect on `item`, whether the
+/// token is a wildcard (`*` or `?`), and the place after it. `None` if the field ends at `place`.
+/// `wildcard` says whether the token before is one. White space between a wildcard and a connector,
+/// on either side, ends the field before the connector.
 #[inline(always)]
 fn more_at<'a, T: TimeUnitField>(
     text: &'a str,
@@ -130,12 +135,14 @@ fn more_at<'a, T: TimeUnitField>(
     Some((growth, wildcard, after))
 }
 
-/// That a field isn't read. Its fault is written where the caller has room for it: as a result it
-/// would be moved through memory after each field, read ones too.
+/// The error of a field that isn't read. Its fault is written to a parameter of the reader. As part
+/// of the result, a fault would be copied through memory after each field, even after one without a
+/// fault.
 #[derive(Clone, Copy)]
 pub struct Unread;
 
-/// Adds what an item denotes to the set of a field.
+/// Adds what `item` denotes to `set`, the set of a field. If the item is refused, writes the fault
+/// to `fault`.
 #[inline(always)]
 fn add_to<'a, T: TimeUnitField>(
     set: &mut T,
@@ -159,8 +166,8 @@ fn add_to<'a, T: TimeUnitField>(
     }
 }
 
-/// Reads a field that is one star into a set, and finds the place after it. Most fields are such a
-/// star, and no token is made for it.
+/// Reads a field that is only a star into `set`, and returns the place after it. `None` if the
+/// field isn't only a star. Most fields are such a star, and no token is made for it.
 #[inline(always)]
 fn read_star<T: TimeUnitField>(text: &str, place: Place, set: &mut T) -> Option<Place>
     requires { IsPlace text.now place }
@@ -180,7 +187,9 @@ fn read_star<T: TimeUnitField>(text: &str, place: Place, set: &mut T) -> Option<
     }
 }
 
-/// Reads the longest field at a place item by item. Few fields come here.
+/// Reads the longest field at `place` item by item into `set`, and moves `place` to the place after
+/// it. If the field is refused, writes the fault to `fault`. Few fields get here: `read_star` and
+/// `read_plain` read most.
 #[inline(never)]
 fn read_items<'a, T: TimeUnitField>(
     text: &'a str,
@@ -225,7 +234,8 @@ fn read_items<'a, T: TimeUnitField>(
     Ok(())
 }
 
-/// Reads the longest field at a place into a set, and goes to the place after it.
+/// Reads the longest field at `place` into `set`, and moves `place` to the place after it. If the
+/// field is refused, writes the fault to `fault`.
 #[inline(always)]
 pub fn read_field<'a, T: TimeUnitField>(
     text: &'a str,

@@ -1,4 +1,4 @@
-//! The items that tokens make.
+//! The items that tokens make: one token by itself, a range of two, or a base with a step.
 
 ghost use Rattle.std.specs.Prelude.{◌≡◌};
 ghost use Rattle.std.specs.Option.{option_map};
@@ -10,7 +10,7 @@ use super::symbols::Symbol;
 use cron_units::specifier::{Base, Item};
 use cron_units::time_unit::TimeUnitField;
 
-/// The item that one token is.
+/// The item that the token `symbol` is by itself, or `None` if it is none.
 #[inline(always)]
 pub fn lone_item<'a, T: TimeUnitField>(symbol: Symbol<'a>) -> Option<Item<'a>>
     ensures { option_map item_view result ≡ lone_item T.unit (symbol_view symbol.entry) }
@@ -24,7 +24,7 @@ pub fn lone_item<'a, T: TimeUnitField>(symbol: Symbol<'a>) -> Option<Item<'a>>
     }
 }
 
-/// The range from an item to a token.
+/// The range from `item` to `end`. `None` if they aren't two numbers or two names.
 #[inline(always)]
 pub fn with_end<'a>(item: Item<'a>, end: Symbol<'a>) -> Option<Item<'a>>
     ensures { option_map item_view result
@@ -39,7 +39,7 @@ pub fn with_end<'a>(item: Item<'a>, end: Symbol<'a>) -> Option<Item<'a>>
     }
 }
 
-/// The item with a step.
+/// `item` with `step`. `None` if `item` can't have a step or `step` is no number.
 #[inline(always)]
 pub fn with_step<'a>(item: Item<'a>, step: Symbol<'a>) -> Option<Item<'a>>
     ensures { option_map item_view result

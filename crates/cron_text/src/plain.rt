@@ -1,6 +1,6 @@
-//! Fields as most are written: numbers and names, ranges and steps with commas between them, and
-//! white space behind them alone. They are added to a set as they are read. Any other field, and
-//! one that is refused, is left to the reader of tokens.
+//! Reads fields as most are written: numbers, names, ranges and steps with commas between them, and
+//! white space only at the end. The items are added to a set as they are read. Any other field, and
+//! a field that is refused, is left to the reader of tokens.
 
 ghost use Rattle.std.specs.Prelude.{◌≡◌, ◌<◌, ℕ, IfSome, IsTrue, length, slice_index};
 ghost use Rattle.cron_units.specs.Units.{TimeUnit, with_mark};
@@ -17,7 +17,8 @@ use super::tokens::{Place, is_digit, is_letter, skip_space};
 use cron_units::specifier::{Base, Item, add_item, add_name, add_names};
 use cron_units::time_unit::{Key, TimeUnitField, empty, with_letter};
 
-/// The number at an index, and where it ends.
+/// The number at the index `at`, and where it ends. `None` if there is no digit, or if 32 bits
+/// don't hold the number.
 #[inline(always)]
 fn number_from(text: &[u8], at: usize) -> Option<(u32, usize)>
     ensures { IfSome result (λ r. IsSymbolAt text.now at (number r.0) r.1) }
@@ -35,7 +36,7 @@ fn number_from(text: &[u8], at: usize) -> Option<(u32, usize)>
     }
 }
 
-/// Tells whether a byte stands at an index.
+/// Returns true if `byte` is at the index `at`.
 #[inline(always)]
 fn stands(text: &[u8], at: usize, byte: u8) -> bool
     ensures { IsTrue result → (at < length text.now) × (slice_index text.now at ≡ byte) }
@@ -43,7 +44,8 @@ fn stands(text: &[u8], at: usize, byte: u8) -> bool
     at < text.len() && text[at] == byte
 }
 
-/// The number behind a byte at an index, and where it ends.
+/// The number after `byte` at the index `at`, and where the number ends. `None` if `byte` or the
+/// number isn't there.
 #[inline(always)]
 fn number_behind(text: &[u8], at: usize, byte: u8) -> Option<(u32, usize)>
     ensures { IfSome result (λ r. IsBehind text.now at byte (number r.0) r.1) }
@@ -54,7 +56,8 @@ fn number_behind(text: &[u8], at: usize, byte: u8) -> Option<(u32, usize)>
     number_from(text, at + 1)
 }
 
-/// The item that a base is, with the step behind it, where one stands there.
+/// The item of `base` with the step that follows at `end`, if there is one, and where the item
+/// ends.
 #[inline(always)]
 fn item_of(text: &[u8], base: Base<'static>, end: usize) -> (Item<'static>, usize)
     ensures { (u : TimeUnit) (at : ℕ)
@@ -67,7 +70,8 @@ fn item_of(text: &[u8], base: Base<'static>, end: usize) -> (Item<'static>, usiz
     }
 }
 
-/// The item of numbers at an index, and where it ends.
+/// The item at the index `at` that begins with a number, and where it ends. `None` if it doesn't
+/// begin with a number.
 #[inline(always)]
 fn numbers_at(text: &[u8], at: usize) -> Option<(Item<'static>, usize)>
     ensures { IfSome result (λ r. (u : TimeUnit) → IsItemAt u text.now at (item_view r.0) r.1) }
@@ -79,7 +83,8 @@ fn numbers_at(text: &[u8], at: usize) -> Option<(Item<'static>, usize)>
     }
 }
 
-/// The item of a star with a step at an index, and where it ends. A star without one is left.
+/// The item at the index `at` that is a star with a step, and where it ends. `None` for a star
+/// without a step, and for anything else.
 #[inline(always)]
 fn star_at(text: &[u8], at: usize) -> Option<(Item<'static>, usize)>
     ensures { IfSome result (λ r. (u : TimeUnit) → IsItemAt u text.now at (item_view r.0) r.1) }
@@ -91,7 +96,7 @@ fn star_at(text: &[u8], at: usize) -> Option<(Item<'static>, usize)>
     Some((Item::Stepped(Base::Every, step), end))
 }
 
-/// The key of the word at an index, and where the word ends.
+/// The key of the word at the index `at`, and where the word ends. `None` if there is no letter.
 #[inline(always)]
 fn word_from(text: &[u8], at: usize) -> Option<(Key, usize)>
     ensures { IfSome result (λ r. IsWordAt text.now at r.0 r.1) }
@@ -112,7 +117,8 @@ fn word_from(text: &[u8], at: usize) -> Option<(Key, usize)>
     Some((key, text.len()))
 }
 
-/// Adds what the name or the range of names at an index denotes, and finds where it ends.
+/// Adds what the name or the range of names at the index `at` denotes to `set`, and returns where
+/// it ends. `None`, with `set` unchanged, if there is no name or it is refused.
 #[inline(always)]
 fn add_words<T: TimeUnitField>(text: &[u8], at: usize, set: &mut T) -> Option<usize>
     ensures { IfSome result (λ end. IsAddedAt T.unit text.now at end
@@ -135,7 +141,8 @@ fn add_words<T: TimeUnitField>(text: &[u8], at: usize, set: &mut T) -> Option<us
     }
 }
 
-/// Adds what the item at an index denotes, and finds where it ends.
+/// Adds what the item at the index `at` denotes to `set`, and returns where it ends. `None`, with
+/// `set` unchanged, if nothing is there that this module reads, or if it is refused.
 #[inline(always)]
 fn add_plain<T: TimeUnitField>(text: &[u8], at: usize, set: &mut T) -> Option<usize>
     ensures { IfSome result (λ end. IsAddedAt T.unit text.now at end
@@ -155,7 +162,9 @@ fn add_plain<T: TimeUnitField>(text: &[u8], at: usize, set: &mut T) -> Option<us
     }
 }
 
-/// Reads a field of such items into a set, and finds the place after it.
+/// Reads a field of numbers, names, ranges and steps with commas between them into `set`, and
+/// returns the place after it. `None`, with `set` unchanged, if the field has anything else or is
+/// refused.
 #[inline(always)]
 pub fn read_plain<T: TimeUnitField>(text: &[u8], place: Place, set: &mut T) -> Option<Place>
     ensures taken { IfSome result (λ after. TakesField T.unit

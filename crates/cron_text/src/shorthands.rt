@@ -57,7 +57,7 @@ fn yearly() -> ScheduleFields
     }
 }
 
-/// What a shorthand means.
+/// The schedule that the shorthand `word` means, or `None` if it is no shorthand.
 pub fn shorthand_named(word: &[u8]) -> Option<ScheduleFields>
     ensures { result ≡ shorthand_of word.now }
 {

@@ -1,7 +1,5 @@
-//! What the grammar sees in a token. That a number past 32 bits is foreign is decided here.
-//!
-//! A token is read once, with its symbol. The two parts of a place are written one by one: a copy
-//! of the whole moves its padding too, in pieces that overlap.
+//! Symbols: what the grammar sees of a token. A token is read once, with its symbol. A number that
+//! 32 bits don't hold is a foreign symbol.
 
 ghost use Rattle.std.specs.Prelude.{◌≡◌, ◌<◌, ◌+◌, ◌*◌, [], ℕ, length, slice_index, MatchOption, IfSome, true, false};
 ghost use Rattle.std.specs.Char.{digit_value};
@@ -21,11 +19,11 @@ pub enum Symbol<'a> {
     Comma,
     Dash,
     Slash,
-    /// A number past 4294967295, or a byte that stands in no field.
+    /// A number greater than 4294967295, or a byte that may be in no field.
     Foreign,
 }
 
-/// What the grammar sees in a single byte.
+/// The symbol of a byte that is neither a digit nor a letter.
 #[inline(always)]
 fn sign(byte: u8) -> Symbol<'static>
     ensures { symbol_view result ≡ sign_of byte }
@@ -40,7 +38,8 @@ fn sign(byte: u8) -> Symbol<'static>
     }
 }
 
-/// The number that digits spell with one more of them, or one that 32 bits don't hold.
+/// The number `value` with one more digit at its end. A `value` that 32 bits don't hold is returned
+/// unchanged.
 #[inline(always)]
 fn with_digit(value: u64, digit: u8) -> u64
     requires digit { is_digit digit ≡ true }
@@ -53,7 +52,7 @@ fn with_digit(value: u64, digit: u8) -> u64
     value * 10 + u64::from(digit - b'0')
 }
 
-/// The number with this value, if it fits.
+/// The symbol of the number `value`, which is foreign if 32 bits don't hold it.
 #[inline(always)]
 fn number(value: u64) -> Symbol<'static>
     ensures { (n : ℕ) → IsCapped n value → symbol_view result ≡ number_symbol n }
@@ -64,8 +63,8 @@ fn number(value: u64) -> Symbol<'static>
     }
 }
 
-/// The value of the digits that begin at an index, and where they end. Each digit is looked at
-/// once.
+/// The value of the digits that begin at the index `at`, and where they end. If 32 bits don't hold
+/// the value, another value that they don't hold may be returned. Each digit is read once.
 #[inline(always)]
 pub fn digits_at(text: &[u8], at: usize) -> (u64, usize)
     requires within { at < length text.now }
@@ -82,7 +81,7 @@ pub fn digits_at(text: &[u8], at: usize) -> (u64, usize)
     (value, text.len())
 }
 
-/// The number that begins at an index, and where it ends.
+/// The symbol of the number that begins at the index `at`, and where the number ends.
 #[inline(always)]
 fn number_at(text: &str, at: usize) -> (Symbol<'_>, usize)
     requires within { at < length text.now }
@@ -93,7 +92,7 @@ fn number_at(text: &str, at: usize) -> (Symbol<'_>, usize)
     (number(value), end)
 }
 
-/// The word that begins at an index, and where it ends.
+/// The symbol of the word that begins at the index `at`, and where the word ends.
 #[inline(always)]
 fn word_at(text: &str, at: usize) -> (Symbol<'_>, usize)
     requires within { at < length text.now }
@@ -104,7 +103,7 @@ fn word_at(text: &str, at: usize) -> (Symbol<'_>, usize)
     (Symbol::Word(&text[at..end]), end)
 }
 
-/// The token that begins at an index: what the grammar sees in it, and where it ends.
+/// The symbol of the token that begins at the index `at`, and where the token ends.
 #[inline(always)]
 fn symbol_at(text: &str, at: usize) -> (Symbol<'_>, usize)
     requires within { at < length text.now }
@@ -121,15 +120,15 @@ fn symbol_at(text: &str, at: usize) -> (Symbol<'_>, usize)
     (sign(first), at + 1)
 }
 
-/// A token, by what the grammar sees in it.
+/// A token, as the grammar sees it.
 #[derive(Clone, Copy)]
 pub struct Token<'a> {
-    /// White space stands directly before it.
+    /// True if white space is directly before the token.
     pub spaced: bool,
     pub symbol: Symbol<'a>,
 }
 
-/// The token at a place, and the place of the next one.
+/// The token at `place`, and the place of the next token. `None` at the end of the text.
 #[inline(always)]
 pub fn token_at(text: &str, place: Place) -> Option<(Token<'_>, Place)>
     requires { IsPlace text.now place }
@@ -146,8 +145,8 @@ pub fn token_at(text: &str, place: Place) -> Option<(Token<'_>, Place)>
     Some((Token { spaced, symbol }, skip_space(text.as_bytes(), end)))
 }
 
-/// The place behind a star that no connector goes on with: white space stands behind it, or
-/// nothing.
+/// The place after a star at `place`, if white space or the end of the text follows the star
+/// directly. Else `None`.
 #[inline(always)]
 pub fn lone_star_at(text: &[u8], place: Place) -> Option<Place>
     requires { IsPlace text.now place }

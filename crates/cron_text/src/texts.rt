@@ -1,4 +1,4 @@
-//! Whole texts: a shorthand, or six fields and years or none.
+//! Whole texts: a shorthand, or six fields and perhaps a seventh of years.
 
 ghost use Rattle.std.specs.Prelude.{◌≡◌, ◌≤◌, [], List, false, length, drop, IsTrue, OnErr, OnOk};
 ghost use Rattle.cron_text.specs.Fault.{IsRefusal};
@@ -15,7 +15,8 @@ use super::tokens::{Place, skip_space, trimmed_end};
 use cron_units::fields::ScheduleFields;
 use cron_units::time_unit::{Years, empty, whole};
 
-/// The sets of the shorthand from an index on, behind which white space may stand.
+/// The sets of the shorthand that begins at the index `at`. `None` if the rest of the text is no
+/// shorthand. White space may follow the shorthand.
 #[inline(always)]
 fn shorthand_at(text: &[u8], at: usize) -> Option<ScheduleFields>
     requires { at ≤ length text.now }
@@ -30,8 +31,8 @@ fn shorthand_at(text: &[u8], at: usize) -> Option<ScheduleFields>
     shorthand_named(trimmed_end(&text[at..]))
 }
 
-/// Reads the years after the six fields, all of them where nothing is left. A refused field of
-/// years has no message of its own.
+/// Reads the years after the six fields. All years are meant if no text is left. A refused field of
+/// years has no message of its own: its fault is `Fault::Syntax`.
 fn read_years<'a>(
     text: &'a str,
     start: Place,
@@ -85,7 +86,7 @@ pub fn no_ordinals() -> ScheduleFields
     }
 }
 
-/// Reads six fields, and years or none.
+/// Reads six fields, and years if there are any.
 #[inline(never)]
 fn read_fields<'a>(
     text: &'a str,
@@ -110,9 +111,9 @@ fn read_fields<'a>(
     Ok(())
 }
 
-/// Reads six fields, and years or none. It stands alone, so that a shorthand doesn't pay for the
-/// room that a fault takes. The fault isn't handed out: most texts have none, and whoever wants it
-/// asks for it.
+/// Reads six fields, and years if there are any. Returns true if they are read. It is a function of
+/// its own, so that a shorthand doesn't pay for the room that a fault takes. The fault isn't
+/// returned. Most texts have none, and a caller that wants it calls `fault_of`.
 #[inline(never)]
 fn longhand(text: &str, start: Place, fields: &mut ScheduleFields) -> bool
     requires { IsPlace text.now start }
@@ -130,7 +131,8 @@ fn longhand(text: &str, start: Place, fields: &mut ScheduleFields) -> bool
     }
 }
 
-/// Reads a text into seven sets, and tells whether it means any. No memory is taken.
+/// Reads `text` into seven sets, and returns true if it means a schedule. If it returns false, the
+/// sets mean nothing. Allocates no memory.
 pub fn read_into(text: &str, fields: &mut ScheduleFields) -> bool
     ensures sets { IsTrue result → Means text.now fields.new }
     ensures nothing { result ≡ false → MeansNothing text.now }
@@ -146,7 +148,7 @@ pub fn read_into(text: &str, fields: &mut ScheduleFields) -> bool
     }
 }
 
-/// Why a text means nothing. No memory is taken.
+/// Returns why `text` means nothing. Allocates no memory.
 pub fn fault_of(text: &str) -> Fault<'_>
     requires { MeansNothing text.now }
     ensures { IsRefusal text.now (fault_text result) }

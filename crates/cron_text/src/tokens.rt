@@ -1,12 +1,12 @@
-//! Where the tokens of a text begin and end.
+//! Where the tokens of a text begin and end. A token is a number, a word of letters, or one sign.
 
 ghost use Rattle.std.specs.Prelude.{◌≡◌, ◌≤◌, ◌<◌, length, drop, slice_index, ℕ, true, false};
 ghost use Rattle.cron_text.specs.Tokens.{tokens, is_space, is_digit, is_letter};
 ghost use Rattle.cron_text.specs.Meaning.{trimmed_front, trimmed_end};
 ghost use Rattle.cron_text.specs.Inner.Places.{IsPlace, tokens_from};
 
-/// White space is space, tab, carriage return and line feed. Most bytes that are asked for are
-/// greater.
+/// Returns true if `byte` is a space, a tab, a carriage return or a line feed. Most bytes that this
+/// is called with are greater.
 #[inline(always)]
 pub fn is_space(byte: u8) -> bool
     ensures { result ≡ is_space byte }
@@ -35,11 +35,11 @@ pub fn is_letter(byte: u8) -> bool
 #[derive(Clone, Copy)]
 pub struct Place {
     pub at: usize,
-    /// White space stands directly before it.
+    /// True if white space is directly before the token. False at the end of the text.
     pub spaced: bool,
 }
 
-/// The first place behind white space.
+/// The first place at or after `from` that isn't white space, or the end of the text.
 #[inline(always)]
 pub fn skip_space(text: &[u8], from: usize) -> Place
     requires { from ≤ length text.now }
@@ -60,7 +60,7 @@ pub fn skip_space(text: &[u8], from: usize) -> Place
     }
 }
 
-/// The end of the letters from an index on.
+/// The index where the letters from the index `from` on end.
 pub fn letters_end(text: &[u8], from: usize) -> usize
     requires { from ≤ length text.now }
     ensures within { result ≤ length text.now }

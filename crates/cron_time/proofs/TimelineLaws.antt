@@ -11,42 +11,28 @@ use Rattle.jiff_tz.specs.declared.ambiguous.AmbiguousOffset.{AmbiguousOffset}
 use Rattle.jiff_tz.specs.declared.ambiguous.AmbiguousOffset.TheVariants.{Unambiguous, Gap, Fold}
 use Rattle.cron_moments.specs.Civil.{civil}
 use Rattle.cron_moments.specs.Readings.{Reading, reading, readings, readings_by}
-use Rattle.cron_time.specs.Search.{items_of, has_item}
-use Rattle.cron_units.specs.Sets.{Sets}
-use Rattle.cron_time.specs.Matches.{matches}
+use Rattle.cron_time.specs.Seconds.{Seconds, items_of, timeline}
+use Rattle.cron_time.specs.Timeline.{seconds_of}
 use Rattle.cron_time.specs.Walk.Laws.{SecondsNeverDecrease, SecondsStandTwiceAtMost, ItemsMatch, ItemsStandOnce}
 use Rattle.cron_time.proofs.PlaceLemmas.{nothing_in_nil}
 use Rattle.cron_time.proofs.JoinedLemmas.{joined, joined-zero, joined-suc, owner}
-use Rattle.cron_time.proofs.TimelineLemmas.{before-up, is_in, items_of-second, timeline-joined}
+use Rattle.cron_time.proofs.TimelineLemmas.{before-up, in_readings, is_in, item_of, items_of-second, timeline-joined}
 
 pub never_decrease : SecondsNeverDecrease
 never_decrease s z i j x y le here there =
     elim (cases_lt y.second x.second) [
       | inl lt ↦
-          let first = is_in s z i x here in
-          let second = is_in s z j y there in
-          let up = before-up s z (y.second + 1) x.second (omega arith) in
+          let first = is_in (seconds_of s) z i x here in
+          let second = is_in (seconds_of s) z j y there in
+          let up = before-up (seconds_of s) z (y.second + 1) x.second (omega arith) in
           let low = first.low in
           let high = second.high in
           absurd (omega arith)
       | inr ge ↦ ge
     ]
 
-stands-matches : (s : Sets) (z : TimeZone) (c : ℕ) → has_item (items_of s z c) ≡ true → matches s (civil c) ≡ true
-unfolding items_of
-stands-matches s z c h =
-    elim (matches s (civil c)) as (λ m. has_item (cond m (readings z c) []) ≡ true → m ≡ true) [
-      | true ↦ λ k. refl
-      | false ↦ λ k. k
-    ] h
-
-second_of : (a b : Bool) → (a && b) ≡ true → b ≡ true
-second_of true b h = h
-second_of false b h = cc
-
 pub items_match : ItemsMatch
-items_match s z i x here =
-    stands-matches s z x.second (second_of _ _ (is_in s z i x here).stands)
+items_match s z i x here = (item_of (seconds_of s) z i x here).matching
 
 -- ---- at most twice
 
@@ -59,10 +45,10 @@ short_by c (Fold b a) =
       | false ↦ omega arith
     ]
 
-items_of-short : (s : Sets) (z : TimeZone) (c : ℕ) → length (items_of s z c) ≤ 2
+items_of-short : (s : Seconds) (z : TimeZone) (c : ℕ) → length (items_of s z c) ≤ 2
 unfolding items_of readings
 items_of-short s z c =
-    elim (matches s (civil c)) as (λ m. length (cond m (readings_by c (ambiguous_at z (civil c))) []) ≤ 2) [
+    elim (s c) as (λ m. length (cond m (readings_by c (ambiguous_at z (civil c))) []) ≤ 2) [
       | true ↦ short_by c (ambiguous_at z (civil c))
       | false ↦ omega arith
     ]
@@ -79,7 +65,7 @@ differ c d lt = grind arith
 differ_back : (c d : ℕ) → d < c → nat_eq c d ≡ false
 differ_back c d lt = grind arith
 
-module _ (s : Sets) (z : TimeZone) (c : ℕ) where
+module _ (s : Seconds) (z : TimeZone) (c : ℕ) where
   abbrev has_second : Reading → Bool
   has_second r = nat_eq r.second c
 
@@ -116,7 +102,7 @@ module _ (s : Sets) (z : TimeZone) (c : ℕ) where
 
 pub twice_at_most : SecondsStandTwiceAtMost
 twice_at_most s z c =
-    rw (timeline-joined s z) (count_all s z c 4_133_980_800)
+    rw (timeline-joined (seconds_of s) z) (count_all (seconds_of s) z c 4_133_980_800)
 
 -- ---- once each
 
@@ -147,24 +133,23 @@ places_by c (Fold b a) x i j e f = by_offsets (int_eq b.seconds a.seconds) refl 
     by_offsets true is g h = (only_place _ x i g).0 ∙ sym (only_place _ x j h).0
     by_offsets false is g h = places_of_two (reading c b) (reading c a) x i j (apart is) g h
 
-places_in : (s : Sets) (z : TimeZone) (c : ℕ) (x : Reading) (i j : ℕ) → slice_get (items_of s z c) i ≡ Some x → slice_get (items_of s z c) j ≡ Some x → i ≡ j
-unfolding items_of readings
-places_in s z c x i j =
-    elim (matches s (civil c)) as (λ m. slice_get (cond m (readings_by c (ambiguous_at z (civil c))) []) i ≡ Some x
-    → slice_get (cond m (readings_by c (ambiguous_at z (civil c))) []) j ≡ Some x → i ≡ j) [
-      | true ↦ places_by c (ambiguous_at z (civil c)) x i j
-      | false ↦ λ e f. absurd (nothing_in_nil i x e)
-    ]
+places_in : (z : TimeZone) (c : ℕ) (x : Reading) (i j : ℕ) → slice_get (readings z c) i ≡ Some x → slice_get (readings z c) j ≡ Some x → i ≡ j
+unfolding readings
+places_in z c x i j e f = places_by c (ambiguous_at z (civil c)) x i j e f
 
-one_place : (s : Sets) (z : TimeZone) (c d : ℕ) (x : Reading) (u v i j : ℕ) → c ≡ d → slice_get (items_of s z c) u ≡ Some x
+one_place : (s : Seconds) (z : TimeZone) (c d : ℕ) (x : Reading) (u v i j : ℕ) → c ≡ d → slice_get (items_of s z c) u ≡ Some x
     → slice_get (items_of s z d) v ≡ Some x → i ≡ length (joined (items_of s z) c) + u → j ≡ length (joined (items_of s z) d) + v → i ≡ j
 one_place s z c d x u v i j same here there first second =
-    let inner : u ≡ v = places_in s z d x u v (ap (λ n. slice_get (items_of s z n) u) (sym same) ∙ here) there in
+    let inner : u ≡ v = places_in z d x u v (in_readings s z d u x (ap (λ n. slice_get (items_of s z n) u) (sym same) ∙ here)) (in_readings s z d v x there) in
     first ∙ ap (λ n. length (joined (items_of s z) n) + u) same ∙ ap (λ k. length (joined (items_of s z) d) + k) inner ∙ sym second
 
-pub stand_once : ItemsStandOnce
-stand_once s z i j x here there =
+-- no item of a set stands at two places
+pub stands_once : (s : Seconds) (z : TimeZone) (i j : ℕ) (x : Reading) → slice_get (timeline s z) i ≡ Some x → slice_get (timeline s z) j ≡ Some x → i ≡ j
+stands_once s z i j x here there =
     let a = owner (items_of s z) 4_133_980_800 i x (rw (timeline-joined s z) at here) in
     let b = owner (items_of s z) 4_133_980_800 j x (rw (timeline-joined s z) at there) in
     let same = sym (items_of-second s z a.number a.place x a.here) ∙ items_of-second s z b.number b.place x b.here in
     one_place s z a.number b.number x a.place b.place i j same a.here b.here a.is b.is
+
+pub stand_once : ItemsStandOnce
+stand_once s = stands_once (seconds_of s)

@@ -1,3 +1,4 @@
+pub mod Seconds
 pub mod Matches
 pub mod Timeline
 pub mod Search

@@ -10,7 +10,7 @@ use Rattle.cron_moments.specs.CivilDates.{date_numbered}
 use Rattle.cron_units.specs.Sets.{Sets}
 use Rattle.cron_units.specs.Units.{FieldSet, contains}
 
--- no year before 0 is a member
+-- the list has this year; no year before 0 is a member
 abbrev pub contains_year : List ℕ → ℤ → Bool
 contains_year xs (pos y) = contains xs y
 contains_year xs (negsuc y) = false
@@ -27,11 +27,11 @@ matches_day_of_month s d = has_day s.days_of_month (days_in_month d.year d.month
 abbrev pub is_candidate : Sets → Date → Bool
 is_candidate s d = contains_year s.years d.year && contains s.months d.month && matches_day_of_month s d
 
--- the day of the week lies in its set too
+-- the date matches: it is a candidate, and its day of the week lies in its set
 abbrev pub matches_date : Sets → Date → Bool
 matches_date s d = is_candidate s d && contains s.days_of_week (weekday_number d)
 
--- each date of the range does
+-- each date of the range matches
 abbrev pub IncludesEachDate : Sets → Type 0
 IncludesEachDate s = (day : ℕ) → day < days_in_range → matches_date s (date_numbered day).0 ≡ true
 

@@ -1,21 +1,22 @@
--- The timeline of seven sets in a zone: a list that is never computed.
-use Rattle.std.specs.Prelude.{ℕ, zero, suc, List, [], ◌∷◌, ◌++◌, filter}
-use Rattle.std.specs.List.{flat_map}
+-- The timeline of seven sets in a zone: the readings of the civil seconds that match them. A
+-- reading is a civil second with an offset at which the zone's clock shows it.
+use Rattle.std.specs.Prelude.{ℕ, List}
 use Rattle.jiff_tz.specs.declared.timezone.TimeZone.{TimeZone}
-use Rattle.cron_moments.specs.Civil.{civil, seconds_in_range}
-use Rattle.cron_moments.specs.Readings.{Reading, readings}
+use Rattle.cron_moments.specs.Civil.{civil}
+use Rattle.cron_moments.specs.Readings.{Reading}
 use Rattle.cron_units.specs.Sets.{Sets}
 use Rattle.cron_time.specs.Matches.{matches}
+use Rattle.cron_time.specs.Seconds.{Seconds}
+use Rattle.cron_time.specs.Seconds as seconds
 
--- the numbers below n, in ascending order
-unfoldable pub numbers_below : ℕ → List ℕ
-numbers_below zero = []
-numbers_below (suc n) = numbers_below n ++ n ∷ []
+-- the civil seconds that match, as a test of their numbers
+abbrev pub seconds_of : Sets → Seconds
+seconds_of s = λ c. matches s (civil c)
 
--- the civil seconds below n that match, in ascending order, each replaced by its readings
-unfoldable pub items_below : Sets → TimeZone → ℕ → List Reading
-items_below s z n = flat_map (readings z) (filter (λ c. matches s (civil c)) (numbers_below n))
+-- the readings of the matching civil seconds below a number
+abbrev pub items_below : Sets → TimeZone → ℕ → List Reading
+items_below s z n = seconds.items_below (seconds_of s) z n
 
 -- the readings of all civil seconds that match, 1970-01-01 00:00:00 to 2100-12-31 23:59:59
-unfoldable pub timeline : Sets → TimeZone → List Reading
-timeline s z = items_below s z seconds_in_range
+abbrev pub timeline : Sets → TimeZone → List Reading
+timeline s z = seconds.timeline (seconds_of s) z

@@ -1,5 +1,6 @@
-//! The civil seconds that match the sets of a schedule: the search for the nearest one that has a
-//! reading in a zone, and the steps of a walk over the readings.
+//! The civil seconds that match the seven sets of a schedule, and their readings in a zone. A
+//! reading is a civil second with an offset at which the zone's clock shows it. `search` finds the
+//! nearest match that has a reading, and `walk` steps from reading to reading.
 #![tactic(auto)]
 
 pub mod matching;

@@ -1,4 +1,4 @@
-//! Which dates and times lie in the seven sets.
+//! Whether a date or a time of day lies in the seven sets of a schedule.
 
 ghost use Rattle.std.specs.Prelude.{◌≡◌, ℕ, ◌+◌, ◌<◌, ◌≤◌, true};
 ghost use Rattle.cron_bits.specs.Words.{has_bit};
@@ -31,15 +31,15 @@ fn is_candidate(fields: &ScheduleFields, date: Date) -> bool
         && includes_day_of_month(fields, date)
 }
 
-// Whether the date lies in the four sets of dates.
-fn includes_date(fields: &ScheduleFields, date: Date) -> bool
+/// Whether the date lies in the sets of years, months, days of the month and days of the week.
+pub fn includes_date(fields: &ScheduleFields, date: Date) -> bool
     ensures { result ≡ matches_date fields.now date }
 {
     is_candidate(fields, date)
         && fields.includes_weekday(date.weekday().to_sunday_one_offset() as u32)
 }
 
-// Whether the time of day lies in the three sets of times.
+// Whether the time of day lies in the sets of hours, minutes and seconds.
 fn includes_time(fields: &ScheduleFields, time: Time) -> bool
     ensures { result ≡ matches_time fields.now time }
 {
@@ -56,7 +56,7 @@ pub fn includes(fields: &ScheduleFields, date_time: DateTime) -> bool
     includes_date(fields, date_time.date()) && includes_time(fields, date_time.time())
 }
 
-// Whether so many bits are 1, and no others.
+// Whether the first `count` bits are 1, and no others.
 #[inline(always)]
 fn is_full(word: u64, count: u32) -> bool
     requires { count ≤ 64 }
@@ -65,7 +65,7 @@ fn is_full(word: u64, count: u32) -> bool
     word == u64::full().below(count)
 }
 
-// Whether each year of the range lies in its set.
+// Whether each year from 1970 to 2100 lies in its set.
 #[inline(always)]
 fn includes_each_year(fields: &ScheduleFields) -> bool
     ensures { result ≡ true → (k : ℕ) → k < years_in_range
@@ -81,7 +81,8 @@ fn includes_each_year(fields: &ScheduleFields) -> bool
     is_full(third, 3)
 }
 
-/// Whether each date of the range lies in the four sets of dates, since each of them is whole.
+/// Returns true if the sets of years, months, days of the month and days of the week are whole.
+/// Then each date from 1970 to 2100 matches.
 #[inline(always)]
 pub(crate) fn includes_each_date(fields: &ScheduleFields) -> bool
     ensures { result ≡ true → IncludesEachDate fields.now }

@@ -1,12 +1,11 @@
 -- Of two schedules one may lack what the other has too.
 use Rattle.std.proofs.Common.{◌≡◌, Bool, true, false, ◌&&◌, ◌||◌, not, refl, [], ◌∷◌}
-use Rattle.std.proofs.lemmas.List.Elements.{filter_agree}
 use Rattle.jiff_core.specs.declared.civil.datetime.DateTime.{DateTime}
-use Rattle.cron_moments.specs.Civil.{civil, seconds_in_range}
+use Rattle.cron_moments.specs.Civil.{civil}
 use Rattle.cron_units.specs.Sets.{Sets}
 use Rattle.cron_time.specs.Matches.{matches}
-use Rattle.cron_time.specs.Timeline.{numbers_below}
-use Rattle.cron_unions.specs.Unions.{matches_any, seconds_of_any}
+use Rattle.cron_unions.specs.Unions.{any_of}
+use Rattle.cron_unions.proofs.UnionLemmas.{same_sets}
 
 -- a part that the second has too may go
 pub own_or : (a h r b : Bool) → r ≡ (a && not h) → ((a && h) ≡ true → b ≡ true) → (r || b) ≡ (a || b)
@@ -27,9 +26,7 @@ both_parts false false p false first second = first
 pub parts_same : (one other own rest : Sets)
     → ((dt : DateTime) → (matches own dt || matches other dt) ≡ (matches one dt || matches other dt))
     → ((dt : DateTime) → (matches rest dt || matches own dt) ≡ (matches other dt || matches own dt))
-    → seconds_of_any (own ∷ rest ∷ []) ≡ seconds_of_any (one ∷ other ∷ [])
-unfolding seconds_of_any
+    → any_of (own ∷ rest ∷ []) ≡ any_of (one ∷ other ∷ [])
 parts_same one other own rest first second =
-    filter_agree (λ c. matches_any (own ∷ rest ∷ []) (civil c)) (λ c. matches_any (one ∷ other ∷ []) (civil c))
+    same_sets (any_of (own ∷ rest ∷ [])) (any_of (one ∷ other ∷ []))
     (λ c. both_parts (matches own (civil c)) (matches rest (civil c)) (matches one (civil c)) (matches other (civil c)) (first (civil c)) (second (civil c)))
-    (numbers_below seconds_in_range)

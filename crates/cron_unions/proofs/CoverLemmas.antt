@@ -2,28 +2,21 @@
 use Rattle.std.proofs.Common.{◌≡◌, ℕ, ◌+◌, ◌-◌, ◌<◌, ◌≤◌, pos, negsuc, ℤ, Bool, true, false, ◌&&◌, ◌||◌, cond, List, [], ◌∷◌, inl, inr, refl, sym, ap, ◌∙◌, subst, length, get_or, arith, bit_and}
 use Rattle.std.specs.Prelude.{◌==◌, map, nat_eq, nat_lt}
 use Rattle.std.proofs.lemmas.Bool.{cases_lt}
-use Rattle.std.proofs.lemmas.List.Elements.{filter_agree}
 use Rattle.jiff_core.specs.declared.civil.date.Date.{Date}
 use Rattle.jiff_core.specs.declared.civil.time.Time.{Time}
 use Rattle.jiff_core.specs.declared.civil.datetime.DateTime.{DateTime}
 use Rattle.jiff_core.specs.Calendar.{days_in_month}
-use Rattle.jiff_tz.specs.declared.timezone.TimeZone.{TimeZone}
 use Rattle.cron_bits.specs.Words.{bit_of_three, has_bit}
 use Rattle.cron_bits.proofs.WordLemmas.{bit_and_test}
 use Rattle.cron_moments.specs.Calendar.{weekday_number}
-use Rattle.cron_moments.specs.Civil.{civil, seconds_in_range}
+use Rattle.cron_moments.specs.Civil.{civil}
 use Rattle.cron_units.specs.Sets.{Sets}
 use Rattle.cron_units.specs.Units.{FieldSet, TimeUnit, contains, set_of}
 use Rattle.cron_units.proofs.SetLemmas.{contains_before}
 use Rattle.cron_time.specs.Matches.{contains_year, has_day, is_candidate, matches, matches_date, matches_day_of_month, matches_time}
-use Rattle.cron_time.specs.Timeline.{numbers_below}
-use Rattle.cron_dues.specs.Due.{due}
-use Rattle.cron_moments.specs.Readings.{readings}
-use Rattle.std.specs.List.{flat_map}
-use Rattle.cron_instants.specs.Fires.{earliest_first}
 use Rattle.cron_unions.specs.Inner.Covers.{Covers, HasAll}
-use Rattle.cron_unions.specs.Unions.{fires_any, matches_any, seconds_of_any, timeline_any}
-use Rattle.cron_unions.specs.UnionDues.{dues_any}
+use Rattle.cron_unions.specs.Unions.{any_of}
+use Rattle.cron_unions.proofs.UnionLemmas.{same_sets}
 
 -- ---- sets by their bits
 
@@ -115,25 +108,15 @@ second_alone a false f = refl
 second_alone true true f = refl
 second_alone false true f = let e = f refl in cc
 
-pub without_second : (t s : Sets) → Covers t s → seconds_of_any (t ∷ []) ≡ seconds_of_any (t ∷ s ∷ [])
-unfolding seconds_of_any
+pub without_second : (t s : Sets) → Covers t s → any_of (t ∷ []) ≡ any_of (t ∷ s ∷ [])
 without_second t s covers =
-    filter_agree (λ c. matches_any (t ∷ []) (civil c)) (λ c. matches_any (t ∷ s ∷ []) (civil c))
-    (λ c. first_alone (matches t (civil c)) (matches s (civil c)) (match_in t s covers (civil c))) (numbers_below seconds_in_range)
+    same_sets (any_of (t ∷ [])) (any_of (t ∷ s ∷ []))
+    (λ c. first_alone (matches t (civil c)) (matches s (civil c)) (match_in t s covers (civil c)))
 
-pub without_first : (t s : Sets) → Covers t s → seconds_of_any (t ∷ []) ≡ seconds_of_any (s ∷ t ∷ [])
-unfolding seconds_of_any
+pub without_first : (t s : Sets) → Covers t s → any_of (t ∷ []) ≡ any_of (s ∷ t ∷ [])
 without_first t s covers =
-    filter_agree (λ c. matches_any (t ∷ []) (civil c)) (λ c. matches_any (s ∷ t ∷ []) (civil c))
-    (λ c. second_alone (matches t (civil c)) (matches s (civil c)) (match_in t s covers (civil c))) (numbers_below seconds_in_range)
-
--- what zones make of the civil seconds is the same too
-pub fires_same : (ss ts : List Sets) (z : TimeZone) → seconds_of_any ss ≡ seconds_of_any ts → fires_any ss z ≡ fires_any ts z
-unfolding timeline_any
-fires_same ss ts z e = ap (λ cs. earliest_first (flat_map (readings z) cs)) e
-
-pub dues_same : (ss ts : List Sets) (z : TimeZone) → seconds_of_any ss ≡ seconds_of_any ts → dues_any ss z ≡ dues_any ts z
-dues_same ss ts z e = ap (λ cs. map (due z) cs) e
+    same_sets (any_of (t ∷ [])) (any_of (s ∷ t ∷ []))
+    (λ c. second_alone (matches t (civil c)) (matches s (civil c)) (match_in t s covers (civil c)))
 
 -- ---- lists of two
 

@@ -5,21 +5,23 @@ use Rattle.std.specs.List.{refill}
 use Rattle.std.proofs.lemmas.List.{drop_all, take-append-drop, take_all, length-drop, length-set, get_or-set_other, get_or-set_same}
 use Rattle.std.proofs.lemmas.Bool.{cases_eq, cases_lt}
 use Rattle.std.proofs.lemmas.Bool.Decides.{nat_tests}
-use Rattle.std.proofs.lemmas.List.Folds.{list_any-append}
 use Rattle.std.proofs.lemmas.Option.{get_or_from_slice_get, slice_get-get_or, slice_get_read, slice_get_within}
 use Rattle.std.proofs.lemmas.Int.{by_lt_z}
 use Rattle.jiff_core.proofs.SignedLemmas.{signed_arith}
 use Rattle.cron_units.specs.declared.way.Way.TheVariants.{Ahead}
 use Rattle.cron_units.specs.Nearest.{IsNearest, IsNearestAt}
 use Rattle.cron_units.specs.Sets.{Sets}
-use Rattle.cron_moments.specs.Civil.{civil, seconds_in_range}
-use Rattle.cron_time.specs.Matches.{is_match, matches}
+use Rattle.cron_moments.specs.Civil.{seconds_in_range}
+use Rattle.cron_time.specs.Matches.{is_match}
 use Rattle.cron_time.proofs.PlaceLemmas.{slice_get-append, slice_get-left}
-use Rattle.cron_unions.specs.Unions.{matches_any}
+use Rattle.cron_time.specs.Seconds.{Seconds}
+use Rattle.cron_time.specs.Seconds as sets
+use Rattle.cron_time.specs.Timeline.{seconds_of}
+use Rattle.cron_unions.specs.Unions.{any_of}
 use Rattle.cron_unions.specs.Inner.Heads.{AreHeads, ArePassing, IsHead, IsPassing, match_of}
 use Rattle.cron_unions.specs.Nearest.{is_match_any, nearer_second}
 use Rattle.cron_unions.specs.declared.heads.Head.{Head}
-use Rattle.cron_unions.proofs.NearestLemmas.{nearest-end, nearest-none, nearest-of_both, nearest-step}
+use Rattle.cron_unions.proofs.NearestLemmas.{nearest-end, nearest-none, nearest-step}
 use Rattle.cron_unions.proofs.UnionLemmas.{match-of_any}
 
 -- ---- matches as numbers
@@ -115,27 +117,7 @@ least-more ss from hs i h a c heads less is e first =
         let few = heads.few in
         let at_h : slice_get hs i ≡ Some h = slice_get_read hs (length hs) i h refl less is in
         let head = heads.each i both.0 h both.1 at_h in
-        nearest-step Ahead from ss i both.0 a (match_of h.next) c (omega arith) (sym (get_or_from_slice_get ss i both.0 both.0 both.1)) e first head.nearest
-
-and_or_both : (r a b : Bool) → (r && (a || b)) ≡ ((r && a) || (r && b))
-and_or_both true a b = refl
-and_or_both false a b = refl
-
-match-parted : (ss : List Sets) (n c : ℕ) → is_match_any ss c ≡ (is_match_any (take n ss) c || is_match_any (drop n ss) c)
-match-parted ss n c =
-    let whole : take n ss ++ drop n ss ≡ ss = take-append-drop n ss in
-    let either = list_any-append (λ (s : Sets). matches s (civil c)) (take n ss) (drop n ss) in
-    ap (λ (l : List Sets). is_match_any l c) (sym whole) ∙ ap (λ v. nat_lt c seconds_in_range && v) either
-    ∙ and_or_both (nat_lt c seconds_in_range) (matches_any (take n ss) (civil c)) (matches_any (drop n ss) (civil c))
-
-pub others_whole : (ss : List Sets) (n : ℕ) → take (length ss - n) (drop n ss) ≡ drop n ss
-others_whole ss n = take_all (length ss - n) (drop n ss) (omega (arith, length-drop n ss))
-
-pub nearest-parted : (ss : List Sets) (from : ℤ) (n : ℕ) (a b c : Option ℕ) → IsNearest Ahead (is_match_any (take n ss)) from a
-    → IsNearest Ahead (is_match_any (drop n ss)) from b → c ≡ nearer_second Ahead a b → IsNearest Ahead (is_match_any ss) from c
-nearest-parted ss from n a b c first second e =
-    subst (λ (o : Option ℕ). IsNearest Ahead (is_match_any ss) from o) (sym e)
-    (nearest-of_both Ahead (is_match_any (take n ss)) (is_match_any (drop n ss)) (is_match_any ss) from (match-parted ss n) a b first second)
+        nearest-step seconds_of Ahead from ss i both.0 a (match_of h.next) c (omega arith) (sym (get_or_from_slice_get ss i both.0 both.0 both.1)) e first head.nearest
 
 -- ---- they go on
 
@@ -339,29 +321,10 @@ pub pair-least : (ss : List Sets) (from : ℤ) (c : ℕ) (hs : List Head) (a b :
     → IsNearest Ahead (is_match_any ss) from (match_of c)
 pair-least ss from c hs a b heads long size is_a is_b e =
     let one : IsNearest Ahead (is_match_any (take 1 ss)) from (match_of a.next) =
-    least-more ss from hs 0 a None (match_of a.next) heads (omega arith) is_a refl (nearest-none Ahead from) in
+    least-more ss from hs 0 a None (match_of a.next) heads (omega arith) is_a refl (nearest-none seconds_of Ahead from) in
     let two : IsNearest Ahead (is_match_any (take 2 ss)) from (match_of c) =
     least-more ss from hs 1 b (match_of a.next) (match_of c) heads (omega arith) is_b (match-min a.next b.next c e) one in
-    nearest-end Ahead from ss 2 (match_of c) (sym long) two
-
--- ---- one alone
-
-pub one-set : (ss : List Sets) (from to : ℤ) (hs : List Head) (s : Sets) (x : Head) → AreHeads ss from hs → length ss ≡ 1 → length hs ≡ 1
-    → s ≡ get_or ss 0 s → IsHead s to x → AreHeads ss to (slice_set hs 0 x)
-one-set ss from to hs s x heads long size is head = record {
-  few = let few = heads.few in omega (arith, length-set hs 0 x);
-  each = λ i t h at_s at_h.
-      let within = slice_get_within ss i t at_s in
-      let here : i ≡ 0 = omega arith in
-      subst (λ (g : Head). IsHead t to g) (sym (head_set hs 0 i x h (omega arith) here at_h))
-      (subst (λ (u : Sets). IsHead u to x) (sym (sets_at ss s t i 0 here (omega arith) is at_s)) head);
-}
-
-pub one-least : (ss : List Sets) (from : ℤ) (hs : List Head) (a : Head) → AreHeads ss from hs → length ss ≡ 1 → length hs ≡ 1 → a ≡ get_or hs 0 a
-    → IsNearest Ahead (is_match_any ss) from (match_of a.next)
-one-least ss from hs a heads long size is =
-    nearest-end Ahead from ss 1 (match_of a.next) (sym long)
-    (least-more ss from hs 0 a None (match_of a.next) heads (omega arith) is refl (nearest-none Ahead from))
+    nearest-end seconds_of Ahead from ss 2 (match_of c) (sym long) two
 
 -- ---- a list written over
 
@@ -374,3 +337,23 @@ drop_whole xs n e = drop_all n xs (omega arith)
 
 pub refill_whole : {X : Type 0} (xs ws : List X) → length ws ≡ length xs → refill (length xs) xs ws ≡ ws
 refill_whole xs ws e = ap (λ l. take (length xs) (ws ++ l)) (drop_whole xs (length ws) e) ∙ ap (λ n. take n (ws ++ [])) (sym e) ∙ take_whole ws
+
+-- ---- where a search has come to
+
+-- the heads stand at the nearest match that they have come to
+pub heads-come : (ss : List Sets) (second next : ℕ) (hs : List Head) → AreHeads ss (pos second +ℤ pos 1) hs
+    → IsNearest Ahead (is_match_any ss) (pos second +ℤ pos 1) (match_of next) → next < seconds_in_range → AreHeads ss (pos next) hs
+heads-come ss second next hs heads near high =
+    let found = subst (λ (o : Option ℕ). IsNearest Ahead (is_match_any ss) (pos second +ℤ pos 1) o) (match-some next (omega arith)) near in
+    heads-up ss (pos second +ℤ pos 1) hs next found heads
+
+-- what the schedules that are kept match is what the union matches
+pub nearest-kept : (ss kept : List Sets) (from : ℤ) (o : Option ℕ) → any_of kept ≡ any_of ss → IsNearest Ahead (is_match_any kept) from o
+    → IsNearest Ahead (is_match_any ss) from o
+nearest-kept ss kept from o same near = subst (λ (set : Seconds). IsNearest Ahead (sets.is_match set) from o) same near
+
+pub told : (m : ℕ → Bool) (from : ℤ) (next : ℕ) → next < 4_294_967_295 → IsNearest Ahead m from (match_of next) → IsNearest Ahead m from (Some next)
+told m from next less near = subst (λ (o : Option ℕ). IsNearest Ahead m from o) (match-some next less) near
+
+pub told_none : (m : ℕ → Bool) (from : ℤ) (next : ℕ) → next ≡ 4_294_967_295 → IsNearest Ahead m from (match_of next) → IsNearest Ahead m from None
+told_none m from next same near = subst (λ (o : Option ℕ). IsNearest Ahead m from o) (ap match_of same) near

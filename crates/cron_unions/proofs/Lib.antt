@@ -1,13 +1,9 @@
-pub mod AnyLemmas
 pub mod UnionLemmas
 pub mod LawLemmas
-pub mod OneLemmas
-pub mod BestLemmas
 pub mod NearestLemmas
 pub mod CoverLemmas
 pub mod HeadLemmas
-pub mod MergeLemmas
-pub mod BackLemmas
 pub mod MemberLemmas
 pub mod UnitLemmas
 pub mod ApartLemmas
+pub mod MergeLemmas

@@ -1,19 +1,16 @@
--- The nearest civil second that matches one of several schedules, with a schedule more.
-use Rattle.std.proofs.Common.{◌≡◌, ℕ, ◌+◌, ◌<◌, ℤ, nat_lt, Bool, true, false, ◌&&◌, ◌||◌, cond, List, [], Option, Some, None, refl, sym, ap, ◌∙◌, subst, length, take, get_or, arith}
+-- The nearest civil second of any of several sets, with a set more.
+use Rattle.std.proofs.Common.{◌≡◌, ℕ, ◌+◌, ◌<◌, ◌≤◌, ℤ, nat_lt, Bool, true, false, ◌&&◌, ◌||◌, cond, List, [], Option, Some, None, refl, sym, ap, ◌∙◌, subst, length, take, get_or, arith}
 use Rattle.std.specs.Prelude.{IfSome}
 use Rattle.std.proofs.lemmas.List.{take_all}
 use Rattle.std.proofs.lemmas.List.Folds.{list_any_more}
 use Rattle.cron_units.specs.declared.way.Way.{Way}
 use Rattle.cron_units.specs.declared.way.Way.TheVariants.{Ahead, Back}
 use Rattle.cron_units.specs.Nearest.{IsNearest, IsNearestAt, LiesFrom, Precedes}
-use Rattle.cron_units.specs.Sets.{Sets}
-use Rattle.cron_moments.specs.Civil.{civil, seconds_in_range}
-use Rattle.cron_time.specs.Matches.{is_match, matches}
-use Rattle.cron_dues.proofs.MemberLemmas.{range_of}
-use Rattle.cron_unions.specs.Unions.{matches_any}
-use Rattle.cron_unions.specs.Nearest.{is_before, is_match_any, nearer_second}
-
--- ---- the nearer of two
+use Rattle.cron_moments.specs.Civil.{seconds_in_range}
+use Rattle.cron_time.specs.Seconds.{Seconds, is_match}
+use Rattle.cron_unions.specs.Nearest.{is_before, nearer_second}
+use Rattle.cron_unions.specs.Unions.{any_in}
+use Rattle.cron_seconds.proofs.SetLemmas.{range_of}
 
 precedes-through : (way : Way) (k a b : ℕ) → Precedes way k b → is_before way b a ≡ true → Precedes way k a
 precedes-through Ahead k a b less before = grind arith
@@ -61,7 +58,7 @@ module _ (way : Way) (m t both : ℕ → Bool) (start : ℤ) (either : (c : ℕ)
       by_test true is = by_second b second (λ k lies before. first.nearest k lies (precedes-through way k a b before is))
       by_test false is = by_first a first (λ k lies before. second.nearest k lies (precedes-other way k a b before is))
 
--- ---- a schedule more
+-- ---- a set more
 
 and_or : (r a b : Bool) → (r && (a || b)) ≡ ((r && a) || (r && b))
 and_or true a b = refl
@@ -71,28 +68,47 @@ and_false : (r : Bool) → (r && false) ≡ false
 and_false true = refl
 and_false false = refl
 
-match-more : (ss : List Sets) (i : ℕ) (s : Sets) (c : ℕ) → i < length ss → s ≡ get_or ss i s
-    → is_match_any (take (i + 1) ss) c ≡ (is_match_any (take i ss) c || is_match s c)
-match-more ss i s c less is =
-    let more = list_any_more (λ (t : Sets). matches t (civil c)) ss i s less in
-    ap (λ v. nat_lt c seconds_in_range && v) (more ∙ ap (λ v. matches_any (take i ss) (civil c) || matches v (civil c)) (sym is))
-    ∙ and_or (nat_lt c seconds_in_range) (matches_any (take i ss) (civil c)) (matches s (civil c))
+module _ {S : Type 0} (has : S → Seconds) where
+  match-more : (ss : List S) (i : ℕ) (s : S) (c : ℕ) → i < length ss → s ≡ get_or ss i s
+      → is_match (any_in has (take (i + 1) ss)) c ≡ (is_match (any_in has (take i ss)) c || is_match (has s) c)
+  match-more ss i s c less is =
+      let more = list_any_more (λ (t : S). has t c) ss i s less in
+      ap (λ v. nat_lt c seconds_in_range && v) (more ∙ ap (λ v. any_in has (take i ss) c || has v c) (sym is))
+      ∙ and_or (nat_lt c seconds_in_range) (any_in has (take i ss) c) (has s c)
 
-pub nearest-none : (way : Way) (start : ℤ) → IsNearest way (is_match_any []) start None
-nearest-none way start = λ k lies. and_false (nat_lt k seconds_in_range)
+  pub nearest-none : (way : Way) (start : ℤ) → IsNearest way (is_match (any_in has [])) start None
+  nearest-none way start = λ k lies. and_false (nat_lt k seconds_in_range)
 
-pub nearest-step : (way : Way) (start : ℤ) (ss : List Sets) (i : ℕ) (s : Sets) (a b c : Option ℕ) → i < length ss → s ≡ get_or ss i s
-    → c ≡ nearer_second way a b → IsNearest way (is_match_any (take i ss)) start a → IsNearest way (is_match s) start b
-    → IsNearest way (is_match_any (take (i + 1) ss)) start c
-nearest-step way start ss i s a b c less is e first second =
-    subst (IsNearest way (is_match_any (take (i + 1) ss)) start) (sym e)
-    (nearest-of_both way (is_match_any (take i ss)) (is_match s) (is_match_any (take (i + 1) ss)) start (λ k. match-more ss i s k less is) a b first second)
+  pub nearest-step : (way : Way) (start : ℤ) (ss : List S) (i : ℕ) (s : S) (a b c : Option ℕ) → i < length ss → s ≡ get_or ss i s
+      → c ≡ nearer_second way a b → IsNearest way (is_match (any_in has (take i ss))) start a → IsNearest way (is_match (has s)) start b
+      → IsNearest way (is_match (any_in has (take (i + 1) ss))) start c
+  nearest-step way start ss i s a b c less is e first second =
+      subst (IsNearest way (is_match (any_in has (take (i + 1) ss))) start) (sym e)
+      (nearest-of_both way (is_match (any_in has (take i ss))) (is_match (has s)) (is_match (any_in has (take (i + 1) ss))) start (λ k. match-more ss i s k less is) a b first second)
 
-pub nearest-end : (way : Way) (start : ℤ) (ss : List Sets) (i : ℕ) (a : Option ℕ) → i ≡ length ss → IsNearest way (is_match_any (take i ss)) start a
-    → IsNearest way (is_match_any ss) start a
-nearest-end way start ss i a e found =
-    subst (λ v. IsNearest way (is_match_any v) start a) (ap (λ n. take n ss) e ∙ take_all (length ss) ss (omega arith)) found
+  pub nearest-end : (way : Way) (start : ℤ) (ss : List S) (i : ℕ) (a : Option ℕ) → i ≡ length ss → IsNearest way (is_match (any_in has (take i ss))) start a
+      → IsNearest way (is_match (any_in has ss)) start a
+  nearest-end way start ss i a e found =
+      subst (λ v. IsNearest way (is_match (any_in has v)) start a) (ap (λ n. take n ss) e ∙ take_all (length ss) ss (omega arith)) found
 
-pub nearest-range : (way : Way) (start : ℤ) (ss : List Sets) (a : Option ℕ) → IsNearest way (is_match_any ss) start a → IfSome a (λ c. c < seconds_in_range)
-nearest-range way start ss None none = tt
-nearest-range way start ss (Some c) found = range_of c (matches_any ss (civil c)) found.passes
+pub nearest-range : (way : Way) (start : ℤ) (s : Seconds) (a : Option ℕ) → IsNearest way (is_match s) start a → IfSome a (λ c. c < seconds_in_range)
+nearest-range way start s None none = tt
+nearest-range way start s (Some c) found = range_of c (s c) found.passes
+
+-- ---- stretches without a civil second of the sets
+
+-- no set has a civil second of the stretch
+abbrev pub AreClear : {S : Type 0} → (S → Seconds) → List S → ℕ → ℕ → Type 0
+AreClear has ss first end = (k : ℕ) → first ≤ k → k < end → is_match (any_in has ss) k ≡ false
+
+module _ {S : Type 0} (has : S → Seconds) (first end : ℕ) where
+  pub clear-none : AreClear has [] first end
+  clear-none k from to = and_false (nat_lt k seconds_in_range)
+
+  pub clear-step : (ss : List S) (i : ℕ) (s : S) → i < length ss → s ≡ get_or ss i s → AreClear has (take i ss) first end
+      → ((k : ℕ) → first ≤ k → k < end → is_match (has s) k ≡ false) → AreClear has (take (i + 1) ss) first end
+  clear-step ss i s less is before own k from to =
+      match-more has ss i s k less is ∙ or_neither (is_match (any_in has (take i ss)) k) (is_match (has s) k) (before k from to) (own k from to)
+
+  pub clear-end : (ss : List S) (i : ℕ) → i ≡ length ss → AreClear has (take i ss) first end → AreClear has ss first end
+  clear-end ss i e clear = subst (λ v. AreClear has v first end) (ap (λ n. take n ss) e ∙ take_all (length ss) ss (omega arith)) clear

@@ -1,5 +1,4 @@
 pub mod Heads
 pub mod Covers
-pub mod Backs
-pub mod Searched
 pub mod Merges
+pub mod Cursor

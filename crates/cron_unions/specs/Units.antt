@@ -9,7 +9,7 @@ use Rattle.cron_time.specs.Matches.{contains_year}
 use Rattle.cron_unions.specs.declared.units.Unit.{Unit}
 use Rattle.cron_unions.specs.declared.units.Unit.TheVariants.{Year, Month, Day, Weekday, Hour, Minute, Second}
 
--- the unit lies in its set, where no last day is marked
+-- the unit of the datetime lies in its set; a mark of the last day doesn't count
 abbrev pub has_unit : Sets → DateTime → Unit → Bool
 has_unit s dt Year = contains_year s.years dt.date.year
 has_unit s dt Month = contains s.months dt.date.month
@@ -19,6 +19,6 @@ has_unit s dt Hour = contains s.hours dt.time.hour
 has_unit s dt Minute = contains s.minutes dt.time.minute
 has_unit s dt Second = contains s.seconds dt.time.second
 
--- so do all of these units
+-- all of these units of the datetime lie in their sets
 abbrev pub has_units : Sets → DateTime → List Unit → Bool
 has_units s dt us = list_all (has_unit s dt) us

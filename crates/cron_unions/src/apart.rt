@@ -1,15 +1,16 @@
-//! Two schedules that share matches, as two that share fewer.
+//! Replaces two schedules that share matches with two that share fewer and have the same union.
 ghost use Rattle.std.specs.Prelude.{◌≡◌, ◌||◌, [], ◌∷◌};
 ghost use Rattle.jiff_core.specs.declared.civil.datetime.DateTime.{DateTime};
 ghost use Rattle.cron_time.specs.Matches.{matches};
-ghost use Rattle.cron_unions.specs.Unions.{seconds_of_any};
+ghost use Rattle.cron_unions.specs.Unions.{any_of};
 
 use crate::covering::covers;
 use crate::units::{UNITS, inside, outside};
 use cron_units::fields::ScheduleFields;
 
-// What a schedule matches; without what another one matches too, where that has all of it but for
-// the set of one unit.
+// What `fields` matches, without the matches that it shares with `other`. They are left out if
+// `other` covers the part of `fields` inside its own set of one unit. Otherwise, or if `fields`
+// marks the last day, `fields` is unchanged.
 fn own_part(fields: &ScheduleFields, other: &ScheduleFields) -> ScheduleFields
     ensures { (dt : DateTime) → (matches result dt || matches other.now dt)
         ≡ (matches fields.now dt || matches other.now dt) }
@@ -25,17 +26,17 @@ fn own_part(fields: &ScheduleFields, other: &ScheduleFields) -> ScheduleFields
     *fields
 }
 
-/// Two schedules that match what these two do. Where one has all that the other one matches but for
-/// the set of one unit, and no last day is marked, none is matched by both: the two schedules of a
-/// crontab's line with both kinds of day are so. Beside a mark both may match some, and a run still
-/// answers each once. That it searches for none of them twice is a matter of cost alone, which no
-/// clause states.
+/// Two schedules that match what `one` and `other` do. Suppose that one of these has all that the
+/// other one matches except for the set of one unit, and that neither marks the last day. Then the
+/// result has no shared match. The two schedules of a crontab line with both kinds of day are such
+/// a pair. With a mark some matches may be shared, and a run still returns each once. That no match
+/// is searched twice is only a matter of cost, which no clause states.
 pub(crate) fn take_shared_out(
     one: &ScheduleFields,
     other: &ScheduleFields,
 ) -> (ScheduleFields, ScheduleFields)
-    ensures { seconds_of_any (result.0 ∷ result.1 ∷ [])
-        ≡ seconds_of_any (one.now ∷ other.now ∷ []) }
+    ensures { any_of (result.0 ∷ result.1 ∷ [])
+        ≡ any_of (one.now ∷ other.now ∷ []) }
 {
     let own = own_part(one, other);
     (own, own_part(other, &own))

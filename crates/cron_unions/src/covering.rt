@@ -1,14 +1,14 @@
-//! Schedules that another one covers: leaving them out changes no union.
+//! Finds schedules that another one covers: a union is the same without them.
 ghost use Rattle.std.specs.Prelude.{◌≡◌, ◌≤◌, IsTrue, length, true};
 ghost use Rattle.cron_unions.specs.Inner.Covers.{Covers, HasAll};
-ghost use Rattle.cron_unions.specs.Unions.{seconds_of_any};
+ghost use Rattle.cron_unions.specs.Unions.{any_of};
 
 use cron_bits::wide::Wide;
 use cron_units::fields::ScheduleFields;
 use cron_units::time_unit::layout::{bits, bits_of_days, three};
 use cron_units::time_unit::{DaysOfMonth, Ordinals, UnitTable};
 
-// Whether each member of another set is one of this set.
+// Returns true if each member of `other` is a member of `set`.
 #[inline(always)]
 fn has_all<U: UnitTable<u64>>(set: &Ordinals<U, u64>, other: &Ordinals<U, u64>) -> bool
     ensures { IsTrue result → HasAll set.now other.now }
@@ -17,7 +17,7 @@ fn has_all<U: UnitTable<u64>>(set: &Ordinals<U, u64>, other: &Ordinals<U, u64>) 
     word & bits(set) == word
 }
 
-// The same of years.
+// Returns true if each year of `other` is a year of `set`.
 #[inline(always)]
 fn has_all_years<U: UnitTable<Wide>>(set: &Ordinals<U, Wide>, other: &Ordinals<U, Wide>) -> bool
     ensures { IsTrue result → HasAll set.now other.now }
@@ -33,7 +33,7 @@ fn has_all_years<U: UnitTable<Wide>>(set: &Ordinals<U, Wide>, other: &Ordinals<U
     other_third & third == other_third
 }
 
-// The same of days of the month, and of the mark of the last one.
+// Returns true if each day of `other`, and its mark of the last day, is one of `days`.
 #[inline(always)]
 fn has_all_days(days: &DaysOfMonth, other: &DaysOfMonth) -> bool
     ensures days { IsTrue result → HasAll days.now.ordinals other.now.ordinals }
@@ -46,7 +46,7 @@ fn has_all_days(days: &DaysOfMonth, other: &DaysOfMonth) -> bool
     word & bits_of_days(days) == word
 }
 
-/// Whether each of the seven sets has all members of the other schedule's.
+/// Returns true if each of the seven sets of `fields` has all members of the same set of `other`.
 pub(crate) fn covers(fields: &ScheduleFields, other: &ScheduleFields) -> bool
     ensures { IsTrue result → Covers fields.now other.now }
 {
@@ -59,10 +59,11 @@ pub(crate) fn covers(fields: &ScheduleFields, other: &ScheduleFields) -> bool
         && has_all_years(&fields.years, &other.years)
 }
 
-/// Those of the schedules that a search needs: of two, of which one covers the other, that one.
+/// The schedules that a search needs. If one of two covers the other, that is only the covering
+/// one; otherwise all.
 #[inline(never)]
 pub(crate) fn needed(schedules: &[ScheduleFields]) -> &[ScheduleFields]
-    ensures same { seconds_of_any result.now ≡ seconds_of_any schedules.now }
+    ensures same { any_of result.now ≡ any_of schedules.now }
     ensures fewer { length result.now ≤ length schedules.now }
 {
     match schedules {

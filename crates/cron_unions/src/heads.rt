@@ -1,5 +1,6 @@
-//! The nearest match of each of several schedules, from a number on.
-ghost use Rattle.std.specs.Prelude.{◌≡◌, ℤ, ◌<◌, ◌≤◌, pos, ◌+ℤ◌, IfSome, List, length, take};
+//! The heads of several schedules. A schedule's head is its nearest match from a number on, and
+//! what a search of it has learned.
+ghost use Rattle.std.specs.Prelude.{◌≡◌, ℤ, ◌<◌, ◌≤◌, pos, ◌+ℤ◌, IfSome, List, length};
 ghost use Rattle.cron_units.specs.Nearest.{IsNearest};
 ghost use Rattle.cron_units.specs.Sets.{Sets};
 ghost use Rattle.cron_units.specs.declared.way.Way.TheVariants.{Ahead};
@@ -7,23 +8,19 @@ ghost use Rattle.cron_moments.specs.Civil.{seconds_in_range};
 ghost use Rattle.cron_unions.specs.Inner.Heads.{AreHeads, ArePassing, IsHead, IsPassing, match_of};
 ghost use Rattle.cron_unions.specs.Nearest.{is_match_any};
 
-use crate::nearest::nearest_match;
 use arrayvec::ArrayVec;
 use cron_moments::calendar::KnownMonth;
-use cron_time::search::civil_seconds::{self, match_past};
+use cron_time::search::civil_seconds::{match_past, nearest_match};
 use cron_time::search::minute::Minute;
 use cron_time::search::month_days::MonthDays;
 use cron_units::fields::ScheduleFields;
 use cron_units::way::Way;
 
-/// How many schedules of a `DueRun` have a head.
-pub(crate) const HEADS: usize = 8;
-
-/// The number of no match: it is greater than that of each.
+/// The number for no match. It is greater than the number of each match.
 pub(crate) const NO_MATCH: u32 = u32::MAX;
 
-/// The nearest match of a schedule from a number on, or `NO_MATCH`, and what is known of the days
-/// of its month.
+/// The nearest match of a schedule from a number on, or `NO_MATCH`, and what is known of its minute
+/// and of the days of its month.
 #[derive(Clone, Copy)]
 pub(crate) struct Head {
     pub next: u32,
@@ -41,7 +38,7 @@ impl Default for Head {
     }
 }
 
-// The number of a match, or of none.
+// The number of a match, or `NO_MATCH` for `None`.
 #[inline(always)]
 fn number_of(next: Option<u32>) -> u32
     requires { IfSome next (λ n. n < seconds_in_range) }
@@ -54,18 +51,18 @@ fn number_of(next: Option<u32>) -> u32
 }
 
 impl Head {
-    // The head of a schedule.
+    // The head of a schedule: its first match at or after `from`.
     fn of(fields: &ScheduleFields, from: i64) -> Head
         ensures { IsHead fields.now from result }
     {
         Head {
-            next: number_of(civil_seconds::nearest_match(fields, Way::Ahead, from)),
+            next: number_of(nearest_match(fields, Way::Ahead, from)),
             minute: Minute::epoch(),
             days: MonthDays::unknown(KnownMonth::january_1970()),
         }
     }
 
-    // Goes on past a civil second, if it lies there.
+    // Moves the head past `second`, if its match is `second`.
     #[inline(always)]
     fn pass(&mut self, fields: &ScheduleFields, second: u32)
         requires range { second < seconds_in_range }
@@ -80,30 +77,26 @@ impl Head {
     }
 }
 
-/// The heads of the first schedules, as many as there is room for.
+/// The heads of at most `N` schedules: the first match of each at or after `from`.
 pub(crate) fn heads_of<const N: usize>(schedules: &[ScheduleFields], from: i64) -> ArrayVec<Head, N>
+    requires { length schedules.now ≤ N }
     ensures heads { AreHeads schedules.now from result.items }
-    ensures all { length schedules.now ≤ N → length result.items ≡ length schedules.now }
+    ensures all { length result.items ≡ length schedules.now }
 {
     let mut heads = ArrayVec::new();
     for fields in schedules {
-        if heads.is_full() {
-            return heads;
-        }
         heads.push(Head::of(fields, from));
     }
     heads
 }
 
-// The least of the heads.
+// The least match of the heads, or `NO_MATCH`.
 #[inline(always)]
 fn least_head(heads: &[Head]) -> u32
     ensures { (schedules : List Sets) (from : ℤ)
         → AreHeads schedules from heads.now
-        → IsNearest Ahead
-        (is_match_any (take (length heads.now) schedules))
-        from
-        (match_of result) }
+        → length heads.now ≡ length schedules
+        → IsNearest Ahead (is_match_any schedules) from (match_of result) }
 {
     let mut least = NO_MATCH;
     for head in heads {
@@ -112,25 +105,12 @@ fn least_head(heads: &[Head]) -> u32
     least
 }
 
-/// The nearest civil second that matches one of the schedules, of which the first have heads, or
-/// `NO_MATCH`.
-pub(crate) fn nearest_head(heads: &[Head], schedules: &[ScheduleFields], from: i64) -> u32
-    requires { AreHeads schedules.now from heads.now }
-    ensures { IsNearest Ahead (is_match_any schedules.now) from (match_of result) }
-{
-    let least = least_head(heads);
-    if heads.len() == schedules.len() {
-        return least;
-    }
-    let others = nearest_match(&schedules[heads.len()..], Way::Ahead, from);
-    least.min(number_of(others))
-}
-
-// Each head goes on past a civil second, and the nearest match past it is told.
+// Moves each head past `second`. Returns the first match after `second`, or `NO_MATCH`.
 #[inline(never)]
 fn pass_each(heads: &mut [Head], schedules: &[ScheduleFields], second: u32) -> u32
     requires range { second < seconds_in_range }
     requires passing { ArePassing schedules.now second heads.old }
+    requires all { length heads.old ≡ length schedules.now }
     ensures heads { AreHeads schedules.now (pos second +ℤ pos 1) heads.new }
     ensures size { length heads.new ≡ length heads.old }
     ensures nearest { IsNearest Ahead
@@ -142,35 +122,17 @@ fn pass_each(heads: &mut [Head], schedules: &[ScheduleFields], second: u32) -> u
         let head = &mut heads[at];
         head.pass(&schedules[at], second);
     }
-    nearest_head(heads, schedules, i64::from(second) + 1)
+    least_head(heads)
 }
 
-// The same of one head. A run of one schedule would wait for the loops.
-#[inline(never)]
-fn pass_one(heads: &mut [Head], schedules: &[ScheduleFields], second: u32) -> u32
-    requires range { second < seconds_in_range }
-    requires heads { AreHeads schedules.now (pos second) heads.old }
-    requires one { length schedules.now ≡ 1 }
-    requires only { length heads.old ≡ 1 }
-    ensures heads { AreHeads schedules.now (pos second +ℤ pos 1) heads.new }
-    ensures size { length heads.new ≡ length heads.old }
-    ensures nearest { IsNearest Ahead
-        (is_match_any schedules.now)
-        (pos second +ℤ pos 1)
-        (match_of result) }
-{
-    let head = &mut heads[0];
-    head.pass(&schedules[0], second);
-    heads[0].next
-}
-
-/// The heads go on past a civil second, before which none of them lies, and the nearest match past
-/// it is told, or `NO_MATCH`. Of two mostly one alone lies there.
+/// Moves the heads past `second`, where no head is before `second`. Returns the first match after
+/// `second`, or `NO_MATCH`. Of two heads usually only one is at `second`, so that one is moved
+/// first.
 #[inline(always)]
 pub(crate) fn pass_heads(heads: &mut [Head], schedules: &[ScheduleFields], second: u32) -> u32
     requires range { second < seconds_in_range }
     requires heads { AreHeads schedules.now (pos second) heads.old }
-    requires both { length schedules.now ≡ 2 → length heads.old ≡ 2 }
+    requires all { length heads.old ≡ length schedules.now }
     ensures heads { AreHeads schedules.now (pos second +ℤ pos 1) heads.new }
     ensures size { length heads.new ≡ length heads.old }
     ensures nearest { IsNearest Ahead
@@ -178,9 +140,6 @@ pub(crate) fn pass_heads(heads: &mut [Head], schedules: &[ScheduleFields], secon
         (pos second +ℤ pos 1)
         (match_of result) }
 {
-    if schedules.len() == 1 && heads.len() == 1 {
-        return pass_one(heads, schedules, second);
-    }
     if schedules.len() != 2 {
         return pass_each(heads, schedules, second);
     }

@@ -1,20 +1,17 @@
-//! Several schedules as one: the civil seconds that match any of them, each once, and when they
-//! fire, by both rules at clock changes.
+//! Several schedules as one set: the civil seconds that match any of them, each once; and several
+//! sets of any kind.
 #![tactic(auto)]
 
+mod any_of;
 mod apart;
-pub mod back_due_run;
-pub mod back_run;
 mod covering;
-pub mod due_run;
-pub mod dues;
 mod heads;
-pub mod instants;
 pub mod laws;
 pub mod members;
 mod merge;
-pub mod nearest;
-pub mod run;
-pub mod search_run;
-mod searched;
+mod nearest;
+mod union;
 pub mod units;
+
+pub use any_of::AnyOf;
+pub use union::{Union, UnionCursor};

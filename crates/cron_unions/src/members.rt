@@ -1,4 +1,4 @@
-//! The members that two sets of a unit have in common, and those that the first one alone has.
+//! The members that two sets of a unit have in common, and the members of only the first one.
 ghost use Rattle.std.specs.Prelude.{◌≡◌, ◌&&◌, ℕ, false, not};
 ghost use Rattle.cron_bits.specs.Words.{has_bit};
 ghost use Rattle.cron_units.specs.Units.{contains};
@@ -9,7 +9,7 @@ use cron_units::time_unit::layout::{
 };
 use cron_units::time_unit::{DaysOfMonth, Ordinals, UnitTable};
 
-/// The members of both.
+/// The members that are in both sets.
 #[inline(always)]
 pub fn common_members<U: UnitTable<u64>>(
     set: &Ordinals<U, u64>,
@@ -20,7 +20,7 @@ pub fn common_members<U: UnitTable<u64>>(
     from_bits(bits(set) & bits(other))
 }
 
-/// The years of both.
+/// The years that are in both sets.
 #[inline(always)]
 pub fn common_years<U: UnitTable<Wide>>(
     set: &Ordinals<U, Wide>,
@@ -37,7 +37,7 @@ pub fn common_years<U: UnitTable<Wide>>(
     )
 }
 
-/// The numbered days of both, without a mark of the last day.
+/// The numbered days that are in both sets, without a mark of the last day.
 #[inline(always)]
 pub fn common_days(days: &DaysOfMonth, other: &DaysOfMonth) -> DaysOfMonth
     ensures numbers { (x : ℕ) → contains result.ordinals x
@@ -47,7 +47,7 @@ pub fn common_days(days: &DaysOfMonth, other: &DaysOfMonth) -> DaysOfMonth
     days_from_bits(bits_of_days(days) & bits_of_days(other), false)
 }
 
-// The bits of the first alone.
+// The bits of `word` that `other` doesn't have.
 #[inline(always)]
 fn own_bits(word: u64, other: u64) -> u64
     ensures { (k : ℕ) → has_bit result k ≡ (has_bit word k && not (has_bit other k)) }
@@ -55,7 +55,7 @@ fn own_bits(word: u64, other: u64) -> u64
     word & !other
 }
 
-/// The members of the first alone.
+/// The members of `set` that `other` doesn't have.
 #[inline(always)]
 pub fn own_members<U: UnitTable<u64>>(
     set: &Ordinals<U, u64>,
@@ -66,7 +66,7 @@ pub fn own_members<U: UnitTable<u64>>(
     from_bits(own_bits(bits(set), bits(other)))
 }
 
-/// The years of the first alone.
+/// The years of `set` that `other` doesn't have.
 #[inline(always)]
 pub fn own_years<U: UnitTable<Wide>>(
     set: &Ordinals<U, Wide>,
@@ -83,7 +83,7 @@ pub fn own_years<U: UnitTable<Wide>>(
     )
 }
 
-/// The numbered days of the first alone, without a mark of the last day.
+/// The numbered days of `days` that `other` doesn't have, without a mark of the last day.
 #[inline(always)]
 pub fn own_days(days: &DaysOfMonth, other: &DaysOfMonth) -> DaysOfMonth
     ensures numbers { (x : ℕ) → contains result.ordinals x

@@ -1,4 +1,5 @@
-//! The units of a civil datetime, and what a schedule matches by the set of another for one unit.
+//! The units of a civil datetime, and the parts of a schedule inside and outside another one's set
+//! of a unit.
 ghost use Rattle.std.specs.Prelude.{◌≡◌, ◌&&◌, not, false};
 ghost use Rattle.jiff_core.specs.declared.civil.datetime.DateTime.{DateTime};
 ghost use Rattle.cron_time.specs.Matches.{matches};
@@ -7,7 +8,7 @@ ghost use Rattle.cron_unions.specs.Units.{has_unit};
 use crate::members::{common_days, common_members, common_years, own_days, own_members, own_years};
 use cron_units::fields::ScheduleFields;
 
-/// A unit of which a schedule has a set.
+/// A unit of time. A schedule has a set of each.
 #[derive(Clone, Copy)]
 pub enum Unit {
     Year,
@@ -30,7 +31,7 @@ pub const UNITS: [Unit; 7] = [
     Unit::Second,
 ];
 
-/// What a schedule matches that has the unit in the set of another one.
+/// The part of `fields` whose `unit` is in the set of `other`.
 pub fn inside(fields: &ScheduleFields, other: &ScheduleFields, unit: Unit) -> ScheduleFields
     requires unmarked { fields.now.days_of_month.last_day ≡ false }
     ensures matches { (dt : DateTime)
@@ -52,7 +53,7 @@ pub fn inside(fields: &ScheduleFields, other: &ScheduleFields, unit: Unit) -> Sc
     part
 }
 
-/// What a schedule matches that has the unit outside the set of another one.
+/// The part of `fields` whose `unit` isn't in the set of `other`.
 pub fn outside(fields: &ScheduleFields, other: &ScheduleFields, unit: Unit) -> ScheduleFields
     requires unmarked { fields.now.days_of_month.last_day ≡ false }
     ensures matches { (dt : DateTime)

@@ -9,7 +9,7 @@ use Rattle.cron_units.specs.Units.{TimeUnit, FieldSet, contains, IsSet, ordinal_
 abbrev pub IsBetween : ℕ → ℕ → ℕ → Type 0
 IsBetween first last x = (first ≤ x) × (x ≤ last)
 
--- x lies in a base
+-- x is one of the ordinals of a base: all of the unit, one number, or a range
 abbrev pub LiesInBase : TimeUnit → Base → ℕ → Type 0
 LiesInBase u every x = IsBetween u.least u.greatest x
 LiesInBase u question_mark x = IsBetween u.least u.greatest x
@@ -17,20 +17,21 @@ LiesInBase u (single n) x = x ≡ n
 LiesInBase u (number_range a b) x = IsBetween a b x
 LiesInBase u (name_range v w) x = (a : ℕ) × (b : ℕ) × (ordinal_of u v ≡ Some a) × (ordinal_of u w ≡ Some b) × IsBetween a b x
 
--- a step goes over x: it lies in the base, and where that is one number, from there to the greatest ordinal
+-- x is in the range that a step goes over: the base, or from a single number up to the greatest
+-- ordinal
 abbrev pub IsSteppedOver : TimeUnit → Base → ℕ → Type 0
 IsSteppedOver u (single n) x = IsBetween n u.greatest x
 IsSteppedOver u b x = LiesInBase u b x
 
--- the least number of this property
+-- `least` is the least number that has the property P
 abbrev pub IsLeast : (ℕ → Type 0) → ℕ → Type 0
 IsLeast P least = P least × ((x : ℕ) → P x → least ≤ x)
 
--- x is a whole number of steps after another
+-- x is a whole number of steps after `from`
 abbrev pub IsStepsAfter : ℕ → ℕ → ℕ → Type 0
 IsStepsAfter step from x = (count : ℕ) × (x ≡ from + count * step)
 
--- x lies in an item; steps are counted from the least of the base
+-- x is one of the ordinals that an item denotes; steps are counted from the base's least ordinal
 abbrev pub LiesIn : TimeUnit → Item → ℕ → Type 0
 LiesIn u (plain b) x = LiesInBase u b x
 LiesIn u (stepped b step) x = IsSteppedOver u b x × (least : ℕ) × IsLeast (LiesInBase u b) least × IsStepsAfter step least x

@@ -6,13 +6,13 @@ use Rattle.cron_units.specs.Refusals.{Refusal, IsRefusedFor, IsUnrefused, IsFirs
 use Rattle.cron_units.specs.Sets.{IsFilledOrMarked}
 use Rattle.cron_units.specs.Units.{TimeUnit, FieldSet, IsUnit}
 
--- the item is refused, and for nothing else
+-- the item is refused for exactly one reason
 pub record IsRefusedOnce (u : TimeUnit) (item : Item) : Type 0 where
   pub refusal : Refusal
   pub refused : IsRefusedFor u item refusal
   pub only : (other : Refusal) → IsRefusedFor u item other → other ≡ refusal
 
--- Each item of a unit is refused for nothing, or for one thing alone.
+-- Each item of a unit is refused for no reason, or for exactly one.
 abbrev pub ItemsAreRefusedOnce : Type 0
 ItemsAreRefusedOnce = (u : TimeUnit) (item : Item) → IsUnit u → IsUnrefused u item ⊎ IsRefusedOnce u item
 
@@ -31,7 +31,7 @@ pub record AreRefused (u : TimeUnit) (items : List Item) : Type 0 where
   pub only : (other : Refusal) → IsFirstRefusal u items other → other ≡ refusal
   pub nothing : (s : FieldSet) → Denotes u items s → ⊥
 
--- Items of a unit denote one set, which has an ordinal or the mark where there is an item, or they have one first refusal;
--- never both.
+-- Items of a unit denote exactly one set, which isn't empty if there are items. Or else one of them
+-- is the first that is refused; never both.
 abbrev pub ItemsAreDecided : Type 0
 ItemsAreDecided = (u : TimeUnit) (items : List Item) → IsUnit u → DenoteOnce u items ⊎ AreRefused u items

@@ -13,7 +13,8 @@ key_from k (c ∷ cs) = key_from (k * 32 + c % 32) cs
 abbrev pub key_of : List ℕ → ℕ
 key_of name = key_from 0 name
 
--- the name's key itself, where it has eleven letters or less, and else some number that is no such name's
+-- `key` is the key of the name, if that has at most eleven letters, else a number that is no such
+-- name's key
 pub record IsKey (name : List ℕ) (key : ℕ) : Type 0 where
   pub same : key_of name < 36028797018963968 → key ≡ key_of name
   pub past : 36028797018963968 ≤ key_of name → 36028797018963968 ≤ key

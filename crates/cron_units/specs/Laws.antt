@@ -1,4 +1,4 @@
--- The seven units keep to the rules of units.
+-- Each of the seven units satisfies `IsUnit`.
 use Rattle.std.specs.Prelude.{◌≡◌, ◌≤◌, ℕ, Bool, true, ◌&&◌, List, [], ◌∷◌, nat_le}
 use Rattle.std.specs.List.{AllByRecursion}
 use Rattle.std.proofs.Common.{arith, refl}

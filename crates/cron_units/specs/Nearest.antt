@@ -19,7 +19,8 @@ pub record IsNearestAt (way : Way) (test : ℕ → Bool) (start : ℤ) (n : ℕ)
   pub lies : LiesFrom way start n
   pub nearest : (k : ℕ) → LiesFrom way start k → Precedes way k n → test k ≡ false
 
--- the nearest number from the start on that passes the test: the least ahead, the greatest back, and none where none passes
+-- the nearest number from the start on that passes the test: the least ahead, the greatest back;
+-- `None` if none passes
 abbrev pub IsNearest : Way → (ℕ → Bool) → ℤ → Option ℕ → Type 0
 IsNearest way test start found =
     MatchOption found ((k : ℕ) → LiesFrom way start k → test k ≡ false) (IsNearestAt way test start)

@@ -18,7 +18,7 @@ pub data Refusal : Type 0 where
 abbrev pub IsOutside : TimeUnit → ℕ → Type 0
 IsOutside u n = (n < u.least) ⊎ (u.greatest < n)
 
--- What a base is refused for. `*` and `?` never are; of two unknown names the first is told.
+-- What a base is refused for. `*` and `?` never are. Of two unknown names the first is the reason.
 pub data IsBaseRefusedFor (u : TimeUnit) : Base → Refusal → Type 0 where
   below : {n : ℕ} → n < u.least → IsBaseRefusedFor u (single n) (too_small n)
   above : {n : ℕ} → u.greatest < n → IsBaseRefusedFor u (single n) (too_large n)
@@ -40,7 +40,7 @@ pub data IsRefusedFor (u : TimeUnit) : Item → Refusal → Type 0 where
 abbrev pub IsUnrefused : TimeUnit → Item → Type 0
 IsUnrefused u item = (r : Refusal) → IsRefusedFor u item r → ⊥
 
--- of these items the first that is refused is refused for this
+-- the first of these items that is refused is refused for r
 pub record IsFirstRefusal (u : TimeUnit) (items : List Item) (r : Refusal) : Type 0 where
   pub before : List Item
   pub item : Item
@@ -54,7 +54,7 @@ unknown_text u word None =
     codes "The '" ++ (u.title ++ (codes "' field does not support using names. '" ++ (word ++ codes "' specified.")))
 unknown_text u word (Some names) = codes "'" ++ (word ++ (codes "' is not a valid " ++ (names.noun ++ codes ".")))
 
--- the text of a refusal
+-- the message about a refusal
 abbrev pub message : TimeUnit → Refusal → List ℕ
 message u (unknown_name word) = unknown_text u word u.names
 message u (too_small n) =

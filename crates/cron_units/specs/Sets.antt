@@ -23,7 +23,8 @@ pub record IsFilledOrMarked (u : TimeUnit) (s : FieldSet) : Type 0 where
   pub is_set : IsSet u s.ordinals
   pub nonempty : s.ordinals ≡ [] → s.last_day ≡ true
 
--- each is a set of its unit, and not the empty one; days of the month are marked where there are none by number
+-- each is a set of its unit and isn't empty, except days of the month that have the mark of the
+-- last day
 pub record AreSets (s : Sets) : Type 0 where
   pub seconds : IsFilled units.seconds s.seconds
   pub minutes : IsFilled units.minutes s.minutes

@@ -1,7 +1,7 @@
 -- Ordinals by steps.
 use Rattle.std.specs.Prelude.{◌-◌, ◌%◌, ◌==◌, ℕ, Bool, ◌&&◌, nat_le}
 
--- every so many-th ordinal, from the first to the last
+-- each `every`-th number, from the first to the last
 pub record Progression : Type 0 where
   pub first : ℕ
   pub last : ℕ

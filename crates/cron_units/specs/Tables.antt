@@ -20,7 +20,7 @@ abbrev pub is_just : Option ℕ → ℕ → Bool
 is_just None n = false
 is_just (Some m) n = nat_eq m n
 
--- a name is of letters, short, and stands in the slot of its key
+-- a name has only letters, its key is below 2^55, and its slot has that key
 abbrev pub is_slotted : List (ℕ × ℕ) → ℕ → Bor (List ℕ) × ℕ → Bool
 is_slotted slots spread e =
     list_all is_letter e.0.now && nat_lt (key_of e.0.now) 36028797018963968
@@ -35,7 +35,7 @@ are_keyed n =
 abbrev pub names_view : Names → units.Names
 names_view n = record { noun = n.noun.now; ordinals = ordinals_view n.ordinals.now }
 
--- the names of a unit can be found by their keys
+-- the names of a unit, if it has any, can be found by their keys
 abbrev pub AreKeyed : Option Names → Type 0
 AreKeyed names = IfSome names (λ n. are_keyed n ≡ true)
 

@@ -17,7 +17,7 @@ abbrev pub TellsKind : (List ℕ → Type 0) → ErrorKind → Type 0
 TellsKind P (Expression text) = P (string_bytes text)
 TellsKind P OutOfMemory = Unit {0}
 
--- the error tells a text of this property, or memory ran out
+-- the error has a text with the property P, or memory ran out
 abbrev pub Tells : (List ℕ → Type 0) → Error → Type 0
 Tells P e = TellsKind P e.kind
 

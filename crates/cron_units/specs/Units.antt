@@ -26,7 +26,7 @@ pub record FieldSet : Type 0 where
 abbrev pub with_mark : List ℕ → Bool → FieldSet
 with_mark xs mark = record { ordinals = xs; last_day = mark }
 
--- ordinals alone
+-- a set of ordinals without the mark of the last day of the month
 abbrev pub unmarked : List ℕ → FieldSet
 unmarked xs = with_mark xs false
 
@@ -54,7 +54,7 @@ is_name (Some last) name = str_eq_ignore_ascii_case last name
 abbrev pub means_last_day : TimeUnit → List ℕ → Bool
 means_last_day u name = is_name u.last_day name
 
--- the unit without such a name
+-- the unit without a word for the last day of the month
 abbrev pub without_last_day : TimeUnit → TimeUnit
 without_last_day u = record u { last_day = None }
 
@@ -70,7 +70,7 @@ set_of u test = filter test (whole u)
 abbrev pub IsSet : TimeUnit → List ℕ → Type 0
 IsSet u xs = xs ≡ set_of u (contains xs)
 
--- the names of a unit, none where it has none
+-- a unit's names with their ordinals, or the empty list if it has no names
 abbrev pub named_ordinals : Option Names → List (List ℕ × ℕ)
 named_ordinals None = []
 named_ordinals (Some names) = names.ordinals
@@ -115,7 +115,7 @@ month_names = record {
 abbrev pub months : TimeUnit
 months = record { title = codes "Months"; least = 1; greatest = 12; names = Some month_names; question_mark = false; last_day = None }
 
--- Sunday is 1
+-- the names of the days of the week, where Sunday is 1
 abbrev pub day_names : Names
 day_names = record {
   noun = codes "day of the week";

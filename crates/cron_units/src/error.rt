@@ -1,11 +1,11 @@
-//! Errors.
+//! The error of reading an expression: a message, or that memory ran out.
 
 ghost use Rattle.std.specs.Prelude.{◌≡◌, Some};
 
 use std::alloc::AllocError;
 use std::fmt;
 
-/// Why an expression isn't read.
+/// Why an expression couldn't be read.
 #[derive(Debug, Drop)]
 pub enum ErrorKind {
     /// The expression is refused, with this message.
@@ -14,14 +14,14 @@ pub enum ErrorKind {
     OutOfMemory,
 }
 
-/// What a call answers in place of a value.
+/// The error of a call. Its `Display` is the message about the expression, or `out of memory`.
 #[derive(Debug, Drop)]
 pub struct Error {
     kind: ErrorKind,
 }
 
 impl Error {
-    /// Lends the kind.
+    /// Returns why the call failed.
     pub fn kind(&self) -> &ErrorKind
         ensures { result.now ≡ self.now.kind }
     {

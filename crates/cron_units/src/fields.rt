@@ -11,7 +11,7 @@ use crate::time_unit::{
 use crate::way::Way;
 use std::marker::Model;
 
-/// Seven sets, seen as `Sets`.
+/// The seven sets of a schedule, one for each field. Contracts see them as `Sets`.
 #[derive(Debug, Clone, Copy, PartialEq, Eq)]
 pub struct ScheduleFields {
     pub seconds: Seconds,
@@ -50,7 +50,7 @@ impl Model for ScheduleFields {
 }
 
 impl ScheduleFields {
-    /// The nearest second of a minute.
+    /// Returns the nearest second of the set from `from` on, in the direction `way`, or `None`.
     pub fn nearest_second(&self, way: Way, from: Ordinal) -> Option<Ordinal>
         ensures nearest { IsNearest way (contains self.now.seconds) (pos from) result }
         ensures bound { IfSome result (λ n. n < 60) }
@@ -58,7 +58,7 @@ impl ScheduleFields {
         self.seconds.nearest(way, from)
     }
 
-    /// The nearest minute of an hour.
+    /// Returns the nearest minute of the set from `from` on, in the direction `way`, or `None`.
     pub fn nearest_minute(&self, way: Way, from: Ordinal) -> Option<Ordinal>
         ensures nearest { IsNearest way (contains self.now.minutes) (pos from) result }
         ensures bound { IfSome result (λ n. n < 60) }
@@ -66,7 +66,7 @@ impl ScheduleFields {
         self.minutes.nearest(way, from)
     }
 
-    /// The nearest hour of a day.
+    /// Returns the nearest hour of the set from `from` on, in the direction `way`, or `None`.
     pub fn nearest_hour(&self, way: Way, from: Ordinal) -> Option<Ordinal>
         ensures nearest { IsNearest way (contains self.now.hours) (pos from) result }
         ensures bound { IfSome result (λ n. n < 24) }
@@ -74,7 +74,8 @@ impl ScheduleFields {
         self.hours.nearest(way, from)
     }
 
-    /// The nearest numbered day of a month.
+    /// Returns the nearest numbered day of the set from `from` on, in the direction `way`, or
+    /// `None`. Whether the last day of the month is in the set makes no difference.
     pub fn nearest_day(&self, way: Way, from: Ordinal) -> Option<Ordinal>
         ensures nearest { IsNearest way
             (contains self.now.days_of_month.ordinals)
@@ -85,7 +86,7 @@ impl ScheduleFields {
         self.days_of_month.nearest(way, from)
     }
 
-    /// The nearest month of a year.
+    /// Returns the nearest month of the set from `from` on, in the direction `way`, or `None`.
     pub fn nearest_month(&self, way: Way, from: Ordinal) -> Option<Ordinal>
         ensures nearest { IsNearest way (contains self.now.months) (pos from) result }
         ensures bound { IfSome result (λ n. (1 ≤ n) × (n ≤ 12)) }
@@ -93,7 +94,7 @@ impl ScheduleFields {
         self.months.nearest(way, from)
     }
 
-    /// The nearest year.
+    /// Returns the nearest year of the set from `from` on, in the direction `way`, or `None`.
     pub fn nearest_year(&self, way: Way, from: Ordinal) -> Option<Ordinal>
         ensures nearest { IsNearest way (contains self.now.years) (pos from) result }
         ensures bound { IfSome result (λ n. (1970 ≤ n) × (n ≤ 2100)) }
@@ -101,7 +102,7 @@ impl ScheduleFields {
         self.years.nearest(way, from)
     }
 
-    /// Tells whether a day of the week, from 1 for Sunday, lies in its set.
+    /// Returns true if `weekday`, 1 (Sunday) to 7, is in the set of days of the week.
     pub fn includes_weekday(&self, weekday: Ordinal) -> bool
         ensures { result ≡ contains self.now.days_of_week weekday }
     {

@@ -1,4 +1,5 @@
-//! The items of a field, and what they denote. A step too large is refused here.
+//! The items of a field, as `5` or `1-9/2`, and the ordinals that they denote, or why an item is
+//! refused.
 
 ghost use Rattle.std.specs.Prelude.{◌≡◌, ◌≤◌, ◌<◌, IfOk, IfErr, MatchResult, OnOk, OnErr, Ok, Err, IsTrue, List, ℕ, true};
 ghost use Rattle.std.specs.List.{list_all};
@@ -15,7 +16,7 @@ mod messages;
 use crate::time_unit::{Key, Ordinal, TimeUnitField, add_steps};
 pub use messages::{RefusedItem, item_error, text_error};
 
-/// What an item ranges over before its step.
+/// The part of an item before its step: `*`, `?`, a number, or a range of numbers or names.
 #[derive(Clone, Copy)]
 pub enum Base<'a> {
     /// A star: the whole range.
@@ -27,7 +28,7 @@ pub enum Base<'a> {
     NameRange(&'a str, &'a str),
 }
 
-/// One item of a field.
+/// One item of a field: a base, a base with a step (`1-9/2`), or a name alone.
 #[derive(Clone, Copy)]
 pub enum Item<'a> {
     Plain(Base<'a>),
@@ -35,7 +36,7 @@ pub enum Item<'a> {
     Name(&'a str),
 }
 
-/// Why an item denotes nothing.
+/// Why an item is refused.
 #[derive(Clone, Copy)]
 pub enum Refusal<'a> {
     UnknownName(&'a str),
@@ -47,7 +48,7 @@ pub enum Refusal<'a> {
     LargeStep(u32),
 }
 
-/// Every so many-th ordinal, from the first to the last.
+/// Each `every`-th ordinal from `first` to `last`.
 #[derive(Clone, Copy)]
 pub struct Progression {
     pub first: Ordinal,
@@ -55,7 +56,8 @@ pub struct Progression {
     pub every: u32,
 }
 
-/// Finds the ordinal of a name.
+/// Returns the ordinal of a name, in any case of its letters, or the refusal of a name that the
+/// unit doesn't have.
 #[inline(always)]
 fn ordinal<'a, T: TimeUnitField>(name: &'a str) -> Result<Ordinal, Refusal<'a>>
     ensures within { IfOk result (λ n. (T.unit.least ≤ n) × (n ≤ T.unit.greatest)) }
@@ -69,7 +71,7 @@ fn ordinal<'a, T: TimeUnitField>(name: &'a str) -> Result<Ordinal, Refusal<'a>>
     }
 }
 
-/// Finds the first and the last ordinal of a base.
+/// Returns the first and the last ordinal of a base, or why the base is refused.
 #[inline(always)]
 fn ends<'a, T: TimeUnitField>(base: Base<'a>) -> Result<(Ordinal, Ordinal), Refusal<'a>>
     ensures within { IfOk result (λ p. (T.unit.least ≤ p.0) × (p.1 ≤ T.unit.greatest)) }
@@ -98,7 +100,8 @@ fn ends<'a, T: TimeUnitField>(base: Base<'a>) -> Result<(Ordinal, Ordinal), Refu
     }
 }
 
-// Finds what a base with a step denotes. The step is tested before the base.
+// Returns the ordinals of a base with a step, or why they are refused. The step is tested before
+// the base. From a single number, the steps go on to the greatest ordinal.
 #[inline(always)]
 fn steps_over<'a, T: TimeUnitField>(base: Base<'a>, every: u32) -> Result<Progression, Refusal<'a>>
     ensures within { IfOk result
@@ -125,7 +128,7 @@ fn steps_over<'a, T: TimeUnitField>(base: Base<'a>, every: u32) -> Result<Progre
     }
 }
 
-/// Finds the steps of an item.
+/// Returns the ordinals of an item, or why the item is refused.
 #[inline(always)]
 fn steps_of<'a, T: TimeUnitField>(item: Item<'a>) -> Result<Progression, Refusal<'a>>
     ensures within { IfOk result
@@ -155,8 +158,8 @@ fn steps_of<'a, T: TimeUnitField>(item: Item<'a>) -> Result<Progression, Refusal
     }
 }
 
-/// Tells whether an item is the unit's word for the last day of the month. The word means it alone:
-/// as an end of a range it is an unknown name, and a step stands behind no single name.
+/// Returns true if the item is the unit's word for the last day of the month. Only the word by
+/// itself means that: as an end of a range it is an unknown name, and a single name takes no step.
 #[inline(always)]
 fn names_last_day<T: TimeUnitField>(item: Item<'_>) -> bool
     ensures { result ≡ names_last_day T.unit (item_view item.entry) }
@@ -167,7 +170,8 @@ fn names_last_day<T: TimeUnitField>(item: Item<'_>) -> bool
     }
 }
 
-/// Adds what an item denotes to a set of the unit. A refused item leaves the set as it was.
+/// Adds what an item denotes to a set of the unit: ordinals, or the last day of the month. A
+/// refused item leaves the set unchanged.
 #[inline(always)]
 pub fn add_item<'a, T: TimeUnitField>(set: &mut T, item: Item<'a>) -> Result<(), Refusal<'a>>
     ensures ok { OnOk result
@@ -188,9 +192,9 @@ pub fn add_item<'a, T: TimeUnitField>(set: &mut T, item: Item<'a>) -> Result<(),
     Ok(())
 }
 
-/// Adds the ordinal of a name of letters to a set, by the key of the name. `false`, with the set as
-/// it was, where the key is that of no name, and in a unit with a word for the last day of the
-/// month.
+/// Adds the ordinal of a name of letters to a set, by the key of the name. Returns `false`, with
+/// the set unchanged, if the key belongs to no name. So it does if the unit has a word for the last
+/// day of the month, which the name might be.
 #[inline(always)]
 pub fn add_name<T: TimeUnitField>(set: &mut T, key: Key) -> bool
     ensures { IsTrue result → (word : List ℕ) → list_all is_letter word ≡ true → IsKey word key
@@ -211,8 +215,8 @@ pub fn add_name<T: TimeUnitField>(set: &mut T, key: Key) -> bool
 }
 
 /// Adds the ordinals from one name of letters to another to a set, by the keys of the names.
-/// `false`, with the set as it was, where a key is that of no name, or the first ordinal is greater
-/// than the last.
+/// Returns `false`, with the set unchanged, if a key belongs to no name, or if the first ordinal is
+/// greater than the last.
 #[inline(always)]
 pub fn add_names<T: TimeUnitField>(set: &mut T, from: Key, to: Key) -> bool
     ensures { IsTrue result → (v w : List ℕ) → list_all is_letter v ≡ true

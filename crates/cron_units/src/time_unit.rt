@@ -1,4 +1,4 @@
-//! The seven units, their sets of ordinals, and what users see of them.
+//! The seven units, their sets of ordinals, and the public view of the sets.
 
 mod days_of_month;
 mod definition;

@@ -14,7 +14,7 @@ use Rattle.cron_words.specs.declared.lists.Naming.TheVariants.{Numbers, Ordinals
 abbrev pub is_whole : TimeUnit → List ℕ → Bool
 is_whole u ns = bytes_eq ns (whole u)
 
--- one number, two numbers, or a range of three and more
+-- a run as items: one number, two numbers, or a range of three and more
 abbrev pub run_items : ℕ × ℕ → List Item
 run_items r =
     if r.0 == r.1 then One r.0 ∷ [] else if r.0 + 1 == r.1 then One r.0 ∷ One r.1 ∷ [] else Range r.0 r.1 ∷ []
@@ -23,7 +23,7 @@ run_items r =
 unfoldable pub items_of : List ℕ → List Item
 items_of ns = flat_map run_items (runs_of ns)
 
--- Sunday is 1
+-- the name of a day of the week, where Sunday is 1
 abbrev pub weekday_text : ℕ → List ℕ
 weekday_text n =
     if n == 1 then codes "Sunday" else if n == 2 then codes "Monday" else if n == 3 then codes "Tuesday" else if n == 4 then codes "Wednesday"
@@ -35,7 +35,7 @@ month_text n =
     else if n == 5 then codes "May" else if n == 6 then codes "June" else if n == 7 then codes "July" else if n == 8 then codes "August"
     else if n == 9 then codes "September" else if n == 10 then codes "October" else if n == 11 then codes "November" else codes "December"
 
--- what stands behind the digits of an ordinal number: `1st`, `2nd`, `3rd`, `11th`
+-- the letters after the digits of an ordinal number: `1st`, `2nd`, `3rd`, `11th`
 abbrev pub ordinal_end : ℕ → List ℕ
 ordinal_end n =
     if nat_lt 10 n && nat_lt n 20 then codes "th" else if n % 10 == 1 then codes "st" else if n % 10 == 2 then codes "nd"
@@ -52,11 +52,12 @@ abbrev pub item_text : Naming → Item → List ℕ
 item_text w (One n) = name_text w n
 item_text w (Range a b) = name_text w a ++ (codes " to " ++ name_text w b)
 
--- what stands before an item of a list: commas, and ` and ` before the last
+-- the text before the item at this place of a list: nothing before the first, ` and ` before the
+-- last, and else a comma
 abbrev pub separator_text : ℕ → ℕ → List ℕ
 separator_text place len = if place == 0 then [] else if nat_lt (place + 1) len then codes ", " else codes " and "
 
--- what stands behind the first item
+-- the items after the first one, each with the text before it
 abbrev pub more_text : Naming → List Item → List ℕ
 more_text w [] = []
 more_text w (i ∷ []) = codes " and " ++ item_text w i

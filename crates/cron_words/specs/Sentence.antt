@@ -20,7 +20,7 @@ at_text capital = if capital then codes "At " else codes "at "
 abbrev pub every_text : Bool → List ℕ
 every_text capital = if capital then codes "Every " else codes "every "
 
--- two digits at least
+-- a number with two digits at least, as `05`
 abbrev pub two_digits : ℕ → List ℕ
 two_digits n = if nat_lt n 10 then 48 ∷ decimal n else decimal n
 
@@ -31,21 +31,21 @@ only ns = slice_index ns 0
 abbrev pub is_one : List ℕ → Bool
 is_one ns = length ns == 1
 
--- `09:30`, or `09:30:05`
+-- a time of day: `09:30`, or `09:30:05`
 abbrev pub clock_text : ℕ → ℕ → ℕ → List ℕ
 clock_text h m s = two_digits h ++ 58 ∷ (two_digits m ++ (if s == 0 then [] else 58 ∷ two_digits s))
 
--- `minute 5`, `minutes 5 and 10`, `no minute`
+-- the numbers of a unit: `minute 5`, `minutes 5 and 10`, `no minute`
 abbrev pub counted_text : List ℕ → List ℕ → List ℕ
 counted_text noun ns =
     if length ns == 0 then codes "no " ++ noun
     else noun ++ ((if is_one ns then codes " " else codes "s ") ++ list_text Numbers (items_of ns))
 
--- the first of the units that are told
+-- the first unit of a schedule's words: `every minute`, or `at minutes 5 and 10`
 abbrev pub first_unit : Bool → List ℕ → TimeUnit → List ℕ → List ℕ
 first_unit capital noun u ns = if is_whole u ns then every_text capital ++ noun else at_text capital ++ counted_text noun ns
 
--- a unit behind another: nothing where both are told by `every`
+-- a unit after a smaller one: nothing if both have all their numbers
 abbrev pub next_unit : Bool → List ℕ → TimeUnit → List ℕ → List ℕ
 next_unit all noun u ns =
     if is_whole u ns then (if all then [] else codes " of every " ++ noun) else codes " of " ++ counted_text noun ns
@@ -56,7 +56,7 @@ hours_text s = next_unit (is_whole units.minutes s.minutes) (codes "hour") units
 abbrev pub is_on_the_minute : Sets → Bool
 is_on_the_minute s = is_one s.seconds && only s.seconds == 0
 
--- seconds are not told where second 0 is the only one
+-- the seconds and minutes; the seconds are left out if second 0 is the only one
 abbrev pub minutes_text : Bool → Sets → List ℕ
 minutes_text capital s =
     if is_on_the_minute s then first_unit capital (codes "minute") units.minutes s.minutes
@@ -78,11 +78,13 @@ abbrev pub begins_alone : List Item → Bool
 begins_alone (One n ∷ is) = true
 begins_alone is = false
 
--- a list behind one word where it begins with a single number, and behind another where it begins with a range
+-- a list after the word `one` if it begins with a single number, and after `range` if it begins
+-- with a range
 abbrev pub led_text : List ℕ → List ℕ → Naming → List ℕ → List ℕ
 led_text one range w ns = (if begins_alone (items_of ns) then one else range) ++ list_text w (items_of ns)
 
--- all days of the week, all days of the month, all months and all years are not told
+-- the days of the week; a set with all its numbers is left out here, and so for days, months and
+-- years below
 abbrev pub weekdays_text : List ℕ → List ℕ
 weekdays_text ns =
     if is_whole units.days_of_week ns then [] else if length ns == 0 then codes ", on no weekday"
@@ -113,7 +115,7 @@ unfoldable pub schedule_text : Bool → Sets → List ℕ
 schedule_text capital s =
     times_text capital s ++ (weekdays_text s.days_of_week ++ (days_text s.days_of_month ++ (months_text s.months ++ years_text s.years)))
 
--- the schedules behind the first one
+-- the schedules after the first one
 abbrev pub others_text : List Sets → List ℕ
 others_text [] = []
 others_text (s ∷ ss) = codes "; or " ++ (schedule_text false s ++ others_text ss)
@@ -135,6 +137,6 @@ pub record InUnits (s : Sets) : Type 0 where
   pub days_of_week : IsSet units.days_of_week s.days_of_week
   pub years : IsSet units.years s.years
 
--- lists of schedules with one sentence are the same
+-- lists of schedules with the same sentence are equal
 abbrev pub SentencesDiffer : Type 0
 SentencesDiffer = (ss ts : List Sets) → AllByRecursion InUnits ss → AllByRecursion InUnits ts → sentence ss ≡ sentence ts → ss ≡ ts

@@ -15,7 +15,8 @@ fn begins_alone(items: &[Item]) -> bool
     matches!(items.first(), Some(Item::One(_)))
 }
 
-// Pushes one word or another, and a list.
+// Appends `one` or `range`, and then the numbers of `set`. `one` leads a list that begins with a
+// single number, as `in May`; `range` leads one that begins with a range, as `from May to July`.
 fn push_led<T: TimeUnitSpec>(
     alloc: Global,
     text: &mut String,
@@ -32,7 +33,7 @@ fn push_led<T: TimeUnitSpec>(
     push_list(text, naming, &items)
 }
 
-/// Pushes the days of the week, or nothing for all of them.
+/// Appends the days of the week, or nothing if the set has all of them.
 pub(crate) fn push_weekdays(
     alloc: Global,
     text: &mut String,
@@ -60,7 +61,8 @@ fn last_day_text(days: &DaysOfMonth) -> &'static str
     }
 }
 
-/// Pushes the days of the month, or nothing for all of them.
+/// Appends the days of the month, or nothing if the set has all of them and not the mark for the
+/// last day.
 pub(crate) fn push_days(
     alloc: Global,
     text: &mut String,
@@ -84,7 +86,7 @@ pub(crate) fn push_days(
     text.push_str(last_day_text(days))
 }
 
-/// Pushes the months, or nothing for all of them.
+/// Appends the months, or nothing if the set has all of them.
 pub(crate) fn push_months(
     alloc: Global,
     text: &mut String,
@@ -102,7 +104,7 @@ pub(crate) fn push_months(
     push_led(alloc, text, ", in ", ", from ", Naming::Months, months)
 }
 
-/// Pushes the years, or nothing for all of them.
+/// Appends the years, or nothing if the set has all of them.
 pub(crate) fn push_years(alloc: Global, text: &mut String, years: &Years) -> Result<(), AllocError>
     ensures { OnOk result
         (string_bytes text.new ≡ string_bytes text.old ++ years_text years.now) }

@@ -1,4 +1,4 @@
-//! The numbers of a set, as single ones and ranges.
+//! The numbers of a set, as single numbers and ranges.
 
 ghost use Rattle.std.specs.Prelude.{◌≡◌, ◌==◌, ◌+◌, ◌++◌, ◌∷◌, OnOk, IfOk};
 ghost use Rattle.cron_words.specs.Lists.{is_whole, items_of, run_items};
@@ -6,21 +6,21 @@ ghost use Rattle.cron_words.specs.Lists.{is_whole, items_of, run_items};
 use cron_units::time_unit::{Ordinal, OrdinalIter, TimeUnitSpec};
 use std::alloc::{AllocError, Global};
 
-/// One number, or all from a first to a last.
+/// One number, or all numbers from a first to a last.
 #[derive(Clone, Copy)]
 pub(crate) enum Item {
     One(Ordinal),
     Range(Ordinal, Ordinal),
 }
 
-// Whether a number comes directly after another.
+// Returns true if `ordinal` is `last + 1`.
 fn is_next(last: Ordinal, ordinal: Ordinal) -> bool
     ensures { result ≡ (last + 1 == ordinal) }
 {
     u64::from(last) + 1 == u64::from(ordinal)
 }
 
-// Pushes a run: two numbers that follow one another are told one by one.
+// Appends the run from `first` to `last`. A run of two numbers becomes two single numbers.
 fn push_run(items: &mut Vec<Item>, first: Ordinal, last: Ordinal) -> Result<(), AllocError>
     ensures { OnOk result (items.new.items ≡ items.old.items ++ run_items (first, last)) }
 {
@@ -35,7 +35,7 @@ fn push_run(items: &mut Vec<Item>, first: Ordinal, last: Ordinal) -> Result<(), 
     Ok(())
 }
 
-// Pushes the items of a start and of the ordinals after it.
+// Appends `start` and the `ordinals` after it, which ascend, as single numbers and ranges.
 fn push_runs(
     items: &mut Vec<Item>,
     start: Ordinal,
@@ -55,14 +55,14 @@ fn push_runs(
     push_run(items, first, last)
 }
 
-/// Whether the set has each number of its unit.
+/// Returns true if the set has each number of its unit.
 pub(crate) fn is_whole<T: TimeUnitSpec>(set: &T) -> bool
     ensures { result ≡ is_whole T.time_unit (T.ordinals set.now) }
 {
     set.is_all()
 }
 
-/// The items of a set.
+/// Returns the numbers of a set as single numbers and ranges, in ascending order.
 pub(crate) fn items_of<T: TimeUnitSpec>(alloc: Global, set: &T) -> Result<Vec<Item>, AllocError>
     ensures { IfOk result (λ items. items.items ≡ items_of (T.ordinals set.now)) }
 {

@@ -3,7 +3,7 @@
 
 ghost use Rattle.cron_words.specs.Sentence.{SentencesDiffer};
 
-/// Lists of schedules with one sentence are the same.
+/// Lists of schedules with the same sentence are equal.
 pub fn sentences_differ()
     ensures { SentencesDiffer }
 {}

@@ -1,4 +1,4 @@
-//! One English sentence for a union of schedules.
+//! One English sentence for a union of schedules, and waits in words.
 #![tactic(auto)]
 
 mod days;

@@ -8,12 +8,12 @@ use crate::items::Item;
 use cron_units::time_unit::Ordinal;
 use std::alloc::AllocError;
 
-/// How a number is told.
+/// How a number is written.
 #[derive(Clone, Copy)]
 pub(crate) enum Naming {
     /// By its digits.
     Numbers,
-    /// As an ordinal number.
+    /// As an ordinal number, such as `1st`.
     Ordinals,
     /// By the name of a day of the week, from 1 for Sunday.
     Weekdays,
@@ -54,7 +54,7 @@ fn month(number: Ordinal) -> &'static str
     }
 }
 
-// What stands behind the digits of an ordinal number.
+// The letters after the digits of an ordinal number, as in `1st` or `4th`.
 fn ordinal_end(number: Ordinal) -> &'static str
     ensures { result.now ≡ ordinal_end number }
 {
@@ -95,7 +95,7 @@ fn push_item(text: &mut String, naming: Naming, item: Item) -> Result<(), AllocE
     }
 }
 
-// What stands before an item of so many.
+// The text before the item at the index `place` of `len` items.
 fn separator(place: usize, len: usize) -> &'static str
     requires { place < len }
     ensures { result.now ≡ separator_text place len }
@@ -107,7 +107,7 @@ fn separator(place: usize, len: usize) -> &'static str
     }
 }
 
-/// Pushes items with commas between them, and `and` before the last.
+/// Appends `items` with commas between them, and `and` before the last.
 pub(crate) fn push_list(text: &mut String, naming: Naming, items: &[Item]) -> Result<(), AllocError>
     ensures { OnOk result
         (string_bytes text.new ≡ string_bytes text.old ++ list_text naming items.now) }

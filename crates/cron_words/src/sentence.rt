@@ -1,4 +1,4 @@
-//! The sentence of a union.
+//! The sentence of a union: of several schedules that match together as one.
 
 ghost use Rattle.std.specs.Prelude.{◌≡◌, ◌++◌, IfOk, OnOk};
 ghost use Rattle.std.specs.String.{string_bytes};
@@ -9,7 +9,8 @@ use crate::times::push_times;
 use cron_units::fields::ScheduleFields;
 use std::alloc::{AllocError, Global};
 
-// Pushes the words of a schedule, which begin with a capital letter or a small one.
+// Appends the words of the schedule `fields`. They begin with a capital letter if `capital` is
+// true, else with a small one.
 fn push_schedule(
     alloc: Global,
     text: &mut String,
@@ -26,7 +27,8 @@ fn push_schedule(
     push_years(alloc, text, &fields.years)
 }
 
-/// One sentence for a union: what each of its schedules matches, in their order.
+/// One sentence for a union: what each of its schedules matches, in their order. It is `Never` if
+/// there are no schedules.
 pub fn sentence(alloc: Global, schedules: &[ScheduleFields]) -> Result<String, AllocError>
     ensures { IfOk result (λ text. string_bytes text ≡ sentence schedules.now) }
 {

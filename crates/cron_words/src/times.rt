@@ -10,7 +10,7 @@ use cron_units::fields::ScheduleFields;
 use cron_units::time_unit::{Ordinal, TimeUnitSpec};
 use std::alloc::{AllocError, Global};
 
-// The one number of a set.
+// The number of `set` if it has exactly one, else `None`.
 fn only<T: TimeUnitSpec>(set: &T) -> Option<Ordinal>
     ensures { MatchOption result
         (is_one (T.ordinals set.now) ≡ false)
@@ -45,7 +45,7 @@ fn push_two_digits(text: &mut String, number: Ordinal) -> Result<(), AllocError>
     }
 }
 
-// Pushes a time of day, whose second is left out where it is 0.
+// Appends a time of day. The second is left out if it is 0.
 fn push_clock(
     text: &mut String,
     hour: Ordinal,
@@ -84,7 +84,8 @@ fn push_counted<T: TimeUnitSpec>(
     push_list(text, Naming::Numbers, &items)
 }
 
-// Pushes the first of the units that are told.
+// Appends the first unit of a sentence: `every` and `noun` if `set` has all numbers, else `at` and
+// the numbers.
 fn push_first_unit<T: TimeUnitSpec>(
     alloc: Global,
     text: &mut String,
@@ -103,7 +104,8 @@ fn push_first_unit<T: TimeUnitSpec>(
     push_counted(alloc, text, noun, set)
 }
 
-// Pushes a unit behind another, of which all numbers were told or some.
+// Appends a unit after a smaller unit. `all` says whether the smaller unit has all its numbers;
+// then nothing is appended if `set` has all of its own.
 fn push_next_unit<T: TimeUnitSpec>(
     alloc: Global,
     text: &mut String,
@@ -124,7 +126,7 @@ fn push_next_unit<T: TimeUnitSpec>(
     write!(text, " of every {noun}")
 }
 
-// Whether second 0 is the only one.
+// Returns true if second 0 is the only second.
 fn is_on_the_minute(fields: &ScheduleFields) -> bool
     ensures { result ≡ is_on_the_minute fields.now }
 {
@@ -162,7 +164,7 @@ fn push_units(
     push_next_unit(alloc, text, all, "hour", &fields.hours)
 }
 
-/// Pushes one time of day, or else the seconds, minutes and hours.
+/// Appends the time of day if there is only one, else the seconds, minutes and hours.
 pub(crate) fn push_times(
     alloc: Global,
     text: &mut String,

@@ -12,7 +12,7 @@ const HOUR: u64 = 3_600;
 
 const DAY: u64 = 86_400;
 
-// Pushes so many of a unit, or nothing where there are none.
+// Appends `count` and the unit `noun`, or nothing if `count` is 0.
 fn push_part(text: &mut String, count: u64, noun: &str) -> Result<(), AllocError>
     ensures { OnOk result
         (string_bytes text.new ≡ with_part (string_bytes text.old) count noun.now) }
@@ -36,7 +36,7 @@ fn parts_text(alloc: Global, seconds: u64) -> Result<String, AllocError>
     Ok(text)
 }
 
-/// A wait of so many seconds, as `1 day` or `1 hour 30 minutes`.
+/// A wait of `seconds` seconds in words, as `1 day` or `1 hour 30 minutes`.
 pub fn wait_text(alloc: Global, seconds: u64) -> Result<String, AllocError>
     ensures { IfOk result (λ text. string_bytes text ≡ wait_text seconds) }
 {

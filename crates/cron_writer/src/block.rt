@@ -1,18 +1,18 @@
-//! An array that bytes are gathered in.
+//! An array for gathering bytes.
 
 ghost use Rattle.std.specs.Prelude.{◌≡◌, ◌≤◌, ◌+◌, ◌++◌, [], length, nat_le, take};
 
 use std::marker::Model;
 
-/// How many bytes are gathered at most. A pipe takes that many in one piece, also where others
-/// write to it.
+/// The most bytes that are gathered. A pipe takes this many in one piece, even if others write to
+/// it too.
 pub const ROOM: usize = 4096;
 
-/// How many bytes a short text has at most. Each is copied as that many bytes, since a copy of a
+/// The most bytes of a short text. Each short text is copied as this many bytes, since a copy of a
 /// known length is a few instructions.
 pub const WIDTH: usize = 32;
 
-/// The size of the array, which leaves room behind the last text for the copy of a short one.
+/// The size of the array. After the last text it has room for the copy of a short one.
 const SIZE: usize = ROOM + WIDTH;
 
 /// The bytes that were gathered.
@@ -33,7 +33,7 @@ impl Model for Block {
 }
 
 impl Block {
-    /// No byte is gathered yet.
+    /// Makes an array with no byte gathered.
     pub(crate) fn new() -> Block
         ensures { result ≡ [] }
     {
@@ -43,7 +43,7 @@ impl Block {
         }
     }
 
-    /// Whether so many more bytes have room.
+    /// Whether there is room for `more` bytes.
     #[inline(always)]
     pub(crate) fn has_room(&self, more: usize) -> bool
         ensures { result ≡ nat_le (length self.now + more) 4096 }
@@ -51,7 +51,7 @@ impl Block {
         more <= ROOM - self.len
     }
 
-    /// Gathers a text after the others.
+    /// Gathers `text` after the bytes gathered before.
     #[inline(always)]
     pub(crate) fn push(&mut self, text: &[u8])
         requires { length self.old + length text.now ≤ 4096 }
@@ -62,7 +62,7 @@ impl Block {
         self.len = end;
     }
 
-    /// Gathers the first bytes of a short text.
+    /// Gathers the first `len` bytes of a short text, after the bytes gathered before.
     #[inline(always)]
     pub(crate) fn push_front(&mut self, text: &[u8; WIDTH], len: usize)
         requires short { len ≤ 32 }

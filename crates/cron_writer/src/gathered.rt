@@ -1,4 +1,4 @@
-//! Lines gathered in an array, and handed on many at a time.
+//! Lines gathered in an array, and passed to a writer many at a time.
 
 ghost use Rattle.std.specs.Prelude.{◌≡◌, ◌≤◌, ◌<◌, ◌+◌, ◌++◌, ℕ, List, [], Option, length, take, true};
 ghost use Rattle.cron_writer.specs.Calls.{AreWrites, Gathers, HandsOn};
@@ -9,14 +9,14 @@ pub use crate::block::{ROOM, WIDTH};
 use crate::watchable::Watchable;
 use crate::watched::{Watched, send};
 
-/// Lines that were gathered and are not handed on yet.
+/// Lines that were gathered and are not passed to the writer yet.
 #[derive(Drop)]
 pub struct Gathered {
     block: Block,
 }
 
 impl Gathered {
-    /// Nothing is gathered yet.
+    /// Makes an array with no line gathered.
     pub fn new() -> Gathered
         ensures { kept_in result ≡ [] }
     {
@@ -25,7 +25,7 @@ impl Gathered {
         }
     }
 
-    // Hands on what was gathered where so many more bytes have no room.
+    // Passes what was gathered to the writer, if there is no room for `more` bytes.
     #[inline(always)]
     fn make_room<W: Watchable>(&mut self, more: usize, out: &mut Watched<W>)
         requires { more ≤ 4096 }
@@ -50,8 +50,8 @@ impl Gathered {
         }
     }
 
-    /// Gathers a line of at most [`ROOM`] bytes after the others. Where it has no room, those are
-    /// handed on first.
+    /// Gathers a line of at most [`ROOM`] bytes after the others. If it has no room, the others are
+    /// passed to the writer first.
     pub fn push_line<W: Watchable>(&mut self, line: &[u8], out: &mut Watched<W>)
         requires { length line.now ≤ 4096 }
         ensures gathered { (origin : Option (List ℕ)) (before : List ℕ)
@@ -69,8 +69,8 @@ impl Gathered {
         self.block.push(line);
     }
 
-    /// Gathers a short line after the others: the first `len` of these bytes, all of which are
-    /// copied. Where it has no room, those before it are handed on first.
+    /// Gathers a short line after the others: the first `len` of `bytes`. All of `bytes` are
+    /// copied. If the line has no room, the others are passed to the writer first.
     #[inline(always)]
     pub fn push_short<W: Watchable>(
         &mut self,
@@ -94,7 +94,8 @@ impl Gathered {
         self.block.push_front(bytes, len);
     }
 
-    /// Hands on what was gathered, and nothing once a call has failed. Nothing is gathered then.
+    /// Passes what was gathered to the writer, or drops it if a call of the writer has failed.
+    /// Afterwards nothing is gathered.
     pub fn send<W: Watchable>(&mut self, out: &mut Watched<W>)
         ensures empty { kept_in self.new ≡ [] }
         ensures sent { (origin : Option (List ℕ)) (text : List ℕ)

@@ -1,4 +1,4 @@
-//! A writer that remembers whether it failed, and lines that are gathered before they are handed to
+//! A writer that remembers whether it failed, and lines that are gathered before they are passed to
 //! it.
 #![tactic(auto)]
 

@@ -1,4 +1,4 @@
-//! What can be watched: every writer.
+//! The trait of writers that can be watched, which every writer has.
 
 ghost use Rattle.std.specs.Prelude.{ℕ, List, ⊤, Result};
 ghost use Rattle.std.specs.Io.KnownBytes.{Keeps, WriteAppends};
@@ -7,14 +7,14 @@ ghost use Rattle.std.specs.declared.io.Error.{Error};
 
 use std::io::{self, Write};
 
-/// A writer whose calls contracts can tell one by one. What one call may do to a writer is known to
-/// its own type alone. So a function over any writer whose contract promises one call can't have
-/// made two, nor another beside it. Every writer is such.
+/// A writer whose calls contracts describe one by one. Only the writer's own type knows what one
+/// call does. So a function over any writer whose contract promises one call makes exactly that
+/// call, and no other. Every writer has this trait.
 pub trait Watchable: Write {
     // one call of `write`: the writer before it, the piece, the answer, and the writer after it
     ghost writes: { Self → List ℕ → Result ℕ Error → Self → Type 0 };
 
-    // one call of `flush`
+    // one call of `flush`: the writer before it, the answer, and the writer after it
     ghost flushes: { Self → Result ⊤ Error → Self → Type 0 };
 
     /// Calls `write` once.

@@ -1,4 +1,4 @@
-//! A writer that remembers whether it failed, and a loop that hands a whole text to it.
+//! A writer that remembers whether it failed, and a loop that passes a whole text to it.
 
 ghost use Rattle.std.specs.Prelude.{◌≡◌, ◌||◌, ◌++◌, ℕ, List, Option, false, true};
 ghost use Rattle.std.specs.Io.KnownBytes.{Keeps, WriteAppends};
@@ -9,7 +9,7 @@ ghost use Rattle.cron_writer.specs.Watching.{has_failed, writer_of, is_failed_wr
 use crate::watchable::Watchable;
 use std::io;
 
-/// A writer, and whether a call of it failed. The mark stays set.
+/// A writer, and whether a call of it failed. Once `failed` is true it stays so.
 #[derive(Drop)]
 pub struct Watched<W> {
     writer: W,
@@ -17,7 +17,7 @@ pub struct Watched<W> {
 }
 
 impl<W> Watched<W> {
-    /// Watches a writer. No call has failed yet.
+    /// Watches a writer. No call counts as failed yet.
     pub fn new(writer: W) -> Watched<W>
         ensures writer { writer_of result ≡ writer }
         ensures mark { has_failed result ≡ false }
@@ -35,7 +35,7 @@ impl<W> Watched<W> {
         self.failed
     }
 
-    /// The writer.
+    /// Returns the writer.
     pub fn into_inner(self) -> W
         ensures { result ≡ writer_of self }
     {
@@ -45,7 +45,7 @@ impl<W> Watched<W> {
 }
 
 // Whether a write failed, or took no byte of a piece that isn't empty. It only borrows the answer,
-// so that the proof of `write` has no cases.
+// so that the proof of `write` needs no cases.
 #[inline(always)]
 fn is_failed_write(answer: &io::Result<usize>, piece: &[u8]) -> bool
     ensures { result ≡ is_failed_write answer.now piece.now }
@@ -58,7 +58,7 @@ fn is_failed_write(answer: &io::Result<usize>, piece: &[u8]) -> bool
 }
 
 impl<W: Watchable> Watched<W> {
-    /// Passes a write on: one call of the writer, whatever it answers.
+    /// Calls `write` of the writer once, and returns what it returns.
     pub fn write(&mut self, piece: &[u8]) -> io::Result<usize>
         ensures call { W.writes (writer_of self.old) piece.now result (writer_of self.new) }
         ensures bound { WritesAtMost result piece.now }
@@ -72,7 +72,7 @@ impl<W: Watchable> Watched<W> {
         result
     }
 
-    /// Passes a flush on: one call of the writer, whatever it answers.
+    /// Calls `flush` of the writer once, and returns what it returns.
     pub fn flush(&mut self) -> io::Result<()>
         ensures call { W.flushes (writer_of self.old) result (writer_of self.new) }
         ensures bytes { Keeps (W.contents (writer_of self.old)) (W.contents (writer_of self.new)) }
@@ -86,7 +86,8 @@ impl<W: Watchable> Watched<W> {
     }
 }
 
-// Hands the whole text on, in as many writes as it takes, and stops at the first failure.
+// Passes the whole text to the writer, in as many writes as it takes, and stops at the first
+// failure.
 fn send_whole<W: Watchable>(out: &mut Watched<W>, text: &[u8])
     requires { has_failed out.old ≡ false }
     ensures sent { IsSent
@@ -104,7 +105,7 @@ fn send_whole<W: Watchable>(out: &mut Watched<W>, text: &[u8])
     }
 }
 
-/// Hands a text on after what was handed on before, and nothing once a call has failed.
+/// Passes a text to the writer, after the texts before it, or nothing once a call has failed.
 pub fn send<W: Watchable>(out: &mut Watched<W>, text: &[u8])
     ensures sent { (origin : Option (List ℕ)) (before : List ℕ)
         → IsSent origin (W.contents (writer_of out.old)) (has_failed out.old) before

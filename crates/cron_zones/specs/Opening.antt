@@ -1,4 +1,4 @@
--- How a zone is opened.
+-- How a zone is opened: which file is read, and what the answer is.
 use Rattle.std.specs.Prelude.{◌≡◌, ◌⊎◌, ◌++◌, ℕ, Bool, true, false, Option, List, [], ◌∷◌, Result, Ok, Err, Some, None, string_bytes, option_map, ⊤}
 use Rattle.std.specs.IoError.{error_kind}
 use Rattle.std.specs.declared.alloc.Global.{Global}
@@ -32,7 +32,7 @@ abbrev pub is_not_found : ErrorKind → Bool
 is_not_found Kinds.NotFound = true
 is_not_found kind = false
 
--- what a failed read at a path comes to
+-- the error of a read at a path that failed with this kind of error
 abbrev pub IsFailedRead : List ℕ → ErrorKind → ZoneError → Type 0
 IsFailedRead path kind NoZone = ⊥
 IsFailedRead path kind (Unread at told) = (string_bytes at ≡ path) × (told ≡ kind) × (is_out_of_memory kind ≡ false)
@@ -43,7 +43,7 @@ IsFailedRead path kind OutOfMemory = is_out_of_memory kind ≡ true
 abbrev pub IsNoZoneFile : List ℕ → Type 0
 IsNoZoneFile bytes = ((f : TzifFault) × (read_tzif bytes ≡ Err f)) ⊎ HasBadRule (read_tzif bytes)
 
--- what the bytes of the file at a path come to
+-- the answer for the bytes of the file at a path: its zone, or an error
 abbrev pub IsParsed : List ℕ → List ℕ → Result Zone ZoneError → Type 0
 IsParsed path bytes (Ok (Zones.Stated zone)) = ⊥
 IsParsed path bytes (Ok (Zones.File table)) = read_tzif bytes ≡ Ok (tzif_view table)
@@ -52,13 +52,13 @@ IsParsed path bytes (Err (Unread at kind)) = ⊥
 IsParsed path bytes (Err (NoZoneFile at)) = (string_bytes at ≡ path) × IsNoZoneFile bytes
 IsParsed path bytes (Err OutOfMemory) = ⊤
 
--- what the answer of one read comes to
+-- the answer for the result of one read
 abbrev pub IsRead : List ℕ → Result (Vec ℕ Global) Error → Result Zone ZoneError → Type 0
 IsRead path (Ok bytes) answer = IsParsed path bytes.items answer
 IsRead path (Err e) (Ok zone) = ⊥
 IsRead path (Err e) (Err error) = IsFailedRead path (error_kind e) error
 
--- the file at the path was read once
+-- the file at the path was read once, and this is the answer
 abbrev pub ReadsAt : {F : Type 0} → (F → List ℕ → Result (Vec ℕ Global) Error → F → Type 0) → List ℕ → F → Result Zone ZoneError → F → Type 0
 ReadsAt reads path old answer new =
     (read : Result (Vec ℕ Global) Error) × reads old path read new × IsRead path read answer
@@ -68,7 +68,8 @@ IsUtcZone (Ok (Zones.Stated zone)) = plain_zone zone ≡ UTC
 IsUtcZone (Ok (Zones.File table)) = ⊥
 IsUtcZone (Err error) = ⊥
 
--- Where the machine has no file of its own its zone is UTC.
+-- The answer for the result of one read of the machine's own file. If there is no such file the
+-- zone is UTC.
 abbrev pub IsMachineRead : List ℕ → Result (Vec ℕ Global) Error → Result Zone ZoneError → Type 0
 IsMachineRead path (Ok bytes) answer = IsRead path (Ok bytes) answer
 IsMachineRead path (Err e) answer =
@@ -83,7 +84,8 @@ ReadsMachine reads path old answer new =
 abbrev pub IsUntried : {F : Type 0} → F → Result Zone ZoneError → F → Type 0
 IsUntried old answer new = (answer ≡ Err OutOfMemory) × (new ≡ old)
 
--- What a source comes to: a file is read once, and none where the zone is stated or there is none.
+-- What opening a source does. A file is read once. No file is read if the zone is stated, or if
+-- there is no source.
 abbrev pub OpensSource : {F : Type 0} → (F → List ℕ → Result (Vec ℕ Global) Error → F → Type 0)
     → Places → Option Source → F → Result Zone ZoneError → F → Type 0
 OpensSource reads places None old answer new = (answer ≡ Err NoZone) × (new ≡ old)

@@ -1,4 +1,4 @@
-//! Why a zone can't be had.
+//! Why a zone can't be opened.
 
 ghost use Rattle.std.specs.Prelude.{◌≡◌, Some, string_bytes};
 
@@ -6,21 +6,21 @@ use std::error::Error;
 use std::fmt;
 use std::io::ErrorKind;
 
-/// Why a zone can't be had. Where a file was looked for it is named.
+/// Why a zone can't be opened. If a file was looked for, its path is given.
 #[derive(Debug, Drop)]
 pub enum ZoneError {
     /// The text is neither `UTC`, nor `local`, nor a rule text, nor a name.
     NoZone,
     /// The file can't be read.
     Unread {
-        /// Where it was looked for.
+        /// The path of the file.
         path: String,
-        /// What reading it answered.
+        /// The kind of the error of reading it.
         kind: ErrorKind,
     },
     /// The file isn't a compiled zone file.
     NoZoneFile {
-        /// Where it is.
+        /// The path of the file.
         path: String,
     },
     /// Memory ran out.

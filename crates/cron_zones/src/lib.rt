@@ -1,5 +1,5 @@
 //! Zones by name: `UTC`, a rule text, a name of the time zone database, or the machine's own zone.
-//! Which file a text names is decided by a definition; the file is read by its caller's own means.
+//! A definition says which file a text names, and the caller supplies the means to read it.
 #![tactic(auto)]
 
 pub mod error;

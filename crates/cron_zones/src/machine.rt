@@ -6,17 +6,18 @@ use std::fs;
 use std::io::{self, ErrorKind, Read};
 use std::rt::Files;
 
-/// The folder of zone files where TZDIR isn't set.
+/// The folder of zone files if TZDIR isn't set.
 pub const ZONE_FOLDER: &str = "/usr/share/zoneinfo";
 
 /// The machine's own zone file.
 pub const LOCAL_FILE: &str = "/etc/localtime";
 
-/// The longest file that is read. Those of the time zone database have a few kilobytes.
+/// The length of the longest file that is read, in bytes. The files of the time zone database have
+/// a few kilobytes.
 const MOST_BYTES: u64 = 1 << 20;
 
-/// The files of the machine. A file that is longer than 1 MiB, or no regular file, isn't read: a
-/// pipe or a device might never end.
+/// The files of the machine. A file that is longer than 1 MiB, or that is no regular file, isn't
+/// read: a pipe or a device might never end.
 #[derive_where(Clone, Copy)]
 pub struct MachineFiles<'a, R>(pub &'a R);
 

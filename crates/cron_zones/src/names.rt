@@ -4,21 +4,22 @@ ghost use Rattle.std.specs.Prelude.{◌≡◌, codes, take};
 ghost use Rattle.std.specs.Str.{bytes_eq};
 ghost use Rattle.cron_zones.specs.Names.{is_name_byte, is_zone_name, pieces_fit, stands_behind};
 
-// A byte that names are made of: a letter, a digit, or one of `+-_./`.
+// Whether a byte may be in a name: a letter, a digit, or one of `+-_./`.
 fn is_name_byte(byte: u8) -> bool
     ensures { result ≡ is_name_byte byte }
 {
     byte.is_ascii_alphanumeric() || matches!(byte, b'+' | b'-' | b'_' | b'.' | b'/')
 }
 
-// Whether a byte may stand behind another: no piece is empty, or begins with a dot.
+// Whether `byte` may follow `before` in a name. The pieces between slashes aren't empty, and don't
+// begin with a dot.
 fn stands_behind(before: u8, byte: u8) -> bool
     ensures { result ≡ stands_behind before byte }
 {
     is_name_byte(byte) && !(before == b'/' && (byte == b'/' || byte == b'.'))
 }
 
-// Whether each piece between slashes has a byte and doesn't begin with a dot.
+// Whether each piece of a name between slashes has a byte and doesn't begin with a dot.
 fn pieces_fit(name: &[u8]) -> bool
     ensures { result ≡ pieces_fit 47 name.now }
 {
@@ -32,7 +33,7 @@ fn pieces_fit(name: &[u8]) -> bool
     before != b'/'
 }
 
-// Whether it is one of `right/`.
+// Whether the name begins with `right/`.
 fn is_right(name: &str) -> bool
     ensures { result ≡ bytes_eq (take 6 name.now) (codes "right/") }
 {
@@ -40,8 +41,9 @@ fn is_right(name: &str) -> bool
     &name.as_bytes()[..front] == b"right/".as_slice()
 }
 
-/// Whether a text is a name, as `America/Chicago`: it can't leave the folder that it is looked for
-/// in, nor name a hidden file, nor one of `right/`, whose seconds are counted otherwise.
+/// Whether a text is a name of the time zone database, as `America/Chicago`. A name can't leave the
+/// folder of zone files, nor name a hidden file. Names that begin with `right/` are left out, since
+/// their seconds are counted differently.
 pub fn is_zone_name(text: &str) -> bool
     ensures { result ≡ is_zone_name text.now }
 {

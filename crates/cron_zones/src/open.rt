@@ -13,13 +13,12 @@ use jiff_core::Error;
 use std::alloc::{AllocError, Global};
 use std::io::{self, ErrorKind};
 
-/// Where zones are looked for. It is handed in: TZDIR, TZ and the paths of a system are its
-/// caller's affair.
+/// Where zones are looked for. The caller hands it in, from TZDIR, TZ and the paths of its system.
 #[derive(Clone, Copy)]
 pub struct Places<'a> {
     /// The folder of compiled zone files.
     pub folder: &'a str,
-    /// What the variable TZ holds, if it is set.
+    /// The value of the variable TZ, if it is set.
     pub tz: Option<&'a str>,
     /// The path of the machine's own zone file.
     pub machine: &'a str,
@@ -35,7 +34,7 @@ fn file_path(alloc: Global, folder: &str, name: &str) -> Result<String, AllocErr
     Ok(path)
 }
 
-// What a failed read means.
+// The error of a failed read.
 fn failed_read(path: String, error: &io::Error) -> ZoneError
     ensures { IsFailedRead (string_bytes path) (error_kind error.now) result }
 {
@@ -45,7 +44,7 @@ fn failed_read(path: String, error: &io::Error) -> ZoneError
     }
 }
 
-// The zone that the bytes of a file tell.
+// The zone of a file with these bytes.
 fn parsed(alloc: Global, path: String, bytes: &[u8]) -> Result<Zone<'static>, ZoneError>
     ensures { IsParsed (string_bytes path) bytes.now result }
 {
@@ -70,7 +69,7 @@ fn read_at<F: ZoneFiles>(
     }
 }
 
-// Reads the machine's own file. Where there is none the zone is UTC.
+// Reads the machine's own file. If there is none the zone is UTC.
 fn read_machine<F: ZoneFiles>(
     alloc: Global,
     path: String,

@@ -1,4 +1,4 @@
-//! What a text names: a zone that needs no file, or the file that has it.
+//! What a text names: a zone that needs no file, or the zone file.
 
 ghost use Rattle.std.specs.Prelude.{◌≡◌, option_map};
 ghost use Rattle.cron_zones.specs.Sources.{begins_with, IsBehindColon, IsLocal, IsSource, IsStated, IsTold, IsVariable};
@@ -10,17 +10,17 @@ use jiff::tz::TimeZone;
 /// Where a zone is found.
 #[derive(Clone, Copy)]
 pub enum Source<'a> {
-    /// It is UTC, or the zone of a rule text.
+    /// UTC, or the zone of a rule text.
     Stated(TimeZone<'a>),
-    /// A file of this name, in the folder of zone files.
+    /// The file with this name in the folder of zone files.
     Named(&'a str),
     /// The file at this path.
     At(&'a str),
-    /// The machine's own zone file, or UTC where there is none.
+    /// The machine's own zone file, or UTC if there is none.
     Machine,
 }
 
-// `UTC`, a rule text, or a name.
+// What a text names without TZ: `UTC`, a rule text, or a name. `None` if it is none of these.
 fn stated_source(text: &str) -> Option<Source<'_>>
     ensures { IsStated text.now result }
 {
@@ -42,7 +42,7 @@ fn begins_with(byte: u8, text: &str) -> bool
     }
 }
 
-// What TZ names without a colon: nothing in it is UTC.
+// What TZ names without a colon. An empty text is UTC. `None` if it is no rule text and no name.
 fn told_source(text: &str) -> Option<Source<'_>>
     ensures { IsTold text.now result }
 {
@@ -52,7 +52,7 @@ fn told_source(text: &str) -> Option<Source<'_>>
     stated_source(text)
 }
 
-// What TZ names behind a colon.
+// What TZ names if it begins with a colon; `text` is the rest. `None` if it names nothing.
 fn behind_colon(text: &str) -> Option<Source<'_>>
     ensures { IsBehindColon text.now result }
 {
@@ -62,7 +62,7 @@ fn behind_colon(text: &str) -> Option<Source<'_>>
     told_source(text)
 }
 
-// What TZ names.
+// What TZ names, with or without a colon. `None` if it names nothing.
 fn variable_source(text: &str) -> Option<Source<'_>>
     ensures { IsVariable text.now result }
 {
@@ -72,7 +72,8 @@ fn variable_source(text: &str) -> Option<Source<'_>>
     }
 }
 
-// What the machine's own zone is.
+// What `local` names: what `tz` names, or the machine's own file if TZ isn't set. `None` if `tz`
+// names nothing.
 fn local_source(tz: Option<&str>) -> Option<Source<'_>>
     ensures { IsLocal (option_map (λ s. s.now) tz.entry) result }
 {
@@ -82,9 +83,9 @@ fn local_source(tz: Option<&str>) -> Option<Source<'_>>
     }
 }
 
-/// What a text names. `local` is what TZ says, which is handed in: without it the machine's own
-/// file, where it is empty UTC. TZ may begin with a colon, and may name an absolute path behind
-/// one. `None` where the text is none of these.
+/// What a text names. `local` is what TZ names, whose value is handed in as `tz`: the machine's own
+/// file if TZ isn't set, and UTC if it is empty. TZ may begin with a colon, and may then hold an
+/// absolute path. `None` if the text is none of these.
 pub fn source_of<'a>(text: &'a str, tz: Option<&'a str>) -> Option<Source<'a>>
     ensures { IsSource text.now (option_map (λ s. s.now) tz.entry) result }
 {

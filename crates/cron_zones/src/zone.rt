@@ -1,4 +1,4 @@
-//! A zone that owns what it is made of.
+//! A zone that owns its table.
 
 ghost use Rattle.std.specs.Prelude.{◌≡◌};
 ghost use Rattle.jiff.specs.Words.{plain_zone};

@@ -1,4 +1,4 @@
-//! The subcommand `done`.
+//! The subcommand `done`, which notes a fire in a stamp, a file that `due` reads.
 
 use clap::ArgMatches;
 use cron_answers::done::{self, Request};
@@ -14,7 +14,7 @@ fn request_of<'a>(words: &ArgMatches<'a>) -> Option<Request<'a>> {
     })
 }
 
-/// Does what the words ask for.
+/// Carries out the subcommand `done`, and returns its status.
 pub(crate) fn answer(rt: &HostRuntime, words: &ArgMatches<'_>) -> Status {
     let Some(request) = request_of(words) else {
         return complain(rt, "a word is missing", Status::WrongWords);

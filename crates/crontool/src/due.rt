@@ -1,4 +1,4 @@
-//! The subcommand `due`.
+//! The subcommand `due`, which lists the fires after the one that a stamp notes.
 
 use clap::ArgMatches;
 use cron_answers::due::{self, Request};
@@ -36,7 +36,7 @@ fn answer_request(rt: &HostRuntime, request: &Request<'_>) -> Result<Status, Sta
     ))
 }
 
-/// Does what the words ask for.
+/// Carries out the subcommand `due`, and returns its status.
 pub(crate) fn answer(rt: &HostRuntime, words: &ArgMatches<'_>) -> Status {
     match request_of(words) {
         Some(request) => match answer_request(rt, &request) {

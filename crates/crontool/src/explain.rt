@@ -1,4 +1,4 @@
-//! The subcommand `explain`.
+//! The subcommand `explain`, which says in words when an expression fires.
 
 use clap::ArgMatches;
 use cron_answers::answer::{Request, Which};
@@ -24,7 +24,8 @@ fn request_of<'a>(words: &ArgMatches<'a>) -> Option<Request<'a>> {
     })
 }
 
-// Explains an expression with what the machine has.
+// Explains an expression with the machine's clock, zones and streams. `Err` has the status of the
+// subcommand if the clock, TZ or TZDIR can't be read.
 fn explain_here(rt: &HostRuntime, request: &Request<'_>) -> Result<Status, Status> {
     let around = Surroundings::of(rt)?;
     let mut out = Watched::new(io::writer(rt));
@@ -40,7 +41,7 @@ fn explain_here(rt: &HostRuntime, request: &Request<'_>) -> Result<Status, Statu
     ))
 }
 
-/// Does what the words ask for.
+/// Carries out the subcommand `explain`, and returns its status.
 pub(crate) fn answer(rt: &HostRuntime, words: &ArgMatches<'_>) -> Status {
     let Some(request) = request_of(words) else {
         return complain(rt, "a word is missing", Status::WrongWords);

@@ -1,4 +1,4 @@
-//! The subcommand `late`.
+//! The subcommand `late`, which says whether a fire was missed.
 
 use clap::ArgMatches;
 use cron_answers::late::{self, Request};
@@ -35,7 +35,7 @@ fn answer_request(rt: &HostRuntime, request: &Request<'_>) -> Result<Status, Sta
     ))
 }
 
-/// Does what the words ask for.
+/// Carries out the subcommand `late`, and returns its status.
 pub(crate) fn answer(rt: &HostRuntime, words: &ArgMatches<'_>) -> Status {
     match request_of(words) {
         Some(request) => match answer_request(rt, &request) {

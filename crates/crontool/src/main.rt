@@ -1,6 +1,6 @@
-//! `crontool` tells of cron expressions and crontabs at a shell. Subcommands that tell of crontabs
-//! are those of `crontool_tabs`, those that wait for fires of `crontool_runs`, and the others calls
-//! of `cron_answers`.
+//! `crontool` answers questions about cron expressions and crontabs at a shell. Subcommands on
+//! crontabs are in `crontool_tabs`, and those that wait for fires are in `crontool_runs`. The
+//! others call `cron_answers`.
 #![tactic(auto)]
 
 mod done;
@@ -23,12 +23,12 @@ use crontool_words::completions;
 use std::process::ExitCode;
 use std::{env, io};
 
-// The arguments, with the program's name before them.
+// The arguments of the program, after its name. `Err` if one isn't UTF-8, or memory runs out.
 fn arguments_of(rt: &HostRuntime) -> io::Result<Vec<String>> {
     Ok(env::args(rt)?.collect(rt.alloc())?)
 }
 
-// Prints a help, or what is wrong with the words, and answers the exit status.
+// Prints the help, or what is wrong with the words. Returns the exit status.
 fn say(rt: &HostRuntime, error: &Error) -> u8 {
     if error.print(rt).is_err() {
         return end(rt, Status::WriteFailed);
@@ -40,12 +40,13 @@ fn say(rt: &HostRuntime, error: &Error) -> u8 {
     }
 }
 
-// Says why nothing can be done, and answers the exit status.
+// Writes to standard error why nothing can be done. Returns the exit status.
 fn give_up(rt: &HostRuntime, why: &str, status: Status) -> u8 {
     complain(rt, why, status).code()
 }
 
-// Answers a request with what the machine has.
+// Answers a request of `next` or `between` with the machine's clock, zones and streams. `Err` has
+// the status of the subcommand if the clock, TZ or TZDIR can't be read.
 fn answer_request(rt: &HostRuntime, request: &Request<'_>) -> Result<Status, Status> {
     let around = Surroundings::of(rt)?;
     let mut out = Watched::new(io::writer(rt));
@@ -61,7 +62,7 @@ fn answer_request(rt: &HostRuntime, request: &Request<'_>) -> Result<Status, Sta
     ))
 }
 
-// Answers a subcommand.
+// Carries out a subcommand and returns its status.
 fn answer_words(rt: &HostRuntime, name: &str, words: &ArgMatches<'_>) -> Status {
     match name {
         "list" => list::answer(rt, words),
@@ -85,7 +86,7 @@ fn answer_words(rt: &HostRuntime, name: &str, words: &ArgMatches<'_>) -> Status 
     }
 }
 
-// The name that the program was called by, without its folder.
+// The name under which the program was called, without its folder.
 fn program_of<'a>(arguments: &'a [String]) -> &'a str {
     let Some(first) = arguments.first() else {
         return "crontool";
@@ -96,7 +97,8 @@ fn program_of<'a>(arguments: &'a [String]) -> &'a str {
     }
 }
 
-// Says that a write failed, where that can still be said, and answers the exit status.
+// Returns the exit status. If a write failed, that is written to standard error, as far as
+// possible.
 fn end(rt: &HostRuntime, status: Status) -> u8 {
     if status == Status::WriteFailed {
         let _said = eprintln!(rt; "error: a write failed");
@@ -104,8 +106,8 @@ fn end(rt: &HostRuntime, status: Status) -> u8 {
     status.code()
 }
 
-// Answers a subcommand, and its exit status. `alarm`, `done` and `run` say themselves what they
-// couldn't write.
+// Carries out a subcommand and returns its exit status. `alarm`, `done` and `run` report failed
+// writes themselves.
 fn answer_subcommand(rt: &HostRuntime, name: &str, words: &ArgMatches<'_>) -> u8 {
     match name {
         "alarm" => alarm::answer(rt, words).code(),

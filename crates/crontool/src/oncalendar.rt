@@ -1,4 +1,4 @@
-//! The subcommand `oncalendar`.
+//! The subcommand `oncalendar`, which writes an expression as systemd's `OnCalendar`.
 
 ghost use Rattle.std.specs.Prelude.{◌≡◌, true, IfOk};
 ghost use Rattle.std.specs.Option.{ForSome};
@@ -15,10 +15,11 @@ use cron_zones::source::{Source, source_of};
 use crontool_machine::machine::{Surroundings, complain, open_zone, say_trouble};
 use std::io;
 
-/// Why systemd can't be told a zone.
+/// The message for a zone that `OnCalendar` can't take.
 const NO_NAME: &str = "--zone of oncalendar is UTC, local or a name: OnCalendar takes no rule";
 
-// What is written after each line: `UTC` or the name of a zone, and nothing for `local`.
+// The zone at the end of each line: `UTC` or the name of a zone, or `None` for `local`. If `zone`
+// is a rule or no zone, that is written, and `Err` has the status of the subcommand.
 fn name_of<'a>(rt: &HostRuntime, zone: &'a str) -> Result<Option<&'a str>, Status>
     ensures { IfOk result (λ name. ForSome name (λ word. is_word word.now ≡ true)) }
 {
@@ -38,7 +39,7 @@ fn name_of<'a>(rt: &HostRuntime, zone: &'a str) -> Result<Option<&'a str>, Statu
     }
 }
 
-/// Does what the words ask for.
+/// Carries out the subcommand `oncalendar`, and returns its status.
 pub(crate) fn answer(rt: &HostRuntime, words: &ArgMatches<'_>) -> Status {
     let (Some(text), Some(zone)) = (words.get_str("EXPRESSION"), words.get_str("zone")) else {
         return complain(rt, "a word is missing", Status::WrongWords);

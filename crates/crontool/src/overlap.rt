@@ -1,4 +1,4 @@
-//! The subcommand `overlap`.
+//! The subcommand `overlap`, which writes the first civil second that two expressions both match.
 
 use clap::ArgMatches;
 use cron_answers::overlap::overlap;
@@ -8,7 +8,7 @@ use crontool_machine::machine::complain;
 use crontool_machine::pair::pair_of;
 use std::io;
 
-/// Does what the words ask for.
+/// Carries out the subcommand `overlap`, and returns its status.
 pub(crate) fn answer(rt: &HostRuntime, words: &ArgMatches<'_>) -> Status {
     let Some(pair) = pair_of(words) else {
         return complain(rt, "a word is missing", Status::WrongWords);

@@ -1,5 +1,5 @@
-//! What subcommands of `crontool` share: what they have of the machine, the zones that crontabs
-//! name, and what options choose.
+//! What subcommands of `crontool` share: access to the machine, the zones that crontabs name, and
+//! what options choose.
 #![tactic(auto)]
 
 pub mod choices;

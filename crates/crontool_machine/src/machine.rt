@@ -1,5 +1,5 @@
-//! What subcommands have of the machine: files, the clock and TZ, and what is said where one can't
-//! be read.
+//! Access of subcommands to the machine: files, the clock and TZ, and messages if one of these
+//! can't be read.
 
 use cron_answers::trouble::{Trouble, tell, zone_word};
 use cron_controls::Controls;
@@ -15,7 +15,7 @@ use std::fmt::Display;
 use std::fs;
 use std::io::{self, ErrorKind, IsTerminal, Read};
 
-/// The longest file that is read whole: 64 MiB. A device might never end.
+/// The length of the longest file that is read: 64 MiB. A device might never end.
 const MOST_BYTES: u64 = 1 << 26;
 
 fn read_whole<R: Read + Drop>(alloc: Global, reader: R) -> io::Result<Vec<u8>> {
@@ -28,7 +28,7 @@ fn read_whole<R: Read + Drop>(alloc: Global, reader: R) -> io::Result<Vec<u8>> {
     Ok(bytes)
 }
 
-/// Reads a file whole, or standard input where it is `-`.
+/// Reads a whole file, or standard input if `path` is `-`.
 pub fn read_file(rt: &HostRuntime, path: &str) -> io::Result<Vec<u8>> {
     if path == "-" {
         return read_whole(rt.alloc(), rt.reader());
@@ -45,7 +45,8 @@ pub fn controls_of<T: IsTerminal>(stream: &T) -> Controls {
     }
 }
 
-/// Says on standard error why something can't be done, and answers how the subcommand ends.
+/// Writes to standard error why something can't be done. Returns `status`, or `WriteFailed` if that
+/// fails.
 pub fn complain(rt: &HostRuntime, why: &str, status: Status) -> Status {
     match eprintln!(rt; "error: {why}") {
         Ok(()) => status,
@@ -53,7 +54,8 @@ pub fn complain(rt: &HostRuntime, why: &str, status: Status) -> Status {
     }
 }
 
-/// The same of an error, as it prints, that ends the subcommand.
+/// Writes an error that ends the subcommand to standard error. Returns `Unreadable`, or
+/// `WriteFailed` if that fails, as the status of the subcommand.
 pub fn say_error<E: Display>(rt: &HostRuntime, error: &E) -> Status {
     match eprintln!(rt; "error: {error}") {
         Ok(()) => Status::Unreadable,
@@ -61,7 +63,7 @@ pub fn say_error<E: Display>(rt: &HostRuntime, error: &E) -> Status {
     }
 }
 
-/// The same of a file that can't be read.
+/// Writes to standard error why a file can't be read. Returns the status of the subcommand.
 pub fn say_unread(rt: &HostRuntime, file: &str, error: &io::Error) -> Status {
     match eprintln!(rt; "error: {file}: {error}") {
         Ok(()) => Status::Unreadable,
@@ -69,12 +71,13 @@ pub fn say_unread(rt: &HostRuntime, file: &str, error: &io::Error) -> Status {
     }
 }
 
-/// Says that memory ran out, and answers how the subcommand ends.
+/// Writes to standard error that memory ran out. Returns the status of the subcommand.
 pub fn no_memory(rt: &HostRuntime) -> Status {
     complain(rt, "out of memory", Status::Unreadable)
 }
 
-/// Reads the files, or says of the first that can't be read why.
+/// Reads the files. For the first that can't be read, it writes why and returns the status of the
+/// subcommand.
 pub fn read_all(rt: &HostRuntime, names: &[&str]) -> Result<Vec<Vec<u8>>, Status> {
     let mut read = Vec::new(rt.alloc());
     for name in names {
@@ -89,7 +92,7 @@ pub fn read_all(rt: &HostRuntime, names: &[&str]) -> Result<Vec<Vec<u8>>, Status
     Ok(read)
 }
 
-/// Writes a page whole to standard output.
+/// Writes a whole page to standard output, and flushes.
 pub fn write_page(rt: &HostRuntime, page: &[u8]) -> Status {
     let mut out = Watched::new(io::writer(rt));
     send(&mut out, page);
@@ -99,7 +102,7 @@ pub fn write_page(rt: &HostRuntime, page: &[u8]) -> Status {
     Status::Done
 }
 
-/// What a subcommand finds around it: what the clock shows, and what TZ and TZDIR say.
+/// The surroundings of a subcommand: the current instant, and the values of TZ and TZDIR.
 #[derive(Drop)]
 pub struct Surroundings {
     pub now: Timestamp,
@@ -107,8 +110,8 @@ pub struct Surroundings {
     folder: Option<String>,
 }
 
-// What a variable says, if it is set; or how the subcommand ends, once it is said that it can't be
-// read.
+// The value of a variable, or `None` if it isn't set. If it can't be read, that is written, and
+// `Err` has the status of the subcommand.
 fn variable(rt: &HostRuntime, name: &str) -> Result<Option<String>, Status> {
     match env::var(rt, name) {
         Ok(text) => Ok(Some(text)),
@@ -121,7 +124,8 @@ fn variable(rt: &HostRuntime, name: &str) -> Result<Option<String>, Status> {
 }
 
 impl Surroundings {
-    /// Those of the machine; or how the subcommand ends, once it is said why they can't be had.
+    /// The surroundings of the machine. If they can't be read, the reason is written, and `Err` has
+    /// the status of the subcommand.
     pub fn of(rt: &HostRuntime) -> Result<Surroundings, Status> {
         let Ok(now) = Timestamp::now(rt) else {
             return Err(complain(rt, "the clock can't be read", Status::Unreadable));
@@ -133,7 +137,7 @@ impl Surroundings {
         })
     }
 
-    /// Where zones are looked for.
+    /// The places where zones are searched.
     pub fn places(&self) -> Places<'_> {
         Places {
             folder: match &self.folder {
@@ -146,12 +150,13 @@ impl Surroundings {
     }
 }
 
-/// Says why something can't be done.
+/// Writes to standard error why something can't be done. Returns the status of the subcommand.
 pub fn say_trouble(rt: &HostRuntime, trouble: &Trouble<'_>) -> Status {
     tell(rt.alloc(), trouble, &mut Watched::new(rt.stderr()))
 }
 
-/// Opens a zone; or how the subcommand ends, once it is said why it can't be had.
+/// Opens a zone. If it can't be opened, the reason is written, and `Err` has the status of the
+/// subcommand.
 pub fn open_zone<'a>(
     rt: &HostRuntime,
     zone: &'a str,

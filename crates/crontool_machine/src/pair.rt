@@ -1,9 +1,10 @@
-//! The words of a subcommand that takes two expressions.
+//! The arguments of a subcommand that takes two expressions.
 
 use clap::ArgMatches;
 use cron_answers::pair::Pair;
 
-/// The two expressions. `None` where a word is missing, which a parse refuses before.
+/// The two expressions that are compared. `None` if one is missing: a parse of the command line
+/// refuses that before.
 pub fn pair_of<'a>(words: &ArgMatches<'a>) -> Option<Pair<'a>> {
     Some(Pair {
         quartz: words.get_flag("quartz"),

@@ -2,15 +2,15 @@
 
 use crate::machine::{Surroundings, no_memory};
 use cron_replies::status::Status;
-use cron_running::NamedOpen;
 use cron_tab_lines::{Crontab, Line, NamedZone, read_line};
+use cron_tab_running::NamedOpen;
 use cron_zones::error::ZoneError;
 use cron_zones::machine::MachineFiles;
 use cron_zones::open::{Places, open};
 use jiff::tz::TimeZone;
 use std::alloc::{AllocError, Global};
 
-// Whether a line may set `CRON_TZ`, by its first byte that isn't blank. Other lines needn't be
+// Whether a line may set `CRON_TZ`, judged by its first byte that isn't blank. Other lines aren't
 // read.
 fn begins_as_name(line: &[u8]) -> bool {
     for byte in line {
@@ -28,7 +28,7 @@ pub struct TabZones<'a> {
 }
 
 impl<'a> TabZones<'a> {
-    /// None are open.
+    /// Returns a list of open zones that has none yet.
     pub fn new(alloc: Global) -> TabZones<'a> {
         TabZones {
             opened: Vec::new(alloc),
@@ -39,7 +39,8 @@ impl<'a> TabZones<'a> {
         self.opened.iter().any(|opened| opened.name == name)
     }
 
-    // Opens a zone, whose name is read as TZ is. What names none is passed over.
+    // Opens the zone `name`, read as a value of TZ. A name is skipped if it is empty, already open,
+    // or no zone.
     fn open_one(
         &mut self,
         rt: &HostRuntime,
@@ -66,7 +67,7 @@ impl<'a> TabZones<'a> {
         }
     }
 
-    /// Opens the zones that a crontab names, and says nothing.
+    /// Opens the zones that a crontab names, without any message. A name of no zone is skipped.
     pub fn try_open(
         &mut self,
         rt: &HostRuntime,
@@ -84,7 +85,8 @@ impl<'a> TabZones<'a> {
         Ok(())
     }
 
-    /// Opens the zones that a crontab names.
+    /// Opens the zones that a crontab names. A name of no zone is skipped. If memory runs out, that
+    /// is written, and `Err` has the status of the subcommand.
     pub fn open(
         &mut self,
         rt: &HostRuntime,
@@ -98,13 +100,14 @@ impl<'a> TabZones<'a> {
         }
     }
 
-    /// What is open.
+    /// The open zones.
     pub fn into_opened(self) -> Vec<NamedOpen<'a>> {
         let TabZones { opened } = self;
         opened
     }
 
-    /// Their names: the first stands for zone 1. An empty text stands for zone 0, as in cronie.
+    /// The names of the zones. An empty name means zone 0, as in cronie. The first open zone is
+    /// zone 1, and so on.
     pub fn names(&self, alloc: Global) -> Result<Vec<NamedZone<'a>>, AllocError> {
         let mut names = Vec::new(alloc);
         names.push(NamedZone { name: b"", zone: 0 })?;
@@ -118,7 +121,7 @@ impl<'a> TabZones<'a> {
         Ok(names)
     }
 
-    /// A zone, which is zone 0, and they behind it.
+    /// The zones by number: `first` is zone 0, and the open zones follow.
     pub fn behind<'z>(
         &'z self,
         alloc: Global,

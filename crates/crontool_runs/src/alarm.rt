@@ -1,13 +1,13 @@
-//! The subcommand `alarm`.
+//! The subcommand `alarm`, which writes a line at each fire of an expression, when it comes.
 
 use crate::run::status_of;
 use clap::ArgMatches;
 use cron_answers::expression::{Expression, read_as};
 use cron_answers::trouble::Trouble;
+use cron_printing::printer::Printer;
 use cron_replies::status::Status;
-use cron_ringing::printer::Printer;
-use cron_running::{Alarm, FireWriter, ring_at};
 use cron_scheduler::MachineClock;
+use cron_tab_running::{Alarm, FireWriter, ring_at};
 use cron_writer::watched::Watched;
 use crontool_machine::choices::changes_of;
 use crontool_machine::machine::{Surroundings, complain, open_zone, say_trouble};
@@ -35,7 +35,7 @@ fn ring_in(
     status_of(rt, ended)
 }
 
-// Rings at the fires of an expression in a zone.
+// Writes a line at each fire of an expression in a zone, when it comes.
 fn ring(
     rt: &HostRuntime,
     words: &ArgMatches<'_>,
@@ -47,7 +47,7 @@ fn ring(
     Ok(ring_in(rt, words, expression, opened.time_zone()))
 }
 
-/// Does what the words ask for.
+/// Carries out the subcommand `alarm`, and returns its status when it ends.
 pub fn answer(rt: &HostRuntime, words: &ArgMatches<'_>) -> Status {
     let (Some(text), Some(zone)) = (words.get_str("EXPRESSION"), words.get_str("zone")) else {
         return complain(rt, "a word is missing", Status::WrongWords);

@@ -1,25 +1,25 @@
-//! The files of a run, which are looked at while their entries run.
+//! The files of a run, which are checked for changes while their entries run.
 
 use crate::watch::Watch;
 use cron_replies::status::Status;
-use cron_running::{Changing, Crontabs, NamedOpen, Tab, ZoneOpener};
 use cron_tab_lines::Crontab;
+use cron_tab_running::{Changing, Crontabs, NamedOpen, Tab, ZoneOpener};
 use crontool_machine::machine::{Surroundings, no_memory, read_all, read_file, say_unread};
 use crontool_machine::zones::TabZones;
 use std::alloc::{AllocError, Global};
 
-/// The files of a run.
+/// The files of a run, by their names, with what was last read from each.
 #[derive(Drop)]
 pub(crate) struct Files<'r> {
     rt: &'r HostRuntime,
     names: &'r [&'r str],
-    /// What was read of each last.
+    /// What was last read from each file.
     read: Vec<Vec<u8>>,
     watch: Watch<'r>,
 }
 
 impl<'r> Files<'r> {
-    /// They are read when they are looked at first.
+    /// The files `names`, before they are read for the first time.
     pub(crate) fn new(rt: &'r HostRuntime, names: &'r [&'r str]) -> Files<'r> {
         Files {
             rt,
@@ -29,7 +29,7 @@ impl<'r> Files<'r> {
         }
     }
 
-    // Notes what tells whether they change from now on.
+    // Records the state of the files, so that later changes are noticed.
     fn look(&mut self) -> Result<(), Status> {
         match Watch::of(self.rt.alloc(), self.rt, self.names) {
             Ok(watch) => {
@@ -41,7 +41,8 @@ impl<'r> Files<'r> {
     }
 }
 
-// Reads files again. Of one that can't be read it is said why, and what was read of it stays.
+// Reads the files again, except standard input. If one can't be read, the reason is written, and
+// what was read from it before is kept.
 fn read_again(rt: &HostRuntime, names: &[&str], read: &mut [Vec<u8>]) -> Result<(), Status> {
     for (name, bytes) in names.iter().zip(read.iter_mut()) {
         if *name == "-" {

@@ -5,13 +5,13 @@ use crate::run::status_of;
 use crate::state::State;
 use cron_agenda_scheduler::AgendaStop;
 use cron_notes::machine::MachineStore;
+use cron_printing::printer::Printer;
 use cron_replies::status::Status;
-use cron_ringing::printer::Printer;
-use cron_running::{
+use cron_scheduler::MachineClock;
+use cron_tab_running::{
     Failure, FollowError, Interruption, Notebook, Noted, RunClock, RunOrders, TabFile, TabWriter,
     follow, run_files,
 };
-use cron_scheduler::MachineClock;
 use cron_tab_tasks::Orders;
 use cron_writer::watched::Watched;
 use crontool_machine::machine::{Surroundings, no_memory, open_zone, read_all};
@@ -21,7 +21,8 @@ use jiff::{Error, Timestamp};
 use std::alloc::{AllocError, Global};
 use std::io;
 
-/// The machine's clock, which looks at files and notes in the machine's files.
+/// The machine's clock, which also checks the files for changes and writes notes to the machine's
+/// files.
 type FileClock<'r> = RunClock<
     'r,
     MachineClock<'r, HostRuntime>,
@@ -48,13 +49,14 @@ fn clock_of<'r>(rt: &'r HostRuntime, state: Option<&'r State>, files: Files<'r>)
     }
 }
 
-// Says why it couldn't be noted what was run.
+// Writes to standard error why the note of what was run couldn't be written to `path`.
 fn say_unnoted(rt: &HostRuntime, path: &str, error: &io::Error) -> Status {
     let _told = eprintln!(rt; "error: {path}: {error}");
     Status::WriteFailed
 }
 
-// How the subcommand ends.
+// The status of the subcommand `run`. If the run failed, the reason is written. `path` is where its
+// notes are written.
 fn end_of(rt: &HostRuntime, ended: Result<(), FollowError<Error, Status>>, path: &str) -> Status {
     match ended {
         Ok(()) => Status::Done,
@@ -65,7 +67,8 @@ fn end_of(rt: &HostRuntime, ended: Result<(), FollowError<Error, Status>>, path:
     }
 }
 
-// Runs the entries of files in a zone or in those that `CRON_TZ` names, so often as it is asked for.
+// Runs the entries of files in `zone`, or in the zones that `CRON_TZ` names, up to `orders.most`
+// runs.
 fn run_zoned(
     rt: &HostRuntime,
     orders: &RunOrders<'_>,
@@ -120,8 +123,8 @@ fn files_of<'a>(
     Ok(files)
 }
 
-/// Runs the entries of files as often as it is asked for, which is that of all files. They aren't
-/// looked at again.
+/// Runs the entries of files, up to `orders.most` runs of all files together. The files aren't read
+/// again.
 pub(crate) fn run_counted(
     rt: &HostRuntime,
     orders: &RunOrders<'_>,
@@ -137,7 +140,8 @@ pub(crate) fn run_counted(
     }
 }
 
-/// Runs the entries of files. Where a file changes it goes on with those that it has then.
+/// Runs the entries of files without a limit. When a file changes, the run goes on with its new
+/// entries.
 pub(crate) fn run_following<'r>(
     rt: &'r HostRuntime,
     orders: &RunOrders<'_>,

@@ -1,4 +1,5 @@
-//! Subcommands of `crontool` that wait for fires: those of crontabs, and those of an expression.
+//! Subcommands of `crontool` that wait for fires: `run` for those of crontabs, `alarm` for those of
+//! an expression.
 #![tactic(auto)]
 
 pub mod alarm;

@@ -1,12 +1,12 @@
-//! The subcommand `run`.
+//! The subcommand `run`, which runs the entries of crontabs when they fire.
 
 use crate::follow::{run_counted, run_following};
 use crate::state::State;
 use clap::ArgMatches;
 use cron_agenda_scheduler::{AgendaStop, Lateness};
 use cron_replies::status::Status;
-use cron_running::{Failure, RunOrders};
 use cron_tab_lines::Crontab;
+use cron_tab_running::{Failure, RunOrders};
 use cron_tab_tasks::{Form, Orders, Ways};
 use crontool_machine::choices::clock_of;
 use crontool_machine::machine::{complain, no_memory, say_unread};
@@ -23,7 +23,7 @@ fn lateness_of(text: &str) -> Option<Lateness> {
     }
 }
 
-// The folder of the locks, if each entry is to run alone.
+// The folder of the lock files, or `None` if an entry may run while its last command does.
 fn locks_of<'a>(words: &ArgMatches<'a>) -> Option<&'a [u8]> {
     if !words.get_flag("alone") {
         return None;
@@ -31,7 +31,8 @@ fn locks_of<'a>(words: &ArgMatches<'a>) -> Option<&'a [u8]> {
     words.get_str("state").map(|folder| folder.as_bytes())
 }
 
-// How entries are written, or what is wrong with the words.
+// How an entry's text is written: as a command, or as a line for a shell. `Err` says what is wrong
+// with the options.
 fn form_of<'a>(words: &ArgMatches<'a>) -> Result<Form<'a>, &'static str> {
     if !words.get_flag("shell") {
         return Ok(Form::Command);
@@ -47,7 +48,7 @@ fn form_of<'a>(words: &ArgMatches<'a>) -> Result<Form<'a>, &'static str> {
     }))
 }
 
-// Of which entries something is written, or what is wrong with the words.
+// Which entries are run, and how their text is written. `Err` says what is wrong with the options.
 fn tasks_of<'a>(words: &ArgMatches<'a>) -> Result<Orders<'a>, &'static str> {
     let is_shell = words.get_flag("shell");
     let is_system = words.get_flag("system");
@@ -81,7 +82,7 @@ fn orders_of<'a>(words: &ArgMatches<'a>) -> Result<RunOrders<'a>, &'static str> 
     })
 }
 
-/// How a subcommand ends that ran something, once it is said why it ended early.
+/// The status of `run` or `alarm`. If the run ended early, the reason is written.
 pub(crate) fn status_of<E: Drop>(rt: &HostRuntime, ended: Result<(), Failure<E>>) -> Status {
     match ended {
         Ok(()) => Status::Done,
@@ -100,7 +101,8 @@ pub(crate) fn status_of<E: Drop>(rt: &HostRuntime, ended: Result<(), Failure<E>>
     }
 }
 
-// Looks whether the folder for output is there.
+// Checks that the folder of `--log` exists, if one is given. If not, the reason is written, and
+// `Err` has the status of the subcommand.
 fn look_at_log(rt: &HostRuntime, words: &ArgMatches<'_>) -> Result<(), Status> {
     let Some(folder) = words.get_str("log") else {
         return Ok(());
@@ -114,7 +116,8 @@ fn look_at_log(rt: &HostRuntime, words: &ArgMatches<'_>) -> Result<(), Status> {
     }
 }
 
-// Runs the entries of files, and notes it where a folder is given.
+// Runs the entries of files. With `--count` the files are read once; with `--state` the runs are
+// noted in that folder.
 fn run_from(
     rt: &HostRuntime,
     words: &ArgMatches<'_>,
@@ -133,7 +136,7 @@ fn run_from(
     run_following(rt, &orders, Some(&state), names, zone)
 }
 
-/// Does what the words ask for.
+/// Carries out the subcommand `run`, and returns its status when it ends.
 pub fn answer(rt: &HostRuntime, words: &ArgMatches<'_>) -> Status {
     let orders = match orders_of(words) {
         Ok(orders) => orders,

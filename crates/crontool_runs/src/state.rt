@@ -1,15 +1,15 @@
-//! The folder where it is noted how far a run has come.
+//! The folder with the note of how far a run has come.
 
 use cron_replies::status::Status;
-use cron_running::{Noted, read_note};
+use cron_tab_running::{Noted, read_note};
 use crontool_machine::machine::{complain, no_memory, read_file, say_unread};
 use std::fs::{File, OpenOptions, TryLockError};
 use std::io::{self, ErrorKind};
 
-/// A folder that no other run has.
+/// The folder of `--state`, which is locked against other runs.
 #[derive(Drop)]
 pub(crate) struct State {
-    /// Its note.
+    /// The path of the note of how far a run has come.
     pub(crate) path: String,
     // The system frees the lock when the file is closed, however the program ends.
     _lock: File,
@@ -19,7 +19,7 @@ fn open_lock(rt: &HostRuntime, path: &str) -> io::Result<File> {
     OpenOptions::new().create(true).write(true).open(rt, path)
 }
 
-// Locks a file, or says why it can't.
+// Locks a file. If it can't, the reason is written, and `Err` has the status of the subcommand.
 fn lock(rt: &HostRuntime, path: &str) -> Result<File, Status> {
     let file = match open_lock(rt, path) {
         Ok(file) => file,
@@ -35,7 +35,8 @@ fn lock(rt: &HostRuntime, path: &str) -> Result<File, Status> {
 }
 
 impl State {
-    /// Takes a folder, or says why it can't be had.
+    /// Locks a folder. If another run has it, or it can't be locked, the reason is written, and
+    /// `Err` has the status of the subcommand.
     pub(crate) fn open(rt: &HostRuntime, folder: &str) -> Result<State, Status> {
         let (Ok(path), Ok(lock_path)) = (
             format!(in rt.alloc(); "{folder}/state"),
@@ -49,7 +50,8 @@ impl State {
         })
     }
 
-    /// What is noted there, or nothing if there is no note.
+    /// Reads the note of how far a run has come. It is empty if there is no file. If the file can't
+    /// be read or is no note, that is written, and `Err` has the status of the subcommand.
     pub(crate) fn read(&self, rt: &HostRuntime) -> Result<Noted, Status> {
         let path = self.path.as_str();
         let bytes = match read_file(rt, path) {

@@ -1,11 +1,12 @@
-//! Files that are looked at while their entries run.
+//! Files that are checked for changes while their entries run.
 
-use cron_running::Changing;
+use cron_tab_running::Changing;
 use std::alloc::{AllocError, Global};
 use std::fs;
 use std::os::unix::fs::MetadataExt;
 
-/// What tells one state of a file from another: where it lies, its size and its times.
+/// What distinguishes one state of a file from another: its device and inode, its size and its
+/// times.
 #[derive(Clone, Copy, PartialEq, Eq)]
 struct Trace {
     device: u64,
@@ -15,7 +16,7 @@ struct Trace {
     changed: (i64, i64),
 }
 
-// The trace of a file, if it can be had. Standard input has none.
+// The trace of a file. `None` for standard input, or if the file's metadata can't be read.
 fn trace_of(rt: &HostRuntime, name: &str) -> Option<Trace> {
     if name == "-" {
         return None;
@@ -30,14 +31,14 @@ fn trace_of(rt: &HostRuntime, name: &str) -> Option<Trace> {
     })
 }
 
-/// A file, with what was seen of it.
+/// A file with its trace when it was last checked.
 #[derive(Drop)]
 struct Seen {
     name: String,
     trace: Option<Trace>,
 }
 
-/// Files with what was seen of them.
+/// Files with their traces when they were last checked.
 #[derive(Drop)]
 pub(crate) struct Watch<'r> {
     rt: &'r HostRuntime,
@@ -45,7 +46,7 @@ pub(crate) struct Watch<'r> {
 }
 
 impl<'r> Watch<'r> {
-    /// None are looked at.
+    /// Returns a watch over no files.
     pub(crate) fn nothing(alloc: Global, rt: &'r HostRuntime) -> Watch<'r> {
         Watch {
             rt,
@@ -53,7 +54,7 @@ impl<'r> Watch<'r> {
         }
     }
 
-    /// They are looked at.
+    /// Returns a watch over the files `names`, with their traces of now.
     pub(crate) fn of(
         alloc: Global,
         rt: &'r HostRuntime,

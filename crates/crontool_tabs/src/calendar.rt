@@ -1,4 +1,4 @@
-//! The subcommand `calendar`.
+//! The subcommand `calendar`, which counts the fires of each day.
 
 ghost use Rattle.std.specs.Prelude.{◌<◌, ◌≤◌};
 ghost use Rattle.cron_answers.specs.Periods.{IsPeriod};
@@ -13,8 +13,8 @@ use cron_calendar::plans::Plan;
 use cron_crontab::Expression as TabExpression;
 use cron_fires::ClockChanges;
 use cron_replies::status::Status;
+use cron_tab_agenda::TabFile;
 use cron_tab_lines::{Crontab, Entry, Line, Lines, NamedZone, zone_below};
-use cron_tab_listing::TabFile;
 use cron_tab_warnings::{follows_clock, text_of};
 use crontool_machine::choices::changes_of;
 use crontool_machine::machine::{
@@ -26,14 +26,15 @@ use std::alloc::{AllocError, Global};
 use std::env;
 use std::io::IsTerminal;
 
-/// Something that fires, under a name.
+/// An expression with its name in the calendar: its text, or the line of its entry.
 #[derive(Drop)]
 struct Named<'a> {
     name: &'a [u8],
     expression: Expression,
 }
 
-// Reads the expressions of the command line.
+// Adds the expressions of the command line. If a text is no expression, the reason is written, and
+// `Err` has the status of the subcommand.
 fn add_words<'a>(
     rt: &HostRuntime,
     named: &mut Vec<Named<'a>>,
@@ -52,7 +53,7 @@ fn add_words<'a>(
     Ok(())
 }
 
-/// A line without what ends it.
+/// A line without its line feed.
 pub(crate) fn line_name(bytes: &[u8]) -> &[u8] {
     match bytes {
         [name @ .., b'\n'] => name,
@@ -60,7 +61,7 @@ pub(crate) fn line_name(bytes: &[u8]) -> &[u8] {
     }
 }
 
-/// When an entry of a line fires, and its own rule at clock changes.
+/// The expression of an entry with its own rule at clock changes. `line` is the text of its line.
 pub(crate) fn expression_of(entry: &Entry<'_>, line: &str) -> Expression {
     match &entry.expression {
         TabExpression::Reboot => Expression::Reboot,
@@ -75,8 +76,8 @@ pub(crate) fn expression_of(entry: &Entry<'_>, line: &str) -> Expression {
     }
 }
 
-// Adds the entries of a crontab but those below a line that names a zone, and answers whether there
-// are such.
+// Adds the entries of a crontab, except those in a zone that a `CRON_TZ` line names. Returns true
+// if there are such entries. Entries after a `CRON_TZ` that names no zone are left out too.
 fn add_entries<'a>(
     named: &mut Vec<Named<'a>>,
     file: &'a [u8],
@@ -98,7 +99,7 @@ fn add_entries<'a>(
     Ok(left_out)
 }
 
-/// A crontab of a user, the only one that is read.
+/// A user's crontab as the only file that is read, so that messages don't name it.
 pub(crate) fn user_tab(bytes: &[u8]) -> TabFile<'_> {
     TabFile {
         kind: Crontab::User,
@@ -107,7 +108,8 @@ pub(crate) fn user_tab(bytes: &[u8]) -> TabFile<'_> {
     }
 }
 
-// What fires, each by the rule that was chosen, or its own.
+// The expressions in the form that a calendar takes. The rule at clock changes is `chosen`, or each
+// expression's own if that is `None`.
 fn plans_of<'a>(
     alloc: Global,
     named: &'a [Named<'a>],
@@ -124,7 +126,7 @@ fn plans_of<'a>(
     Ok(plans)
 }
 
-// How wide the terminal is, as COLUMNS says.
+// The width of the terminal: the value of COLUMNS, or 80.
 fn columns(rt: &HostRuntime) -> u64 {
     match env::var(rt, "COLUMNS") {
         Ok(text) => text.as_str().parse::<u64>().unwrap_or(80),
@@ -132,12 +134,12 @@ fn columns(rt: &HostRuntime) -> u64 {
     }
 }
 
-// Whether numbers are green: on a terminal, where nothing says that no colours are wanted.
+// Whether numbers are green: if standard output is a terminal, and NO_COLOR isn't set.
 fn wants_colour(rt: &HostRuntime) -> bool {
     env::var(rt, "NO_COLOR").is_err() && rt.stdout().is_terminal()
 }
 
-// How many months of 38 columns stand side by side.
+// The number of months of 38 columns that fit side by side, from 1 to 12. The last needs only 35.
 fn months_across(width: u64) -> u32
     ensures { (0 < result) × (result ≤ 12) }
 {
@@ -151,7 +153,7 @@ fn months_across(width: u64) -> u32
     }
 }
 
-// Makes the page and writes it.
+// Makes the calendar of `plans`, the expressions, as HTML or as text, and writes it.
 fn show<'a>(
     rt: &HostRuntime,
     words: &ArgMatches<'_>,
@@ -180,7 +182,7 @@ fn show<'a>(
     }
 }
 
-// Shows what fires in a zone.
+// Writes the calendar of the expressions' fires in the zone `name`.
 fn show_named<'a>(
     rt: &HostRuntime,
     words: &ArgMatches<'_>,
@@ -205,7 +207,8 @@ fn show_named<'a>(
     }
 }
 
-/// Says that nothing is named that fires, if so.
+/// Refuses a command line without an expression and without a crontab: that is written, and `Err`
+/// has the status of the subcommand.
 pub(crate) fn demand_entries(rt: &HostRuntime, words: &ArgMatches<'_>) -> Result<(), Status> {
     let given = words
         .get_strs("EXPRESSION")
@@ -216,7 +219,8 @@ pub(crate) fn demand_entries(rt: &HostRuntime, words: &ArgMatches<'_>) -> Result
     Err(complain(rt, "an EXPRESSION or --file is wanted", Status::WrongWords))
 }
 
-/// Reads the crontab, if one is named.
+/// Reads the crontab of `--file`, or returns no bytes if none is named. If it can't be read, the
+/// reason is written, and `Err` has the status of the subcommand.
 pub(crate) fn file_of(rt: &HostRuntime, words: &ArgMatches<'_>) -> Result<Vec<u8>, Status> {
     let Some(path) = words.get_str("file") else {
         return Ok(Vec::new(rt.alloc()));
@@ -227,7 +231,8 @@ pub(crate) fn file_of(rt: &HostRuntime, words: &ArgMatches<'_>) -> Result<Vec<u8
     }
 }
 
-// Reads the crontab, and tells what of it is refused or left out.
+// Adds the entries of a crontab to `named`, and reports which lines are refused and whether entries
+// are left out. The status is `No` if some are.
 fn read_tab<'a>(
     rt: &HostRuntime,
     file: &'a [u8],
@@ -250,7 +255,8 @@ fn read_tab<'a>(
     Ok(told)
 }
 
-// Reads what fires, and shows it.
+// Reads the expressions and the crontab that the words name, and writes the calendar of their
+// fires.
 fn show_words(
     rt: &HostRuntime,
     words: &ArgMatches<'_>,
@@ -271,7 +277,7 @@ fn show_words(
     Ok(told.worse(shown))
 }
 
-/// Does what the words ask for.
+/// Carries out the subcommand `calendar`, and returns its status.
 pub fn answer(rt: &HostRuntime, words: &ArgMatches<'_>) -> Status {
     let Some(zone) = words.get_str("zone") else {
         return complain(rt, "a word is missing", Status::WrongWords);

@@ -1,4 +1,4 @@
-//! `check`: which lines of files are refused, and which may not be meant.
+//! The subcommand `check`: which lines of files are refused, and which are probably mistakes.
 
 use clap::ArgMatches;
 use cron_answers::instant::instant_of;
@@ -19,12 +19,12 @@ use std::alloc::{AllocError, Global};
 use std::fs;
 use std::io::{self, BufRead, BufReader, Read};
 
-/// The name of one of so many files, if it is told.
+/// The name of one of `count` files in messages. `None` if it is the only one.
 pub(crate) fn told_name(file: &str, count: usize) -> Option<&str> {
     if count > 1 { Some(file) } else { None }
 }
 
-/// What stands in front of each line's number.
+/// The text in front of each line's number: the file's name and a colon, or nothing without a name.
 pub(crate) fn front_of(alloc: Global, name: Option<&str>) -> Result<String, AllocError> {
     match name {
         Some(name) => format!(in alloc; "{name}:"),
@@ -32,7 +32,8 @@ pub(crate) fn front_of(alloc: Global, name: Option<&str>) -> Result<String, Allo
     }
 }
 
-// Checks a crontab, and opens the zones that it names.
+// Checks the lines of a crontab, after opening the zones that it names. `Err` has the status if the
+// crontab can't be checked.
 fn check_tab(
     rt: &HostRuntime,
     kind: Crontab,
@@ -74,7 +75,7 @@ fn status_of(end: Outcome) -> Status {
     }
 }
 
-// Checks the lines of a reader, each of which is an expression.
+// Checks the lines of a reader. Each line is an expression.
 fn check_lines<R: Read + Drop>(
     rt: &HostRuntime,
     how: &Telling<'_>,
@@ -85,7 +86,7 @@ fn check_lines<R: Read + Drop>(
         Ok(reader) => reader,
         Err(error) => return say_unread(rt, file, &error),
     };
-    // a folder is opened, and can't be read
+    // a folder can be opened but not read, which shows only here
     if let Err(error) = reader.fill_buf() {
         return say_unread(rt, file, &error);
     }
@@ -107,17 +108,18 @@ fn check_file(rt: &HostRuntime, how: &Telling<'_>, file: &str) -> Status {
 /// What is checked of each file.
 #[derive(Drop)]
 enum Kind<'a> {
-    /// Whose crontab it is, and whether warnings are told.
+    /// A crontab: of a user or of the system, and whether warnings are written.
     Tab(Crontab, bool),
-    /// The faults of expressions.
+    /// The faults of lines that are no expression.
     Faults,
-    /// Their sets too.
+    /// The faults of lines that are no expression, and the sets of the others.
     Sets,
-    /// Their first fires after an instant in a zone too.
+    /// The faults of lines that are no expression, and the first fires of the others after an
+    /// instant in a zone.
     Next(Timestamp, TimeZone<'a>),
 }
 
-// Checks one of so many files.
+// Checks one of `count` files.
 fn check_one(rt: &HostRuntime, kind: &Kind<'_>, file: &str, count: usize) -> Status {
     let Ok(front) = front_of(rt.alloc(), told_name(file, count)) else {
         return no_memory(rt);
@@ -136,7 +138,7 @@ fn check_one(rt: &HostRuntime, kind: &Kind<'_>, file: &str, count: usize) -> Sta
     check_file(rt, &Telling { front, mode }, file)
 }
 
-// Checks files one after another, also where one can't be read, until a write fails.
+// Checks one file after another until a write fails. A file that can't be read doesn't end it.
 fn check_all(rt: &HostRuntime, kind: &Kind<'_>, files: &[&str]) -> Status {
     let mut worst = Status::Done;
     for file in files {
@@ -149,7 +151,7 @@ fn check_all(rt: &HostRuntime, kind: &Kind<'_>, files: &[&str]) -> Status {
     worst
 }
 
-// What is checked where no first fires are asked for.
+// What is checked if no first fires are requested.
 fn kind_of<'a>(words: &ArgMatches<'_>) -> Kind<'a> {
     if words.get_flag("sets") {
         return Kind::Sets;
@@ -165,7 +167,8 @@ fn kind_of<'a>(words: &ArgMatches<'_>) -> Kind<'a> {
     Kind::Tab(kind, words.get_flag("warn"))
 }
 
-// Checks files, and tells the first fires of expressions in a zone where START is given.
+// Checks files. If START is given by `--next`, also writes the first fire of each expression after
+// it, in `zone`.
 fn check_files(
     rt: &HostRuntime,
     words: &ArgMatches<'_>,
@@ -184,7 +187,7 @@ fn check_files(
     }
 }
 
-/// Does what the words ask for.
+/// Carries out the subcommand `check`, and returns its status.
 pub fn answer(rt: &HostRuntime, words: &ArgMatches<'_>) -> Status {
     let (Some(files), Some(zone)) = (words.get_strs("FILE"), words.get_str("zone")) else {
         return complain(rt, "a word is missing", Status::WrongWords);

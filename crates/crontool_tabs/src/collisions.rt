@@ -1,12 +1,12 @@
-//! The subcommand `collisions`.
+//! The subcommand `collisions`, which writes the entries of crontabs that collide.
 
 use crate::list::{read_span, tabs_of, tell_all_refused};
 use clap::ArgMatches;
 use cron_replies::status::Status;
+use cron_tab_agenda::{Clock, TabFile};
 use cron_tab_collisions::report::tell_collisions;
 use cron_tab_fires::Asked;
 use cron_tab_lines::Crontab;
-use cron_tab_listing::{Clock, TabFile};
 use cron_writer::watched::Watched;
 use crontool_machine::choices::{clock_of, kind_of};
 use crontool_machine::machine::{
@@ -17,7 +17,7 @@ use jiff::tz::TimeZone;
 use std::alloc::{AllocError, Global};
 use std::io;
 
-/// What is asked for, in words.
+/// The arguments of `collisions` but for the files. Zone and instants aren't read yet.
 #[derive(Clone, Copy)]
 struct Request<'a> {
     kind: Crontab,
@@ -39,7 +39,7 @@ fn request_of<'a>(words: &ArgMatches<'a>) -> Option<Request<'a>> {
     })
 }
 
-// Tells which lines of crontabs are refused, and then which of the other entries collide.
+// Reports which lines of crontabs are refused, and then which of the other entries collide.
 fn tell_files(
     rt: &HostRuntime,
     minutes: u32,
@@ -55,7 +55,8 @@ fn tell_files(
     }
 }
 
-// Does so in a zone, or in those that `CRON_TZ` names.
+// Reports which entries of files collide. They fire in `zone`, or in the zones that `CRON_TZ`
+// names.
 fn tell_zoned(
     rt: &HostRuntime,
     request: &Request<'_>,
@@ -80,7 +81,7 @@ fn tell_zoned(
     tell_files(rt, request.minutes, files, &asked, zones.as_slice())
 }
 
-// Reads the files, and tells which of their entries collide.
+// Reads the files, and reports which of their entries collide.
 fn tell_names(rt: &HostRuntime, request: &Request<'_>, names: &[&str]) -> Result<Status, Status> {
     let read = read_all(rt, names)?;
     let around = Surroundings::of(rt)?;
@@ -91,7 +92,7 @@ fn tell_names(rt: &HostRuntime, request: &Request<'_>, names: &[&str]) -> Result
     }
 }
 
-// The files that the words name.
+// The names of the files, first those given as FILE and then those given by `--file`.
 fn names_of<'a>(alloc: Global, words: &ArgMatches<'a>) -> Result<Vec<&'a str>, AllocError> {
     let mut names = Vec::new(alloc);
     for word in ["FILE", "file"] {
@@ -102,7 +103,7 @@ fn names_of<'a>(alloc: Global, words: &ArgMatches<'a>) -> Result<Vec<&'a str>, A
     Ok(names)
 }
 
-/// Does what the words ask for.
+/// Carries out the subcommand `collisions`, and returns its status.
 pub fn answer(rt: &HostRuntime, words: &ArgMatches<'_>) -> Status {
     let Some(request) = request_of(words) else {
         return complain(rt, "a word is missing", Status::WrongWords);

@@ -1,13 +1,13 @@
-//! The subcommand `compare`.
+//! The subcommand `compare`, which compares two expressions or two crontabs.
 
 use crate::list::{tabs_of, tell_all_refused};
 use clap::ArgMatches;
 use cron_answers::compare::compare;
 use cron_answers::pair::Pair;
 use cron_replies::status::Status;
+use cron_tab_agenda::TabFile;
 use cron_tab_comparing::report::tell_changes;
 use cron_tab_lines::Crontab;
-use cron_tab_listing::TabFile;
 use cron_writer::watched::Watched;
 use crontool_machine::choices::kind_of;
 use crontool_machine::machine::{Surroundings, complain, controls_of, no_memory, read_all};
@@ -29,7 +29,7 @@ fn tell_two(rt: &HostRuntime, files: &[TabFile<'_>]) -> Status {
     }
 }
 
-// Tells which lines are refused, and then what differs.
+// Reports which lines of two crontabs are refused, and then what differs between them.
 fn tell_files(
     rt: &HostRuntime,
     files: &[TabFile<'_>],
@@ -46,7 +46,7 @@ fn tell_files(
     Ok(told.worse(tell_two(rt, files)))
 }
 
-// Reads two crontabs, and tells what differs.
+// Reads two crontabs, and reports what differs.
 fn compare_files(rt: &HostRuntime, kind: Crontab, pair: &Pair<'_>) -> Result<Status, Status> {
     let names = [pair.first, pair.second];
     let read = read_all(rt, &names)?;
@@ -57,7 +57,7 @@ fn compare_files(rt: &HostRuntime, kind: Crontab, pair: &Pair<'_>) -> Result<Sta
     }
 }
 
-/// Does what the words ask for.
+/// Carries out the subcommand `compare`, and returns its status.
 pub fn answer(rt: &HostRuntime, words: &ArgMatches<'_>) -> Status {
     let Some(pair) = pair_of(words) else {
         return complain(rt, "a word is missing", Status::WrongWords);

@@ -1,4 +1,4 @@
-//! The subcommand `ics`.
+//! The subcommand `ics`, which writes fires as a calendar of RFC 5545.
 
 use crate::calendar::{demand_entries, expression_of, file_of, line_name, user_tab};
 use crate::list::{read_span, tell_refused};
@@ -25,16 +25,17 @@ use jiff::tz::TimeZone;
 use std::alloc::{AllocError, Global};
 use std::io;
 
-/// How many events there are at most, if no other number is chosen.
+/// The greatest number of events, unless another is chosen.
 const MOST: u64 = 10_000;
 
 /// The file that holds the machine's name.
 const HOST_FILE: &str = "/etc/hostname";
 
-/// The longest event: a leap year.
+/// The number of minutes of the longest event: a leap year.
 const MOST_MINUTES: u64 = 527_040;
 
-/// Something that fires, under a text.
+/// An expression with the text that identifies its events, their summary, and the number of its
+/// zone.
 #[derive(Drop)]
 struct Named<'a> {
     text: &'a [u8],
@@ -43,7 +44,8 @@ struct Named<'a> {
     zone: usize,
 }
 
-// Reads the expressions of the command line.
+// Adds the expressions of the command line. If a text is no expression, the reason is written, and
+// `Err` has the status of the subcommand.
 fn add_words<'a>(
     rt: &HostRuntime,
     named: &mut Vec<Named<'a>>,
@@ -68,7 +70,8 @@ fn add_words<'a>(
     Ok(())
 }
 
-// Adds the entries of a crontab, each in its zone.
+// Adds the entries of a crontab, each in its zone. Entries after a `CRON_TZ` that names no zone are
+// left out.
 fn add_entries<'a>(
     named: &mut Vec<Named<'a>>,
     file: &'a [u8],
@@ -89,7 +92,8 @@ fn add_entries<'a>(
     Ok(())
 }
 
-// What fires, each in its zone and by the rule that was chosen, or its own.
+// The entries of the calendar, each in its zone. The rule at clock changes is `chosen`, or each
+// entry's own if that is `None`.
 fn entries_of<'a>(
     alloc: Global,
     named: &'a [Named<'a>],
@@ -111,7 +115,8 @@ fn entries_of<'a>(
     Ok(entries)
 }
 
-// The machine's name in its file, which may have comments.
+// The machine's name: the first line of its file that is neither empty nor a comment. `None` if
+// that is no domain.
 fn host_of(file: &[u8]) -> Option<Domain<'_>> {
     for line in file.split(|byte| *byte == b'\n') {
         let name = line.trim_ascii();
@@ -122,7 +127,8 @@ fn host_of(file: &[u8]) -> Option<Domain<'_>> {
     None
 }
 
-// The word for what UIDs end with, or else the file with the host's name.
+// The text of the domain that UIDs end with: the value of `--uid-domain`, or else the contents of
+// the file with the host's name. It is empty if that file can't be read.
 fn domain_text(rt: &HostRuntime, words: &ArgMatches<'_>) -> Result<Vec<u8>, Status> {
     let Some(word) = words.get_str("uid-domain") else {
         return Ok(read_file(rt, HOST_FILE).unwrap_or(Vec::new(rt.alloc())));
@@ -133,7 +139,8 @@ fn domain_text(rt: &HostRuntime, words: &ArgMatches<'_>) -> Result<Vec<u8>, Stat
     }
 }
 
-// What UIDs end with, by this text; or how the subcommand ends where the word is wrong.
+// The domain that UIDs end with, read from `text`, which is the value of `--uid-domain` if
+// `is_word`. If that value is wrong, a message says so, and `Err` has the status of the subcommand.
 fn domain_of<'a>(rt: &HostRuntime, text: &'a [u8], is_word: bool) -> Result<Domain<'a>, Status> {
     if !is_word {
         return Ok(host_of(text).unwrap_or(Domain::of_program()));
@@ -148,7 +155,7 @@ fn domain_of<'a>(rt: &HostRuntime, text: &'a [u8], is_word: bool) -> Result<Doma
     }
 }
 
-/// Which fires are events, and when the calendar is written.
+/// Which fires become events, and when the calendar is written.
 #[derive(Clone, Copy)]
 struct Asked {
     start: Timestamp,
@@ -158,7 +165,8 @@ struct Asked {
     now: Timestamp,
 }
 
-// Which fires are events, or how the subcommand ends where a word is wrong.
+// Which fires become events. If a word is wrong, that is written, and `Err` has the status of the
+// subcommand.
 fn asked_of(
     rt: &HostRuntime,
     words: &ArgMatches<'_>,
@@ -182,7 +190,7 @@ fn asked_of(
     })
 }
 
-// Writes the calendar of entries.
+// Writes the calendar of `entries`, or why there is none.
 fn write_entries(
     rt: &HostRuntime,
     entries: &[Entry<'_>],
@@ -211,11 +219,11 @@ fn write_entries(
             "more events than --most, which is 10000 if left out",
             Status::WrongWords,
         ),
-        Err(IcsError::TooManySchedules | IcsError::OutOfMemory) => no_memory(rt),
+        Err(IcsError::OutOfMemory) => no_memory(rt),
     }
 }
 
-// Writes what fires, once the lines that are refused are told.
+// Writes the calendar that the words request, after a report on the refused lines of the crontab.
 fn write_words(
     rt: &HostRuntime,
     words: &ArgMatches<'_>,
@@ -247,7 +255,7 @@ fn write_words(
     }
 }
 
-// The same, with UIDs that end with the chosen domain, or the host's name.
+// Writes the calendar with UIDs that end with the chosen domain, or else the host's name.
 fn write_named(
     rt: &HostRuntime,
     words: &ArgMatches<'_>,
@@ -260,7 +268,7 @@ fn write_named(
     write_words(rt, words, file, zone, domain)
 }
 
-/// Does what the words ask for.
+/// Carries out the subcommand `ics`, and returns its status.
 pub fn answer(rt: &HostRuntime, words: &ArgMatches<'_>) -> Status {
     let Some(zone) = words.get_str("zone") else {
         return complain(rt, "a word is missing", Status::WrongWords);

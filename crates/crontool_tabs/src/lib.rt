@@ -1,5 +1,5 @@
-//! Subcommands of `crontool` that tell of crontabs: what is wrong with them, when their entries
-//! fire, which fire at once, and how two differ.
+//! Subcommands of `crontool` on crontabs: what is wrong with them, when their entries fire, which
+//! entries collide, and how two crontabs differ.
 #![tactic(auto)]
 
 pub mod calendar;

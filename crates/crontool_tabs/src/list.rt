@@ -1,4 +1,4 @@
-//! The subcommand `list`.
+//! The subcommand `list`, which lists the fires of crontabs' entries.
 
 use crate::check::{front_of, told_name};
 use clap::ArgMatches;
@@ -6,12 +6,12 @@ use cron_answers::instant::instant_of;
 use cron_answers::trouble::Trouble;
 use cron_replies::form::Form;
 use cron_replies::status::Status;
+use cron_tab_agenda::{Clock, TabFile};
 use cron_tab_answers::check::{Wanted, check};
 use cron_tab_answers::tab_files::{Firing, TabAgenda, load_file};
 use cron_tab_answers::tab_row::Style;
 use cron_tab_answers::tabs::list;
 use cron_tab_lines::{Crontab, NamedZone};
-use cron_tab_listing::{Clock, TabFile};
 use cron_writer::watched::Watched;
 use crontool_machine::choices::{clock_of, form_of, kind_of};
 use crontool_machine::machine::{
@@ -23,7 +23,7 @@ use jiff::tz::TimeZone;
 use std::alloc::{AllocError, Global};
 use std::io;
 
-/// What is asked for, in words.
+/// The arguments of `list` but for the files. Zone and instants aren't read yet.
 #[derive(Clone, Copy)]
 struct Request<'a> {
     kind: Crontab,
@@ -35,7 +35,7 @@ struct Request<'a> {
     most: usize,
 }
 
-// What is asked for, and of which files. `None` where words are missing.
+// The request, and the names of its files. `None` if words are missing.
 fn request_of<'a, 'w>(words: &'w ArgMatches<'a>) -> Option<(Request<'a>, &'w [&'a str])> {
     let given = words.get_strs("FILE")?;
     let request = Request {
@@ -67,7 +67,8 @@ fn request_of<'a, 'w>(words: &'w ArgMatches<'a>) -> Option<(Request<'a>, &'w [&'
     }
 }
 
-/// Reads an instant, or says that a text is none.
+/// Reads an instant. If the text is none, that is written, and `Err` has the status of the
+/// subcommand.
 pub(crate) fn read_instant(
     rt: &HostRuntime,
     text: &str,
@@ -80,7 +81,8 @@ pub(crate) fn read_instant(
     }
 }
 
-/// Reads START and END; or says that one is no instant, or that START comes after END.
+/// Reads START and END. If one is no instant, or START comes after END, that is written, and `Err`
+/// has the status of the subcommand.
 pub(crate) fn read_span(
     rt: &HostRuntime,
     start: &str,
@@ -96,7 +98,8 @@ pub(crate) fn read_span(
     Ok((first, last))
 }
 
-/// Tells which lines of a crontab are refused, and of a last line that no line feed ends.
+/// Reports on standard error which lines of a crontab are refused, and whether the last line lacks
+/// a line feed. The status is `No` if a line is refused, else `Done` if nothing fails.
 pub(crate) fn tell_refused(
     rt: &HostRuntime,
     file: &TabFile<'_>,
@@ -120,8 +123,8 @@ pub(crate) fn tell_refused(
     }
 }
 
-/// Tells which lines of crontabs are refused, and answers whether one is; or how the subcommand
-/// ends, where it can't go on.
+/// Reports which lines of crontabs are refused. The status is `No` if one is, else `Done`. If the
+/// subcommand can't go on, `Err` has its status.
 pub(crate) fn tell_all_refused(
     rt: &HostRuntime,
     files: &[TabFile<'_>],
@@ -137,7 +140,7 @@ pub(crate) fn tell_all_refused(
     Ok(told)
 }
 
-// Tells which lines of a crontab are refused, and adds the others.
+// Reports which lines of a crontab are refused, and adds the entries of the others.
 fn load<'a>(
     rt: &HostRuntime,
     tabs: &mut TabAgenda<'a>,
@@ -152,7 +155,7 @@ fn load<'a>(
     }
 }
 
-// Lists the fires of entries.
+// Lists the fires of the loaded entries up to and including `end`, at most `request.most`.
 fn list_loaded(
     rt: &HostRuntime,
     request: &Request<'_>,
@@ -184,7 +187,7 @@ fn list_loaded(
     }
 }
 
-// Lists the fires of crontabs up to and with an instant.
+// Lists the fires of crontabs up to and including `end`, after a report on their refused lines.
 fn list_tabs(
     rt: &HostRuntime,
     request: &Request<'_>,
@@ -204,7 +207,7 @@ fn list_tabs(
     told.worse(list_loaded(rt, request, tabs, end, zones))
 }
 
-// Lists the fires of crontabs in a zone, or in those that `CRON_TZ` names.
+// Lists the fires of crontabs in `zone`, or in the zones that `CRON_TZ` names.
 fn list_zoned(
     rt: &HostRuntime,
     request: &Request<'_>,
@@ -234,7 +237,7 @@ fn list_zoned(
     Ok(list_tabs(rt, request, files, &firing, end, zones.as_slice()))
 }
 
-/// The crontabs, each with its name where there are several.
+/// The crontabs with these contents. Each has its name for messages if there are several.
 pub(crate) fn tabs_of<'a>(
     alloc: Global,
     kind: Crontab,
@@ -252,7 +255,7 @@ pub(crate) fn tabs_of<'a>(
     Ok(files)
 }
 
-// Lists the fires of files.
+// Reads files, and lists the fires of their entries.
 fn list_files(rt: &HostRuntime, request: &Request<'_>, names: &[&str]) -> Result<Status, Status> {
     let read = read_all(rt, names)?;
     let around = Surroundings::of(rt)?;
@@ -263,7 +266,7 @@ fn list_files(rt: &HostRuntime, request: &Request<'_>, names: &[&str]) -> Result
     }
 }
 
-/// Does what the words ask for.
+/// Carries out the subcommand `list`, and returns its status.
 pub fn answer(rt: &HostRuntime, words: &ArgMatches<'_>) -> Status {
     match request_of(words) {
         Some((request, names)) => match list_files(rt, &request, names) {

@@ -1,4 +1,4 @@
-//! The command line, and what several subcommands ask for.
+//! The command line as `clap` parses it, and the requests of `next` and `between`.
 
 use crate::subcommands::{SUBCOMMANDS, Subcommand};
 use crate::words::{Kind, Rule, Word};
@@ -16,7 +16,7 @@ const AFTER_HELP: &str = "EXPRESSION has five fields, or is a nickname, as in a 
 six or seven fields, of which the first are seconds.\n\
 An instant is ISO with an offset, a fire as it was printed, now, @SECONDS or a civil time in ZONE.";
 
-// A word by its name and what it is.
+// The argument or option of `clap` for a word of the command line, by its name and kind.
 fn plain_arg<'a>(alloc: Global, name: &'a str, kind: Kind) -> Arg<'a> {
     let arg = Arg::new(alloc, name);
     match kind {
@@ -43,7 +43,8 @@ fn plain_arg<'a>(alloc: Global, name: &'a str, kind: Kind) -> Arg<'a> {
     }
 }
 
-// A word with its line of the help, and what stands beside it.
+// The argument or option of `clap` for a word, with its line of the help and its rules on other
+// words.
 fn arg_of<'a>(alloc: Global, word: &Word) -> Result<Arg<'a>, AllocError> {
     let Word(name, kind, rules, help) = *word;
     let mut arg = plain_arg(alloc, name, kind).help(help);
@@ -71,8 +72,8 @@ fn subcommand<'a>(
     Ok(command.override_usage(usage))
 }
 
-// What the help shows of a subcommand's use, of a program that was called by this name; nothing
-// where its words tell it.
+// The usage of a subcommand in the help, for a program that was called as `program`. It is empty if
+// the usage is made from the words.
 fn usage_of(alloc: Global, program: &str, said: &Subcommand) -> Result<String, AllocError> {
     let mut usage = String::new(alloc);
     let name = said.name;
@@ -85,7 +86,7 @@ fn usage_of(alloc: Global, program: &str, said: &Subcommand) -> Result<String, A
     Ok(usage)
 }
 
-/// The use of each subcommand, of a program that was called by this name.
+/// The usage of each subcommand, for a program that was called as `program`.
 pub fn usages_of(alloc: Global, program: &str) -> Result<Vec<String>, AllocError> {
     let mut usages = Vec::new(alloc);
     for said in &SUBCOMMANDS {
@@ -94,7 +95,7 @@ pub fn usages_of(alloc: Global, program: &str) -> Result<Vec<String>, AllocError
     Ok(usages)
 }
 
-/// The whole command line, with the use of each subcommand.
+/// The whole command line, with the usage of each subcommand.
 pub fn command<'a>(alloc: Global, usages: &'a [String]) -> Result<Command<'a>, AllocError> {
     let mut command = Command::new(alloc, "crontool")
         .version(VERSION)
@@ -121,7 +122,8 @@ fn which_of<'a>(name: &str, matches: &ArgMatches<'a>) -> Option<Which<'a>> {
     Some(Which::Between(matches.get_str("START")?, matches.get_str("END")?))
 }
 
-/// What a subcommand asks for. `None` where a word is missing, which a parse refuses before.
+/// The request of `next` or `between`. `None` if a word is missing: a parse of the command line
+/// refuses that before.
 pub fn request_of<'a>(name: &str, matches: &ArgMatches<'a>) -> Option<Request<'a>> {
     Some(Request {
         expression: matches.get_str("EXPRESSION")?,

@@ -1,4 +1,4 @@
-//! The subcommands that wait for fires.
+//! The subcommands that wait for fires, `run` and `alarm`, each with its arguments and options.
 
 use crate::subcommands::Subcommand;
 use crate::words::{

@@ -1,4 +1,4 @@
-//! The subcommands, each with the words of its line.
+//! The subcommands, each with its words: the arguments and options of its line.
 
 use crate::runs::{ALARM, RUN};
 use crate::words::{
@@ -6,13 +6,13 @@ use crate::words::{
     START, SYSTEM, Word, ZONE,
 };
 
-/// A subcommand.
+/// A subcommand: its name, what the help says about it, and its arguments and options, the words.
 #[derive(Clone, Copy)]
 pub(crate) struct Subcommand {
     pub(crate) name: &'static str,
     pub(crate) about: &'static str,
-    /// The lines of its use that the help shows in place of what its words tell, without the names
-    /// of the program and the subcommand.
+    /// The lines of usage that the help shows in place of those made from the words. They omit the
+    /// names of the program and the subcommand.
     pub(crate) usages: &'static [&'static str],
     pub(crate) words: &'static [Word],
 }
@@ -326,7 +326,7 @@ const COMPLETIONS: Subcommand = Subcommand {
     words: &[Word("SHELL", Kind::Given, &[], "bash, fish or zsh")],
 };
 
-/// All of them, as the help lists them.
+/// All subcommands, in the order of the help.
 pub(crate) const SUBCOMMANDS: [Subcommand; 17] = [
     NEXT,
     BETWEEN,

@@ -1,24 +1,25 @@
-//! The words of a subcommand's line, and those that several subcommands have.
+//! The words of a subcommand's line, which are its arguments and options. Those that several
+//! subcommands have are here too.
 
-/// What stands beside a word.
+/// A rule on another word of the line.
 #[derive(Clone, Copy)]
 pub(crate) enum Rule {
-    /// Another word must be there too.
+    /// The other word must be there too.
     With(&'static str),
-    /// Another word must not be there.
+    /// The other word must not be there.
     Without(&'static str),
 }
 
-/// What a word is.
+/// What kind of argument or option a word is.
 #[derive(Clone, Copy)]
 pub(crate) enum Kind {
-    /// A word that must be there.
+    /// An argument that must be there.
     Given,
-    /// A number that must be there.
+    /// An argument that must be there and is a number.
     GivenNumber,
-    /// So many words or more.
+    /// At least this number of arguments.
     Many(usize),
-    /// `--NAME`.
+    /// `--NAME`, without a value.
     Flag,
     /// `--NAME VALUE`, which may be left out.
     Choice(&'static str),
@@ -34,7 +35,8 @@ pub(crate) enum Kind {
     NeededNumber(&'static str),
 }
 
-/// A word of a subcommand: its name, what it is, what stands beside it, and its line of the help.
+/// An argument or option of a subcommand: its name, its kind, its rules on others, and its line of
+/// the help.
 #[derive(Clone, Copy)]
 pub(crate) struct Word(
     pub(crate) &'static str,

@@ -50,7 +50,8 @@ impl Schedule {
         &self.fields
     }
 
-    /// The sets, none of which is empty, but for days of the month that are marked.
+    /// The sets, none of which is empty, except days of the month that have the mark of the last
+    /// day.
     pub(crate) fn filled_fields(&self) -> &ScheduleFields
         ensures sets { result.now ≡ self.now.sets }
         ensures filled { AreSets result.now }
@@ -65,7 +66,7 @@ impl Schedule {
         fields
     }
 
-    /// A copy with the same source and the same sets. A refusal changes nothing.
+    /// A copy with the same source and the same sets. If memory runs out nothing changes.
     pub fn clone(&self) -> Result<Schedule, AllocError>
         ensures { IfOk result (λ copy. copy ≡ self.now) }
     {
@@ -75,7 +76,7 @@ impl Schedule {
         })
     }
 
-    /// The text that was read, white space included. The sets are those that it means.
+    /// The text that was read, white space included. The sets are the ones that it means.
     pub fn source(&self) -> &str
         ensures text { result.now ≡ self.now.source }
         ensures means { Means self.now.source self.now.sets }
@@ -83,8 +84,8 @@ impl Schedule {
         self.source.as_str()
     }
 
-    /// Whether the seven fields of a civil datetime lie in the sets. A part of a second is ignored,
-    /// and no year outside 1970 to 2100 is ever in.
+    /// Returns true if the seven fields of `date_time` are in the sets. A fraction of a second is
+    /// ignored, and no year outside 1970 to 2100 is ever in the set of years.
     pub fn includes(&self, date_time: DateTime) -> bool
         ensures { result ≡ matches self.now.sets date_time }
     {
@@ -105,8 +106,8 @@ impl Schedule {
         &self.fields.months
     }
 
-    /// The set of days of the month. Its views are of the numbered days; whether the last day is
-    /// one of the set is told by its `last_day`.
+    /// The set of days of the month. Its views show the numbered days only. Its `last_day` says
+    /// whether the last day is in the set.
     pub fn days_of_month(&self) -> &DaysOfMonth
         ensures { result.now ≡ self.now.sets.days_of_month }
     {
@@ -141,8 +142,8 @@ impl Schedule {
         &self.fields.seconds
     }
 
-    /// Whether all seven sets are equal, however they were written. The mark of the last day of the
-    /// month is part of a set: `*,L` and `*` differ, though they mean the same days.
+    /// Returns true if all seven sets are equal, however they were written. The mark of the last
+    /// day of the month is part of a set: `*,L` and `*` differ, though they mean the same days.
     pub fn timeunitspec_eq(&self, other: &Schedule) -> bool
         ensures { IsTrue result ↔ (self.now.sets ≡ other.now.sets) }
     {

@@ -48,7 +48,7 @@ impl<'a> Inputs for Borrowed<'a> {
     }
 }
 
-/// Sets and a zone of a walk's own.
+/// Sets and a zone that a walk owns.
 #[derive(Drop)]
 pub struct Owned<'z> {
     pub(crate) fields: ScheduleFields,

@@ -1,4 +1,4 @@
-//! A schedule as a JSON string, and from one.
+//! Conversions of a schedule to and from a JSON string.
 
 ghost use Rattle.std.specs.Prelude.{◌≡◌, IfOk, IfErr, codes};
 ghost use Rattle.cron_units.specs.Texts.{IsMemory};
@@ -14,7 +14,7 @@ use cron_units::specifier::text_error;
 use serde_json::Value;
 use std::alloc::Global;
 
-// The error of a value that is no string.
+// The error of a value that isn't a string.
 fn invalid_type(alloc: Global) -> Error
     ensures { Tells (λ text. text ≡ codes "invalid type, expected a valid cron expression") result }
 {

@@ -4,6 +4,7 @@ mod expression;
 mod inputs;
 mod json;
 mod play;
+mod set;
 mod walk;
 mod walks;
 

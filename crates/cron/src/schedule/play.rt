@@ -1,4 +1,4 @@
-//! A list of calls at once.
+//! A list of calls of a walk, made by one function.
 ghost use Rattle.std.specs.Prelude.{◌≡◌, IfOk, OnErr};
 
 use crate::schedule::Moment;
@@ -18,7 +18,8 @@ pub enum Turn {
 impl<'a> Walker<Borrowed<'a>> {
     ghost use Rattle.cron.specs.Turns.{IsPlayed};
 
-    /// The answers of these calls in order. Where room is refused the walk stays as it was.
+    /// Makes the calls of `turns` in order and returns their answers. If memory runs out the walk
+    /// is unchanged.
     pub fn play(&mut self, alloc: Global, turns: &[Turn]) -> Result<Vec<Option<Moment>>, AllocError>
         ensures ok { IfOk result (λ answers. IsPlayed self.old turns.now answers.items self.new) }
         ensures err { OnErr result (self.new ≡ self.old) }

@@ -7,14 +7,16 @@ use cron_units::way::Way;
 use jiff::Timestamp;
 use std::marker::Model;
 
-/// A walk over the timeline of its inputs. Contracts see its sets, its zone and its cursor.
+/// A walk over the timeline of its inputs: the readings of the civil seconds that match, in order.
+/// Its cursor is at an instant, at an item or at the end. Contracts see its sets, its zone and its
+/// cursor.
 #[derive(Drop)]
 pub struct Walker<C: Inputs> {
     inputs: C,
     state: State,
 }
 
-/// A walk over the timeline of a schedule in a zone, both of which it borrows.
+/// A walk over the timeline of a schedule in a zone. It borrows both.
 pub type ScheduleIterator<'a> = Walker<Borrowed<'a>>;
 
 /// A walk over the timeline of a schedule in a zone, which owns its sets and its zone.
@@ -43,7 +45,7 @@ impl<C: Inputs> Walker<C> {
     ghost use Rattle.cron_time.specs.Walk.Inner.Placed.{cursor_of, stand_of, IsPlaced, Knows};
     ghost use Rattle.cron_time.specs.Walk.Rest.{Gives};
 
-    /// A walk whose cursor is at a start.
+    /// A walk whose cursor is at `start`.
     pub(crate) fn begin(inputs: C, start: Timestamp) -> Walker<C>
         ensures sets { result.sets ≡ C.sets inputs }
         ensures zone { result.zone ≡ C.zone inputs }
@@ -55,7 +57,7 @@ impl<C: Inputs> Walker<C> {
         }
     }
 
-    /// A walk that stands at a place.
+    /// A walk whose cursor is at the place that `state` holds.
     pub(crate) fn at(inputs: C, state: State) -> Walker<C>
         requires placed { IsPlaced (C.sets inputs) (C.zone inputs) (stand_of state) }
         requires known { Knows (C.sets inputs) (C.zone inputs) state }
@@ -80,8 +82,8 @@ impl<C: Inputs> Walker<C> {
         self.state.answer()
     }
 
-    /// The item before the cursor, to which the cursor moves. `None` where there is none, and from
-    /// then on for ever, in both directions.
+    /// Moves the cursor to the item before it and returns that item. `None` if there is none; from
+    /// then on both directions return `None` for ever.
     #[inline(always)]
     pub fn next_back(&mut self) -> Option<Moment>
         ensures { Gives Back self.old result self.new }
@@ -89,7 +91,7 @@ impl<C: Inputs> Walker<C> {
         self.step(Way::Back)
     }
 
-    /// The cursor stays where it is, and the two directions are exchanged.
+    /// The same walk with the two directions exchanged. The cursor keeps its place.
     pub fn rev(self) -> Reversed<C>
         ensures { result ≡ self }
     {
@@ -108,8 +110,8 @@ impl<C: Inputs> Iterator for Walker<C> {
 
     ghost remaining = { item_count rest_ahead };
 
-    /// The item after the cursor, to which the cursor moves. `None` where there is none, and from
-    /// then on for ever, in both directions.
+    /// Moves the cursor to the item after it and returns that item. `None` if there is none; from
+    /// then on both directions return `None` for ever.
     #[inline(always)]
     fn next(&mut self) -> Option<Moment> {
         self.step(Way::Ahead)
@@ -140,8 +142,8 @@ impl<C: Inputs> Reversed<C> {
     ghost use Rattle.cron_units.specs.declared.way.Way.TheVariants.{Ahead};
     ghost use Rattle.cron_time.specs.Walk.Rest.{Gives};
 
-    /// The item after the cursor, to which the cursor moves. `None` where there is none, and from
-    /// then on for ever, in both directions.
+    /// Moves the cursor to the item after it and returns that item. `None` if there is none; from
+    /// then on both directions return `None` for ever.
     pub fn next_back(&mut self) -> Option<Moment>
         ensures { Gives Ahead self.old result self.new }
     {
@@ -160,8 +162,8 @@ impl<C: Inputs> Iterator for Reversed<C> {
 
     ghost remaining = { item_count rest_back };
 
-    /// The item before the cursor, to which the cursor moves. `None` where there is none, and from
-    /// then on for ever, in both directions.
+    /// Moves the cursor to the item before it and returns that item. `None` if there is none; from
+    /// then on both directions return `None` for ever.
     fn next(&mut self) -> Option<Moment> {
         self.walk.next_back()
     }

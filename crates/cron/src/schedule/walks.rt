@@ -1,4 +1,4 @@
-//! The ways from a schedule to a walk.
+//! Functions that begin a walk over a schedule.
 
 ghost use Rattle.std.specs.Prelude.{◌≡◌, IfOk, IsOk, MatchOption};
 ghost use Rattle.jiff.specs.Words.{plain_zone};
@@ -14,18 +14,19 @@ use jiff::tz::TimeZone;
 use std::alloc::AllocError;
 
 impl Schedule {
-    /// A walk whose cursor is at the start. Its first `next` answers the first moment from the
-    /// civil second on that a clock in the zone shows one second after the start. Its first
-    /// `next_back` answers the last one up to the civil second that a clock shows at the start,
-    /// where that has a part of a second, and else one second before it.
+    /// A walk whose cursor is at `start`. Its first `next` returns the first item at or after the
+    /// civil second that a clock in the zone shows one second after `start`. Its first `next_back`
+    /// returns the last item up to the civil second that a clock shows at `start`, if `start` has a
+    /// fraction of a second. Else it returns the last item up to the civil second that a clock
+    /// shows one second before `start`.
     ///
-    /// In a fold that civil second comes twice. So a walk that is begun there may leave out items
-    /// after the start, or answer the start itself or an instant before it, and back the other way
-    /// round. In Chicago on 2022-11-06 `0 30 1 * * *` from 06:30Z leaves out 07:30Z, and
-    /// `59 59 1 * * *` from 06:59:59Z answers 06:59:59Z. A loop that asks anew from each instant
-    /// loses fires by this: a scheduler asks by instants (`cron_fires`). One walk that was begun
-    /// outside a fold, or one that [`Schedule::resume`] makes from its last item, leaves nothing
-    /// out. In a fold its instants step back: 06:00Z, 07:00Z, 06:30Z, 07:30Z.
+    /// In a fold that civil second comes twice. So a walk that begins there may leave out items
+    /// after `start`, or return `start` itself or an instant before it, and likewise backwards. In
+    /// Chicago on 2022-11-06 `0 30 1 * * *` from 06:30Z leaves out 07:30Z, and `59 59 1 * * *` from
+    /// 06:59:59Z returns 06:59:59Z. A loop that begins a new walk at each instant loses fires by
+    /// this: a scheduler searches by instants (`cron_fires`). Nothing is left out by one walk that
+    /// began outside a fold, or by one that [`Schedule::resume`] makes from its last item. In a
+    /// fold its instants step back: 06:00Z, 07:00Z, 06:30Z, 07:30Z.
     ///
     /// ```text
     /// // `0 30 1 * * *` in Chicago, from 2022-11-05T12:00:00Z
@@ -43,8 +44,8 @@ impl Schedule {
         Walker::begin(Borrowed { fields, zone }, start)
     }
 
-    /// [`Schedule::after`] from the present instant, with what is said there of a fold. An item at
-    /// that very second isn't answered, but in a fold.
+    /// The walk of [`Schedule::after`] from the present instant `now`, with the same behaviour in a
+    /// fold. An item at the very second of `now` isn't returned, except in a fold.
     pub fn upcoming<'a>(&'a self, now: Timestamp, zone: &'a TimeZone<'a>) -> ScheduleIterator<'a>
         ensures sets { result.sets ≡ self.now.sets }
         ensures zone { result.zone ≡ plain_zone zone.now }
@@ -53,9 +54,9 @@ impl Schedule {
         self.after(now, zone)
     }
 
-    /// The walk whose cursor is at the place of an item, as after the call that answered it. Its
-    /// `next` answers the following one, its `next_back` the one before, also in a fold. It is
-    /// `None` where the moment is no item of this schedule in this zone. It takes no memory.
+    /// A walk whose cursor is at `item`, as after the call that returned it. Its `next` returns the
+    /// following item, its `next_back` the one before, also in a fold. `None` if `item` is no item
+    /// of this schedule in this zone. It takes no memory.
     pub fn resume<'a>(
         &'a self,
         item: &Moment,
@@ -70,7 +71,7 @@ impl Schedule {
         Some(Walker::at(Borrowed { fields, zone }, state))
     }
 
-    /// The walk of [`Schedule::after`], over the schedule's sets and the zone itself. It takes no
+    /// The walk of [`Schedule::after`] that owns a copy of the sets, and the zone. It takes no
     /// memory, so it never fails.
     pub fn after_owned<'z>(
         &self,
@@ -102,7 +103,7 @@ impl Schedule {
 }
 
 impl<'z> Walker<Owned<'z>> {
-    /// The walk over a schedule of its own, with its cursor at the start.
+    /// A walk over the sets of `schedule`, which it owns, with its cursor at `start`.
     pub fn new(
         schedule: Schedule,
         start: Timestamp,

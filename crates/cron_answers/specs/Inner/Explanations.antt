@@ -1,4 +1,4 @@
--- What is written before the rows of fires, and behind them.
+-- What is written before the rows of fires, and after them.
 use Rattle.std.specs.Prelude.{◌≡◌, ℤ}
 use Rattle.std.specs.String.{string_bytes}
 use Rattle.jiff_tz.specs.declared.timezone.TimeZone.{TimeZone}

@@ -1,4 +1,5 @@
--- The laws of rows of bits. Types of the code keep them, so they stand where their clauses can cite them.
+-- The laws of rows of bits. The trait `Words` states them of its types, so they stand where its
+-- clauses can cite them.
 use Rattle.std.proofs.Common.{◌≡◌, ℕ, ◌+◌, ◌-◌, ◌^◌, ◌<◌, Bool, true, false, cond, refl, sym, ap, ◌∙◌, arith, zero, suc, inl, inr, subst}
 use Rattle.std.specs.Prelude.{nat_lt, nat_eq, map}
 use Rattle.std.specs.Int.{bit_at}
@@ -13,17 +14,17 @@ use Rattle.cron_bits.specs.declared.words.Longer.{Longer}
 pub bit_within : (n k : ℕ) → has_bit n k ≡ true → k < 64
 bit_within n k h = ltb-true k 64 (and_parts (nat_lt k 64) (nat_eq (bit_at n k) 1) h).0
 
--- a bit among the 64 is the digit at its place, and there are none past them
+-- bit k of a word, for a k below 64, is 1 exactly if the binary digit at place k is
 pub here : (n k : ℕ) → k < 64 → has_bit n k ≡ nat_eq (bit_at n k) 1
 here n k l = rw (lt-ltb k 64 l) refl
 
--- the digit that a test of a bit stands for
+-- a binary digit is 1 if it equals 1, and else 0
 as_digit : (d : ℕ) → d < 2 → d ≡ cond (nat_eq d 1) 1 0
 as_digit zero l = refl
 as_digit (suc zero) l = refl
 as_digit (suc (suc d)) l = absurd (omega arith)
 
--- a word by its bits
+-- `word_of` gives a word back from its 64 bits
 pub word_remade : (n : ℕ) (test : ℕ → Bool) → n < 2 ^ 64 → ((k : ℕ) → k < 64 → test k ≡ has_bit n k) → word_of test ≡ n
 unfolding word_of
 word_remade n test fits same =

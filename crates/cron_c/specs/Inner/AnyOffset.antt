@@ -1,4 +1,5 @@
--- The zones that a struct says differ in the names of their times alone, and tell the same offset at each instant.
+-- All zones that one struct means have the same offset at each instant: they differ only in the
+-- names of their offsets.
 use Rattle.std.proofs.Common.{◌≡◌, Bool, true, false, cond, ℤ, Option, Some, None, refl, sym, ap, ◌∙◌, arith}
 use Rattle.jiff_core.specs.Timestamp.{nanos_of_seconds}
 use Rattle.jiff_core.specs.declared.Offset.{Offset}
@@ -62,7 +63,7 @@ saving_offset c std (Some a) (Some b) n p q =
     let offset : a.offset ≡ b.offset = same_offset a.offset b.offset (sym p.1 ∙ q.1) in
     rw (window_once c a b (year_of_nanos n) std p q) (picked_once a b std (in_window (utc_window b (year_of_nanos n) std) n) offset)
 
--- at each instant they tell the same offset
+-- two zones that one struct means have the same offset at each instant
 pub offset_in_any : (c : CronZone) (a b : TimeZone) (n : ℤ) → IsZoneIn c a → IsZoneIn c b → shown_offset a n ≡ shown_offset b n
 unfolding offset_at
 offset_in_any c UTC UTC n p q = refl

@@ -1,4 +1,4 @@
--- A history has a clock, whichever zones show that it is one.
+-- The clock of a history. It is the same, whichever zones are taken for the structs of the eras.
 use Rattle.std.specs.Prelude.{◌≡◌, ℕ, suc, ℤ, int_le, Bool, true, false, if◌then◌else◌, List, [], ◌∷◌, Some, slice_get}
 use Rattle.std.specs.Coded.{Coded-set, coded_ℤ}
 use Rattle.std.proofs.Common.{refl, sym, ◌∙◌}
@@ -18,7 +18,7 @@ pub either : (b : Bool) (one other : CronEra) → IsSomeZone one.zone → IsSome
 either true one other here there = here
 either false one other here there = there
 
--- the zone of the era that holds a second
+-- the zone of an era's struct: of the era that holds the second n
 unfoldable pub zone_held : (e : CronEra) (later : List CronEra) → IsSomeZone e.zone → ((i : ℕ) (x : CronEra) → slice_get later i ≡ Some x → IsSomeZone x.zone)
     → (n : ℤ) → IsSomeZone (era_at e later n).zone
 unfolding era_at
@@ -59,6 +59,6 @@ held_of eras h n = (history_clock eras h n, ∣ (h, refl) ∣₁)
 unfoldable pub held_by : (eras : List CronEra) → ∥ IsHistory eras ∥₁ → (n : ℤ) → Held eras n
 held_by eras t n = ∥∥₁_elim t (held_once eras n) (λ h. held_of eras h n)
 
--- its clock, whichever zones show that it is one
+-- the clock of eras of which it is only known that they are a history, not by which zones
 unfoldable pub held_clock : (eras : List CronEra) → ∥ IsHistory eras ∥₁ → Clock
 held_clock eras t n = (held_by eras t n).0

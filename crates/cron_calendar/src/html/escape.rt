@@ -1,10 +1,10 @@
-//! Texts of files in a page.
+//! Texts from files, such as names of entries, escaped for a page of HTML.
 ghost use Rattle.std.specs.Prelude.{◌≡◌, ◌++◌, OnOk};
 ghost use Rattle.cron_calendar.specs.Html.{escaped, escaped_byte};
 
 use std::alloc::AllocError;
 
-// Pushes a byte. Those that HTML reads otherwise are spelled out.
+// Appends a byte, escaped if it is special in HTML.
 fn push_byte(page: &mut Vec<u8>, byte: u8) -> Result<(), AllocError>
     ensures { OnOk result (page.new.items ≡ page.old.items ++ escaped_byte byte) }
 {
@@ -18,7 +18,7 @@ fn push_byte(page: &mut Vec<u8>, byte: u8) -> Result<(), AllocError>
     }
 }
 
-/// Pushes a text, in which nothing is read as HTML.
+/// Appends a text, escaped so that nothing in it is read as HTML.
 pub(super) fn push_escaped(page: &mut Vec<u8>, text: &[u8]) -> Result<(), AllocError>
     ensures { OnOk result (page.new.items ≡ page.old.items ++ escaped text.now) }
 {

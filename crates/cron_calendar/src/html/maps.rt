@@ -1,4 +1,5 @@
-//! The heat maps of a year, and the strips of its entries: which parts their drawings have.
+//! The parts of the drawings of a year: its heat maps by day and by weekday and hour, and the
+//! strips of its entries. Days of the year and hours are counted from 0.
 ghost use Rattle.std.specs.Prelude.{◌≡◌, ◌<◌, ◌≤◌, fold};
 ghost use Rattle.cron_calendar.specs.Pages.{most_of};
 
@@ -8,14 +9,15 @@ use super::shapes::{Shape, Word};
 use cron_moments::calendar::KnownMonth;
 use std::alloc::{AllocError, Global};
 
-// Where the squares begin, and how far one is from the next.
+// Where the squares of the days begin, from the left and from the top of the drawing, and how far
+// one is from the next.
 const LEFT: u32 = 34;
 
 const TOP: u32 = 20;
 
 const STEP: u32 = 14;
 
-/// The greatest of some numbers.
+/// The greatest of `counts`, or 0 if there is none.
 pub(super) fn most_of(counts: &[u32]) -> u32
     ensures { result ≡ most_of counts.now }
 {
@@ -26,7 +28,8 @@ pub(super) fn most_of(counts: &[u32]) -> u32
     most
 }
 
-// The square of a day, which stands at a place from the first Monday on.
+// The square of a day, coloured by its number of fires; `most` is that of the busiest day. `place`
+// is its index from the Monday of the year's first week on: a column is a week.
 fn square_of(place: u32, count: u32, most: u32) -> Shape
     requires { place < 400 }
 {
@@ -37,7 +40,8 @@ fn square_of(place: u32, count: u32, most: u32) -> Shape
     }
 }
 
-// Adds the squares of the days.
+// Adds a square for each day of the year. `lead` is the number of days of the first week that
+// precede the year, and `days` are the numbers of fires.
 fn add_squares(shapes: &mut Vec<Shape>, lead: u32, days: &[u32]) -> Result<(), AllocError>
     requires { lead < 7 }
 {
@@ -48,7 +52,8 @@ fn add_squares(shapes: &mut Vec<Shape>, lead: u32, days: &[u32]) -> Result<(), A
     Ok(())
 }
 
-// Adds the names of the months above the squares.
+// Adds the names of the months above the squares, each above the week with its first day. `lead` is
+// the number of days of the first week that precede the year.
 fn add_months(shapes: &mut Vec<Shape>, year: u32, lead: u32) -> Result<(), AllocError>
     requires year { (1970 ≤ year) × (year ≤ 2100) }
     requires lead { lead < 7 }
@@ -76,7 +81,7 @@ fn add_weekdays(shapes: &mut Vec<Shape>) -> Result<(), AllocError> {
     Ok(())
 }
 
-// In how many places of its first week a year hasn't begun: weeks begin with Monday.
+// The number of days of the year's first week that precede the year. Weeks begin with Monday.
 fn lead_of(year: u32) -> u32
     requires { (1970 ≤ year) × (year ≤ 2100) }
     ensures { result < 7 }
@@ -84,7 +89,7 @@ fn lead_of(year: u32) -> u32
     (KnownMonth::of_number(year * 12).first_day() + 3) % 7
 }
 
-/// The heat map by day.
+/// The parts of the heat map by day.
 pub(super) fn days_map(alloc: Global, year: &Year<'_>) -> Result<Vec<Shape>, AllocError>
     requires { (1970 ≤ year.now.year) × (year.now.year ≤ 2100) }
 {
@@ -96,7 +101,8 @@ pub(super) fn days_map(alloc: Global, year: &Year<'_>) -> Result<Vec<Shape>, All
     Ok(shapes)
 }
 
-// Where a run of days with fires ends.
+// The end of the run of days with fires from `first` on: the index of the first day without fires,
+// or the number of days.
 fn run_end(counts: &[u32], first: usize) -> usize
     requires { first ≤ 366 }
     ensures { (first ≤ result) × (result ≤ 366) }
@@ -108,7 +114,8 @@ fn run_end(counts: &[u32], first: usize) -> usize
     end
 }
 
-/// A strip of the days of a year, which shows those with fires.
+/// The strip of an entry's days in a year, with one part for each run of days with fires. `counts`
+/// are the numbers of fires.
 pub(super) fn strip_of(alloc: Global, counts: &[u32]) -> Result<Vec<Shape>, AllocError> {
     let mut shapes = Vec::new(alloc);
     let mut at = 0;
@@ -125,7 +132,8 @@ pub(super) fn strip_of(alloc: Global, counts: &[u32]) -> Result<Vec<Shape>, Allo
     Ok(shapes)
 }
 
-// How many fires a weekday has in an hour, of the days from a first one on.
+// The number of fires in hour `hour` of all days of a weekday, at most `u32::MAX`. `first` is the
+// first day of the year with that weekday, counted from 0. `hours` has 24 numbers a day.
 fn sum_of(hours: &[u32], first: usize, hour: usize) -> u32
     requires { (first < 7) × (hour < 24) }
 {
@@ -139,7 +147,7 @@ fn sum_of(hours: &[u32], first: usize, hour: usize) -> u32
     sum
 }
 
-// The greatest of those sums.
+// The greatest number of fires that a weekday has in one hour of the day, over the whole year.
 fn most_sum(hours: &[u32]) -> u32 {
     let mut most = 0;
     for place in 0..168 {
@@ -148,7 +156,7 @@ fn most_sum(hours: &[u32]) -> u32 {
     most
 }
 
-// Adds the hours above.
+// Adds the hours of the day as the heads of the table's columns.
 fn add_hours(shapes: &mut Vec<Shape>) -> Result<(), AllocError> {
     for hour in 0..24 {
         shapes.push(Shape::Hour { hour })?;
@@ -157,7 +165,8 @@ fn add_hours(shapes: &mut Vec<Shape>) -> Result<(), AllocError> {
     Ok(())
 }
 
-// Adds the row of a weekday, of which the first is this day of the year.
+// Adds the row of weekday `day`, 0 for Monday, with a cell for each hour. `first` is the first day
+// of the year with that weekday, and `most` the greatest number of all cells.
 fn add_weekday(
     shapes: &mut Vec<Shape>,
     hours: &[u32],
@@ -181,7 +190,7 @@ fn add_weekday(
     Ok(())
 }
 
-/// The heat map by weekday and hour.
+/// The parts of the heat map by weekday and hour.
 pub(super) fn hours_map(alloc: Global, year: &Year<'_>) -> Result<Vec<Shape>, AllocError>
     requires { (1970 ≤ year.now.year) × (year.now.year ≤ 2100) }
 {

@@ -1,4 +1,4 @@
-//! Pieces of a page.
+//! Pieces of a page: numbers, dates and times, and levels of colour.
 ghost use Rattle.std.specs.Prelude.{◌≡◌, ◌+◌, ◌%◌, ◌++◌, ◌<◌, ◌≤◌, unsigned_abs, OnOk};
 ghost use Rattle.std.specs.Fmt.{decimal};
 ghost use Rattle.cron_moments.specs.MomentText.{time_text};
@@ -9,14 +9,14 @@ use itoa::Buffer;
 use jiff::civil::{Date, Time};
 use std::alloc::AllocError;
 
-/// Pushes a text as it is.
+/// Appends a text unchanged.
 pub(crate) fn push_text(page: &mut Vec<u8>, text: &str) -> Result<(), AllocError>
     ensures { OnOk result (page.new.items ≡ page.old.items ++ text.now) }
 {
     page.extend_from_slice(text.as_bytes())
 }
 
-/// Pushes a number.
+/// Appends a number in decimal digits.
 pub(super) fn push_number(page: &mut Vec<u8>, number: u32) -> Result<(), AllocError>
     ensures { OnOk result (page.new.items ≡ page.old.items ++ decimal number) }
 {
@@ -78,14 +78,15 @@ pub(crate) fn time_text(time: Time) -> [u8; 8]
     ]
 }
 
-/// Pushes a date.
+/// Appends a date, as `2024-02-29`.
 pub(crate) fn push_date(page: &mut Vec<u8>, date: Date) -> Result<(), AllocError>
     ensures { OnOk result (page.new.items ≡ page.old.items ++ day_text date) }
 {
     page.extend_from_slice(&date_text(date))
 }
 
-/// The days of the year before a month, which is numbered from January of the year 0.
+/// The number of days that precede `month` in its year. Months are numbered from January of the
+/// year 0.
 pub(super) fn days_before(month: u32) -> u32
     requires { (23_640 ≤ month) × (month < 25_212) }
 {
@@ -95,7 +96,8 @@ pub(super) fn days_before(month: u32) -> u32
         .saturating_sub(first)
 }
 
-/// Of a number of fires how much it is beside the greatest: 0 to 4.
+/// The level of colour of a number of fires: 0 for none, and else 1 to 4 by the quarter of `most`,
+/// the greatest number, that it is in. If `most` is below 4, no number has level 4.
 pub(super) fn level_of(count: u32, most: u32) -> u32
     ensures { result ≤ 4 }
 {

@@ -1,4 +1,5 @@
-//! What drawings hold: numbers, and words of the program. No text of an entry can stand in one.
+//! The parts of drawings: numbers, and words of the program. A drawing can't hold a text of an
+//! entry.
 ghost use Rattle.std.specs.Prelude.{◌≡◌, ◌++◌, codes, OnOk};
 ghost use Rattle.std.specs.Fmt.{decimal};
 ghost use Rattle.std.specs.List.{flat_map};
@@ -10,30 +11,31 @@ use std::alloc::AllocError;
 /// A word of a drawing.
 #[derive(Clone, Copy)]
 pub(super) enum Word {
-    /// From 0 for January on.
+    /// The short name of a month, from 0 for January on.
     Month(u32),
-    /// From 0 for Monday on.
+    /// The short name of a day of the week, from 0 for Monday on.
     Weekday(u32),
 }
 
 /// A part of a drawing.
 #[derive(Clone, Copy)]
 pub(super) enum Shape {
-    /// The square of a day, at its place.
+    /// The square of a day, with its level of colour from 0 to 4 and its coordinates.
     Square { level: u32, x: u32, y: u32 },
-    /// A word, at its place.
+    /// A word, with its coordinates.
     Label { word: Word, x: u32, y: u32 },
-    /// Days one after another in the strip of a year.
+    /// A run of days in an entry's strip of the year: its first day, counted from 0, and how many
+    /// days it has.
     Run { first: u32, width: u32 },
-    /// The head of a row of the hours.
+    /// The head of a weekday's row in the table by weekday and hour.
     Head { word: Word },
-    /// A cell of such a row: its level, and how many fires there are.
+    /// A cell of a weekday's row: its level of colour from 0 to 4, and its number of fires.
     Cell { level: u32, sum: u32 },
-    /// The end of such a row.
+    /// The end of a weekday's row.
     RowEnd,
-    /// The head of the column of an hour.
+    /// The head of the column of an hour, 0 to 23.
     Hour { hour: u32 },
-    /// The end of these heads.
+    /// The end of the heads of the columns.
     HeadEnd,
 }
 
@@ -63,7 +65,7 @@ fn word_bytes(word: Word) -> &'static str
     }
 }
 
-// Pushes a text that a number and a quote end.
+// Appends an attribute: the text `name`, then `number` and a closing quote.
 fn push_attribute(page: &mut Vec<u8>, name: &str, number: u32) -> Result<(), AllocError>
     ensures { OnOk result (page.new.items ≡ page.old.items ++ attribute name.now number) }
 {
@@ -73,7 +75,7 @@ fn push_attribute(page: &mut Vec<u8>, name: &str, number: u32) -> Result<(), All
     Ok(())
 }
 
-// Pushes where a part of a drawing stands.
+// Appends the attributes of the coordinates of a part of a drawing.
 fn push_place(page: &mut Vec<u8>, x: u32, y: u32) -> Result<(), AllocError>
     ensures { OnOk result (page.new.items ≡ page.old.items ++ place x y) }
 {
@@ -91,7 +93,7 @@ fn push_square(page: &mut Vec<u8>, level: u32, x: u32, y: u32) -> Result<(), All
     Ok(())
 }
 
-// Pushes a word between two texts.
+// Appends the text `before`, a word, and the text `after`.
 fn push_between(page: &mut Vec<u8>, before: &str, word: Word, after: &str) -> Result<(), AllocError>
     ensures { OnOk result (page.new.items
         ≡ page.old.items ++ (before.now ++ (word_bytes word ++ after.now))) }
@@ -140,7 +142,7 @@ fn push_hour(page: &mut Vec<u8>, hour: u32) -> Result<(), AllocError>
     Ok(())
 }
 
-// Pushes a part of a drawing.
+// Appends a part of a drawing.
 fn push_shape(page: &mut Vec<u8>, shape: Shape) -> Result<(), AllocError>
     ensures { OnOk result (page.new.items ≡ page.old.items ++ shape_text shape) }
 {
@@ -156,7 +158,7 @@ fn push_shape(page: &mut Vec<u8>, shape: Shape) -> Result<(), AllocError>
     }
 }
 
-/// Pushes a drawing.
+/// Appends a drawing: its parts one after another.
 pub(super) fn push_drawing(page: &mut Vec<u8>, shapes: &[Shape]) -> Result<(), AllocError>
     ensures { OnOk result (page.new.items ≡ page.old.items ++ flat_map shape_text shapes.now) }
 {

@@ -1,4 +1,4 @@
-//! The table of the days, and that of the entries.
+//! The table of the days and the table of the entries in a year's page.
 ghost use Rattle.std.specs.Prelude.{◌≡◌, ◌+◌, ◌++◌, ◌<◌, ◌≤◌, ℕ, List, length, OnOk};
 ghost use Rattle.cron_moments.specs.Civil.{days_in_range};
 ghost use Rattle.cron_calendar.specs.Html.{day_row, day_rows};
@@ -17,7 +17,7 @@ use super::{Entry, Year};
 use cron_moments::civil::{SECONDS_PER_DAY, civil_of};
 use std::alloc::{AllocError, Global};
 
-// Pushes the row of a day.
+// Appends the row of a day, numbered from 1970-01-01, with its number of fires.
 fn push_row(page: &mut Vec<u8>, day: u32, count: u32) -> Result<(), AllocError>
     requires { day < days_in_range }
     ensures { OnOk result (page.new.items ≡ page.old.items ++ day_row day count) }
@@ -30,7 +30,8 @@ fn push_row(page: &mut Vec<u8>, day: u32, count: u32) -> Result<(), AllocError>
     Ok(())
 }
 
-// Pushes the rows of days, from a first one on.
+// Appends a row for each of the days from day `first` on, counted from 1970-01-01. `counts` are
+// their numbers of fires.
 fn push_rows(page: &mut Vec<u8>, first: u32, counts: &[u32]) -> Result<(), AllocError>
     requires { first + length counts.now ≤ days_in_range }
     ensures { OnOk result (page.new.items ≡ page.old.items ++ day_rows first counts.now) }
@@ -41,7 +42,7 @@ fn push_rows(page: &mut Vec<u8>, first: u32, counts: &[u32]) -> Result<(), Alloc
     Ok(())
 }
 
-/// Pushes the table of the days.
+/// Appends the table with a row for each day of the year.
 pub(super) fn push_table(page: &mut Vec<u8>, year: &Year<'_>) -> Result<(), AllocError>
     requires { year.now.first + length year.now.days.now ≤ days_in_range }
     ensures { OnOk result (page.new.items ≡ page.old.items ++ table_text year.now) }
@@ -52,7 +53,7 @@ pub(super) fn push_table(page: &mut Vec<u8>, year: &Year<'_>) -> Result<(), Allo
     Ok(())
 }
 
-// How many fires an entry has in all: at most what 32 bits hold.
+// The sum of an entry's numbers of fires by day, at most `u32::MAX`.
 fn total_of(counts: &[u32]) -> u32
     ensures { result ≡ total_of counts.now }
 {
@@ -63,7 +64,8 @@ fn total_of(counts: &[u32]) -> u32
     total
 }
 
-// Pushes the row of an entry: its colour, its name, how many fires it has, and when.
+// Appends the row of an entry: its colour by its place, its name, its number of fires, and the
+// strip of its days with fires.
 fn push_entry(
     alloc: Global,
     page: &mut Vec<u8>,
@@ -87,7 +89,7 @@ fn push_entry(
     Ok(())
 }
 
-// Pushes the rows of entries.
+// Appends a row for each entry.
 fn push_entry_rows(
     alloc: Global,
     page: &mut Vec<u8>,
@@ -102,7 +104,7 @@ fn push_entry_rows(
     Ok(())
 }
 
-/// Pushes the table of the entries, of which the first twelve have a colour of their own.
+/// Appends the table of the entries. Each of the first twelve has its own colour.
 pub(super) fn push_entries(
     alloc: Global,
     page: &mut Vec<u8>,

@@ -19,10 +19,10 @@ NoneBefore s (Some n) = (c : ℕ) → c < n → is_match s c ≡ false
 abbrev pub matches_without : Sets → List Sets → ℕ → Bool
 matches_without s ts c = is_match s c && not (is_match_any ts c)
 
--- .. where it isn't one that another schedule matches
+-- a schedule matches a civil second, and neither another schedule nor a union does
 abbrev pub matches_outside : Sets → Sets → List Sets → ℕ → Bool
 matches_outside s t ts c = (is_match s c && not (is_match t c)) && not (is_match_any ts c)
 
--- one union matches it, and the other doesn't
+-- one union matches a civil second, and the other doesn't
 abbrev pub matches_alone : List Sets → List Sets → ℕ → Bool
 matches_alone ss ts c = is_match_any ss c && not (is_match_any ts c)

@@ -6,6 +6,6 @@ use Rattle.jiff_core.specs.Calendar.{days_in_month}
 abbrev pub can_have : ℕ → ℕ → Bool
 can_have length m = nat_eq (days_in_month (pos 2000) m) length || nat_eq (days_in_month (pos 2001) m) length
 
--- it is a length of other months, or February has it in this year
+-- the length is 30 or more, so February doesn't have it, or February has it in this year
 abbrev pub suits_year : ℕ → ℕ → Bool
 suits_year length y = nat_le 30 length || nat_eq (days_in_month (pos y) 2) length

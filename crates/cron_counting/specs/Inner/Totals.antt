@@ -10,6 +10,6 @@ total f (suc n) = total f n + f n
 abbrev pub only_if : Bool → ℕ → ℕ
 only_if test n = if test then n else 0
 
--- 1 where a test is true
+-- 1 where a test is true, and else 0
 abbrev pub ones : Bool → ℕ
 ones test = only_if test 1

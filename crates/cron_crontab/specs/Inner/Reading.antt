@@ -24,7 +24,7 @@ abbrev pub base_view : Base → items.Base
 base_view (Single n) = single n
 base_view (Range n m) = range n m
 
--- the bits of a word are the numbers that pass a test, from the least number of the field on
+-- bit i of a word is 1 exactly if the field's least number plus i passes a test
 abbrev pub AreBits : Field → (ℕ → Bool) → ℕ → Type 0
 AreBits f test bits = (x : ℕ) → least f ≤ x → has_bit bits (x - least f) ≡ test x
 
@@ -34,7 +34,7 @@ pub record IsItemRead (f : Field) (text : List ℕ) (bits : ℕ) : Type 0 where
   pub is : item_of f text ≡ Ok item
   pub numbers : AreBits f (in_steps item) bits
 
--- of a field some items are read, and these are their numbers; the rest of the field is to be read
+-- the items of the field `word` before `rest` are read, and `bits` are their numbers
 pub record AreReadBefore (f : Field) (word rest : List ℕ) (bits : ℕ) : Type 0 where
   pub done : List Progression
   pub before : items_of f word ≡ items_from f done (pieces 44 rest)
@@ -51,7 +51,8 @@ pub record IsKept (f : Field) (read : FieldRead) (kept : FieldNumbers) : Type 0 
   pub numbers : AreBits f (in_items read.items) kept.numbers
   pub star : kept.star ≡ read.star
 
--- the first of some words is a field, of which the code keeps this, and these are the words behind it
+-- the first of some words is a field, of which the code keeps `kept`, and `more` are the words
+-- after it
 pub record IsFieldRead (f : Field) (ws : List (List ℕ)) (kept : FieldNumbers) (more : List (List ℕ)) : Type 0 where
   pub read : FieldRead
   pub is : field_of f ws ≡ Ok (read, more)
@@ -71,13 +72,13 @@ pub record AreFiveRead (ws : List (List ℕ)) (kept : FiveNumbers) : Type 0 wher
   pub is : five_of ws ≡ Ok five
   pub keep : AreKept five kept
 
--- digits and what they spell, or why they don't
+-- the number that digits spell; the fault of more than nine digits; or else `other`
 abbrev pub spelling_view : Result ℕ Reason → Spelling → Result ℕ Reason
 spelling_view other (Number n) = Ok n
 spelling_view other Long = Err long_number
 spelling_view other Other = other
 
--- the first and the last number of a base are numbers of the field
+-- n is one of the field's numbers, by its bounds
 abbrev pub IsWithin : Field → ℕ → Type 0
 IsWithin f n = (least f ≤ n) × (n ≤ greatest f)
 

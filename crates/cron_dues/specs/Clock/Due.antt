@@ -16,7 +16,7 @@ use Rattle.cron_clocks.specs.Clocks.{shown_offset}
 abbrev pub Clock : Type 0
 Clock = ℤ → Offset
 
--- what it shows at a second, as the number of a civil second
+-- what the clock shows n seconds after 1970-01-01T00:00:00Z, as the number of a civil second
 abbrev pub shows : Clock → ℤ → ℤ
 shows clock n = n +ℤ (clock n).seconds
 
@@ -25,7 +25,8 @@ pub record IsDueAt (clock : Clock) (c : ℕ) (n : ℤ) : Type 0 where
   pub reached : pos c ≤ℤ shows clock n
   pub first : (m : ℤ) → m <ℤ n → shows clock m <ℤ pos c
 
--- the first of so many instants from n on at which the clock shows the civil second c or a later one; behind them where none does
+-- the first of some instants from n on at which the clock shows the civil second c or a later one;
+-- the instant after them if there is none
 unfoldable pub first_reaching : Clock → ℕ → ℕ → ℤ → ℤ
 first_reaching clock c zero n = n
 first_reaching clock c (suc left) n = if int_le (pos c) (shows clock n) then n else first_reaching clock c left (n +ℤ pos 1)
@@ -34,7 +35,7 @@ first_reaching clock c (suc left) n = if int_le (pos c) (shows clock n) then n e
 abbrev pub due_instant : Clock → ℕ → ℤ
 due_instant clock c = first_reaching clock c 187_198 (pos c -ℤ pos 93_599)
 
--- it is that instant, by any clock
+-- by any clock, a civil second is due at the first instant when the clock shows it or a later one
 abbrev pub DueInstantsAreFirst : Type 0
 DueInstantsAreFirst = (clock : Clock) (c : ℕ) → IsDueAt clock c (due_instant clock c)
 
@@ -54,8 +55,8 @@ clock_of z n = record { seconds = shown_offset z n; in_range = offset_near z (na
 abbrev pub zone_clock : Zone → Clock
 zone_clock zone = clock_of (plain_zone zone)
 
--- a due fire: the nominal civil second, by how many seconds what the clock shows at the due instant lies past it, and the clock's
--- offset then
+-- a due fire: the nominal civil second, how many seconds past it the clock shows at the due
+-- instant, and the clock's offset then
 pub record Due : Type 0 where
   pub second : ℕ
   pub past : ℕ
@@ -64,15 +65,16 @@ pub record Due : Type 0 where
 abbrev pub parts : ℕ → ℕ → Offset → Due
 parts c past o = record { second = c; past = past; offset = o }
 
--- the nominal second lies in the range, and what the clock shows is past it at most by what two clocks can be apart
+-- a clock can have the due fire: the nominal second lies in the range, and the clock shows a second
+-- past it by at most what two clocks can differ
 abbrev pub CanBeDue : Due → Type 0
 CanBeDue d = (d.second < seconds_in_range) × (d.past ≤ 187_198)
 
--- its due instant, in seconds
+-- the due instant of a due fire, in seconds since 1970-01-01T00:00:00Z
 abbrev pub instant : Due → ℤ
 instant d = pos d.second +ℤ pos d.past -ℤ d.offset.seconds
 
--- the due fire of a civil second, outside of gaps 0 seconds past it
+-- the due fire of a civil second; outside of gaps it is 0 seconds past
 abbrev pub due : Clock → ℕ → Due
 due clock c = record {
   second = c;
@@ -80,6 +82,6 @@ due clock c = record {
   offset = clock (due_instant clock c);
 }
 
--- it is due at the due instant
+-- the due fire of a civil second is due at the due instant of that civil second
 abbrev pub FiresAreDue : Type 0
 FiresAreDue = (clock : Clock) (c : ℕ) → instant (due clock c) ≡ due_instant clock c

@@ -1,29 +1,33 @@
--- Of the due fires of seven sets by a clock the first after an instant, the first past another, and the last by an instant.
+-- Of the due fires of a set by a clock the first after an instant, the first past another, and the last by an instant.
 use Rattle.std.specs.Prelude.{◌≡◌, ℕ, ◌≤◌, ℤ, true, Option, Some, MatchOption, slice_get}
-use Rattle.cron_units.specs.Sets.{Sets}
+use Rattle.cron_time.specs.Seconds.{Seconds}
 use Rattle.cron_dues.specs.Clock.Due.{Clock, Due}
 use Rattle.cron_dues.specs.Clock.Dues.{dues, is_due_after, is_due_by, is_past}
 
--- it is one of the due fires
-abbrev pub IsDue : Sets → Clock → Due → Type 0
+-- d is one of the due fires of the set
+abbrev pub IsDue : Seconds → Clock → Due → Type 0
 IsDue s clock d = (i : ℕ) × (slice_get (dues s clock) i ≡ Some d)
 
--- of the due fires with a property the first, none exactly where none has it
+-- of the due fires with a property the first; `None` exactly if none has it
 abbrev pub IsFirst : (Due → Type 0) → Option Due → Type 0
 IsFirst P answer = MatchOption answer ((d : Due) → P d → ⊥) (λ d. P d × ((e : Due) → P e → d.second ≤ e.second))
 
--- and the last
+-- of the due fires with a property the last; `None` exactly if none has it
 abbrev pub IsLast : (Due → Type 0) → Option Due → Type 0
 IsLast P answer = MatchOption answer ((d : Due) → P d → ⊥) (λ d. P d × ((e : Due) → P e → e.second ≤ d.second))
 
--- of those whose due instant comes after t, which is in nanoseconds since 1970, the first
-abbrev pub IsFirstDueAfter : Sets → Clock → ℤ → Option Due → Type 0
+-- of the due fires whose instant comes after t, which is in nanoseconds since 1970, the first
+abbrev pub IsFirstDueAfter : Seconds → Clock → ℤ → Option Due → Type 0
 IsFirstDueAfter s clock t = IsFirst (λ d. IsDue s clock d × (is_due_after t d ≡ true))
 
--- of those past a given one the first
-abbrev pub IsFirstDuePast : Sets → Clock → Due → Option Due → Type 0
+-- of the due fires past a given one the first
+abbrev pub IsFirstDuePast : Seconds → Clock → Due → Option Due → Type 0
 IsFirstDuePast s clock fire = IsFirst (λ d. IsDue s clock d × (is_past fire d ≡ true))
 
--- of those whose due instant is t or comes before it the last
-abbrev pub IsLastDueBy : Sets → Clock → ℤ → Option Due → Type 0
+-- of the due fires whose instant is t or comes before it the last
+abbrev pub IsLastDueBy : Seconds → Clock → ℤ → Option Due → Type 0
 IsLastDueBy s clock t = IsLast (λ d. IsDue s clock d × (is_due_by t d ≡ true))
+
+-- of the due fires that a given one comes past the last
+abbrev pub IsLastDueBefore : Seconds → Clock → Due → Option Due → Type 0
+IsLastDueBefore s clock fire = IsLast (λ d. IsDue s clock d × (is_past d fire ≡ true))

@@ -8,7 +8,8 @@ use Rattle.cron_moments.specs.Civil.{seconds_in_range}
 use Rattle.cron_moments.specs.Readings.{Reading, instant, reading}
 use Rattle.cron_instants.specs.OffsetRange.{IsRead}
 
--- from an instant on, up to another, that one left out, all civil seconds of the range are read at one offset, and none at another
+-- from the instant a up to `end`, which is left out, all civil seconds of the range are read at one
+-- offset, and none at another
 pub record IsPeriod (z : TimeZone) (a end : ℤ) (o : Offset) : Type 0 where
   pub only : (r : Reading) → IsRead z r → a ≤ℤ instant r → instant r <ℤ end → r.offset.seconds ≡ o.seconds
   pub all : (c : ℕ) → c < seconds_in_range → a ≤ℤ (pos c -ℤ o.seconds) → (pos c -ℤ o.seconds) <ℤ end → IsRead z (reading c o)
@@ -21,7 +22,7 @@ IsReadFrom z a from = (r : Reading) → IsRead z r → a ≤ℤ instant r → fr
 abbrev pub ArePassed : Tzif → ℕ → ℤ → Type 0
 ArePassed z n a = 0 < n → (transition_at z (n - 1)).second ≤ℤ a
 
--- the instant is that of the last of them
+-- the instant is that of the table's transition n, counted from 1
 pub record IsLastOf (z : Tzif) (n : ℕ) (a : ℤ) : Type 0 where
   pub some : 0 < n
   pub is : (transition_at z (n - 1)).second ≡ a

@@ -1,4 +1,4 @@
--- How the writer writes words and ranges.
+-- How the writer writes numbers, names and ranges.
 use Rattle.std.specs.Prelude.{◌≡◌, ◌≤◌, ◌==◌, ℕ, true, List, [], ◌∷◌, ◌++◌, codes, length, map, nat_lt, if◌then◌else◌}
 use Rattle.std.specs.Fmt.{decimal}
 use Rattle.std.specs.List.{AllByRecursion, join_with_byte, list_any}
@@ -7,7 +7,7 @@ use Rattle.cron_oncalendar.specs.Calendars.{lies_in}
 use Rattle.cron_oncalendar.specs.declared.components.Spelling.{Spelling}
 use Rattle.cron_oncalendar.specs.declared.components.Spelling.TheVariants.{Digits, Names}
 
--- two digits at least
+-- a number in decimal, with two digits or more
 abbrev pub number_text : ℕ → List ℕ
 number_text n = if nat_lt n 10 then 48 ∷ decimal n else decimal n
 
@@ -26,26 +26,26 @@ range_text w r = if r.0 == r.1 then word_text w r.0 else word_text w r.0 ++ 46 �
 abbrev pub ranges_text : Spelling → List (ℕ × ℕ) → List ℕ
 ranges_text w rs = join_with_byte 44 (map (range_text w) rs)
 
--- a piece that was pushed
+-- a piece with the property P was appended
 pub record Pushes (P : List ℕ → Type 0) (old new : List ℕ) : Type 0 where
   pub piece : List ℕ
   pub pushed : new ≡ old ++ piece
   pub is : P piece
 
--- a range from one of the numbers to one that isn't below it
+-- the range goes from one of the numbers to one that isn't less
 pub record IsRangeOf (xs : List ℕ) (r : ℕ × ℕ) : Type 0 where
   pub first : contains xs r.0 ≡ true
   pub ordered : r.0 ≤ r.1
   pub last : contains xs r.1 ≡ true
 
--- ranges that have these numbers and no others
+-- the ranges have these numbers and no others
 pub record AreRangesOf (xs : List ℕ) (rs : List (ℕ × ℕ)) : Type 0 where
   pub each : AllByRecursion (IsRangeOf xs) rs
   pub same : (x : ℕ) → list_any (lies_in x) rs ≡ contains xs x
   pub some : rs ≡ [] → ⊥
   pub few : length rs ≤ length xs
 
--- the text of such ranges
+-- the piece is the text of ranges that have these numbers and no others
 pub record AreRangesText (w : Spelling) (xs piece : List ℕ) : Type 0 where
   pub ranges : List (ℕ × ℕ)
   pub are : AreRangesOf xs ranges

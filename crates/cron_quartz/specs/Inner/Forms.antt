@@ -10,7 +10,7 @@ use Rattle.cron_quartz.specs.declared.forms.Counted.TheVariants.{BeforeLast, Nea
 abbrev pub IsWeekday : ℕ → Type 0
 IsWeekday w = (1 ≤ w) × (w ≤ 7)
 
--- each number of a form lies where the reader takes it
+-- the numbers of a form are within the bounds that the reader checks
 abbrev pub AreDays : Days → Type 0
 AreDays (days.Dates set) = ⊤
 AreDays (days.BeforeLast k) = k ≤ 30
@@ -23,7 +23,7 @@ AreDays (days.NthWeekday w n) = IsWeekday w × (1 ≤ n) × (n ≤ 5)
 abbrev pub IsLength : ℕ → Type 0
 IsLength n = (28 ≤ n) × (n ≤ 31)
 
--- the schedules of a form for months of a length
+-- the schedules of a form for months of one length
 abbrev pub counted : Counted → ℕ → Sets → List Sets
 counted (BeforeLast k) = before_end k
 counted (NearestWorkday n) = near_day n

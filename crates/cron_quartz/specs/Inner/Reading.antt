@@ -8,7 +8,7 @@ use Rattle.cron_quartz.specs.declared.items.Base.{Base}
 use Rattle.cron_quartz.specs.declared.items.Base.TheVariants.{All, One, Range}
 use Rattle.cron_quartz.specs.declared.items.Item.{Item}
 
--- a number of the unit
+-- n is a number of the unit
 abbrev pub IsWithin : TimeUnit → ℕ → Type 0
 IsWithin u n = (u.least ≤ n) × (n ≤ u.greatest)
 
@@ -17,11 +17,12 @@ IsBaseWithin u All = ⊤
 IsBaseWithin u (One a) = IsWithin u a.number
 IsBaseWithin u (Range a b) = IsWithin u a.number × IsWithin u b.number
 
--- both ends are numbers of the unit, and there is a step
+-- the first and the last number are of the unit, and the step is 1 at least
 abbrev pub IsItemWithin : TimeUnit → Item → Type 0
 IsItemWithin u i = IsWithin u i.first × IsWithin u i.last × (0 < i.every)
 
--- of a field some items are read, and these are their numbers; the rest of the field is to be read
+-- the items of the field `word` before `rest` are read, and `numbers` are the numbers that lie in
+-- them
 pub record AreReadBefore (u : TimeUnit) (word rest numbers : List ℕ) : Type 0 where
   pub done : List Progression
   pub before : items_of u word ≡ items_from u done (pieces 44 rest)

@@ -12,13 +12,14 @@ use Rattle.cron_tab_answers.specs.declared.check.Wanted.{Wanted}
 use Rattle.cron_replies.specs.declared.status.Status.{Status}
 use Rattle.cron_replies.specs.declared.status.Status.TheVariants.{Done, No, Unreadable}
 
--- how a check ends where no write fails
+-- how a check ends if no write fails, by whether a line was refused or memory ran out
 abbrev pub end_of : Result Bool AllocError → Status
 end_of (Ok true) = No
 end_of (Ok false) = Done
 end_of (Err e) = Unreadable
 
--- Lines were told, or those in front of some that are left; where no write failed and memory sufficed, all of them.
+-- Lines were reported, or the first of them, up to those that are left. If no write failed and
+-- memory sufficed, all of them were.
 pub record TellsFront {W : Type 0} (w : Wanted) (lines : List FileLine) (contents : W → Option (List ℕ))
     (writes : W → List ℕ → Result ℕ Error → W → Type 0) (old new : Gathered × Watched W) (answer : Result Bool AllocError) : Type 0 where
   pub checked : List FileLine

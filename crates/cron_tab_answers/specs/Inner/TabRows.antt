@@ -5,9 +5,9 @@ use Rattle.json.specs.Token.{Token}
 use Rattle.json.specs.Written.{Written}
 use Rattle.cron_agenda.specs.Entries.{Listed}
 use Rattle.cron_checking.specs.Puts.{Puts}
-use Rattle.cron_tab_listing.specs.Listing.{AreTaken}
-use Rattle.cron_tab_listing.specs.declared.listing.TabFire.{TabFire}
-use Rattle.cron_tab_listing.specs.declared.tab_entry.TabEntry.{TabEntry}
+use Rattle.cron_tab_agenda.specs.Listing.{AreTaken}
+use Rattle.cron_tab_agenda.specs.declared.listing.TabFire.{TabFire}
+use Rattle.cron_tab_agenda.specs.declared.tab_entry.TabEntry.{TabEntry}
 use Rattle.cron_writer.specs.Watching.{has_failed}
 use Rattle.cron_writer.specs.declared.gathered.Gathered.{Gathered}
 use Rattle.cron_writer.specs.declared.watched.Watched.{Watched}
@@ -17,7 +17,7 @@ use Rattle.cron_replies.specs.declared.status.Status.{Status}
 use Rattle.cron_replies.specs.declared.status.Status.TheVariants.{Done}
 use Rattle.cron_tab_answers.specs.declared.fault.ListFault.{ListFault}
 
--- Rows of fires were gathered; where no write failed, up to where the answer says.
+-- Rows of fires were gathered. If no write failed, they go as far as the answer says.
 pub record GathersTabs {W : Type 0} (style : Style) (w : Wanted) (entries : Listed TabEntry) (contents : W → Option (List ℕ))
     (writes : W → List ℕ → Result ℕ Error → W → Type 0) (old new : Gathered × Watched W) (answer : Result ⊤ ListFault) : Type 0 where
   pub fires : List TabFire
@@ -28,11 +28,11 @@ pub record GathersTabs {W : Type 0} (style : Style) (w : Wanted) (entries : List
   pub puts : Puts contents writes old.0 old.1 new.0 new.1 report
   pub whole : has_failed new.1 ≡ false → StopsBy w (length fires) answer left
 
--- a write that failed comes before a fault
+-- how a list ends: by a fault only if no write failed
 abbrev pub list_end : Result ⊤ ListFault → Status → Result Status ListFault
 list_end (Err why) Done = Err why
 list_end answer status = Ok status
 
--- tokens were written behind those of an object's front
+-- Tokens of JSON were written after those that the object had.
 abbrev pub Writes : List Token → Written → Written → Type 0
 Writes tokens old new = (new.tokens ≡ old.tokens ++ tokens) × (new.before ≡ old.before)

@@ -6,7 +6,7 @@ use Rattle.cron_text.specs.Tokens.{Token, Symbol, symbol_of, number, word, star,
 use Rattle.cron_units.specs.Units.{TimeUnit}
 use Rattle.cron_text.specs.Fields.{every, question_mark, single, number_range, name_range, Item, plain, stepped, name, spacing_fits}
 
--- the item that one token is
+-- the item that a token is by itself, if it is one
 abbrev pub lone_item : TimeUnit → Symbol → Option Item
 lone_item u star = Some (plain every)
 lone_item u question = if u.question_mark then Some (plain question_mark) else None
@@ -14,13 +14,13 @@ lone_item u (number n) = Some (plain (single n))
 lone_item u (word w) = Some (name w)
 lone_item u _ = None
 
--- the range from an item to a token
+-- the range from an item to a token, if both are numbers or both are names
 abbrev pub with_end : Item → Symbol → Option Item
 with_end (plain (single a)) (number b) = Some (plain (number_range a b))
 with_end (name a) (word b) = Some (plain (name_range a b))
 with_end _ _ = None
 
--- the item with a step
+-- the item with a step, if it is a base and the token is a number
 abbrev pub with_step : Item → Symbol → Option Item
 with_step (plain b) (number s) = Some (stepped b s)
 with_step _ _ = None
@@ -37,7 +37,7 @@ joined u s dash x = option_map (λ i. record { done = s.done; item = i; last = x
 joined u s slash x = option_map (λ i. record { done = s.done; item = i; last = x }) (with_step s.item (symbol_of x))
 joined u s _ x = None
 
--- a connector and a token more
+-- the state after one more connector c and token x, if the field may go on with them
 abbrev pub next_state : TimeUnit → FieldState → Token → Token → Option FieldState
 next_state u s c x =
     if spacing_fits s.last c && spacing_fits c x then joined u s (symbol_of c) x else None

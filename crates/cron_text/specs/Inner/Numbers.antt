@@ -3,7 +3,7 @@
 use Rattle.std.specs.Prelude.{◌≡◌, ◌<◌, ◌≤◌, ℕ, nat_lt, if◌then◌else◌}
 use Rattle.cron_text.specs.Tokens.{Symbol, number, foreign}
 
--- the number itself, where 32 bits hold it, and else some number that they don't hold
+-- `value` is n if 32 bits hold n, else some number that they don't hold
 pub record IsCapped (n value : ℕ) : Type 0 where
   pub within : value < 42949672960
   pub same : n < 4294967296 → value ≡ n

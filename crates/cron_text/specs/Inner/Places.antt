@@ -18,7 +18,7 @@ use Rattle.cron_text.specs.declared.symbols.Symbol.{Symbol}
 use Rattle.cron_text.specs.declared.symbols.Token.{Token}
 use Rattle.cron_text.specs.declared.tokens.Place.{Place}
 
--- the place lies in the text, and no white space stands there
+-- the place is the end of the text, or that of a byte that isn't white space
 pub record IsPlace (text : List ℕ) (p : Place) : Type 0 where
   pub within : p.at ≤ length text
   pub front : BeginsNoSpace (drop p.at text)
@@ -31,14 +31,15 @@ tokens_from text p = after_gap p.spaced (tokens (drop p.at text))
 abbrev pub token_between : List ℕ → ℕ → ℕ → spec.Token
 token_between text from end = record { spaced = false; text = slice_range text from end }
 
--- a token begins at the index, the grammar sees this in it, and it ends before the other index
+-- a token begins at the index and ends before `end`, and the grammar sees `symbol` in it
 pub record IsTokenAt (text : List ℕ) (at : ℕ) (symbol : Symbol) (end : ℕ) : Type 0 where
   pub further : at < end
   pub within : end ≤ length text
   pub seen : symbol_view symbol ≡ symbol_of (token_between text at end)
   pub rest : tokens (drop at text) ≡ token_between text at end ∷ tokens (drop end text)
 
--- digits begin at the index and end before the other, and this is their value, as far as it is told
+-- digits begin at the index and end before `end`, and `value` is their value as far as 32 bits hold
+-- it
 pub record AreDigitsAt (text : List ℕ) (at value end : ℕ) : Type 0 where
   pub further : at < end
   pub within : end ≤ length text
@@ -46,21 +47,22 @@ pub record AreDigitsAt (text : List ℕ) (at value end : ℕ) : Type 0 where
   pub value_is : IsCapped (digits_value 10 (slice_range text at end)) value
   pub rest : tokens (drop at text) ≡ token_between text at end ∷ tokens (drop end text)
 
--- a token stands at the place, of which the code keeps this, and then comes the next place
+-- a token begins at the place p, of which the code keeps `kept`, and `next` is the place after it
 pub record IsRead (text : List ℕ) (p : Place) (kept : Token) (next : Place) : Type 0 where
   pub token : spec.Token
   pub spaced : kept.spaced ≡ token.spaced
   pub symbol : symbol_view kept.symbol ≡ symbol_of token
   pub rest : tokens_from text p ≡ token ∷ tokens_from text next
 
--- A star stands at the place, and no connector goes on with it: white space stands behind it, or nothing.
+-- A star is at the place, and no connector goes on with it: white space follows it, or the text
+-- ends.
 pub record IsLoneStar (text : List ℕ) (p next : Place) : Type 0 where
   pub token : spec.Token
   pub symbol : symbol_of token ≡ star
   pub rest : tokens_from text p ≡ token ∷ tokens_from text next
   pub alone : (u : TimeUnit) (s : FieldState) → s.last ≡ token → furthest u s (tokens_from text next) ≡ (s, tokens_from text next)
 
--- a connector stands at the place
+-- a connector is at the place
 pub record IsConnector (text : List ℕ) (p : Place) (kept : Connector) : Type 0 where
   pub token : spec.Token
   pub spaced : p.spaced ≡ token.spaced
@@ -72,8 +74,8 @@ abbrev pub NoConnector : List spec.Token → Type 0
 NoConnector [] = Unit {0}
 NoConnector (t ∷ ts) = is_connector (symbol_of t) ≡ false
 
--- The field goes on: an item grows or is followed by another, at a token that is a wildcard or not, and reading goes on
--- behind it.
+-- The field goes on: an item grows or is followed by another, at a token that is a wildcard or not,
+-- and `rest` is left to read.
 pub record GrowsOn (u : TimeUnit) (s : FieldState) (ts : List spec.Token) (done : List field.Item) (item : Item) (growth : Growth) (wildcard : Bool)
     (rest : List spec.Token) : Type 0 where
   pub token : spec.Token

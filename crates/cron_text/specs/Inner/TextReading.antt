@@ -1,4 +1,5 @@
--- What is told where fields are refused: a word of the reader's inner functions, which no public contract cites.
+-- What the fault of refused fields is: a word of the reader's inner functions, which no public
+-- contract cites.
 use Rattle.std.specs.Prelude.{ℕ, List}
 use Rattle.cron_units.specs.Units.{TimeUnit, FieldSet}
 use Rattle.cron_text.specs.Fault.{IsFaultOf}

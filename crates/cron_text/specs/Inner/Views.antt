@@ -28,11 +28,11 @@ connector_view connectors.Comma = comma
 connector_view connectors.Dash = dash
 connector_view connectors.Slash = slash
 
--- the state of a reading
+-- the state of a field that is read, as `FieldReading` has it
 abbrev pub state_view : List field.Item → Item → spec.Token → FieldState
 state_view done item last = record { done = done; item = item_view item; last = last }
 
--- the state after a step, at the token
+-- the state after `growth`, whose last token is `token`
 abbrev pub after_growth : List field.Item → Item → spec.Token → Growth → FieldState
 after_growth done item token (Grown i) = state_view done i token
 after_growth done item token (Next i) = state_view (done ++ item_view item ∷ []) i token

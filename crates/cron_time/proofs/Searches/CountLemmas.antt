@@ -17,7 +17,9 @@ use Rattle.cron_moments.specs.declared.readings.Found.{Found}
 use Rattle.cron_time.proofs.Searches.DaySearchLemmas.{items_second}
 use Rattle.cron_time.proofs.Searches.StandLemmas.{unmatched}
 use Rattle.cron_moments.specs.Readings.{readings}
-use Rattle.cron_time.specs.Search.{items_of, has_item, stands, IsFound, IsFoundAt}
+use Rattle.cron_time.specs.Seconds as seconds
+use Rattle.cron_time.specs.Seconds.{has_item}
+use Rattle.cron_time.specs.Search.{items_of, stands, IsFound, IsFoundAt}
 use Rattle.cron_units.specs.Sets.{Sets}
 use Rattle.cron_time.specs.Matches.{is_candidate, matches}
 use Rattle.cron_time.specs.Search.Inner.Starts.{Starts, LiesOutside}
@@ -43,7 +45,7 @@ days_within way s first answer stretch days w counted =
 
 -- a civil second that matches and doesn't stand is a gap match
 gap_from : (s : Sets) (z : TimeZone) (k : ℕ) → k < 4_133_980_800 → matches s (civil k) ≡ true → stands s z k ≡ false → is_gap_match s z k ≡ true
-unfolding items_of
+unfolding seconds.items_of
 gap_from s z k lt h silent =
     let items : items_of s z k ≡ readings z k = rw h refl in
     elim (and_cases (nat_lt k 4_133_980_800) (has_item (items_of s z k)) silent) [

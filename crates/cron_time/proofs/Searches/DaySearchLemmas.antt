@@ -14,6 +14,7 @@ use Rattle.cron_moments.specs.Found.{second_of}
 use Rattle.cron_moments.specs.Found.{found_items}
 use Rattle.cron_time.specs.Search.Inner.Numbers.{matches_second, stands_at}
 use Rattle.cron_moments.specs.Readings.{Reading}
+use Rattle.cron_time.specs.Seconds as seconds
 use Rattle.cron_time.specs.Search.{items_of, stands}
 use Rattle.cron_units.specs.Sets.{Sets}
 use Rattle.cron_time.specs.Matches.{is_candidate, matches, matches_date}
@@ -56,7 +57,7 @@ day_finds way s z start day from (Some items) enters h = record { from = from; e
 
 -- the second that was found, from its items
 pub items_second : (s : Sets) (z : TimeZone) (c : ℕ) (f : Found) → items_of s z c ≡ found_items f → f.first.second ≡ c
-unfolding items_of
+unfolding seconds.items_of
 items_second s z c f e =
     elim (cases_Bool (matches s (civil c))) [
       | inl inside ↦ second_is z c f (sym e ∙ rw inside refl)

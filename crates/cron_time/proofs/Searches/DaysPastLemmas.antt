@@ -12,7 +12,8 @@ use Rattle.cron_moments.specs.CivilDates.{date_numbered}
 use Rattle.cron_moments.specs.Found.{found_items}
 use Rattle.cron_moments.specs.declared.readings.Found.{Found}
 use Rattle.cron_time.specs.Matches.{matches_date}
-use Rattle.cron_time.specs.Search.{has_item, items_of, stands, IsFound}
+use Rattle.cron_time.specs.Seconds.{has_item}
+use Rattle.cron_time.specs.Search.{items_of, stands, IsFound}
 use Rattle.cron_time.specs.Search.Inner.Blocks.{Enters, IsExtreme, IsSplit, Reaches, left_to_reach}
 use Rattle.cron_time.specs.Search.Inner.DaySearch.{FindsInDay}
 use Rattle.cron_time.specs.Search.Inner.Questions.{outermost}

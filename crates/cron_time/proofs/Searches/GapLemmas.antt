@@ -15,6 +15,7 @@ use Rattle.cron_moments.specs.declared.readings.Found.{Found}
 use Rattle.cron_clocks.specs.Steady.{IsKnown, readings_at}
 use Rattle.cron_clocks.specs.declared.stretch.Stretch.{Stretch}
 use Rattle.cron_time.specs.Matches.{matches}
+use Rattle.cron_time.specs.Seconds as seconds
 use Rattle.cron_time.specs.Search.{items_of, stands}
 use Rattle.cron_time.specs.Search.Inner.Blocks.{AllFail, ReachesIfAny}
 use Rattle.cron_time.specs.Search.Inner.Numbers.{beyond, matches_second, stands_at}
@@ -37,7 +38,7 @@ together_silent z st a b known none t =
     known b t.other_low t.other_high ∙ none_at st.earlier st.later a b (sym (known a t.low t.high) ∙ none)
 
 in_gap : (s : Sets) (z : TimeZone) (day t : ℕ) → readings z (day * 86_400 + t) ≡ [] → stands_at s z day t ≡ false
-unfolding items_of
+unfolding seconds.items_of
 in_gap s z day t none =
     silent s z day t (elim (cases_Bool (matches s (civil (day * 86_400 + t)))) [ inl inside ↦ rw inside none | inr out ↦ rw out refl ])
 

@@ -4,7 +4,7 @@ use Rattle.std.specs.Prelude.{count_by, filter, slice_get}
 use Rattle.std.proofs.lemmas.Bool.{cases_lt}
 use Rattle.std.proofs.lemmas.List.Elements.{filter-append}
 use Rattle.std.proofs.lemmas.List.Sums.{length-filter}
-use Rattle.cron_time.specs.Timeline.{numbers_below}
+use Rattle.cron_time.specs.Seconds.{numbers_below}
 use Rattle.cron_time.proofs.PlaceLemmas.{slice_get-append, slice_get-left}
 use Rattle.cron_time.proofs.Searches.TallyLemmas.{count_step, count_add}
 

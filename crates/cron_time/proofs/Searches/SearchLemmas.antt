@@ -18,7 +18,8 @@ use Rattle.cron_time.specs.Search.Inner.Days.{day_rank, number_of, IsInRange}
 use Rattle.cron_moments.specs.Found.{found_items}
 use Rattle.cron_time.specs.Search.Inner.Numbers.{beyond, beyond_day, matches_rank, matches_second, stands_at}
 use Rattle.cron_moments.specs.Calendar.{rank_of_date}
-use Rattle.cron_time.specs.Search.{has_item, items_of, stands, IsFound}
+use Rattle.cron_time.specs.Seconds.{has_item}
+use Rattle.cron_time.specs.Search.{items_of, stands, IsFound}
 use Rattle.cron_units.specs.Sets.{Sets}
 use Rattle.cron_time.specs.Matches.{is_candidate, matches, matches_date}
 use Rattle.cron_moments.specs.Calendar.{weekday_number}

@@ -9,7 +9,9 @@ use Rattle.cron_moments.specs.CivilDates.{date_numbered}
 use Rattle.cron_time.specs.Search.Inner.DaySearch.{candidate_day}
 use Rattle.cron_time.specs.Search.Inner.Numbers.{matches_second, stands_at}
 use Rattle.cron_moments.specs.Readings.{readings}
-use Rattle.cron_time.specs.Search.{items_of, has_item, stands}
+use Rattle.cron_time.specs.Seconds as seconds
+use Rattle.cron_time.specs.Seconds.{has_item}
+use Rattle.cron_time.specs.Search.{items_of, stands}
 use Rattle.cron_units.specs.Sets.{Sets}
 use Rattle.cron_units.specs.Units.{contains}
 use Rattle.cron_time.specs.Matches.{is_candidate, matches, matches_date}
@@ -41,7 +43,7 @@ matches_time_of s day r h =
 
 -- a civil second that doesn't match doesn't stand
 pub unmatched : (s : Sets) (z : TimeZone) (c : ℕ) → matches s (civil c) ≡ false → stands s z c ≡ false
-unfolding items_of
+unfolding seconds.items_of
 unmatched s z c h = rw h (and_right (nat_lt c 4_133_980_800) false refl)
 
 -- a second of the day that doesn't match doesn't stand
@@ -56,7 +58,7 @@ second_fails s z day r h =
 -- the items of one that matches are its readings
 pub items_at : (s : Sets) (z : TimeZone) (day r : ℕ) → r < 86_400 → matches_date s (date_numbered day).0 ≡ true → matches_second s r ≡ true
     → items_of s z (day * 86_400 + r) ≡ readings z (day * 86_400 + r)
-unfolding items_of
+unfolding seconds.items_of
 items_at s z day r h date time =
     rw (matches_time_of s day r h ∙ and_from (matches_date s (date_numbered day).0) (matches_second s r) date time) refl
 

@@ -16,9 +16,11 @@ use Rattle.cron_time.specs.Search.Counts.{count_within, candidates, is_gap_match
 use Rattle.cron_time.specs.Search.Inner.Blocks.{AllFail}
 use Rattle.cron_time.specs.Matches.{is_candidate, matches}
 use Rattle.cron_moments.specs.Readings.{readings}
-use Rattle.cron_time.specs.Search.{items_of, has_item, stands}
+use Rattle.cron_time.specs.Seconds as seconds
+use Rattle.cron_time.specs.Seconds.{has_item}
+use Rattle.cron_time.specs.Search.{items_of, stands}
 use Rattle.cron_time.specs.Search.Surveys.{standing_from, surveyed, surveyed_days, is_before_last_second, days_again}
-use Rattle.cron_time.specs.Timeline.{numbers_below}
+use Rattle.cron_time.specs.Seconds.{numbers_below}
 use Rattle.cron_time.proofs.Searches.CountLemmas.{stands_matches, within_end}
 use Rattle.cron_time.proofs.Searches.SearchLemmas.{match_date}
 use Rattle.cron_time.proofs.PlaceLemmas.{holds_le, fails_le}
@@ -156,7 +158,7 @@ survey_starts s z from = record {
 }
 
 gap_none : (s : Sets) (z : TimeZone) (c : ℕ) → stands s z c ≡ true → is_gap_match s z c ≡ false
-unfolding items_of
+unfolding seconds.items_of
 gap_none s z c h =
     let both = stands_matches s z c h in
     let heard : has_item (readings z c) ≡ true = rw both.1 at (and_parts (nat_lt c 4_133_980_800) (has_item (items_of s z c)) h).1 in

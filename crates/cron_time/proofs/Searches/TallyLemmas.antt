@@ -12,7 +12,7 @@ use Rattle.std.proofs.lemmas.Nat.{div-add-mod'}
 use Rattle.cron_time.proofs.Searches.BlockLemmas.{div_of, mod_of}
 use Rattle.cron_time.proofs.Searches.WayLemmas.{side, before, same, after, after_beyond, precedes_along}
 use Rattle.cron_time.specs.Search.Counts.{Stretch, count_within}
-use Rattle.cron_time.specs.Timeline.{numbers_below}
+use Rattle.cron_time.specs.Seconds.{numbers_below}
 
 pub count_step : (p : ℕ → Bool) (n : ℕ) → count_by p (numbers_below (suc n)) ≡ count_by p (numbers_below n) + cond (p n) 1 0
 unfolding numbers_below

@@ -16,10 +16,11 @@ use Rattle.cron_moments.specs.Civil.{civil, seconds_in_range}
 use Rattle.cron_time.specs.Walk.Cursor.{first_from, go_to, item_at}
 use Rattle.cron_time.specs.Walk.FixedLaws.{offset_of, HasOneOffset, IsReadOnce, FixedZonesHaveOneOffset, PlainRulesHaveOneOffset, Shows, IsAfter, IsLeastAfter, FirstIsLeast, NextIsLater}
 use Rattle.cron_moments.specs.Readings.{Reading, reading, readings, instant}
+use Rattle.cron_time.specs.Seconds as seconds
 use Rattle.cron_time.specs.Search.{items_of}
 use Rattle.cron_units.specs.Sets.{Sets}
 use Rattle.cron_time.specs.Matches.{matches}
-use Rattle.cron_time.specs.Timeline.{timeline}
+use Rattle.cron_time.specs.Timeline.{seconds_of, timeline}
 use Rattle.cron_time.proofs.Walks.BoundLemmas.{shown_if_any-some}
 use Rattle.cron_time.proofs.PlaceLemmas.{nothing_in_nil}
 use Rattle.cron_time.proofs.TimelineLemmas.{before, before-next, before-up, item_in, is_in, stands-high}
@@ -52,7 +53,7 @@ plain_rules_have_one rule none = record { shown = λ n. rw none refl; read = λ 
 
 one_item : (s : Sets) (z : TimeZone) (o : ℤ) (c : ℕ) → HasOneOffset z o → c < seconds_in_range → matches s (civil c) ≡ true
     → (at : Offset) × (items_of s z c ≡ reading c at ∷ []) × (at.seconds ≡ o)
-unfolding items_of
+unfolding seconds.items_of
 one_item s z o c h below m = let one = h.read c below in (one.0, rw m one.1, one.2)
 
 -- ---- the first item from a number on
@@ -117,18 +118,18 @@ bound_back_is z o t n c h is low =
 
 -- the offset of an item
 item_offset : (s : Sets) (z : TimeZone) (o : ℤ) (i : ℕ) (r : Reading) → HasOneOffset z o → slice_get (timeline s z) i ≡ Some r
-    → (r.offset.seconds ≡ o) × (i ≡ before s z r.second) × (before s z (r.second + 1) ≡ i + 1)
+    → (r.offset.seconds ≡ o) × (i ≡ before (seconds_of s) z r.second) × (before (seconds_of s) z (r.second + 1) ≡ i + 1)
 item_offset s z o i r h here =
-    let there = is_in s z i r here in
-    let one = one_item s z o r.second h (stands-high s z r.second there.stands) (items_match s z i r here) in
-    let next = before-next s z r.second in
+    let there = is_in (seconds_of s) z i r here in
+    let one = one_item s z o r.second h (stands-high (seconds_of s) z r.second there.stands) (items_match s z i r here) in
+    let next = before-next (seconds_of s) z r.second in
     let single : length (items_of s z r.second) ≡ 1 = rw one.1 refl in
     let low = there.low in
     let high = there.high in
-    let place : i ≡ before s z r.second = omega arith in
-    let item : slice_get (timeline s z) (before s z r.second + 0)
-    ≡ Some (reading r.second one.0) = item_in s z r.second 0 (stands-high s z r.second there.stands) (omega arith) ∙ ap (λ xs. slice_get xs 0) one.1 in
-    let zero : before s z r.second + 0 ≡ i = omega arith in
+    let place : i ≡ before (seconds_of s) z r.second = omega arith in
+    let item : slice_get (timeline s z) (before (seconds_of s) z r.second + 0)
+    ≡ Some (reading r.second one.0) = item_in (seconds_of s) z r.second 0 (stands-high (seconds_of s) z r.second there.stands) (omega arith) ∙ ap (λ xs. slice_get xs 0) one.1 in
+    let zero : before (seconds_of s) z r.second + 0 ≡ i = omega arith in
     let same : Some r ≡ Some (reading r.second one.0) = sym here ∙ (rw zero at item) in
     (ap (λ (o : Option Reading). offset_in o) same ∙ one.2, place, omega arith)
   where
@@ -150,7 +151,7 @@ next_is_later s z o i r q h here e =
       | inl lt ↦ omega (arith, signed_arith, a.0, b.0)
       | inr ge ↦
           let equal : r.second ≡ q.second = omega arith in
-          let places : before s z r.second ≡ before s z q.second = ap (before s z) equal in
+          let places : before (seconds_of s) z r.second ≡ before (seconds_of s) z q.second = ap (before (seconds_of s) z) equal in
           absurd (omega (arith, a.1, b.1))
     ]
 
@@ -185,11 +186,11 @@ bound_ahead-is z t b e =
 
 -- what is shown has its item on the timeline
 shown_item : (s : Sets) (z : TimeZone) (o n : ℤ) → HasOneOffset z o → (k : Shows s o n)
-    → (y : Reading) × (slice_get (timeline s z) (before s z k.second + 0) ≡ Some y) × (y.second ≡ k.second)
+    → (y : Reading) × (slice_get (timeline s z) (before (seconds_of s) z k.second + 0) ≡ Some y) × (y.second ≡ k.second)
 shown_item s z o n h k =
     let one = one_item s z o k.second h k.in_range k.matching in
     let single : length (items_of s z k.second) ≡ 1 = rw one.1 refl in
-    (reading k.second one.0, item_in s z k.second 0 k.in_range (omega arith) ∙ ap (λ xs. slice_get xs 0) one.1, refl)
+    (reading k.second one.0, item_in (seconds_of s) z k.second 0 k.in_range (omega arith) ∙ ap (λ xs. slice_get xs 0) one.1, refl)
 
 module _ (s : Sets) (z : TimeZone) (o t b : ℤ) (h : HasOneOffset z o) (is : b ≡ shown_at z (t +ℤ pos 1_000_000_000)) where
   abbrev is_from : Reading → Bool
@@ -207,7 +208,7 @@ module _ (s : Sets) (z : TimeZone) (o t b : ℤ) (h : HasOneOffset z o) (is : b 
         shows = record {
           second = f.x.second;
           is = second;
-          in_range = stands-high s z f.x.second (is_in s z i f.x f.here).stands;
+          in_range = stands-high (seconds_of s) z f.x.second (is_in (seconds_of s) z i f.x f.here).stands;
           matching = items_match s z i f.x f.here;
         };
         after = bound_back_is z o t (instant f.x) f.x.second h second low;
@@ -215,10 +216,10 @@ module _ (s : Sets) (z : TimeZone) (o t b : ℤ) (h : HasOneOffset z o) (is : b 
             let there = shown_item s z o n h k in
             let shown = k.is in
             elim (cases_lt k.second f.x.second) [
-              | inl lt ↦ elim (cases_lt (before s z k.second + 0) i) [
+              | inl lt ↦ elim (cases_lt (before (seconds_of s) z k.second + 0) i) [
                 | inl early ↦ absurd (true≢false (sym (shown_passes n after k) ∙ ap (λ c. int_le b (pos c)) (sym there.2)
-                    ∙ f.first (before s z k.second + 0) there.0 early there.1))
-                | inr late ↦ let up = never_decrease s z i (before s z k.second + 0) f.x there.0 late f.here there.1 in let same = there.2 in
+                    ∙ f.first (before (seconds_of s) z k.second + 0) there.0 early there.1))
+                | inr late ↦ let up = never_decrease s z i (before (seconds_of s) z k.second + 0) f.x there.0 late f.here there.1 in let same = there.2 in
                     absurd (omega arith)
               ]
               | inr ge ↦ omega (arith, signed_arith)
@@ -229,7 +230,7 @@ module _ (s : Sets) (z : TimeZone) (o t b : ℤ) (h : HasOneOffset z o) (is : b 
       → MatchOption (go_to (timeline s z) p).answer ((n : ℤ) → IsAfter t n → ¬ (Shows s o n)) (IsLeastAfter s o t)
   by_place None e = λ n after k.
       let there = shown_item s z o n h k in
-      let fails = none_passes is_from 0 (timeline s z) (sym (position_from-zero is_from (timeline s z)) ∙ e) (before s z k.second + 0) there.0 there.1 in
+      let fails = none_passes is_from 0 (timeline s z) (sym (position_from-zero is_from (timeline s z)) ∙ e) (before (seconds_of s) z k.second + 0) there.0 there.1 in
       true≢false (sym (shown_passes n after k) ∙ ap (λ c. int_le b (pos c)) (sym there.2) ∙ fails)
   by_place (Some i) e =
       let found = some_passes is_from 0 (timeline s z) i (sym (position_from-zero is_from (timeline s z)) ∙ e) in
@@ -255,13 +256,13 @@ nothing_beyond (x ∷ xs) (suc i) (suc k) y none le at = nothing_beyond xs i k y
 
 -- what is shown after an item has a later place
 later_place : (s : Sets) (z : TimeZone) (o : ℤ) (i : ℕ) (r : Reading) (n : ℤ) → HasOneOffset z o → slice_get (timeline s z) i ≡ Some r
-    → IsAfter (instant r *ℤ pos 1_000_000_000) n → (k : Shows s o n) → i + 1 ≤ before s z k.second + 0
+    → IsAfter (instant r *ℤ pos 1_000_000_000) n → (k : Shows s o n) → i + 1 ≤ before (seconds_of s) z k.second + 0
 later_place s z o i r n h here after k =
     let a = item_offset s z o i r h here in
     let off = a.0 in
     let is = k.is in
     let lt : r.second + 1 ≤ k.second = omega (arith, signed_arith) in
-    let up = before-up s z (r.second + 1) k.second lt in
+    let up = before-up (seconds_of s) z (r.second + 1) k.second lt in
     let next = a.2 in
     omega arith
 
@@ -276,7 +277,7 @@ next_is_least s z o i r h here = by_next (slice_get (timeline s z) (i + 1)) refl
         (IsLeastAfter s o (instant r *ℤ pos 1_000_000_000))
     by_next None none = λ n after k.
         let there = shown_item s z o n h k in
-        nothing_beyond (timeline s z) (i + 1) (before s z k.second + 0) there.0 none (later_place s z o i r n h here after k) there.1
+        nothing_beyond (timeline s z) (i + 1) (before (seconds_of s) z k.second + 0) there.0 none (later_place s z o i r n h here after k) there.1
     by_next (Some q) there =
         let off = (item_offset s z o (i + 1) q h there).0 in
         let later = next_is_later s z o i r q h here (answer_at (i + 1) (slice_get (timeline s z) (i + 1)) ∙ there) in
@@ -284,7 +285,7 @@ next_is_least s z o i r h here = by_next (slice_get (timeline s z) (i + 1)) refl
           shows = record {
             second = q.second;
             is = omega (arith, signed_arith);
-            in_range = stands-high s z q.second (is_in s z (i + 1) q there).stands;
+            in_range = stands-high (seconds_of s) z q.second (is_in (seconds_of s) z (i + 1) q there).stands;
             matching = items_match s z (i + 1) q there;
           };
           after = omega (arith, signed_arith);
@@ -292,6 +293,6 @@ next_is_least s z o i r h here = by_next (slice_get (timeline s z) (i + 1)) refl
               let shown = shown_item s z o n h k in
               let is = k.is in
               let same = shown.2 in
-              let up = never_decrease s z (i + 1) (before s z k.second + 0) q shown.0 (later_place s z o i r n h here after k) there shown.1 in
+              let up = never_decrease s z (i + 1) (before (seconds_of s) z k.second + 0) q shown.0 (later_place s z o i r n h here after k) there shown.1 in
               omega (arith, signed_arith);
         }

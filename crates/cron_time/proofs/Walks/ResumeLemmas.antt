@@ -16,8 +16,9 @@ use Rattle.cron_moments.specs.Found.{found_items}
 use Rattle.cron_time.specs.Walk.Inner.Placed.{index, place_of, reading_of, cursor_of, IsKept}
 use Rattle.cron_moments.specs.Readings.{Reading, readings}
 use Rattle.cron_time.specs.Walk.Resume.{IsAbsent, IsAtItem}
+use Rattle.cron_time.specs.Seconds as seconds
 use Rattle.cron_time.specs.Search.{items_of}
-use Rattle.cron_time.specs.Timeline.{timeline}
+use Rattle.cron_time.specs.Timeline.{seconds_of, timeline}
 use Rattle.cron_moments.specs.declared.readings.Found.{Found}
 use Rattle.cron_time.specs.Walk.Inner.Stand as Kept
 use Rattle.cron_time.proofs.JoinedLemmas.{Owner, owner}
@@ -41,8 +42,8 @@ item_of_by s z r c j second high here =
 
 item_of : (s : Sets) (z : TimeZone) (i : ℕ) (r : Reading) → slice_get (timeline s z) i ≡ Some r → IsItem s z r
 item_of s z i r e =
-    let own : Owner (items_of s z) seconds_in_range i r = owner (items_of s z) seconds_in_range i r (rw (timeline-joined s z) at e) in
-    item_of_by s z r own.number own.place (items_of-second s z own.number own.place r own.here) own.below own.here
+    let own : Owner (items_of s z) seconds_in_range i r = owner (items_of s z) seconds_in_range i r (rw (timeline-joined (seconds_of s) z) at e) in
+    item_of_by s z r own.number own.place (items_of-second (seconds_of s) z own.number own.place r own.here) own.below own.here
 
 -- a moment past the range stands nowhere
 pub absent_past : (s : Sets) (z : TimeZone) (r : Reading) → ¬ (r.second < seconds_in_range) → IsAbsent s z r
@@ -62,7 +63,7 @@ absent_nowhere s z r same = absent_among s z r [] same (λ j. nothing_in_nil j r
 pub kept_of : (s : Sets) (z : TimeZone) (r : Reading) (f : Found) (later : Bool) → r.second < seconds_in_range → found_items f ≡ items_of s z r.second
     → reading_of f later ≡ Some r → IsKept s z f later
 kept_of s z r f later high same is =
-    let first : f.first.second ≡ r.second = items_of-second s z r.second 0 f.first (subst (λ (xs : List Reading). slice_get xs 0 ≡ Some f.first) same refl) in
+    let first : f.first.second ≡ r.second = items_of-second (seconds_of s) z r.second 0 f.first (subst (λ (xs : List Reading). slice_get xs 0 ≡ Some f.first) same refl) in
     record {
       high = rw first high;
       items = ap (items_of s z) first ∙ sym same;
@@ -90,9 +91,9 @@ same_reading a b e =
 -- ---- the items of a civil second
 
 pub no_items : (s : Sets) (z : TimeZone) (c : ℕ) → matches s (civil c) ≡ false → [] ≡ items_of s z c
-unfolding items_of
+unfolding seconds.items_of
 no_items s z c e = rw e refl
 
 pub all_items : (s : Sets) (z : TimeZone) (c : ℕ) → matches s (civil c) ≡ true → readings z c ≡ items_of s z c
-unfolding items_of
+unfolding seconds.items_of
 all_items s z c e = rw e refl

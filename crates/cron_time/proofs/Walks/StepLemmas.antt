@@ -18,10 +18,11 @@ use Rattle.cron_time.specs.Walk.Cursor.{Place, go_to, no_item, step_on}
 use Rattle.cron_moments.specs.Found.{found_items}
 use Rattle.cron_time.specs.Walk.Inner.Placed.{index, place_of, reading_of, last_is_later, stop_of, IsKept}
 use Rattle.cron_moments.specs.Readings.{Reading}
+use Rattle.cron_time.specs.Seconds as seconds
 use Rattle.cron_time.specs.Search.{items_of, stands, IsFound, IsFoundAt}
 use Rattle.cron_units.specs.Sets.{Sets}
 use Rattle.cron_time.specs.Walk.Inner.Stop.{IsReached, IsStop}
-use Rattle.cron_time.specs.Timeline.{timeline}
+use Rattle.cron_time.specs.Timeline.{seconds_of, timeline}
 use Rattle.cron_time.specs.Search.Inner.Numbers.{beyond}
 use Rattle.cron_time.specs.Walk.Ways.{opposite, place_from, place_beside}
 use Rattle.cron_moments.specs.declared.readings.Found.{Found}
@@ -59,15 +60,15 @@ pub kept_item : (s : Sets) (z : TimeZone) (f : Found) (later : Bool) → IsKept 
     → slice_get (timeline s z) (place_of s z f.first.second later) ≡ reading_of f later
 kept_item s z f later k =
     let inside : index later < length (items_of s z f.first.second) = rw k.items k.inside in
-    item_in s z f.first.second (index later) k.high inside ∙ ap (λ xs. slice_get xs (index later)) k.items ∙ reading_of-item f later
+    item_in (seconds_of s) z f.first.second (index later) k.high inside ∙ ap (λ xs. slice_get xs (index later)) k.items ∙ reading_of-item f later
 
 -- its place is one of the timeline
 pub kept_in : (s : Sets) (z : TimeZone) (f : Found) (later : Bool) → IsKept s z f later → place_of s z f.first.second later < length (timeline s z)
 kept_in s z f later k =
     let inside : index later < length (items_of s z f.first.second) = rw k.items k.inside in
-    let next = before-next s z f.first.second in
+    let next = before-next (seconds_of s) z f.first.second in
     let high = k.high in
-    let all = before-all s z (f.first.second + 1) (omega arith) in
+    let all = before-all (seconds_of s) z (f.first.second + 1) (omega arith) in
     omega arith
 
 -- a place of the timeline holds an item
@@ -96,38 +97,38 @@ not_back_of : (c d : ℕ) → c ≤ d → ¬ (pos d ≤ℤ (pos c -ℤ pos 1))
 not_back_of c d h k = omega (arith, signed_arith)
 
 -- the items from the number beyond c on begin behind, or end before, the items of c
-after_items : (s : Sets) (z : TimeZone) (c : ℕ) → go_to (timeline s z) (Some (before s z (c + 1)))
+after_items : (s : Sets) (z : TimeZone) (c : ℕ) → go_to (timeline s z) (Some (before (seconds_of s) z (c + 1)))
     ≡ go_to (timeline s z) (place_from Ahead (timeline s z) (Some (beyond Ahead c)))
 after_items s z c =
     let items = timeline s z in
-    let n = before s z (c + 1) in
+    let n = before (seconds_of s) z (c + 1) in
     elim (slice_get_cases items n).1 [
       | inl there ↦
           let x = there.0 in
-          let lies = late s z n x (c + 1) there.2 (omega arith) in
+          let lies = late (seconds_of s) z n x (c + 1) there.2 (omega arith) in
           ap (go_to items) (sym (place_from-at Ahead (beyond Ahead c) items n x there.2 (ahead_of c x.second (omega arith))
-          (λ k y lt at. not_ahead_of c y.second (let below = early s z k y (c + 1) at lt in omega arith))))
+          (λ k y lt at. not_ahead_of c y.second (let below = early (seconds_of s) z k y (c + 1) at lt in omega arith))))
       | inr past ↦
           rw (
             go_to-past items n past.0,
             place_from-none Ahead (beyond Ahead c) items
-                (λ k y at. not_ahead_of c y.second (let in_list = slice_get_within items k y at in let below = early s z k y (c + 1) at (omega arith) in
+                (λ k y at. not_ahead_of c y.second (let in_list = slice_get_within items k y at in let below = early (seconds_of s) z k y (c + 1) at (omega arith) in
                 omega arith)),
           ) refl
     ]
 
-before_items : (s : Sets) (z : TimeZone) (c n : ℕ) → c ≤ 4_133_980_800 → n ≡ before s z c
+before_items : (s : Sets) (z : TimeZone) (c n : ℕ) → c ≤ 4_133_980_800 → n ≡ before (seconds_of s) z c
     → go_to (timeline s z) (place_beside Back n) ≡ go_to (timeline s z) (place_from Back (timeline s z) (Some (beyond Back c)))
 before_items s z c zero high is =
     ap (go_to (timeline s z)) (sym (place_from-none Back (beyond Back c) (timeline s z)
-    (λ k y at. not_back_of c y.second (late s z k y c at (omega arith)))))
+    (λ k y at. not_back_of c y.second (late (seconds_of s) z k y c at (omega arith)))))
 before_items s z c (suc m) high is =
     let items = timeline s z in
-    let all = before-all s z c high in
+    let all = before-all (seconds_of s) z c high in
     let there = item_there items m (omega arith) in
-    let lies = early s z m there.0 c there.1 (omega arith) in
+    let lies = early (seconds_of s) z m there.0 c there.1 (omega arith) in
     ap (go_to items) (sym (place_from-at Back (beyond Back c) items m there.0 there.1 (back_of c there.0.second lies)
-    (λ k y gt at. not_back_of c y.second (late s z k y c at (omega arith)))))
+    (λ k y gt at. not_back_of c y.second (late (seconds_of s) z k y c at (omega arith)))))
 
 -- from the last reading in its direction a call goes to the first item from the number beyond on
 pub from_last : (way : Way) (s : Sets) (z : TimeZone) (f : Found) (later : Bool) → IsKept s z f later → later ≡ last_is_later way f
@@ -135,10 +136,10 @@ pub from_last : (way : Way) (s : Sets) (z : TimeZone) (f : Found) (later : Bool)
     ≡ go_to (timeline s z) (place_from way (timeline s z) (Some (beyond way f.first.second)))
 from_last Ahead s z f later k last =
     let size = length_found f in
-    let next = before-next s z f.first.second in
+    let next = before-next (seconds_of s) z f.first.second in
     let same : length (items_of s z f.first.second) ≡ length (found_items f) = ap length k.items in
     let at_last : index later ≡ index (is_some f.second) = ap index last in
-    let place : place_of s z f.first.second later + 1 ≡ before s z (f.first.second + 1) = omega arith in
+    let place : place_of s z f.first.second later + 1 ≡ before (seconds_of s) z (f.first.second + 1) = omega arith in
     rw place (after_items s z f.first.second)
 from_last Back s z f later k last =
     let high = k.high in
@@ -152,22 +153,22 @@ precedes : (way : Way) (s : Sets) (z : TimeZone) (f : Found) (k : ℕ) (y : Read
     → Precedes way k (place_of s z f.first.second (last_is_later (opposite way) f)) → slice_get (timeline s z) k ≡ Some y
     → Precedes way y.second f.first.second
 precedes Ahead s z f k y items lt at =
-    early s z k y f.first.second at (omega arith)
+    early (seconds_of s) z k y f.first.second at (omega arith)
 precedes Back s z f k y items gt at =
     let size = length_found f in
-    let next = before-next s z f.first.second in
+    let next = before-next (seconds_of s) z f.first.second in
     let same : length (items_of s z f.first.second) ≡ length (found_items f) = ap length items in
-    let behind = late s z k y (f.first.second + 1) at (omega arith) in
+    let behind = late (seconds_of s) z k y (f.first.second + 1) at (omega arith) in
     omega arith
 
 found_second : (s : Sets) (z : TimeZone) (f : Found) (c : ℕ) → items_of s z c ≡ found_items f → f.first.second ≡ c
 found_second s z f c items =
-    items_of-second s z c 0 f.first (ap (λ xs. slice_get xs 0) items)
+    items_of-second (seconds_of s) z c 0 f.first (ap (λ xs. slice_get xs 0) items)
 
 is_kept : (way : Way) (s : Sets) (z : TimeZone) (f : Found) → stands s z f.first.second ≡ true → items_of s z f.first.second ≡ found_items f
     → IsKept s z f (last_is_later way f)
 is_kept way s z f here items = record {
-  high = stands-high s z f.first.second here;
+  high = stands-high (seconds_of s) z f.first.second here;
   items = items;
   inside = last-inside way f;
 }
@@ -190,10 +191,10 @@ reached_at way s z b f h =
     let kept = is_kept (opposite way) s z f here items in
     let there = reading_there f later kept.inside in
     let item = kept_item s z f later kept ∙ there.1 in
-    let second : there.0.second ≡ c = items_of-second s z c (index later) there.0 (ap (λ xs. slice_get xs (index later)) items ∙ reading_of-item f later
+    let second : there.0.second ≡ c = items_of-second (seconds_of s) z c (index later) there.0 (ap (λ xs. slice_get xs (index later)) items ∙ reading_of-item f later
     ∙ there.1) in
     let place = place_from-at way b (timeline s z) (place_of s z c later) there.0 item (rw second lies)
-    (λ k y before_it at from. true≢false (sym (is_in s z k y at).stands
+    (λ k y before_it at from. true≢false (sym (is_in (seconds_of s) z k y at).stands
     ∙ h.nearest.nearest y.second from (rw (← number) (precedes way s z f k y items before_it at)))) in
     record {
       placed = kept;
@@ -205,7 +206,7 @@ reached_none way s z b none = record {
   placed = tt;
   leads =
       ap (go_to (timeline s z)) (place_from-none way b (timeline s z)
-      (λ k y at from. true≢false (sym (is_in s z k y at).stands ∙ none y.second from)));
+      (λ k y at from. true≢false (sym (is_in (seconds_of s) z k y at).stands ∙ none y.second from)));
 }
 
 pub reached : (way : Way) (s : Sets) (z : TimeZone) (b : ℤ) (found : Option Found) → IsFound way s z b (option_map found_items found)
@@ -216,7 +217,7 @@ reached way s z b (Some f) h = reached_at way s z b f h
 -- the date of a civil second that is kept matches
 kept_parts : (s : Sets) (z : TimeZone) (f : Found) (later : Bool) → IsKept s z f later
     → (matches_date s (date_numbered (f.first.second / 86_400)).0 ≡ true) × (matches_second s (f.first.second % 86_400) ≡ true)
-unfolding items_of
+unfolding seconds.items_of
 kept_parts s z f later k =
     elim (cases_Bool (matches s (civil f.first.second))) [
       | inl inside ↦ and_parts (matches_date s (date_numbered (f.first.second / 86_400)).0) (matches_second s (f.first.second % 86_400))

@@ -13,12 +13,12 @@ pub record TimeOfDay : Type 0 where
   pub minute : ℕ
   pub second : ℕ
 
--- those whose parts lie in their sets, in the order of hour, then minute, then second
+-- the times of day whose parts lie in their sets, in the order of hour, then minute, then second
 unfoldable pub times_of_day : Sets → List TimeOfDay
 times_of_day s =
     flat_map (λ h. flat_map (λ m. map (λ sec. record { hour = h; minute = m; second = sec }) s.seconds) s.minutes) s.hours
 
--- in that order a comes before b
+-- a comes before b, by hour, then minute, then second
 abbrev pub IsBefore : TimeOfDay → TimeOfDay → Type 0
 IsBefore a b =
     (a.hour < b.hour)
@@ -30,13 +30,14 @@ abbrev pub LiesFromTime : Way → TimeOfDay → TimeOfDay → Type 0
 LiesFromTime Ahead start t = ¬ (IsBefore t start)
 LiesFromTime Back start t = ¬ (IsBefore start t)
 
--- of the times of day from the start on this is the nearest
+-- `found` is the nearest of the sets' times of day from the start on
 pub record IsNearestTimeAt (way : Way) (s : Sets) (start found : TimeOfDay) : Type 0 where
   pub among : Contains (times_of_day s) found
   pub lies : LiesFromTime way start found
   pub nearest : (t : TimeOfDay) → Contains (times_of_day s) t → LiesFromTime way start t → LiesFromTime way found t
 
--- the nearest time of day from the start on: the least ahead, the greatest back, and none where none lies there
+-- the nearest of the sets' times of day from the start on: the least ahead, the greatest back;
+-- `None` exactly if none lies there
 abbrev pub IsNearestTime : Way → Sets → TimeOfDay → Option TimeOfDay → Type 0
 IsNearestTime way s start found =
     MatchOption found ((t : TimeOfDay) → Contains (times_of_day s) t → ¬ (LiesFromTime way start t)) (IsNearestTimeAt way s start)

@@ -8,7 +8,8 @@ use Rattle.cron_moments.specs.Readings.{Reading}
 use Rattle.cron_units.specs.Sets.{Sets}
 use Rattle.cron_time.specs.Timeline.{timeline}
 
--- at an instant that it started from, by its nanoseconds; at a place of the timeline; or ended
+-- where a walk is: at the instant where it started, in nanoseconds since 1970-01-01T00:00:00Z; at a
+-- place of the timeline, counted from 0; or at the end
 pub data Cursor : Type 0 where
   Start : ℤ → Cursor
   Place : ℕ → Cursor
@@ -26,12 +27,13 @@ abbrev pub item_at : ℕ → Option Reading → Step
 item_at i None = no_item
 item_at i (Some r) = record { answer = Some r; cursor = Place i }
 
--- the item at this place, if there is one
+-- the step to the item at this place, or to the end if there is none
 abbrev pub go_to : List Reading → Option ℕ → Step
 go_to items None = no_item
 go_to items (Some i) = item_at i (slice_get items i)
 
--- a place among the elements after the first, as a place among all; where there is none, the first's if it passes
+-- the place among all elements, from a place among those after the first; without one, 0 if the
+-- first element passes
 abbrev pub place_in_tail : Bool → Option ℕ → Option ℕ
 place_in_tail passes (Some i) = Some (i + 1)
 place_in_tail true None = Some 0
@@ -42,21 +44,22 @@ abbrev pub last_place : {A : Type 0} → (A → Bool) → List A → Option ℕ
 last_place p [] = None
 last_place p (x ∷ xs) = place_in_tail (p x) (last_place p xs)
 
--- the first item at or after the bound, and the last one at or before it
+-- the place of the first item at or after the bound
 abbrev pub first_from : List Reading → Option ℤ → Option ℕ
 first_from items None = None
 first_from items (Some b) = position (λ r. int_le b (pos r.second)) items
 
+-- the place of the last item at or before the bound
 abbrev pub last_to : List Reading → Option ℤ → Option ℕ
 last_to items None = None
 last_to items (Some b) = last_place (λ r. int_le (pos r.second) b) items
 
--- the place before
+-- the place before; `None` before the first one
 abbrev pub place_before : ℕ → Option ℕ
 place_before zero = None
 place_before (suc i) = Some i
 
--- what a call answers on these items, in this zone
+-- the step that a call makes from this cursor, on these items in this zone
 abbrev pub step_on : List Reading → TimeZone → Way → Cursor → Step
 step_on items z Ahead (Start t) = go_to items (first_from items (bound_ahead z t))
 step_on items z Back (Start t) = go_to items (last_to items (bound_back z t))
@@ -70,7 +73,7 @@ pub record Walk : Type 0 where
   pub zone : TimeZone
   pub cursor : Cursor
 
--- what a call of a walk answers
+-- the answer of a call of a walk, and the cursor that it leaves
 abbrev pub step : Way → Walk → Step
 step way w = step_on (timeline w.sets w.zone) w.zone way w.cursor
 

@@ -1,4 +1,4 @@
--- Walks in a zone with one offset, told by instants.
+-- Laws of walks in a zone with one offset: their answers by instants.
 use Rattle.std.specs.Prelude.{◌≡◌, ℕ, ◌<◌, ℤ, pos, ◌+ℤ◌, ◌*ℤ◌, ◌<ℤ◌, ◌≤ℤ◌, true, [], ◌∷◌, Some, None, MatchOption, slice_get}
 use Rattle.jiff_core.specs.declared.Offset.{Offset}
 use Rattle.jiff_core.specs.Timestamp.{IsTimestampNanos}
@@ -27,22 +27,23 @@ pub record HasOneOffset (z : TimeZone) (offset : ℤ) : Type 0 where
   pub shown : (n : ℤ) → offset_at z n ≡ offset
   pub read : (c : ℕ) → c < seconds_in_range → IsReadOnce z offset c
 
--- UTC and each zone that is made of an offset have one
+-- UTC and each zone that is made of an offset have one offset
 abbrev pub FixedZonesHaveOneOffset : Type 0
 FixedZonesHaveOneOffset = (z : TimeZone) → IsFixed z → HasOneOffset z (offset_of z)
 
--- a rule without a saving has one
+-- a rule without daylight saving has one offset
 abbrev pub PlainRulesHaveOneOffset : Type 0
 PlainRulesHaveOneOffset = (r : rule.TimeZone) → r.dst ≡ None → HasOneOffset (Posix r) r.std_offset.seconds
 
--- n whole seconds after 1970 a clock with this offset shows a civil second of the range that matches
+-- n whole seconds after 1970-01-01T00:00:00Z a clock with this offset shows a civil second of the
+-- range that matches
 pub record Shows (s : Sets) (offset n : ℤ) : Type 0 where
   pub second : ℕ
   pub is : n +ℤ offset ≡ pos second
   pub in_range : second < seconds_in_range
   pub matching : matches s (civil second) ≡ true
 
--- that instant comes after the instant t, which is in nanoseconds
+-- the instant n, in seconds, comes after the instant t, in nanoseconds
 abbrev pub IsAfter : ℤ → ℤ → Type 0
 IsAfter t n = t <ℤ (n *ℤ pos 1_000_000_000)
 

@@ -10,7 +10,8 @@ use Rattle.cron_units.specs.Sets.{Sets}
 use Rattle.cron_time.specs.Matches.{matches}
 use Rattle.cron_time.specs.Timeline.{timeline}
 
--- the run of a joined list of calls is the joined runs
+-- the run of two lists of calls, joined, is the run of the first and then that of the second from
+-- there
 abbrev pub RunsAreJoined : Type 0
 RunsAreJoined =
     (items : List Reading) (z : TimeZone) (us vs : List Way) (c : Cursor)

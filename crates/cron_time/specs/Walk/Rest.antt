@@ -1,4 +1,4 @@
--- The items that are still to come in a direction.
+-- The rest of a walk: the items that are still to come in a direction.
 use Rattle.std.specs.Prelude.{ℕ, ◌+◌, List, [], Option, Some, None, drop, take, reverse}
 use Rattle.std.specs.Iterator.{YieldsFirst}
 use Rattle.cron_units.specs.declared.way.Way.{Way}

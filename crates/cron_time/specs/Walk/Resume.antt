@@ -1,4 +1,4 @@
--- A walk that goes on from an item.
+-- A walk that goes on from an item, a reading on its timeline.
 use Rattle.std.specs.Prelude.{◌≡◌, ℕ, Some, slice_get}
 use Rattle.jiff_tz.specs.declared.timezone.TimeZone.{TimeZone}
 use Rattle.cron_units.specs.Sets.{Sets}
@@ -6,7 +6,7 @@ use Rattle.cron_time.specs.Walk.Cursor.{Cursor, Place, Walk}
 use Rattle.cron_moments.specs.Readings.{Reading}
 use Rattle.cron_time.specs.Timeline.{timeline}
 
--- the item stands on no place of the timeline
+-- the item isn't on the timeline
 abbrev pub IsAbsent : Sets → TimeZone → Reading → Type 0
 IsAbsent s z r = (i : ℕ) → slice_get (timeline s z) i ≡ Some r → ⊥
 

@@ -1,33 +1,34 @@
 //! The answers of searches.
 use cron_moments::readings::Found;
 
-/// What a search found, and what it took.
+/// What a search found, and its counts.
 #[derive(Clone, Copy, Debug, PartialEq, Eq)]
 pub struct Search {
-    /// The civil second with its readings. `None` where none matches and is read.
+    /// The civil second with its readings. `None` if none both matches and has a reading.
     pub found: Option<Found>,
-    /// The dates that were made and tested.
+    /// The number of dates that were made and tested.
     pub days: u32,
-    /// The civil seconds whose readings were looked up.
+    /// The number of civil seconds whose readings were looked up.
     pub conversions: u64,
 }
 
-/// The time of day that was found, and what it took.
+/// The time of day that a search found, and how many look-ups of a member it took.
 #[derive(Clone, Copy, Debug, PartialEq, Eq)]
 pub struct TimeFound {
-    /// Hour, minute and second. `None` where no time of the sets lies that way.
+    /// Hour, minute and second. `None` if no time of the sets lies that way.
     pub time: Option<(u32, u32, u32)>,
-    /// The questions for a neighbouring member, 7 at most.
+    /// The number of look-ups of a member, 7 at most.
     pub questions: u8,
 }
 
-/// How many civil seconds were found one after the other, and what their searches took together.
+/// How many civil seconds were found one after the other, and the counts of their searches
+/// together.
 #[derive(Clone, Copy, Debug, PartialEq, Eq)]
 pub struct Survey {
-    /// The civil seconds that were found.
+    /// The number of civil seconds that were found.
     pub seconds: u32,
-    /// The dates that were made and tested.
+    /// The number of dates that were made and tested.
     pub days: u64,
-    /// The civil seconds whose readings were looked up.
+    /// The number of civil seconds whose readings were looked up.
     pub conversions: u64,
 }

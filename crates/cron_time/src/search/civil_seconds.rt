@@ -1,4 +1,4 @@
-//! The nearest civil second that matches. It needs no reading, and no zone is asked for one.
+//! The nearest civil second that matches. No reading is needed, so no zone is used.
 ghost use Rattle.std.specs.Prelude.{◌≡◌, ◌+◌, ◌/◌, ◌%◌, ◌<◌, pos, true, IfSome};
 ghost use Rattle.cron_units.specs.Nearest.{IsNearest};
 ghost use Rattle.cron_moments.specs.Civil.{days_in_range, seconds_in_range};
@@ -19,8 +19,8 @@ use cron_moments::civil::SECONDS_PER_DAY;
 use cron_units::fields::ScheduleFields;
 use cron_units::way::Way;
 
-// The nearest match in the days past one whose date matches. `BACK` says the way once more, so that
-// each has code of its own.
+// The nearest match in the days past `day`, whose date matches. `BACK` repeats `way` as a constant,
+// so that each direction has code of its own.
 #[inline(never)]
 fn match_in_days_past<const BACK: bool>(
     fields: &ScheduleFields,
@@ -42,7 +42,7 @@ fn match_in_days_past<const BACK: bool>(
     Some(next * SECONDS_PER_DAY + time)
 }
 
-// Each direction has code of its own.
+// The same as `match_in_days_past`. Each direction has code of its own.
 #[inline(always)]
 fn match_past_day(
     fields: &ScheduleFields,
@@ -64,7 +64,7 @@ fn match_past_day(
     }
 }
 
-// The nearest civil second of the range that matches, from one of the range on.
+// The nearest civil second of the range that matches, from `start` on.
 fn match_from(fields: &ScheduleFields, way: Way, start: u32, days: &mut MonthDays) -> Option<u32>
     requires in_range { start < seconds_in_range }
     requires days { KnowsDays fields.now days.old }
@@ -81,9 +81,9 @@ fn match_from(fields: &ScheduleFields, way: Way, start: u32, days: &mut MonthDay
     match_past_day(fields, way, day, &mut Minute::epoch(), days)
 }
 
-/// The nearest civil second of the range that matches, from a number on: ahead the first one at or
-/// after it, back the last one at or before it, and `None` exactly where there is none. It ends at
-/// once where no month has a day of the set.
+/// The nearest civil second of the range that matches: ahead the first one at or after `from`, back
+/// the last one at or before it. `None` exactly if there is none. It ends at once if no month has a
+/// day of the set.
 pub fn nearest_match(fields: &ScheduleFields, way: Way, from: i64) -> Option<u32>
     ensures nearest { IsNearest way (is_match fields.now) from result }
     ensures bound { IfSome result (λ n. n < seconds_in_range) }
@@ -97,7 +97,8 @@ pub fn nearest_match(fields: &ScheduleFields, way: Way, from: i64) -> Option<u32
     match_from(fields, way, start, &mut days)
 }
 
-// The nearest match past one in its own minute, hour or day, or else past the day.
+// The nearest match past the one at `place` of `minute`: in its own minute, hour or day, or else
+// past the day.
 #[inline(always)]
 fn match_past_place(
     fields: &ScheduleFields,
@@ -123,7 +124,7 @@ fn match_past_place(
     match_past_day(fields, way, minute.day(), minute, days)
 }
 
-// The same past a match that doesn't lie in the minute.
+// The same as `match_past_place`, past a match `second` that isn't in `minute`.
 #[inline(never)]
 fn match_past_elsewhere(
     fields: &ScheduleFields,
@@ -142,9 +143,9 @@ fn match_past_elsewhere(
     match_past_place(fields, way, second % 60, minute, days)
 }
 
-/// The nearest civil second that matches past one that does: first in its own day, whose date
-/// needn't be made. It begins with the minute and the days of a month that an earlier search knew,
-/// and leaves those that it knows.
+/// The nearest civil second that matches past `second`, which matches. It is first looked for in
+/// its own day, whose date needn't be made. The search starts with the minute and the days of a
+/// month that an earlier search left, and leaves its own there.
 #[inline(always)]
 pub fn match_past(
     fields: &ScheduleFields,

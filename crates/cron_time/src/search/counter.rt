@@ -1,17 +1,18 @@
-//! Counters of the questions for a neighbouring member.
+//! Counters of questions. A question is a look-up of the nearest member of one set.
 ghost use Rattle.std.specs.Prelude.{ℕ};
 ghost use Rattle.cron_time.specs.Search.Inner.Questions.{GoesUp, Joins, goes_up-joins};
 
-/// What a search hands along to count its questions.
+/// A counter that a search passes along to count its questions.
 pub(crate) trait Counter {
-    /// So many questions lead from one state of it to another.
+    /// Whether a number of questions leads from one state of the counter to another.
     ghost Counts: { ℕ → Self → Self → Type 0 };
 
     /// Counts one more question.
     fn count_one(&mut self)
         ensures { Counts 1 self.old self.new };
 
-    /// Some questions and then others are counted together.
+    /// If some questions lead from one state to a second, and others from there to a third, their
+    /// sum leads from the first to the third.
     ghost joined: { Joins Counts };
 }
 
@@ -28,8 +29,7 @@ impl Counter for Uncounted {
     ghost joined = { λ m n a b c h k. tt };
 }
 
-/// How many questions were asked, counted from 0 again after 2^64. So no search needs a bound for
-/// them.
+/// The number of questions, counted from 0 again after 2^64. So no search needs a bound for it.
 #[derive(Clone, Copy)]
 pub(crate) struct Questions {
     pub(crate) asked: u64,

@@ -1,4 +1,5 @@
-//! The nearest day whose year, month and day of the month lie in the sets.
+//! The nearest day whose year, month and day of the month lie in the sets. `None` means that there
+//! is none in the direction `way`.
 ghost use Rattle.std.specs.Prelude.{◌≡◌, ℕ, ◌+◌, ◌/◌, ◌%◌, ◌<◌, ◌≤◌, ◌||◌, ◌==◌, pos, Bool, IfSome, Option, option_map, true, false};
 ghost use Rattle.cron_units.specs.Nearest.{IsNearest};
 ghost use Rattle.cron_units.specs.Units.{contains};
@@ -24,8 +25,8 @@ pub(crate) struct Day {
     pub(crate) day: u32,
 }
 
-/// The day of a civil second. It is read, by the help of a month, and neither made from the sets
-/// nor tested.
+/// The day of the civil second `second`. This is fast if it is one of the first 28 days of the
+/// month `known`. No set is looked up.
 #[inline(always)]
 pub(crate) fn day_with(known: KnownMonth, second: u32) -> Day
     requires { second < seconds_in_range }
@@ -36,7 +37,7 @@ pub(crate) fn day_with(known: KnownMonth, second: u32) -> Day
     Day { month, day }
 }
 
-// The length that a month of the year has in a leap year.
+// The length of `month` in a leap year.
 fn longest_month(month: u32) -> u32
     requires { (1 ≤ month) × (month ≤ 12) }
     ensures { result ≡ longest month }
@@ -44,8 +45,8 @@ fn longest_month(month: u32) -> u32
     days_in_month(2000, month as u8) as u32
 }
 
-// Whether some month of the set has a day of this number in some year. Few sets ask so, and it
-// stands out of the way of the others.
+// Whether some month of the set has a day number `day` in some year. Few sets need this, so it
+// isn't inlined.
 #[inline(never)]
 fn some_month_reaches(members: &Members<'_>, day: u32) -> bool
     ensures { result ≡ false → (m : ℕ) → contains members.now.months m ≡ true → longest m < day }
@@ -60,8 +61,8 @@ fn some_month_reaches(members: &Members<'_>, day: u32) -> bool
     false
 }
 
-/// Whether some month of the set has the least day of the set in some year. Each month has a last
-/// day.
+/// Returns true if some month of the set has, in some year, the least day of the set. With the last
+/// day of the month it is always true, since each month has one.
 #[inline(always)]
 pub(crate) fn some_month_has_a_day(members: &Members<'_>) -> bool
     ensures { result ≡ false → (p : ℕ) → matches_rank members.now p ≡ false }
@@ -78,8 +79,8 @@ pub(crate) fn some_month_has_a_day(members: &Members<'_>) -> bool
     some_month_reaches(members, least)
 }
 
-/// The nearest one past a month that lies in the sets: first in its own year, which isn't asked
-/// for.
+/// The nearest month past `month` that lies in the sets. It is first looked for in the year of
+/// `month`, which isn't looked up again.
 #[inline(always)]
 pub(crate) fn month_past(members: &Members<'_>, way: Way, month: u32) -> Option<u32>
     requires range { (first_month ≤ month) × (month < months_end) }
@@ -91,8 +92,8 @@ pub(crate) fn month_past(members: &Members<'_>, way: Way, month: u32) -> Option<
     past_in_parts::<Years, MonthsOfYear>(members, way, 12, month, rest)
 }
 
-// The nearest day of a month whose number lies in the set. The length of the month matters for the
-// last numbers alone.
+// The nearest day of `month`, from `from` on, whose number lies in the set. The length of the month
+// matters only for numbers above 28.
 #[inline(always)]
 fn numbered_day(members: &Members<'_>, way: Way, month: u32, from: u32) -> Option<u32>
     requires { month < months_end }
@@ -116,7 +117,8 @@ fn numbered_day(members: &Members<'_>, way: Way, month: u32, from: u32) -> Optio
     }
 }
 
-// The nearest day of a month of this length, of the nearest numbered one and the last one.
+// The nearest day from `from` on in a month of `last` days: either `numbered`, the nearest numbered
+// day of the set, or the last day, which the set has too.
 #[inline(always)]
 fn with_last_day(way: Way, last: u32, from: u32, numbered: Option<u32>) -> Option<u32>
     requires last { 1 ≤ last }
@@ -137,7 +139,7 @@ fn with_last_day(way: Way, last: u32, from: u32, numbered: Option<u32>) -> Optio
     }
 }
 
-// The nearest day of the month that lies in its set.
+// The nearest day of `month`, from `from` on, that lies in its set.
 #[inline(always)]
 fn day_of_month(members: &Members<'_>, way: Way, month: u32, from: u32) -> Option<u32>
     requires { month < months_end }
@@ -151,7 +153,8 @@ fn day_of_month(members: &Members<'_>, way: Way, month: u32, from: u32) -> Optio
     numbered
 }
 
-// The nearest day from one on, of the months from the first one that lies in the sets.
+// The nearest day in the sets from `from` on. `first` is the nearest month in the sets from its
+// month on.
 #[inline(always)]
 fn nearest_in_months(members: &Members<'_>, way: Way, from: Day, first: Option<u32>) -> Option<Day>
     requires day { from.day < 100 }
@@ -174,7 +177,7 @@ fn nearest_in_months(members: &Members<'_>, way: Way, from: Day, first: Option<u
     None
 }
 
-/// The nearest day whose year, month and day of the month lie in their sets.
+/// The nearest day from `from` on whose year, month and day of the month lie in their sets.
 pub(crate) fn nearest_day(members: &Members<'_>, way: Way, from: Day) -> Option<Day>
     requires { IsInRange from }
     ensures nearest { IsNearest way
@@ -187,7 +190,8 @@ pub(crate) fn nearest_day(members: &Members<'_>, way: Way, from: Day) -> Option<
     nearest_in_months(members, way, from, first)
 }
 
-// The rank past that of a day.
+// `day` with its day of the month raised by one, or lowered if `way` is back. The result may be no
+// day of the month, as 0 or 32.
 #[inline(always)]
 fn rank_past(way: Way, day: Day) -> Day
     requires { IsInRange day }
@@ -208,7 +212,8 @@ fn rank_past(way: Way, day: Day) -> Day
     }
 }
 
-/// The nearest one past a day whose year and month lie in their sets: they aren't asked for.
+/// The nearest day past `day` that lies in the sets. The year and month of `day` lie in theirs, and
+/// aren't looked up again.
 #[inline(always)]
 pub(crate) fn day_past(members: &Members<'_>, way: Way, day: Day) -> Option<Day>
     requires range { IsInRange day }

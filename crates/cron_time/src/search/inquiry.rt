@@ -1,4 +1,4 @@
-//! What a search asks, and how often.
+//! Inquiries: searches that count the dates that they make and the readings that they look up.
 ghost use Rattle.std.specs.Prelude.{◌≡◌, ◌^◌, ◌<◌, ◌≤◌, MatchOption, true, false};
 ghost use Rattle.jiff.specs.Words.{plain_zone};
 ghost use Rattle.cron_units.specs.Units.{contains};
@@ -20,10 +20,10 @@ use cron_units::fields::ScheduleFields;
 use jiff::tz::TimeZone;
 use std::marker::Model;
 
-/// The sets and the zone that a counted search asks, and how often it has asked. No two public
-/// calls share one. Its methods alone make dates and ask the zone, and each raises its own count by
-/// one. It knows the month of the date that was made last, and the stretch of civil seconds, at
-/// first an empty one, in which it looked for a reading last.
+/// The sets and the zone of a counted search, and its counts. No two public calls share an inquiry.
+/// Only its methods make dates and look up readings, and each raises its own count by one. It keeps
+/// the month of the date that was made last. It also keeps a stretch, which may be empty: civil
+/// seconds that have the same offsets as the one that was looked up last.
 #[derive(Drop)]
 pub(crate) struct Inquiry<'a> {
     fields: &'a ScheduleFields,
@@ -53,7 +53,7 @@ impl<'a> Model for Inquiry<'a> {
 }
 
 impl<'a> Inquiry<'a> {
-    /// Nothing is asked yet.
+    /// An inquiry whose counts are 0.
     #[inline(always)]
     pub(crate) fn new(fields: &'a ScheduleFields, zone: &'a TimeZone<'a>) -> Inquiry<'a>
         ensures { result ≡ unasked fields.now (plain_zone zone.now) }
@@ -68,7 +68,7 @@ impl<'a> Inquiry<'a> {
         }
     }
 
-    /// The sets, as far as members of theirs are asked for. That isn't counted.
+    /// The sets, for looking up their members. That isn't counted.
     #[inline(always)]
     pub(crate) fn members(&self) -> Members<'a>
         ensures { result ≡ self.now.sets }
@@ -76,28 +76,28 @@ impl<'a> Inquiry<'a> {
         Members::of(self.fields)
     }
 
-    /// The month of the date that was made last.
+    /// The month of the date that was made last, at first January 1970.
     #[inline(always)]
     pub(crate) fn month(&self) -> KnownMonth {
         self.month
     }
 
-    /// The dates that were made and tested.
+    /// The number of dates that were made and tested.
     pub(crate) fn days(&self) -> u64
         ensures { result ≡ self.now.days }
     {
         self.days
     }
 
-    /// The civil seconds whose readings were looked up.
+    /// The number of civil seconds whose readings were looked up.
     pub(crate) fn conversions(&self) -> u64
         ensures { result ≡ self.now.conversions }
     {
         self.conversions
     }
 
-    /// Makes the date of a day of a month, and tests whether its weekday lies in its set: the
-    /// number of the day.
+    /// Makes and counts the date of `day` of `month`, which is numbered from January of the year 0.
+    /// Returns its number of days since 1970-01-01, or `None` if its weekday isn't in its set.
     #[inline(always)]
     pub(crate) fn matching_day(&mut self, month: u32, day: u32) -> Option<u32>
         requires month { (first_month ≤ month) × (month < months_end) }
@@ -120,8 +120,8 @@ impl<'a> Inquiry<'a> {
         Some(number)
     }
 
-    /// Looks up the readings of a civil second, in the stretch that is known or by the zone: none
-    /// in a gap.
+    /// Looks up the readings of a civil second, in the known stretch or by the zone, and counts the
+    /// look-up. `None` in a gap.
     #[inline(always)]
     pub(crate) fn readings(&mut self, second: u32) -> Option<Found>
         requires in_range { second < seconds_in_range }

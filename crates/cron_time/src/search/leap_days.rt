@@ -1,7 +1,8 @@
-//! Schedules of which 29 February alone can match.
+//! Schedules that only 29 February can match.
 //!
-//! The next February of a year that 4 divides is a division by 48. The set of years is asked as
-//! ever, and 2100 fails by the length of its February.
+//! A search for them goes from one February of a year that 4 divides to the next. Months are
+//! numbered from January of the year 0, so each of these numbers is 1 more than a multiple of 48.
+//! The year is looked up in its set as always, and 2100 fails by the length of its February.
 
 ghost use Rattle.std.specs.Prelude.{◌≡◌, ℕ, ◌%◌, ◌<◌, ◌≤◌, true};
 ghost use Rattle.cron_units.specs.Nearest.{LiesFrom, Precedes};
@@ -14,8 +15,8 @@ use cron_units::fields::ScheduleFields;
 use cron_units::time_unit::layout::{bits, bits_of_days};
 use cron_units::way::Way;
 
-/// Whether of the months February alone is wanted, and of its days none of those that each year
-/// has.
+/// Whether the set of months has none but February, and the set of days has no day from 1 to 28,
+/// nor the last day of the month.
 #[inline(always)]
 pub(crate) fn wants_leap_days(fields: &ScheduleFields) -> bool
     ensures { result ≡ true → WantsLeapDays fields.now }
@@ -31,7 +32,7 @@ pub(crate) fn wants_leap_days(fields: &ScheduleFields) -> bool
     !fields.days_of_month.last_day()
 }
 
-/// The nearest February past a month of a year that 4 divides.
+/// The nearest February past `month` in a year that 4 divides.
 #[inline(always)]
 pub(crate) fn leap_february(way: Way, month: u32) -> u32
     requires { (first_month ≤ month) × (month < months_end) }

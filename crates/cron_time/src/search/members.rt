@@ -1,4 +1,4 @@
-//! A plain view of the sets, for what asks for members alone.
+//! A view of the sets for code that only looks up members.
 ghost use Rattle.std.specs.Prelude.{◌≡◌, ◌≤◌, pos, IfSome};
 ghost use Rattle.cron_units.specs.Nearest.{IsNearest};
 ghost use Rattle.cron_units.specs.Units.{contains};
@@ -19,8 +19,8 @@ pub(crate) enum Unit {
     Year,
 }
 
-/// The sets, of which members can be asked for, and nothing else: who has them alone makes no date
-/// and asks no zone.
+/// The sets, open only to look-ups of members. A function that has only this view makes no date and
+/// uses no zone.
 #[derive(Drop)]
 pub(crate) struct Members<'a> {
     fields: &'a ScheduleFields,
@@ -43,7 +43,8 @@ impl<'a> Members<'a> {
         Members { fields }
     }
 
-    /// The member of a unit's set that is nearest to a number.
+    /// The nearest member of the unit's set, from `from` on, or `None` if there is none. Of the
+    /// days of the month these are the numbered ones.
     #[inline(always)]
     pub(crate) fn nearest(&self, unit: Unit, way: Way, from: u32) -> Option<u32>
         ensures nearest { IsNearest way (contains (members unit self.now)) (pos from) result }
@@ -60,7 +61,7 @@ impl<'a> Members<'a> {
         }
     }
 
-    /// Tells whether the last day of each month is one of the days, besides the numbered ones.
+    /// Returns true if the last day of each month is one of the days, besides the numbered ones.
     #[inline(always)]
     pub(crate) fn takes_last_day(&self) -> bool
         ensures { result ≡ self.now.days_of_month.last_day }

@@ -1,5 +1,4 @@
-//! The minute in which a search stands, in its parts. The search goes on from there without a
-//! division.
+//! The minute where a search is, in its parts. The search goes on from there without a division.
 ghost use Rattle.std.specs.Prelude.{◌≡◌, ◌+◌, ◌*◌, ◌/◌, ◌%◌, ◌<◌, true, pos, IfSome, option_map};
 ghost use Rattle.cron_units.specs.Nearest.{IsNearest};
 ghost use Rattle.cron_units.specs.Units.{contains};
@@ -15,7 +14,7 @@ use cron_moments::civil::SECONDS_PER_DAY;
 use cron_units::fields::ScheduleFields;
 use cron_units::way::Way;
 
-/// A minute of a day: its first civil second, and the parts of that.
+/// A minute: its first civil second, and the parts of that. Days are counted from 1970-01-01.
 #[derive(Clone, Copy)]
 pub struct Minute {
     first: u32,
@@ -39,7 +38,7 @@ impl Minute {
         }
     }
 
-    // A minute in its parts.
+    // The minute with these parts.
     #[inline(always)]
     fn of(day: u32, hour: u32, minute: u32) -> Minute
         requires day { day < days_in_range }
@@ -66,8 +65,9 @@ impl Minute {
         Minute::of(second / SECONDS_PER_DAY, time / 3600, time / 60 % 60)
     }
 
-    /// Goes to a day, to the minute of its first time that lies in the sets, in this direction, and
-    /// tells that time.
+    /// Goes to `day`, to the minute of its first time in the sets in the direction `way`, and
+    /// returns that time in seconds since midnight. `None`, and unchanged, if the sets have no
+    /// time.
     #[inline(always)]
     pub(crate) fn enter_day(&mut self, members: &Members<'_>, way: Way, day: u32) -> Option<u32>
         requires { day < days_in_range }
@@ -84,7 +84,7 @@ impl Minute {
         Some((hour * 60 + minute) * 60 + second)
     }
 
-    /// The number of its day.
+    /// The number of its day, counted from 1970-01-01.
     #[inline(always)]
     pub(crate) fn day(&self) -> u32
         ensures { result ≡ self.now.day }
@@ -92,7 +92,8 @@ impl Minute {
         self.day
     }
 
-    /// The number of a civil second among those of the minute, if it is one of them.
+    /// The place of `second` among the civil seconds of the minute, or `None` if it isn't one of
+    /// them.
     #[inline(always)]
     pub(crate) fn place_of(&self, second: u32) -> Option<u32>
         ensures { IfSome result (λ k. (k < 60) × (second ≡ self.now.first + k)) }
@@ -104,7 +105,8 @@ impl Minute {
         Some(place)
     }
 
-    // The nearest minute of its day past it, whose hour lies in its set.
+    // The nearest minute of the same day past this one that lies in the sets, or `None` if the day
+    // has none. The hour of this minute lies in its set.
     #[inline(always)]
     fn past(&self, members: &Members<'_>, way: Way) -> Option<Minute>
         requires { contains members.now.hours self.now.hour ≡ true }
@@ -121,8 +123,9 @@ impl Minute {
         Some(Minute::of(self.day, hour, minute))
     }
 
-    /// The nearest civil second of the day past one of the minute whose time of day lies in the
-    /// sets. It goes to the minute of that one, or stays.
+    /// The nearest civil second of the day whose time lies in the sets, past the one at `place` of
+    /// the minute. Sets `self` to the minute of the result. `None`, and unchanged, if the day has
+    /// none.
     #[inline(always)]
     pub(crate) fn past_in_day(&mut self, members: &Members<'_>, way: Way, place: u32) -> Option<u32>
         requires place { place < 60 }

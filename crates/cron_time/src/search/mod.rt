@@ -1,4 +1,9 @@
-//! The nearest civil second that stands on a timeline, field by field.
+//! The search for the nearest civil second on a timeline, field by field.
+//!
+//! A civil second is on the timeline if it matches and has a reading, an offset at which the zone's
+//! clock shows it. A candidate is a day whose year, month and day of the month lie in their sets.
+//! The nearest is the first one in the direction `way`. `past` a number leaves it out, and `from`
+//! it includes it. `None` means that there is none.
 ghost use Rattle.std.specs.Prelude.{◌≡◌, ◌+◌, ◌/◌, ◌%◌, ◌^◌, ◌<◌, pos, true, IfSome, MatchOption, option_map};
 ghost use Rattle.jiff.specs.Words.{plain_zone};
 ghost use Rattle.cron_units.specs.Nearest.{LiesFrom, IsNearest};
@@ -44,8 +49,9 @@ use cron_units::fields::ScheduleFields;
 use cron_units::way::Way;
 use jiff::tz::TimeZone;
 
-/// A day whose date matches: its times of day are gone through from the first one on, until one has
-/// a reading. The first one is the nearest from `from` on.
+/// The readings of the first time of `day`, from `first` on, that lies in the sets and has a
+/// reading. The date of `day` matches, and `first` is the nearest time in the sets from `from` on.
+/// Times are in seconds since midnight.
 #[inline(always)]
 pub(crate) fn search_times(
     inquiry: &mut Inquiry<'_>,
@@ -84,8 +90,8 @@ pub(crate) fn search_times(
     None
 }
 
-// A candidate: its date is made, and if its weekday lies in its set, its times of day are gone
-// through from the start on.
+// Makes the date of the candidate `day`. If its weekday lies in its set, returns the readings of
+// its first time on the timeline. On the day of `start` it searches from that time on only.
 #[inline(always)]
 fn search_day(inquiry: &mut Inquiry<'_>, way: Way, start: u32, day: Day) -> Option<Found>
     requires range { IsInRange day }
@@ -119,9 +125,9 @@ fn search_day(inquiry: &mut Inquiry<'_>, way: Way, start: u32, day: Day) -> Opti
     search_times(inquiry, way, number, from, first)
 }
 
-/// The candidates from one on, until the times of one of them find an answer. The first one is the
-/// nearest from the start's day on. `BACK` says the way once more, so that each has code of its
-/// own.
+/// Searches the candidates from `first` on, and returns the readings of the first time on the
+/// timeline. `first` is the nearest candidate from the day of `start` on. `BACK` repeats `way` as a
+/// constant, so that each direction has code of its own.
 pub(crate) fn search_candidates<const BACK: bool>(
     inquiry: &mut Inquiry<'_>,
     way: Way,
@@ -150,7 +156,8 @@ pub(crate) fn search_candidates<const BACK: bool>(
     None
 }
 
-// The candidates from the start's day on. The first one is looked for if a month has one.
+// Searches the candidates from the day of `start` on, and returns the readings of the first time on
+// the timeline. It ends at once if no month has a day of the set.
 #[inline(always)]
 fn search_days<const BACK: bool>(inquiry: &mut Inquiry<'_>, way: Way, start: u32) -> Option<Found>
     requires tied { way ≡ way_of BACK }
@@ -167,7 +174,7 @@ fn search_days<const BACK: bool>(inquiry: &mut Inquiry<'_>, way: Way, start: u32
     search_candidates::<BACK>(inquiry, way, start, first)
 }
 
-// Each direction has code of its own.
+// The same as `search_days`. Each direction has code of its own.
 fn search_days_either_way(inquiry: &mut Inquiry<'_>, way: Way, start: u32) -> Option<Found>
     requires start { start < seconds_in_range }
     requires days_room { inquiry.old.days < 2 ^ 60 }
@@ -180,7 +187,8 @@ fn search_days_either_way(inquiry: &mut Inquiry<'_>, way: Way, start: u32) -> Op
     }
 }
 
-/// The civil second of the range that a search from a number starts at.
+/// The civil second of the range where a search from the number `from` starts. `None` if the range
+/// has none that way.
 pub(crate) fn start_of(way: Way, from: i64) -> Option<u32>
     ensures { MatchOption result (LiesOutside way from) (Starts way from) }
 {
@@ -200,7 +208,7 @@ pub(crate) fn start_of(way: Way, from: i64) -> Option<u32>
     }
 }
 
-/// The nearest civil second from a number on that stands on the timeline, with its readings.
+/// The nearest civil second on the timeline from the number `from` on, with its readings.
 pub(crate) fn search_from(inquiry: &mut Inquiry<'_>, way: Way, from: i64) -> Option<Found>
     requires days_room { inquiry.old.days < 2 ^ 60 }
     requires room { inquiry.old.conversions < 2 ^ 60 }
@@ -220,8 +228,8 @@ pub(crate) fn search_from(inquiry: &mut Inquiry<'_>, way: Way, from: i64) -> Opt
     search_days_either_way(inquiry, way, start)
 }
 
-/// A search from a number in a new inquiry, with the numbers of dates and of look-ups of readings
-/// that it took.
+/// The nearest civil second on the timeline from the number `from` on, with its readings. Returns
+/// also how many dates were made and tested, and how often readings were looked up.
 pub fn search(fields: &ScheduleFields, zone: &TimeZone<'_>, way: Way, from: i64) -> Search
     ensures found { IsFound way
         fields.now

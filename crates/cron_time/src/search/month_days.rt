@@ -33,16 +33,16 @@ use cron_units::time_unit::TimeUnitSpec;
 use cron_units::time_unit::layout::{bits, bits_of_days};
 use cron_units::way::Way;
 
-/// A month, and a bit for each of its days, the first one for the first day: 1 where the date
-/// matches. If no bit is 1, nobody may have looked.
+/// A month, and a bit for each of its days, the first one for the first day. A bit is 1 if the date
+/// matches. If no bit is 1, the days may not have been looked up.
 #[derive(Clone, Copy)]
 pub struct MonthDays {
     month: KnownMonth,
     days: u64,
 }
 
-// The days of a month that lie in their set: by their numbers, and the last one where it is marked.
-// The length of the month matters for the last numbers alone.
+// The days of `month` that lie in their set: by their numbers, and the last one if the set has it.
+// The length of the month matters only for numbers above 28 and for the last day.
 #[inline(always)]
 fn days_in_set(fields: &ScheduleFields, month: u32) -> u64
     requires { month < months_end }
@@ -59,7 +59,8 @@ fn days_in_set(fields: &ScheduleFields, month: u32) -> u64
     numbered.below(length_of(month))
 }
 
-// The days of the week from that of a day on: 1 where the day of the week lies in its set.
+// The days from `day` on, a bit for each: 1 if the day of the week lies in its set. Only the first
+// 32 bits have a meaning.
 #[inline(always)]
 fn weekdays_from(fields: &ScheduleFields, day: u32) -> u64
     requires { day < days_in_range }
@@ -73,7 +74,8 @@ fn weekdays_from(fields: &ScheduleFields, day: u32) -> u64
     eight >> (weekday_of(day) - 1)
 }
 
-// The nearest month from one on that lies in the sets. It asks no zone.
+// The nearest month from `month` on whose year and month of the year lie in the sets. Months are
+// numbered from January of the year 0.
 #[inline(always)]
 fn wanted_month(fields: &ScheduleFields, way: Way, month: u32) -> Option<u32>
     requires { month < months_end }
@@ -84,7 +86,7 @@ fn wanted_month(fields: &ScheduleFields, way: Way, month: u32) -> Option<u32>
     Months::nearest(&members, way, month)
 }
 
-// The nearest bit from a place on.
+// The nearest bit that is 1, from `place` on.
 #[inline(always)]
 fn bit_from(way: Way, word: u64, place: u32) -> Option<u32>
     requires { place < 100 }
@@ -97,7 +99,7 @@ fn bit_from(way: Way, word: u64, place: u32) -> Option<u32>
     }
 }
 
-// The nearest bit past a place.
+// The nearest bit that is 1, past `place`.
 #[inline(always)]
 fn bit_past(way: Way, word: u64, place: u32) -> Option<u32>
     requires { place < 64 }
@@ -109,7 +111,7 @@ fn bit_past(way: Way, word: u64, place: u32) -> Option<u32>
     }
 }
 
-// The first bit in this direction.
+// The first bit that is 1, in the direction `way`.
 #[inline(always)]
 fn first_bit(way: Way, word: u64) -> Option<u32>
     ensures { IsNearest way (has_bit word) (pos (outermost way 100)) result }
@@ -128,8 +130,9 @@ fn months_of_year(fields: &ScheduleFields) -> u64
     bits(&fields.months).below(12)
 }
 
-// A month of the years past that of a month, past which in its own year no month has a matching day.
-// Where 29 February alone is wanted, the years between two leap years are passed. It asks no zone.
+// The next month that may have a matching day, in the years past the year of `month`. In that year
+// no month past `month` has one. If only 29 February can match, this skips the years that 4 doesn't
+// divide. `None` if no such month is left.
 #[inline(always)]
 fn month_in_year_past(fields: &ScheduleFields, way: Way, month: u32) -> Option<u32>
     requires range { (first_month ≤ month) × (month < months_end) }
@@ -144,7 +147,8 @@ fn month_in_year_past(fields: &ScheduleFields, way: Way, month: u32) -> Option<u
     month_past_year(&members, way, month / 12)
 }
 
-// A month past one that lies in the sets: the next one of its year, or one of the years past it.
+// The next month that may have a matching day, past `month`, which lies in the sets. It is the next
+// month of its year in the set, or one of the years past it. `None` if there is none.
 #[inline(always)]
 fn next_month(fields: &ScheduleFields, way: Way, month: u32) -> Option<u32>
     requires range { (first_month ≤ month) × (month < months_end) }
@@ -159,7 +163,7 @@ fn next_month(fields: &ScheduleFields, way: Way, month: u32) -> Option<u32>
 }
 
 impl MonthDays {
-    /// Nothing is known of the days of this month.
+    /// A month with none of its days known.
     #[inline(always)]
     pub fn unknown(month: KnownMonth) -> MonthDays
         ensures { (s : Sets) → KnowsDays s result }
@@ -167,7 +171,7 @@ impl MonthDays {
         MonthDays { month, days: 0 }
     }
 
-    // The days of a month whose year and month lie in their sets.
+    // The matching days of `month`, whose year and month lie in their sets.
     #[inline(always)]
     fn of(fields: &ScheduleFields, month: KnownMonth) -> MonthDays
         ensures month { result.month ≡ month }
@@ -177,8 +181,9 @@ impl MonthDays {
         MonthDays { month, days }
     }
 
-    // The days of the first month, from one on within its year, that has a matching day, and the
-    // place of the first of these.
+    // The matching days of the first month that has one, from `from` on within its year. With them
+    // is the place, from 0, of the first of these days in the direction `way`. `None` if no month
+    // has one.
     #[inline(always)]
     fn in_rest_of_year(fields: &ScheduleFields, way: Way, from: u32) -> Option<(MonthDays, u32)>
         requires range { (first_month ≤ from) × (from < months_end) }
@@ -205,7 +210,7 @@ impl MonthDays {
         None
     }
 
-    // The place of a day among the bits, if its bit is 1.
+    // The place of `day` among the bits, or `None` if its bit isn't 1.
     #[inline(always)]
     fn place_of(&self, day: u32) -> Option<u32>
         ensures set { IfSome result
@@ -219,7 +224,8 @@ impl MonthDays {
         Some(day - first)
     }
 
-    // The days of the month of a day, and the place of the day among them.
+    // Sets `self` to the matching days of the month of `day`, and returns the place of `day` in it,
+    // from 0. The date of `day` matches.
     #[inline(never)]
     fn look_up(&mut self, fields: &ScheduleFields, day: u32) -> u32
         requires in_range { day < days_in_range }
@@ -234,7 +240,8 @@ impl MonthDays {
         day_of_month - 1
     }
 
-    // The place of a day whose date matches, in its month, whose days are known from now on.
+    // The place, from 0, of `day` in its month. The date of `day` matches. The matching days of
+    // that month are known from then on.
     #[inline(always)]
     fn enter(&mut self, fields: &ScheduleFields, day: u32) -> u32
         requires in_range { day < days_in_range }
@@ -251,7 +258,8 @@ impl MonthDays {
         }
     }
 
-    // The first matching day of the months past one that lies in the sets.
+    // The first matching day of the months past `month`, which lies in the sets, or `None`. Sets
+    // `self` to the days of its month.
     #[inline(always)]
     fn months_past(&mut self, fields: &ScheduleFields, way: Way, month: u32) -> Option<Day>
         requires range { (first_month ≤ month) × (month < months_end) }
@@ -278,7 +286,8 @@ impl MonthDays {
         None
     }
 
-    // The nearest matching day past one of the month, by the ranks of the dates.
+    // The nearest matching day past the one at `place` of the month, or `None`. Sets `self` to the
+    // days of its month.
     #[inline(always)]
     fn ranked_past(&mut self, fields: &ScheduleFields, way: Way, place: u32) -> Option<Day>
         requires bound { place < 31 }
@@ -300,7 +309,7 @@ impl MonthDays {
         self.months_past(fields, way, self.month.number())
     }
 
-    // The nearest matching day from one on, by the ranks of the dates.
+    // The nearest matching day from `from` on, or `None`. Sets `self` to the days of its month.
     #[inline(always)]
     fn ranked_from(&mut self, fields: &ScheduleFields, way: Way, from: Day) -> Option<Day>
         requires in_range { IsInRange from }
@@ -321,7 +330,8 @@ impl MonthDays {
         self.months_past(fields, way, month)
     }
 
-    /// The nearest day from one on whose date matches.
+    /// The nearest day from `day` on whose date matches, or `None`. Days are counted from
+    /// 1970-01-01.
     #[inline(always)]
     pub(crate) fn day_from(&mut self, fields: &ScheduleFields, way: Way, day: u32) -> Option<u32>
         requires in_range { day < days_in_range }
@@ -337,7 +347,7 @@ impl MonthDays {
         Some(self.month.number_of(next.day))
     }
 
-    /// The nearest day past one whose date matches.
+    /// The nearest day past `day` whose date matches, or `None`. The date of `day` matches too.
     #[inline(always)]
     pub(crate) fn day_past(&mut self, fields: &ScheduleFields, way: Way, day: u32) -> Option<u32>
         requires in_range { day < days_in_range }

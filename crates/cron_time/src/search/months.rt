@@ -1,4 +1,5 @@
-//! The nearest year, and the nearest month of the range or of a year.
+//! The nearest year, and the nearest month of the range or of a year, that lie in the sets. `None`
+//! means that there is none in the direction `way`.
 ghost use Rattle.std.specs.Prelude.{◌+◌, ◌≤◌, ◌<◌, IfSome};
 ghost use Rattle.cron_units.specs.Nearest.{IsNearest};
 ghost use Rattle.cron_units.specs.Units.{contains, years};
@@ -39,7 +40,7 @@ impl Neighbours for MonthsOfYear {
     ghost filled = { months_filled };
 }
 
-/// The years.
+/// The years, 1970 to 2100.
 pub(crate) struct Years;
 
 impl Neighbours for Years {
@@ -67,7 +68,7 @@ impl Neighbours for Years {
     ghost filled = { years_filled };
 }
 
-/// The months, numbered from January of the year 0 on.
+/// The months of the range, numbered from January of the year 0 on.
 pub(crate) struct Months;
 
 impl Neighbours for Months {
@@ -94,7 +95,7 @@ impl Neighbours for Months {
     ghost filled = { all_months_filled };
 }
 
-/// The nearest month past a year.
+/// The nearest month in the sets past `year`.
 #[inline(always)]
 pub(crate) fn month_past_year(members: &Members<'_>, way: Way, year: u32) -> Option<u32>
     requires { year ≤ years.greatest }

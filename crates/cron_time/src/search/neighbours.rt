@@ -1,4 +1,7 @@
-//! The nearest number of one unit, or of some units of which each carries into the next.
+//! The nearest number of one unit, or of several units where each carries into the next. A number
+//! of several units has an outer part, its quotient by a width, and an inner part, its remainder.
+//! The numbers with the same outer part are a block. `None` means that there is none in the
+//! direction `way`.
 ghost use Rattle.std.specs.Prelude.{◌≡◌, ℕ, ◌+◌, ◌*◌, ◌/◌, ◌%◌, ◌^◌, ◌<◌, ◌≤◌, ◌&&◌, Bool, true, pos, IfSome};
 ghost use Rattle.cron_units.specs.Nearest.{IsNearest};
 ghost use Rattle.cron_units.specs.Sets.{Sets, AreSets};
@@ -11,20 +14,20 @@ use crate::search::members::{Members, Unit};
 use crate::search::ways::{entry, extreme, past};
 use cron_units::way::Way;
 
-/// Numbers of which the nearest one that lies in the sets can be asked for.
+/// Numbers with a search for the nearest one that lies in the sets.
 pub(crate) trait Neighbours {
-    /// Which numbers lie in the sets.
+    /// Whether a number lies in the sets.
     ghost passes: { Sets → ℕ → Bool };
 
-    /// How many units they are made of.
+    /// How many units the numbers are made of.
     ghost parts: { ℕ };
 
-    /// All that lie in the sets are from this one on, and below the limit.
+    /// All numbers in the sets are at least this one, and below `LIMIT`.
     ghost least: { ℕ };
 
     ghost LIMIT: { ℕ };
 
-    /// The nearest one from a number on, with a count of the questions for a member.
+    /// The nearest number in the sets from `from` on. `counter` counts the look-ups of a member.
     fn nearest_counted<C: Counter>(
         members: &Members<'_>,
         counter: &mut C,
@@ -40,7 +43,7 @@ pub(crate) trait Neighbours {
             → from ≡ outermost way LIMIT
             → C.Counts parts counter.old counter.new };
 
-    /// The nearest one from a number on.
+    /// The nearest number in the sets from `from` on.
     #[inline(always)]
     final fn nearest(members: &Members<'_>, way: Way, from: u32) -> Option<u32>
         requires { from + 1 < 2 ^ 32 }
@@ -50,11 +53,12 @@ pub(crate) trait Neighbours {
         Self::nearest_counted(members, &mut Uncounted, way, from)
     }
 
-    /// Sets that were read have such a number.
+    /// The sets of an expression hold at least one such number.
     ghost filled: { (s : Sets) → AreSets s → (n : ℕ) × (n < LIMIT) × (passes s n ≡ true) };
 }
 
-/// The nearest number past the block of an outer number, in its parts.
+/// The nearest number in the sets past the block `outer`: the nearest outer part, with the first
+/// inner part in its block. `width` is the limit of the inner parts.
 #[inline(always)]
 pub(crate) fn nearest_past_block<O: Neighbours, I: Neighbours, C: Counter>(
     members: &Members<'_>,
@@ -81,8 +85,8 @@ pub(crate) fn nearest_past_block<O: Neighbours, I: Neighbours, C: Counter>(
     Some(next * width + inner)
 }
 
-/// The nearest number whose quotient by the limit of the inner numbers, the width of a block, is
-/// one of the outer unit, and whose rest is one of the inner numbers.
+/// The nearest number from `from` on whose two parts lie in the sets: its quotient by `width` in
+/// those of `O`, and its remainder in those of `I`. `width` is the limit of `I`, as 60 for seconds.
 #[inline(always)]
 pub(crate) fn nearest_in_parts<O: Neighbours, I: Neighbours, C: Counter>(
     members: &Members<'_>,
@@ -116,7 +120,7 @@ pub(crate) fn nearest_in_parts<O: Neighbours, I: Neighbours, C: Counter>(
     nearest_past_block::<O, I, C>(members, counter, way, width, outer)
 }
 
-/// The nearest one past a number.
+/// The nearest number in the sets past `n`.
 #[inline(always)]
 pub(crate) fn nearest_past<N: Neighbours>(members: &Members<'_>, way: Way, n: u32) -> Option<u32>
     requires { n + 2 < 2 ^ 32 }
@@ -126,8 +130,8 @@ pub(crate) fn nearest_past<N: Neighbours>(members: &Members<'_>, way: Way, n: u3
     N::nearest(members, way, past(way, n)?)
 }
 
-/// The nearest number past one whose quotient is one of the outer unit: first in its own block,
-/// with the nearest inner number past its rest.
+/// The nearest number past `from` whose two parts lie in the sets. The outer part of `from` lies in
+/// them. `inner` is the nearest inner part past that of `from`: with it no outer part is looked up.
 #[inline(always)]
 pub(crate) fn past_in_parts<O: Neighbours, I: Neighbours>(
     members: &Members<'_>,
@@ -295,7 +299,7 @@ impl Neighbours for TimesOfDay {
     ghost filled = { times_filled };
 }
 
-// The nearest second of the hour past one whose minute lies in its set.
+// The nearest second of the hour in the sets past `rest`, which lies in the sets.
 #[inline(always)]
 fn rest_past(members: &Members<'_>, way: Way, rest: u32) -> Option<u32>
     requires fits { rest < 3600 }
@@ -307,8 +311,8 @@ fn rest_past(members: &Members<'_>, way: Way, rest: u32) -> Option<u32>
     past_in_parts::<Minutes, Seconds>(members, way, 60, rest, second)
 }
 
-/// The nearest time of day past one that lies in the sets: its hour and minute aren't asked for
-/// again.
+/// The nearest time of day in the sets past `time`, which lies in the sets: its hour and minute
+/// aren't looked up again.
 #[inline(always)]
 pub(crate) fn time_past(members: &Members<'_>, way: Way, time: u32) -> Option<u32>
     requires fits { time < 86_400 }

@@ -1,5 +1,6 @@
 //! The nearest civil second on the timeline, past a matching one or from a number on, without
-//! counts.
+//! counts. It matches and has a reading, an offset at which the zone's clock shows it. A stretch is
+//! civil seconds that the zone reads at the same offsets. `None` means that there is none.
 ghost use Rattle.std.specs.Prelude.{◌≡◌, ◌+◌, ◌/◌, ◌%◌, ◌^◌, ◌<◌, ◌≤◌, pos, true, IfSome, MatchOption, option_map};
 ghost use Rattle.jiff.specs.Words.{plain_zone};
 ghost use Rattle.cron_moments.specs.Civil.{days_in_range, seconds_in_range};
@@ -29,7 +30,8 @@ use cron_units::fields::ScheduleFields;
 use cron_units::way::Way;
 use jiff::tz::TimeZone;
 
-// The times of the day past one of them, if there are any.
+// The readings of the first time of `day` past `time` that is on the timeline, or `None`. Sets
+// `minute` to the minute of the first time past `time` in the sets, if there is one.
 fn search_times_past(
     fields: &ScheduleFields,
     zone: &TimeZone<'_>,
@@ -58,7 +60,8 @@ fn search_times_past(
     search_readable(fields, zone, way, day, from, first, stretch)
 }
 
-// The times of a day whose date matches from one on.
+// The readings of the first time of `day`, from `from` on, that is on the timeline. The date of
+// `day` matches.
 #[inline(always)]
 fn search_day_times(
     fields: &ScheduleFields,
@@ -84,8 +87,8 @@ fn search_day_times(
     search_readable(fields, zone, way, day, from, first, stretch)
 }
 
-// A stretch in which nothing has been looked for yet becomes that of a civil second. Only a walk
-// that goes on asks for it: a fresh call is done before it would pay.
+// Sets `stretch` to the stretch around `second`, if nothing has been looked up yet. Only a walk
+// that goes on calls this: a single search ends before it would pay.
 #[inline(never)]
 fn learn(zone: &TimeZone<'_>, second: u32, stretch: &mut Stretch)
     requires in_range { second < seconds_in_range }
@@ -97,10 +100,10 @@ fn learn(zone: &TimeZone<'_>, second: u32, stretch: &mut Stretch)
     }
 }
 
-// The days past one whose date matches, out of the way of the items of the own day. It begins with
-// the days and the stretch that the search before knew, and leaves those that it knows, and the
-// minute of the first time of the day that it comes to. `BACK` says the way once more, so that each
-// has code of its own.
+// The readings of the nearest civil second on the timeline in the days past `own`, whose date
+// matches. The search starts with the days and the stretch that an earlier search left, and leaves
+// its own there. `minute` becomes the minute of the first time in the sets of the day that it comes
+// to. `BACK` repeats `way` as a constant, so that each direction has code of its own.
 #[inline(always)]
 pub(crate) fn days_past<const BACK: bool>(
     fields: &ScheduleFields,
@@ -133,7 +136,7 @@ pub(crate) fn days_past<const BACK: bool>(
     None
 }
 
-// Each direction has code of its own.
+// The same as `days_past`. Each direction has code of its own.
 #[inline(always)]
 fn days_past_either_way(
     fields: &ScheduleFields,
@@ -158,7 +161,7 @@ fn days_past_either_way(
     }
 }
 
-/// The readings of a civil second, if it lies in the stretch and has some.
+/// The readings of `second`, or `None` if it isn't in the stretch or has none.
 #[inline(always)]
 pub(crate) fn readings_in(_zone: &TimeZone<'_>, second: u32, stretch: &Stretch) -> Option<Found>
     requires known { IsKnown (plain_zone _zone.now) stretch.now }
@@ -170,10 +173,10 @@ pub(crate) fn readings_in(_zone: &TimeZone<'_>, second: u32, stretch: &Stretch) 
     stretch.readings(second)
 }
 
-/// The nearest civil second on the timeline past one that matches: first in its own day, whose date
-/// needn't be made, and then in the days past it. It begins with the days of a month and the
-/// stretch that an earlier search knew, and leaves those that it knows. The minute may be any,
-/// before and after.
+/// The nearest civil second on the timeline past `second`, which matches. It is first looked for in
+/// its own day, whose date needn't be made, and then in the days past it. The search starts with
+/// the days of a month and the stretch that an earlier search left, and leaves its own there.
+/// `minute` may be any minute, before and after.
 #[inline(always)]
 pub fn search_past(
     fields: &ScheduleFields,
@@ -207,8 +210,8 @@ pub fn search_past(
     days_past_either_way(fields, zone, way, day, minute, days, stretch)
 }
 
-// The days from that of a civil second on: in the first one whose date matches the times from a
-// start on, and then the days past it.
+// The nearest civil second on the timeline from `start` on. Searches the first day whose date
+// matches, the day of `start` only from that time on, and then the days past it.
 fn days_from<const BACK: bool>(
     fields: &ScheduleFields,
     zone: &TimeZone<'_>,
@@ -239,9 +242,9 @@ fn days_from<const BACK: bool>(
     days_past::<BACK>(fields, zone, way, day, minute, days, stretch)
 }
 
-/// The nearest civil second on the timeline from a number on. It begins with the days of a month
-/// and the stretch that an earlier search knew, and leaves those that it knows. The minute may be
-/// any, before and after.
+/// The nearest civil second on the timeline from the number `from` on. The search starts with the
+/// days of a month and the stretch that an earlier search left, and leaves its own there. `minute`
+/// may be any minute, before and after.
 pub fn search_onward(
     fields: &ScheduleFields,
     zone: &TimeZone<'_>,

@@ -1,5 +1,6 @@
-//! The times of a day that have a reading, without counts: a stretch of civil seconds that is known
-//! to have none is passed in one step.
+//! The first time of a day that lies in the sets and has a reading, an offset at which the zone's
+//! clock shows it. This search keeps no counts, so it passes a gap in one step. A stretch is civil
+//! seconds that the zone reads at the same offsets.
 ghost use Rattle.std.specs.Prelude.{◌≡◌, ℕ, ◌+◌, ◌*◌, ◌<◌, [], true, pos, IfSome, MatchOption, option_map};
 ghost use Rattle.jiff.specs.Words.{plain_zone};
 ghost use Rattle.cron_units.specs.Nearest.{IsNearest, LiesFrom, Precedes};
@@ -24,7 +25,8 @@ use cron_units::fields::ScheduleFields;
 use cron_units::way::Way;
 use jiff::tz::TimeZone;
 
-// The first time of the day past one that doesn't lie in a stretch together with it.
+// The first time of `day` past `time` and, if `time` lies in `stretch`, past the stretch. Times are
+// in seconds since midnight. `None` if the day has no such time.
 fn past_stretch(stretch: &Stretch, way: Way, day: u32, time: u32) -> Option<u32>
     requires in_range { day < days_in_range }
     requires time { time < 86_400 }
@@ -55,8 +57,8 @@ fn past_stretch(stretch: &Stretch, way: Way, day: u32, time: u32) -> Option<u32>
     }
 }
 
-// Past a time of the day that has no reading, the next one that lies in the sets and may have a
-// reading. It is asked for in a gap alone.
+// The next time of `day`, past `time`, that lies in the sets and may have a reading. `None` if
+// there is none. `time` has no reading: this is called only in a gap.
 #[inline(never)]
 fn past_gap(
     fields: &ScheduleFields,
@@ -78,8 +80,9 @@ fn past_gap(
     TimesOfDay::nearest(&members, way, from)
 }
 
-/// A day whose date matches: its times of day are gone through from the first one on, until one has
-/// a reading. The first one is the nearest from `from` on.
+/// The readings of the first time of `day`, from `first` on, that lies in the sets and has a
+/// reading; `None` if there is none. The date of `day` matches, and `first` is the nearest time in
+/// the sets from `from` on.
 #[inline(always)]
 pub(crate) fn search_readable(
     fields: &ScheduleFields,

@@ -1,4 +1,5 @@
-//! The readings of a civil second, looked up in a stretch that is known.
+//! The readings of a civil second, looked up in a known stretch: civil seconds that the zone reads
+//! at the same offsets.
 ghost use Rattle.std.specs.Prelude.{◌≡◌, ◌<◌};
 ghost use Rattle.jiff.specs.Words.{plain_zone};
 ghost use Rattle.cron_moments.specs.Civil.{seconds_in_range};
@@ -10,8 +11,8 @@ use cron_clocks::stretch::Stretch;
 use cron_moments::readings::{Found, readings_of};
 use jiff::tz::TimeZone;
 
-/// The readings of a civil second, in the stretch that is known or by the zone. Where a zone has
-/// more than one offset, the stretch of civil seconds around this one is known from now on.
+/// The readings of `second`, from `stretch` if it lies there, or by the zone; `None` in a gap. In a
+/// zone with a rule or a table a look-up by the zone sets `stretch` to the stretch around `second`.
 #[inline(always)]
 pub(crate) fn readings_within(
     zone: &TimeZone<'_>,

@@ -1,4 +1,4 @@
-//! Searches ahead one after the other, and what they cost together.
+//! Surveys: searches ahead, one after the other, with their counts added up.
 ghost use Rattle.std.specs.Prelude.{◌≡◌, ◌+◌, length, take};
 ghost use Rattle.jiff.specs.Words.{plain_zone};
 ghost use Rattle.cron_time.specs.Search.Counts.{candidates, gap_matches};
@@ -13,7 +13,7 @@ use cron_units::fields::ScheduleFields;
 use cron_units::way::Way;
 use jiff::tz::TimeZone;
 
-// So many were found, at the cost of the inquiry.
+// The survey that found `seconds` civil seconds, with the counts of the inquiry.
 fn survey_of(inquiry: &Inquiry<'_>, seconds: u32) -> Survey
     ensures { result ≡ record {
       seconds = seconds;
@@ -28,9 +28,9 @@ fn survey_of(inquiry: &Inquiry<'_>, seconds: u32) -> Survey
     }
 }
 
-/// Searches ahead from a number, then from the second after each answer, until so many are found or
-/// a search finds none. Where an answer isn't at 23:59:59 the search past it looks at its day
-/// again.
+/// Searches ahead from the number `from`, then from the second after each answer, until `count` are
+/// found or a search finds none. Returns how many it found, and the counts. If an answer isn't at
+/// 23:59:59 the next search looks at its day again.
 pub fn survey(fields: &ScheduleFields, zone: &TimeZone<'_>, from: i64, count: u32) -> Survey
     ensures seconds { result.seconds
         ≡ length (take count (standing_from fields.now (plain_zone zone.now) from)) }

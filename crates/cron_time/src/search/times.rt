@@ -1,5 +1,5 @@
-//! The nearest time of day, by hour, then by minute and second: so at most 7 members are asked for.
-//! By hour and minute, then second, it would be up to 8.
+//! The nearest time of day, searched by hour, then by minute and second, with at most 7 look-ups of
+//! a member. By hour and minute, then second, it would be up to 8.
 
 ghost use Rattle.std.specs.Prelude.{◌<◌, ◌≤◌, pos, IfSome, MatchOption, option_map};
 ghost use Rattle.cron_units.specs.Nearest.{IsNearest};
@@ -17,7 +17,7 @@ use cron_moments::civil::SECONDS_PER_DAY;
 use cron_units::fields::ScheduleFields;
 use cron_units::way::Way;
 
-/// The time of day nearest to a given one, whose hour, minute and second lie in their sets.
+/// The nearest time of day, from the given one on, whose hour, minute and second lie in their sets.
 pub fn nearest_time(
     fields: &ScheduleFields,
     way: Way,
@@ -54,7 +54,9 @@ pub fn nearest_time(
     }
 }
 
-/// The nearest time of day from one on. From the outermost one of all on no part is compared.
+/// The nearest time of day in the sets, from `from` on, in seconds since midnight. If `from` is the
+/// outermost time, 00:00:00 ahead or 23:59:59 back, no part is compared. `None` if no time is
+/// there.
 #[inline(always)]
 pub(crate) fn time_from(fields: &ScheduleFields, way: Way, from: u32) -> Option<u32>
     requires { from < 86_400 }

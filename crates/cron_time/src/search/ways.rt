@@ -1,4 +1,5 @@
-//! Numbers in a direction.
+//! The next number in a direction, and where a search enters a block of numbers. Block `n` of a
+//! width has the numbers from `n * width` on, as an hour has its 60 minutes.
 ghost use Rattle.std.specs.Prelude.{◌≡◌, ℕ, ◌+◌, ◌*◌, ◌^◌, ◌<◌, ◌≤◌, ◌⊎◌, pos, MatchOption};
 ghost use Rattle.cron_units.specs.Nearest.{LiesFrom};
 ghost use Rattle.cron_time.specs.Search.Inner.Blocks.{Enters, IsExtreme};
@@ -7,7 +8,7 @@ ghost use Rattle.cron_time.specs.Search.Inner.Numbers.{beyond};
 
 use cron_units::way::Way;
 
-/// The number after this one, or the one before it.
+/// The number after `n`, or the one before it if `way` is back. `None` before 0.
 #[inline(always)]
 pub(crate) fn past(way: Way, n: u32) -> Option<u32>
     requires { n + 1 < 2 ^ 32 }
@@ -21,7 +22,8 @@ pub(crate) fn past(way: Way, n: u32) -> Option<u32>
     }
 }
 
-/// The number after this one or the one before it, if it is below an end.
+/// The number after `n`, or the one before it if `way` is back. `None` if that is `end`, or before
+/// 0.
 #[inline(always)]
 pub(crate) fn past_below(way: Way, n: u32, end: u32) -> Option<u32>
     requires { n < end }
@@ -40,8 +42,7 @@ pub(crate) fn past_below(way: Way, n: u32, end: u32) -> Option<u32>
     }
 }
 
-/// Where a block of `width` numbers is entered from outside: at the least of them, or at the
-/// greatest.
+/// Where a search enters a block of `width` numbers from outside: at 0 ahead, at the last one back.
 #[inline(always)]
 pub(crate) fn extreme(way: Way, width: u32) -> u32
     requires { 0 < width }
@@ -55,7 +56,8 @@ pub(crate) fn extreme(way: Way, width: u32) -> u32
     }
 }
 
-/// Where a search from the number `rest` of the block `first` enters another block.
+/// The number within `block` where a search enters it that starts in the block `first`, at the
+/// number `rest`. This is `rest` in that block, and the outermost number in others.
 #[inline(always)]
 pub(crate) fn entry(way: Way, width: u32, first: u32, rest: u32, block: u32) -> u32
     requires rest_in { rest < width }
@@ -71,7 +73,7 @@ pub(crate) fn entry(way: Way, width: u32, first: u32, rest: u32, block: u32) -> 
     }
 }
 
-/// The signed number past a civil second.
+/// The number after `second`, or the one before it if `way` is back, which may be -1.
 pub(crate) fn beyond(way: Way, second: u32) -> i64
     ensures { result ≡ beyond way second }
 {

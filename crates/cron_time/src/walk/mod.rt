@@ -1,4 +1,5 @@
-//! Walks over the items of a timeline: where one stands, and what a call does.
+//! Walks over the items of a timeline, which are the readings of the civil seconds that match: the
+//! state of a walk, and what a call does.
 
 mod bounds;
 pub mod resume;

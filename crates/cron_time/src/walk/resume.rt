@@ -1,4 +1,5 @@
-//! Where a walk goes on that has answered an item.
+//! The state of a walk that has returned a given item. The items of a timeline are the readings of
+//! the civil seconds that match.
 ghost use Rattle.std.specs.Prelude.{◌≡◌, ◌<◌, ℕ, Some, MatchOption, slice_get};
 ghost use Rattle.jiff.specs.Words.{plain_zone};
 ghost use Rattle.cron_moments.specs.Civil.{seconds_in_range};
@@ -17,7 +18,7 @@ use cron_moments::readings::Found;
 use cron_units::fields::ScheduleFields;
 use jiff::tz::TimeZone;
 
-// The items of a civil second, if it stands on the timeline.
+// The items of a civil second, which are its readings. `None` if it doesn't match or lies in a gap.
 fn items_at(fields: &ScheduleFields, zone: &TimeZone<'_>, second: u32) -> Option<Found>
     requires { second < seconds_in_range }
     ensures { items_if_any result ≡ items_of fields.now (plain_zone zone.now) second }
@@ -28,7 +29,8 @@ fn items_at(fields: &ScheduleFields, zone: &TimeZone<'_>, second: u32) -> Option
     readings_within(zone, second, &mut Stretch::empty())
 }
 
-// Which of the items a moment is: the later one, or the first.
+// Returns false if `moment` is the first of the items, true if it is the later one, and `None` if
+// it is neither.
 fn is_later(found: &Found, moment: Moment) -> Option<bool>
     ensures { MatchOption result
         ((j : ℕ) → slice_get (found_items found.now) j ≡ Some moment → ⊥)
@@ -44,7 +46,7 @@ fn is_later(found: &Found, moment: Moment) -> Option<bool>
     None
 }
 
-/// Where a walk stands that has answered a moment; `None` where the moment is no item of the
+/// The state of a walk that has just returned `moment`. `None` if `moment` is no item of the
 /// timeline.
 pub fn resume(fields: &ScheduleFields, zone: &TimeZone<'_>, moment: &Moment) -> Option<State>
     ensures { MatchOption result

@@ -1,4 +1,5 @@
-//! Where a walk stands.
+//! The state of a walk. A walk goes, in a zone, over the readings of the civil seconds that match.
+//! A reading is a civil second with an offset at which the zone's clock shows it.
 ghost use Rattle.std.specs.Prelude.{◌≡◌, Some};
 ghost use Rattle.cron_units.specs.Sets.{Sets};
 ghost use Rattle.cron_time.specs.Walk.Inner.Placed.{Knows, answer_of, reading_of, stand_of, stop_of};
@@ -27,11 +28,11 @@ pub(crate) enum Stage {
     Ended,
 }
 
-/// The stage of a walk, the readings of its civil second, and the instant that it started from.
-/// What the stage doesn't speak of means nothing. The minute may be any: mostly it is that of the
-/// civil second, and a search from there is then short. The days are those of the month that was
-/// looked up last, as far as they are known, and the stretch, perhaps an empty one, is the one in
-/// which a reading was last looked for.
+/// The stage of a walk, the readings of its civil second, and the instant that it started from. A
+/// field that the stage doesn't need has no meaning. `minute` may be any minute: usually it is the
+/// minute of the civil second, and a search from there is short. `days` are the matching days of
+/// the month that was looked up last, as far as they are known. `stretch` holds civil seconds that
+/// have the same offsets as the one that was looked up last. It may be empty.
 #[derive(Clone, Copy)]
 pub struct State {
     pub(crate) stage: Stage,
@@ -61,8 +62,8 @@ impl State {
         }
     }
 
-    /// Goes where a search led: to the first of the readings found, in this direction, or to the
-    /// end.
+    /// Goes to the first of the `found` readings in the direction `way`, or to the end if `found`
+    /// is `None`.
     #[inline(always)]
     pub(crate) fn arrive(&mut self, way: Way, found: Option<Found>)
         ensures stand { stand_of self.new ≡ stop_of way found }
@@ -91,7 +92,8 @@ impl State {
         };
     }
 
-    /// The state at the later or at the earlier of the readings found.
+    /// The state at one of the `found` readings: at the later one if `later` is true, else at the
+    /// earlier or only one.
     pub(crate) fn stand_at(self, found: Found, later: bool) -> State
         requires { (r : Reading) × (reading_of found later ≡ Some r) }
         ensures stand { stand_of result ≡ kept.At found later }
@@ -118,7 +120,8 @@ impl State {
         }
     }
 
-    /// The reading at which the walk stands, which is what the call that led there answers.
+    /// The reading that the walk has come to, which its last call returned. `None` at the start and
+    /// at the end.
     #[inline(always)]
     pub fn answer(&self) -> Option<Moment>
         ensures { result ≡ answer_of (stand_of self.now) }

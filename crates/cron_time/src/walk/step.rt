@@ -1,4 +1,5 @@
-//! One call of a walk in either direction.
+//! One call of a walk in either direction. The items of a walk are the readings of the civil
+//! seconds that match. A stretch is civil seconds that the zone reads at the same offsets.
 ghost use Rattle.std.specs.Prelude.{◌≡◌, ◌/◌, ◌%◌, ◌<◌, true, if◌then◌else◌};
 ghost use Rattle.jiff.specs.Words.{plain_zone};
 ghost use Rattle.cron_moments.specs.Civil.{seconds_in_range};
@@ -22,7 +23,8 @@ use cron_units::way::Way;
 use jiff::Timestamp;
 use jiff::tz::TimeZone;
 
-// The walk goes to the first item from its bound on.
+// Takes the walk to the first item from its bound on, in the direction `way`. The bound is the
+// civil second where a walk from its start begins to search.
 fn from_bound(fields: &ScheduleFields, zone: &TimeZone<'_>, way: Way, state: &mut State)
     requires known { Knows fields.now (plain_zone zone.now) state.old }
     ensures leads { LeadsTo way fields.now
@@ -53,8 +55,8 @@ fn from_bound(fields: &ScheduleFields, zone: &TimeZone<'_>, way: Way, state: &mu
     }
 }
 
-// The walk goes to the first item from its start, whose bound isn't made where no month has a day
-// of the set.
+// Takes the walk from its start to its first item. If no month has a day of the set, the walk ends
+// at once, and its bound isn't computed.
 #[inline(never)]
 fn from_start(fields: &ScheduleFields, zone: &TimeZone<'_>, way: Way, state: &mut State)
     requires known { Knows fields.now (plain_zone zone.now) state.old }
@@ -72,7 +74,7 @@ fn from_start(fields: &ScheduleFields, zone: &TimeZone<'_>, way: Way, state: &mu
     from_bound(fields, zone, way, state)
 }
 
-// The walk goes to the first item past its civil second, wherever that lies.
+// Takes the walk to the first item past its civil second, which may lie in another day or stretch.
 #[inline(never)]
 fn past_item_elsewhere(fields: &ScheduleFields, zone: &TimeZone<'_>, way: Way, state: &mut State)
     requires in_range { state.old.earlier.second < seconds_in_range }
@@ -101,8 +103,8 @@ fn past_item_elsewhere(fields: &ScheduleFields, zone: &TimeZone<'_>, way: Way, s
     state.arrive(way, found)
 }
 
-// The walk goes to the first item of the days past that of its minute, whose own has no more. `BACK`
-// says the way once more, so that each has code of its own.
+// Takes the walk to the first item of the days past its own day, which has no more times that
+// match. `BACK` repeats `way` as a constant, so that each direction has code of its own.
 #[inline(never)]
 fn past_own_day<const BACK: bool>(
     fields: &ScheduleFields,
@@ -139,8 +141,8 @@ fn past_own_day<const BACK: bool>(
     state.arrive(way, found)
 }
 
-// The walk goes to the first item past its civil second. That mostly lies in the same day and
-// stretch, so a search there stands here, and what else there is has code elsewhere.
+// Takes the walk to the first item past its civil second. That is usually in the same day and
+// stretch, so the code for this case is here, and the other cases have functions of their own.
 #[inline(always)]
 fn past_item<const BACK: bool>(
     fields: &ScheduleFields,
@@ -177,7 +179,8 @@ fn past_item<const BACK: bool>(
     state.arrive(way, found)
 }
 
-// From one of two readings: to the other one if that lies in this direction, and else past both.
+// Takes the walk from one of two readings, the later one if `later` is true, to the other one if
+// that lies in the direction `way`. Else takes it past both.
 #[inline(never)]
 fn from_reading(
     fields: &ScheduleFields,
@@ -202,8 +205,8 @@ fn from_reading(
     }
 }
 
-// Takes a walk from where it stands to where a call in this direction leads. `BACK` says the way
-// once more, so that each has code of its own.
+// Takes a walk one call on in the direction `way`: to the next item, or to the end if there is
+// none. `BACK` repeats `way` as a constant, so that each direction has code of its own.
 fn step_one_way<const BACK: bool>(
     fields: &ScheduleFields,
     zone: &TimeZone<'_>,
@@ -228,7 +231,8 @@ fn step_one_way<const BACK: bool>(
     }
 }
 
-/// Takes a walk from where it stands to where a call in this direction leads.
+/// Takes a walk one call on in the direction `way`: to the next item, or to the end if there is
+/// none. A walk at its end stays there.
 #[inline(always)]
 pub fn step(fields: &ScheduleFields, zone: &TimeZone<'_>, way: Way, state: &mut State)
     requires placed { IsPlaced fields.now (plain_zone zone.now) (stand_of state.old) }

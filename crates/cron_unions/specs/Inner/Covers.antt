@@ -3,7 +3,7 @@ use Rattle.std.specs.Prelude.{◌≡◌, ℕ, true, List}
 use Rattle.cron_units.specs.Sets.{Sets}
 use Rattle.cron_units.specs.Units.{contains}
 
--- each member of a set is one of another
+-- each member of the second set is one of the first
 abbrev pub HasAll : List ℕ → List ℕ → Type 0
 HasAll ys xs = (x : ℕ) → contains xs x ≡ true → contains ys x ≡ true
 

@@ -11,7 +11,7 @@ pub data Denoted : Type 0 where
   by_steps : Progression → Denoted
   the_last_day : Denoted
 
--- the ordinal of a name
+-- the ordinal of a name, or the refusal of an unknown name
 abbrev pub found_name : List ℕ → Option ℕ → Result ℕ Refusal
 found_name word None = Err (unknown_name word)
 found_name word (Some n) = Ok n
@@ -25,7 +25,7 @@ name_ends v w (Err r) _ = Err r
 name_ends v w (Ok a) (Err r) = Err r
 name_ends v w (Ok a) (Ok b) = if nat_lt b a then Err (bad_name_range v w) else Ok (a, b)
 
--- the first and the last ordinal of a base
+-- the first and the last ordinal of a base, or why the base is refused
 abbrev pub ends : TimeUnit → Base → Result (ℕ × ℕ) Refusal
 ends u every = Ok (u.least, u.greatest)
 ends u question_mark = Ok (u.least, u.greatest)
@@ -68,11 +68,11 @@ abbrev pub of_steps : Result Progression Refusal → Result Denoted Refusal
 of_steps (Err r) = Err r
 of_steps (Ok s) = Ok (by_steps s)
 
--- what an item denotes
+-- what an item denotes, or why it is refused
 abbrev pub denoted_by : TimeUnit → Item → Result Denoted Refusal
 denoted_by u item = if names_last_day u item then Ok the_last_day else of_steps (steps_of u item)
 
--- the numbered x is denoted
+-- x is one of the ordinals that are denoted
 abbrev pub in_denoted : Denoted → ℕ → Bool
 in_denoted (by_steps s) x = in_steps s x
 in_denoted the_last_day x = false
@@ -82,17 +82,17 @@ abbrev pub is_last_day : Denoted → Bool
 is_last_day (by_steps s) = false
 is_last_day the_last_day = true
 
--- an item's set has x
+-- x is one of the ordinals that an item denotes; a refused item denotes none
 abbrev pub denoted_has : ℕ → Result Denoted Refusal → Bool
 denoted_has x (Ok d) = in_denoted d x
 denoted_has x (Err r) = false
 
--- an item's set has the mark
+-- an item denotes the last day of the month
 abbrev pub denoted_marks : Result Denoted Refusal → Bool
 denoted_marks (Ok d) = is_last_day d
 denoted_marks (Err r) = false
 
--- the first refusal among items
+-- the first refusal: of this item, or else `more`, the first one of the items after it
 abbrev pub first_refusal : Result Denoted Refusal → Option Refusal → Option Refusal
 first_refusal (Err r) more = Some r
 first_refusal (Ok d) more = more
@@ -101,16 +101,16 @@ abbrev pub refusal_of : TimeUnit → List Item → Option Refusal
 refusal_of u [] = None
 refusal_of u (i ∷ is) = first_refusal (denoted_by u i) (refusal_of u is)
 
--- the union of the items' sets has x
+-- x is one of the ordinals that the items denote
 abbrev pub in_items : TimeUnit → List Item → ℕ → Bool
 in_items u [] x = false
 in_items u (i ∷ is) x = denoted_has x (denoted_by u i) || in_items u is x
 
--- and it has the mark where one of them has it
+-- one of the items denotes the last day of the month
 abbrev pub items_mark : TimeUnit → List Item → Bool
 items_mark u [] = false
 items_mark u (i ∷ is) = denoted_marks (denoted_by u i) || items_mark u is
 
--- the union of the items' sets
+-- the set that the items denote together
 abbrev pub union_of : TimeUnit → List Item → FieldSet
 union_of u items = record { ordinals = set_of u (in_items u items); last_day = items_mark u items }

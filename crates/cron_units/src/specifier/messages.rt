@@ -1,4 +1,4 @@
-//! The messages of refusals.
+//! The messages about refused items.
 
 ghost use Rattle.std.specs.Prelude.{◌≡◌, Some};
 ghost use Rattle.std.specs.Fmt.{DisplaysOnOk};
@@ -13,14 +13,14 @@ use crate::time_unit::{Definition, Names};
 use std::alloc::Global;
 use std::fmt;
 
-/// A refusal, with the unit whose item is refused. It prints the message.
+/// A refusal, with the unit whose item is refused. Its `Display` is the message.
 #[derive(Clone, Copy)]
 pub struct RefusedItem<'a> {
     pub definition: Definition,
     pub refusal: Refusal<'a>,
 }
 
-// Writes that a name is none of the unit's, or that the unit has none.
+// Writes that `name` is no name of the unit, or that the unit has no names.
 fn write_unknown<W: fmt::Write>(
     f: &mut fmt::Formatter<W>,
     unit: Definition,
@@ -84,7 +84,8 @@ impl<'a> fmt::Display for RefusedItem<'a> {
     }
 }
 
-/// Makes the error that tells a refusal.
+/// Makes the error whose text is the message of the refusal. If memory runs out it is
+/// `OutOfMemory`.
 pub fn item_error(alloc: Global, item: RefusedItem<'_>) -> Error
     ensures { Tells
         (λ text. text
@@ -97,7 +98,7 @@ pub fn item_error(alloc: Global, item: RefusedItem<'_>) -> Error
     }
 }
 
-/// Makes the error that tells a text.
+/// Makes the error whose text is `text`. If memory runs out it is `OutOfMemory`.
 pub fn text_error(alloc: Global, text: &str) -> Error
     ensures { Tells (λ shown. shown ≡ text.now) result }
 {

@@ -8,8 +8,8 @@ use super::{
 use crate::way::Way;
 use std::marker::Model;
 
-/// The days of a month: the numbered ones, and whether the last day of the month is one more. What
-/// `TimeUnitSpec` tells is of the numbered days alone.
+/// The days of a month: the numbered ones, and whether the last day of the month is one more. The
+/// methods of `TimeUnitSpec` describe only the numbered days.
 #[derive(Debug, Clone, Copy, PartialEq, Eq)]
 pub struct DaysOfMonth {
     pub(super) numbered: NumberedDays,
@@ -27,7 +27,7 @@ impl Model for DaysOfMonth {
 }
 
 impl DaysOfMonth {
-    /// Tells whether the last day of the month, whatever its number, is a member.
+    /// Returns true if the last day of the month, whatever its number, is a member.
     pub fn last_day(&self) -> bool
         ensures { result ≡ self.now.last_day }
     {

@@ -1,8 +1,8 @@
-//! What tells one unit from another.
+//! The table of a unit.
 
 use super::{Names, Ordinal};
 
-/// All that tells one unit from another.
+/// The table of a unit: its title, range and names, and which words it takes.
 #[derive(Clone, Copy)]
 pub struct Definition {
     /// What messages call the unit.
@@ -10,7 +10,7 @@ pub struct Definition {
     pub least: Ordinal,
     pub greatest: Ordinal,
     pub names: Option<Names>,
-    /// Whether `?` stands for the whole range.
+    /// Whether `?` may stand for the whole range.
     pub question_mark: bool,
     /// The name that means the last day of the month, if the unit has one.
     pub last_day: Option<&'static str>,

@@ -1,4 +1,4 @@
-//! What every unit has, written once for all of them.
+//! The trait of the sets of a unit, with the methods that are the same for every unit.
 
 ghost use Rattle.std.specs.Prelude.{◌≡◌, ◌≤◌, ◌<◌, ◌&&◌, ◌||◌, [], List, ℕ, Bool, true, false, pos, length, nat_eq, nat_le, IfSome, is_some};
 ghost use Rattle.std.specs.List.{list_all};
@@ -12,7 +12,9 @@ use super::names::{Key, ordinal_keyed, ordinal_named};
 use super::{Definition, Ordinal, OrdinalIter};
 use crate::way::Way;
 
-/// A unit with its sets. A value is the set of one field, which holds ordinals of its unit alone.
+/// A unit with its sets. A value is the set of one field, which holds only ordinals of the unit.
+/// The set of days of the month may have the last day, whatever its number, as a mark beside its
+/// ordinals.
 pub trait TimeUnitField: Copy {
     /// The unit, as contracts see it.
     ghost unit: { TimeUnit };
@@ -23,13 +25,13 @@ pub trait TimeUnitField: Copy {
     /// Whether a value has the mark of the last day of the month.
     ghost marked: { Self → Bool };
 
-    /// The table of the unit.
+    /// Returns the table of the unit.
     fn definition() -> Definition
         ensures unit { definition_view result ≡ unit }
         ensures keys { AreKeyed result.names };
 
-    /// Does nothing when it runs. A proof learns from it that the set has ordinals of the unit
-    /// alone, in ascending order.
+    /// Does nothing when it runs. A proof learns from it that the set has only ordinals of the
+    /// unit, in ascending order.
     fn state_facts(&self)
         ensures { IsSet unit (members self.now) };
 
@@ -46,7 +48,7 @@ pub trait TimeUnitField: Copy {
             ≡ set_of unit (λ x. contains (members self.old) x || nat_eq x ordinal) }
         ensures mark { marked self.new ≡ marked self.old };
 
-    /// Adds the ordinals from the first to the last.
+    /// Adds the ordinals from `first` to `last`. None is added if `first` is greater.
     fn insert_range(&mut self, first: Ordinal, last: Ordinal)
         requires low { unit.least ≤ first }
         requires high { last ≤ unit.greatest }
@@ -54,12 +56,12 @@ pub trait TimeUnitField: Copy {
             ≡ set_of unit (λ x. contains (members self.old) x || nat_le first x && nat_le x last) }
         ensures mark { marked self.new ≡ marked self.old };
 
-    /// Adds the last day of the month, if the unit has a name for it.
+    /// Adds the last day of the month, if the unit has a word for it. Otherwise it does nothing.
     fn mark(&mut self)
         ensures members { members self.new ≡ members self.old }
         ensures mark { marked self.new ≡ is_some unit.last_day };
 
-    /// Adds every so many-th ordinal, from the first to the last.
+    /// Adds each `every`-th ordinal from `first` to `last`.
     fn insert_steps(&mut self, first: Ordinal, last: Ordinal, every: u32)
         requires low { unit.least ≤ first }
         requires high { last ≤ unit.greatest }
@@ -70,7 +72,7 @@ pub trait TimeUnitField: Copy {
             || in_steps (record { first = first; last = last; every = every }) x) }
         ensures mark { marked self.new ≡ marked self.old };
 
-    /// Tells whether an ordinal is a member.
+    /// Returns true if the ordinal is a member.
     fn contains(&self, ordinal: Ordinal) -> bool
         ensures { result ≡ contains (members self.now) ordinal };
 
@@ -78,48 +80,50 @@ pub trait TimeUnitField: Copy {
     fn len(&self) -> u32
         ensures { result ≡ length (members self.now) };
 
-    /// Goes over the members, in ascending order.
+    /// Returns an iterator over the members, in ascending order.
     fn iterate(&self) -> OrdinalIter<'_>
         ensures { result ≡ members self.now };
 
-    /// Finds the member nearest to an ordinal, which may be that ordinal itself.
+    /// Returns the nearest member from `from` on in the direction `way`, `from` itself included, or
+    /// `None` if there is none.
     fn nearest(&self, way: Way, from: Ordinal) -> Option<Ordinal>
         ensures nearest { IsNearest way (contains (members self.now)) (pos from) result }
         ensures within { IfSome result (λ n. (unit.least ≤ n) × (n ≤ unit.greatest)) };
 
-    /// The bounds are in order, the names' ordinals are within them, and the ordinals can be
-    /// counted.
+    /// The unit's bounds are in order, the ordinals of its names are within them, and 32 bits count
+    /// its ordinals.
     ghost is_unit: { IsUnit unit };
 
-    /// What messages call the unit.
+    /// Returns what messages call the unit.
     final fn name() -> &'static str
         ensures { result.now ≡ unit.title }
     {
         Self::definition().title
     }
 
-    /// The least ordinal.
+    /// Returns the least ordinal.
     final fn inclusive_min() -> Ordinal
         ensures { result ≡ unit.least }
     {
         Self::definition().least
     }
 
-    /// The greatest ordinal.
+    /// Returns the greatest ordinal.
     final fn inclusive_max() -> Ordinal
         ensures { result ≡ unit.greatest }
     {
         Self::definition().greatest
     }
 
-    /// Tells whether `?` stands for the whole range.
+    /// Returns true if `?` means the whole range.
     final fn takes_question_mark() -> bool
         ensures { result ≡ unit.question_mark }
     {
         Self::definition().question_mark
     }
 
-    /// Finds the ordinal of a name, in any case of its letters.
+    /// Returns the ordinal of a name, in any case of its letters, or `None` if it is no name of the
+    /// unit.
     final fn ordinal_from_name(name: &str) -> Option<Ordinal>
         ensures value { result ≡ ordinal_of unit name.now }
         ensures within { IfSome result (λ n. (unit.least ≤ n) × (n ≤ unit.greatest)) }
@@ -128,7 +132,8 @@ pub trait TimeUnitField: Copy {
         ordinal_named(names, name)
     }
 
-    /// Finds the ordinal of a name of letters by its key.
+    /// Returns the ordinal of a name of letters by its key, or `None` if no name of the unit has
+    /// that key.
     #[inline(always)]
     final fn ordinal_from_key(key: Key) -> Option<Ordinal>
         ensures value { (name : List ℕ) → list_all is_letter name ≡ true → IsKey name key
@@ -139,7 +144,7 @@ pub trait TimeUnitField: Copy {
         ordinal_keyed(names, key)
     }
 
-    /// Tells whether a name means the last day of the month, in any case of its letters.
+    /// Returns true if the name means the last day of the month, in any case of its letters.
     final fn means_last_day(name: &str) -> bool
         ensures { result ≡ means_last_day unit name.now }
     {

@@ -1,7 +1,7 @@
 //! Iterators over the members of a set, from both ends.
 //!
-//! An iterator keeps the bits that are left as `Wide`, whatever the unit, so no unit is a parameter
-//! of it. A step from either end clears one bit.
+//! An iterator keeps the bits that are left as a row of 192 bits (`Wide`), whatever the unit, so it
+//! has no unit as a parameter. A step from either end clears one bit.
 
 ghost use Rattle.std.specs.Prelude.{◌≡◌, ◌<◌, ◌+◌, ◌^◌, ℕ, true, nat_le, nat_lt, filter};
 ghost use Rattle.std.specs.Iterator.{YieldsFirst, YieldsLast};
@@ -14,7 +14,7 @@ use cron_bits::words::Words;
 use std::marker::{Model, PhantomData};
 use std::ops::Bound;
 
-/// The members of a set, in ascending order.
+/// An iterator over the members of a set, in ascending order.
 #[derive(Drop)]
 pub struct OrdinalIter<'a> {
     remaining: Wide,
@@ -35,7 +35,7 @@ impl<'a> Model for OrdinalIter<'a> {
 }
 
 impl<'a> OrdinalIter<'a> {
-    /// Goes over the ordinals whose bits are 1, of which the first stands for the least ordinal.
+    /// Makes an iterator over the ordinals whose bits are 1. The first bit is for `least`.
     pub(super) fn new(remaining: Wide, least: Ordinal) -> OrdinalIter<'a>
         requires fit { ⟦<Wide as Words>⟧.IsFit remaining }
         requires within { (k : ℕ) → ⟦<Wide as Words>⟧.has remaining k ≡ true → least + k < 2 ^ 32 }
@@ -48,7 +48,7 @@ impl<'a> OrdinalIter<'a> {
         }
     }
 
-    /// Takes the least ordinal.
+    /// Removes the least ordinal that is left and returns it, or returns `None` if none is left.
     fn take_first(&mut self) -> Option<Ordinal>
         ensures { YieldsFirst (λ rest. rest) self.old result self.new }
     {
@@ -57,7 +57,7 @@ impl<'a> OrdinalIter<'a> {
         Some(self.least + place)
     }
 
-    /// Takes the greatest ordinal.
+    /// Removes the greatest ordinal that is left and returns it, or returns `None` if none is left.
     fn take_last(&mut self) -> Option<Ordinal>
         ensures { YieldsLast (λ rest. rest) self.old result self.new }
     {
@@ -66,7 +66,7 @@ impl<'a> OrdinalIter<'a> {
         Some(self.least + place)
     }
 
-    /// Leaves out the ordinals that aren't between two bounds.
+    /// Leaves out the ordinals that aren't between the two bounds of `range`.
     pub(super) fn between(self, range: (Bound<Ordinal>, Bound<Ordinal>)) -> OrdinalIter<'a>
         ensures { result ≡ filter (is_within range.0 range.1) self.entry }
     {
@@ -85,7 +85,7 @@ impl<'a> OrdinalIter<'a> {
     }
 }
 
-/// Finds the place where a range begins, before which there is none of its ordinals.
+/// Returns the number of the first bit whose ordinal satisfies a lower bound. Bit 0 is for `least`.
 fn place_from(first: Bound<Ordinal>, least: Ordinal) -> u32
     ensures { (k : ℕ) → k < 192 → nat_le result k ≡ is_from first (least + k) }
 {
@@ -97,7 +97,7 @@ fn place_from(first: Bound<Ordinal>, least: Ordinal) -> u32
     }
 }
 
-/// Finds the place where a range ends, from which on there is none of its ordinals.
+/// Returns the number of the first bit whose ordinal is above an upper bound. Bit 0 is for `least`.
 fn place_end(last: Bound<Ordinal>, least: Ordinal) -> u32
     ensures { (k : ℕ) → k < 192 → nat_lt k result ≡ is_up_to last (least + k) }
 {
@@ -133,7 +133,7 @@ impl<'a> DoubleEndedIterator for OrdinalIter<'a> {
     }
 }
 
-/// The members of a set between two bounds, in ascending order.
+/// An iterator over the members of a set between two bounds, in ascending order.
 #[derive(Drop)]
 pub struct OrdinalRangeIter<'a> {
     between: OrdinalIter<'a>,
@@ -148,7 +148,8 @@ impl<'a> Model for OrdinalRangeIter<'a> {
 }
 
 impl<'a> OrdinalRangeIter<'a> {
-    /// Goes over the members that an iterator has left, between two bounds.
+    /// Makes an iterator over the ordinals that `members` has left between the two bounds of
+    /// `range`.
     pub(super) fn new(
         members: OrdinalIter<'a>,
         range: (Bound<Ordinal>, Bound<Ordinal>),

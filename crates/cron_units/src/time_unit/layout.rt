@@ -1,6 +1,6 @@
-//! Sets as plain words, a bit for each ordinal: bit i stands for the least ordinal plus i. The C
-//! interface names this module, and so does `cron_time`, for the days of a month that match. `cron`
-//! passes none of it on, so its users see no layout.
+//! Sets as plain words, a bit for each ordinal: bit i is for the least ordinal plus i. The C
+//! interface uses this module, and so does `cron_time`, for the days of a month that match. `cron`
+//! doesn't export it, so its users see no layout.
 
 ghost use Rattle.std.specs.Prelude.{◌≡◌, ◌<◌, ◌+◌, ◌-◌, ◌^◌, ℕ};
 ghost use Rattle.cron_bits.specs.Words.{bit_of_three, has_bit};
@@ -10,7 +10,7 @@ use super::{DaysOfMonth, Ordinals, UnitTable};
 use cron_bits::wide::{Wide, wide};
 use cron_bits::words::Words;
 
-/// Makes the set of the ordinals whose bits are 1. A bit past that of the greatest ordinal means
+/// Makes the set of the ordinals whose bits are 1. Bits after the bit of the greatest ordinal mean
 /// nothing.
 pub fn from_bits<U: UnitTable<u64>>(bits: u64) -> Ordinals<U, u64>
     ensures { result ≡ set_of U.unit (λ x. has_bit bits (x - U.unit.least)) }
@@ -18,7 +18,7 @@ pub fn from_bits<U: UnitTable<u64>>(bits: u64) -> Ordinals<U, u64>
     Ordinals::cut(bits)
 }
 
-/// Lends the word of a set, in which no other bits are 1 than those of its members.
+/// Returns the word of a set: the bits of its members are 1, and no others.
 pub fn bits<U: UnitTable<u64>>(set: &Ordinals<U, u64>) -> u64
     ensures bits { (k : ℕ) → has_bit result k ≡ contains set.now (U.unit.least + k) }
     ensures within { result < 2 ^ 64 }
@@ -27,15 +27,15 @@ pub fn bits<U: UnitTable<u64>>(set: &Ordinals<U, u64>) -> u64
     set.words.word(0)
 }
 
-/// Makes the set of the ordinals whose bits in three words are 1: bit i of the second stands for
-/// the least ordinal plus 64 + i, and so on. A bit past that of the greatest ordinal means nothing.
+/// Makes the set of the ordinals whose bits in three words are 1: bit i of the second is for the
+/// least ordinal plus 64 + i, and so on. Bits after the bit of the greatest ordinal mean nothing.
 pub fn from_three<U: UnitTable<Wide>>(first: u64, second: u64, third: u64) -> Ordinals<U, Wide>
     ensures { result ≡ set_of U.unit (λ x. bit_of_three first second third (x - U.unit.least)) }
 {
     Ordinals::cut(wide(first, second, third))
 }
 
-/// Lends the three words of a set, in which no other bits are 1 than those of its members.
+/// Returns the three words of a set: the bits of its members are 1, and no others.
 pub fn three<U: UnitTable<Wide>>(set: &Ordinals<U, Wide>) -> (u64, u64, u64)
     ensures bits { (k : ℕ)
         → bit_of_three result.0 result.1 result.2 k ≡ contains set.now (U.unit.least + k) }
@@ -46,8 +46,8 @@ pub fn three<U: UnitTable<Wide>>(set: &Ordinals<U, Wide>) -> (u64, u64, u64)
     (words.word(0), words.word(1), words.word(2))
 }
 
-/// Makes the set of the numbered days whose bits are 1, where bit i stands for day i + 1, and of
-/// the last day of the month where it is marked. A bit past that of day 31 means nothing.
+/// Makes the set of the numbered days whose bits are 1, where bit i is for day i + 1. The last day
+/// of the month is one more if `last_day` is true. Bits after the bit of day 31 mean nothing.
 pub fn days_from_bits(bits: u64, last_day: bool) -> DaysOfMonth
     ensures { result
         ≡ with_mark (set_of days_of_month (λ x. has_bit bits (x - days_of_month.least))) last_day }
@@ -58,7 +58,7 @@ pub fn days_from_bits(bits: u64, last_day: bool) -> DaysOfMonth
     }
 }
 
-/// Lends the word of the numbered days, in which no other bits are 1 than those of its members.
+/// Returns the word of the numbered days: the bits of its members are 1, and no others.
 pub fn bits_of_days(days: &DaysOfMonth) -> u64
     ensures bits { (k : ℕ)
         → has_bit result k ≡ contains days.now.ordinals (days_of_month.least + k) }

@@ -1,4 +1,4 @@
-//! What makes the sets of a unit.
+//! Functions that make the sets of a unit.
 
 ghost use Rattle.std.specs.Prelude.{◌≡◌, ◌≤◌, ◌<◌, ◌||◌, [], ◌∷◌, false};
 ghost use Rattle.cron_units.specs.Steps.{in_steps};
@@ -36,7 +36,7 @@ pub fn only<T: TimeUnitField>(ordinal: Ordinal) -> T
     set
 }
 
-/// Adds every so many-th ordinal of a unit to a set of it, from the first to the last.
+/// Adds each `every`-th ordinal of a unit, from `first` to `last`, to a set of the unit.
 #[inline(always)]
 pub(crate) fn add_steps<T: TimeUnitField>(set: &mut T, first: Ordinal, last: Ordinal, every: u32)
     requires low { T.unit.least ≤ first }

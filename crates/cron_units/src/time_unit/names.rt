@@ -1,5 +1,5 @@
-//! The names of ordinals, in small letters, and the look-up in any case of letters: by one
-//! comparison of numbers.
+//! The names of ordinals, in small letters, and the look-up of a name in any case of its letters,
+//! by one comparison of numbers.
 
 ghost use Rattle.std.specs.Prelude.{◌≡◌, ◌∷◌, ◌++◌, [], ℕ, List, true, false, Some, IfSome, MatchOption};
 ghost use Rattle.std.specs.List.{list_all};
@@ -10,29 +10,30 @@ ghost use Rattle.cron_units.specs.Tables.{ordinals_view, are_keyed, keyed_in};
 use super::Ordinal;
 
 /// The letters of a name as one number, five bits for each. A word with more letters than any name
-/// has a key that is no name's.
+/// has a key that belongs to no name.
 pub type Key = u64;
 
-/// What no key of a name reaches.
+/// A number above the key of each name. A key that has reached it takes no more letters.
 const LONG_KEY: Key = 1 << 55;
 
 /// The names of a unit's ordinals.
 #[derive(Clone, Copy)]
 pub struct Names {
-    /// What messages call such a name.
+    /// What messages call one of the names, as `month name`.
     pub noun: &'static str,
     /// Each name, in small letters, with its ordinal.
     pub ordinals: &'static [(&'static str, Ordinal)],
-    /// The names' keys with their ordinals, each in the slot that its key gives. Where no name's
-    /// key gives a slot, the first name stands there once more.
+    /// The names' keys with their ordinals, each in the slot that its key gives. A slot that no
+    /// name's key gives holds the first name once more.
     pub slots: &'static [(Key, Ordinal)],
-    /// The slot of a key is the first five bits of its product with this number: an odd one by
-    /// which no two keys of the unit share a slot, found by trying. `definition` holds the table to
-    /// it (`AreKeyed`), so where a name is added and it no longer does, nothing is proved.
+    /// The slot of a key is the first five bits of its product with this number. It is an odd
+    /// number, found by trying, that gives no two keys of the unit the same slot. The contract of
+    /// `definition` demands this of the table (`AreKeyed`): if a name is added and two keys share a
+    /// slot, the proof fails.
     pub spread: u64,
 }
 
-/// The key of a name with one more letter.
+/// Returns the key of a name with one more letter, from the key of the name.
 #[inline(always)]
 pub fn with_letter(key: Key, letter: u8) -> Key
     ensures { (name : List ℕ) → IsKey name key → IsKey (name ++ letter ∷ []) result }
@@ -43,7 +44,7 @@ pub fn with_letter(key: Key, letter: u8) -> Key
     key * 32 + u64::from(letter % 32)
 }
 
-/// The key of a name, which is of letters alone.
+/// Returns the key of a name, or `None` if it has a byte that is no letter.
 #[inline(always)]
 fn key_of(name: &[u8]) -> Option<Key>
     ensures { MatchOption result
@@ -60,7 +61,7 @@ fn key_of(name: &[u8]) -> Option<Key>
     Some(key)
 }
 
-/// Finds the ordinal of a name by its key.
+/// Returns the ordinal of a name by its key, or `None` if no name has that key.
 #[inline(always)]
 pub(super) fn ordinal_keyed(names: Names, key: Key) -> Option<Ordinal>
     requires { are_keyed names ≡ true }
@@ -73,7 +74,8 @@ pub(super) fn ordinal_keyed(names: Names, key: Key) -> Option<Ordinal>
     if found == key { Some(ordinal) } else { None }
 }
 
-/// Finds the ordinal of a name, in any case of its letters.
+/// Returns the ordinal of a name, in any case of its letters, or `None` if it is no name of the
+/// unit.
 #[inline(always)]
 pub(super) fn ordinal_named(names: Names, sought: &str) -> Option<Ordinal>
     requires { are_keyed names ≡ true }
@@ -109,10 +111,10 @@ pub(super) const MONTH_NAMES: [(&str, Ordinal); 23] = [
     ("december", 12),
 ];
 
-/// What spreads the keys of the months' names.
+/// The `Names::spread` of the months' names.
 pub(super) const MONTH_SPREAD: u64 = 6_599_389_479_065_819_167;
 
-/// The months' names by their keys.
+/// The months' names by their keys, as `Names::slots` holds them.
 pub(super) const MONTH_SLOTS: [(Key, Ordinal); 32] = [
     (0x21465688b2, 12), // december
     (0x282e, 1),
@@ -168,10 +170,10 @@ pub(super) const DAY_NAMES: [(&str, Ordinal); 16] = [
     ("saturday", 7),
 ];
 
-/// What spreads the keys of the names of the days of the week.
+/// The `Names::spread` of the names of the days of the week.
 pub(super) const DAY_SPREAD: u64 = 7_277_246_382_921_750_567;
 
-/// The names of the days of the week by their keys.
+/// The names of the days of the week by their keys, as `Names::slots` holds them.
 pub(super) const DAY_SLOTS: [(Key, Ordinal); 32] = [
     (0x4eae, 1), // sun
     (0x4eae, 1),

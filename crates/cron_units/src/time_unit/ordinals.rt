@@ -12,41 +12,41 @@ use cron_bits::words::Words;
 use std::alloc::AllocError;
 use std::marker::{Model, PhantomData};
 
-/// The table of a unit, whose sets take so many words.
+/// The table of a unit whose sets are stored in `W`.
 pub trait UnitTable<W: Words>: Copy {
     /// The unit, as contracts see it.
     ghost unit: { TimeUnit };
 
-    /// The table of the unit.
+    /// Returns the table of the unit.
     fn definition() -> Definition
         ensures unit { definition_view result ≡ unit }
         ensures keys { AreKeyed result.names };
 
-    /// The least ordinal.
+    /// Returns the least ordinal.
     final fn least() -> Ordinal
         ensures { result ≡ unit.least }
     {
         Self::definition().least
     }
 
-    /// The greatest ordinal.
+    /// Returns the greatest ordinal.
     final fn greatest() -> Ordinal
         ensures { result ≡ unit.greatest }
     {
         Self::definition().greatest
     }
 
-    /// The bounds are in order, the names' ordinals are within them, and the ordinals can be
-    /// counted.
+    /// The unit's bounds are in order, the ordinals of its names are within them, and 32 bits count
+    /// its ordinals.
     ghost is_unit: { IsUnit unit };
 
     /// No name means the last day of the month.
     ghost unmarked: { unit.last_day ≡ None };
 
-    /// There is a bit for each ordinal.
+    /// A row of bits of `W` has a bit for each ordinal.
     ghost fits: { unit.greatest < unit.least + W.size };
 
-    /// Iterators have room for them.
+    /// An iterator, which keeps 192 bits, has a bit for each ordinal.
     ghost iterates: { unit.greatest < unit.least + 192 };
 }
 
@@ -93,8 +93,8 @@ impl<U: UnitTable<W>, W: Words> Clone for Ordinals<U, W> {
 impl<U: UnitTable<W>, W: Words> Copy for Ordinals<U, W> {}
 
 impl<U: UnitTable<W>, W: Words> Ordinals<U, W> {
-    /// Makes the set of the ordinals whose bits are 1. A bit past that of the greatest ordinal
-    /// means nothing.
+    /// Makes the set of the ordinals whose bits are 1. Bits after the bit of the greatest ordinal
+    /// mean nothing.
     pub(super) fn cut(words: W) -> Ordinals<U, W>
         requires { W.IsFit words }
         ensures { result ≡ set_of U.unit (λ x. W.has words (x - U.unit.least)) }
@@ -102,7 +102,7 @@ impl<U: UnitTable<W>, W: Words> Ordinals<U, W> {
         Ordinals::from_words(words.below(U::greatest() - U::least() + 1))
     }
 
-    /// Takes words for a set.
+    /// Makes the set from its words, which have no 1 after the bit of the greatest ordinal.
     fn from_words(words: W) -> Ordinals<U, W>
         requires fit { W.IsFit words }
         requires none_past { NonePast U.unit (W.has words) }

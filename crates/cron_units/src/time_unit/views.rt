@@ -1,4 +1,4 @@
-//! What users see of a unit's set.
+//! The public view of a unit's set.
 
 ghost use Rattle.std.specs.Prelude.{◌≡◌, ◌<◌, ◌^◌, ◌↔◌, List, ℕ, IsTrue, filter, length};
 ghost use Rattle.cron_units.specs.Bounds.{IsForward, is_within};
@@ -23,18 +23,19 @@ pub trait TimeUnitSpec {
     /// The members, in ascending order.
     ghost ordinals: { Self → List ℕ };
 
-    /// Tells whether an ordinal is a member.
+    /// Returns true if the ordinal is a member.
     fn includes(&self, ordinal: Ordinal) -> bool
         ensures { result ≡ contains (ordinals self.now) ordinal };
 
-    /// Goes over the members, in ascending order.
+    /// Returns an iterator over the members, in ascending order.
     fn iter(&self) -> OrdinalIter<'_>
         ensures members { result ≡ ordinals self.now }
         ensures set { IsSet time_unit (ordinals self.now) }
         ensures countable { length result < 2 ^ 32 };
 
-    /// Goes over the members between two bounds, in ascending order. The first bound may not lie
-    /// above the second, nor both exclude one number; a bound need not be an ordinal of the unit.
+    /// Returns an iterator over the members between two bounds, in ascending order. The first bound
+    /// must not be above the second, nor may both exclude one number. A bound need not be an
+    /// ordinal of the unit.
     fn range(&self, range: (Bound<Ordinal>, Bound<Ordinal>)) -> OrdinalRangeIter<'_>
         requires { IsForward range.0 range.1 }
         ensures members { result ≡ filter (is_within range.0 range.1) (ordinals self.now) }
@@ -44,7 +45,7 @@ pub trait TimeUnitSpec {
     fn count(&self) -> u32
         ensures { result ≡ length (ordinals self.now) };
 
-    /// Tells whether the set is the unit's whole range, however it was written.
+    /// Returns true if the set is the unit's whole range, however it was written.
     fn is_all(&self) -> bool
         ensures { IsTrue result ↔ (ordinals self.now ≡ whole time_unit) };
 }

@@ -1,4 +1,4 @@
-//! The completions of bash.
+//! The completions of bash: a script that completes lines of `crontool`.
 
 use crate::completions::{Place, Values, place_of, push_all, push_joined, values_of};
 use crate::subcommands::{SUBCOMMANDS, Subcommand};
@@ -96,7 +96,7 @@ fn push_subcommand(script: &mut String, said: &Subcommand) -> Result<(), AllocEr
     script.push_str("' ;;\n")
 }
 
-/// The script for bash.
+/// Returns the script that completes lines of `crontool` in bash.
 pub(crate) fn script(alloc: Global) -> Result<String, AllocError> {
     let mut script = String::new(alloc);
     script.push_str("# Completions of crontool for bash\n_crontool_subcommands=")?;

@@ -1,4 +1,4 @@
-//! The completions of fish.
+//! The completions of fish: a script that completes lines of `crontool`.
 
 use crate::completions::{Place, Values, place_of, push_all, push_help, push_joined, values_of};
 use crate::subcommands::{SUBCOMMANDS, Subcommand};
@@ -33,13 +33,14 @@ fn push_values(script: &mut String, name: &str) -> Result<(), AllocError> {
     }
 }
 
-// What stands before each word of a subcommand.
+// Appends the beginning of a line that completes something after the subcommand `said`.
 fn push_front(script: &mut String, said: &Subcommand) -> Result<(), AllocError> {
     let front = "complete -c crontool -n '__fish_seen_subcommand_from ";
     push_all(script, &[front, said.name, "'"])
 }
 
-// What stands at a place: files and words.
+// Appends a line that completes the value `name`, if it may be files or given words. Other values
+// aren't completed.
 fn push_place(script: &mut String, said: &Subcommand, name: &str) -> Result<(), AllocError> {
     match values_of(name) {
         Values::Files => {
@@ -84,7 +85,7 @@ fn push_subcommand(script: &mut String, said: &Subcommand) -> Result<(), AllocEr
     Ok(())
 }
 
-/// The script for fish.
+/// Returns the script that completes lines of `crontool` in fish.
 pub(crate) fn script(alloc: Global) -> Result<String, AllocError> {
     let mut script = String::new(alloc);
     script.push_str(START)?;

@@ -1,5 +1,5 @@
-//! The subcommand `completions`: a script by which a shell completes lines of `crontool`, from the
-//! table that the help is made from.
+//! The subcommand `completions`: a script that lets a shell complete lines of `crontool`. It is
+//! made from the same table as the help.
 
 mod bash;
 mod fish;
@@ -11,7 +11,7 @@ use cron_replies::status::Status;
 use crontool_machine::machine::{complain, no_memory, write_page};
 use std::alloc::AllocError;
 
-/// What may stand for a value.
+/// What the value of a word may be, as shells complete it.
 #[derive(Clone, Copy)]
 pub(crate) enum Values {
     Files,
@@ -21,18 +21,18 @@ pub(crate) enum Values {
     Any,
 }
 
-/// How a word stands in a line.
+/// How a word is written in a command line.
 #[derive(Clone, Copy)]
 pub(crate) enum Place {
     /// `--NAME`.
     Flag,
-    /// `--NAME` and a value, once or as often as one likes.
+    /// `--NAME` and a value of this name. It may be repeated if the flag is true.
     Option(&'static str, bool),
-    /// A value by its place, or all values from there on.
+    /// A value at this place, or, if the flag is true, all values from this place on.
     Value(bool),
 }
 
-// What may stand for the value that the table calls so.
+// What the value that the table of subcommands calls `name` may be.
 pub(crate) fn values_of(name: &str) -> Values {
     match name {
         "FILE" | "STAMP" => Values::Files,
@@ -79,7 +79,8 @@ pub(crate) fn push_joined(
     Ok(())
 }
 
-// A text between single quotes of zsh or fish. Zsh reads brackets and colons of a help as its own.
+// Appends a text for single quotes of zsh or fish. In zsh, brackets and colons of a help have a
+// meaning and are escaped.
 pub(crate) fn push_help(script: &mut String, text: &str, is_zsh: bool) -> Result<(), AllocError> {
     for letter in text.chars() {
         match letter {
@@ -94,7 +95,7 @@ pub(crate) fn push_help(script: &mut String, text: &str, is_zsh: bool) -> Result
     Ok(())
 }
 
-/// Does what the words ask for.
+/// Carries out the subcommand `completions`, and returns its status.
 pub fn answer(rt: &HostRuntime, words: &ArgMatches<'_>) -> Status {
     let script = match words.get_str("SHELL") {
         Some("bash") => bash::script(rt.alloc()),

@@ -1,4 +1,4 @@
-//! The completions of zsh.
+//! The completions of zsh: a script that completes lines of `crontool`.
 
 use crate::completions::{Place, Values, place_of, push_all, push_help, push_joined, values_of};
 use crate::subcommands::{SUBCOMMANDS, Subcommand};
@@ -42,7 +42,7 @@ else
 fi
 "#;
 
-// What zsh calls for a value, after its name.
+// Appends the name of a value, and what zsh calls to complete it.
 fn push_values(script: &mut String, name: &str) -> Result<(), AllocError> {
     push_all(script, &[":", name, ":"])?;
     match values_of(name) {
@@ -58,14 +58,14 @@ fn push_values(script: &mut String, name: &str) -> Result<(), AllocError> {
     }
 }
 
-// An option, where one that has a value ends with `=`.
+// Appends an option with its help. `end` is `=` if the option has a value.
 fn push_option(script: &mut String, name: &str, end: &str, help: &str) -> Result<(), AllocError> {
     push_all(script, &["--", name, end, "["])?;
     push_help(script, help, true)?;
     script.push(']')
 }
 
-// What stands before a word that may come several times.
+// The mark in front of a word: a star if the word may come several times.
 fn star_of(is_many: bool) -> &'static str {
     if is_many { "*" } else { "" }
 }
@@ -99,7 +99,7 @@ fn push_subcommand(script: &mut String, said: &Subcommand) -> Result<(), AllocEr
     script.push_str(" ;;\n")
 }
 
-/// The script for zsh.
+/// Returns the script that completes lines of `crontool` in zsh.
 pub(crate) fn script(alloc: Global) -> Result<String, AllocError> {
     let mut script = String::new(alloc);
     script.push_str(START)?;

@@ -4,14 +4,14 @@ use Rattle.cron_agenda.proofs.NextLemmas.{next_due, next_shown}
 use Rattle.cron_agenda.proofs.fire.first_past.Goals as goal
 
 pub returns-in-Some : goal.returns-in-Some
-returns-in-Some g c = rw c.in-AsShown.is (next_shown (g.T.Timetable.schedules c.args.table.now) (plain_zone c.args.zone.now) c.in-AsShown.moment (Some c.in-Some.next) c.in-Some.ensures)
+returns-in-Some g c = rw c.in-AsShown.is (next_shown (g.T.CivilSeconds.has c.args.table.now) (plain_zone c.args.zone.now) c.in-AsShown.moment (Some c.in-Some.next) c.in-Some.ensures)
 
 pub returns-in-None : goal.returns-in-None
-returns-in-None g c = rw c.in-AsShown.is (next_shown (g.T.Timetable.schedules c.args.table.now) (plain_zone c.args.zone.now) c.in-AsShown.moment None c.in-None.ensures)
+returns-in-None g c = rw c.in-AsShown.is (next_shown (g.T.CivilSeconds.has c.args.table.now) (plain_zone c.args.zone.now) c.in-AsShown.moment None c.in-None.ensures)
 
 pub returns-in-Some-first_due_past : goal.returns-in-Some-first_due_past
 returns-in-Some-first_due_past g c =
-    rw c.in-Once.is (next_due (g.T.Timetable.schedules c.args.table.now) (plain_zone c.args.zone.now) c.in-Once.due (Some c.in-Some-first_due_past.next) c.in-Some-first_due_past.ensures)
+    rw c.in-Once.is (next_due (g.T.CivilSeconds.has c.args.table.now) (plain_zone c.args.zone.now) c.in-Once.due (Some c.in-Some-first_due_past.next) c.in-Some-first_due_past.ensures)
 
 pub returns-in-None-first_due_past : goal.returns-in-None-first_due_past
-returns-in-None-first_due_past g c = rw c.in-Once.is (next_due (g.T.Timetable.schedules c.args.table.now) (plain_zone c.args.zone.now) c.in-Once.due None c.in-None-first_due_past.ensures)
+returns-in-None-first_due_past g c = rw c.in-Once.is (next_due (g.T.CivilSeconds.has c.args.table.now) (plain_zone c.args.zone.now) c.in-Once.due None c.in-None-first_due_past.ensures)

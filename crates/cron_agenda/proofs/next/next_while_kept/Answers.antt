@@ -13,5 +13,5 @@ returns-then-instant_of-from g c =
     let offset = ap (λ (r : Reading). r.offset.seconds) c.moment_numbered-next.ensures in
     let next = rw (c.civil_second.ensures, ← ap (λ (r : Reading). r.second) c.moment_numbered-next.ensures) at c.in_ok-next_match.ensures in
     let before : instant c.moment_numbered-next.result <ℤ pos c.in_ok-kept.kept.end = grind (arith, ints, c.if-instant_of-from.true, c.from.ensures, c.instant_of-2.ensures.value) in
-    next_kept (g.T.Timetable.schedules c.args.table.now) (plain_zone c.args.zone.now) c.in_ok-kept.ensures.agree c.args.fire.now c.moment_numbered-next.result
+    next_kept (g.T.CivilSeconds.has c.args.table.now) (plain_zone c.args.zone.now) c.in_ok-kept.ensures.agree c.args.fire.now c.moment_numbered-next.result
     c.in_ok-kept.kept keeps own offset next before

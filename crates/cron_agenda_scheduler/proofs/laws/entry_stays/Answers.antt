@@ -4,7 +4,7 @@ use Rattle.cron_agenda_scheduler.proofs.StayLemmas.{stays_beside_others, stays_t
 use Rattle.cron_agenda_scheduler.proofs.laws.entry_stays.Goals as goal
 
 pub returns-clause-beside : goal.returns-clause-beside
-returns-clause-beside g c = λ id. stays_beside_others g.T.Timetable.schedules id
+returns-clause-beside g c = λ id. stays_beside_others g.T.CivilSeconds.has id
 
 pub returns-clause-throughout : goal.returns-clause-throughout
 returns-clause-throughout g c = λ ts id keeps.

@@ -14,7 +14,7 @@ returns-in_err-taken g c = let p = err_from_is_err_and c.from_residual.result c.
 
 pub returns : goal.returns
 returns g c = record {
-  takes = subst (λ o. TakesDue g.T.Timetable.schedules (map plain_zone c.args.zones.now) c.args.now.nanosecond c.args.agenda.now (Ok o) c.next_due.new.self) c.in-Some-taken.is c.in_ok-taken.ensures;
+  takes = subst (λ o. TakesDue g.T.CivilSeconds.has (map plain_zone c.args.zones.now) c.args.now.nanosecond c.args.agenda.now (Ok o) c.next_due.new.self) c.in-Some-taken.is c.in_ok-taken.ensures;
   entry = c.in-Some.first;
   first = c.in-Some.ensures;
   told = c.is_run-is_run.ensures ∙ ap (λ l. is_run l c.args.now.nanosecond c.in-Some-taken.due c.next_due.new.self.entries) c.lateness.ensures;

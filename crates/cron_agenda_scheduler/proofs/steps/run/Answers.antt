@@ -16,7 +16,7 @@ returns-in-Err g c = loop_ends c.loop.invariant.0 c.loop.left c.loop.clock c.loo
 
 pub returns-in_default : goal.returns-in_default
 returns-in_default g c =
-    let ts = tables g.T.Timetable.schedules g.T.HasLateness.lateness (map plain_zone c.args.zones.now) in
+    let ts = tables g.T.CivilSeconds.has g.T.HasLateness.lateness (map plain_zone c.args.zones.now) in
     let cs = clock_calls g.C.AlarmClock.shows g.C.AlarmClock.waits in
     let js = job_calls g.J.AgendaJob.runs g.J.AgendaJob.passes in
     let none = none_turned ts cs js c.loop.left c.in-Ok.ensures.0 c.loop.clock c.loop.agenda c.loop.job c.turn.new.clock c.turn.new.agenda c.turn.new.job
@@ -25,7 +25,7 @@ returns-in_default g c =
 
 pub loop-preserved : goal.loop-preserved
 loop-preserved g c =
-    let ts = tables g.T.Timetable.schedules g.T.HasLateness.lateness (map plain_zone c.args.zones.now) in
+    let ts = tables g.T.CivilSeconds.has g.T.HasLateness.lateness (map plain_zone c.args.zones.now) in
     let cs = clock_calls g.C.AlarmClock.shows g.C.AlarmClock.waits in
     let js = job_calls g.J.AgendaJob.runs g.J.AgendaJob.passes in
     let deeds = c.in-Ok.ensures.0 in

@@ -22,7 +22,7 @@ returns-then-left-eq0 g c = (
 
 pub returns-in_default : goal.returns-in_default
 returns-in_default g c =
-    let ts = tables g.T.Timetable.schedules g.T.HasLateness.lateness (map plain_zone c.args.zones.now) in (
+    let ts = tables g.T.CivilSeconds.has g.T.HasLateness.lateness (map plain_zone c.args.zones.now) in (
       c.loop.invariant.0,
       record {
         agenda = c.loop.agenda;
@@ -47,7 +47,7 @@ returns-in-Err g c = (
 
 pub returns-in-Err-run : goal.returns-in-Err-run
 returns-in-Err-run g c =
-    let ts = tables g.T.Timetable.schedules g.T.HasLateness.lateness (map plain_zone c.args.zones.now) in (
+    let ts = tables g.T.CivilSeconds.has g.T.HasLateness.lateness (map plain_zone c.args.zones.now) in (
       c.loop.invariant.0,
       record {
         agenda = c.loop.agenda;
@@ -66,7 +66,7 @@ returns-in-Err-run g c =
 
 pub loop-preserved : goal.loop-preserved
 loop-preserved g c =
-    let ts = tables g.T.Timetable.schedules g.T.HasLateness.lateness (map plain_zone c.args.zones.now) in
+    let ts = tables g.T.CivilSeconds.has g.T.HasLateness.lateness (map plain_zone c.args.zones.now) in
     let js = job_calls g.J.AgendaJob.runs g.J.AgendaJob.passes in
     let ds = c.loop.invariant.0 in
     let f = c.in-Some.pick.due in

@@ -2,25 +2,15 @@ use Rattle.std.proofs.Common.{refl, inl, inr}
 use Rattle.std.specs.String.{string_bytes}
 use Rattle.jiff.specs.Words.{plain_zone}
 use Rattle.cron_answers.specs.Answers.{given}
-use Rattle.cron_answers.specs.declared.trouble.Trouble.TheVariants as trouble
-use Rattle.cron_answers.proofs.AnswerLemmas.{not_asked}
+use Rattle.cron_answers.proofs.AnswerLemmas.{no_subject, not_asked}
 use Rattle.cron_answers.proofs.explain.explain.Goals as goal
 
 pub returns-in-Err-clause-answers : goal.returns-in-Err-clause-answers
 returns-in-Err-clause-answers g c =
     inr (inl (
-      trouble.Expression c.args.request.now.expression c.in-Err.refusal,
-      (refl, c.in-Err.ensures, refl),
+      c.in-Err.trouble,
+      no_subject (given g.F.ZoneFiles.reads c.args.places.now c.args.now.nanosecond) c.args.request.now _ _ c.in-Err.trouble c.in-Err.ensures,
       (c.tell.ensures.told, c.tell.ensures.mark, c.tell.ensures.calls),
-      refl,
-    ))
-
-pub returns-in-Err-open-clause-answers : goal.returns-in-Err-open-clause-answers
-returns-in-Err-open-clause-answers g c =
-    inr (inl (
-      trouble.Zone c.zone_word-word.result c.in-Err-open.error,
-      (c.zone_word-word.ensures, (c.in-Ok.expression, c.in-Ok.ensures), c.in-Err-open.ensures),
-      (c.tell-in-Err-open.ensures.told, c.tell-in-Err-open.ensures.mark, c.tell-in-Err-open.ensures.calls),
       refl,
     ))
 
@@ -28,8 +18,8 @@ pub returns-in-Err-asked_of-clause-answers : goal.returns-in-Err-asked_of-clause
 returns-in-Err-asked_of-clause-answers g c =
     inr (inl (
       c.in-Err-asked_of.trouble,
-      not_asked (given g.F.ZoneFiles.reads c.args.places.now c.args.now.nanosecond) c.args.request.now _ _ c.in-Err-asked_of.trouble c.in-Ok.expression (plain_zone c.time_zone-zone.result) c.in-Ok.ensures
-          (record { zone = c.in-Ok-open.opened; opened = c.in-Ok-open.ensures; is_time_zone = c.time_zone-zone.ensures }) c.in-Err-asked_of.ensures,
+      not_asked (given g.F.ZoneFiles.reads c.args.places.now c.args.now.nanosecond) c.args.request.now _ _ c.in-Err-asked_of.trouble c.in-Ok.subject.expression (plain_zone c.time_zone-zone.result) c.in-Ok.ensures.0
+          (record { zone = c.in-Ok.subject.zone; opened = c.in-Ok.ensures.1; is_time_zone = c.time_zone-zone.ensures }) c.in-Err-asked_of.ensures,
       (c.tell-in-Err-asked_of.ensures.told, c.tell-in-Err-asked_of.ensures.mark, c.tell-in-Err-asked_of.ensures.calls),
       refl,
     ))
@@ -41,10 +31,10 @@ returns-clause-answers g c =
     inl (
       (
         record {
-          expression = c.in-Ok.expression;
-          reads = c.in-Ok.ensures;
+          expression = c.in-Ok.subject.expression;
+          reads = c.in-Ok.ensures.0;
           zone = plain_zone c.time_zone-zone.result;
-          opened = record { zone = c.in-Ok-open.opened; opened = c.in-Ok-open.ensures; is_time_zone = c.time_zone-zone.ensures };
+          opened = record { zone = c.in-Ok.subject.zone; opened = c.in-Ok.ensures.1; is_time_zone = c.time_zone-zone.ensures };
           asked = c.in-Ok-asked_of.asked;
           asks = c.in-Ok-asked_of.ensures;
           explained = record {

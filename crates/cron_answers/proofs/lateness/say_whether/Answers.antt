@@ -1,8 +1,9 @@
 use Rattle.jiff.specs.Words.{plain_zone}
 use Rattle.cron_dues.specs.Due as dues
 use Rattle.cron_moments.specs.Readings as moments
-use Rattle.cron_unions.specs.FirstOfAny.{IsItemOfAny}
-use Rattle.cron_unions.specs.UnionDues.{IsDueOfAny}
+use Rattle.cron_instants.specs.Instants.{IsItem}
+use Rattle.cron_unions.specs.Unions.{any_of}
+use Rattle.cron_dues.specs.FirstDues.{IsDue}
 use Rattle.cron_answers.proofs.LatenessLemmas.{first_missed}
 use Rattle.cron_answers.proofs.lateness.say_whether.Goals as goal
 
@@ -11,7 +12,7 @@ returns-in-AsShown-clause-says g c =
     let z = plain_zone c.args.zone.now in
     let last = c.args.last.now in
     let first =
-    first_missed (IsItemOfAny c.as_slice-schedules.result.now z) moments.instant (λ r. r.second) last.instant.nanosecond last.grace c.args.now.nanosecond
+    first_missed (IsItem (any_of c.as_slice-schedules.result.now) z) moments.instant (λ r. r.second) last.instant.nanosecond last.grace c.args.now.nanosecond
     c.first_moment-first.result c.first_moment-first.ensures in
     rw (← c.in-AsShown.ensures, ← c.as_slice-schedules.ensures.list) (c.missed_of.result, rw c.missed_of.ensures first, c.say.ensures.says)
 
@@ -20,6 +21,6 @@ returns-in-Once-clause-says g c =
     let z = plain_zone c.args.zone.now in
     let last = c.args.last.now in
     let first =
-    first_missed (IsDueOfAny c.as_slice-schedules.result.now z) dues.instant (λ d. d.second) last.instant.nanosecond last.grace c.args.now.nanosecond
+    first_missed (IsDue (any_of c.as_slice-schedules.result.now) z) dues.instant (λ d. d.second) last.instant.nanosecond last.grace c.args.now.nanosecond
     c.first_due-first.result c.first_due-first.ensures in
     rw (← c.in-Once.ensures, ← c.as_slice-schedules.ensures.list) (c.missed_of-in-Once.result, rw c.missed_of-in-Once.ensures first, c.say-in-Once.ensures.says)

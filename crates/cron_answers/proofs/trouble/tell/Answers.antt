@@ -1,5 +1,5 @@
 use Rattle.std.proofs.Common.{◌≡◌, ℕ, List, [], Option, ◌∙◌, inl, inr}
-use Rattle.cron_listing.specs.Output.{complaint}
+use Rattle.cron_walk_listing.specs.Output.{complaint}
 use Rattle.cron_writer.proofs.Sending.{nothing_sent}
 use Rattle.cron_replies.specs.Statuses.{Ends}
 use Rattle.cron_answers.specs.Troubles.{trouble_text}

@@ -1,7 +1,6 @@
 use Rattle.std.proofs.Common.{◌≡◌, ◌*ℤ◌, pos, rules}
 use Rattle.cron_dues.specs.Clock.FirstDues.{IsFirstDueAfter}
 use Rattle.cron_c.specs.Calls.{IsInstant}
-use Rattle.cron_c.specs.Structs.{sets_of}
 use Rattle.cron_c.proofs.Dues.{finds}
 use Rattle.cron_c.proofs.due_by_clock.due_after.Goals as goal
 
@@ -9,8 +8,8 @@ pub returns : goal.returns
 returns g c =
     let nanos : c.in-Ok.now.nanosecond ≡ c.args.second *ℤ pos 1_000_000_000 = search rules in
     let within : IsInstant c.args.second = search rules in
-    finds IsFirstDueAfter (sets_of c.args.schedule.now) (g.C.Clock.offsets c.args.clock.now) c.args.second c.first_after.result c.args.item.now c.write_due.new.item
-    c.write_due.result within (rw (c.fields_of.ensures, nanos) at c.first_after.ensures) c.write_due.ensures
+    finds IsFirstDueAfter (g.S.CivilSeconds.has c.args.set.now) (g.C.Clock.offsets c.args.clock.now) c.args.second c.first_after.result c.args.item.now c.write_due.new.item
+    c.write_due.result within (rw nanos at c.first_after.ensures) c.write_due.ensures
 
 pub returns-in_default : goal.returns-in_default
 returns-in_default g c = search rules

@@ -1,7 +1,5 @@
 use Rattle.std.proofs.Common.{◌≡◌, ◌*ℤ◌, pos, rules}
-use Rattle.cron_dues.specs.Clock.Dues.{dues_between}
 use Rattle.cron_c.specs.Calls.{IsInstant}
-use Rattle.cron_c.specs.Structs.{sets_of}
 use Rattle.cron_c.proofs.Dues.{between_says}
 use Rattle.cron_c.proofs.due_by_clock.dues_between.Goals as goal
 
@@ -11,6 +9,6 @@ returns g c =
     let now_is : c.in-Ok-from_second.now.nanosecond ≡ c.args.now *ℤ pos 1_000_000_000 = search rules in
     let from : IsInstant c.args.last = search rules in
     let to : IsInstant c.args.now = search rules in
-    let filled = rw (c.between-run.ensures, c.fields_of.ensures, last_is, now_is) at c.fill.ensures in
-    between_says dues_between (sets_of c.args.schedule.now) (g.C.Clock.offsets c.args.clock.now) c.args.last c.args.now c.args.items.now c.fill.new.items
-    c.fill.new.count c.fill.result from to filled
+    let filled = rw (last_is, now_is) at c.fill_between.ensures in
+    between_says (g.S.CivilSeconds.has c.args.set.now) (g.C.Clock.offsets c.args.clock.now) c.args.last c.args.now c.args.items.now c.fill_between.new.items
+    c.fill_between.new.count c.fill_between.result from to filled

@@ -4,4 +4,4 @@ use Rattle.cron_c.proofs.history_calls.cron_c_history_fire_by.Goals as goal
 pub returns : goal.returns
 returns c =
     let instant : FitsSigned w64 c.args.instant = search rules in
-    (c.fire_by.result, rw (to_z-of_z instant) at c.fire_by.ensures, c.code.ensures)
+    (c.fire_by.result, rw (c.fields_of.ensures, to_z-of_z instant) at c.fire_by.ensures, c.code.ensures)

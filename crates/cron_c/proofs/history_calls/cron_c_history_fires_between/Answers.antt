@@ -5,4 +5,4 @@ pub returns : goal.returns
 returns c =
     let last : FitsSigned w64 c.args.last = search rules in
     let now : FitsSigned w64 c.args.now = search rules in
-    (c.run_between.result, rw (to_z-of_z last, to_z-of_z now) at c.run_between.ensures, c.code.ensures)
+    (c.run_between.result, rw (c.fields_of.ensures, to_z-of_z last, to_z-of_z now) at c.run_between.ensures, c.code.ensures)

@@ -4,4 +4,4 @@ use Rattle.cron_c.proofs.history_calls.cron_c_history_fires_past.Goals as goal
 pub returns : goal.returns
 returns c =
     let now : FitsSigned w64 c.args.now = search rules in
-    (c.run_past.result, rw (to_z-of_z now) at c.run_past.ensures, c.code.ensures)
+    (c.run_past.result, rw (c.fields_of.ensures, to_z-of_z now) at c.run_past.ensures, c.code.ensures)

@@ -5,4 +5,4 @@ pub returns : goal.returns
 returns c =
     let fits-last : FitsSigned w64 c.args.last = search rules in
     let fits-now : FitsSigned w64 c.args.now = search rules in
-    (c.dues_between.result, rw (to_z-of_z fits-last, to_z-of_z fits-now) at c.dues_between.ensures, c.code.ensures)
+    (c.dues_between.result, rw (c.fields_of.ensures, to_z-of_z fits-last, to_z-of_z fits-now) at c.dues_between.ensures, c.code.ensures)

@@ -4,4 +4,4 @@ use Rattle.cron_c.proofs.history_dues.cron_c_history_dues_past.Goals as goal
 pub returns : goal.returns
 returns c =
     let fits-now : FitsSigned w64 c.args.now = search rules in
-    (c.dues_past.result, rw (to_z-of_z fits-now) at c.dues_past.ensures, c.code.ensures)
+    (c.dues_past.result, rw (c.fields_of.ensures, to_z-of_z fits-now) at c.dues_past.ensures, c.code.ensures)

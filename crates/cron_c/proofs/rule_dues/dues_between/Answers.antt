@@ -1,8 +1,7 @@
 use Rattle.std.proofs.Common.{◌≡◌, FitsSigned, w64, to_z-of_z, rules}
 use Rattle.jiff.specs.Words.{plain_zone}
-use Rattle.cron_dues.specs.Clock.Dues.{dues_between}
 use Rattle.cron_c.specs.Dues.{RunsDueBetween}
-use Rattle.cron_c.specs.Structs.{sets_of}
+use Rattle.cron_c.specs.Structs.{seconds_of_struct}
 use Rattle.cron_c.proofs.Dues.{in_zone}
 use Rattle.cron_c.proofs.rule_dues.dues_between.Goals as goal
 
@@ -11,5 +10,5 @@ returns c =
     let fits-last : FitsSigned w64 c.args.last = search rules in
     let fits-now : FitsSigned w64 c.args.now = search rules in
     in_zone c.args.zone.now (plain_zone c.in-Some.zone)
-    (RunsDueBetween dues_between (sets_of c.args.schedule.now) c.args.last c.args.now c.args.items.now c.dues_between.new.items c.dues_between.new.count)
-    ((c.dues_between.new.items ≡ c.args.items.now) × (c.dues_between.new.count ≡ 0)) c.dues_between.result c.in-Some.ensures (λ (from, to, f). f) (rw (to_z-of_z fits-last, to_z-of_z fits-now) at c.dues_between.ensures)
+    (RunsDueBetween (seconds_of_struct c.args.schedule.now) c.args.last c.args.now c.args.items.now c.dues_between.new.items c.dues_between.new.count)
+    ((c.dues_between.new.items ≡ c.args.items.now) × (c.dues_between.new.count ≡ 0)) c.dues_between.result c.in-Some.ensures (λ (from, to, f). f) (rw (c.fields_of.ensures, to_z-of_z fits-last, to_z-of_z fits-now) at c.dues_between.ensures)

@@ -1,7 +1,7 @@
 use Rattle.std.proofs.Common.{rules, pos, ◌+ℤ◌, FitsSigned, w64, to_z-of_z, refl, arith}
 use Rattle.std.proofs.lemmas.Int.{by_lt_z}
 use Rattle.jiff_core.proofs.SignedLemmas.{signed_arith}
-use Rattle.cron_instants.proofs.FireLemmas.{int_le-false}
+use Rattle.cron_seconds.proofs.IntLemmas.{int_le-false}
 use Rattle.cron_dues.proofs.AheadLemmas.{due_in_span}
 use Rattle.cron_dues.proofs.ahead.known_of.Goals as goal
 

@@ -1,6 +1,5 @@
 use Rattle.std.proofs.Common.{rules, ◌≡◌, ◌+ℤ◌, pos, w64, FitsSigned, to_z-of_z}
-use Rattle.cron_time.specs.Matches.{is_match}
-use Rattle.cron_dues.specs.Clock.Dues.{matching_seconds}
+use Rattle.cron_time.specs.Seconds.{is_match, matching_seconds}
 use Rattle.cron_dues.proofs.MemberLemmas as member
 use Rattle.cron_dues.proofs.dues.first_past.Goals as goal
 
@@ -9,5 +8,5 @@ returns g c =
     let from : c.from.result ≡ pos c.args.fire.now.second = rw c.nominal_second.ensures at c.from.ensures in
     let fits : FitsSigned w64 c.from.result = search rules in
     let fits-next : FitsSigned w64 (c.from.result +ℤ pos 1) = search rules in
-    member.first_past (matching_seconds c.args.fields.now) (is_match c.args.fields.now) (g.C.Clock.offsets c.args.clock.now) (member.sets-match c.args.fields.now) c.args.fire.now c.nearest_due.result
+    member.first_past (matching_seconds (g.S.CivilSeconds.has c.args.set.now)) (is_match (g.S.CivilSeconds.has c.args.set.now)) (g.C.Clock.offsets c.args.clock.now) (member.sets-match (g.S.CivilSeconds.has c.args.set.now)) c.args.fire.now c.nearest_due.result
     (rw (to_z-of_z fits, to_z-of_z fits-next, from) at c.nearest_due.ensures)

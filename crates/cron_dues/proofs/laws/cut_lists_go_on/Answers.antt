@@ -1,4 +1,4 @@
-use Rattle.cron_dues.proofs.LawLemmas.{cut_lists}
+use Rattle.cron_dues.proofs.RuleLemmas.{cut_lists}
 use Rattle.cron_dues.proofs.laws.cut_lists_go_on.Goals as goal
 
 pub returns : goal.returns

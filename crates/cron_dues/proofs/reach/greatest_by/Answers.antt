@@ -1,6 +1,6 @@
 use Rattle.std.proofs.Common.{rules, FitsSigned, w64, to_z-of_z, pos, ◌-ℤ◌, arith}
 use Rattle.jiff_core.proofs.SignedLemmas.{signed_casts}
-use Rattle.cron_instants.proofs.FireLemmas.{int_le-true, int_le-false}
+use Rattle.cron_seconds.proofs.IntLemmas.{int_le-true, int_le-false}
 use Rattle.cron_dues.proofs.ReachLemmas.{gather_from, gather_on, gather_end, leads_on, left_less}
 use Rattle.cron_dues.proofs.reach.greatest_by.Goals as goal
 

@@ -29,7 +29,7 @@ pub returns-in_err-count-clause-refused : goal.returns-in_err-count-clause-refus
 returns-in_err-count-clause-refused c =
     let (pushed, page, makes, count, few) = c.loop-place.invariant in
     let why = refused c.args.wanted.now c.args.entries.now c.loop-place.place c.loop-place.count _ c.index-entries-place.result c.in_err-count.field-0.0
-    c.loop-place-test.true c.index-entries-place.is count few (omega (arith, few)) c.in_err-count.ensures.many c.in_err-count.ensures.crowded
+    c.loop-place-test.true c.index-entries-place.is count few (omega (arith, few)) c.in_err-count.ensures.many
     c.in_err-count.ensures.some in
     let p = err_from_is_err_and c.from_residual.result c.from_residual.ensures.1 in
     rw (p.1, p.2) why

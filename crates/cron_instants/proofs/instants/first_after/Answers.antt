@@ -3,11 +3,11 @@ use Rattle.cron_instants.proofs.ItemLemmas as item
 use Rattle.cron_instants.proofs.instants.first_after.Goals as goal
 
 pub returns-in-Some : goal.returns-in-Some
-returns-in-Some c =
-    item.first_after c.args.fields.now (plain_zone c.args.zone.now) c.args.now.nanosecond c.behind-mark.result.instant c.in-Some.first
+returns-in-Some g c =
+    item.first_after (g.S.CivilSeconds.has c.args.set.now) (plain_zone c.args.zone.now) c.args.now.nanosecond c.behind-mark.result.instant c.in-Some.first
     c.behind-mark.ensures.instant (rw c.behind-mark.ensures.second at c.in-Some.ensures)
 
 pub returns : goal.returns
-returns c =
-    item.first_after c.args.fields.now (plain_zone c.args.zone.now) c.args.now.nanosecond c.behind-mark.result.instant c.first_item.result
+returns g c =
+    item.first_after (g.S.CivilSeconds.has c.args.set.now) (plain_zone c.args.zone.now) c.args.now.nanosecond c.behind-mark.result.instant c.first_item.result
     c.behind-mark.ensures.instant (rw c.behind-mark.ensures.second at c.first_item.ensures)

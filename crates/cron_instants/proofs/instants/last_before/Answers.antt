@@ -3,6 +3,6 @@ use Rattle.cron_instants.proofs.ItemLemmas as item
 use Rattle.cron_instants.proofs.instants.last_before.Goals as goal
 
 pub returns : goal.returns
-returns c =
-    item.last_before c.args.fields.now (plain_zone c.args.zone.now) c.args.fire.now c.nearest_item.result
+returns g c =
+    item.last_before (g.S.CivilSeconds.has c.args.set.now) (plain_zone c.args.zone.now) c.args.fire.now c.nearest_item.result
     (rw (c.of.ensures.instant, c.of.ensures.second) at c.nearest_item.ensures)

@@ -3,17 +3,17 @@ use Rattle.cron_instants.proofs.StretchLemmas.{none_entered, found_here}
 use Rattle.cron_instants.proofs.nearest.item_at.Goals as goal
 
 pub returns-in_default : goal.returns-in_default
-returns-in_default c =
+returns-in_default g c =
     let fits : FitsSigned w64 c.entry.result = search rules in
-    none_entered c.args.way c.args.fields.now c.args.mark.instant c.args.mark.second c.args.stretch.now.first c.args.stretch.now.end c.args.offset
+    none_entered c.args.way (g.S.CivilSeconds.has c.args.set.now) c.args.mark.instant c.args.mark.second c.args.stretch.now.first c.args.stretch.now.end c.args.offset
     (rw (to_z-of_z fits, c.entry.ensures) at c.in_default.ensures)
 
 pub returns : goal.returns
-returns c =
+returns g c =
     let fits : FitsSigned w64 c.entry.result = search rules in
     let fits-from : FitsSigned w64 c.in-Some.from = search rules in
-    let near = rw (to_z-of_z fits-from) at c.in-Some-nearest_match.ensures.nearest in
+    let near = rw (to_z-of_z fits-from) at c.in-Some-nearest.ensures.nearest in
     let start = rw (to_z-of_z fits, c.entry.ensures) at c.in-Some.ensures in
-    rw c.moment_numbered.ensures (found_here c.args.way c.args.fields.now c.args.mark.instant c.args.mark.second c.args.stretch.now.first
+    rw c.moment_numbered.ensures (found_here c.args.way (g.S.CivilSeconds.has c.args.set.now) c.args.mark.instant c.args.mark.second c.args.stretch.now.first
     c.args.stretch.now.end c.args.offset
-    c.in-Some.from start c.in-Some-nearest_match.second near (omega arith) (omega arith))
+    c.in-Some.from start c.in-Some-nearest.second near (omega arith) (omega arith))

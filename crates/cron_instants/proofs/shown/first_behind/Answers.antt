@@ -8,7 +8,7 @@ is_true : (b : Bool) → b ≡ true → IsTrue b
 is_true b h = search rules
 
 pub returns : goal.returns
-returns c =
+returns g c =
     let range = c.requires.at in
     let near = c.args.kept.now.offset.in_range in
     let at : to_z w64 (of_z w64 c.args.at) ≡ c.args.at = omega (arith, signed_casts, range) in
@@ -16,5 +16,5 @@ returns c =
     omega (arith, signed_casts, range, near, c.from.ensures, c.seconds.ensures) in
     let long = rw at at (c.is_long.ensures (is_true c.is_long.result c.if-not-is_long.false)) in
     if_some
-    (λ first best. best c.args.fields.now c.args.at c.requires.agree c.requires.kept long (rw from at c.match_from.ensures.nearest))
+    (λ first best. best (g.S.CivilSeconds.has c.args.set.now) c.args.at c.requires.agree c.requires.kept long (rw from at c.match_from.ensures.nearest))
     c.first_in_long.result c.first_in_long.ensures

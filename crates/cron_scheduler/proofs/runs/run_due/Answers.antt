@@ -1,7 +1,7 @@
 use Rattle.std.proofs.Common.{◌≡◌, ◌++◌, ◌∷◌, [], sym, ◌∙◌, ap}
 use Rattle.std.proofs.lemmas.Result.{err_from_is_err_and}
 use Rattle.jiff.specs.Words.{plain_zone}
-use Rattle.cron_fires.specs.Rules.{is_by}
+use Rattle.cron_seconds.specs.Rules.{is_by}
 use Rattle.cron_scheduler.specs.declared.plan.Start.TheVariants.{Past}
 use Rattle.cron_scheduler.specs.Plans.{planned}
 use Rattle.cron_scheduler.specs.Passing.{planned_past}
@@ -24,11 +24,11 @@ loop-fire-preserved g c =
     let (rs, went, split, by, can, next) = c.loop-fire.invariant in
     let fire = c.in-Some.fire in
     let first = c.in-Some.ensures in
-    let ss = g.T.Timetable.schedules c.args.plan.now.table.now in
+    let s = g.T.CivilSeconds.has c.args.plan.now.table.now in
     let z = plain_zone c.args.plan.now.zone.now in
-    let passed : planned_past g.F.Fire.after g.F.Fire.past ss z fire c.loop-fire.rest.most ≡ planned g.F.Fire.after g.F.Fire.past ss z c.behind.result.start c.behind.result.most =
-    sym (ap (λ start. planned g.F.Fire.after g.F.Fire.past ss z start c.behind.result.most) c.behind.ensures.start
-    ∙ ap (λ most. planned g.F.Fire.after g.F.Fire.past ss z (Past fire) most) c.behind.ensures.most) in (
+    let passed : planned_past g.F.Fire.after g.F.Fire.past s z fire c.loop-fire.rest.most ≡ planned g.F.Fire.after g.F.Fire.past s z c.behind.result.start c.behind.result.most =
+    sym (ap (λ start. planned g.F.Fire.after g.F.Fire.past s z start c.behind.result.most) c.behind.ensures.start
+    ∙ ap (λ most. planned g.F.Fire.after g.F.Fire.past s z (Past fire) most) c.behind.ensures.most) in (
       rs ++ fire ∷ [],
       ran_on g.J.Job.runs rs fire _ c.loop-fire.job c.run.new.self went c.in_ok-run.ensures.call,
       left_on _ rs _ _ fire split (first.0 ∙ ap (λ l. fire ∷ l) passed),

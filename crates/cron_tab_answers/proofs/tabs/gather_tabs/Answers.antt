@@ -3,8 +3,8 @@ use Rattle.std.specs.Prelude.{Ok}
 use Rattle.std.proofs.lemmas.Option.{slice_get_past, slice_get_read}
 use Rattle.jiff.specs.Words.{plain_zone}
 use Rattle.cron_checking.proofs.Putting.{put_on}
-use Rattle.cron_tab_listing.specs.Listing.{TakesTab}
-use Rattle.cron_tab_listing.proofs.TakenLemmas.{taken-on}
+use Rattle.cron_tab_agenda.specs.Listing.{TakesTab}
+use Rattle.cron_tab_agenda.proofs.TakenLemmas.{taken-on}
 use Rattle.cron_writer.proofs.Sending.{both_ways}
 use Rattle.cron_tab_answers.proofs.TabLemmas.{row_on}
 use Rattle.cron_tab_answers.proofs.tabs.gather_tabs.Goals as goal

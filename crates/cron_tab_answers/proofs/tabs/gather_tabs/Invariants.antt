@@ -1,8 +1,8 @@
 use Rattle.std.proofs.Common.{◌≡◌, ℕ, List, length, map}
 use Rattle.jiff.specs.Words.{plain_zone}
 use Rattle.cron_checking.specs.Puts.{Puts}
-use Rattle.cron_tab_listing.specs.Listing.{AreTaken}
-use Rattle.cron_tab_listing.specs.declared.listing.TabFire.{TabFire}
+use Rattle.cron_tab_agenda.specs.Listing.{AreTaken}
+use Rattle.cron_tab_agenda.specs.declared.listing.TabFire.{TabFire}
 use Rattle.cron_tab_answers.specs.TabRows.{AreRows}
 use Rattle.cron_tab_answers.proofs.tabs.gather_tabs.Given as goal
 

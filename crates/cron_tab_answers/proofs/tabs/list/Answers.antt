@@ -3,7 +3,7 @@ use Rattle.jiff.specs.Words.{plain_zone}
 use Rattle.cron_writer.specs.Watching.{has_failed, writer_of, IsGathered}
 use Rattle.cron_writer.proofs.Calling.{handed_on, writes_on}
 use Rattle.cron_writer.proofs.Gathering.{nothing_gathered}
-use Rattle.cron_tab_listing.proofs.TakenLemmas.{taken-front}
+use Rattle.cron_tab_agenda.proofs.TakenLemmas.{taken-front}
 use Rattle.cron_tab_answers.specs.TabRows.{ListEndsAs, is_failed, wanted}
 use Rattle.cron_tab_answers.proofs.CheckLemmas.{unfailed}
 use Rattle.cron_tab_answers.proofs.TabLemmas.{end_marks, rows_end}

@@ -4,13 +4,13 @@ use Rattle.cron_units.specs.declared.way.Way.{Way}
 use Rattle.cron_units.specs.declared.way.Way.TheVariants.{Ahead, Back}
 use Rattle.cron_units.specs.Nearest.{LiesFrom, Precedes}
 
--- a number passes exactly if its block passes the outer test, and its rest the inner one there
+-- a number passes exactly if its block passes the outer test, and its remainder the inner one there
 pub record IsSplit (w : ℕ) (outer : ℕ → Bool) (inner : ℕ → ℕ → Bool) (test : ℕ → Bool) : Type 0 where
   pub block_fails : (n : ℕ) → outer (n / w) ≡ false → test n ≡ false
   pub rest_fails : (n : ℕ) → inner (n / w) (n % w) ≡ false → test n ≡ false
   pub passes : (m r : ℕ) → r < w → outer m ≡ true → inner m r ≡ true → test (m * w + r) ≡ true
 
--- in the block m, the numbers that lie from the start are those whose rests lie from s
+-- in the block m, the numbers from the start on are those whose remainders are s or past it
 pub record Enters (way : Way) (w : ℕ) (start : ℤ) (m s : ℕ) : Type 0 where
   pub into : (n : ℕ) → LiesFrom way start n → n / w ≡ m → LiesFrom way (pos s) (n % w)
   pub out : (r : ℕ) → r < w → LiesFrom way (pos s) r → LiesFrom way start (m * w + r)
@@ -25,7 +25,7 @@ pub record Reaches (way : Way) (w : ℕ) (outer test : ℕ → Bool) (start firs
   pub lies : LiesFrom way first m
   pub failed : (n : ℕ) → LiesFrom way start n → Precedes way (n / w) m → test n ≡ false
 
--- it has come to a block, or to the end
+-- the search has come to a block, or to the end: then no number from the start on passes
 abbrev pub ReachesIfAny : Way → ℕ → (ℕ → Bool) → (ℕ → Bool) → ℤ → ℤ → Option ℕ → Type 0
 ReachesIfAny way w outer test start first next =
     MatchOption next (AllFail way test start) (Reaches way w outer test start first)

@@ -1,4 +1,4 @@
--- Sets that were read have a member of each unit, and so a number of the units together.
+-- The sets of an expression have a member of each unit, and so a number of several units together.
 use Rattle.std.specs.Prelude.{◌≡◌, ℕ, zero, suc, ◌+◌, ◌-◌, ◌*◌, ◌/◌, ◌%◌, ◌<◌, ◌≤◌, Bool, true, false, ◌&&◌, cond, List, [], ◌∷◌, filter, nat_eq}
 use Rattle.std.specs.List.{range_with_len}
 use Rattle.std.proofs.Common.{arith, refl, sym, subst, inl, inr, eqb-true}
@@ -8,7 +8,7 @@ use Rattle.cron_units.specs.Units.{TimeUnit, whole, contains, years}
 use Rattle.cron_time.specs.Search.Inner.Numbers.{matches_month, matches_rest, matches_second}
 use Rattle.cron_moments.specs.Calendar.{months_end}
 
--- a member of a filtered stretch lies in the stretch
+-- a number that passes a filter of the n numbers from a on is one of these
 pub within : (p : ℕ → Bool) (a n x : ℕ) → contains (filter p (range_with_len a n)) x ≡ true → (a ≤ x) × (x < a + n)
 within p a zero x h = cc
 within p a (suc n) x h =
@@ -69,7 +69,7 @@ months_filled s a =
     let P : ℕ → Type 0 = λ n. contains s.months n ≡ true in
     (m.number - 1, omega (arith, m.low, m.high), subst P (sym e) m.is_member)
 
--- a number of two parts
+-- a number whose two parts pass their tests passes both together
 both_filled : (w : ℕ) (outer inner : ℕ → Bool) (m r : ℕ) → (m * w + r) / w ≡ m → (m * w + r) % w ≡ r → outer m ≡ true → inner r ≡ true
     → (outer ((m * w + r) / w) && inner ((m * w + r) % w)) ≡ true
 both_filled w outer inner m r e f o i = rw (e, f) (and_from (outer m) (inner r) o i)

@@ -1,4 +1,5 @@
--- Times of a day that have no reading, passed many at once.
+-- Times of a day that have no reading, passed many at once. A time stands if it is on the timeline:
+-- it matches and has a reading. A stretch is civil seconds with the same offsets.
 use Rattle.std.specs.Prelude.{◌≡◌, ℕ, ◌<◌, ◌≤◌, true, false, Option, MatchOption}
 use Rattle.jiff_tz.specs.declared.timezone.TimeZone.{TimeZone}
 use Rattle.cron_units.specs.declared.way.Way.{Way}
@@ -21,6 +22,7 @@ pub record IsNextTime (way : Way) (s : Sets) (z : TimeZone) (day time next : ℕ
   pub lies : LiesFrom way (beyond way time) next
   pub between : (t : ℕ) → LiesFrom way (beyond way time) t → Precedes way t next → stands_at s z day t ≡ false
 
--- or there is none, and past it none stands
+-- the next time of the day past another that lies in the sets, with none between that stands;
+-- `None` only if none past the other stands
 abbrev pub LeadsPast : Way → Sets → TimeZone → ℕ → ℕ → Option ℕ → Type 0
 LeadsPast way s z day time next = MatchOption next (AllFail way (stands_at s z day) (beyond way time)) (IsNextTime way s z day time)

@@ -1,4 +1,4 @@
--- The members that a search asks for.
+-- The members of the sets that a search looks up.
 use Rattle.std.specs.Prelude.{ℕ, List}
 use Rattle.cron_units.specs.Sets.{Sets}
 use Rattle.cron_units.specs.Units.{TimeUnit}

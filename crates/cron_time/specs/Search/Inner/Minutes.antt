@@ -16,6 +16,7 @@ pub record IsLaterInDay (way : Way) (s : Sets) (second next : ℕ) : Type 0 wher
   pub day : next / 86_400 ≡ second / 86_400
   pub nearest : IsNearestAt way (matches_second s) (beyond way (second % 86_400)) (next % 86_400)
 
--- or there is none in its day
+-- the nearest civil second of the same day, past another, whose time lies in the sets; `None`
+-- exactly if there is none
 abbrev pub IsNextInDay : Way → Sets → ℕ → Option ℕ → Type 0
 IsNextInDay way s second next = MatchOption next (AllFail way (matches_second s) (beyond way (second % 86_400))) (IsLaterInDay way s second)

@@ -1,4 +1,6 @@
--- Numbers that a search goes by: minutes and seconds of the day, months, and the ranks of dates.
+-- Numbers that a search goes by: minutes and seconds of the day, months, and the ranks of dates. A
+-- month is numbered from January of the year 0. A date's rank is 100 times its month plus its day
+-- of the month.
 use Rattle.std.specs.Prelude.{ℕ, ◌+◌, ◌*◌, ◌/◌, ◌%◌, ℤ, pos, ◌+ℤ◌, ◌-ℤ◌, Bool, true, false, ◌&&◌, nat_le, nat_lt}
 use Rattle.jiff_tz.specs.declared.timezone.TimeZone.{TimeZone}
 use Rattle.cron_units.specs.declared.way.Way.{Way}
@@ -36,15 +38,15 @@ matches_second s n = contains s.hours (n / 3600) && matches_rest s (n % 3600)
 abbrev pub matches_month_of_year : Sets → ℕ → Bool
 matches_month_of_year s n = contains s.months (n + 1)
 
--- year and month lie in their sets
+-- the year and the month of the year lie in their sets
 abbrev pub matches_month : Sets → ℕ → Bool
 matches_month s month = contains s.years (year_of month) && contains s.months (month_of month)
 
--- the day lies in its set and the month has it
+-- the day of the month lies in its set, and the month has it
 abbrev pub matches_day : Sets → ℕ → ℕ → Bool
 matches_day s month day = has_day s.days_of_month (length_of month) day && nat_le day (length_of month)
 
--- a candidate by its rank
+-- the date with this rank is a candidate: year, month and day of the month lie in their sets
 abbrev pub matches_rank : Sets → ℕ → Bool
 matches_rank s p = matches_month s (p / 100) && matches_day s (p / 100) (p % 100)
 
@@ -52,7 +54,7 @@ matches_rank s p = matches_month s (p / 100) && matches_day s (p / 100) (p % 100
 abbrev pub stands_at : Sets → TimeZone → ℕ → ℕ → Bool
 stands_at s z day time = nat_lt time 86_400 && stands s z (day * 86_400 + time)
 
--- the direction that code of its own goes in
+-- the direction that a constant of specialized code stands for: back if `true`
 abbrev pub way_of : Bool → Way
 way_of false = Ahead
 way_of true = Back

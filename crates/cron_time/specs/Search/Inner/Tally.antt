@@ -2,15 +2,15 @@
 use Rattle.std.specs.Prelude.{◌≡◌, ℕ, ◌+◌, ◌<◌, ℤ, Bool, true, ◌↔◌, ◌⊎◌, Option, Some, None, count_by}
 use Rattle.cron_units.specs.declared.way.Way.{Way}
 use Rattle.cron_units.specs.Nearest.{LiesFrom, Precedes}
-use Rattle.cron_time.specs.Timeline.{numbers_below}
+use Rattle.cron_time.specs.Seconds.{numbers_below}
 
--- so many numbers below the limit are of this kind
+-- `count` numbers below the limit are of this kind
 pub record IsTally (limit : ℕ) (Kind : ℕ → Type 0) (count : ℕ) : Type 0 where
   pub test : ℕ → Bool
   pub tells : (k : ℕ) → k < limit → (test k ≡ true) ↔ Kind k
   pub total : count ≡ count_by test (numbers_below limit)
 
--- a count went up by so many
+-- a count went up by how many numbers below the limit are of this kind
 pub record Adds (limit : ℕ) (Kind : ℕ → Type 0) (old new : ℕ) : Type 0 where
   pub count : ℕ
   pub is : new ≡ old + count
@@ -26,16 +26,16 @@ abbrev pub NotPast : Way → ℕ → Option ℕ → Type 0
 NotPast way k None = Unit {0}
 NotPast way k (Some n) = Precedes way k n ⊎ (k ≡ n)
 
--- a number from the start on that passes, as far as the search came
+-- a number that passes, from the start on, as far as `Until` allows
 pub record IsPassed (way : Way) (test : ℕ → Bool) (start : ℤ) (Until : ℕ → Type 0) (k : ℕ) : Type 0 where
   pub passes : test k ≡ true
   pub lies : LiesFrom way start k
   pub until : Until k
 
--- before the next one that it comes to
+-- a number that passes, from the start on and before the next one that the search comes to
 abbrev pub IsPassedBefore : Way → (ℕ → Bool) → ℤ → Option ℕ → ℕ → Type 0
 IsPassedBefore way test start next = IsPassed way test start (λ k. Before way k next)
 
--- as far as the answer
+-- a number that passes, from the start on as far as the answer
 abbrev pub IsPassedTo : Way → (ℕ → Bool) → ℤ → Option ℕ → ℕ → Type 0
 IsPassedTo way test start answer = IsPassed way test start (λ k. NotPast way k answer)

@@ -1,4 +1,4 @@
--- Where a call leaves a walk.
+-- Where a call leaves a walk. A walk's stand is where it is, by what its state keeps.
 use Rattle.std.specs.Prelude.{◌≡◌, ℤ, Some}
 use Rattle.cron_units.specs.declared.way.Way.{Way}
 use Rattle.jiff_tz.specs.declared.timezone.TimeZone.{TimeZone}
@@ -9,12 +9,12 @@ use Rattle.cron_time.specs.Timeline.{timeline}
 use Rattle.cron_time.specs.Walk.Ways.{place_from}
 use Rattle.cron_time.specs.Walk.Inner.Stand.{Stand}
 
--- what is kept says the answer and the cursor of this step
+-- the stand has the answer and the cursor of this step
 pub record IsLeftBy (s : Sets) (z : TimeZone) (step : Step) (stand : Stand) : Type 0 where
   pub placed : IsPlaced s z stand
   pub leads : step ≡ record { answer = answer_of stand; cursor = cursor_of s z stand }
 
--- the walk is left at the first item from the bound on
+-- the walk is left at the first item from the bound on, or at the end if there is none
 abbrev pub IsReached : Way → Sets → TimeZone → ℤ → Stand → Type 0
 IsReached way s z bound stand = IsLeftBy s z (go_to (timeline s z) (place_from way (timeline s z) (Some bound))) stand
 

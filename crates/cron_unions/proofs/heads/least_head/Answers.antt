@@ -1,14 +1,13 @@
-use Rattle.std.proofs.Common.{◌≡◌, ℕ, length, subst, take, arith}
-use Rattle.cron_units.specs.Nearest.{IsNearest}
+use Rattle.std.proofs.Common.{arith}
 use Rattle.cron_units.specs.declared.way.Way.TheVariants.{Ahead}
 use Rattle.cron_unions.specs.Inner.Heads.{match_of}
-use Rattle.cron_unions.specs.Nearest.{is_match_any}
+use Rattle.cron_time.specs.Timeline.{seconds_of}
 use Rattle.cron_unions.proofs.HeadLemmas.{least-more, match-min}
-use Rattle.cron_unions.proofs.NearestLemmas.{nearest-none}
+use Rattle.cron_unions.proofs.NearestLemmas.{nearest-end, nearest-none}
 use Rattle.cron_unions.proofs.heads.least_head.Goals as goal
 
 pub loop-head-init : goal.loop-head-init
-loop-head-init c = λ schedules from heads. nearest-none Ahead from
+loop-head-init c = λ schedules from heads. nearest-none seconds_of Ahead from
 
 pub loop-head-preserved : goal.loop-head-preserved
 loop-head-preserved c = λ schedules from heads.
@@ -16,6 +15,5 @@ loop-head-preserved c = λ schedules from heads.
     c.loop-head-test.true c.head-item.is (match-min c.loop-head.least c.head-item.result.next c.min-least.result c.min-least.ensures) (c.loop-head.invariant schedules from heads)
 
 pub returns : goal.returns
-returns c = λ schedules from heads.
-    let whole : c.loop-head.head-index ≡ length c.args.heads.now = omega arith in
-    subst (λ (n : ℕ). IsNearest Ahead (is_match_any (take n schedules)) from (match_of c.loop-head.least)) whole (c.loop-head.invariant schedules from heads)
+returns c = λ schedules from heads all.
+    nearest-end seconds_of Ahead from schedules c.loop-head.head-index (match_of c.loop-head.least) (omega arith) (c.loop-head.invariant schedules from heads)

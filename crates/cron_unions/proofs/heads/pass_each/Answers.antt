@@ -1,4 +1,4 @@
-use Rattle.std.proofs.Common.{rules, subst, pos, ◌+ℤ◌, FitsSigned, w64, to_z-of_z, arith}
+use Rattle.std.proofs.Common.{subst, pos, ◌+ℤ◌, arith}
 use Rattle.cron_unions.specs.Inner.Heads.{IsPassing}
 use Rattle.cron_unions.proofs.HeadLemmas.{passed-none, passed-next, passed-more, passed-all}
 use Rattle.cron_unions.proofs.heads.pass_each.Goals as goal
@@ -21,9 +21,8 @@ pub returns-clause-heads : goal.returns-clause-heads
 returns-clause-heads c =
     passed-all c.args.schedules.now c.args.second c.loop-at.at c.loop-at.heads (omega (arith, c.loop-at.auto.heads)) c.loop-at.invariant
 
-pub nearest_head-requires : goal.nearest_head-requires
-nearest_head-requires c =
-    let fits-second : FitsSigned w64 c.from.result = search rules in
-    let fits-next : FitsSigned w64 (c.from.result +ℤ pos 1) = search rules in
-    rw (to_z-of_z fits-second, to_z-of_z fits-next, c.from.ensures)
+pub returns-clause-nearest : goal.returns-clause-nearest
+returns-clause-nearest c =
+    c.least_head.ensures c.args.schedules.now (pos c.args.second +ℤ pos 1)
     (passed-all c.args.schedules.now c.args.second c.loop-at.at c.loop-at.heads (omega (arith, c.loop-at.auto.heads)) c.loop-at.invariant)
+    (omega (arith, c.loop-at.auto.heads, c.requires.all))

@@ -11,7 +11,7 @@ pass_each-requires-clause-passing c = passing-of c.args.schedules.now c.args.sec
 pub pass-requires-clause-passing : goal.pass-requires-clause-passing
 pass-requires-clause-passing c =
     let ss = c.args.schedules.now in
-    let count : length c.args.heads.now ≡ 2 = c.requires.both c.if-schedules-ne2.false in
+    let count : length c.args.heads.now ≡ 2 = omega (arith, c.requires.all, c.if-schedules-ne2.false) in
     let before = passing-of ss c.args.second c.args.heads.now c.requires.heads in
     subst (IsPassing c.index-schedules-0.result c.args.second) c.index-heads-0-then-heads-second.is
     (passing-at ss c.args.second 0 c.args.heads.now c.index-schedules-0.result c.index-heads-0-then-heads-second.result before (omega arith) c.index-schedules-0.is c.index-heads-0-then-heads-second.is)
@@ -19,7 +19,7 @@ pass-requires-clause-passing c =
 pub pass-requires-else-heads-second-clause-passing : goal.pass-requires-else-heads-second-clause-passing
 pass-requires-else-heads-second-clause-passing c =
     let ss = c.args.schedules.now in
-    let count : length c.args.heads.now ≡ 2 = c.requires.both c.if-schedules-ne2.false in
+    let count : length c.args.heads.now ≡ 2 = omega (arith, c.requires.all, c.if-schedules-ne2.false) in
     let before = passing-of ss c.args.second c.args.heads.now c.requires.heads in
     subst (IsPassing c.index-schedules-1.result c.args.second) c.index-heads-1.is
     (passing-at ss c.args.second 1 c.args.heads.now c.index-schedules-1.result c.index-heads-1.result before (omega arith) c.index-schedules-1.is c.index-heads-1.is)
@@ -27,7 +27,7 @@ pass-requires-else-heads-second-clause-passing c =
 pub pass_each-requires-then-least-second-clause-passing : goal.pass_each-requires-then-least-second-clause-passing
 pass_each-requires-then-least-second-clause-passing c =
     let ss = c.args.schedules.now in
-    let count : length c.args.heads.now ≡ 2 = c.requires.both c.if-schedules-ne2.false in
+    let count : length c.args.heads.now ≡ 2 = omega (arith, c.requires.all, c.if-schedules-ne2.false) in
     let before = passing-of ss c.args.second c.args.heads.now c.requires.heads in
     let passing : ArePassing ss c.args.second c.if-heads-second.heads = elim c.if-heads-second.branch [
       | then-heads-second w ↦ subst (ArePassing ss c.args.second) (sym w.heads-is)
@@ -40,7 +40,7 @@ pass_each-requires-then-least-second-clause-passing c =
 pub returns-clause-heads : goal.returns-clause-heads
 returns-clause-heads c =
     let ss = c.args.schedules.now in
-    let count : length c.args.heads.now ≡ 2 = c.requires.both c.if-schedules-ne2.false in
+    let count : length c.args.heads.now ≡ 2 = omega (arith, c.requires.all, c.if-schedules-ne2.false) in
     let before = passing-of ss c.args.second c.args.heads.now c.requires.heads in
     let passing : ArePassing ss c.args.second c.if-heads-second.heads = elim c.if-heads-second.branch [
       | then-heads-second w ↦ subst (ArePassing ss c.args.second) (sym w.heads-is)
@@ -60,7 +60,7 @@ returns-clause-heads c =
 pub returns-clause-nearest : goal.returns-clause-nearest
 returns-clause-nearest c =
     let ss = c.args.schedules.now in
-    let count : length c.args.heads.now ≡ 2 = c.requires.both c.if-schedules-ne2.false in
+    let count : length c.args.heads.now ≡ 2 = omega (arith, c.requires.all, c.if-schedules-ne2.false) in
     let before = passing-of ss c.args.second c.args.heads.now c.requires.heads in
     let passing : ArePassing ss c.args.second c.if-heads-second.heads = elim c.if-heads-second.branch [
       | then-heads-second w ↦ subst (ArePassing ss c.args.second) (sym w.heads-is)

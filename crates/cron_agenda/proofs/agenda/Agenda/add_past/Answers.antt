@@ -13,5 +13,5 @@ returns g c =
     let lent : slice_get (map plain_zone c.args.zones.now) c.args.zone ≡ Some (plain_zone c.in-Some.lent.now) =
     slice_get-map plain_zone c.args.zones.now c.args.zone
     ∙ ap (option_map plain_zone) (get_there c.args.zones.now c.args.zone c.in-Some.lent.now c.in-Some.ensures.lookup.3.0 c.in-Some.ensures.lookup.3.1) in
-    added g.T.Timetable.schedules (map plain_zone c.args.zones.now) c.args.table c.args.zone (λ z. fires_past (g.T.Timetable.schedules c.args.table) z c.args.last) c.args.self.now c.insert.result c.insert.new.self
+    added g.T.CivilSeconds.has (map plain_zone c.args.zones.now) c.args.table c.args.zone (λ z. fires_past (g.T.CivilSeconds.has c.args.table) z c.args.last) c.args.self.now c.insert.result c.insert.new.self
     (plain_zone c.in-Some.lent.now) c.in-Some-first_past.later lent c.in-Some-first_past.ensures.0 c.insert.ensures

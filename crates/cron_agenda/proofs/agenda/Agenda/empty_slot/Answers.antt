@@ -54,7 +54,7 @@ invariant_of-self g c =
     let same : c.index_mut-slot.result.now.id ≡ found.slot.id = ap (λ (v : Slot _). v.id) (c.index_mut-slot.ensures.value ∙ get_or_from_slice_get c.self.inside.slots.items c.in-Some.place found.slot c.index_mut-slot.result.now found.here) in (
       rw c.set.ensures.instants (kept-less c.self.invariant.0 found (with_head None c.index_mut-slot.result.now) same refl),
       (omega (arith, c.self.invariant.1.0), omega (arith, c.self.invariant.1.1, c.set.ensures.room)),
-      match_emptied g.T.Timetable.schedules c.self.inside.slots.items c.in-Some.place c.index_mut-slot.result.now c.self.invariant.2,
+      match_emptied g.T.CivilSeconds.has c.self.inside.slots.items c.in-Some.place c.index_mut-slot.result.now c.self.invariant.2,
     )
 
 pub returns-clause-found : goal.returns-clause-found

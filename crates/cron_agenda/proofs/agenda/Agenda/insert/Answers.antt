@@ -54,7 +54,7 @@ invariant_of-self-2 g c =
         omega (arith, c.self.invariant.1.0, c.try_reserve.ensures.len, c.try_reserve.ensures.capacity, c.push-2.ensures.upper_bound, c.push-2.ensures.capacity),
         omega (arith, c.self.invariant.1.1, c.push.ensures.room),
       ),
-      rw items (match_added g.T.Timetable.schedules c.self.inside.slots.items c.self.inside.added c.args.zone c.args.table c.args.fire c.requires c.self.invariant.2),
+      rw items (match_added g.T.CivilSeconds.has c.self.inside.slots.items c.self.inside.added c.args.zone c.args.table c.args.fire c.requires c.self.invariant.2),
     )
 
 pub returns : goal.returns

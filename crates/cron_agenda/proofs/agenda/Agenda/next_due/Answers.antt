@@ -22,4 +22,4 @@ returns g c =
     let at = c.timestamp.ensures in
     let due : is_by c.args.now.nanosecond c.in-Some.first ≡ true =
     le_yes (instant c.in-Some.first.fire *ℤ pos 1_000_000_000) c.args.now.nanosecond (omega (arith, signed_arith)) in
-    due_next g.T.Timetable.schedules _ c.args.now.nanosecond c.args.self.now c.next.result c.next.new.self c.in-Some.first c.in-Some.ensures due c.next.ensures
+    due_next g.T.CivilSeconds.has _ c.args.now.nanosecond c.args.self.now c.next.result c.next.new.self c.in-Some.first c.in-Some.ensures due c.next.ensures

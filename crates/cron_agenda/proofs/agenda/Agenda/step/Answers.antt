@@ -35,7 +35,7 @@ invariant_of-self g c =
         omega (arith, c.self.invariant.1.0, c.pop.ensures.len, c.pop.ensures.capacity),
         omega (arith, c.self.invariant.1.1, c.pop-then-to-at.ensures.room),
       ),
-      rw items (match_fewer g.T.Timetable.schedules (c.self.inside.scanned - 1) c.self.inside.slots.items c.self.invariant.2),
+      rw items (match_fewer g.T.CivilSeconds.has (c.self.inside.scanned - 1) c.self.inside.slots.items c.self.invariant.2),
     )
 
 pub returns-then-to-at : goal.returns-then-to-at
@@ -74,7 +74,7 @@ invariant_of-self-2 g c =
         omega (arith, c.self.invariant.1.1, c.set.ensures.room, c.set-2.ensures.room),
       ),
       rw c.swap.ensures.items
-          (match_swapped g.T.Timetable.schedules c.self.inside.slots.items c.self.inside.packed c.self.inside.scanned c.index-2.result.now c.index.result.now
+          (match_swapped g.T.CivilSeconds.has c.self.inside.slots.items c.self.inside.packed c.self.inside.scanned c.index-2.result.now c.index.result.now
           there here c.self.invariant.2),
     )
 

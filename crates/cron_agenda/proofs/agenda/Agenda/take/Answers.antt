@@ -51,7 +51,7 @@ invariant_of-self g c = (
       c.in-Some-head.fire c.in-Some-head.is c.index_mut-changed.result.now c.index_mut-changed.ensures.value c.next_past-next.result
       (none_told c.next_past-next.result c.is_none-is_last.result c.is_none-is_last.ensures ∙ c.if-is_last.true)),
   (omega (arith, c.self.invariant.1.0), omega (arith, c.self.invariant.1.1, c.set.ensures.room)),
-  match_taken g.T.Timetable.schedules c.self.inside.slots.items c.in-Some.place c.index-slot.result.now c.index_mut-changed.result.now c.next_past-next.result
+  match_taken g.T.CivilSeconds.has c.self.inside.slots.items c.in-Some.place c.index-slot.result.now c.index_mut-changed.result.now c.next_past-next.result
       (there c.self.invariant.0 c.in-Some.ensures c.index-slot.result.now c.index-slot.ensures)
       (there c.self.invariant.0 c.in-Some.ensures c.index_mut-changed.result.now c.index_mut-changed.ensures.value)
       c.next_past-next.ensures.1 c.self.invariant.2,
@@ -63,7 +63,7 @@ invariant_of-self-else-is_last g c = (
       c.in-Some-head.fire c.in-Some-head.is c.index_mut-changed.result.now c.index_mut-changed.ensures.value c.next_past-next.result
       (none_told c.next_past-next.result c.is_none-is_last.result c.is_none-is_last.ensures ∙ c.if-is_last.false)),
   (omega (arith, c.self.invariant.1.0), omega (arith, c.self.invariant.1.1, c.set.ensures.room)),
-  match_taken g.T.Timetable.schedules c.self.inside.slots.items c.in-Some.place c.index-slot.result.now c.index_mut-changed.result.now c.next_past-next.result
+  match_taken g.T.CivilSeconds.has c.self.inside.slots.items c.in-Some.place c.index-slot.result.now c.index_mut-changed.result.now c.next_past-next.result
       (there c.self.invariant.0 c.in-Some.ensures c.index-slot.result.now c.index-slot.ensures)
       (there c.self.invariant.0 c.in-Some.ensures c.index_mut-changed.result.now c.index_mut-changed.ensures.value)
       c.next_past-next.ensures.1 c.self.invariant.2,
@@ -73,7 +73,7 @@ pub returns : goal.returns
 returns g c =
     let lent = slice_get-map plain_zone c.args.zones.now c.index-slot.result.now.zone ∙ ap (option_map plain_zone) (get_there c.args.zones.now c.index-slot.result.now.zone c.in-Some-get.zone.now c.in-Some-get.ensures.lookup.3.0 c.in-Some-get.ensures.lookup.3.1) in
     let is = taken c.self.invariant.0 c.in-Some.ensures c.index-slot.result.now c.index-slot.ensures c.in-Some-head.fire c.in-Some-head.is
-    c.index_mut-changed.result.now c.index_mut-changed.ensures.value c.next_past-next.result g.T.Timetable.schedules (map plain_zone c.args.zones.now) (plain_zone c.in-Some-get.zone.now) lent c.next_past-next.ensures.0 c.is_none-is_last.result (none_told c.next_past-next.result c.is_none-is_last.result c.is_none-is_last.ensures) in
+    c.index_mut-changed.result.now c.index_mut-changed.ensures.value c.next_past-next.result g.T.CivilSeconds.has (map plain_zone c.args.zones.now) (plain_zone c.in-Some-get.zone.now) lent c.next_past-next.ensures.0 c.is_none-is_last.result (none_told c.next_past-next.result c.is_none-is_last.result c.is_none-is_last.ensures) in
     elim c.if-is_last.branch [
       | then-is_last w ↦ rw (← c.self.view_is, w.self-is) (is, refl, refl)
       | else-is_last w ↦ rw (← c.self.view_is, w.self-is) (is, refl, refl)

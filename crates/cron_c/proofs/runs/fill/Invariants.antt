@@ -1,7 +1,0 @@
-use Rattle.cron_c.specs.Structs.{IsItem}
-use Rattle.cron_c.proofs.Arrays.{IsRunning}
-use Rattle.cron_c.proofs.runs.fill.Given as goal
-
--- the items so far are written, and the run has the others left
-abbrev pub invariant-loop-at : goal.invariant-loop-at
-invariant-loop-at l = IsRunning IsItem l.initial.run l.run l.initial.items l.items l.at

@@ -1,6 +1,0 @@
--- Digits within a text.
-use Rattle.std.specs.Prelude.{ℕ, ◌+◌, ◌/◌, ◌%◌, List, slice_set}
-
--- the text with the last two digits of a number at this place
-unfoldable pub with_two_digits : List ℕ → ℕ → ℕ → List ℕ
-with_two_digits text at n = slice_set (slice_set text at (48 + n / 10 % 10)) (at + 1) (48 + n % 10)

@@ -1,4 +1,0 @@
-pub mod Answering
-pub mod Arguments
-pub mod Printing
-pub mod Ringing

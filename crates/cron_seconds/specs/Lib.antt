@@ -1,0 +1,4 @@
+pub mod Rules
+pub mod Runs
+pub mod Schedules
+pub mod Laws
