@@ -67,10 +67,11 @@ impl<'a, S: CivilSeconds, R: Rule> Run<'a, S, R> {
     pub fn past(set: S, fire: &R::Fire, clock: &'a R::Clock) -> Run<'a, S, R>
         ensures { result ≡ all_past R.is_past (R.fires (S.has set) clock.now) fire.now }
     {
+        let stand = R::stand_past(fire, clock);
         Run {
             set,
             clock,
-            stand: R::stand_past(fire, clock),
+            stand,
             cursor: S::begin(),
             until: None,
         }
@@ -97,12 +98,13 @@ impl<'a, S: CivilSeconds, R: Rule> Run<'a, S, R> {
         ensures { result
             ≡ all_past_by R.at R.is_past (R.fires (S.has set) clock.now) fire.now now.nanosecond }
     {
+        let until = now.to_plain().floor_second();
         Run {
             set,
             clock,
             stand: R::stand_past(fire, clock),
             cursor: S::begin(),
-            until: Some(now.to_plain().floor_second()),
+            until: Some(until),
         }
     }
 
