@@ -10,7 +10,7 @@ crates/NAME/cases/ has the cases of the program NAME that need arguments, files 
     a refused line                      what is tried
     input:                              standard input, where there is some
       */7 * * * * a
-    $ crontool check --warn jobs -      the words, as a shell reads them
+    $ crontool check jobs -             the words, as a shell reads them
       2> error: ..                      a line of standard error
       jobs:2: minute: ..                a line of standard output
       ...                               any lines, or none
@@ -34,7 +34,7 @@ from dataclasses import dataclass, field, replace
 
 from kit import rt
 
-COUNTED = {"crontool": ["page_counts", "ics_events", "collision_rows", "tab_rows", "stamp_rows"]}
+COUNTED = {"crontool": ["page_counts", "ics_events", "collision_rows", "tab_rows", "stamp_rows", "missed_rows", "look_rows"]}
 INDENT, ON_ERROR, ANY, NO_LINE_FEED = b"  ", b"2> ", b"...", rb"\c"
 ESCAPE = re.compile(rb"\\(?:x(?P<byte>[0-9a-f]{2})|\{(?P<again>[^}]+)\*(?P<count>\d+)\}|(?P<letter>.))")
 LETTERS = {b"\\": b"\\", b"t": b"\t", b"r": b"\r"}

@@ -6,6 +6,7 @@ they are less than the given minutes apart."""
 import datetime as dates
 import functools
 import itertools
+import json
 from zoneinfo import ZoneInfo
 
 from cases import Call, Check
@@ -95,28 +96,45 @@ def wanted(start, end, zone, options, minutes, entries):
             first = min(pairs, key=lambda it: max(it[0][0], it[1][0]))
             earliest = [it for it in pairs if max(it[0][0], it[1][0]) == max(first[0][0], first[1][0])]
             one, two = min(earliest, key=lambda it: (it[0][0], it[1][0]))
-            yield f"{place}\t{other}\t{(two if one[0] < two[0] else one)[1]}\t{len(pairs)}\n"
+            yield place, other, two if one[0] < two[0] else one, len(pairs)
 
 
-def differences(bounds, zone, options, minutes, entries, told):
-    rows = "".join(wanted(*bounds, zone, options, minutes, entries)).encode()
+def place_text(place):
+    """Where an entry stands, in a row of text."""
+    return ":".join(str(it) for it in place if it)
+
+
+def text_row(place, other, fire, number):
+    return f"{place_text(place)}\t{place_text(other)}\t{fire[1]}\t{number}\n"
+
+
+def json_row(place, other, fire, number):
+    members = {"line": place[1], "file": place[0], "other_line": other[1], "other_file": other[0]}
+    members |= {"fire": fire[1], "epoch": int(fire[0].timestamp()), "collisions": number}
+    return json.dumps({name: it for name, it in members.items() if it is not None}, separators=(",", ":")) + "\n"
+
+
+def differences(bounds, zone, options, minutes, entries, row_of, told):
+    rows = "".join(row_of(*row) for row in wanted(*bounds, zone, options, minutes, entries)).encode()
     if (told.out, told.err, told.status) != (rows, b"", 0 if rows else 1):
         yield f"{told.status} {told.err}{told.out} in place of {rows}"
 
 
-def check_of(number, case):
+def check_of(number, case, form, row_of):
     start, end, name, options, minutes, lists = case
     bounds = [dates.datetime.fromisoformat(it).replace(tzinfo=dates.timezone.utc) for it in (start, end)]
     files, entries = {}, []
     for place, lines in enumerate(lists):
         path = f"collisions_{number}_{place}.tab"
         files[path] = ("# fires\n" + "".join(it[0] + "\n" for it in lines)).encode()
-        front = f"{path}:" if len(lists) > 1 else ""
-        entries += [(f"{front}{line + 2}", it) for line, it in enumerate(lines)]
+        file = path if len(lists) > 1 else None
+        entries += [((file, line + 2), it) for line, it in enumerate(lines)]
     named = [word for it in files for word in ("--file", it)]
-    call = Call(["collisions", f"{start}Z", f"{end}Z", "--minutes", str(minutes), *named, "--zone", name, *options], files=files)
-    return Check(" ".join(call.words), [call], functools.partial(differences, bounds, ZoneInfo(name), options, minutes, entries))
+    call = Call(["collisions", f"{start}Z", f"{end}Z", "--minutes", str(minutes), *named, "--zone", name, *options, *form], files=files)
+    return Check(" ".join(call.words), [call], functools.partial(differences, bounds, ZoneInfo(name), options, minutes, entries, row_of))
 
 
 def checks():
-    return [check_of(number, case) for number, case in enumerate(CASES)]
+    for number, case in enumerate(CASES):
+        yield check_of(number, case, [], text_row)
+        yield check_of(number, case, ["--json"], json_row)

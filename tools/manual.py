@@ -8,6 +8,8 @@ from datetime import datetime, timezone
 
 TOP = os.path.dirname(os.path.dirname(os.path.realpath(__file__)))
 TOOL_PAGE = f"{TOP}/crates/crontool/CALLING.md"
+RUNS_PAGE = f"{TOP}/crates/crontool_runs/CALLING.md"
+UNITS_PAGE = f"{TOP}/crates/crontool_units/CALLING.md"
 LIBRARY_PAGE = f"{TOP}/crates/cron_c/CALLING.md"
 HEADER = f"{TOP}/crates/cron_c/include/cron_c.h"
 COLUMNS = 78
@@ -158,7 +160,7 @@ def bold(text):
 
 
 def subcommand(program, name):
-    """A subcommand: its uses, its line, its words and its options."""
+    """A subcommand: its uses, its line, its words, its options and its examples."""
     told = told_by(program, name)
     lines = part(name)
     for usage in usages_of(told):
@@ -168,7 +170,8 @@ def subcommand(program, name):
         for word, text in rows_of(told, head):
             if word != "-h, --help":
                 lines += entry(bold(word), f"{escaped(text)}.")
-    return lines
+    examples = told.partition("\nExamples:\n")[2].splitlines()
+    return lines + literal([it.strip() for it in examples]) if examples else lines
 
 
 def day_of(epoch):
@@ -183,11 +186,11 @@ def page(name, section, epoch, version, lines):
 
 
 def tool_manual(program, version, epoch):
-    """crontool(1), of what the program tells of itself, and of its page."""
+    """crontool(1), of what the program tells of itself, and of its pages."""
     whole = told_by(program)
     about = whole.partition("\n")[0]
     names = [name for name, _ in rows_of(whole, "Commands") if name != "help"]
-    parts = sections_of(TOOL_PAGE)
+    parts = {**sections_of(TOOL_PAGE), "Run": sections_of(RUNS_PAGE)[""], "Systemd": sections_of(UNITS_PAGE)[""]}
     told = parts.pop("")
     statuses, told = table_under(told[told.index("**EXPRESSION**") :], "Status")
     parts.pop("The library", None)

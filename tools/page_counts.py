@@ -94,10 +94,17 @@ def clock_lines(year, zone):
 
 
 def levels_fit(told):
-    """Whether levels of numbers are 0 where there are no fires, never fall as numbers grow, and reach 4 if a number does."""
-    pairs = sorted((number, level) for level, number in told)
-    levels = [level for _, level in pairs]
-    return levels == sorted(levels) and all((number == 0) == (level == 0) for number, level in pairs) and (pairs[-1][0] < 4 or levels[-1] == 4)
+    """Whether levels of numbers are their quarters of the greatest, rounded up."""
+    most = max(number for _, number in told) or 1
+    return all(level == (4 * number + most - 1) // most for level, number in told)
+
+
+def shades_of(days, each):
+    """What shades the days: of one expression its fires, else how many fire on the day but not on each day."""
+    if len(each) == 1:
+        return list(days.values())
+    some = [of for of, _ in each if min(of.values()) == 0]
+    return [sum(of[day] > 0 for of in some) for day in days]
 
 
 def squares_of(year, days):
@@ -143,11 +150,13 @@ def differences(case, told):
     if strips != [[place for place, fires in enumerate(of.values()) if fires] for of, _ in each]:
         yield f"{year} {zone}: strips"
     squares = [tuple(map(int, it)) for it in re.findall(r'<rect class="l(\d)" x="(\d+)" y="(\d+)"', text)]
-    if [it[1:] for it in squares] != squares_of(year, days) or not levels_fit([(it[0], fires) for it, fires in zip(squares, days.values())]):
+    shades = shades_of(days, each)
+    if [it[1:] for it in squares] != squares_of(year, days) or not levels_fit([(it[0], shade) for it, shade in zip(squares, shades)]):
         yield f"{year} {zone}: squares"
     if not levels_fit([tuple(map(int, it)) for it in re.findall(r'<td class="b(\d)">(\d+)<', text)]):
         yield f"{year} {zone}: levels of hours"
-    if f"up to {max(days.values())} a day" not in text or f"<p>Zone: {zone}</p>" not in text or f"<title>Fires of {year}</title>" not in text:
+    unit = "" if len(each) == 1 else " entries"
+    if f"up to {max(shades)}{unit} a day" not in text or f"<p>Zone: {zone}</p>" not in text or f"<title>Fires of {year}</title>" not in text:
         yield f"{year} {zone}: what the page says of itself"
     clock = re.search("<pre>(.*?)</pre>", text, re.DOTALL)[1].splitlines()
     if clock != list(clock_lines(year, ZoneInfo(zone))):
@@ -185,6 +194,57 @@ def month_differences(year, month, told):
         yield f"the fires are {fires}"
 
 
+def times_on(day, zone, once, minutes, of_day, of_month):
+    """The times of one expression's fires on a civil day, as a page names them."""
+    times = []
+    for minute in range(1440):
+        time = day + dates.timedelta(minutes=minute)
+        if time.minute in minutes and time.hour in of_day and (of_month is None or time.day in of_month):
+            times += [f"{time:%H:%M}"] * readings(zone, time, once)
+    return " ".join(times) if len(times) <= 6 else f"{' '.join(times[:3])} and {len(times) - 3} more"
+
+
+def day_lists(year, month, zone, options, expressions):
+    """The lines of a month's page that name what fires on each day."""
+    for day in range(1, calendar.monthrange(year, month)[1] + 1):
+        date = dates.datetime(year, month, day)
+        told = [(times_on(date, zone, is_once(options, it), *when), it) for it, when in expressions]
+        lines = [f"  {times}  {it}" for times, it in told if times]
+        if lines:
+            yield from [f"{date:%a %Y-%m-%d}", *lines]
+
+
+NAMED = [
+    (2024, 3, "America/Chicago", ["--as-shown"], [("*/15 2 * * *", (range(0, 60, 15), [2], None)), ("0 3 * * *", ([0], [3], None))]),
+    (2022, 11, "America/Chicago", ["--as-shown"], [("30 1 * * *", ([30], [1], None)), ("*/10 0-1 6 * *", (range(0, 60, 10), [0, 1], [6]))]),
+    (2022, 11, "America/Chicago", ["--once"], [("30 1 * * *", ([30], [1], None))]),
+    (2011, 12, "Pacific/Apia", ["--as-shown"], [("0 * 29,30 * *", ([0], range(24), [29, 30])), ("0 0-20/4 31 * *", ([0], range(0, 21, 4), [31]))]),
+    (2100, 12, "UTC", [], [("59 23 31 * *", ([59], [23], [31])), ("* * * * *", EVERY)]),
+]
+
+
+def named_call(case, *more):
+    year, month, zone, options, expressions = case
+    return page_of(f"{year}-{month:02}", *(it for it, _ in expressions), "--zone", zone, *options, *more)
+
+
+def named_differences(case, text, html):
+    """What a month's page names, as text and as HTML, against Python."""
+    year, month, zone, options, expressions = case
+    wanted = list(day_lists(year, month, ZoneInfo(zone), options, expressions))
+    lines = text.out.decode().splitlines()
+    found = [it for it in lines[15:] if not it.strip().endswith(("skips these times", "shows these times twice"))]
+    if found != wanted:
+        yield f"{found[:5]} and not {wanted[:5]}"
+    cells = re.findall("<td><b>([0-9]+)</b>(.*?)</td>", html.out.decode())
+    shown = []
+    for day, items in cells:
+        named = [f"  {times}  {it}" for times, it in re.findall("<p>(.*?) <code>(.*?)</code></p>", items)]
+        shown += [f"{dates.datetime(year, month, int(day)):%a %Y-%m-%d}", *named] if named else []
+    if shown != wanted or len(cells) != calendar.monthrange(year, month)[1]:
+        yield f"in HTML {shown[:5]}"
+
+
 LARGE = {12: "1.0M", 23: "1.9M", 115: "9.9M", 116: "10M"}
 
 
@@ -216,7 +276,8 @@ error: entries below CRON_TZ are left out of a calendar
 
 def leaves_out(of_file, of_entries):
     """A file in which lines name zones has the calendar of the other entries."""
-    if of_entries.status or (of_file.out, of_file.err, of_file.status) != (of_entries.out, LEFT_OUT, 1):
+    named = of_entries.out.replace(b"  0 12 * * *\n", b"  0 12 * * * x\n").replace(b"  0 15 * * *\n", b"  0 15 * * * v\n")
+    if of_entries.status or (of_file.out, of_file.err, of_file.status) != (named, LEFT_OUT, 1):
         yield f"status {of_file.status}, {of_file.err}, {of_file.out}"
 
 
@@ -254,6 +315,9 @@ def checks():
     for times, wanted in LARGE.items():
         call = page_of("2024-02", *["* * * * * *"] * times, "--zone", "UTC", "--width", "38")
         yield Check(f"{times * 86_400} fires a day", [call], functools.partial(is_cut, wanted))
+    for case in NAMED:
+        calls = [named_call(case), named_call(case, "--html")]
+        yield Check(f"what is named in {case[0]}-{case[1]} {case[2]} {' '.join(case[3])}", calls, functools.partial(named_differences, case))
     repeated = page_of("2022-11", "*/15 1 6 * *", "--as-shown", "--zone", "America/Chicago", "--width", "200")
     yield Check("a repeated hour", [repeated], repeats)
     zoned = page_of("2024-03", "--file", "-", "--zone", "UTC", stdin=ZONED)

@@ -1,6 +1,6 @@
 -- Fires before an instant.
-use Rattle.std.proofs.Common.{◌≡◌, ℤ, pos, ◌*ℤ◌, ◌-ℤ◌, ◌≤ℤ◌, neg_ℤ, Bool, List, false, inl, inr, ap, sym, ◌∙◌, arith}
-use Rattle.std.specs.Prelude.{filter, reverse}
+use Rattle.std.proofs.Common.{◌≡◌, ℤ, pos, ◌*ℤ◌, ◌-ℤ◌, ◌≤ℤ◌, neg_ℤ, List, false, inl, inr, ap, sym, ◌∙◌, arith}
+use Rattle.std.specs.Prelude.{reverse}
 use Rattle.jiff_core.proofs.SignedLemmas.{signed_arith}
 use Rattle.jiff_tz.specs.declared.timezone.TimeZone.{TimeZone}
 use Rattle.cron_clocks.proofs.Windows.{le_no}
@@ -36,3 +36,8 @@ dues-just_before ss z u t (inl e) = ap (dues_back (any_of ss) z) e
 dues-just_before ss z u t (inr (e, low)) =
     ap reverse (filter-alike (is_due_by t) (is_due_by (u -ℤ pos 1)) (dues (any_of ss) z)
     (λ d h. not_due_by t d (omega (arith, signed_arith)) ∙ sym (not_due_by (u -ℤ pos 1) d (omega (arith, signed_arith)))))
+
+-- the instant before the one of a due fire
+pub just_before-due : (d : Due) (u t : ℤ) → u ≡ dues.instant d *ℤ pos 1_000_000_000 → IsJustBefore u t → t ≡ dues.instant d *ℤ pos 1_000_000_000 -ℤ pos 1
+just_before-due d u t e (inl before) = before ∙ ap (λ n. n -ℤ pos 1) e
+just_before-due d u t e (inr (same, low)) = let far = d.offset.in_range in omega (arith, signed_arith)

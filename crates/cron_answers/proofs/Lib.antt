@@ -1,8 +1,11 @@
 pub mod RowLemmas
+pub mod TimedLemmas
 pub mod StampLemmas
 pub mod LatenessLemmas
 pub mod BackLemmas
 pub mod TallyLemmas
 pub mod ExpressionLemmas
 pub mod AnswerLemmas
+pub mod WholeLemmas
 pub mod QuartzLemmas
+pub mod SpanLemmas

@@ -1,16 +1,18 @@
 -- What the subcommand `explain` answers to its words, which are its arguments.
-use Rattle.std.specs.Prelude.{◌≡◌, ◌⊎◌, ◌++◌, ℕ, ℤ, pos, ◌+ℤ◌, List, Option}
+use Rattle.std.specs.Prelude.{◌≡◌, ◌⊎◌, ◌++◌, ℕ, ℤ, pos, ◌+ℤ◌, List, Option, Err}
 use Rattle.jiff_core.specs.Timestamp.{IsTimestampNanos}
 use Rattle.jiff_tz.specs.declared.timezone.TimeZone.{TimeZone}
 use Rattle.cron_walk_listing.specs.Output.{complaint}
-use Rattle.cron_answers.specs.Answers.{Given, IsAsked, IsOpened, IsTrouble}
-use Rattle.cron_answers.specs.Expressions.{changes_by, schedules_of, IsReadAs}
+use Rattle.cron_zones.specs.Opening.{Opens}
+use Rattle.cron_answers.specs.Answers.{Given, IsAsked, IsNotAsked, IsOpened}
+use Rattle.cron_answers.specs.Expressions.{changes_by, schedules_of}
 use Rattle.cron_answers.specs.Fires.{rows_by}
 use Rattle.cron_answers.specs.Pairs.{no_memory}
 use Rattle.cron_answers.specs.Reports.{IsHead, tally_text}
 use Rattle.cron_replies.specs.Statuses.{Ends, Reporting}
 use Rattle.cron_answers.specs.Tallies.{IsTallyBy}
-use Rattle.cron_answers.specs.Troubles.{IsTold}
+use Rattle.cron_answers.specs.Troubles.{IsTold, zone_word}
+use Rattle.cron_answers.specs.Wholes.{IsReadWhole, IsRefusedWhole}
 use Rattle.cron_answers.specs.declared.answer.Request.{Request}
 use Rattle.cron_answers.specs.declared.expression.Expression.{Expression}
 use Rattle.cron_answers.specs.declared.fires.Asked.{Asked}
@@ -19,6 +21,7 @@ use Rattle.cron_replies.specs.declared.status.Status.{Status}
 use Rattle.cron_replies.specs.declared.status.Status.TheVariants.{Done, Unreadable}
 use Rattle.cron_answers.specs.declared.tally.Tally.{Tally}
 use Rattle.cron_answers.specs.declared.trouble.Trouble.{Trouble}
+use Rattle.cron_answers.specs.declared.trouble.Trouble.TheVariants as trouble
 
 -- the instant from which fires are asked for, or before which for `Back`, in nanoseconds since 1970
 abbrev pub start_of : Asked → ℤ
@@ -40,27 +43,34 @@ IsYearAfter start end =
 -- fires in 365 days from the instant asked for.
 pub record IsExplained (r : Request) (e : Expression) (z : TimeZone) (asked : Asked) (was is : Option (List ℕ)) (status : Status) : Type 0 where
   pub head : List ℕ
-  pub is_head : IsHead r.quartz r.form r.expression.now e head
+  pub is_head : IsHead r.form r.expression.now e head
   pub end : ℤ
   pub is_end : IsYearAfter (start_of asked) end
   pub tally : Tally
   pub is_tally : IsTallyBy (changes_by r.changes e) (schedules_of e) z (start_of asked) end tally
   pub ends : Ends Done ((head ++ rows_by (changes_by r.changes e) r.form asked (schedules_of e) z) ++ tally_text r.form tally) was is status
 
--- The expression, the zone and the instants of the words were read, and the expression was
--- explained by them.
+-- The expression, perhaps of a crontab's line, the zone and the instants of the words were read, and
+-- the expression was explained by them.
 pub record Explains {F : Type 0} (g : Given F) (r : Request) (old new : F) (was is : Option (List ℕ)) (status : Status) : Type 0 where
   pub expression : Expression
-  pub reads : IsReadAs r.quartz r.expression.now expression
+  pub reads : IsReadWhole r.quartz r.expression.now expression
   pub zone : TimeZone
   pub opened : IsOpened g r old zone new
   pub asked : Asked
   pub asks : IsAsked r.which zone g.now asked
   pub explained : IsExplained r expression zone asked was is status
 
+-- Why nothing can be explained: the first that is wrong of the expression, the zone and the instants.
+abbrev pub IsUnexplained : {F : Type 0} → Given F → Request → F → F → Trouble → Type 0
+IsUnexplained g r old new (trouble.Expression text refusal) = (text.now ≡ r.expression.now) × IsRefusedWhole r.quartz r.expression.now refusal × (new ≡ old)
+IsUnexplained g r old new (trouble.Zone text error) =
+    (text.now ≡ zone_word g.places.tz r.zone.now) × ((e : Expression) × IsReadWhole r.quartz r.expression.now e) × Opens g.reads r.zone.now g.places old (Err error) new
+IsUnexplained g r old new other = ((e : Expression) × IsReadWhole r.quartz r.expression.now e) × ((z : TimeZone) × IsOpened g r old z new × IsNotAsked r.which z g.now other)
+
 -- The expression was explained, and nothing was complained of; or a word is wrong, or memory ran out, and that was complained of.
 abbrev pub AnswersExplain : {F W C : Type 0} → Given F → Request → Reporting W → Reporting C → F × W × C → Status → F × W × C → Type 0
 AnswersExplain g r out complaints old status new =
     (out (Explains g r old.0 new.0) old.1 status new.1 × (new.2 ≡ old.2))
-    ⊎ (((t : Trouble) × IsTrouble g r old.0 new.0 t × complaints (IsTold t) old.2 status new.2 × (new.1 ≡ old.1))
+    ⊎ (((t : Trouble) × IsUnexplained g r old.0 new.0 t × complaints (IsTold t) old.2 status new.2 × (new.1 ≡ old.1))
     ⊎ (complaints (Ends Unreadable (complaint no_memory)) old.2 status new.2 × (new.1 ≡ old.1)))

@@ -16,6 +16,8 @@ use Rattle.cron_unions.specs.Unions.{any_of}
 use Rattle.cron_dues.specs.FirstDues.{IsDue}
 use Rattle.cron_fires.specs.declared.changes.ClockChanges.{ClockChanges}
 use Rattle.cron_fires.specs.declared.changes.ClockChanges.TheVariants.{AsShown, Once}
+use Rattle.cron_replies.specs.declared.form.Form.{Form}
+use Rattle.cron_replies.specs.declared.form.Form.TheVariants.{Text, Json}
 use Rattle.cron_replies.specs.Statuses.{Ends}
 use Rattle.cron_answers.specs.declared.missed.Missed.{Missed}
 use Rattle.cron_replies.specs.declared.status.Status.{Status}
@@ -62,31 +64,52 @@ IsSinceText second o text = (shown : Option Reading) × IsShown second o shown �
 abbrev pub late_sentence : List ℕ → List ℕ → List ℕ
 late_sentence since text = codes "late since " ++ (since ++ (codes ": " ++ (text ++ codes " was missed\n")))
 
--- The sentence says which fire was missed and since when it is late, as the clock shows it at the
--- fire's offset, or that none was.
-abbrev pub IsSentence : {A : Type 0} → (A → List ℕ) → (A → Offset) → Option (Missed A) → List ℕ → Type 0
-IsSentence text offset None s = s ≡ in_time_sentence
-IsSentence text offset (Some m) s = (since : List ℕ) × IsSinceText m.since (offset m.fire) since × (s ≡ late_sentence since (text m.fire))
+abbrev pub in_time_object : List ℕ
+in_time_object = codes "{\"late\":false}\n"
+
+-- a missed fire as JSON, with its text and its instant, and since when it is late: `{"late":true,
+-- "fire":"2022-11-06 01:30:00 -06:00","epoch":1667719800,"since":"2022-11-06 01:40:00 -06:00",
+-- "since_epoch":1667720400}`, on one line
+abbrev pub late_object : List ℕ → ℤ → List ℕ → ℤ → List ℕ
+late_object since since_second text second =
+    codes "{\"late\":true,\"fire\":\"" ++ (text ++ (codes "\",\"epoch\":" ++ (signed_decimal second ++ (codes ",\"since\":\"" ++ (since
+    ++ (codes "\",\"since_epoch\":" ++ (signed_decimal since_second ++ codes "}\n")))))))
+
+-- the sentence, or the object of JSON, if no fire was missed
+abbrev pub in_time_text : Form → List ℕ
+in_time_text Text = in_time_sentence
+in_time_text Json = in_time_object
+
+abbrev pub late_text : Form → List ℕ → ℤ → List ℕ → ℤ → List ℕ
+late_text Text since since_second text second = late_sentence since text
+late_text Json since since_second text second = late_object since since_second text second
+
+-- The sentence, or the object of JSON, says which fire was missed and since when it is late, as the
+-- clock shows it at the fire's offset, or that none was.
+abbrev pub IsSentence : {A : Type 0} → Form → (A → List ℕ) → (A → ℤ) → (A → Offset) → Option (Missed A) → List ℕ → Type 0
+IsSentence form text second offset None s = s ≡ in_time_text form
+IsSentence form text second offset (Some m) s =
+    (since : List ℕ) × IsSinceText m.since (offset m.fire) since × (s ≡ late_text form since m.since (text m.fire) (second m.fire))
 
 abbrev pub late_status : {A : Type 0} → Option A → Status
 late_status None = Done
 late_status (Some m) = No
 
 -- The sentence was written, and the status is `No` if a fire was missed.
-abbrev pub Says : {A : Type 0} → (A → List ℕ) → (A → Offset) → Option (Missed A) → Option (List ℕ) → Option (List ℕ) → Status → Type 0
-Says text offset missed was is status = (s : List ℕ) × IsSentence text offset missed s × Ends (late_status missed) s was is status
+abbrev pub Says : {A : Type 0} → Form → (A → List ℕ) → (A → ℤ) → (A → Offset) → Option (Missed A) → Option (List ℕ) → Option (List ℕ) → Status → Type 0
+Says form text second offset missed was is status = (s : List ℕ) × IsSentence form text second offset missed s × Ends (late_status missed) s was is status
 
 -- The sentence on whether one of these fires was missed was written.
 abbrev pub SaysWhether :
-    {A : Type 0} → (A → List ℕ) → (A → Offset) → (A → ℤ) → (A → ℕ) → (A → Type 0) → ℤ → ℕ → ℤ → Option (List ℕ) → Option (List ℕ) → Status → Type 0
-SaysWhether {A} text offset second civil IsFire last grace now was is status =
-    (missed : Option (Missed A)) × IsFirstMissed IsFire second civil last grace now missed × Says text offset missed was is status
+    {A : Type 0} → Form → (A → List ℕ) → (A → Offset) → (A → ℤ) → (A → ℕ) → (A → Type 0) → ℤ → ℕ → ℤ → Option (List ℕ) → Option (List ℕ) → Status → Type 0
+SaysWhether {A} form text offset second civil IsFire last grace now was is status =
+    (missed : Option (Missed A)) × IsFirstMissed IsFire second civil last grace now missed × Says form text second offset missed was is status
 
 -- The sentence on whether a fire of some schedules was missed in a zone, by a rule at clock
 -- changes, was written.
-abbrev pub SaysWhetherBy : ClockChanges → List Sets → TimeZone → ℤ → ℕ → ℤ → Option (List ℕ) → Option (List ℕ) → Status → Type 0
-SaysWhetherBy AsShown ss z = SaysWhether moment_text (λ r. r.offset) moments.instant (λ r. r.second) (IsItem (any_of ss) z)
-SaysWhetherBy Once ss z = SaysWhether due_text (λ d. d.offset) dues.instant (λ d. d.second) (IsDue (any_of ss) z)
+abbrev pub SaysWhetherBy : ClockChanges → Form → List Sets → TimeZone → ℤ → ℕ → ℤ → Option (List ℕ) → Option (List ℕ) → Status → Type 0
+SaysWhetherBy AsShown form ss z = SaysWhether form moment_text (λ r. r.offset) moments.instant (λ r. r.second) (IsItem (any_of ss) z)
+SaysWhetherBy Once form ss z = SaysWhether form due_text (λ d. d.offset) dues.instant (λ d. d.second) (IsDue (any_of ss) z)
 
 -- ---- how the missed fire is found
 

@@ -1,5 +1,5 @@
 -- What is said of an expression.
-use Rattle.std.specs.Prelude.{◌≡◌, ◌⊎◌, ◌++◌, ◌∷◌, ℕ, Bool, true, false, List, [], Option, Some, None, codes}
+use Rattle.std.specs.Prelude.{◌≡◌, ◌⊎◌, ◌++◌, ℕ, List, [], Option, Some, None, codes}
 use Rattle.std.specs.Fmt.{decimal}
 use Rattle.cron_crontab.specs.Crontab as tabs
 use Rattle.cron_tab_lines.specs.declared.kinds.Crontab.TheVariants.{User}
@@ -9,9 +9,9 @@ use Rattle.cron_tab_warnings.specs.declared.warnings.TheConstants.{WARNINGS}
 use Rattle.cron_words.specs.Sentence.{sentence}
 use Rattle.cron_words.specs.Waits.{wait_text}
 use Rattle.cron_replies.specs.Telling.{TellsThose}
-use Rattle.cron_answers.specs.Expressions.{IsNoCrontabs, schedules_of}
+use Rattle.cron_answers.specs.Expressions.{schedules_of}
 use Rattle.cron_answers.specs.declared.expression.Expression.{Expression}
-use Rattle.cron_answers.specs.declared.expression.Expression.TheVariants.{Reboot}
+use Rattle.cron_answers.specs.declared.expression.Expression.TheVariants.{Crontab, Reboot, Own, Quartz}
 use Rattle.cron_replies.specs.declared.form.Form.{Form}
 use Rattle.cron_replies.specs.declared.form.Form.TheVariants.{Text, Json}
 use Rattle.cron_answers.specs.declared.tally.Tally.{Tally}
@@ -35,16 +35,25 @@ warning_line Json text = codes "{\"warning\":\"" ++ (text ++ codes "\"}\n")
 abbrev pub TellsOfTab : Form → List ℕ → tabs.Meaning → List ℕ → Type 0
 TellsOfTab form text meaning told = TellsThose (λ w. Warns User w text meaning) (λ w. warning_line form (warning_text w)) WARNINGS told
 
--- `told` has the warnings of a text. There are none if it is Quartz's, or no crontab's expression.
-abbrev pub TellsWarnings : Bool → Form → List ℕ → List ℕ → Type 0
-TellsWarnings true form text told = told ≡ []
-TellsWarnings false form text told =
-    ((m : tabs.Meaning) × tabs.Means text m × TellsOfTab form text m told) ⊎ (IsNoCrontabs text × (told ≡ []))
+-- what a crontab's expression means
+abbrev pub IsTab : Expression → tabs.Meaning → Type 0
+IsTab (Crontab some changes) m = m ≡ tabs.schedules some
+IsTab Reboot m = m ≡ tabs.reboot
+IsTab (Own one) m = ⊥
+IsTab (Quartz union) m = ⊥
+
+abbrev pub IsNoTab : Expression → Type 0
+IsNoTab e = (m : tabs.Meaning) → IsTab e m → ⊥
+
+-- `told` has the warnings of an expression, by its text or its line. There are none if it isn't a
+-- crontab's.
+abbrev pub TellsWarnings : Form → List ℕ → Expression → List ℕ → Type 0
+TellsWarnings form text e told = ((m : tabs.Meaning) × IsTab e m × TellsOfTab form text m told) ⊎ (IsNoTab e × (told ≡ []))
 
 -- the sentence of an expression, and then its warnings
-pub record IsHead (quartz : Bool) (form : Form) (text : List ℕ) (e : Expression) (head : List ℕ) : Type 0 where
+pub record IsHead (form : Form) (text : List ℕ) (e : Expression) (head : List ℕ) : Type 0 where
   pub warnings : List ℕ
-  pub tells : TellsWarnings quartz form text warnings
+  pub tells : TellsWarnings form text e warnings
   pub joined : head ≡ sentence_line form (sentence_of e) ++ warnings
 
 -- the shortest and the longest wait between fires, in words, or in seconds for JSON; nothing if

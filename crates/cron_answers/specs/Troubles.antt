@@ -11,13 +11,16 @@ use Rattle.cron_replies.specs.Statuses.{Ends}
 use Rattle.cron_replies.specs.declared.status.Status.{Status}
 use Rattle.cron_replies.specs.declared.status.Status.TheVariants.{WrongWords, Unreadable}
 use Rattle.cron_answers.specs.declared.trouble.Trouble.{Trouble}
-use Rattle.cron_answers.specs.declared.trouble.Trouble.TheVariants.{Expression, Zone, Instant, Order}
+use Rattle.cron_answers.specs.declared.trouble.Trouble.TheVariants.{Expression, Zone, Instant, Whole, Order, Format, NoMemory}
 
 abbrev pub trouble_text : Trouble → List ℕ
 trouble_text (Expression text refusal) = codes "'" ++ (text.now ++ (codes "' is no expression: " ++ refusal_text refusal))
 trouble_text (Zone text error) = codes "the zone '" ++ (text.now ++ (codes "' can't be had: " ++ zone_error_text error))
-trouble_text (Instant text) = codes "'" ++ (text.now ++ codes "' is no instant")
+trouble_text (Instant text) = codes "'" ++ (text.now ++ codes "' is no instant, as now, today, tomorrow, yesterday, monday to sunday, 2024-02, 2024-02-29, '2024-02-29 14:30', 14:30, +8h, -90m, +30s, +2d, -1w, @1709217000 or 2024-02-29T14:30:00Z")
+trouble_text (Whole text) = codes "'" ++ (text.now ++ codes "' is no whole day or month, as today, tonight, monday, 2024-02-29 or 2024-02; or an END is missing")
 trouble_text (Order start end) = codes "START '" ++ (start.now ++ (codes "' comes after END '" ++ (end.now ++ codes "'")))
+trouble_text (Format text) = codes "'" ++ (text.now ++ codes "' is no format of strftime, as '%F %T %z'; no name of a zone is known")
+trouble_text NoMemory = codes "out of memory"
 
 -- the status if a zone can't be opened: a word is wrong if no zone has the name, else something
 -- can't be read
@@ -29,7 +32,10 @@ abbrev pub status_of : Trouble → Status
 status_of (Expression text refusal) = WrongWords
 status_of (Zone text error) = zone_status error
 status_of (Instant text) = WrongWords
+status_of (Whole text) = WrongWords
 status_of (Order start end) = WrongWords
+status_of (Format text) = WrongWords
+status_of NoMemory = Unreadable
 
 -- the name of a zone in messages: for `local` it is the value of TZ, if that is set
 abbrev pub zone_word : Option (Bor (List ℕ)) → List ℕ → List ℕ

@@ -6,12 +6,15 @@ ghost use Rattle.cron_writer.specs.Watching.{has_failed};
 ghost use Rattle.cron_answers.specs.Answers.{given, Answers, IsAsked, IsNotAsked};
 ghost use Rattle.cron_replies.specs.Statuses.{is_write_failure, Reports};
 
-use crate::fires::{Asked, list};
+use crate::fires::Asked;
 use crate::instant::instant_of;
+use crate::listing::list_fires;
 use crate::quartz_note::note;
+use crate::span::{Span, ends_of};
 use crate::subject::subject_of;
 use crate::trouble::{Trouble, tell};
 use cron_fires::ClockChanges;
+use cron_looks::Times;
 use cron_replies::form::Form;
 use cron_replies::status::Status;
 use cron_writer::watchable::Watchable;
@@ -29,8 +32,8 @@ pub enum Which<'a> {
     Next(u64, &'a str),
     /// The last fires before START: their number, and START.
     Back(u64, &'a str),
-    /// The fires after START, up to and including END.
-    Between(&'a str, &'a str),
+    /// The fires of a span.
+    Between(Span<'a>),
 }
 
 /// The arguments of `next` or `between`, not read yet.
@@ -48,10 +51,13 @@ pub struct Request<'a> {
     pub changes: Option<ClockChanges>,
     /// How fires are written.
     pub form: Form,
+    /// How the times of fires are written, where each is a line of text. Only `Times::Plain` goes
+    /// with `Form::Json`.
+    pub times: Times<'a>,
 }
 
-/// Reads the instants of `which`. `Err` has the first text that is no instant, or says that START
-/// comes after END.
+/// Reads the instants of `which`. `Err` has the first text that is no instant, or says what is wrong
+/// with a span.
 pub(crate) fn asked_of<'a>(
     which: &Which<'a>,
     zone: &TimeZone<'_>,
@@ -66,18 +72,10 @@ pub(crate) fn asked_of<'a>(
             Some(instant) => Ok(Asked::Next(instant, count)),
             None => Err(Trouble::Instant(start)),
         },
-        Which::Between(start, end) => {
-            let Some(first) = instant_of(start, zone, now) else {
-                return Err(Trouble::Instant(start));
-            };
-            let Some(last) = instant_of(end, zone, now) else {
-                return Err(Trouble::Instant(end));
-            };
-            if last < first {
-                return Err(Trouble::Order(start, end));
-            }
-            Ok(Asked::Between(first, last))
-        }
+        Which::Between(span) => match ends_of(&span, zone, now) {
+            Ok(ends) => Ok(Asked::Between(ends.0, ends.1)),
+            Err(trouble) => Err(trouble),
+        },
         Which::Back(count, start) => match instant_of(start, zone, now) {
             Some(instant) => Ok(Asked::Back(instant, count)),
             None => Err(Trouble::Instant(start)),
@@ -113,17 +111,10 @@ pub fn answer<F: ZoneFiles, W: Watchable, C: Watchable>(
     let expression = &subject.expression;
     let zone = subject.zone.time_zone();
     match asked_of(&request.which, &zone, now) {
-        Ok(asked) => {
-            let listed = list(
-                expression,
-                request.changes,
-                &asked,
-                &zone,
-                request.form,
-                out,
-            );
-            note(request, expression, &asked, &zone, listed, complaints)
-        }
+        Ok(asked) => match list_fires(alloc, request, expression, &asked, &zone, out) {
+            Ok(listed) => note(request, expression, &asked, &zone, listed, complaints),
+            Err(unlisted) => tell(alloc, &unlisted, complaints),
+        },
         Err(trouble) => tell(alloc, &trouble, complaints),
     }
 }

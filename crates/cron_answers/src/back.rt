@@ -10,9 +10,9 @@ use cron_units::fields::ScheduleFields;
 use jiff::Timestamp;
 use jiff::tz::TimeZone;
 
-// The last instant before `instant`. The first instant of all is returned unchanged: no fire comes
-// up to it.
-fn just_before(instant: Timestamp) -> Timestamp
+/// The last instant before `instant`. The first instant of all is returned unchanged: no fire comes
+/// up to it.
+pub(crate) fn just_before(instant: Timestamp) -> Timestamp
     ensures { IsJustBefore instant.nanosecond result.nanosecond }
 {
     match Timestamp::from_nanosecond(instant.as_nanosecond() - 1) {

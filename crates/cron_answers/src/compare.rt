@@ -4,13 +4,14 @@
 ghost use Rattle.std.specs.Prelude.{◌≡◌, ◌||◌, false, IfOk};
 ghost use Rattle.std.specs.String.{string_bytes};
 ghost use Rattle.cron_writer.specs.Watching.{has_failed};
-ghost use Rattle.cron_answers.specs.Pairs.{Compares, difference_status, difference_text};
+ghost use Rattle.cron_answers.specs.Pairs.{Compares, difference_row, difference_status, difference_text};
 ghost use Rattle.cron_replies.specs.Statuses.{is_write_failure, Reports};
 
 use crate::pair::{Pair, matches_second, read_both, send_text, tell_no_memory};
 use crate::trouble::tell;
 use cron_comparing::difference::first_difference;
 use cron_moments::civil::civil_of;
+use cron_replies::form::Form;
 use cron_replies::status::Status;
 use cron_units::fields::ScheduleFields;
 use cron_writer::watchable::Watchable;
@@ -28,23 +29,38 @@ fn difference_status(found: Option<u32>) -> Status
     }
 }
 
-// The line of the first difference: its civil second, and whether the first or the second
-// expression matches it. It is empty if there is no difference.
+// The line of a difference: its civil second, and whether the first or the second expression
+// matches it.
+fn difference_row(
+    alloc: Global,
+    form: Form,
+    union: &[ScheduleFields],
+    second: u32,
+) -> Result<String, AllocError>
+    ensures { IfOk result (λ row. string_bytes row ≡ difference_row form union.now second) }
+{
+    let at = civil_of(second);
+    let first = matches_second(union, second);
+    match form {
+        Form::Text if first => format!(in alloc; "{at}: the first alone\n"),
+        Form::Text => format!(in alloc; "{at}: the second alone\n"),
+        Form::Json if first => format!(in alloc; "{{\"at\":\"{at}\",\"alone\":\"first\"}}\n"),
+        Form::Json => format!(in alloc; "{{\"at\":\"{at}\",\"alone\":\"second\"}}\n"),
+    }
+}
+
+// The line of the first difference. It is empty if there is none.
 fn difference_text(
     alloc: Global,
+    form: Form,
     union: &[ScheduleFields],
     found: Option<u32>,
 ) -> Result<String, AllocError>
-    ensures { IfOk result (λ text. string_bytes text ≡ difference_text union.now found) }
+    ensures { IfOk result (λ text. string_bytes text ≡ difference_text form union.now found) }
 {
-    let Some(second) = found else {
-        return Ok(String::new(alloc));
-    };
-    let date_time = civil_of(second);
-    if matches_second(union, second) {
-        format!(in alloc; "{date_time}: the first alone\n")
-    } else {
-        format!(in alloc; "{date_time}: the second alone\n")
+    match found {
+        Some(second) => difference_row(alloc, form, union, second),
+        None => Ok(String::new(alloc)),
     }
 }
 
@@ -70,7 +86,7 @@ pub fn compare<W: Watchable, C: Watchable>(
     };
     let union = both.first.as_slice();
     let found = first_difference(union, both.second.as_slice());
-    match difference_text(alloc, union, found) {
+    match difference_text(alloc, pair.form, union, found) {
         Ok(text) => send_text(text.as_str(), difference_status(found), out),
         Err(_) => tell_no_memory(complaints),
     }

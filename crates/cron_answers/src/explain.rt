@@ -17,9 +17,9 @@ use crate::expression::Expression;
 use crate::fires::{Asked, send_fires};
 use crate::pair::tell_no_memory;
 use crate::report::{head_of, tally_text};
-use crate::subject::subject_of;
 use crate::tally::count_fires;
 use crate::trouble::tell;
+use crate::whole::whole_subject_of;
 use cron_fires::ClockChanges;
 use cron_replies::form::Form;
 use cron_replies::status::{Status, finish};
@@ -74,13 +74,7 @@ fn texts_of(
     ensures { IfOk result (λ texts.
         AreTexts request.now expression.now (plain_zone zone.now) asked.now texts) }
 {
-    let head = head_of(
-        alloc,
-        request.quartz,
-        request.form,
-        request.expression,
-        expression,
-    )?;
+    let head = head_of(alloc, request.form, request.expression, expression)?;
     let start = start_of(asked);
     let end = year_after(start);
     let changes = expression.changes(request.changes);
@@ -137,8 +131,9 @@ fn send_between<W: Watchable>(
     finish(out, Status::Done)
 }
 
-/// Answers a request. It writes the sentence of the expression, its warnings if it is a crontab's,
-/// and the requested fires to `out`. Then come the number of fires in the 365 days from START on,
+/// Answers a request. EXPRESSION may be a line of a user's crontab, whose command is left out. It
+/// writes the sentence of the expression, its warnings if it is a crontab's, and the requested fires
+/// to `out`. Then come the number of fires in the 365 days from START on,
 /// and the shortest and the longest wait between two. What is wrong goes to `complaints`. No call
 /// of the writers may have failed before.
 pub fn explain<F: ZoneFiles, W: Watchable, C: Watchable>(
@@ -158,7 +153,7 @@ pub fn explain<F: ZoneFiles, W: Watchable, C: Watchable>(
     ensures mark { (has_failed out.new || has_failed complaints.new) ≡ is_write_failure result }
 {
     let (quartz, text) = (request.quartz, request.expression);
-    let subject = match subject_of(alloc, quartz, text, request.zone, places, files) {
+    let subject = match whole_subject_of(alloc, quartz, text, request.zone, places, files) {
         Ok(subject) => subject,
         Err(trouble) => return tell(alloc, &trouble, complaints),
     };

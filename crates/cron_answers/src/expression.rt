@@ -58,9 +58,10 @@ impl Expression {
     }
 }
 
-// The rule at clock changes of a crontab's expression. One that follows the clock fires each time
-// that the clock shows a match. One at a fixed time fires once for each match.
-fn clock_changes(text: &str) -> ClockChanges
+/// The rule at clock changes of a crontab's expression, or of an entry by its line. One that follows
+/// the clock fires each time that the clock shows a match. One at a fixed time fires once for each
+/// match.
+pub(crate) fn clock_changes(text: &str) -> ClockChanges
     ensures { result ≡ clock_changes text.now }
 {
     if follows_clock(text) {

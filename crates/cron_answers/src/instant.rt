@@ -1,12 +1,16 @@
 //! Instants as a shell writes them.
 
-ghost use Rattle.std.specs.Prelude.{◌≡◌, ◌≤◌, ◌++◌, length, option_map};
+ghost use Rattle.std.specs.Prelude.{◌≡◌, ◌≤◌, ◌+ℤ◌, ◌*ℤ◌, ◌++◌, length, neg_ℤ, option_map, pos};
+ghost use Rattle.jiff_core.specs.Calendar.{IsBetween};
 ghost use Rattle.jiff.specs.Words.{plain_zone};
-ghost use Rattle.cron_answers.specs.Instants.{IsCivil, IsCivilSecond, IsCounted, IsInstant, IsPrinted, IsSecondAt, Tells, TellsSecond};
+ghost use Rattle.cron_answers.specs.Instants.{IsCivil, IsCivilSecond, IsCounted, IsDateSecond, IsInstant, IsInstantOf, IsPrinted, IsSecondAt, IsSpoken, IsTimestamp, Tells, TellsSecond};
 
+use crate::said::said_at;
+use crate::shift::seconds_away;
 use arrayvec::ArrayString;
 use cron_dues::reader;
 use cron_dues::way_to::due_of;
+use cron_moments::civil::SECONDS;
 use cron_walk_listing::arguments::count_of;
 use jiff::Timestamp;
 use jiff::tz::TimeZone;
@@ -81,6 +85,16 @@ fn second_behind(text: &str, end: &str) -> Option<u32>
     second_at(stamp.as_str())
 }
 
+/// The civil second that begins a date. `None` for any other text.
+pub(crate) fn date_second(text: &str) -> Option<u32>
+    ensures { TellsSecond (IsDateSecond text.now) result }
+{
+    if text.len() > LONGEST {
+        return None;
+    }
+    second_behind(text, "T00:00Z")
+}
+
 // The civil second of a date and a time of day, or of the midnight of a date alone. `None` for any
 // other text.
 fn civil_second(text: &str) -> Option<u32>
@@ -92,7 +106,7 @@ fn civil_second(text: &str) -> Option<u32>
     if let Some(second) = second_behind(text, "Z") {
         return Some(second);
     }
-    second_behind(text, "T00:00Z")
+    date_second(text)
 }
 
 // The instant of a civil time in a zone: the first of two in a fold, and the transition in a gap.
@@ -107,9 +121,51 @@ fn civil(text: &str, zone: &TimeZone<'_>) -> Option<Timestamp>
     }
 }
 
+// The instant that many seconds from another. `None` if no timestamp is there.
+fn later(instant: Timestamp, seconds: i64) -> Option<Timestamp>
+    requires { IsBetween (neg_ℤ (pos 20_000_000_000_000)) (pos 20_000_000_000_000) seconds }
+    ensures { IsTimestamp (instant.nanosecond +ℤ seconds *ℤ pos 1_000_000_000)
+        (option_map (λ t. t.nanosecond) result) }
+{
+    let nanos = instant.as_nanosecond() + i128::from(seconds) * 1_000_000_000;
+    match Timestamp::from_nanosecond(nanos) {
+        Ok(later) => Some(later),
+        Err(_) => None,
+    }
+}
+
+// The instant of a civil second in a zone, as `civil` has it. `None` outside of 1970 to 2100.
+fn instant_at(zone: &TimeZone<'_>, second: i64) -> Option<Timestamp>
+    ensures { IsInstantOf (plain_zone zone.now) second (option_map (λ t. t.nanosecond) result) }
+{
+    if second < 0 {
+        return None;
+    }
+    if second >= SECONDS {
+        return None;
+    }
+    Some(due_of(zone, second as u32).timestamp())
+}
+
+// Reads an instant as people say it: a number of seconds away, or a civil time. `None` for any
+// other text.
+fn spoken(text: &str, zone: &TimeZone<'_>, now: Timestamp) -> Option<Timestamp>
+    ensures { IsSpoken text.now (plain_zone zone.now) now.nanosecond
+        (option_map (λ t. t.nanosecond) result) }
+{
+    if let Some(seconds) = seconds_away(text) {
+        return later(now, seconds);
+    }
+    match said_at(text, zone, now) {
+        Some(second) => instant_at(zone, second),
+        None => None,
+    }
+}
+
 /// Reads an instant: `now`, `@SECONDS` since 1970, an instant with an offset as `jiff` reads it, a
-/// fire as it was printed, or a civil time from 1970 to 2100 in the zone. A civil time in a fold is
-/// the first of its two instants, and one in a gap is the transition. `None` for any other text.
+/// fire as it was printed, a civil time from 1970 to 2100 in the zone, or one as people say it. A
+/// civil time in a fold is the first of its two instants, and one in a gap is the transition.
+/// `None` for any other text.
 pub fn instant_of(text: &str, zone: &TimeZone<'_>, now: Timestamp) -> Option<Timestamp>
     ensures { IsInstant text.now (plain_zone zone.now) now.nanosecond
         (option_map (λ t. t.nanosecond) result) }
@@ -126,5 +182,8 @@ pub fn instant_of(text: &str, zone: &TimeZone<'_>, now: Timestamp) -> Option<Tim
     if let Some(instant) = printed(text) {
         return Some(instant);
     }
-    civil(text, zone)
+    if let Some(instant) = civil(text, zone) {
+        return Some(instant);
+    }
+    spoken(text, zone, now)
 }

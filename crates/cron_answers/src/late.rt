@@ -11,6 +11,7 @@ use crate::lateness::{LastRun, say_whether};
 use crate::subject::subject_of;
 use crate::trouble::{Trouble, tell};
 use cron_fires::ClockChanges;
+use cron_replies::form::Form;
 use cron_replies::status::Status;
 use cron_writer::watchable::Watchable;
 use cron_writer::watched::Watched;
@@ -34,6 +35,8 @@ pub struct Request<'a> {
     pub grace: u32,
     /// The rule at clock changes that was chosen. `None` is the expression's own.
     pub changes: Option<ClockChanges>,
+    /// How the answer is written.
+    pub form: Form,
 }
 
 /// Answers a request: writes a sentence on whether a fire was missed to `out`, and what is wrong to
@@ -67,5 +70,13 @@ pub fn answer<F: ZoneFiles, W: Watchable, C: Watchable>(
         instant,
         grace: request.grace,
     };
-    say_whether(&subject.expression, request.changes, &last, now, &zone, out)
+    say_whether(
+        &subject.expression,
+        request.changes,
+        &last,
+        now,
+        &zone,
+        request.form,
+        out,
+    )
 }

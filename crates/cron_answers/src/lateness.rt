@@ -18,6 +18,7 @@ use crate::missed::{missed_of, say};
 use cron_dues::fire::DueFire;
 use cron_fires::{ClockChanges, Union, first_due_after, first_fire_after};
 use cron_moments::moment::Moment;
+use cron_replies::form::Form;
 use cron_replies::status::Status;
 use cron_units::fields::ScheduleFields;
 use cron_writer::watchable::Watchable;
@@ -54,7 +55,7 @@ fn first_due(schedules: &[ScheduleFields], last: Timestamp, zone: &TimeZone<'_>)
     first_due_after(&Union { schedules }, last, zone)
 }
 
-/// Writes one sentence on whether a fire was missed: it came after the last run, and its grace is
+/// Writes one sentence, or an object of JSON, on whether a fire was missed: it came after the last run, and its grace is
 /// over. The rule is `chosen`, or the expression's own if that is `None`. The sentence names the
 /// first such fire, and since when it is late. Of fires that share an instant, the first by civil
 /// second counts. No call of the writer may have failed before.
@@ -64,10 +65,11 @@ pub fn say_whether<W: Watchable>(
     last: &LastRun,
     now: Timestamp,
     zone: &TimeZone<'_>,
+    form: Form,
     out: &mut Watched<W>,
 ) -> Status
     requires { has_failed out.old ≡ false }
-    ensures says { SaysWhetherBy (changes_by chosen expression.now)
+    ensures says { SaysWhetherBy (changes_by chosen expression.now) form
         (schedules_of expression.now) (plain_zone zone.now)
         last.now.instant.nanosecond last.now.grace now.nanosecond
         (W.contents (writer_of out.old)) (W.contents (writer_of out.new)) result }
@@ -79,11 +81,11 @@ pub fn say_whether<W: Watchable>(
     match expression.changes(chosen) {
         ClockChanges::AsShown => {
             let first = first_moment(schedules, last.instant, zone);
-            say(&missed_of(first, last.grace, now), out)
+            say(&missed_of(first, last.grace, now), form, out)
         }
         ClockChanges::Once => {
             let first = first_due(schedules, last.instant, zone);
-            say(&missed_of(first, last.grace, now), out)
+            say(&missed_of(first, last.grace, now), form, out)
         }
     }
 }

@@ -6,13 +6,14 @@ ghost use Rattle.jiff_core.specs.Calendar.{IsBetween};
 ghost use Rattle.arrayvec.specs.ArrayVec.{array_vec_len};
 ghost use Rattle.cron_writer.specs.Calls.{AreWritesFlushed};
 ghost use Rattle.cron_writer.specs.Watching.{has_failed, writer_of};
-ghost use Rattle.cron_answers.specs.Lateness.{IsSentence, IsSinceText, Says, in_time_sentence, late_sentence, late_status, missed_of, nanos, since_of};
+ghost use Rattle.cron_answers.specs.Lateness.{IsSentence, IsSinceText, Says, in_time_object, in_time_sentence, in_time_text, late_object, late_sentence, late_status, late_text, missed_of, nanos, since_of};
 ghost use Rattle.cron_replies.specs.Statuses.{is_write_failure};
 
 use crate::row::Told;
 use arrayvec::ArrayVec;
 use cron_dues::text::Text;
 use cron_moments::parts::moment_at;
+use cron_replies::form::Form;
 use cron_replies::status::{Status, finish};
 use cron_writer::watchable::Watchable;
 use cron_writer::watched::{Watched, send};
@@ -20,8 +21,8 @@ use itoa::Buffer;
 use jiff::Timestamp;
 use jiff::tz::Offset;
 
-/// The length of the longest sentence, which has two texts of 53 bytes.
-const LONGEST: usize = 131;
+/// The length of the longest object of JSON, which has two texts of 53 bytes and two numbers of 20.
+const LONGEST: usize = 208;
 
 type Sentence = ArrayVec<u8, LONGEST>;
 
@@ -67,7 +68,7 @@ pub(crate) fn missed_of<F: Told>(first: Option<F>, grace: u32, now: Timestamp) -
 
 // Appends bytes, which must fit in.
 fn push_bytes(sentence: &mut Sentence, bytes: &[u8])
-    requires { array_vec_len sentence.old + length bytes.now ≤ 131 }
+    requires { array_vec_len sentence.old + length bytes.now ≤ 208 }
     ensures items { sentence.new.items ≡ sentence.old.items ++ bytes.now }
     ensures len { array_vec_len sentence.new ≡ array_vec_len sentence.old + length bytes.now }
 {
@@ -119,15 +120,79 @@ fn late_sentence(since: &[u8], text: &[u8]) -> Sentence
     sentence
 }
 
-fn sentence_of<F: Told>(missed: &Option<Missed<F>>) -> Sentence
-    ensures { IsSentence F.text F.offset missed.now result.items }
+// Appends a number in digits.
+fn push_number(sentence: &mut Sentence, number: i64)
+    requires { array_vec_len sentence.old + 20 ≤ 208 }
+    ensures items { sentence.new.items ≡ sentence.old.items ++ signed_decimal number }
+    ensures len { array_vec_len sentence.new ≤ array_vec_len sentence.old + 20 }
+{
+    let mut buffer = Buffer::new();
+    push_bytes(sentence, buffer.format(number).as_bytes());
+}
+
+fn in_time_object() -> Sentence
+    ensures { result.items ≡ in_time_object }
+{
+    let mut object = Sentence::new();
+    push_bytes(&mut object, b"{\"late\":false}\n");
+    object
+}
+
+fn late_object(since: &[u8], since_second: i64, text: &[u8], second: i64) -> Sentence
+    requires since { length since.now ≤ 53 }
+    requires text { length text.now ≤ 53 }
+    ensures { result.items ≡ late_object since.now since_second text.now second }
+{
+    let mut object = Sentence::new();
+    push_bytes(&mut object, b"{\"late\":true,\"fire\":\"");
+    push_bytes(&mut object, text);
+    push_bytes(&mut object, b"\",\"epoch\":");
+    push_number(&mut object, second);
+    push_bytes(&mut object, b",\"since\":\"");
+    push_bytes(&mut object, since);
+    push_bytes(&mut object, b"\",\"since_epoch\":");
+    push_number(&mut object, since_second);
+    push_bytes(&mut object, b"}\n");
+    object
+}
+
+fn in_time_text(form: Form) -> Sentence
+    ensures { result.items ≡ in_time_text form }
+{
+    match form {
+        Form::Text => in_time_sentence(),
+        Form::Json => in_time_object(),
+    }
+}
+
+fn late_text(form: Form, since: &[u8], since_second: i64, text: &[u8], second: i64) -> Sentence
+    requires since { length since.now ≤ 53 }
+    requires text { length text.now ≤ 53 }
+    ensures { result.items ≡ late_text form since.now since_second text.now second }
+{
+    match form {
+        Form::Text => late_sentence(since, text),
+        Form::Json => late_object(since, since_second, text, second),
+    }
+}
+
+fn sentence_of<F: Told>(form: Form, missed: &Option<Missed<F>>) -> Sentence
+    ensures { IsSentence form F.text F.second F.offset missed.now result.items }
 {
     match missed {
         Some(missed) => {
             let since = since_text(missed.since, missed.fire.offset());
-            late_sentence(since.as_slice(), missed.fire.text().as_slice())
+            let text = missed.fire.text();
+            let second = missed.fire.second();
+            late_text(
+                form,
+                since.as_slice(),
+                missed.since,
+                text.as_slice(),
+                second,
+            )
         }
-        None => in_time_sentence(),
+        None => in_time_text(form),
     }
 }
 
@@ -140,16 +205,20 @@ fn status_of<F: Told>(missed: &Option<Missed<F>>) -> Status
     }
 }
 
-/// Writes whether a fire was missed, and flushes. The status is `No` if one was. No call of the
+/// Writes whether a fire was missed, as a sentence or as JSON, and flushes. The status is `No` if one was. No call of the
 /// writer may have failed before.
-pub(crate) fn say<F: Told, W: Watchable>(missed: &Option<Missed<F>>, out: &mut Watched<W>) -> Status
+pub(crate) fn say<F: Told, W: Watchable>(
+    missed: &Option<Missed<F>>,
+    form: Form,
+    out: &mut Watched<W>,
+) -> Status
     requires { has_failed out.old ≡ false }
-    ensures says { Says F.text F.offset missed.now
+    ensures says { Says form F.text F.second F.offset missed.now
         (W.contents (writer_of out.old)) (W.contents (writer_of out.new)) result }
     ensures mark { has_failed out.new ≡ is_write_failure result }
     ensures calls { AreWritesFlushed W.writes W.flushes
         (writer_of out.old) (has_failed out.old) (writer_of out.new) (has_failed out.new) }
 {
-    send(out, sentence_of(missed).as_slice());
+    send(out, sentence_of(form, missed).as_slice());
     finish(out, status_of(missed))
 }

@@ -13,6 +13,7 @@ ghost use Rattle.cron_replies.specs.declared.status.Status.TheVariants.{Unreadab
 use crate::expression::{Expression, read_as};
 use crate::trouble::Trouble;
 use cron_moments::civil::civil_of;
+use cron_replies::form::Form;
 use cron_replies::sending::send_bytes;
 use cron_replies::status::Status;
 use cron_time::matching::includes;
@@ -29,6 +30,8 @@ pub struct Pair<'a> {
     pub first: &'a str,
     /// The argument OTHER.
     pub second: &'a str,
+    /// How the answer is written.
+    pub form: Form,
 }
 
 /// Two expressions, already read.

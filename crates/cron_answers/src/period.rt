@@ -28,8 +28,8 @@ fn digit_of(byte: u8) -> Option<u32>
     Some(u32::from(byte - b'0'))
 }
 
-// The number that the two digits at index `at` spell. `None` if they aren't both digits.
-fn two_at(text: &[u8], at: usize) -> Option<u32>
+/// The number that the two digits at index `at` spell. `None` if they aren't both digits.
+pub(crate) fn two_at(text: &[u8], at: usize) -> Option<u32>
     requires { at + 2 ≤ length text.now }
     ensures digits { IfSome result (Spells text.now at) }
     ensures only { (n : ℕ) → Spells text.now at n → result ≡ Some n }
@@ -52,8 +52,8 @@ fn year_at(text: &[u8]) -> Option<u32>
     Some(year)
 }
 
-// The month that a text names, such as `2024-03`. `None` if it names none.
-fn month_of(text: &[u8]) -> Option<Period>
+/// The month that a text names, such as `2024-03`. `None` if it names none.
+pub(crate) fn month_of(text: &[u8]) -> Option<Period>
     requires { length text.now ≡ 7 }
     ensures names { IfSome result (NamesMonth text.now) }
     ensures only { (p : Period) → NamesMonth text.now p → result ≡ Some p }

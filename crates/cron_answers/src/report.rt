@@ -1,15 +1,15 @@
 //! The report on an expression: its sentence, its warnings, and how often it fires.
 
-ghost use Rattle.std.specs.Prelude.{◌≡◌, ◌++◌, IfOk, OnOk};
+ghost use Rattle.std.specs.Prelude.{◌≡◌, ◌++◌, IfOk, MatchOption, OnOk};
 ghost use Rattle.std.specs.String.{string_bytes};
 ghost use Rattle.cron_crontab.specs.Views.{expression_view};
 ghost use Rattle.cron_tab_warnings.specs.Messages.{warning_text};
 ghost use Rattle.cron_replies.specs.Inner.Telling.{AppendsTold};
-ghost use Rattle.cron_answers.specs.Reports.{IsHead, TellsOfTab, TellsWarnings, sentence_line, sentence_of, tally_text, waits_text, warning_line};
+ghost use Rattle.cron_answers.specs.Reports.{IsHead, IsNoTab, IsTab, TellsOfTab, TellsWarnings, sentence_line, sentence_of, tally_text, waits_text, warning_line};
 
 use crate::expression::Expression;
 use crate::tally::{Tally, Waits};
-use cron_crontab::{Expression as TabExpression, read as read_tab};
+use cron_crontab::Expression as TabExpression;
 use cron_replies::form::Form;
 use cron_tab_lines::Crontab;
 use cron_tab_warnings::{WARNINGS, Warning, warns};
@@ -65,41 +65,49 @@ fn push_those_due(
     Ok(())
 }
 
-// Appends the warnings that apply to `text`. There are none if it isn't a crontab's expression, or
-// if `quartz`.
-fn push_warnings(
-    report: &mut String,
-    quartz: bool,
-    form: Form,
-    text: &str,
-) -> Result<(), AllocError>
-    ensures { OnOk result (AppendsTold (TellsWarnings quartz form text.now)
-        (string_bytes report.old) (string_bytes report.new)) }
+// A crontab's expression. `None` if it is of another kind.
+fn tab_of(expression: &Expression) -> Option<TabExpression>
+    ensures { MatchOption result
+        (IsNoTab expression.now) (λ tab. IsTab expression.now (expression_view tab)) }
 {
-    if quartz {
-        return Ok(());
-    }
-    match read_tab(text) {
-        Ok(expression) => push_those_due(report, form, text, &expression),
-        Err(_) => Ok(()),
+    match expression {
+        Expression::Crontab(schedules, _) => Some(TabExpression::Fires(*schedules)),
+        Expression::Reboot => Some(TabExpression::Reboot),
+        Expression::Own(_) | Expression::Quartz(_) => None,
     }
 }
 
-/// The sentence of an expression. If it is a crontab's, its warnings follow.
+// Appends the warnings that apply to an expression, by its text or its line. There are none if it
+// isn't a crontab's.
+fn push_warnings(
+    report: &mut String,
+    form: Form,
+    text: &str,
+    expression: &Expression,
+) -> Result<(), AllocError>
+    ensures { OnOk result (AppendsTold (TellsWarnings form text.now expression.now)
+        (string_bytes report.old) (string_bytes report.new)) }
+{
+    match tab_of(expression) {
+        Some(tab) => push_those_due(report, form, text, &tab),
+        None => Ok(()),
+    }
+}
+
+/// The sentence of an expression. If it is a crontab's, its warnings follow, by its text or its line.
 pub(crate) fn head_of(
     alloc: Global,
-    quartz: bool,
     form: Form,
     text: &str,
     expression: &Expression,
 ) -> Result<String, AllocError>
     ensures { IfOk result (λ head.
-        IsHead quartz form text.now expression.now (string_bytes head)) }
+        IsHead form text.now expression.now (string_bytes head)) }
 {
     let words = sentence_of(alloc, expression)?;
     let mut report = String::new(alloc);
     push_sentence(&mut report, form, words.as_str())?;
-    push_warnings(&mut report, quartz, form, text)?;
+    push_warnings(&mut report, form, text, expression)?;
     Ok(report)
 }
 

@@ -5,11 +5,13 @@ ghost use Rattle.std.specs.Fmt.{signed_decimal};
 ghost use Rattle.jiff_core.specs.Calendar.{IsBetween};
 ghost use Rattle.jiff_core.specs.declared.Offset.{Offset as PlainOffset};
 ghost use Rattle.arrayvec.specs.ArrayVec.{array_vec_len};
+ghost use Rattle.cron_moments.specs.Readings.{Reading};
 ghost use Rattle.cron_answers.specs.Rows.{json_row, row, text_row};
 
 use arrayvec::ArrayVec;
 use cron_dues::fire::{DueFire, due_second, nominal_second};
 use cron_dues::text::{self, Text};
+use cron_looks::clock_at;
 use cron_moments::line;
 use cron_moments::moment::{Moment, civil_second, instant_of};
 use cron_replies::form::Form;
@@ -37,6 +39,9 @@ pub trait Told: Copy {
     // the civil second that matches, in seconds since 1970-01-01 00:00:00
     ghost civil: { Self → ℕ };
 
+    // what the clock shows at the fire's instant
+    ghost shown: { Self → Reading };
+
     /// How the fire is printed.
     fn text(&self) -> Text
         ensures { result.items ≡ text self.now };
@@ -53,6 +58,10 @@ pub trait Told: Copy {
     /// The civil second that matches, in seconds since 1970-01-01 00:00:00.
     fn civil(&self) -> u32
         ensures { result ≡ civil self.now };
+
+    /// What the clock shows at the fire's instant.
+    fn shown(&self) -> Moment
+        ensures { result ≡ shown self.now };
 }
 
 impl Told for Moment {
@@ -66,6 +75,8 @@ impl Told for Moment {
     ghost offset = { λ moment. moment.offset };
 
     ghost civil = { λ moment. moment.second };
+
+    ghost shown = { λ moment. moment };
 
     fn text(&self) -> Text {
         let mut text = Text::new();
@@ -85,11 +96,15 @@ impl Told for Moment {
     fn civil(&self) -> u32 {
         civil_second(self)
     }
+
+    fn shown(&self) -> Moment {
+        *self
+    }
 }
 
 impl Told for DueFire {
     ghost use Rattle.cron_dues.specs.Due.{instant};
-    ghost use Rattle.cron_dues.specs.DueText.{due_text};
+    ghost use Rattle.cron_dues.specs.DueText.{due_text, shown};
 
     ghost text = { due_text };
 
@@ -98,6 +113,8 @@ impl Told for DueFire {
     ghost offset = { λ due. due.offset };
 
     ghost civil = { λ due. due.second };
+
+    ghost shown = { shown };
 
     fn text(&self) -> Text {
         text::text_of(self)
@@ -113,6 +130,10 @@ impl Told for DueFire {
 
     fn civil(&self) -> u32 {
         nominal_second(self)
+    }
+
+    fn shown(&self) -> Moment {
+        clock_at(self)
     }
 }
 

@@ -24,8 +24,14 @@ pub enum Trouble<'a> {
     Zone(&'a str, ZoneError),
     /// The text is no instant.
     Instant(&'a str),
+    /// The text, without an END, names no whole day, month or night.
+    Whole(&'a str),
     /// START, the first, comes after END.
     Order(&'a str, &'a str),
+    /// The text is no format of `strftime`.
+    Format(&'a str),
+    /// Memory ran out.
+    NoMemory,
 }
 
 impl<'a> fmt::Display for Trouble<'a> {
@@ -40,24 +46,41 @@ impl<'a> fmt::Display for Trouble<'a> {
                 write!(f, "'{text}' is no expression: {refusal}")
             }
             Trouble::Zone(text, error) => write!(f, "the zone '{text}' can't be had: {error}"),
-            Trouble::Instant(text) => write!(f, "'{text}' is no instant"),
+            Trouble::Instant(text) => write!(
+                f,
+                "'{text}' is no instant, as now, today, tomorrow, yesterday, monday to sunday, \
+                 2024-02, 2024-02-29, '2024-02-29 14:30', 14:30, +8h, -90m, +30s, +2d, -1w, \
+                 @1709217000 or 2024-02-29T14:30:00Z"
+            ),
+            Trouble::Whole(text) => write!(
+                f,
+                "'{text}' is no whole day or month, as today, tonight, monday, 2024-02-29 or \
+                 2024-02; or an END is missing"
+            ),
             Trouble::Order(start, end) => write!(f, "START '{start}' comes after END '{end}'"),
+            Trouble::Format(text) => write!(
+                f,
+                "'{text}' is no format of strftime, as '%F %T %z'; no name of a zone is known"
+            ),
+            Trouble::NoMemory => f.write_str("out of memory"),
         }
     }
 }
 
 impl<'a> Trouble<'a> {
     /// The status of the subcommand: `WrongWords` if a word is wrong, `Unreadable` if the zone
-    /// can't be opened for another reason.
+    /// can't be opened for another reason, or if memory ran out.
     pub fn status(&self) -> Status
         ensures { result ≡ status_of self.now }
     {
         match self {
-            Trouble::Expression(_, _) | Trouble::Instant(_) | Trouble::Order(_, _) => {
-                Status::WrongWords
-            }
+            Trouble::Expression(_, _)
+            | Trouble::Instant(_)
+            | Trouble::Whole(_)
+            | Trouble::Order(_, _)
+            | Trouble::Format(_) => Status::WrongWords,
             Trouble::Zone(_, ZoneError::NoZone) => Status::WrongWords,
-            Trouble::Zone(_, _) => Status::Unreadable,
+            Trouble::Zone(_, _) | Trouble::NoMemory => Status::Unreadable,
         }
     }
 }

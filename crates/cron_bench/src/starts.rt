@@ -26,6 +26,7 @@ const ORDERS: RunOrders<'static> = RunOrders {
     lateness: Lateness::Latest,
     reboot: false,
     most: u64::MAX,
+    ends: true,
 };
 
 /// The error of a clock that can't wait.

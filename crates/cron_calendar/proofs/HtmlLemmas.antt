@@ -1,5 +1,5 @@
 -- Texts that are escaped.
-use Rattle.std.proofs.Common.{◌≡◌, ℕ, Bool, true, false, ◌==◌, ◌||◌, List, [], ◌∷◌, ◌++◌, refl, inl, inr}
+use Rattle.std.proofs.Common.{ℕ, ◌==◌, ◌||◌, List, [], ◌∷◌, ◌++◌, refl, inl, inr}
 use Rattle.std.proofs.lemmas.Bool.{cases_Bool, or_from}
 use Rattle.cron_calendar.specs.Html.{escaped, escaped_byte}
 use Rattle.cron_calendar.specs.HtmlLaws.{HasNoMarkup, TextsHoldNoMarkup}

@@ -5,3 +5,5 @@ pub mod RowLemmas
 pub mod PageLemmas
 pub mod PlanLemmas
 pub mod HtmlLemmas
+pub mod TimeLemmas
+pub mod ShadeLemmas

@@ -1,9 +1,13 @@
 -- Texts one after another, and rows of entries.
 use Rattle.std.proofs.Common.{◌≡◌, ℕ, suc, ◌+◌, ◌<◌, List, [], ◌∷◌, ◌++◌, get_or, length, refl, sym, subst, take, take-suc, ap, ◌∙◌, append_assoc, append-nil, arith}
 use Rattle.std.proofs.lemmas.List.{length-take-le}
+use Rattle.jiff_tz.specs.declared.timezone.TimeZone.{TimeZone}
+use Rattle.cron_calendar.specs.Json.{day_objects}
 use Rattle.cron_calendar.specs.Pages.{AreRows, entry_row}
+use Rattle.cron_calendar.specs.Plans.{counts_of, totals}
 use Rattle.cron_calendar.specs.declared.html.Entry.{Entry}
 use Rattle.cron_calendar.specs.declared.html.shapes.Shape.{Shape}
+use Rattle.cron_calendar.specs.declared.plans.Plan.{Plan}
 
 -- a text, and then more
 pub on : (old mid new p q : List ℕ) → mid ≡ old ++ p → new ≡ mid ++ q → new ≡ old ++ (p ++ q)
@@ -42,3 +46,13 @@ next_row es i old mid new rows e d within is are before pushed =
           (rows-more 0 i (take i es) e rows pushed.0 (omega (arith, length-take-le i es (omega (arith, within)))) are),
       on old mid new rows row before pushed.1,
     )
+
+-- ---- rows of JSON
+
+pub same_rows : (z : TimeZone) (plans : List Plan) (start first count days : ℕ) (text counts : List ℕ) → text ≡ day_objects start counts
+    → counts ≡ totals (counts_of z start count) count plans → start ≡ first → count ≡ days
+    → text ≡ day_objects first (totals (counts_of z first days) days plans)
+same_rows z plans start first count days text counts rows are e g =
+    rows
+    ∙ (ap (day_objects start) are
+    ∙ (ap (λ s. day_objects s (totals (counts_of z s count) count plans)) e ∙ ap (λ d. day_objects first (totals (counts_of z first d) d plans)) g))

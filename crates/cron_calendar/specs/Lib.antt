@@ -3,7 +3,9 @@ pub mod Grids
 pub mod GridLaws
 pub mod Changes
 pub mod Html
+pub mod Json
 pub mod Plans
 pub mod HtmlLaws
 pub mod Shapes
+pub mod DayLists
 pub mod Pages

@@ -1,6 +1,7 @@
--- How many fires plans have on each day, and in each hour. Days are numbered from 1970-01-01.
-use Rattle.std.specs.Prelude.{ℕ, ◌+◌, ◌*◌, Bool, true, false, List, fold, length, map, min, replicate, slice_index}
-use Rattle.std.specs.List.{range_with_len}
+-- How many fires plans have on each day, and in each hour, and by what a year is shaded. Days are
+-- numbered from 1970-01-01.
+use Rattle.std.specs.Prelude.{ℕ, ◌+◌, ◌*◌, ◌==◌, ◌&&◌, Bool, true, false, List, [], ◌∷◌, filter, fold, length, map, min, nat_lt, replicate, slice_index}
+use Rattle.std.specs.List.{list_any, range_with_len}
 use Rattle.jiff_tz.specs.declared.timezone.TimeZone.{TimeZone}
 use Rattle.jiff_tz.specs.declared.timezone.TimeZone.TheVariants.{UTC}
 use Rattle.cron_counting.specs.Counts.{counts_by_day, counts_by_hour}
@@ -27,3 +28,24 @@ sums_with xs ys = map (λ i. min (slice_index xs i + slice_index ys i) 4_294_967
 -- one plan
 abbrev pub totals : (Plan → List ℕ) → ℕ → List Plan → List ℕ
 totals counts days plans = fold (λ sums plan. sums_with sums (counts plan)) (replicate days 0) plans
+
+-- ---- the shade of a year
+
+-- among numbers of fires by day there is a day without any
+abbrev pub has_free_day : List ℕ → Bool
+has_free_day counts = list_any (λ n. n == 0) counts
+
+-- a plan with these numbers of fires by day fires on the day at this place, but not on each day
+abbrev pub shades_day : ℕ → List ℕ → Bool
+shades_day place counts = nat_lt 0 (slice_index counts place) && has_free_day counts
+
+-- how many of some plans, by their numbers of fires, fire on the day at this place but not on each
+-- day, at most 4,294,967,295
+abbrev pub shade_at : List (List ℕ) → ℕ → ℕ
+shade_at each place = min (length (filter (shades_day place) each)) 4_294_967_295
+
+-- The numbers that shade the days of a year, by the numbers of fires of each plan: of one plan its
+-- fires, else how many plans fire on the day but not on each day.
+abbrev pub shades_of : ℕ → List (List ℕ) → List ℕ
+shades_of days (counts ∷ []) = counts
+shades_of days each = map (shade_at each) (range_with_len 0 days)

@@ -1,7 +1,7 @@
 -- The drawings of a page as texts: parts that hold numbers, and words of the program.
-use Rattle.std.specs.Prelude.{ℕ, ◌==◌, List, ◌++◌, codes, if◌then◌else◌}
+use Rattle.std.specs.Prelude.{ℕ, ◌+◌, ◌-◌, ◌*◌, ◌/◌, ◌%◌, ◌==◌, List, ◌++◌, codes, fold, length, map, max, min, slice_index, if◌then◌else◌}
 use Rattle.std.specs.Fmt.{decimal}
-use Rattle.std.specs.List.{flat_map}
+use Rattle.std.specs.List.{flat_map, range_with_len}
 use Rattle.cron_calendar.specs.declared.html.shapes.Shape.{Shape}
 use Rattle.cron_calendar.specs.declared.html.shapes.Shape.TheVariants.{Square, Label, Run, Head, Cell, RowEnd, Hour, HeadEnd}
 use Rattle.cron_calendar.specs.declared.html.shapes.Word.{Word}
@@ -51,3 +51,22 @@ shape_text HeadEnd = codes "</tr></thead>\n<tbody>\n"
 -- the text of a drawing: its parts one after another
 abbrev pub drawing : List Shape → List ℕ
 drawing shapes = flat_map shape_text shapes
+
+-- ---- the squares of days
+
+abbrev pub most_of : List ℕ → ℕ
+most_of counts = fold max 0 counts
+
+-- the level of a number where `most` is the greatest: its quarters of `most`, rounded up, so 0 for
+-- none and 4 for the greatest
+abbrev pub level_of : ℕ → ℕ → ℕ
+level_of count most = if most == 0 then 0 else (min count most * 4 + most - 1) / most
+
+-- the square of a day at this place, counted from a Monday: a column is a week
+abbrev pub square_at : ℕ → ℕ → ℕ → Shape
+square_at place count most = Square (level_of count most) (34 + place / 7 * 14) (20 + place % 7 * 14)
+
+-- the squares of the days of a year with these numbers; `lead` days precede them in their first week
+abbrev pub squares_of : ℕ → List ℕ → List Shape
+squares_of lead counts =
+    map (λ place. square_at (lead + place) (slice_index counts place) (most_of counts)) (range_with_len 0 (min (length counts) 366))

@@ -21,9 +21,9 @@ pub struct Change {
     pub times: u32,
 }
 
-// How often a clock shows each civil second of a stretch, that is, of civil seconds that it reads
-// at the same offsets: never, once or twice.
-fn times_of(stretch: &Stretch) -> u32
+/// How often a clock shows each civil second of a stretch, that is, of civil seconds that it reads
+/// at the same offsets: never, once or twice.
+pub(crate) fn times_of(stretch: &Stretch) -> u32
     ensures { (c : ℕ) → result ≡ length (readings_at c stretch.now.earlier stretch.now.later) }
 {
     match (stretch.earlier, stretch.later) {

@@ -4,10 +4,13 @@
 
 mod cells;
 pub mod changes;
+mod days;
 pub mod grid;
 pub mod html;
+mod json;
 pub mod laws;
 mod lines;
 pub mod months;
 pub mod pages;
 pub mod plans;
+mod times;

@@ -1,7 +1,7 @@
 //! The places of a month's days in its grid, and their numbers of fires. A grid has a row of seven
 //! places for each week, from Monday on, and places are counted from 0.
 ghost use Rattle.std.specs.Prelude.{◌≡◌, ◌<◌, ◌≤◌, IfSome};
-ghost use Rattle.cron_moments.specs.Calendar.{first_month, months_end};
+ghost use Rattle.cron_moments.specs.Calendar.{first_month, length_of, months_end};
 ghost use Rattle.cron_moments.specs.Calendar as calendar;
 ghost use Rattle.cron_calendar.specs.Grids.{count_at, count_of, day_at, lead};
 
@@ -33,6 +33,7 @@ pub fn day_at(month: u32, place: u32) -> Option<u32>
     requires { (first_month ≤ month) × (month < months_end) }
     ensures day { result ≡ day_at month place }
     ensures within { IfSome result (λ day. (1 ≤ day) × (day ≤ 31)) }
+    ensures fits { IfSome result (λ day. day ≤ length_of month) }
 {
     let lead = lead_of(month);
     if place < lead {

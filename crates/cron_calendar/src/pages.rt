@@ -4,15 +4,20 @@ ghost use Rattle.std.specs.List.{flat_map};
 ghost use Rattle.jiff.specs.Words.{plain_zone};
 ghost use Rattle.cron_moments.specs.Calendar.{day_number, first_month, months_end};
 ghost use Rattle.cron_moments.specs.Civil.{days_in_range};
-ghost use Rattle.cron_calendar.specs.Pages.{IsTextPage, IsYearPage, TellsClock, change_line, day_count, time_of, told_of};
-ghost use Rattle.cron_calendar.specs.Plans.{counts_of};
+ghost use Rattle.cron_calendar.specs.Pages.{IsMonthPage, IsTextPage, IsYearPage, TellsClock, change_line, day_count, named_text, time_of, told_of};
+ghost use Rattle.cron_calendar.specs.Json.{day_objects};
+ghost use Rattle.cron_calendar.specs.Plans.{counts_of, totals};
 
 use crate::changes::{Change, changes};
+use crate::days::push_day_list;
 use crate::grid::grid;
+use crate::html::month::month_page;
 use crate::html::pieces::{push_date, push_text, time_text};
 use crate::html::{Entry, Year, page};
+use crate::json::push_objects;
 use crate::months::Months;
-use crate::plans::{Plan, counts_of, hour_totals, totals};
+use crate::plans::{Plan, counts_of, hour_totals, shades, totals};
+use cron_controls::Controls;
 use cron_moments::calendar::KnownMonth;
 use cron_moments::civil::{DAYS, SECONDS_PER_DAY, civil_of};
 use jiff::civil::DateTime;
@@ -34,6 +39,8 @@ pub struct Shown {
     pub across: u32,
     /// Whether numbers of fires are green, by the codes of a terminal.
     pub colour: bool,
+    /// How control characters of names are written.
+    pub controls: Controls,
 }
 
 // The days of the months from `first` up to but without `end`: the number of the first day, counted
@@ -117,8 +124,36 @@ fn changes_text(
     Ok(text)
 }
 
+// Appends what fires on each day, if `shown` is one month; else nothing. `days` days from `first` on
+// are shown.
+fn push_named(
+    alloc: Global,
+    text: &mut Vec<u8>,
+    plans: &[Plan<'_>],
+    shown: Shown,
+    first: u32,
+    days: u32,
+    zone: &TimeZone<'_>,
+) -> Result<(), AllocError>
+    requires months { shown.first < shown.end }
+    requires first { first ≡ day_number shown.first 1 }
+    requires days { days ≡ day_count shown.first shown.end }
+    requires range { first + days ≤ days_in_range }
+    ensures { OnOk result (text.new.items
+        ≡ text.old.items ++ named_text shown (plain_zone zone.now) plans.now) }
+{
+    if shown.end - shown.first != 1 {
+        return Ok(());
+    }
+    for day in first..first + days {
+        push_day_list(alloc, text, shown.controls, plans, day, zone)?;
+    }
+    Ok(())
+}
+
 /// The page of text: the months with the number of fires of each day, then the civil seconds that
-/// the zone's clock skips or shows twice.
+/// the zone's clock skips or shows twice. One month is followed by the entries that fire on each
+/// day, with their times.
 pub fn text_page(
     alloc: Global,
     plans: &[Plan<'_>],
@@ -142,6 +177,7 @@ pub fn text_page(
     let mut text = grid(alloc, &months, shown.first, shown.end, shown.across)?;
     let told = changes_text(alloc, zone, first_day, days)?;
     text.extend_from_slice(told.as_slice())?;
+    push_named(alloc, &mut text, plans, shown, first_day, days, zone)?;
     Ok(text)
 }
 
@@ -203,6 +239,7 @@ pub fn html_page<'a>(
     let totals = totals(alloc, plans, first, days, zone)?;
     let hours = hour_totals(alloc, plans, first, days, zone)?;
     let each = counts_of_each(alloc, plans, first, days, zone)?;
+    let shades = shades(alloc, each.as_slice(), days)?;
     let entries = entries_of(alloc, plans, each.as_slice())?;
     let told = changes_text(alloc, zone, first, days)?;
     let year = Year {
@@ -210,9 +247,52 @@ pub fn html_page<'a>(
         zone: zone_name,
         first,
         days: totals.as_slice(),
+        shades: shades.as_slice(),
         hours: hours.as_slice(),
         entries: entries.as_slice(),
         changes: told.as_slice(),
     };
     page(alloc, &year)
+}
+
+/// The HTML page of a month in `zone`: the entries that fire on each day, with their times. The page
+/// calls the zone `zone_name`.
+pub fn html_month(
+    alloc: Global,
+    plans: &[Plan<'_>],
+    month: u32,
+    zone: &TimeZone<'_>,
+    zone_name: &[u8],
+) -> Result<Vec<u8>, AllocError>
+    requires { (first_month ≤ month) × (month < months_end) }
+    ensures { IfOk result (λ text. IsMonthPage plans.now month (plain_zone zone.now)
+        zone_name.now text.items) }
+{
+    let (first, days) = days_of(month, month + 1);
+    let told = changes_text(alloc, zone, first, days)?;
+    let page = month_page(alloc, plans, month, zone, zone_name, told.as_slice())?;
+    Ok(page)
+}
+
+/// The days of the months from `first` up to but without `end`, with their numbers of fires, as rows
+/// of JSON. Months are numbered from January of the year 0.
+pub fn json_rows(
+    alloc: Global,
+    plans: &[Plan<'_>],
+    first: u32,
+    end: u32,
+    zone: &TimeZone<'_>,
+) -> Result<Vec<u8>, AllocError>
+    requires low { first_month ≤ first }
+    requires order { first < end }
+    requires high { end ≤ months_end }
+    ensures { IfOk result (λ text. text.items ≡ day_objects (day_number first 1)
+        (totals (counts_of (plain_zone zone.now) (day_number first 1) (day_count first end))
+        (day_count first end) plans.now)) }
+{
+    let (start, days) = days_of(first, end);
+    let counts = totals(alloc, plans, start, days, zone)?;
+    let mut text = Vec::new(alloc);
+    push_objects(&mut text, start, counts.as_slice())?;
+    Ok(text)
 }

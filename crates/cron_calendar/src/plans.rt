@@ -1,8 +1,9 @@
 //! What is planned, and how many fires it has on each day. Days are numbered from 1970-01-01.
-ghost use Rattle.std.specs.Prelude.{◌≡◌, ◌+◌, ◌*◌, ◌≤◌, IfOk, replicate, slice_index};
+ghost use Rattle.std.specs.Prelude.{◌≡◌, ◌+◌, ◌*◌, ◌≤◌, ℕ, IfOk, length, map, replicate, slice_index};
+ghost use Rattle.std.specs.List.{flat_map, range_with_len};
 ghost use Rattle.jiff.specs.Words.{plain_zone};
 ghost use Rattle.cron_moments.specs.Civil.{days_in_range};
-ghost use Rattle.cron_calendar.specs.Plans.{counts_of, hour_counts_of, sums_with, totals};
+ghost use Rattle.cron_calendar.specs.Plans.{counts_of, has_free_day, hour_counts_of, shade_at, shades_day, shades_of, sums_with, totals};
 
 use cron_counting::counts::{fires_by_day, fires_by_hour};
 use cron_units::fields::ScheduleFields;
@@ -59,7 +60,7 @@ fn hours_of(
 }
 
 // The number at `place`, or 0 if there is none.
-fn number_at(counts: &[u32], place: usize) -> u32
+pub(crate) fn number_at(counts: &[u32], place: usize) -> u32
     ensures { result ≡ slice_index counts.now place }
 {
     match counts.get(place) {
@@ -126,4 +127,78 @@ pub fn hour_totals(
         counts = sums_with(alloc, counts.as_slice(), more.as_slice())?;
     }
     Ok(counts)
+}
+
+// Whether there is a day without any fires.
+fn has_free_day(counts: &[u32]) -> bool
+    ensures { result ≡ has_free_day counts.now }
+{
+    counts.iter().any(|count| *count == 0)
+}
+
+// Whether a plan with these numbers of fires fires on the day at `place`, but not on each day.
+fn shades_day(counts: &[u32], place: usize) -> bool
+    ensures { result ≡ shades_day place counts.now }
+{
+    number_at(counts, place) > 0 && has_free_day(counts)
+}
+
+// How many plans fire on the day at `place`, but not on each day. `each` has the numbers of fires
+// of each plan.
+fn shade_at(each: &[Vec<u32>], place: usize) -> u32
+    ensures { result ≡ shade_at (map (λ counts. counts.items) each.now) place }
+{
+    let mut shade = 0u32;
+    for counts in each {
+        if shades_day(counts.as_slice(), place) {
+            shade = shade.saturating_add(1);
+        }
+    }
+    shade
+}
+
+// For each of `days` days how many plans fire on it, but not on each day.
+fn shades_by_day(alloc: Global, each: &[Vec<u32>], days: u32) -> Result<Vec<u32>, AllocError>
+    ensures { IfOk result (λ shades. shades.items
+        ≡ map (shade_at (map (λ counts. counts.items) each.now)) (range_with_len 0 days)) }
+{
+    let mut shades = Vec::new(alloc);
+    for place in 0..days {
+        shades.push(shade_at(each, place as usize))?;
+    }
+    Ok(shades)
+}
+
+// The numbers of fires of all plans, one plan after another.
+fn joined_counts(alloc: Global, each: &[Vec<u32>]) -> Result<Vec<u32>, AllocError>
+    ensures { IfOk result (λ joined. joined.items
+        ≡ flat_map (λ counts. counts.items) each.now) }
+{
+    let mut joined = Vec::new(alloc);
+    for counts in each {
+        joined.extend_from_slice(counts.as_slice())?;
+    }
+    Ok(joined)
+}
+
+// The shades of one plan: its numbers of fires.
+fn shades_of_one(alloc: Global, each: &[Vec<u32>]) -> Result<Vec<u32>, AllocError>
+    requires { length each.now ≡ 1 }
+    ensures { IfOk result (λ shades. (days : ℕ)
+        → shades.items ≡ shades_of days (map (λ counts. counts.items) each.now)) }
+{
+    let shades = joined_counts(alloc, each)?;
+    Ok(shades)
+}
+
+/// The numbers by which the days of a year are shaded. Of one plan these are its fires, else how
+/// many plans fire on the day but not on each day. `each` has the numbers of fires of each plan.
+pub(crate) fn shades(alloc: Global, each: &[Vec<u32>], days: u32) -> Result<Vec<u32>, AllocError>
+    ensures { IfOk result (λ shades. shades.items
+        ≡ shades_of days (map (λ counts. counts.items) each.now)) }
+{
+    match each {
+        [_] => shades_of_one(alloc, each),
+        several => shades_by_day(alloc, several, days),
+    }
 }

@@ -20,7 +20,7 @@ const SATURDAY: u32 = 7;
 
 /// The days of an expression. Days of the week are numbered from 1 for Sunday.
 #[derive(Clone, Copy)]
-pub(crate) enum Days {
+pub enum Days {
     Dates(DaysOfMonth),
     /// `L` or `L-3`: the day this number of days before the last of the month, 30 at most.
     BeforeLast(u32),

@@ -173,7 +173,7 @@ fn last_day() -> DaysOfMonth
 }
 
 /// The schedules of the form `days`. `fields` is the schedule of the other fields, with all days.
-pub(crate) fn schedules_of(days: &Days, fields: &ScheduleFields) -> Expression
+pub fn schedules_of(days: &Days, fields: &ScheduleFields) -> Expression
     requires { AreDays days.now }
     ensures { result ≡ schedules_of (days_view days.now) fields.now }
 {

@@ -14,7 +14,9 @@ mod schedules;
 mod sets;
 mod texts;
 
+pub use days::Days;
 pub use expression::read;
 pub use faults::{Fault, Reason, RefusedItem};
 pub use field::Field;
+pub use forms::schedules_of;
 pub use schedules::Expression;

@@ -6,5 +6,5 @@ pub mod laws;
 mod lines;
 mod words;
 
-pub use lines::{ShellJob, Variable, push_line, push_log_front};
+pub use lines::{ShellJob, Variable, cut_line, push_line, push_log_front};
 pub use words::push_word;

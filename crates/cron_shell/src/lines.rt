@@ -70,8 +70,9 @@ fn front_len(text: &[u8]) -> usize
     text.len()
 }
 
-// Cuts `text` into its first line, without the line feed, and the rest after the line feed.
-fn cut_line(text: &[u8]) -> (&[u8], &[u8])
+/// Cuts `text` into its first line, without the line feed, and the rest after the line feed. The
+/// last line may have no line feed.
+pub fn cut_line(text: &[u8]) -> (&[u8], &[u8])
     requires { 0 < length text.now }
     ensures lines { input_lines text.now ≡ result.0.now ∷ input_lines result.1.now }
     ensures shorter { length result.1.now < length text.now }

@@ -70,9 +70,9 @@ in_range (negsuc n) = 0
 abbrev pub first_day : TimeZone → ℤ → ℕ
 first_day z t = in_range (int_div_euclid (int_div_euclid t (pos 1_000_000_000) +ℤ offset_at z t) (pos 86_400))
 
--- the day 731 days after `first`, or the end of the range if that comes before
-abbrev pub end_day : ℕ → ℕ
-end_day first = min (first + 731) days_in_range
+-- the day so many days after `first`, or the end of the range if that comes before
+abbrev pub end_day : ℕ → ℕ → ℕ
+end_day first ahead = min (first + ahead) days_in_range
 
 -- the schedules of an entry at a fixed time; none for any other
 abbrev pub fixed_by : ClockChanges → Option (List Sets) → List Sets
@@ -82,7 +82,7 @@ fixed_by changes other = []
 abbrev pub fixed_in : FileLine → List Sets
 fixed_in line = fixed_by (changes_of Own line.bytes) (schedules_in line.outcome)
 
--- The changed days of a line's entry are appended, for two years from the instant t on. A line that
+-- The changed days of a line's entry are appended, for so many days from the instant t on. A line that
 -- is no entry at a fixed time has none.
-abbrev pub ListsChanges : {E : Type 0} → FileLine → TimeZone → ℤ → List ChangedDay → Result ⊤ E → List ChangedDay → Type 0
-ListsChanges line z t before answer after = AppendsChanges (fixed_in line) z (first_day z t) (end_day (first_day z t)) before answer after
+abbrev pub ListsChanges : {E : Type 0} → FileLine → TimeZone → ℤ → ℕ → List ChangedDay → Result ⊤ E → List ChangedDay → Type 0
+ListsChanges line z t ahead before answer after = AppendsChanges (fixed_in line) z (first_day z t) (end_day (first_day z t) ahead) before answer after

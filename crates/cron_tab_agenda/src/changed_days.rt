@@ -26,9 +26,6 @@ use jiff::civil::Date;
 use jiff::tz::TimeZone;
 use std::alloc::AllocError;
 
-/// How many days are searched: two years.
-const DAYS_AHEAD: u32 = 731;
-
 /// A civil day on which a transition skips a fixed time of an entry, or doubles it.
 #[derive(Clone, Copy, Debug, PartialEq, Eq)]
 pub struct ChangedDay {
@@ -240,17 +237,18 @@ fn first_day(zone: &TimeZone<'_>, start: Timestamp) -> u32
 }
 
 /// Appends to `days` the days on which a transition skips a fixed time of a line's entry, or
-/// doubles it. It searches 731 days, from the day that a clock in the zone shows at `start`, but at
-/// most to the end of 2100. An entry that follows the clock has no such days, and neither has a
+/// doubles it. It searches so many days from the day on that a clock in the zone shows at `start`,
+/// but at most to the end of 2100. An entry that follows the clock has no such days, and neither has a
 /// line that is no entry. If memory runs out, the days found so far are appended.
 pub fn list_changes(
     days: &mut Vec<ChangedDay>,
     line: &FileLine<'_>,
     zone: &TimeZone<'_>,
     start: Timestamp,
+    ahead: u32,
 ) -> Result<(), AllocError>
     ensures lists { ListsChanges (file_line_view line.now) (plain_zone zone.now) start.nanosecond
-        days.old.items result days.new.items }
+        ahead days.old.items result days.new.items }
     ensures full { OnErr result (vec_capacity days.new ≤ vec_len days.new) }
 {
     let Some(entry) = TabEntry::of(line) else {
@@ -260,6 +258,6 @@ pub fn list_changes(
         return Ok(());
     }
     let first = first_day(zone, start);
-    let end = (first + DAYS_AHEAD).min(DAYS);
+    let end = first.saturating_add(ahead).min(DAYS);
     push_changes(days, entry.union().schedules, zone, first, end)
 }

@@ -17,7 +17,7 @@ use Rattle.cron_tab_lines.specs.declared.kinds.Entry.{Entry}
 use Rattle.cron_tab_lines.specs.declared.kinds.Line.{Line}
 use Rattle.cron_tab_lines.specs.declared.kinds.Line.TheVariants.{Entry as Read}
 use Rattle.cron_tab_lines.specs.declared.refusals.Refusal.{Refusal}
-use Rattle.cron_tab_answers.specs.Checks.{any_refused, refuses, EndsAs, TellsIfWanted, TellsLine, TellsLines, TellsOfEntry, TellsOfFields, TellsOfLine}
+use Rattle.cron_tab_answers.specs.Checks.{any_refused, refuses, EndsAs, TellsFound, TellsIfWanted, TellsLine, TellsLines, TellsOfEntry, TellsOfFields, TellsOfLine}
 use Rattle.cron_replies.specs.Inner.Telling.{AppendsTold}
 use Rattle.cron_tab_answers.specs.Inner.Checks.{end_of}
 use Rattle.cron_replies.specs.Statuses.{Ends, is_write_failure}
@@ -38,15 +38,15 @@ of_entry w number read e fields text old new is same h =
     of_meaning w number (outcome_view read) (entry_view e) text old new (ap outcome_view is)
     (subst (λ (f : List ℕ). AppendsTold (TellsOfFields w number f (expression_view e.expression)) old new) same h)
 
--- both kinds of warnings were told
-pub warnings_told : (warn : Bool) (w : Wanted) (line : FileLine) (old mid new : List ℕ) → warn ≡ true
+-- all kinds of warnings were told
+pub warnings_told : (warn : Bool) (w : Wanted) (line : FileLine) (old mid more new : List ℕ) → warn ≡ true
     → AppendsTold (TellsOfEntry w line.number line.outcome (take (utf8_valid_len line.bytes) line.bytes)) old mid
-    → AppendsTold (TellsOfLine w.front.now line) mid new → AppendsTold (TellsIfWanted warn w line) old new
-warnings_told false w line old mid new wanted h more = absurd (cc)
-warnings_told true w line old mid new wanted (one, e, told) (two, f, more) = (
-  one ++ two,
-  f ∙ (ap (λ (t : List ℕ). t ++ two) e ∙ append_assoc old one two),
-  record { of_entry = one; of_line = two; both = refl; entry = told; line = more },
+    → AppendsTold (TellsOfLine w.front.now line) mid more → AppendsTold (TellsFound w line.number) more new → AppendsTold (TellsIfWanted warn w line) old new
+warnings_told false w line old mid more new wanted h g k = absurd (cc)
+warnings_told true w line old mid more new wanted (one, e, told) (two, f, shown) (three, g, found) = (
+  one ++ (two ++ three),
+  g ∙ (ap (λ (t : List ℕ). t ++ three) (f ∙ ap (λ (t : List ℕ). t ++ two) e) ∙ (append_assoc (old ++ one) two three ∙ append_assoc old one (two ++ three))),
+  record { of_entry = one; of_line = two; of_found = three; all = refl; entry = told; line = shown; found = found },
 )
 
 -- ---- lines

@@ -1,2 +1,3 @@
 pub mod CheckLemmas
 pub mod TabLemmas
+pub mod ExplainedLemmas

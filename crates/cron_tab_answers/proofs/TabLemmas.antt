@@ -1,48 +1,39 @@
 -- Rows of fires that were written so far.
-use Rattle.std.proofs.Common.{◌≡◌, ◌++◌, ℕ, ℤ, Bool, true, false, Option, Some, Ok, List, [], ◌∷◌, length, inl, inr, refl, sym, ap, ◌∙◌, append_assoc, append-nil}
-use Rattle.std.specs.Prelude.{⊤, Err, Result, slice_get}
-use Rattle.std.specs.Str.{IsUtf8, is_utf8}
-use Rattle.std.specs.Str.Lossy.{utf8_lossy}
-use Rattle.std.proofs.lemmas.Str.{IsUtf8-from_is_utf8, is_utf8-from_IsUtf8, utf8_lossy-IsUtf8}
-use Rattle.hex.specs.Hex.{encode_lower}
-use Rattle.json.specs.Token.{Token, key, string}
+use Rattle.std.proofs.Common.{◌≡◌, ◌++◌, ◌<◌, ℕ, Bool, true, false, Option, Some, Ok, List, [], ◌∷◌, length, inl, inr, refl, sym, ap, ◌∙◌, append_assoc, append-nil}
+use Rattle.std.specs.Prelude.{⊤, Err, Result, if◌then◌else◌, slice_get}
 use Rattle.cron_agenda.specs.Entries.{Listed}
 use Rattle.cron_tab_agenda.specs.declared.listing.TabFire.{TabFire}
 use Rattle.cron_tab_agenda.specs.declared.tab_entry.TabEntry.{TabEntry}
-use Rattle.cron_tab_answers.specs.Inner.TabRows.{list_end}
+use Rattle.cron_tab_answers.specs.Inner.TabRows.{fault_of, list_end}
 use Rattle.cron_replies.specs.Statuses.{Ends, is_write_failure}
-use Rattle.cron_tab_answers.specs.TabRows.{AreRows, ListEndsAs, StopsBy, Wanted, is_failed, shown_row, text_members}
+use Rattle.cron_tab_answers.specs.TabRows.{AreRows, ListEndsAs, StopsBy, Wanted, IsRow, is_failed, moment_at}
+use Rattle.cron_tab_rows.specs.declared.source.Source.{Source}
 use Rattle.cron_replies.specs.declared.status.Status.{Status}
 use Rattle.cron_replies.specs.declared.status.Status.TheVariants.{Done, No, WrongWords, WriteFailed, Unreadable}
 use Rattle.cron_tab_answers.specs.declared.fault.ListFault.{ListFault}
-use Rattle.cron_tab_answers.specs.declared.tab_row.Source.{Source}
+use Rattle.cron_tab_answers.specs.declared.fault.ListFault.TheVariants.{Format, OutOfMemory}
+use Rattle.cron_tab_agenda.specs.Listing.{IsTabTaken}
+use Rattle.cron_looks.specs.Times.{IsTimeError, is_out_of_memory}
+use Rattle.jiff_core.specs.declared.error.Error.{Error}
 use Rattle.cron_tab_answers.specs.declared.tab_row.Style.{Style}
-
--- the members of bytes that are a text
-pub text_written : (name raw bytes text : List ℕ) (old mid new : List Token) → text ≡ bytes → IsUtf8 bytes → mid ≡ old ++ key name ∷ []
-    → new ≡ mid ++ string text ∷ [] → new ≡ old ++ text_members name raw bytes
-text_written name raw bytes text old mid new same utf8 one two =
-    two ∙ ap (λ (m : List Token). m ++ string text ∷ []) one ∙ append_assoc old (key name ∷ []) (string text ∷ [])
-    ∙ rw (same, utf8_lossy-IsUtf8 bytes utf8, is_utf8-from_IsUtf8 bytes utf8) refl
-
-no_text : (b : Bool) (bytes : List ℕ) → is_utf8 bytes ≡ b → (IsUtf8 bytes → ⊥) → is_utf8 bytes ≡ false
-no_text true bytes is none = absurd (none (IsUtf8-from_is_utf8 bytes is))
-no_text false bytes is none = is
-
--- and of others
-pub raw_written : (name raw bytes : List ℕ) (old mid new : List Token) → (IsUtf8 bytes → ⊥) → mid ≡ old ++ key name ∷ []
-    → new ≡ mid ++ (string (utf8_lossy bytes) ∷ key raw ∷ string (encode_lower bytes) ∷ []) → new ≡ old ++ text_members name raw bytes
-raw_written name raw bytes old mid new none one two =
-    let more = string (utf8_lossy bytes) ∷ key raw ∷ string (encode_lower bytes) ∷ [] in
-    two ∙ ap (λ (m : List Token). m ++ more) one ∙ append_assoc old (key name ∷ []) more
-    ∙ rw (no_text (is_utf8 bytes) bytes refl none) refl
 
 -- one more row
 pub row_on : (style : Style) (sources : List Source) (fires : List TabFire) (s : Source) (f : TabFire) (report row : List ℕ) → AreRows style sources fires report
-    → slice_get sources f.id ≡ Some s → row ≡ shown_row style s f → AreRows style sources (fires ++ f ∷ []) (report ++ row)
-row_on style sources [] s f report row none got is = (s, [], got, ap (λ (r : List ℕ). r ++ row) none ∙ is ∙ sym (append-nil (shown_row style s f)), refl)
-row_on style sources (g ∷ fires) s f report row (t, rest, found, e, more) got is =
-    (t, rest ++ row, found, ap (λ (r : List ℕ). r ++ row) e ∙ append_assoc (shown_row style t g) rest row, row_on style sources fires s f rest row more got is)
+    → slice_get sources f.id ≡ Some s → IsRow style s f row → AreRows style sources (fires ++ f ∷ []) (report ++ row)
+row_on style sources [] s f report row none got is = (s, row, [], got, ap (λ (r : List ℕ). r ++ row) none ∙ sym (append-nil row), is, refl)
+row_on style sources (g ∷ fires) s f report row (t, here, rest, found, e, at, more) got is =
+    (t, here, rest ++ row, found, ap (λ (r : List ℕ). r ++ row) e ∙ append_assoc here rest row, at, row_on style sources fires s f rest row more got is)
+
+-- a list ends where a row can't be made
+stops_by : (w : Wanted) (count : ℕ) (left after : Listed TabEntry) (f : TabFire) (why : Error) (b : Bool) → count < w.limit
+    → IsTabTaken w.zones w.t left f after → IsTimeError w.times (moment_at f.fire) why → is_out_of_memory why ≡ b
+    → StopsBy w count (Err (if b then OutOfMemory else Format)) left
+stops_by w count left after f why true less takes is e = less
+stops_by w count left after f why false less takes is e = (less, (f, after, takes, (why, e, is)))
+
+pub stops_at : (w : Wanted) (count : ℕ) (left after : Listed TabEntry) (f : TabFire) (why : Error) → count < w.limit → IsTabTaken w.zones w.t left f after
+    → IsTimeError w.times (moment_at f.fire) why → StopsBy w count (Err (fault_of why)) left
+stops_at w count left after f why less takes is = stops_by w count left after f why (is_out_of_memory why) less takes is refl
 
 -- how a list ends
 pub rows_end : (w : Wanted) (answer : Result ⊤ ListFault) (status : Status) (fires : List TabFire) (left : Listed TabEntry) (report : List ℕ)

@@ -1,5 +1,5 @@
 -- What is told of a crontab's lines.
-use Rattle.std.specs.Prelude.{◌≡◌, ◌⊎◌, ◌++◌, ◌&&◌, ◌||◌, ℕ, Bool, true, false, List, [], ◌∷◌, Option, Result, Ok, Err, codes, take}
+use Rattle.std.specs.Prelude.{◌≡◌, ◌++◌, ◌&&◌, ◌||◌, ℕ, Bool, true, false, List, [], ◌∷◌, Option, Result, Ok, Err, codes, take}
 use Rattle.std.specs.Io.KnownBytes.{Appends}
 use Rattle.std.specs.List.{list_any}
 use Rattle.std.specs.Str.Lossy.{utf8_valid_len}
@@ -19,6 +19,7 @@ use Rattle.cron_tab_warnings.specs.Messages.{line_warning_text, warning_text}
 use Rattle.cron_tab_warnings.specs.Warnings.{Warns}
 use Rattle.cron_tab_warnings.specs.declared.files.TheConstants.{LINE_WARNINGS}
 use Rattle.cron_tab_warnings.specs.declared.warnings.TheConstants.{WARNINGS}
+use Rattle.cron_tab_context.specs.Messages.{context_text}
 use Rattle.cron_tab_answers.specs.declared.check.Wanted.{Wanted}
 use Rattle.cron_replies.specs.Telling.{TellsThose}
 use Rattle.cron_replies.specs.declared.status.Status.{Status}
@@ -86,14 +87,22 @@ abbrev pub TellsOfLine : List ℕ → FileLine → List ℕ → Type 0
 TellsOfLine front line told =
     TellsThose (λ w. is_told w line ≡ true) (λ w. warning_line front line.number (line_warning_text w)) LINE_WARNINGS told
 
--- The text is the warnings that apply to a line: those about its expression, and then those about
--- the line itself.
+-- `told` has the warnings that were found about the entry in the line with this number, by what is
+-- around it.
+abbrev pub TellsFound : Wanted → ℕ → List ℕ → Type 0
+TellsFound w number told =
+    TellsThose (λ f. f.line ≡ number) (λ f. warning_line w.front.now number (context_text f.warning)) w.found.now told
+
+-- The text is the warnings that apply to a line: those about its expression, those about the line
+-- itself, and those by what is around it.
 pub record TellsWarnings (w : Wanted) (l : FileLine) (text : List ℕ) : Type 0 where
   pub of_entry : List ℕ
   pub of_line : List ℕ
-  pub both : text ≡ of_entry ++ of_line
+  pub of_found : List ℕ
+  pub all : text ≡ of_entry ++ (of_line ++ of_found)
   pub entry : TellsOfEntry w l.number l.outcome (take (utf8_valid_len l.bytes) l.bytes) of_entry
   pub line : TellsOfLine w.front.now l of_line
+  pub found : TellsFound w l.number of_found
 
 abbrev pub TellsIfWanted : Bool → Wanted → FileLine → List ℕ → Type 0
 TellsIfWanted true w line text = TellsWarnings w line text

@@ -7,13 +7,13 @@ use Rattle.cron_agenda.specs.declared.error.AddError.TheVariants.{OutOfMemory}
 use Rattle.cron_tab_lines.specs.Entries.{Entry}
 use Rattle.cron_tab_lines.specs.Files.{FileLine}
 use Rattle.cron_tab_lines.specs.Lines.{entry}
-use Rattle.cron_tab_lines.specs.Views.{bytes_view}
 use Rattle.cron_tab_lines.specs.Zones.{zone_below}
 use Rattle.cron_tab_lines.specs.declared.zones.NamedZone.{NamedZone}
 use Rattle.cron_tab_agenda.specs.Adding.{AddsLine, Start, start_of}
 use Rattle.cron_tab_agenda.specs.declared.adding.Clock.{Clock}
 use Rattle.cron_tab_agenda.specs.declared.tab_entry.TabEntry.{TabEntry}
-use Rattle.cron_tab_answers.specs.declared.tab_row.Source.{Source}
+use Rattle.cron_tab_rows.specs.Sources.{source_of, view}
+use Rattle.cron_tab_rows.specs.declared.source.Source.{Source}
 use Rattle.cron_tab_answers.specs.declared.tab_files.Firing.{Firing}
 use Rattle.cron_tab_answers.specs.declared.tab_files.TabAgenda as code
 
@@ -30,8 +30,7 @@ nothing = record { agenda = listed [] 0 0; sources = [] }
 
 -- The source s has the file, user, command and input of a line's entry.
 abbrev pub IsSource : Option (List ℕ) → FileLine → Source → Type 0
-IsSource file line s = (e : Entry) × (line.outcome ≡ Ok (entry e)) × (bytes_view s.file ≡ file) × (bytes_view s.user ≡ e.user) × (s.command.now ≡ e.command)
-    × (bytes_view s.input ≡ e.input)
+IsSource file line s = (e : Entry) × (line.outcome ≡ Ok (entry e)) × (view s ≡ source_of file e)
 
 -- The source of an entry that was added, which has an id then, is appended to the sources. Else
 -- nothing is.

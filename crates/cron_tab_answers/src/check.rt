@@ -9,7 +9,7 @@ ghost use Rattle.cron_controls.specs.Controls.{shown_by};
 ghost use Rattle.cron_crontab.specs.Views.{expression_view};
 ghost use Rattle.cron_tab_lines.specs.Files.{file_lines};
 ghost use Rattle.cron_tab_lines.specs.Views.{file_line_view};
-ghost use Rattle.cron_tab_answers.specs.Checks.{Checks, TellsIfWanted, TellsLine, TellsOfEntry, TellsOfFields, TellsOfLine, is_refused, is_told, is_unended, refusal_line, refuses, unended_line, zone_line};
+ghost use Rattle.cron_tab_answers.specs.Checks.{Checks, TellsFound, TellsIfWanted, TellsLine, TellsOfEntry, TellsOfFields, TellsOfLine, is_refused, is_told, is_unended, refusal_line, refuses, unended_line, zone_line};
 ghost use Rattle.cron_tab_lines.specs.Zones.{names_no_zone};
 ghost use Rattle.cron_replies.specs.Inner.Telling.{AppendsTold};
 ghost use Rattle.cron_tab_answers.specs.Inner.Checks.{TellsFront, end_of};
@@ -21,6 +21,7 @@ use cron_checking::output::put;
 use cron_controls::{Controls, shown};
 use cron_crontab::Expression;
 use cron_replies::status::{Status, finish};
+use cron_tab_context::Found;
 use cron_tab_lines::{Crontab, FileLine, Line, Lines, NamedZone, names_no_zone};
 use cron_tab_warnings::{LINE_WARNINGS, LineWarning, WARNINGS, text_of, warns, warns_line};
 use cron_writer::gathered::Gathered;
@@ -38,6 +39,8 @@ pub struct Wanted<'a> {
     pub front: &'a str,
     /// Whether warnings are written too.
     pub warn: bool,
+    /// The warnings that were found by what is around the entries.
+    pub found: &'a [Found],
     /// Whether a last line without a line feed is refused, since it may be half written. If not, a
     /// note is written for it.
     pub needs_feed: bool,
@@ -185,6 +188,21 @@ fn tell_entry_warnings(
     Ok(())
 }
 
+// Appends the warnings that were found about the entry in the line with this number.
+fn tell_found(wanted: &Wanted<'_>, number: usize, text: &mut String) -> Result<(), AllocError>
+    ensures { OnOk result (AppendsTold (TellsFound wanted.now number)
+        (string_bytes text.old) (string_bytes text.new)) }
+{
+    let front = wanted.front;
+    for found in wanted.found {
+        if found.line == number {
+            let warning = found.warning;
+            writeln!(text, "{front}{number}: warning: {warning}")?;
+        }
+    }
+    Ok(())
+}
+
 // Appends the warnings that apply to a line, if warnings are wanted.
 fn tell_if_wanted(
     wanted: &Wanted<'_>,
@@ -200,6 +218,7 @@ fn tell_if_wanted(
     }
     tell_entry_warnings(wanted, line, text)?;
     tell_line_warnings(wanted.front, line, text)?;
+    tell_found(wanted, line.number, text)?;
     Ok(())
 }
 

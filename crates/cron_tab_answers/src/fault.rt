@@ -11,6 +11,8 @@ pub enum ListFault {
     Zone(ZoneMissing),
     /// The entry that fires next has no source, which is its file and its command.
     Source,
+    /// `strftime` refuses the format of times.
+    Format,
     /// Memory ran out.
     OutOfMemory,
 }
@@ -25,6 +27,7 @@ impl fmt::Display for ListFault {
         match self {
             ListFault::Zone(missing) => write!(f, "{missing}"),
             ListFault::Source => f.write_str("the source of the entry that comes first is lacking"),
+            ListFault::Format => f.write_str("times have no such format of strftime"),
             ListFault::OutOfMemory => f.write_str("out of memory"),
         }
     }

@@ -8,10 +8,10 @@ ghost use Rattle.cron_tab_lines.specs.Views.{bytes_view, file_line_view};
 ghost use Rattle.cron_tab_agenda.specs.Adding.{start_of};
 ghost use Rattle.cron_tab_answers.specs.TabFiles.{FailsAt, IsNotLoaded, LoadsIn, LoadsLine, LoadsLines, agenda_view, given, nothing};
 
-use crate::tab_row::Source;
 use cron_agenda::{AddError, Agenda};
 use cron_tab_agenda::{Clock, TabEntry, TabFile, add_line};
 use cron_tab_lines::{FileLine, Line, Lines, NamedZone, zone_below};
+use cron_tab_rows::source::Source;
 use jiff::Timestamp;
 use jiff::tz::TimeZone;
 use std::alloc::Global;
@@ -65,7 +65,7 @@ fn load_line<'a>(
     let Ok(Line::Entry(entry)) = &line.read else {
         return Ok(());
     };
-    let (user, command, input) = (entry.user, entry.command, entry.input);
+    let source = Source::of(file, entry);
     match add_line(
         &mut tabs.agenda,
         line,
@@ -74,12 +74,7 @@ fn load_line<'a>(
         zones,
         zone,
     ) {
-        Ok(Some(_)) => match tabs.sources.push(Source {
-            file,
-            user,
-            command,
-            input,
-        }) {
+        Ok(Some(_)) => match tabs.sources.push(source) {
             Ok(()) => Ok(()),
             Err(_) => Err(AddError::OutOfMemory),
         },

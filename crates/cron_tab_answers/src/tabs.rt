@@ -2,29 +2,43 @@
 
 ghost use Rattle.std.specs.Prelude.{◌≡◌, false, map};
 ghost use Rattle.jiff.specs.Words.{plain_zone};
-ghost use Rattle.cron_tab_answers.specs.Inner.TabRows.{GathersTabs, list_end};
+ghost use Rattle.cron_tab_answers.specs.Inner.TabRows.{GathersTabs, fault_of, list_end};
 ghost use Rattle.cron_tab_answers.specs.TabRows.{ListsTabs, is_failed, wanted};
 ghost use Rattle.cron_writer.specs.Calls.{AreWritesFlushed};
 ghost use Rattle.cron_writer.specs.Watching.{has_failed, writer_of};
 
 use crate::fault::ListFault;
-use crate::tab_row::{Source, Style, make_row};
+use crate::tab_row::{Style, make_row};
 use cron_agenda::Agenda;
 use cron_checking::output::put;
+use cron_looks::is_out_of_memory;
 use cron_replies::status::{Status, finish};
 use cron_tab_agenda::{TabEntry, next_fire};
+use cron_tab_rows::source::Source;
 use cron_writer::gathered::Gathered;
 use cron_writer::watchable::Watchable;
 use cron_writer::watched::Watched;
 use jiff::Timestamp;
 use jiff::tz::TimeZone;
+use jiff_core::Error;
 use std::alloc::Global;
+
+// Why a list ends where a row can't be made.
+fn fault_of(error: &Error) -> ListFault
+    ensures { result ≡ fault_of error.now }
+{
+    if is_out_of_memory(error) {
+        ListFault::OutOfMemory
+    } else {
+        ListFault::Format
+    }
+}
 
 // Gathers the rows of the fires up to and including `until`, at most `limit` of them, until a write
 // fails.
 fn gather_tabs<W: Watchable>(
     alloc: Global,
-    style: Style,
+    style: &Style<'_>,
     agenda: &mut Agenda<TabEntry>,
     sources: &[Source<'_>],
     until: Timestamp,
@@ -33,8 +47,8 @@ fn gather_tabs<W: Watchable>(
     gathered: &mut Gathered,
     out: &mut Watched<W>,
 ) -> Result<(), ListFault>
-    ensures { GathersTabs style
-        (wanted (map plain_zone zones.now) until.nanosecond limit sources.now)
+    ensures { GathersTabs style.now
+        (wanted (map plain_zone zones.now) until.nanosecond limit sources.now style.now.times)
         agenda.old W.contents W.writes (gathered.old, out.old) (gathered.new, out.new) result }
 {
     let mut row = Vec::new(alloc);
@@ -51,7 +65,7 @@ fn gather_tabs<W: Watchable>(
         };
         row = match make_row(alloc, style, source, &fire, row) {
             Ok(made) => made,
-            Err(_) => return Err(ListFault::OutOfMemory),
+            Err(error) => return Err(fault_of(&error)),
         };
         put(row.as_slice(), gathered, out);
         if out.has_failed() {
@@ -77,7 +91,7 @@ fn list_end(answer: Result<(), ListFault>, status: Status) -> Result<Status, Lis
 /// the rows before it are written. No call of the writer may have failed before.
 pub fn list<W: Watchable>(
     alloc: Global,
-    style: Style,
+    style: &Style<'_>,
     agenda: &mut Agenda<TabEntry>,
     sources: &[Source<'_>],
     until: Timestamp,
@@ -86,8 +100,8 @@ pub fn list<W: Watchable>(
     out: &mut Watched<W>,
 ) -> Result<Status, ListFault>
     requires { has_failed out.old ≡ false }
-    ensures lists { ListsTabs style
-        (wanted (map plain_zone zones.now) until.nanosecond limit sources.now) agenda.old
+    ensures lists { ListsTabs style.now
+        (wanted (map plain_zone zones.now) until.nanosecond limit sources.now style.now.times) agenda.old
         (W.contents (writer_of out.old)) (W.contents (writer_of out.new)) result }
     ensures mark { has_failed out.new ≡ is_failed result }
     ensures calls { AreWritesFlushed W.writes W.flushes

@@ -7,6 +7,7 @@ use Rattle.cron_agenda.specs.Fires.{instant}
 use Rattle.cron_agenda.specs.declared.fire.EntryFire.{EntryFire}
 use Rattle.cron_collisions.specs.Collisions.{AreCollisions, Ascends}
 use Rattle.cron_collisions.specs.declared.collisions.Collisions.{Collisions}
+use Rattle.cron_replies.specs.declared.form.Form.{Form}
 use Rattle.cron_tab_fires.specs.Entries.{Given, TabFires, entries_in, seconds, view}
 use Rattle.cron_tab_fires.specs.Laws.{AllAscend}
 use Rattle.cron_tab_fires.specs.declared.entries.TabFires as code
@@ -16,50 +17,50 @@ use Rattle.cron_tab_lines.specs.Files.{file_lines}
 use Rattle.cron_tab_lines.specs.Views.{bytes_view}
 use Rattle.cron_tab_agenda.specs.declared.tab_file.TabFile.{TabFile}
 use Rattle.cron_tab_collisions.specs.Collisions.{IsFilesError, TellsAll, TellsPair, TellsWith, entries_of}
-use Rattle.cron_tab_collisions.specs.Inner.Telling.{Adds}
+use Rattle.cron_replies.specs.Inner.Telling.{AppendsTold}
 use Rattle.cron_tab_collisions.specs.Rows.{later, row}
 
 -- what is told of those that are left makes what is told of all
 abbrev pub IsSoFar : (List TabFires → List ℕ → Type 0) → List TabFires → List TabFires → List ℕ → List ℕ → Type 0
-IsSoFar Tells all left begun now = (rest : List ℕ) → Tells left rest → Adds (Tells all) begun (now ++ rest)
+IsSoFar Tells all left begun now = (rest : List ℕ) → Tells left rest → AppendsTold (Tells all) begun (now ++ rest)
 
 pub begun : (Tells : List TabFires → List ℕ → Type 0) (all : List TabFires) (now : List ℕ) → IsSoFar Tells all all now now
 begun Tells all now = λ rest tells. (rest, refl, tells)
 
 -- one more was told of
-pub told_with : (d : ℕ) (a b : TabFires) (all left rest : List TabFires) (old now new : List ℕ) → IsSoFar (TellsWith d a) all left old now → left ≡ b ∷ rest
-    → Adds (TellsPair d a b) now new → IsSoFar (TellsWith d a) all rest old new
-told_with d a b all left rest old now new so_far cut (here, e, tells) = λ more others.
-    subst (λ (l : List ℕ). Adds (TellsWith d a all) old l) (sym (ap (λ (l : List ℕ). l ++ more) e ∙ append_assoc now here more))
-    (so_far (here ++ more) (subst (λ (l : List TabFires). TellsWith d a l (here ++ more)) (sym cut) (here, more, refl, tells, others)))
+pub told_with : (form : Form) (d : ℕ) (a b : TabFires) (all left rest : List TabFires) (old now new : List ℕ) → IsSoFar (TellsWith form d a) all left old now → left ≡ b ∷ rest
+    → AppendsTold (TellsPair form d a b) now new → IsSoFar (TellsWith form d a) all rest old new
+told_with form d a b all left rest old now new so_far cut (here, e, tells) = λ more others.
+    subst (λ (l : List ℕ). AppendsTold (TellsWith form d a all) old l) (sym (ap (λ (l : List ℕ). l ++ more) e ∙ append_assoc now here more))
+    (so_far (here ++ more) (subst (λ (l : List TabFires). TellsWith form d a l (here ++ more)) (sym cut) (here, more, refl, tells, others)))
 
-pub told_each : (d : ℕ) (b : TabFires) (all left rest : List TabFires) (old now new : List ℕ) → IsSoFar (TellsAll d) all left old now → left ≡ b ∷ rest
-    → Adds (TellsWith d b rest) now new → IsSoFar (TellsAll d) all rest old new
-told_each d b all left rest old now new so_far cut (here, e, tells) = λ more others.
-    subst (λ (l : List ℕ). Adds (TellsAll d all) old l) (sym (ap (λ (l : List ℕ). l ++ more) e ∙ append_assoc now here more))
-    (so_far (here ++ more) (subst (λ (l : List TabFires). TellsAll d l (here ++ more)) (sym cut) (here, more, refl, tells, others)))
+pub told_each : (form : Form) (d : ℕ) (b : TabFires) (all left rest : List TabFires) (old now new : List ℕ) → IsSoFar (TellsAll form d) all left old now → left ≡ b ∷ rest
+    → AppendsTold (TellsWith form d b rest) now new → IsSoFar (TellsAll form d) all rest old new
+told_each form d b all left rest old now new so_far cut (here, e, tells) = λ more others.
+    subst (λ (l : List ℕ). AppendsTold (TellsAll form d all) old l) (sym (ap (λ (l : List ℕ). l ++ more) e ∙ append_assoc now here more))
+    (so_far (here ++ more) (subst (λ (l : List TabFires). TellsAll form d l (here ++ more)) (sym cut) (here, more, refl, tells, others)))
 
 -- all were told of
 pub told_all : (Tells : List TabFires → List ℕ → Type 0) (all left : List TabFires) (old now : List ℕ) → IsSoFar Tells all left old now → left ≡ []
-    → Tells [] [] → Adds (Tells all) old now
+    → Tells [] [] → AppendsTold (Tells all) old now
 told_all Tells all left old now so_far none empty =
-    subst (λ (l : List ℕ). Adds (Tells all) old l) (append-nil now) (so_far [] (subst (λ (l : List TabFires). Tells l []) (sym none) empty))
+    subst (λ (l : List ℕ). AppendsTold (Tells all) old l) (append-nil now) (so_far [] (subst (λ (l : List TabFires). Tells l []) (sym none) empty))
 
 -- nothing was told
-pub nothing_told : (Tells : List ℕ → Type 0) (now : List ℕ) → Tells [] → Adds Tells now now
+pub nothing_told : (Tells : List ℕ → Type 0) (now : List ℕ) → Tells [] → AppendsTold Tells now now
 nothing_told Tells now tells = ([], sym (append-nil now), tells)
 
 -- the row of two entries that collide
-pub pair_told : (d : ℕ) (a b : TabFires) (ss ts : List ℤ) (found : Collisions) (f g fire : EntryFire) (old new : List ℕ) → AreCollisions d ss ts (Some found)
+pub pair_told : (form : Form) (d : ℕ) (a b : TabFires) (ss ts : List ℤ) (found : Collisions) (f g fire : EntryFire) (old new : List ℕ) → AreCollisions d ss ts (Some found)
     → ss ≡ seconds a → ts ≡ seconds b → f ≡ get_or a.fires found.first f → g ≡ get_or b.fires found.second g → fire ≡ later f g
-    → new ≡ old ++ row a b fire found.pairs → Adds (TellsPair d a b) old new
-pair_told d a b ss ts found f g fire old new are first second at_f at_g is e =
+    → new ≡ old ++ row form a b fire found.pairs → AppendsTold (TellsPair form d a b) old new
+pair_told form d a b ss ts found f g fire old new are first second at_f at_g is e =
     let one : AreCollisions d (seconds a) ts (Some found) = subst (λ (l : List ℤ). AreCollisions d l ts (Some found)) first are in
     let both : AreCollisions d (seconds a) (seconds b) (Some found) = subst (λ (l : List ℤ). AreCollisions d (seconds a) l (Some found)) second one in
     let (s, t, at_s, at_t, h) = both.1.collide in
     let f_within : found.first < length a.fires = omega (arith, length-map a.fires instant, slice_get_within (seconds a) found.first s at_s) in
     let g_within : found.second < length b.fires = omega (arith, length-map b.fires instant, slice_get_within (seconds b) found.second t at_t) in (
-      row a b fire found.pairs,
+      row form a b fire found.pairs,
       e,
       (
         Some found,
@@ -69,7 +70,7 @@ pair_told d a b ss ts found f g fire old new are first second at_f at_g is e =
           g,
           slice_get_read a.fires (length a.fires) found.first f refl f_within at_f,
           slice_get_read b.fires (length b.fires) found.second g refl g_within at_g,
-          ap (λ (x : EntryFire). row a b x found.pairs) is,
+          ap (λ (x : EntryFire). row form a b x found.pairs) is,
         ),
       ),
     )

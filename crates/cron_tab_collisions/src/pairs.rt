@@ -6,11 +6,12 @@ ghost use Rattle.cron_collisions.specs.Collisions.{Ascends};
 ghost use Rattle.cron_tab_fires.specs.Entries.{seconds, view};
 ghost use Rattle.cron_tab_fires.specs.Laws.{AllAscend};
 ghost use Rattle.cron_tab_collisions.specs.Collisions.{TellsAll, TellsPair, TellsWith};
-ghost use Rattle.cron_tab_collisions.specs.Inner.Telling.{Adds};
+ghost use Rattle.cron_replies.specs.Inner.Telling.{AppendsTold};
 
 use crate::rows::{later, push_row};
 use cron_agenda::EntryFire;
 use cron_collisions::collisions_of;
+use cron_replies::form::Form;
 use cron_tab_agenda::fire_second;
 use cron_tab_fires::TabFires;
 use std::alloc::{AllocError, Global};
@@ -29,6 +30,7 @@ fn seconds_of(alloc: Global, fires: &[EntryFire]) -> Result<Vec<i64>, AllocError
 // Appends the row of two entries, if they collide where each fire lasts `length` seconds.
 fn tell_pair(
     alloc: Global,
+    form: Form,
     length: u64,
     first: &TabFires<'_>,
     second: &TabFires<'_>,
@@ -36,7 +38,7 @@ fn tell_pair(
 ) -> Result<(), AllocError>
     requires first { Ascends (seconds (view first.now)) }
     requires second { Ascends (seconds (view second.now)) }
-    ensures { OnOk result (Adds (TellsPair length (view first.now) (view second.now))
+    ensures { OnOk result (AppendsTold (TellsPair form length (view first.now) (view second.now))
         report.old.items report.new.items) }
 {
     let starts = seconds_of(alloc, first.fires.as_slice())?;
@@ -45,7 +47,7 @@ fn tell_pair(
         return Ok(());
     };
     let fire = later(first.fires[found.first], second.fires[found.second]);
-    push_row(report, first, second, &fire, found.pairs)?;
+    push_row(alloc, report, form, first, second, &fire, found.pairs)?;
     Ok(())
 }
 
@@ -53,6 +55,7 @@ fn tell_pair(
 // seconds.
 fn tell_with(
     alloc: Global,
+    form: Form,
     length: u64,
     first: &TabFires<'_>,
     others: &[TabFires<'_>],
@@ -60,11 +63,11 @@ fn tell_with(
 ) -> Result<(), AllocError>
     requires first { Ascends (seconds (view first.now)) }
     requires others { AllAscend (map view others.now) }
-    ensures { OnOk result (Adds (TellsWith length (view first.now) (map view others.now))
+    ensures { OnOk result (AppendsTold (TellsWith form length (view first.now) (map view others.now))
         report.old.items report.new.items) }
 {
     for other in others {
-        tell_pair(alloc, length, first, other, report)?;
+        tell_pair(alloc, form, length, first, other, report)?;
     }
     Ok(())
 }
@@ -72,17 +75,19 @@ fn tell_with(
 /// Appends a row for each pair of entries that collide, where each fire lasts `length` seconds.
 pub(crate) fn tell_all(
     alloc: Global,
+    form: Form,
     length: u64,
     entries: &[TabFires<'_>],
     report: &mut Vec<u8>,
 ) -> Result<(), AllocError>
     requires { AllAscend (map view entries.now) }
-    ensures { OnOk result (Adds (TellsAll length (map view entries.now))
+    ensures { OnOk result (AppendsTold (TellsAll form length (map view entries.now))
         report.old.items report.new.items) }
 {
     for place in 0..entries.len() {
         tell_with(
             alloc,
+            form,
             length,
             &entries[place],
             &entries[place + 1..],

@@ -7,6 +7,7 @@ ghost use Rattle.cron_replies.specs.Statuses.{Reports, is_write_failure};
 ghost use Rattle.cron_writer.specs.Watching.{has_failed};
 
 use crate::pairs::tell_all;
+use cron_replies::form::Form;
 use cron_replies::sending::send_bytes;
 use cron_replies::status::Status;
 use cron_tab_agenda::TabFile;
@@ -40,12 +41,13 @@ fn entries_of<'a>(
 // The rows of the pairs of entries that collide, where each fire lasts `minutes` minutes.
 fn report_of(
     alloc: Global,
+    form: Form,
     minutes: u32,
     files: &[TabFile<'_>],
     asked: &Asked<'_>,
     zones: &[TimeZone<'_>],
 ) -> Result<Vec<u8>, FiresError>
-    ensures ok { IfOk result (λ report. TellsAll (60 * minutes)
+    ensures ok { IfOk result (λ report. TellsAll form (60 * minutes)
         (entries_of (given (map plain_zone zones.now) asked.now) files.now) report.items) }
     ensures err { IfErr result
         (IsFilesError (given (map plain_zone zones.now) asked.now) files.now) }
@@ -53,7 +55,7 @@ fn report_of(
     let entries = entries_of(alloc, files, asked, zones)?;
     let mut report = Vec::new(alloc);
     let seconds = 60 * u64::from(minutes);
-    match tell_all(alloc, seconds, entries.as_slice(), &mut report) {
+    match tell_all(alloc, form, seconds, entries.as_slice(), &mut report) {
         Ok(()) => Ok(report),
         Err(_) => Err(FiresError::OutOfMemory),
     }
@@ -77,6 +79,7 @@ fn found_status(report: &[u8]) -> Status
 /// flush fails. On an error nothing is written. No call of the writer may have failed before.
 pub fn tell_collisions<W: Watchable>(
     alloc: Global,
+    form: Form,
     minutes: u32,
     files: &[TabFile<'_>],
     asked: &Asked<'_>,
@@ -84,11 +87,11 @@ pub fn tell_collisions<W: Watchable>(
     out: &mut Watched<W>,
 ) -> Result<Status, FiresError>
     requires { has_failed out.old ≡ false }
-    ensures tells { TellsCollisions minutes (given (map plain_zone zones.now) asked.now) files.now
+    ensures tells { TellsCollisions form minutes (given (map plain_zone zones.now) asked.now) files.now
         (Reports W.contents W.writes W.flushes) out.old result out.new }
     ensures mark { has_failed out.new ≡ is_failed result }
 {
-    match report_of(alloc, minutes, files, asked, zones) {
+    match report_of(alloc, form, minutes, files, asked, zones) {
         Ok(report) => Ok(send_bytes(report.as_slice(), found_status(report.as_slice()), out)),
         Err(error) => Err(error),
     }

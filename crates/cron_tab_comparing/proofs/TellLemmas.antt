@@ -2,30 +2,31 @@
 use Rattle.std.proofs.Common.{◌≡◌, ◌<◌, ◌≤◌, ◌+◌, ℕ, List, [], ◌∷◌, ◌++◌, map, take, drop, length, get_or, ap, sym, ◌∙◌, refl, subst, append_assoc, append-nil, add-one, suc}
 use Rattle.std.proofs.Math.Seq.{drop-cons}
 use Rattle.std.proofs.lemmas.List.{drop_all, map-append, take_more}
+use Rattle.cron_replies.specs.declared.form.Form.{Form}
 use Rattle.cron_tab_comparing.specs.Changes.{TellsOfOld, TellsOld}
 use Rattle.cron_tab_comparing.specs.Entries.{Entry}
-use Rattle.cron_tab_comparing.specs.Inner.Telling.{Adds}
+use Rattle.cron_replies.specs.Inner.Telling.{AppendsTold}
 use Rattle.cron_tab_comparing.specs.Keys.{other_of}
 
 -- what is told of those that are left makes what is told of all
-abbrev pub IsSoFar : List Entry → List Entry → List Entry → List Entry → List ℕ → List ℕ → Type 0
-IsSoFar others all before left old now = (rest : List ℕ) → TellsOld others before left rest → Adds (TellsOld others [] all) old (now ++ rest)
+abbrev pub IsSoFar : Form → List Entry → List Entry → List Entry → List Entry → List ℕ → List ℕ → Type 0
+IsSoFar form others all before left old now = (rest : List ℕ) → TellsOld form others before left rest → AppendsTold (TellsOld form others [] all) old (now ++ rest)
 
 -- one more was told of
-pub told_on : (others all before left more rest : List Entry) (a : Entry) (old now new : List ℕ) → IsSoFar others all before left old now
-    → left ≡ a ∷ rest → more ≡ before ++ a ∷ [] → Adds (TellsOfOld a (other_of others before a)) now new → IsSoFar others all more rest old new
-told_on others all before left more rest a old now new so_far cut is (here, e, tells) = λ behind others_told.
-    subst (λ (l : List ℕ). Adds (TellsOld others [] all) old l) (sym (ap (λ (l : List ℕ). l ++ behind) e ∙ append_assoc now here behind))
+pub told_on : (form : Form) (others all before left more rest : List Entry) (a : Entry) (old now new : List ℕ) → IsSoFar form others all before left old now
+    → left ≡ a ∷ rest → more ≡ before ++ a ∷ [] → AppendsTold (TellsOfOld form a (other_of others before a)) now new → IsSoFar form others all more rest old new
+told_on form others all before left more rest a old now new so_far cut is (here, e, tells) = λ behind others_told.
+    subst (λ (l : List ℕ). AppendsTold (TellsOld form others [] all) old l) (sym (ap (λ (l : List ℕ). l ++ behind) e ∙ append_assoc now here behind))
     (so_far (here ++ behind)
-    (subst (λ (l : List Entry). TellsOld others before l (here ++ behind)) (sym cut)
-    (here, behind, refl, tells, subst (λ (m : List Entry). TellsOld others m rest behind) is others_told)))
+    (subst (λ (l : List Entry). TellsOld form others before l (here ++ behind)) (sym cut)
+    (here, behind, refl, tells, subst (λ (m : List Entry). TellsOld form others m rest behind) is others_told)))
 
 -- all were told of
-pub told_all : (others all before left : List Entry) (old now : List ℕ) → IsSoFar others all before left old now → left ≡ []
-    → Adds (TellsOld others [] all) old now
-told_all others all before left old now so_far none =
-    subst (λ (l : List ℕ). Adds (TellsOld others [] all) old l) (append-nil now)
-    (so_far [] (subst (λ (l : List Entry). TellsOld others before l []) (sym none) refl))
+pub told_all : (form : Form) (others all before left : List Entry) (old now : List ℕ) → IsSoFar form others all before left old now → left ≡ []
+    → AppendsTold (TellsOld form others [] all) old now
+told_all form others all before left old now so_far none =
+    subst (λ (l : List ℕ). AppendsTold (TellsOld form others [] all) old l) (append-nil now)
+    (so_far [] (subst (λ (l : List Entry). TellsOld form others before l []) (sym none) refl))
 
 -- ---- the entries at a place, and behind it
 

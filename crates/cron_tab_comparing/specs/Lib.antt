@@ -3,4 +3,4 @@ pub mod Keys
 pub mod Rows
 pub mod Changes
 pub mod Reports
-pub mod Inner
+pub mod Twins

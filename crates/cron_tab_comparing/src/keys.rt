@@ -28,9 +28,9 @@ fn are_one_kind(first: &[ScheduleFields], second: &[ScheduleFields]) -> bool
     first.is_empty() == second.is_empty()
 }
 
-// Returns true if two entries run the same: command, user, input and zone are equal, and a clock
-// fires both or neither.
-fn same(first: &Known<'_>, second: &Known<'_>) -> bool
+/// Returns true if two entries run the same: command, user, input and zone are equal, and a clock
+/// fires both or neither.
+pub(crate) fn same(first: &Known<'_>, second: &Known<'_>) -> bool
     ensures { result ≡ same (view first.now) (view second.now) }
 {
     first.command == second.command

@@ -1,5 +1,5 @@
 //! What differs between two crontabs: which entries are gone, which are new, and which match other
-//! civil seconds.
+//! civil seconds. And which entries of one crontab run the same at the same times.
 #![tactic(auto)]
 
 mod entries;
@@ -7,3 +7,4 @@ mod keys;
 pub mod report;
 mod rows;
 mod telling;
+pub mod twins;

@@ -10,6 +10,7 @@ ghost use Rattle.cron_writer.specs.Watching.{has_failed};
 use crate::entries::entries_of;
 use crate::telling::{tell_new, tell_old};
 use cron_controls::{Controls, shown_as};
+use cron_replies::form::Form;
 use cron_replies::sending::send_bytes;
 use cron_replies::status::Status;
 use cron_tab_lines::{Crontab, Lines};
@@ -18,15 +19,23 @@ use cron_writer::watched::Watched;
 use std::alloc::{AllocError, Global};
 
 // The rows of all differences between the crontabs `old` and `new`, which are both of this kind.
-fn report_of(alloc: Global, kind: Crontab, old: &[u8], new: &[u8]) -> Result<Vec<u8>, AllocError>
-    ensures { IfOk result (λ report. TellsAll (entries_in [] (file_lines kind old.now))
+fn report_of(
+    alloc: Global,
+    form: Form,
+    kind: Crontab,
+    old: &[u8],
+    new: &[u8],
+) -> Result<Vec<u8>, AllocError>
+    ensures { IfOk result (λ report. TellsAll form (entries_in [] (file_lines kind old.now))
         (entries_in [] (file_lines kind new.now)) report.items) }
 {
     let entries = entries_of(alloc, Lines::of(kind, old))?;
     let others = entries_of(alloc, Lines::of(kind, new))?;
+    let ones = entries.as_slice();
+    let others = others.as_slice();
     let mut report = Vec::new(alloc);
-    tell_old(alloc, entries.as_slice(), others.as_slice(), &mut report)?;
-    tell_new(others.as_slice(), entries.as_slice(), &mut report)?;
+    tell_old(alloc, form, ones, others, &mut report)?;
+    tell_new(alloc, form, others, ones, &mut report)?;
     Ok(report)
 }
 
@@ -49,6 +58,7 @@ fn changed_status(report: &[u8]) -> Status
 /// if memory runs out: nothing is written then. No call of the writer may have failed before.
 pub fn tell_changes<W: Watchable>(
     alloc: Global,
+    form: Form,
     controls: Controls,
     kind: Crontab,
     old: &[u8],
@@ -56,12 +66,12 @@ pub fn tell_changes<W: Watchable>(
     out: &mut Watched<W>,
 ) -> Status
     requires { has_failed out.old ≡ false }
-    ensures tells { TellsChanges controls (entries_in [] (file_lines kind old.now))
+    ensures tells { TellsChanges form controls (entries_in [] (file_lines kind old.now))
         (entries_in [] (file_lines kind new.now))
         (Reports W.contents W.writes W.flushes) out.old result out.new }
     ensures mark { has_failed out.new ≡ is_write_failure result }
 {
-    let Ok(report) = report_of(alloc, kind, old, new) else {
+    let Ok(report) = report_of(alloc, form, kind, old, new) else {
         return Status::Unreadable;
     };
     let status = changed_status(report.as_slice());

@@ -8,9 +8,10 @@ use Rattle.std.specs.declared.vec.Vec.{Vec}
 use Rattle.jiff_core.specs.declared.Timestamp.{Timestamp}
 use Rattle.cron_agenda_scheduler.specs.declared.stop.AgendaStop.TheVariants as AgendaStop
 use Rattle.cron_printing.specs.Printing.{WriterCalls}
+use Rattle.cron_printing.specs.declared.printer.Printer.{Printer}
 use Rattle.cron_scheduler.specs.Runs.{clock_calls}
 use Rattle.cron_tab_running.specs.Clocks.{Does, Shows, Waits}
-use Rattle.cron_tab_running.specs.Looks.{Around, LetsGo, Looks, RunsFound, Stays, has_none}
+use Rattle.cron_tab_running.specs.Looks.{Around, LetsGo, Looks, RunsFound, Stays, TellsIdle, has_none}
 use Rattle.cron_tab_running.specs.Noted.{Noted, least_instant, noted_view}
 use Rattle.cron_tab_running.specs.declared.crontabs.Tab.{Tab}
 use Rattle.cron_tab_running.specs.declared.failure.Failure.{Failure}
@@ -41,11 +42,12 @@ going_on on noted before = if before && has_none noted then on else noted
 -- ---- a round: a look, the run of what it found, and the looks after it up to a change
 
 -- what the calls of a round do: `looks` is a look, `runs` the run of what it found, and `stays` the
--- looks when no entry fires any more
+-- looks when no entry fires any more, unless that `ends` it
 pub record Calls (C F S W D E G : Type 0) : Type 1 where
   pub looks : RunClock C F S → Result (Vec Tab Global) (FollowError E G) → RunClock C F S → Type 0
   pub runs : Bool → List Tab → Noted → Option Timestamp → Around C F S W D → Result ⊤ (Failure (Interruption E)) → Around C F S W D → Type 0
-  pub stays : RunClock C F S → Result Bool (FollowError E G) → RunClock C F S → Type 0
+  pub ends : Bool
+  pub stays : RunClock C F S × Printer D → Result Bool (FollowError E G) → RunClock C F S × Printer D → Type 0
 
 -- The calls of a round. Entries of `@reboot` are run in the first round only.
 abbrev pub round_calls : {C F S W D E G : Type 0} → (C → Result Timestamp E → C → Type 0) → (C → Timestamp → Result ⊤ E → C → Type 0) → (F → Bool → F → Type 0)
@@ -53,7 +55,8 @@ abbrev pub round_calls : {C F S W D E G : Type 0} → (C → Result Timestamp E 
 round_calls shows waits changes finds does calls complaints o = record {
   looks = Looks shows finds;
   runs = λ is_first. RunsFound (clock_calls (Shows shows) (Waits shows waits changes does)) does calls complaints (record o { reboot = o.reboot && is_first });
-  stays = Stays shows waits changes;
+  ends = o.ends;
+  stays = TellsIdle complaints (Stays shows waits changes);
 }
 
 -- `None` if the clock ended a run because the files have changed, else why it ended it.
@@ -75,12 +78,12 @@ some_stayed (Ok stayed) = Ok (Some stayed)
 some_stayed (Err why) = Err why
 
 -- What follows a run. If the files have changed, or the run ended early, nothing does. If no entry
--- fires any more, the first run is the last; after another, the files are looked at until they
+-- fires any more, that `ends` it; or else it is told, and the files are looked at until they
 -- change. The answer is whether a look before that one found them unchanged.
-abbrev pub AfterRun : {R E G : Type 0} → (R → Result Bool (FollowError E G) → R → Type 0) → Bool → Result ⊤ (Failure (Interruption E)) → R
-    → Result (Option Bool) (FollowError E G) → R → Type 0
-AfterRun stays is_first (Err why) old answer new = (new ≡ old) × (answer ≡ by_failure (unless_changed why))
-AfterRun stays true (Ok done) old answer new = (new ≡ old) × (answer ≡ Ok None)
+abbrev pub AfterRun : {R P E G : Type 0} → (R × P → Result Bool (FollowError E G) → R × P → Type 0) → Bool → Result ⊤ (Failure (Interruption E)) → R × P
+    → Result (Option Bool) (FollowError E G) → R × P → Type 0
+AfterRun stays ends (Err why) old answer new = (new.0 ≡ old.0) × (new.1 ≡ old.1) × (answer ≡ by_failure (unless_changed why))
+AfterRun stays true (Ok done) old answer new = (new.0 ≡ old.0) × (new.1 ≡ old.1) × (answer ≡ Ok None)
 AfterRun {E = E} {G = G} stays false (Ok done) old answer new = (stayed : Result Bool (FollowError E G)) × stays old stayed new × (answer ≡ some_stayed stayed)
 
 -- When the files have changed, the note of the run is taken from the clock. Else nothing is done.
@@ -96,9 +99,9 @@ abbrev pub IsRound : {C F S W D E G : Type 0} → Calls C F S W D E G → Bool �
 IsRound {C} {F} {S} {W} {D} {E} {G} k is_first on since old answer new =
     ((why : FollowError E G) × k.looks old.0 (Err why) new.0 × (new.1 ≡ old.1) × (new.2 ≡ old.2) × (answer ≡ Err why))
     ⊎ ((tabs : Vec Tab Global) × (looked : RunClock C F S) × (ran : Result ⊤ (Failure (Interruption E))) × (run : Around C F S W D)
-    × (then_ : Result (Option Bool) (FollowError E G)) × (waited : RunClock C F S)
+    × (then_ : Result (Option Bool) (FollowError E G)) × (waited : RunClock C F S × Printer D)
     × k.looks old.0 (Ok tabs) looked × k.runs is_first tabs.items on since (looked, old.1, old.2) ran run
-    × AfterRun k.stays is_first ran run.0 then_ waited × Leaves then_ waited answer new.0 × (new.1 ≡ run.1) × (new.2 ≡ run.2))
+    × AfterRun k.stays k.ends ran (run.0, run.2) then_ waited × Leaves then_ waited.0 answer new.0 × (new.1 ≡ run.1) × (new.2 ≡ waited.1))
 
 -- ---- rounds one after another
 

@@ -1,13 +1,14 @@
 -- Looks at crontabs, which read the clock and then the files, and runs of what they found.
-use Rattle.std.specs.Prelude.{◌≡◌, ◌⊎◌, ◌-◌, ◌^◌, ◌==◌, ◌+ℤ◌, ℕ, zero, suc, pos, Bool, true, int_lt, nat_lt, List, [], Option, Result, Ok, Err, ⊤, length, map}
+use Rattle.std.specs.Prelude.{◌≡◌, ◌⊎◌, ◌-◌, ◌^◌, ◌==◌, ◌+ℤ◌, ℕ, zero, suc, pos, Bool, true, int_lt, nat_lt, List, [], Option, Result, Ok, Err, ⊤, codes, length, map, if◌then◌else◌}
 use Rattle.std.specs.String.{string_bytes}
 use Rattle.std.specs.declared.alloc.Global.{Global}
 use Rattle.std.specs.declared.vec.Vec.{Vec}
 use Rattle.jiff_core.specs.declared.Timestamp.{Timestamp}
 use Rattle.jiff_tz.specs.declared.timezone.TimeZone.{TimeZone}
 use Rattle.cron_agenda_scheduler.specs.declared.stop.AgendaStop.TheVariants as AgendaStop
-use Rattle.cron_printing.specs.Printing.{WriterCalls}
+use Rattle.cron_printing.specs.Printing.{PrintsText, WriterCalls}
 use Rattle.cron_printing.specs.declared.printer.Printer.{Printer}
+use Rattle.cron_printing.specs.declared.printer.WriteFailed.{WriteFailed}
 use Rattle.cron_scheduler.specs.Runs.{ClockCalls}
 use Rattle.cron_tab_lines.specs.declared.zones.NamedZone.{NamedZone}
 use Rattle.cron_tab_running.specs.Clocks.{Does, Glances, RunsNoted, TakesEntries}
@@ -15,7 +16,7 @@ use Rattle.cron_tab_running.specs.Noted.{Noted, later, noted_view}
 use Rattle.cron_tab_running.specs.Running.{RunsFiles}
 use Rattle.cron_tab_running.specs.declared.crontabs.Tab.{Tab}
 use Rattle.cron_tab_running.specs.declared.failure.Failure.{Failure}
-use Rattle.cron_tab_running.specs.declared.failure.Failure.TheVariants.{OutOfMemory, Stopped}
+use Rattle.cron_tab_running.specs.declared.failure.Failure.TheVariants.{OutOfMemory, Stopped, Untold}
 use Rattle.cron_tab_running.specs.declared.looks.FollowError.{FollowError}
 use Rattle.cron_tab_running.specs.declared.looks.FollowError.TheVariants.{Files, Run}
 use Rattle.cron_tab_running.specs.declared.orders.RunOrders.{RunOrders}
@@ -113,6 +114,23 @@ Stays {C} {F} {S} {E} shows waits changes old answer new =
     × ((Idles shows waits changes mid (Err Changed) new × (answer ≡ Ok (nat_lt 0 n)))
     ⊎ (((stop : Interruption E) × Idles shows waits changes mid (Err stop) new × (answer ≡ Err (stopped stop)))
     ⊎ ((n ≡ 2 ^ 64 - 1) × (new ≡ mid) × (answer ≡ Ok true))))
+
+-- the message that no entry fires any more, after a run of the entries of a note
+abbrev pub idle_text : Noted → List ℕ
+idle_text n = if has_none n then codes "no entries: waiting for a change\n" else codes "no fires are left: waiting for a change\n"
+
+-- What follows the message that no entry fires any more: the files are looked at until they change.
+-- If it couldn't be written, nothing follows.
+abbrev pub StaysIfTold : {R E D : Type 0} → (R → Result Bool (FollowError E D) → R → Type 0) → Result ⊤ WriteFailed → R → Result Bool (FollowError E D) → R → Type 0
+StaysIfTold stays (Err e) old answer new = (new ≡ old) × (answer ≡ Err (Run Untold))
+StaysIfTold stays (Ok done) old answer new = stays old answer new
+
+-- It was told that no entry fires any more, and then the files were looked at until they changed.
+abbrev pub TellsIdle : {C F S W E D : Type 0} → WriterCalls W → (RunClock C F S → Result Bool (FollowError E D) → RunClock C F S → Type 0)
+    → RunClock C F S × Printer W → Result Bool (FollowError E D) → RunClock C F S × Printer W → Type 0
+TellsIdle complaints stays old answer new =
+    (told : Result ⊤ WriteFailed) × PrintsText complaints old.1 (idle_text (noted_view old.0.noted)) told new.1
+    × StaysIfTold stays told old.0 answer new.0
 
 -- The note is taken from the clock, which keeps its instant but no entries.
 abbrev pub LetsGo : {C F S : Type 0} → RunClock C F S → Noted → RunClock C F S → Type 0

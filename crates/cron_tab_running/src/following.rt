@@ -5,12 +5,12 @@
 ghost use Rattle.std.specs.Prelude.{◌≡◌, ◌&&◌, not};
 ghost use Rattle.cron_printing.specs.Printing.{writer_calls};
 ghost use Rattle.cron_tab_running.specs.Following.{AfterRun, Follows, IsRound, going_on, round_calls, unless_changed, unless_told};
-ghost use Rattle.cron_tab_running.specs.Looks.{Stays, has_none};
+ghost use Rattle.cron_tab_running.specs.Looks.{Stays, TellsIdle, has_none};
 ghost use Rattle.cron_tab_running.specs.Noted.{noted_view};
 
 use crate::crontabs::{Crontabs, ZoneOpener};
 use crate::failure::Failure;
-use crate::looks::{FollowError, let_go, look, run_found, wait_for_change};
+use crate::looks::{FollowError, has_none, idle_until_change, let_go, look, run_found};
 use crate::noted::Noted;
 use crate::orders::RunOrders;
 use crate::run_clock::{Changing, Interruption, RunClock};
@@ -33,13 +33,6 @@ pub(crate) struct Left {
     /// True if no entry fired any more, and then a look found the files unchanged before another
     /// found the change.
     pub(crate) stayed: bool,
-}
-
-// Returns true if no entry is noted.
-fn has_none(noted: &Noted) -> bool
-    ensures { result ≡ has_none (noted_view noted.now) }
-{
-    noted.entries.is_empty()
 }
 
 // The entries that go on at the next look, with the instant after which they fire. Usually they are
@@ -88,17 +81,20 @@ fn unless_changed<E>(why: Failure<Interruption<E>>) -> Option<Failure<Interrupti
 
 // Waits for a change of the files if the run ended because no entry fires any more. Returns true if
 // a look found them unchanged before another found the change, and false if the run itself ended by
-// a change. After the first run it doesn't wait, and returns `None`.
-fn after_run<C: AlarmClock, F: Changing, S: Store, D>(
-    is_first: bool,
+// a change. If `ends`, it doesn't wait, and returns `None`.
+fn after_run<C: AlarmClock, F: Changing, S: Store, W: Watchable, D>(
+    ends: bool,
     ran: Result<(), Failure<Interruption<C::Error>>>,
     clock: &mut RunClock<'_, C, F, S>,
+    complaints: &mut Printer<W>,
 ) -> Result<Option<bool>, FollowError<C::Error, D>>
-    ensures { AfterRun (Stays C.shows C.waits F.changes) is_first ran clock.old result clock.new }
+    ensures { AfterRun (TellsIdle (writer_calls W.writes W.flushes W.contents)
+        (Stays C.shows C.waits F.changes)) ends ran
+        (clock.old, complaints.old) result (clock.new, complaints.new) }
 {
     match ran {
-        Ok(()) if is_first => Ok(None),
-        Ok(()) => match wait_for_change(clock) {
+        Ok(()) if ends => Ok(None),
+        Ok(()) => match idle_until_change(clock, complaints) {
             Ok(stayed) => Ok(Some(stayed)),
             Err(why) => Err(why),
         },
@@ -118,8 +114,8 @@ fn orders_at<'x>(orders: &RunOrders<'x>, is_first: bool) -> RunOrders<'x>
 }
 
 // Reads the files and runs their entries. If no entry fires any more, it waits until the files
-// change. Returns what is left when they change, or `None` if in the first round no entry fires any
-// more.
+// change. Returns what is left when they change, or `None` if no entry fires any more and the
+// orders say that this ends it.
 fn run_round<O: ZoneOpener, C: AlarmClock, F: Crontabs, S: Store, W: Watchable, E: Watchable>(
     alloc: Global,
     orders: &RunOrders<'_>,
@@ -142,10 +138,10 @@ fn run_round<O: ZoneOpener, C: AlarmClock, F: Crontabs, S: Store, W: Watchable, 
         Ok(tabs) => tabs,
         Err(why) => return Err(why),
     };
-    let orders = orders_at(orders, is_first);
+    let here = orders_at(orders, is_first);
     let ran = run_found(
         alloc,
-        &orders,
+        &here,
         zone,
         opener,
         tabs.as_slice(),
@@ -155,7 +151,7 @@ fn run_round<O: ZoneOpener, C: AlarmClock, F: Crontabs, S: Store, W: Watchable, 
         writer,
         complaints,
     );
-    match after_run(is_first, ran, clock) {
+    match after_run(orders.ends, ran, clock, complaints) {
         Ok(Some(stayed)) => Ok(Some(Left {
             noted: let_go(alloc, clock),
             stayed,
@@ -172,8 +168,8 @@ fn run_round<O: ZoneOpener, C: AlarmClock, F: Crontabs, S: Store, W: Watchable, 
 /// does if that look found no entry at all, as while an editor writes a file, and the entry was
 /// there at the look before that one. Every other entry is new: it fires after the look before, but
 /// at most a minute back. Entries that are new at the start begin there. Entries of `@reboot` are
-/// run only at the start. If no entry fires any more, it looks each minute; at the start it ends
-/// instead.
+/// run only at the start. If no entry fires any more, it tells that once and looks each minute,
+/// unless `orders.ends`: then it ends.
 pub fn follow<O: ZoneOpener, C: AlarmClock, F: Crontabs, S: Store, W: Watchable, E: Watchable>(
     alloc: Global,
     orders: &RunOrders<'_>,

@@ -26,7 +26,7 @@ pub use failure::Failure;
 pub use files::run_files;
 pub use following::follow;
 pub use looks::FollowError;
-pub use noted::{Noted, read_note};
+pub use noted::{Counts, Noted, entry_of, read_note, take_one};
 pub use noted_run::run_noted;
 pub use orders::{RunOrders, TabFile};
 pub use run_clock::{Changing, EntryClock, Interruption, Notebook, RunClock};

@@ -5,7 +5,7 @@ ghost use Rattle.jiff.specs.Words.{plain_zone};
 ghost use Rattle.cron_printing.specs.Printing.{writer_calls};
 ghost use Rattle.cron_scheduler.specs.Runs.{clock_calls};
 ghost use Rattle.cron_tab_running.specs.Clocks.{Shows, Waits};
-ghost use Rattle.cron_tab_running.specs.Looks.{Idles, LetsGo, Looks, RunsFound, RunsZoned, Stays, is_minute_behind, stopped};
+ghost use Rattle.cron_tab_running.specs.Looks.{Idles, LetsGo, Looks, RunsFound, RunsZoned, Stays, TellsIdle, has_none, idle_text, is_minute_behind, stopped};
 ghost use Rattle.cron_tab_running.specs.Noted.{noted_view};
 
 use crate::crontabs::{Crontabs, Tab, ZoneOpener, files_of, names_of, zones_of};
@@ -165,9 +165,9 @@ fn idle<C: AlarmClock, F: Changing, S: Store>(
     clock.glance()
 }
 
-/// Looks each minute until the crontabs have changed. Returns true if a look found them unchanged
-/// before another found the change.
-pub(crate) fn wait_for_change<C: AlarmClock, F: Changing, S: Store, D>(
+// Looks each minute until the crontabs have changed. Returns true if a look found them unchanged
+// before another found the change.
+fn wait_for_change<C: AlarmClock, F: Changing, S: Store, D>(
     clock: &mut RunClock<'_, C, F, S>,
 ) -> Result<bool, FollowError<C::Error, D>>
     ensures { Stays C.shows C.waits F.changes clock.old result clock.new }
@@ -180,6 +180,40 @@ pub(crate) fn wait_for_change<C: AlarmClock, F: Changing, S: Store, D>(
         }
     }
     Ok(true)
+}
+
+/// Returns true if no entry is noted.
+pub(crate) fn has_none(noted: &Noted) -> bool
+    ensures { result ≡ has_none (noted_view noted.now) }
+{
+    noted.entries.is_empty()
+}
+
+// The message that no entry fires any more, after a run of the entries of `noted`.
+fn idle_text(noted: &Noted) -> &'static str
+    ensures { result.now ≡ idle_text (noted_view noted.now) }
+{
+    if has_none(noted) {
+        "no entries: waiting for a change\n"
+    } else {
+        "no fires are left: waiting for a change\n"
+    }
+}
+
+/// Tells that no entry fires any more, and then waits until the crontabs change, as
+/// `wait_for_change` does.
+pub(crate) fn idle_until_change<C: AlarmClock, F: Changing, S: Store, W: Watchable, D>(
+    clock: &mut RunClock<'_, C, F, S>,
+    complaints: &mut Printer<W>,
+) -> Result<bool, FollowError<C::Error, D>>
+    ensures { TellsIdle (writer_calls W.writes W.flushes W.contents)
+        (Stays C.shows C.waits F.changes)
+        (clock.old, complaints.old) result (clock.new, complaints.new) }
+{
+    match complaints.print(idle_text(&clock.noted).as_bytes()) {
+        Ok(()) => wait_for_change(clock),
+        Err(_) => Err(FollowError::Run(Failure::Untold)),
+    }
 }
 
 /// Takes the note of a run out of a clock, which keeps its instant but no entries.

@@ -63,7 +63,7 @@ fn without_feed(bytes: &[u8]) -> &[u8]
 }
 
 /// The key of an entry: its zone's name, a tab, and its line without the line feed.
-pub(crate) fn entry_of(
+pub fn entry_of(
     alloc: Global,
     names: &[NamedZone<'_>],
     zone: usize,
@@ -80,7 +80,7 @@ pub(crate) fn entry_of(
 }
 
 /// How many times each entry occurs in a list. The entries are borrowed.
-pub(crate) type Counts<'n> = BTreeMap<&'n [u8], usize>;
+pub type Counts<'n> = BTreeMap<&'n [u8], usize>;
 
 // How many times each entry occurs in `entries`.
 fn counts_of<'n>(alloc: Global, entries: &'n [Vec<u8>]) -> Result<Counts<'n>, AllocError>
@@ -96,7 +96,7 @@ fn counts_of<'n>(alloc: Global, entries: &'n [Vec<u8>]) -> Result<Counts<'n>, Al
 }
 
 /// Lowers the count of `entry` by one if it isn't 0, and returns true if so.
-pub(crate) fn take_one(counts: &mut Counts<'_>, entry: &[u8]) -> bool
+pub fn take_one(counts: &mut Counts<'_>, entry: &[u8]) -> bool
     ensures was { result ≡ nat_lt 0 (left_of counts.old entry.now) }
     ensures now { (e : List ℕ) → left_of counts.new e
         ≡ (if bytes_eq entry.now e then left_of counts.old e - 1 else left_of counts.old e) }
@@ -124,7 +124,7 @@ impl Noted {
     }
 
     /// How many times each entry is noted.
-    pub(crate) fn counts(&self, alloc: Global) -> Result<Counts<'_>, AllocError>
+    pub fn counts(&self, alloc: Global) -> Result<Counts<'_>, AllocError>
         ensures { IfOk result (λ m. AreLeft (noted_view self.now).entries [] m) }
     {
         counts_of(alloc, self.entries.as_slice())

@@ -17,6 +17,9 @@ pub struct RunOrders<'a> {
     pub reboot: bool,
     /// How many runs at most; runs of `@reboot` entries aren't counted.
     pub most: u64,
+    /// True if `follow` ends when no entry fires any more, as it should if the crontabs can't
+    /// change. Else it tells that once, and waits for a change.
+    pub ends: bool,
 }
 
 /// A crontab: its name and its content.

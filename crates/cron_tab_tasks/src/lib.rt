@@ -13,3 +13,5 @@ mod values;
 pub use orders::{Form, Orders, PLAIN, Ways, names_fires};
 pub use refused::push_refusals;
 pub use tasks::{push_defaults, push_variable, text_in};
+pub use texts::input_text;
+pub use values::{shell_of, zone_of};

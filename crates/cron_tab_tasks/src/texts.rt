@@ -15,8 +15,9 @@ use cron_shell::{ShellJob, Variable, push_line, push_log_front};
 use cron_tab_lines::{Entry, Unescaped};
 use std::alloc::{AllocError, Global};
 
-// The input that a command reads. It is empty if `input` is `None`.
-fn input_text(alloc: Global, input: Option<&[u8]>) -> Result<Vec<u8>, AllocError>
+/// The input that a command reads, without the backslashes of percent signs. It is empty if `input`
+/// is `None`.
+pub fn input_text(alloc: Global, input: Option<&[u8]>) -> Result<Vec<u8>, AllocError>
     ensures { IfOk result (λ text. text.items ≡ input_text (bytes_view input.entry)) }
 {
     match input {

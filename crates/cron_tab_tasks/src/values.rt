@@ -24,7 +24,7 @@ fn value_of<'a>(variables: &[Variable<'a>], name: &[u8]) -> Option<&'a [u8]>
 }
 
 /// The shell that the variables set, or `/bin/sh` if they set none.
-pub(crate) fn shell_of<'a>(variables: &[Variable<'a>]) -> &'a [u8]
+pub fn shell_of<'a>(variables: &[Variable<'a>]) -> &'a [u8]
     ensures { result.now ≡ unwrap_or
         (value_in (codes "SHELL") None (map variable_view variables.now)) (codes "/bin/sh") }
 {
@@ -35,7 +35,7 @@ pub(crate) fn shell_of<'a>(variables: &[Variable<'a>]) -> &'a [u8]
 }
 
 /// The zone that the variables set with `CRON_TZ`, or an empty text if they set none.
-pub(crate) fn zone_of<'a>(variables: &[Variable<'a>]) -> &'a [u8]
+pub fn zone_of<'a>(variables: &[Variable<'a>]) -> &'a [u8]
     ensures { result.now ≡ unwrap_or
         (value_in (codes "CRON_TZ") None (map variable_view variables.now)) [] }
 {

@@ -1,4 +1,5 @@
 -- What another cron reads differently in a file's line, or refuses. Texts are lists of bytes.
+use Rattle.std.specs.Option.{is_some}
 use Rattle.std.specs.Prelude.{ℕ, ◌+◌, ◌-◌, ◌==◌, ◌&&◌, ◌||◌, Bool, not, true, false, nat_le, List, [], ◌∷◌, Contains, Option, Some, None, Result, Ok, length, slice_index}
 use Rattle.cron_tab_lines.specs.Bytes.{first, is_quote, is_white}
 use Rattle.cron_tab_lines.specs.Entries.{Entry}
@@ -6,7 +7,7 @@ use Rattle.cron_tab_lines.specs.Files.{FileLine}
 use Rattle.cron_tab_lines.specs.Lines.{Meaning, blank, comment, setting, zone, entry}
 use Rattle.cron_tab_lines.specs.Refusals.{Refusal}
 use Rattle.cron_tab_warnings.specs.declared.files.LineWarning.{LineWarning}
-use Rattle.cron_tab_warnings.specs.declared.files.LineWarning.TheVariants.{IgnoredZone, LongCommand, ReturnAtEnd, TwoBackslashes, DashInFront, ShortenedValue, LongSetting, ManyLines, NoLineFeed}
+use Rattle.cron_tab_warnings.specs.declared.files.LineWarning.TheVariants.{IgnoredZone, LongCommand, ReturnAtEnd, TwoBackslashes, DashInFront, PercentSign, ShortenedValue, LongSetting, ManyLines, NoLineFeed}
 
 -- the length of a command's input with the `%` before it; 0 if there is no input
 abbrev pub input_len : Option (List ℕ) → ℕ
@@ -47,6 +48,7 @@ warns_entry LongCommand e = nat_le 999 (task_len e)
 warns_entry ReturnAtEnd e = keeps_return e
 warns_entry TwoBackslashes e = has_two_backslashes 0 e.command
 warns_entry DashInFront e = has_dash e.command
+warns_entry PercentSign e = is_some e.input
 warns_entry _ e = false
 
 abbrev pub entry_warns : LineWarning → Result Meaning Refusal → Bool

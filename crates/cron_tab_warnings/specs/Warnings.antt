@@ -7,13 +7,13 @@ use Rattle.cron_moments.specs.Civil.{civil, seconds_in_range}
 use Rattle.cron_crontab.specs.Crontab.{Five, Meaning, schedules, reboot, schedules_of}
 use Rattle.cron_crontab.specs.Items.{begins_with_star}
 use Rattle.cron_crontab.specs.declared.field.Field.{Field}
-use Rattle.cron_crontab.specs.declared.field.Field.TheVariants.{DayOfMonth, DayOfWeek, Month}
+use Rattle.cron_crontab.specs.declared.field.Field.TheVariants.{Minute, Hour, DayOfMonth, DayOfWeek, Month}
 use Rattle.cron_tab_lines.specs.declared.kinds.Crontab.{Crontab}
 use Rattle.cron_tab_lines.specs.declared.kinds.Crontab.TheVariants.{User, System}
 use Rattle.cron_tabs.specs.DayRule.{matches_one, runs_at}
 use Rattle.cron_tab_warnings.specs.Written.{field_word, has_fields, has_item, is_backward, is_field, is_past_end, is_uneven, names, names_all, word_at}
 use Rattle.cron_tab_warnings.specs.declared.warnings.Warning.{Warning}
-use Rattle.cron_tab_warnings.specs.declared.warnings.Warning.TheVariants.{NeverFires, Backward, StepPastEnd, UnevenStep, StarStep, LeftOutDays, SixFields, SevenFields}
+use Rattle.cron_tab_warnings.specs.declared.warnings.Warning.TheVariants.{NeverFires, Backward, StepPastEnd, UnevenStep, StarStep, LeftOutDays, EitherDays, EachMinute, SixFields, SevenFields}
 
 -- the expression never fires: no civil second of 1970 to 2100 matches
 abbrev pub NeverRuns : Meaning → Type 0
@@ -65,6 +65,16 @@ is_star_step DayOfMonth text = stars_step DayOfMonth text
 is_star_step DayOfWeek text = stars_step DayOfWeek text
 is_star_step f text = false
 
+-- whether both kinds of day are restricted: neither field begins with a star. Then one that matches
+-- suffices.
+abbrev pub restricts_both : List ℕ → Bool
+restricts_both text = not (begins_with_star (field_word text DayOfMonth)) && not (begins_with_star (field_word text DayOfWeek))
+
+-- whether the minute begins with a star and names all minutes, and the hour leaves hours out
+abbrev pub has_each_minute : List ℕ → Bool
+has_each_minute text =
+    begins_with_star (field_word text Minute) && (names_all Minute (field_word text Minute) && not (names_all Hour (field_word text Hour)))
+
 -- whether a byte is a digit, a comma, a dash, a star or a slash
 abbrev pub in_numbers : ℕ → Bool
 in_numbers c = (nat_le 48 c && nat_le c 57) || ((c == 44) || ((c == 45) || ((c == 42) || (c == 47))))
@@ -94,6 +104,8 @@ is_so kind (StepPastEnd f) text = has_item is_past_end f (field_word text f)
 is_so kind (UnevenStep f) text = has_item (is_uneven f) f (field_word text f)
 is_so kind (StarStep f) text = is_star_step f text
 is_so kind LeftOutDays text = leaves_out text
+is_so kind EitherDays text = restricts_both text
+is_so kind EachMinute text = has_each_minute text
 is_so kind SixFields text = has_sixth kind text && not (has_seventh kind text)
 is_so kind SevenFields text = has_seventh kind text
 

@@ -1,8 +1,8 @@
-//! Days of the month that some named month lacks, and star steps over days.
+//! Days of the month that some named month lacks, and fields that begin with a star.
 
 ghost use Rattle.std.specs.Prelude.{◌≡◌, ◌≤◌};
 ghost use Rattle.cron_tab_warnings.specs.Written.{names_all};
-ghost use Rattle.cron_tab_warnings.specs.Warnings.{is_left_out, is_star_step, lacks, leaves_out, other_days, shortest, some_lacks, stars_step};
+ghost use Rattle.cron_tab_warnings.specs.Warnings.{has_each_minute, is_left_out, is_star_step, lacks, leaves_out, other_days, restricts_both, shortest, some_lacks, stars_step};
 
 use crate::items::names;
 use crate::words::{field_word, size};
@@ -97,4 +97,23 @@ pub(crate) fn is_star_step(field: Field, text: &str) -> bool
         Field::DayOfMonth | Field::DayOfWeek => stars_step(field, text),
         _ => false,
     }
+}
+
+/// Returns true if neither kind of day begins with a star. One that matches suffices then.
+pub(crate) fn restricts_both(text: &str) -> bool
+    ensures { result ≡ restricts_both text.now }
+{
+    !begins_with_star(field_word(text, Field::DayOfMonth))
+        && !begins_with_star(field_word(text, Field::DayOfWeek))
+}
+
+/// Returns true if the minute of `text` begins with a star and names all minutes, and its hour
+/// leaves hours out.
+pub(crate) fn has_each_minute(text: &str) -> bool
+    ensures { result ≡ has_each_minute text.now }
+{
+    let minutes = field_word(text, Field::Minute);
+    begins_with_star(minutes)
+        && names_all(Field::Minute, minutes)
+        && !names_all(Field::Hour, field_word(text, Field::Hour))
 }

@@ -29,6 +29,9 @@ pub enum LineWarning {
     TwoBackslashes,
     /// The line's command begins with `-`, which cronie reads as an option.
     DashInFront,
+    /// A `%` that no backslash guards ends the line's command, and what follows is its input:
+    /// `date +%Y`.
+    PercentSign,
     /// The value of the line's setting is quoted, and ends in white space or has a second pair of
     /// quotation marks around it. Debian's cron removes those.
     ShortenedValue,
@@ -43,12 +46,13 @@ pub enum LineWarning {
 }
 
 /// All warnings of a file's line, each once.
-pub const LINE_WARNINGS: [LineWarning; 9] = [
+pub const LINE_WARNINGS: [LineWarning; 10] = [
     LineWarning::IgnoredZone,
     LineWarning::LongCommand,
     LineWarning::ReturnAtEnd,
     LineWarning::TwoBackslashes,
     LineWarning::DashInFront,
+    LineWarning::PercentSign,
     LineWarning::ShortenedValue,
     LineWarning::LongSetting,
     LineWarning::ManyLines,
@@ -121,6 +125,7 @@ fn warns_entry(warning: LineWarning, entry: &Entry<'_>) -> bool
         LineWarning::ReturnAtEnd => keeps_return(entry),
         LineWarning::TwoBackslashes => has_two_backslashes(entry.command),
         LineWarning::DashInFront => has_dash(entry.command),
+        LineWarning::PercentSign => entry.input.is_some(),
         _ => false,
     }
 }

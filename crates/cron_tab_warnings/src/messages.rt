@@ -31,6 +31,9 @@ fn line_warning_text(warning: LineWarning) -> &'static str
         }
         LineWarning::TwoBackslashes => "of two backslashes in a command Debian's cron leaves one",
         LineWarning::DashInFront => "cronie takes a - in front of a command as an option",
+        LineWarning::PercentSign => {
+            "an unescaped % ends the command, and the rest is its input: write \\% for a percent sign"
+        }
         LineWarning::ShortenedValue => {
             "Debian's cron takes white space or a second pair of quotation marks from the value"
         }
@@ -93,6 +96,12 @@ impl fmt::Display for Warning {
             Warning::LeftOutDays => {
                 f.write_str("day of month: months that lack a day are passed over")
             }
+            Warning::EitherDays => f.write_str(
+                "day of month and day of week: a match of one suffices, so test one in the command if both must match",
+            ),
+            Warning::EachMinute => f.write_str(
+                "minute: a star is all 60 minutes of each hour that is named, where a number is one",
+            ),
             Warning::SixFields => f.write_str(
                 "the command begins with a sixth field: an expression has five, none of seconds",
             ),

@@ -4,7 +4,7 @@ ghost use Rattle.std.specs.Prelude.{◌≡◌, ◌↔◌, IsTrue};
 ghost use Rattle.cron_crontab.specs.Views.{expression_view};
 ghost use Rattle.cron_tab_warnings.specs.Warnings.{AllAreListed, Warns, has_seventh, has_sixth, in_numbers, is_numbers, is_sixth, is_so};
 
-use crate::days::{is_star_step, leaves_out};
+use crate::days::{has_each_minute, is_star_step, leaves_out, restricts_both};
 use crate::fires::never_runs;
 use crate::items::{Test, has_item, is_field};
 use crate::words::{field_word, has_fields, word_at};
@@ -28,6 +28,11 @@ pub enum Warning {
     StarStep(Field),
     /// A month that is named lacks a day that is named, in some or all years: `0 0 31 * *`.
     LeftOutDays,
+    /// Neither kind of day begins with a star, so that one that matches suffices: `0 0 1-7 * mon`.
+    EitherDays,
+    /// The minute begins with a star and leaves none out, and the hour leaves hours out:
+    /// `* 3 * * *`.
+    EachMinute,
     /// The first word after five fields is itself a field of days of the week, as in an expression
     /// that begins with seconds, or a question mark. A user's name, such as `sun` in a system
     /// crontab, is no field.
@@ -38,7 +43,7 @@ pub enum Warning {
 }
 
 /// All warnings of fields, each once.
-pub const WARNINGS: [Warning; 21] = [
+pub const WARNINGS: [Warning; 23] = [
     Warning::NeverFires,
     Warning::Backward(Field::Minute),
     Warning::Backward(Field::Hour),
@@ -58,6 +63,8 @@ pub const WARNINGS: [Warning; 21] = [
     Warning::StarStep(Field::DayOfMonth),
     Warning::StarStep(Field::DayOfWeek),
     Warning::LeftOutDays,
+    Warning::EitherDays,
+    Warning::EachMinute,
     Warning::SixFields,
     Warning::SevenFields,
 ];
@@ -114,6 +121,8 @@ fn is_so(kind: Crontab, warning: Warning, text: &str) -> bool
         Warning::UnevenStep(field) => has_item(Test::Uneven, field, field_word(text, field)),
         Warning::StarStep(field) => is_star_step(field, text),
         Warning::LeftOutDays => leaves_out(text),
+        Warning::EitherDays => restricts_both(text),
+        Warning::EachMinute => has_each_minute(text),
         Warning::SixFields => has_sixth(kind, text) && !has_seventh(kind, text),
         Warning::SevenFields => has_seventh(kind, text),
     }

@@ -5,7 +5,7 @@
 //! - when the run begins and ends;
 //! - what was noted of an earlier run, or `-`;
 //! - the versions of the crontab, each with the time from when on it is there;
-//! - what is written.
+//! - what is written, and a `!` for each time that it is told that no entry fires any more.
 
 ghost use Rattle.std.specs.Prelude.{◌≡◌};
 
@@ -201,11 +201,13 @@ fn orders_of(lateness: Lateness) -> RunOrders<'static>
         lateness,
         reboot: false,
         most: u64::MAX,
+        ends: false,
     }
 }
 
-// The lines that were written, with spaces between them, or `nothing`.
-fn words_of(alloc: Global, written: &[u8]) -> Result<String> {
+// The lines that were written, with spaces between them, or `nothing`. A `!` follows for each time
+// that it was told that no entry fires any more.
+fn words_of(alloc: Global, written: &[u8], told: &[u8]) -> Result<String> {
     let mut words = String::new(alloc);
     for line in str::from_utf8(written)?.lines() {
         if !words.is_empty() {
@@ -215,6 +217,11 @@ fn words_of(alloc: Global, written: &[u8]) -> Result<String> {
     }
     if words.is_empty() {
         words.push_str("nothing")?;
+    }
+    for line in str::from_utf8(told)?.lines() {
+        if line.ends_with(": waiting for a change") {
+            words.push_str(" !")?;
+        }
     }
     Ok(words)
 }
@@ -260,7 +267,12 @@ fn write_followed(
         &mut complaints,
     );
     let TabWriter { printer, .. } = writer;
-    words_of(alloc, printer.out.into_inner().as_slice())
+    let written = printer.out.into_inner();
+    words_of(
+        alloc,
+        written.as_slice(),
+        complaints.out.into_inner().as_slice(),
+    )
 }
 
 // Runs the crontab of a row, and returns what is written.

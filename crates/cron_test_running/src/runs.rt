@@ -44,6 +44,7 @@ fn orders(form: Form<'static>, lateness: Lateness, most: u64) -> RunOrders<'stat
         lateness,
         reboot: true,
         most,
+        ends: true,
     }
 }
 

@@ -21,6 +21,9 @@ const PAGE: usize = 7;
 // written.
 const FEW: usize = 4;
 
+// How many days are searched for changed ones.
+const TWO_YEARS: u32 = 731;
+
 // The clock rule with this name. `own` is the own rule of each entry.
 fn clock_named(name: &str) -> Result<Clock> {
     match name {
@@ -79,7 +82,7 @@ pub(crate) fn ask_changes(row: &mut Row<'_>) -> Result<()> {
     let start = row.cell().parse::<Timestamp>()?;
     let mut days = Vec::new(row.alloc());
     for line in Lines::of(Crontab::User, row.cell().as_bytes()) {
-        list_changes(&mut days, &line, &zone, start)?;
+        list_changes(&mut days, &line, &zone, start, TWO_YEARS)?;
     }
     for day in &days {
         row.add("; ", &day.date)?;

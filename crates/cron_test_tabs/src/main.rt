@@ -6,6 +6,7 @@
 
 mod crons;
 mod files;
+mod found;
 mod large;
 mod listing;
 mod warnings;
@@ -29,6 +30,8 @@ enum Kind {
     Warnings,
     /// A file, and the warnings of its lines.
     LineWarnings,
+    /// A crontab, and the warnings by what is around its entries.
+    Found,
     /// A large file, and the number of its lines of each kind.
     Large,
     /// A line, and its fires in real crons when the clock changes.
@@ -39,13 +42,14 @@ enum Kind {
     Tabs,
 }
 
-const FILES: [(Kind, &str); 10] = [
+const FILES: [(Kind, &str); 11] = [
     (Kind::Crons, "lines.tsv"),
     (Kind::Schedules, "schedules.txt"),
     (Kind::Messages, "messages.txt"),
     (Kind::Files, "files.tsv"),
     (Kind::Warnings, "warnings.tsv"),
     (Kind::LineWarnings, "line_warnings.tsv"),
+    (Kind::Found, "found.tsv"),
     (Kind::Large, "large.tsv"),
     (Kind::Changes, "crons.tsv"),
     (Kind::ChangedDays, "changes.tsv"),
@@ -64,6 +68,7 @@ impl Ask for Kind {
             Kind::Files => files::ask(row),
             Kind::Warnings => warnings::ask(row),
             Kind::LineWarnings => warnings::ask_lines(row),
+            Kind::Found => found::ask(row),
             Kind::Large => large::ask(row),
             Kind::Changes => listing::ask_fires(row),
             Kind::ChangedDays => listing::ask_changes(row),

@@ -22,8 +22,8 @@ fn front_of(line: &str) -> Result<&str> {
     line.strip_suffix(rest).context("no front")
 }
 
-// Compares the warnings in the row's answer, or `-` if there are none.
-fn check(row: &mut Row<'_>) -> Result<()> {
+/// Compares the warnings in the row's answer, or `-` if there are none.
+pub(crate) fn check(row: &mut Row<'_>) -> Result<()> {
     if row.answer().is_empty() {
         row.add("", &"-")?;
     }

@@ -19,6 +19,8 @@ enum Form {
     Cron,
     /// Expressions of a crontab.
     Crontab,
+    /// Expressions of Quartz.
+    Quartz,
 }
 
 /// What the rows of a file hold.
@@ -34,6 +36,9 @@ enum Kind {
     /// An expression, and its lines of `OnCalendar`, or its sentence. They were written by hand,
     /// and systemd 252 read the lines.
     Texts(Form, Asked),
+    /// An expression of which at most four sets aren't whole, and how many words its sentence has at
+    /// most.
+    Lengths,
     /// The file of a zone (2025b), its name, a start, a union, its lines, and the first instants
     /// after the start when these elapse. The lines were written by hand, and systemd 252 gave the
     /// instants.
@@ -49,7 +54,7 @@ enum Kind {
     QuartzMessages,
 }
 
-const FILES: [(Kind, &str); 13] = [
+const FILES: [(Kind, &str); 15] = [
     (Kind::Firsts, "firsts.tsv"),
     (Kind::Fires(Counts::ByDay), "counts_by_day.tsv"),
     (Kind::Fires(Counts::ByHour), "counts_by_hour.tsv"),
@@ -66,6 +71,11 @@ const FILES: [(Kind, &str); 13] = [
     (
         Kind::Texts(Form::Crontab, Asked::Sentence),
         "sentences_of_crontabs.tsv",
+    ),
+    (Kind::Lengths, "lengths.tsv"),
+    (
+        Kind::Texts(Form::Quartz, Asked::Sentence),
+        "sentences_of_quartz.tsv",
     ),
     (Kind::QuartzFires, "quartz_fires.tsv"),
     (Kind::QuartzFires, "quartz_mutations.tsv"),
@@ -90,6 +100,12 @@ fn ask_text(row: &mut Row<'_>, form: Form, asked: Asked) -> Result<()> {
             };
             unions::ask_text(row, asked, schedules.as_slice())
         }
+        Form::Quartz => {
+            let Ok(expression) = cron_quartz::read(text) else {
+                bail!("no expression");
+            };
+            unions::ask_text(row, asked, expression.as_slice())
+        }
     }
 }
 
@@ -99,6 +115,7 @@ impl Ask for Kind {
             Kind::Firsts => unions::ask_firsts(row),
             Kind::Fires(counts) => unions::ask_counts(row, *counts),
             Kind::Texts(form, asked) => ask_text(row, *form, *asked),
+            Kind::Lengths => unions::ask_length(row),
             Kind::Elapses => unions::ask_elapses(row),
             Kind::QuartzFires => quartz::ask_fires(row),
             Kind::QuartzRefused => quartz::ask_refused(row),

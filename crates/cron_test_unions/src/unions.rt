@@ -134,3 +134,13 @@ pub(crate) fn ask_text(
     }
     row.check("the text")
 }
+
+/// Compares the number of words of an expression's sentence with the most that it may have.
+pub(crate) fn ask_length(row: &mut Row<'_>) -> Result<()> {
+    let schedules = sets_of(row.alloc(), row.cell(), " ; ")?;
+    let most = row.wanted().parse::<usize>()?;
+    let text = sentence(row.alloc(), schedules.as_slice())?;
+    let words = text.as_str().split(' ').count();
+    ensure!(words <= most, "{words} words: {text}");
+    Ok(())
+}

@@ -13,6 +13,7 @@ mod callers;
 mod checks;
 mod dialects;
 mod fires;
+mod instants;
 mod laws;
 mod listings;
 mod plain;
@@ -45,7 +46,7 @@ enum Kind {
 }
 
 /// The files, each with its kind.
-const FILES: [(Kind, &str); 52] = [
+const FILES: [(Kind, &str); 54] = [
     (Kind::Plain(Plain::Read), "refused.txt"),
     (Kind::Plain(Plain::Faults), "faults.txt"),
     (Kind::Plain(Plain::Sources), "sources.txt"),
@@ -101,6 +102,8 @@ const FILES: [(Kind, &str); 52] = [
     (Kind::Zone(Zoned::Page), "failed_pages.txt"),
     (Kind::Plain(Plain::Answers), "answers.txt"),
     (Kind::Plain(Plain::Answers), "failed_answers.txt"),
+    (Kind::Plain(Plain::Spoken), "spoken.txt"),
+    (Kind::Plain(Plain::WholeSpans), "whole_spans.txt"),
 ];
 
 impl Ask for Kind {

@@ -1,8 +1,8 @@
 //! Questions whose rows don't begin with the expression of a schedule.
 
 use crate::{
-    arguments, callers, checks, dialects, listings, shown, transitions, units, walks, writers,
-    zones,
+    arguments, callers, checks, dialects, instants, listings, shown, transitions, units, walks,
+    writers, zones,
 };
 use anyhow::Result;
 use cron_test_rows::Row;
@@ -61,6 +61,10 @@ pub(crate) enum Plain {
     Runs,
     /// Answers of a listing to arguments of a command line.
     Answers,
+    /// The instant that a text means in a zone.
+    Spoken,
+    /// The span that one word means in a zone.
+    WholeSpans,
 }
 
 impl Plain {
@@ -91,6 +95,8 @@ impl Plain {
             Plain::FirstOfAny => checks::ask_first_of_any(row),
             Plain::Runs => listings::ask_run(row),
             Plain::Answers => listings::ask_answer(row),
+            Plain::Spoken => instants::ask(row),
+            Plain::WholeSpans => instants::ask_span(row),
         }
     }
 }

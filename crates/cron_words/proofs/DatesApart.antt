@@ -6,7 +6,7 @@ use Rattle.cron_text.specs.Tokens.{is_digit}
 use Rattle.cron_units.specs.Denotation.{IsBetween}
 use Rattle.cron_units.specs.Units.{IsSet, IsUnit, TimeUnit}
 use Rattle.cron_words.specs.Lists.{is_whole, items_of, list_text}
-use Rattle.cron_words.specs.Sentence.{begins_alone, led_text}
+use Rattle.cron_words.specs.Schedules.{begins_alone, led_text}
 use Rattle.cron_words.specs.declared.items.Item.{Item}
 use Rattle.cron_words.specs.declared.lists.Naming.{Naming}
 use Rattle.cron_words.proofs.ListsApart.{FitsItem, list_first, stops}
@@ -68,7 +68,7 @@ module _ (k : ℕ) (none one range : List ℕ) (w : Naming) (u : TimeUnit) (p : 
   pub some_told : (n : ℕ) (ns r : List ℕ) → told (n ∷ ns) ++ r ≡ word_of (alone_in (n ∷ ns)) one range ++ (list_text w (items_of (n ∷ ns)) ++ r)
   some_told n ns r = rw (not_none (length ns)) (append_assoc (word_of (alone_in (n ∷ ns)) one range) (list_text w (items_of (n ∷ ns))) r)
 
-  told_kind : (ns r : List ℕ) → IsSet u ns → kind (told ns ++ r) ≡ k
+  pub told_kind : (ns r : List ℕ) → IsSet u ns → kind (told ns ++ r) ≡ k
   told_kind [] r s = p.none_kind r
   told_kind (n ∷ ns) r s =
       ap kind (some_told n ns r) ∙ p.some_kind (alone_in (n ∷ ns)) (list_text w (items_of (n ∷ ns)) ++ r) (set_first n ns r s)

@@ -1,5 +1,5 @@
 -- Items and lists as they are pushed.
-use Rattle.std.proofs.Common.{◌↔◌, IsTrue, drop, get_or, add-one, drop-cons, length-drop, nat_lt, ◌≡◌, ◌==◌, ◌+◌, ◌<◌, ◌≤◌, ℕ, zero, suc, Bool, true, false, List, [], ◌∷◌, ◌++◌, length, refl, sym, ap, ◌∙◌, append_assoc, append-nil, arith, Result, Ok, Err, OnOk}
+use Rattle.std.proofs.Common.{◌↔◌, IsTrue, drop, get_or, add-one, drop-cons, length-drop, nat_lt, ◌≡◌, ◌==◌, ◌+◌, ◌<◌, ◌≤◌, ℕ, zero, suc, Bool, true, false, List, [], ◌∷◌, ◌++◌, length, map, refl, sym, ap, ◌∙◌, append_assoc, append-nil, arith, Result, Ok, Err, OnOk}
 use Rattle.std.proofs.lemmas.Bool.Decides.{nat_tests}
 use Rattle.std.proofs.lemmas.Bool.{false≢true}
 use Rattle.std.proofs.lemmas.Slice.Eq.{bytes_eq-Decides}
@@ -10,15 +10,16 @@ use Rattle.cron_canonical.proofs.RunLemmas.{opened, opened_end, opened_here, ope
 use Rattle.cron_canonical.specs.Short.{runs_of}
 use Rattle.std.specs.Prelude.{codes}
 use Rattle.std.proofs.lemmas.List.{nil_from_length}
-use Rattle.cron_words.specs.Lists.{is_whole, separator_text, run_items, items_of, item_text, list_text, more_text}
+use Rattle.cron_words.specs.Lists.{is_whole, separator_text, run_items, runs_as_items, item_text, list_text, more_text}
 use Rattle.cron_words.specs.declared.items.Item.{Item}
+use Rattle.cron_words.specs.declared.items.Item.TheVariants.{One}
 use Rattle.cron_words.specs.declared.lists.Naming.{Naming}
 
 pub if_ok : {A E : Type 0} (r : Result A E) (P Q : Type 0) → (P → Q) → OnOk r P → OnOk r Q
 if_ok (Ok x) P Q f p = f p
 if_ok (Err e) P Q f p = tt
 
-false_from : (b : Bool) → (b ≡ true → ⊥) → b ≡ false
+pub false_from : (b : Bool) → (b ≡ true → ⊥) → b ≡ false
 false_from true f = absurd (f refl)
 false_from false f = refl
 
@@ -42,11 +43,24 @@ begins before items now first last n old rest apart is e kept =
 
 pub runs_end : (initial items new : List Item) (start first last : ℕ) (all begun rest : List ℕ) → begun ≡ all → rest ≡ []
     → with_runs initial (opened start start begun) ≡ with_runs items (opened first last rest) → new ≡ items ++ run_items (first, last)
-    → new ≡ initial ++ items_of (start ∷ all)
-unfolding items_of
+    → new ≡ initial ++ runs_as_items (start ∷ all)
+unfolding runs_as_items
 runs_end initial items new start first last all begun rest same none kept e =
     e ∙ (ap (λ (t : List Item). items ++ t) (sym (append-nil (run_items (first, last)))) ∙ (ap (with_runs items) (sym (opened_end first last) ∙ ap (opened first last) (sym none)) ∙ (sym kept
     ∙ ap (with_runs initial) (ap (opened start start) same ∙ opened_here start all))))
+
+-- ---- single numbers
+
+pub ones_on : (before items now : List Item) (n : ℕ) (old rest : List ℕ) → old ≡ n ∷ rest → now ≡ items ++ One n ∷ [] → before ≡ items ++ map One old
+    → before ≡ now ++ map One rest
+ones_on before items now n old rest is e kept =
+    kept ∙ (ap (λ (t : List ℕ). items ++ map One t) is
+    ∙ (sym (append_assoc items (One n ∷ []) (map One rest)) ∙ ap (λ (t : List Item). t ++ map One rest) (sym e)))
+
+pub ones_end : (initial items : List Item) (all begun rest : List ℕ) → begun ≡ all → rest ≡ [] → initial ++ map One begun ≡ items ++ map One rest
+    → items ≡ initial ++ map One all
+ones_end initial items all begun rest same none kept =
+    sym (append-nil items) ∙ (ap (λ (t : List ℕ). items ++ map One t) (sym none) ∙ (sym kept ∙ ap (λ (t : List ℕ). initial ++ map One t) same))
 
 -- ---- lists
 
@@ -108,6 +122,6 @@ pub whole_by : (u : TimeUnit) (ns : List ℕ) (all : Bool) → IsTrue all ↔ (n
 whole_by u ns true h = sym ((bytes_eq-Decides ns (whole u)).1 (h.0 refl))
 whole_by u ns false h = sym (false_from (bytes_eq ns (whole u)) (λ t. false≢true (h.1 ((bytes_eq-Decides ns (whole u)).0 t))))
 
-pub no_items : items_of [] ≡ []
-unfolding items_of runs_of
-no_items = refl
+pub no_runs : runs_as_items [] ≡ []
+unfolding runs_as_items runs_of
+no_runs = refl

@@ -1,46 +1,20 @@
--- Names are told apart, and what stands behind them.
-use Rattle.std.proofs.Common.{◌%◌, ◌-◌, cond, length, subst, inl, inr, append_assoc, Option, Some, ◌≡◌, ◌==◌, ◌+◌, ◌<◌, ◌≤◌, ◌^◌, ℕ, zero, suc, Bool, true, false, ◌&&◌, ◌||◌, nat_le, nat_lt, List, [], ◌∷◌, ◌++◌, codes, drop, get_or, refl, sym, ap, ◌∙◌, arith}
-use Rattle.std.proofs.lemmas.Bool.{cases_lt, false≢true}
-use Rattle.std.proofs.lemmas.Fmt.{decimal_injective, decimal_is_IsNumeral}
+-- Names are told apart.
+use Rattle.std.proofs.Common.{◌%◌, ◌-◌, cond, subst, inl, inr, append_assoc, Option, Some, ◌≡◌, ◌==◌, ◌+◌, ◌<◌, ◌≤◌, ◌^◌, ℕ, zero, suc, Bool, true, false, ◌&&◌, nat_le, nat_lt, List, [], ◌++◌, codes, get_or, refl, sym, ap, ◌∙◌, arith}
+use Rattle.std.proofs.lemmas.Bool.{cases_lt}
+use Rattle.std.proofs.lemmas.Fmt.{decimal_injective}
 use Rattle.std.specs.Fmt.{decimal}
 use Rattle.std.specs.Option.{option_map_or}
-use Rattle.cron_canonical.proofs.ShortTokens.{all_digits}
-use Rattle.cron_text.specs.Tokens.{is_digit, is_letter}
+use Rattle.cron_text.specs.Tokens.{is_digit}
 use Rattle.cron_units.specs.Units.{ordinal_of}
 use Rattle.cron_units.specs.Units as units
 use Rattle.std.specs.List.{list_all}
 use Rattle.cron_words.specs.Lists.{month_text, name_text, ordinal_end, weekday_text}
 use Rattle.cron_words.specs.declared.lists.Naming.{Naming}
-use Rattle.cron_words.specs.declared.lists.Naming.TheVariants.{Numbers, Ordinals, Weekdays, Months}
-
-abbrev pub heads : (ℕ → Bool) → List ℕ → Bool
-heads p [] = false
-heads p (c ∷ cs) = p c
-
-pub all_first : (p : ℕ → Bool) (c : ℕ) (cs : List ℕ) → list_all p (c ∷ cs) ≡ true → p c ≡ true
-all_first p c cs h = by_test (p c) refl where
-  by_test : (b : Bool) → p c ≡ b → p c ≡ true
-  by_test true e = e
-  by_test false e = absurd (false≢true (rw e at h))
-
-all_rest : (p : ℕ → Bool) (c : ℕ) (cs : List ℕ) → list_all p (c ∷ cs) ≡ true → list_all p cs ≡ true
-all_rest p c cs h = rw (all_first p c cs h) at h
-
--- texts of bytes that pass a test, and behind each of them nothing, or a byte that doesn't
-pub cut : (p : ℕ → Bool) (a b r s : List ℕ) → list_all p a ≡ true → list_all p b ≡ true → heads p r ≡ false → heads p s ≡ false
-    → a ++ r ≡ b ++ s → (a ≡ b) × (r ≡ s)
-cut p [] [] r s k l h g e = (refl, e)
-cut p [] (d ∷ b) r s k l h g e = absurd (false≢true (sym h ∙ (ap (heads p) e ∙ all_first p d b l)))
-cut p (c ∷ a) [] r s k l h g e = absurd (false≢true (sym g ∙ (ap (heads p) (sym e) ∙ all_first p c a k)))
-cut p (c ∷ a) (d ∷ b) r s k l h g e =
-    let first : c ≡ d = ap (λ (t : List ℕ). get_or t 0 0) e in
-    let rest = cut p a b r s (all_rest p c a k) (all_rest p d b l) h g (ap (drop 1) e) in
-    (rw (first, rest.0) refl, rest.1)
+use Rattle.cron_words.specs.declared.lists.Naming.TheVariants.{Numbers, Ordinals, Weekdays, Months, Clocks}
+use Rattle.cron_words.proofs.ClockLemmas.{Small, clock_first, clock_word, clocks_apart, none_behind}
+use Rattle.cron_words.proofs.DigitLemmas.{all_append, cut, decimal_digits, decimal_first, digits_are_word, heads, is_word}
 
 -- ---- bytes of names
-
-abbrev pub is_word : ℕ → Bool
-is_word c = is_digit c || is_letter c
 
 abbrev pub is_capital : ℕ → Bool
 is_capital c = nat_le 65 c && nat_le c 90
@@ -51,6 +25,7 @@ begins Numbers c = is_digit c
 begins Ordinals c = is_digit c
 begins Weekdays c = is_capital c
 begins Months c = is_capital c
+begins (Clocks m s) c = is_digit c
 
 -- numbers that have names
 abbrev pub Fits : Naming → ℕ → Type 0
@@ -58,8 +33,9 @@ Fits Numbers n = n < 2 ^ 32
 Fits Ordinals n = n < 2 ^ 32
 Fits Weekdays n = (1 ≤ n) × (n ≤ 7)
 Fits Months n = (1 ≤ n) × (n ≤ 12)
+Fits (Clocks m s) n = Small n m s
 
--- a text of letters and digits, that begins as the names do
+-- a text of letters, digits and colons, that begins as the names do
 pub record IsName (w : Naming) (t : List ℕ) : Type 0 where
   pub word : list_all is_word t ≡ true
   pub first : (r : List ℕ) → begins w (get_or (t ++ r) 0 0) ≡ true
@@ -110,24 +86,6 @@ late_month n l h =
 month_known : (n : ℕ) → 1 ≤ n → n ≤ 12 → KnownMonth n
 month_known n l h = elim (cases_lt n 7) [ inl low ↦ early_month n l (omega arith) | inr high ↦ late_month n (omega arith) h ]
 
-digits_are_word : (ds : List ℕ) → list_all is_digit ds ≡ true → list_all is_word ds ≡ true
-digits_are_word [] h = refl
-digits_are_word (c ∷ ds) h = rw (all_first is_digit c ds h, digits_are_word ds (all_rest is_digit c ds h)) refl
-
-digit_first : (ds r : List ℕ) → 0 < length ds → list_all is_digit ds ≡ true → is_digit (get_or (ds ++ r) 0 0) ≡ true
-digit_first [] r l h = absurd (omega arith)
-digit_first (c ∷ ds) r l h = all_first is_digit c ds h
-
-all_append : (p : ℕ → Bool) (a b : List ℕ) → list_all p a ≡ true → list_all p b ≡ true → list_all p (a ++ b) ≡ true
-all_append p [] b h g = g
-all_append p (c ∷ a) b h g = rw (all_first p c a h, all_append p a b (all_rest p c a h) g) refl
-
-pub decimal_digits : (n : ℕ) → n < 2 ^ 32 → list_all is_digit (decimal n) ≡ true
-decimal_digits n l = all_digits (decimal n) (decimal_is_IsNumeral n (omega arith)).0.1
-
-pub decimal_first : (n : ℕ) (r : List ℕ) → n < 2 ^ 32 → is_digit (get_or (decimal n ++ r) 0 0) ≡ true
-decimal_first n r l = digit_first (decimal n) r (decimal_is_IsNumeral n (omega arith)).0.0 (decimal_digits n l)
-
 -- what stands behind an ordinal number
 end_is : (P : List ℕ → Type 0) → P (codes "th") → P (codes "st") → P (codes "nd") → P (codes "rd") → (n : ℕ) → P (ordinal_end n)
 end_is P th st nd rd n = by_test (nat_lt 10 n && nat_lt n 20) (n % 10 == 1) (n % 10 == 2) (n % 10 == 3) where
@@ -149,6 +107,7 @@ name_is Ordinals n f =
     }
 name_is Weekdays n f = (weekday_known n f.0 f.1).0
 name_is Months n f = (month_known n f.0 f.1).0
+name_is (Clocks m s) n f = record { word = clock_word n m s f; first = λ r. clock_first n m s r f.0 }
 
 some_same : (n m : ℕ) → Some n ≡ Some m → n ≡ m
 some_same n m e = ap (λ (o : Option ℕ). option_map_or (λ k. k) o 0) e
@@ -163,3 +122,5 @@ name_same Ordinals n m f g e =
     (end_is (λ t. heads is_digit t ≡ false) refl refl refl refl n) (end_is (λ t. heads is_digit t ≡ false) refl refl refl refl m) e).0
 name_same Weekdays n m f g e = some_same n m (sym (weekday_known n f.0 f.1).1 ∙ (ap (ordinal_of units.days_of_week) e ∙ (weekday_known m g.0 g.1).1))
 name_same Months n m f g e = some_same n m (sym (month_known n f.0 f.1).1 ∙ (ap (ordinal_of units.months) e ∙ (month_known m g.0 g.1).1))
+name_same (Clocks m s) n k f g e =
+    (clocks_apart n m s k m s [] [] f g none_behind none_behind (ap (λ (t : List ℕ). t ++ []) e)).0.0

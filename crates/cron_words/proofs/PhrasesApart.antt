@@ -9,18 +9,14 @@ use Rattle.cron_units.specs.Laws.{is_unit-days_of_month, is_unit-months, is_unit
 use Rattle.cron_units.specs.Units.{FieldSet, IsSet}
 use Rattle.cron_units.specs.Units as units
 use Rattle.cron_words.specs.Lists.{is_whole, items_of, list_text}
-use Rattle.cron_words.specs.Sentence.{days_text, last_day_text, months_text, weekdays_text, years_text}
+use Rattle.cron_words.specs.Schedules.{days_text, last_day_text, months_text, weekdays_text, years_text}
 use Rattle.cron_words.specs.declared.lists.Naming.{Naming}
-use Rattle.cron_words.specs.declared.lists.Naming.TheVariants.{Numbers, Ordinals, Weekdays, Months}
+use Rattle.cron_words.specs.declared.lists.Naming.TheVariants.{Numbers, Ordinals, Weekdays, Months, Clocks}
 use Rattle.cron_words.proofs.DatesApart.{IsPhrase, IsTail, first_of, kind, phrase_apart, phrase_tail}
-use Rattle.cron_words.proofs.ListsApart.{stops, unlike}
+use Rattle.cron_words.proofs.ListsApart.{stops, unlike, unlike_at}
 use Rattle.cron_words.proofs.NameLemmas.{is_capital}
 use Rattle.cron_words.proofs.NumberLemmas.{items_some}
 use Rattle.cron_words.proofs.TimesApart.{NoSpace, no_space, not_none, set_fits, sets_apart, whole_same}
-
--- a text whose byte at a place passes a test isn't one whose byte there doesn't
-pub unlike_at : (p : ℕ → Bool) (k : ℕ) (x y : List ℕ) → p (get_or x k 0) ≡ false → p (get_or y k 0) ≡ true → x ≡ y → ⊥
-unlike_at p k x y f t e = false≢true (sym f ∙ (ap (λ (z : List ℕ). p (get_or z k 0)) e ∙ t))
 
 -- ---- days of the week, months and years
 
@@ -93,6 +89,7 @@ stop_in Numbers x = refl
 stop_in Ordinals x = refl
 stop_in Weekdays x = refl
 stop_in Months x = refl
+stop_in (Clocks m s) x = refl
 
 stop_from : (v : Naming) (x : List ℕ) → stops v (44 ∷ 32 ∷ 102 ∷ x) ≡ true
 unfolding stops
@@ -100,6 +97,7 @@ stop_from Numbers x = refl
 stop_from Ordinals x = refl
 stop_from Weekdays x = refl
 stop_from Months x = refl
+stop_from (Clocks m s) x = refl
 
 pub stop_on : (v : Naming) (x : List ℕ) → stops v (44 ∷ 32 ∷ 111 ∷ x) ≡ true
 unfolding stops
@@ -107,6 +105,7 @@ stop_on Numbers x = refl
 stop_on Ordinals x = refl
 stop_on Weekdays x = refl
 stop_on Months x = refl
+stop_on (Clocks m s) x = refl
 
 in_or_from : (v : Naming) (alone : Bool) (x : List ℕ) → stops v (cond alone (codes ", in ") (codes ", from ") ++ x) ≡ true
 in_or_from v true x = stop_in v _
@@ -153,21 +152,21 @@ last_apart true false r q v w e = absurd (no_space q _ w (sym e))
 last_apart false true r q v w e = absurd (no_space r _ v e)
 last_apart false false r q v w e = (refl, e)
 
-none_text : Bool → List ℕ
+unfoldable pub none_text : Bool → List ℕ
 none_text last = cond last (codes ", on the last day of the month") (codes ", on no day")
 
 -- all days by number, and no mark
-omitted : FieldSet → Bool
+unfoldable pub omitted : FieldSet → Bool
 omitted s = is_whole units.days_of_month s.ordinals && (if s.last_day then false else true)
 
-numbered_text : FieldSet → List ℕ
+unfoldable pub numbered_text : FieldSet → List ℕ
 numbered_text s = codes ", on the " ++ (list_text Ordinals (items_of s.ordinals) ++ last_day_text s.last_day)
 
-days_by : (s : FieldSet) (n : ℕ) (ns : List ℕ) → s.ordinals ≡ n ∷ ns → days_text s ≡ cond (omitted s) [] (numbered_text s)
+pub days_by : (s : FieldSet) (n : ℕ) (ns : List ℕ) → s.ordinals ≡ n ∷ ns → days_text s ≡ cond (omitted s) [] (numbered_text s)
 unfolding omitted numbered_text
 days_by s n ns e = rw (e, not_none (length ns)) refl
 
-none_by : (s : FieldSet) → s.ordinals ≡ [] → days_text s ≡ none_text s.last_day
+pub none_by : (s : FieldSet) → s.ordinals ≡ [] → days_text s ≡ none_text s.last_day
 unfolding none_text
 none_by s e = rw e refl
 
@@ -187,12 +186,12 @@ none_apart true false r q e = absurd (unlike 116 110 _ _ refl (ap (drop 5) e))
 none_apart false true r q e = absurd (unlike 110 116 _ _ refl (ap (drop 5) e))
 none_apart false false r q e = (refl, append_cancel_left (codes ", on no day") r q e)
 
-numbered_on : (s : FieldSet) (r : List ℕ) → numbered_text s ++ r ≡ codes ", on the " ++ (list_text Ordinals (items_of s.ordinals) ++ (last_day_text s.last_day ++ r))
+pub numbered_on : (s : FieldSet) (r : List ℕ) → numbered_text s ++ r ≡ codes ", on the " ++ (list_text Ordinals (items_of s.ordinals) ++ (last_day_text s.last_day ++ r))
 unfolding numbered_text
 numbered_on s r = ap (λ (t : List ℕ). codes ", on the " ++ t) (append_assoc (list_text Ordinals (items_of s.ordinals)) (last_day_text s.last_day) r)
 
 -- the first number
-numbered_first : (n : ℕ) (ns r : List ℕ) → IsSet units.days_of_month (n ∷ ns) → is_digit (get_or (list_text Ordinals (items_of (n ∷ ns)) ++ r) 0 0) ≡ true
+pub numbered_first : (n : ℕ) (ns r : List ℕ) → IsSet units.days_of_month (n ∷ ns) → is_digit (get_or (list_text Ordinals (items_of (n ∷ ns)) ++ r) 0 0) ≡ true
 numbered_first n ns r s =
     first_of Ordinals (items_of (n ∷ ns)) r (items_some n ns) (set_fits Ordinals units.days_of_month (n ∷ ns) is_unit-days_of_month s days_fit)
 
@@ -204,7 +203,7 @@ none_numbered true n ns t r q is s e =
 none_numbered false n ns t r q is s e = unlike 110 116 _ _ refl (ap (drop 5) (e ∙ numbered_on t q))
 
 -- days that are told, and an omission before a later phrase
-told_omitted : (text r q : List ℕ) → kind (text ++ r) ≡ 2 → IsTail 2 q → text ++ r ≡ q → ⊥
+pub told_omitted : (text r q : List ℕ) → kind (text ++ r) ≡ 2 → IsTail 2 q → text ++ r ≡ q → ⊥
 told_omitted text r q k t e = omega (arith, sym k ∙ ap kind e, t.later)
 
 omitted_is : (s : FieldSet) → omitted s ≡ true → (is_whole units.days_of_month s.ordinals ≡ true) × (s.last_day ≡ false)
@@ -215,7 +214,7 @@ omitted_is s h = by_mark s.last_day refl (and_parts (is_whole units.days_of_mont
   by_mark true e p = absurd (false≢true (rw e at p.1))
   by_mark false e p = (p.0, e)
 
-same_days : (s t : FieldSet) → s.ordinals ≡ t.ordinals → s.last_day ≡ t.last_day → s ≡ t
+pub same_days : (s t : FieldSet) → s.ordinals ≡ t.ordinals → s.last_day ≡ t.last_day → s ≡ t
 same_days s t n m = rw (n, m) refl
 
 numbered_apart : (s t : FieldSet) (n m : ℕ) (ns ms r q : List ℕ) → s.ordinals ≡ n ∷ ns → t.ordinals ≡ m ∷ ms → IsSet units.days_of_month (n ∷ ns)

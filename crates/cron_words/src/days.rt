@@ -2,7 +2,7 @@
 
 ghost use Rattle.std.specs.Prelude.{◌≡◌, ◌++◌, OnOk};
 ghost use Rattle.std.specs.String.{string_bytes};
-ghost use Rattle.cron_words.specs.Sentence.{begins_alone, days_text, last_day_text, led_text, months_text, weekdays_text, years_text};
+ghost use Rattle.cron_words.specs.Schedules.{begins_alone, days_text, last_day_text, led_text, months_text, weekdays_text, years_text};
 
 use crate::items::{Item, is_whole, items_of};
 use crate::lists::{Naming, push_list};

@@ -1,16 +1,21 @@
-//! The numbers of a set, as single numbers and ranges.
+//! The numbers of a set, as single numbers, ranges and progressions.
 
-ghost use Rattle.std.specs.Prelude.{◌≡◌, ◌==◌, ◌+◌, ◌++◌, ◌∷◌, OnOk, IfOk};
-ghost use Rattle.cron_words.specs.Lists.{is_whole, items_of, run_items};
+ghost use Rattle.std.specs.Prelude.{◌≡◌, ◌==◌, ◌+◌, ◌++◌, ◌∷◌, [], false, true, map, OnOk, IfOk, MatchOption};
+ghost use Rattle.cron_words.specs.Lists.{is_stepped, is_whole, items_of, run_items, runs_as_items};
+ghost use Rattle.cron_words.specs.Progressions.{progression};
+ghost use Rattle.cron_words.specs.Schedules.{is_one};
+ghost use Rattle.cron_words.specs.declared.items.Item.TheVariants.{One};
 
+use crate::progressions::{Progression, progression_of};
 use cron_units::time_unit::{Ordinal, OrdinalIter, TimeUnitSpec};
 use std::alloc::{AllocError, Global};
 
-/// One number, or all numbers from a first to a last.
+/// One number, all numbers from a first to a last, or those by a step.
 #[derive(Clone, Copy)]
 pub(crate) enum Item {
     One(Ordinal),
     Range(Ordinal, Ordinal),
+    Steps(Progression),
 }
 
 // Returns true if `ordinal` is `last + 1`.
@@ -42,7 +47,7 @@ fn push_runs(
     ordinals: OrdinalIter<'_>,
 ) -> Result<(), AllocError>
     ensures { OnOk result
-        (items.new.items ≡ items.old.items ++ items_of (start ∷ ordinals.entry)) }
+        (items.new.items ≡ items.old.items ++ runs_as_items (start ∷ ordinals.entry)) }
 {
     let (mut first, mut last) = (start, start);
     for ordinal in ordinals {
@@ -62,9 +67,9 @@ pub(crate) fn is_whole<T: TimeUnitSpec>(set: &T) -> bool
     set.is_all()
 }
 
-/// Returns the numbers of a set as single numbers and ranges, in ascending order.
-pub(crate) fn items_of<T: TimeUnitSpec>(alloc: Global, set: &T) -> Result<Vec<Item>, AllocError>
-    ensures { IfOk result (λ items. items.items ≡ items_of (T.ordinals set.now)) }
+// Returns the numbers of a set as single numbers and ranges, in ascending order.
+fn runs_of<T: TimeUnitSpec>(alloc: Global, set: &T) -> Result<Vec<Item>, AllocError>
+    ensures { IfOk result (λ items. items.items ≡ runs_as_items (T.ordinals set.now)) }
 {
     let mut items = Vec::new(alloc);
     let mut ordinals = set.iter();
@@ -72,5 +77,66 @@ pub(crate) fn items_of<T: TimeUnitSpec>(alloc: Global, set: &T) -> Result<Vec<It
         return Ok(items);
     };
     push_runs(&mut items, start, ordinals)?;
+    Ok(items)
+}
+
+// The numbers of a set as a progression, if it has five numbers or more by a step of two or more.
+fn steps_of<T: TimeUnitSpec>(set: &T) -> Option<Progression>
+    ensures { MatchOption result
+        (is_stepped (T.ordinals set.now) ≡ false)
+        (λ p. (is_stepped (T.ordinals set.now) ≡ true) × (p ≡ progression (T.ordinals set.now))) }
+{
+    let numbers = progression_of(set)?;
+    if numbers.step > 1 && set.count() > 4 {
+        Some(numbers)
+    } else {
+        None
+    }
+}
+
+/// Returns the numbers of a set as one progression, or as single numbers and ranges, in ascending
+/// order.
+#[tactic(auto, unfolding(crate::specs::Lists::items_of))]
+pub(crate) fn items_of<T: TimeUnitSpec>(alloc: Global, set: &T) -> Result<Vec<Item>, AllocError>
+    ensures { IfOk result (λ items. items.items ≡ items_of (T.ordinals set.now)) }
+{
+    let Some(numbers) = steps_of(set) else {
+        return runs_of(alloc, set);
+    };
+    let mut items = Vec::new(alloc);
+    items.push(Item::Steps(numbers))?;
+    Ok(items)
+}
+
+/// The number of `set` if it has exactly one, else `None`.
+pub(crate) fn only<T: TimeUnitSpec>(set: &T) -> Option<Ordinal>
+    ensures { MatchOption result
+        (is_one (T.ordinals set.now) ≡ false)
+        (λ number. T.ordinals set.now ≡ number ∷ []) }
+{
+    if set.count() == 1 {
+        set.iter().next()
+    } else {
+        None
+    }
+}
+
+// Appends each of `ordinals` as a single number.
+#[tactic(auto, using(crate::proofs::ListLemmas::ones_on, crate::proofs::ListLemmas::ones_end))]
+fn push_ones(items: &mut Vec<Item>, ordinals: OrdinalIter<'_>) -> Result<(), AllocError>
+    ensures { OnOk result (items.new.items ≡ items.old.items ++ map One ordinals.entry) }
+{
+    for ordinal in ordinals {
+        items.push(Item::One(ordinal))?;
+    }
+    Ok(())
+}
+
+/// Returns each number of a set as a single number, in ascending order.
+pub(crate) fn ones_of<T: TimeUnitSpec>(alloc: Global, set: &T) -> Result<Vec<Item>, AllocError>
+    ensures { IfOk result (λ items. items.items ≡ map One (T.ordinals set.now)) }
+{
+    let mut items = Vec::new(alloc);
+    push_ones(&mut items, set.iter())?;
     Ok(items)
 }

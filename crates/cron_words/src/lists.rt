@@ -3,8 +3,11 @@
 ghost use Rattle.std.specs.Prelude.{◌≡◌, ◌<◌, ◌++◌, OnOk, length};
 ghost use Rattle.std.specs.String.{string_bytes};
 ghost use Rattle.cron_words.specs.Lists.{item_text, list_text, month_text, name_text, ordinal_end, separator_text, weekday_text};
+ghost use Rattle.cron_words.specs.declared.items.Item.TheVariants.{Steps};
 
+use crate::clocks::push_clock;
 use crate::items::Item;
+use crate::progressions::Progression;
 use cron_units::time_unit::Ordinal;
 use std::alloc::AllocError;
 
@@ -19,6 +22,8 @@ pub(crate) enum Naming {
     Weekdays,
     /// By the name of a month.
     Months,
+    /// As an hour by the clock, with this minute and second.
+    Clocks(Ordinal, Ordinal),
 }
 
 fn weekday(number: Ordinal) -> &'static str
@@ -69,7 +74,12 @@ fn ordinal_end(number: Ordinal) -> &'static str
     }
 }
 
-fn push_name(text: &mut String, naming: Naming, number: Ordinal) -> Result<(), AllocError>
+/// Appends a number as `naming` writes it.
+pub(crate) fn push_name(
+    text: &mut String,
+    naming: Naming,
+    number: Ordinal,
+) -> Result<(), AllocError>
     ensures { OnOk result
         (string_bytes text.new ≡ string_bytes text.old ++ name_text naming number) }
 {
@@ -78,7 +88,19 @@ fn push_name(text: &mut String, naming: Naming, number: Ordinal) -> Result<(), A
         Naming::Ordinals => write!(text, "{number}{}", ordinal_end(number)),
         Naming::Weekdays => text.push_str(weekday(number)),
         Naming::Months => text.push_str(month(number)),
+        Naming::Clocks(minute, second) => push_clock(text, number, minute, second),
     }
+}
+
+// Appends a progression, as `0 to 56 by 7`.
+fn push_steps(text: &mut String, naming: Naming, numbers: Progression) -> Result<(), AllocError>
+    ensures { OnOk result
+        (string_bytes text.new ≡ string_bytes text.old ++ item_text naming (Steps numbers)) }
+{
+    push_name(text, naming, numbers.first)?;
+    text.push_str(" to ")?;
+    push_name(text, naming, numbers.last)?;
+    write!(text, " by {}", numbers.step)
 }
 
 fn push_item(text: &mut String, naming: Naming, item: Item) -> Result<(), AllocError>
@@ -92,6 +114,7 @@ fn push_item(text: &mut String, naming: Naming, item: Item) -> Result<(), AllocE
             text.push_str(" to ")?;
             push_name(text, naming, last)
         }
+        Item::Steps(numbers) => push_steps(text, naming, numbers),
     }
 }
 

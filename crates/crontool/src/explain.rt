@@ -3,6 +3,7 @@
 use clap::ArgMatches;
 use cron_answers::answer::{Request, Which};
 use cron_answers::explain::explain;
+use cron_looks::Times;
 use cron_replies::status::Status;
 use cron_writer::watched::Watched;
 use cron_zones::machine::MachineFiles;
@@ -21,6 +22,7 @@ fn request_of<'a>(words: &ArgMatches<'a>) -> Option<Request<'a>> {
         which: Which::Next(FIRES, words.get_str("after")?),
         changes: changes_of(words),
         form: form_of(words),
+        times: Times::Plain,
     })
 }
 

@@ -5,7 +5,7 @@ use cron_answers::late::{self, Request};
 use cron_replies::status::Status;
 use cron_writer::watched::Watched;
 use cron_zones::machine::MachineFiles;
-use crontool_machine::choices::changes_of;
+use crontool_machine::choices::{changes_of, form_of};
 use crontool_machine::machine::{Surroundings, complain};
 use std::io;
 
@@ -17,6 +17,7 @@ fn request_of<'a>(words: &ArgMatches<'a>) -> Option<Request<'a>> {
         last: words.get_str("last")?,
         grace: words.get_one::<u32>("grace")?,
         changes: changes_of(words),
+        form: form_of(words),
     })
 }
 

@@ -15,10 +15,15 @@ use cron_answers::answer::{Request, answer};
 use cron_replies::status::Status;
 use cron_writer::watched::Watched;
 use cron_zones::machine::MachineFiles;
+use crontool_machine::looks::{format_of, times_of};
 use crontool_machine::machine::{Surroundings, complain};
+use crontool_machine::tips::tell_tip;
 use crontool_runs::{alarm, run};
-use crontool_tabs::{calendar, check, collisions, compare, ics, list};
-use crontool_words::commands::{command, request_of, usages_of};
+use crontool_tabs::{
+    calendar, check, collisions, compare, explain as explain_tabs, ics, list, missed,
+};
+use crontool_units::systemd;
+use crontool_words::commands::{command, request_of, texts_of};
 use crontool_words::completions;
 use std::process::ExitCode;
 use std::{env, io};
@@ -45,13 +50,11 @@ fn give_up(rt: &HostRuntime, why: &str, status: Status) -> u8 {
     complain(rt, why, status).code()
 }
 
-// Answers a request of `next` or `between` with the machine's clock, zones and streams. `Err` has
-// the status of the subcommand if the clock, TZ or TZDIR can't be read.
-fn answer_request(rt: &HostRuntime, request: &Request<'_>) -> Result<Status, Status> {
-    let around = Surroundings::of(rt)?;
+// Answers a request of `next` or `between` with the machine's clock, zones and streams.
+fn answer_timed(rt: &HostRuntime, request: &Request<'_>, around: &Surroundings) -> Status {
     let mut out = Watched::new(io::writer(rt));
     let mut complaints = Watched::new(rt.stderr());
-    Ok(answer(
+    answer(
         rt.alloc(),
         request,
         around.now,
@@ -59,7 +62,26 @@ fn answer_request(rt: &HostRuntime, request: &Request<'_>) -> Result<Status, Sta
         &mut MachineFiles(rt),
         &mut out,
         &mut complaints,
-    ))
+    )
+}
+
+// Answers a request of `next` or `between`, with times as the words say. `Err` has the status of the
+// subcommand if the clock, TZ or TZDIR can't be read, or if a word is wrong.
+fn answer_request<'a>(
+    rt: &HostRuntime,
+    name: &str,
+    words: &ArgMatches<'a>,
+    request: Request<'a>,
+) -> Result<Status, Status> {
+    let around = Surroundings::of(rt)?;
+    if name != "next" {
+        let times = format_of(words);
+        return Ok(answer_timed(rt, &Request { times, ..request }, &around));
+    }
+    match times_of(rt, words, around.now, false) {
+        Ok(times) => Ok(answer_timed(rt, &Request { times, ..request }, &around)),
+        Err(status) => Err(status),
+    }
 }
 
 // Carries out a subcommand and returns its status.
@@ -67,21 +89,24 @@ fn answer_words(rt: &HostRuntime, name: &str, words: &ArgMatches<'_>) -> Status 
     match name {
         "list" => list::answer(rt, words),
         "late" => late::answer(rt, words),
+        "missed" => missed::answer(rt, words),
         "due" => due::answer(rt, words),
         "check" => check::answer(rt, words),
         "compare" => compare::answer(rt, words),
         "overlap" => overlap::answer(rt, words),
         "collisions" => collisions::answer(rt, words),
         "oncalendar" => oncalendar::answer(rt, words),
+        "systemd" => systemd::answer(rt, words),
+        "explain" if words.get_strs("file").is_some() => explain_tabs::answer(rt, words),
         "explain" => explain::answer(rt, words),
         "calendar" => calendar::answer(rt, words),
         "ics" => ics::answer(rt, words),
         "completions" => completions::answer(rt, words),
         _ => match request_of(name, words) {
-            Some(request) => match answer_request(rt, &request) {
+            Ok(request) => match answer_request(rt, name, words, request) {
                 Ok(status) | Err(status) => status,
             },
-            None => complain(rt, "a word is missing", Status::WrongWords),
+            Err(why) => complain(rt, why, Status::WrongWords),
         },
     }
 }
@@ -106,22 +131,26 @@ fn end(rt: &HostRuntime, status: Status) -> u8 {
     status.code()
 }
 
-// Carries out a subcommand and returns its exit status. `alarm`, `done` and `run` report failed
-// writes themselves.
+// Carries out a subcommand and returns its exit status. A name that is nearly right is followed by
+// a tip. `alarm`, `done` and `run` report failed writes themselves.
 fn answer_subcommand(rt: &HostRuntime, name: &str, words: &ArgMatches<'_>) -> u8 {
-    match name {
-        "alarm" => alarm::answer(rt, words).code(),
-        "done" => done::answer(rt, words).code(),
-        "run" => run::answer(rt, words).code(),
-        _ => end(rt, answer_words(rt, name, words)),
-    }
+    let status = match name {
+        "alarm" => alarm::answer(rt, words),
+        "done" => done::answer(rt, words),
+        "run" => run::answer(rt, words),
+        _ => {
+            let status = answer_words(rt, name, words);
+            return end(rt, tell_tip(rt, name, words, status));
+        }
+    };
+    tell_tip(rt, name, words, status).code()
 }
 
 fn answer_arguments(rt: &HostRuntime, arguments: &[String]) -> u8 {
-    let Ok(usages) = usages_of(rt.alloc(), program_of(arguments)) else {
+    let Ok(texts) = texts_of(rt.alloc(), program_of(arguments)) else {
         return give_up(rt, "out of memory", Status::WrongWords);
     };
-    let command = match command(rt.alloc(), usages.as_slice()) {
+    let command = match command(rt.alloc(), texts.as_slice(), arguments) {
         Ok(command) => command,
         Err(_) => return give_up(rt, "out of memory", Status::WrongWords),
     };

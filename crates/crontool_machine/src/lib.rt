@@ -1,8 +1,11 @@
-//! What subcommands of `crontool` share: access to the machine, the zones that crontabs name, and
-//! what options choose.
+//! What subcommands of `crontool` share: access to the machine, the zones that crontabs name, what
+//! options choose, how times are written, notes of runs, and tips about names that are nearly right.
 #![tactic(auto)]
 
 pub mod choices;
+pub mod looks;
 pub mod machine;
+pub mod notes;
 pub mod pair;
+pub mod tips;
 pub mod zones;

@@ -137,6 +137,16 @@ impl Surroundings {
         })
     }
 
+    /// The same without a message, for what follows one: a variable that can't be read counts as
+    /// not set, and the instant is the least.
+    pub(crate) fn quietly(rt: &HostRuntime) -> Surroundings {
+        Surroundings {
+            now: Timestamp::MIN,
+            tz: env::var(rt, "TZ").ok(),
+            folder: env::var(rt, "TZDIR").ok(),
+        }
+    }
+
     /// The places where zones are searched.
     pub fn places(&self) -> Places<'_> {
         Places {

@@ -1,5 +1,6 @@
 //! The arguments of a subcommand that takes two expressions.
 
+use crate::choices::form_of;
 use clap::ArgMatches;
 use cron_answers::pair::Pair;
 
@@ -10,5 +11,6 @@ pub fn pair_of<'a>(words: &ArgMatches<'a>) -> Option<Pair<'a>> {
         quartz: words.get_flag("quartz"),
         first: words.get_str("EXPRESSION")?,
         second: words.get_str("OTHER")?,
+        form: form_of(words),
     })
 }

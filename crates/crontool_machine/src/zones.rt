@@ -2,6 +2,7 @@
 
 use crate::machine::{Surroundings, no_memory};
 use cron_replies::status::Status;
+use cron_tab_agenda::TabFile;
 use cron_tab_lines::{Crontab, Line, NamedZone, read_line};
 use cron_tab_running::NamedOpen;
 use cron_zones::error::ZoneError;
@@ -21,6 +22,13 @@ fn begins_as_name(line: &[u8]) -> bool {
     false
 }
 
+/// The names of zones, and the zones by number.
+#[derive(Drop)]
+pub struct Numbered<'n, 'z> {
+    pub names: Vec<NamedZone<'n>>,
+    pub zones: Vec<TimeZone<'z>>,
+}
+
 /// The zones that `CRON_TZ` names in crontabs, each opened once.
 #[derive(Drop)]
 pub struct TabZones<'a> {
@@ -33,6 +41,19 @@ impl<'a> TabZones<'a> {
         TabZones {
             opened: Vec::new(alloc),
         }
+    }
+
+    /// Opens the zones that crontabs name, as `open` does.
+    pub fn of(
+        rt: &HostRuntime,
+        files: &[TabFile<'a>],
+        around: &'a Surroundings,
+    ) -> Result<TabZones<'a>, Status> {
+        let mut zones = TabZones::new(rt.alloc());
+        for file in files {
+            zones.open(rt, file.kind, file.bytes, around)?;
+        }
+        Ok(zones)
     }
 
     fn has(&self, name: &[u8]) -> bool {
@@ -133,5 +154,18 @@ impl<'a> TabZones<'a> {
             zones.push(opened.zone.time_zone())?;
         }
         Ok(zones)
+    }
+
+    /// The names of the zones, and the zones by number, as `names` and `behind` have them. If memory
+    /// runs out, that is written, and `Err` has the status of the subcommand.
+    pub fn numbered<'z>(
+        &'z self,
+        rt: &HostRuntime,
+        first: TimeZone<'z>,
+    ) -> Result<Numbered<'a, 'z>, Status> {
+        match (self.names(rt.alloc()), self.behind(rt.alloc(), first)) {
+            (Ok(names), Ok(zones)) => Ok(Numbered { names, zones }),
+            _ => Err(no_memory(rt)),
+        }
     }
 }

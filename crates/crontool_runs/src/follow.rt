@@ -141,7 +141,8 @@ pub(crate) fn run_counted(
 }
 
 /// Runs the entries of files without a limit. When a file changes, the run goes on with its new
-/// entries.
+/// entries. When no entry fires any more, it waits for a change, unless all files are standard
+/// input.
 pub(crate) fn run_following<'r>(
     rt: &'r HostRuntime,
     orders: &RunOrders<'_>,
@@ -167,6 +168,7 @@ pub(crate) fn run_following<'r>(
     };
     let orders = RunOrders {
         most: u64::MAX,
+        ends: names.iter().all(|name| *name == "-"),
         ..*orders
     };
     let ended = follow(

@@ -79,6 +79,7 @@ fn orders_of<'a>(words: &ArgMatches<'a>) -> Result<RunOrders<'a>, &'static str> 
         lateness,
         reboot: words.get_flag("reboot"),
         most: words.get_one::<u64>("count").unwrap_or(u64::MAX),
+        ends: true,
     })
 }
 

@@ -1,8 +1,9 @@
 //! The folder with the note of how far a run has come.
 
 use cron_replies::status::Status;
-use cron_tab_running::{Noted, read_note};
+use cron_tab_running::Noted;
 use crontool_machine::machine::{complain, no_memory, read_file, say_unread};
+use crontool_machine::notes::{note_path, noted_in};
 use std::fs::{File, OpenOptions, TryLockError};
 use std::io::{self, ErrorKind};
 
@@ -38,10 +39,8 @@ impl State {
     /// Locks a folder. If another run has it, or it can't be locked, the reason is written, and
     /// `Err` has the status of the subcommand.
     pub(crate) fn open(rt: &HostRuntime, folder: &str) -> Result<State, Status> {
-        let (Ok(path), Ok(lock_path)) = (
-            format!(in rt.alloc(); "{folder}/state"),
-            format!(in rt.alloc(); "{folder}/lock"),
-        ) else {
+        let path = note_path(rt, folder)?;
+        let Ok(lock_path) = format!(in rt.alloc(); "{folder}/lock") else {
             return Err(no_memory(rt));
         };
         Ok(State {
@@ -61,20 +60,6 @@ impl State {
             }
             Err(error) => return Err(say_unread(rt, path, &error)),
         };
-        match read_note(rt.alloc(), bytes.as_slice()) {
-            Ok(Some(noted)) => Ok(noted),
-            Ok(None) => Err(say_broken(rt, path)),
-            Err(_) => Err(no_memory(rt)),
-        }
-    }
-}
-
-fn say_broken(rt: &HostRuntime, path: &str) -> Status {
-    let told = eprintln!(rt;
-        "error: {path} is no note of a run, or one that is cut short, and is kept"
-    );
-    match told {
-        Ok(()) => Status::Unreadable,
-        Err(_) => Status::WriteFailed,
+        noted_in(rt, path, bytes.as_slice())
     }
 }

@@ -3,12 +3,13 @@
 ghost use Rattle.std.specs.Prelude.{◌<◌, ◌≤◌};
 ghost use Rattle.cron_answers.specs.Periods.{IsPeriod};
 
-use crate::list::tell_refused;
+use crate::list::{tabs_of, tell_refused};
+use crate::spans::{gather, say_missing};
 use clap::ArgMatches;
-use cron_answers::expression::{Expression, read};
+use cron_answers::expression::{Expression, read_as};
 use cron_answers::period::{Period, period_of};
 use cron_answers::trouble::Trouble;
-use cron_calendar::pages::{Shown, html_page, text_page};
+use cron_calendar::pages::{Shown, html_month, html_page, json_rows, text_page};
 use cron_calendar::plans::Plan;
 use cron_crontab::Expression as TabExpression;
 use cron_fires::ClockChanges;
@@ -17,14 +18,14 @@ use cron_tab_agenda::TabFile;
 use cron_tab_lines::{Crontab, Entry, Line, Lines, NamedZone, zone_below};
 use cron_tab_warnings::{follows_clock, text_of};
 use crontool_machine::choices::changes_of;
+use crontool_machine::looks::wants_colour;
 use crontool_machine::machine::{
-    Surroundings, complain, no_memory, open_zone, read_file, say_trouble, say_unread, write_page,
+    Surroundings, complain, controls_of, no_memory, open_zone, read_all, say_trouble, write_page,
 };
 use crontool_machine::zones::TabZones;
 use jiff::tz::TimeZone;
 use std::alloc::{AllocError, Global};
 use std::env;
-use std::io::IsTerminal;
 
 /// An expression with its name in the calendar: its text, or the line of its entry.
 #[derive(Drop)]
@@ -33,16 +34,17 @@ struct Named<'a> {
     expression: Expression,
 }
 
-// Adds the expressions of the command line. If a text is no expression, the reason is written, and
-// `Err` has the status of the subcommand.
+// Adds the expressions of the command line, of Quartz if `quartz`. If a text is no expression, the
+// reason is written, and `Err` has the status of the subcommand.
 fn add_words<'a>(
     rt: &HostRuntime,
     named: &mut Vec<Named<'a>>,
+    quartz: bool,
     texts: &[&'a str],
 ) -> Result<(), Status> {
     for text in texts {
         let name = text.as_bytes();
-        match read(*text) {
+        match read_as(quartz, *text) {
             Ok(expression) => match named.push(Named { name, expression }) {
                 Ok(()) => {}
                 Err(_) => return Err(no_memory(rt)),
@@ -99,15 +101,6 @@ fn add_entries<'a>(
     Ok(left_out)
 }
 
-/// A user's crontab as the only file that is read, so that messages don't name it.
-pub(crate) fn user_tab(bytes: &[u8]) -> TabFile<'_> {
-    TabFile {
-        kind: Crontab::User,
-        name: None,
-        bytes,
-    }
-}
-
 // The expressions in the form that a calendar takes. The rule at clock changes is `chosen`, or each
 // expression's own if that is `None`.
 fn plans_of<'a>(
@@ -134,11 +127,6 @@ fn columns(rt: &HostRuntime) -> u64 {
     }
 }
 
-// Whether numbers are green: if standard output is a terminal, and NO_COLOR isn't set.
-fn wants_colour(rt: &HostRuntime) -> bool {
-    env::var(rt, "NO_COLOR").is_err() && rt.stdout().is_terminal()
-}
-
 // The number of months of 38 columns that fit side by side, from 1 to 12. The last needs only 35.
 fn months_across(width: u64) -> u32
     ensures { (0 < result) × (result ≤ 12) }
@@ -153,7 +141,25 @@ fn months_across(width: u64) -> u32
     }
 }
 
-// Makes the calendar of `plans`, the expressions, as HTML or as text, and writes it.
+// Makes the page of HTML of a year or of a month.
+fn html_of<'a>(
+    rt: &HostRuntime,
+    period: Period,
+    plans: &'a [Plan<'a>],
+    zone: &TimeZone<'_>,
+    zone_name: &'a str,
+) -> Result<Vec<u8>, AllocError>
+    requires { IsPeriod period }
+{
+    let name = zone_name.as_bytes();
+    if period.end - period.first == 1 {
+        html_month(rt.alloc(), plans, period.first, zone, name)
+    } else {
+        html_page(rt.alloc(), plans, period.year, zone, name)
+    }
+}
+
+// Makes the calendar of `plans`, the expressions, as HTML, JSON or text, and writes it.
 fn show<'a>(
     rt: &HostRuntime,
     words: &ArgMatches<'_>,
@@ -164,15 +170,22 @@ fn show<'a>(
 ) -> Status
     requires { IsPeriod period }
 {
+    let colour = match wants_colour(rt, words) {
+        Ok(colour) => colour,
+        Err(status) => return status,
+    };
     let page = if words.get_flag("html") {
-        html_page(rt.alloc(), plans, period.year, zone, zone_name.as_bytes())
+        html_of(rt, period, plans, zone, zone_name)
+    } else if words.get_flag("json") {
+        json_rows(rt.alloc(), plans, period.first, period.end, zone)
     } else {
         let width = words.get_one::<u64>("width").unwrap_or(columns(rt));
         let shown = Shown {
             first: period.first,
             end: period.end,
             across: months_across(width),
-            colour: wants_colour(rt),
+            colour,
+            controls: controls_of(&rt.stdout()),
         };
         text_page(rt.alloc(), plans, shown, zone)
     };
@@ -209,45 +222,37 @@ fn show_named<'a>(
 
 /// Refuses a command line without an expression and without a crontab: that is written, and `Err`
 /// has the status of the subcommand.
-pub(crate) fn demand_entries(rt: &HostRuntime, words: &ArgMatches<'_>) -> Result<(), Status> {
-    let given = words
-        .get_strs("EXPRESSION")
-        .is_some_and(|texts| !texts.is_empty());
-    if given || words.get_str("file").is_some() {
+pub(crate) fn demand_entries(
+    rt: &HostRuntime,
+    texts: &[&str],
+    files: &[&str],
+) -> Result<(), Status> {
+    if !texts.is_empty() || !files.is_empty() {
         return Ok(());
     }
     Err(complain(rt, "an EXPRESSION or --file is wanted", Status::WrongWords))
 }
 
-/// Reads the crontab of `--file`, or returns no bytes if none is named. If it can't be read, the
-/// reason is written, and `Err` has the status of the subcommand.
-pub(crate) fn file_of(rt: &HostRuntime, words: &ArgMatches<'_>) -> Result<Vec<u8>, Status> {
-    let Some(path) = words.get_str("file") else {
-        return Ok(Vec::new(rt.alloc()));
-    };
-    match read_file(rt, path) {
-        Ok(file) => Ok(file),
-        Err(error) => Err(say_unread(rt, path, &error)),
-    }
-}
-
-// Adds the entries of a crontab to `named`, and reports which lines are refused and whether entries
+// Adds the entries of crontabs to `named`, and reports which lines are refused and whether entries
 // are left out. The status is `No` if some are.
-fn read_tab<'a>(
+fn read_tabs<'a>(
     rt: &HostRuntime,
-    file: &'a [u8],
+    files: &[TabFile<'a>],
     around: &'a Surroundings,
     named: &mut Vec<Named<'a>>,
 ) -> Result<Status, Status> {
-    let mut tabs = TabZones::new(rt.alloc());
-    tabs.open(rt, Crontab::User, file, around)?;
+    let tabs = TabZones::of(rt, files, around)?;
     let Ok(names) = tabs.names(rt.alloc()) else {
         return Err(no_memory(rt));
     };
-    let Ok(left_out) = add_entries(named, file, names.as_slice()) else {
-        return Err(no_memory(rt));
-    };
-    let told = tell_refused(rt, &user_tab(file), names.as_slice());
+    let (mut told, mut left_out) = (Status::Done, false);
+    for file in files {
+        let Ok(left) = add_entries(named, file.bytes, names.as_slice()) else {
+            return Err(no_memory(rt));
+        };
+        told = told.worse(tell_refused(rt, file, names.as_slice()));
+        left_out = left_out || left;
+    }
     if left_out {
         let why = "entries below CRON_TZ are left out of a calendar";
         return Ok(told.worse(complain(rt, why, Status::No)));
@@ -255,8 +260,7 @@ fn read_tab<'a>(
     Ok(told)
 }
 
-// Reads the expressions and the crontab that the words name, and writes the calendar of their
-// fires.
+// Reads the expressions and the crontabs that the words name, and writes the calendar of their fires.
 fn show_words(
     rt: &HostRuntime,
     words: &ArgMatches<'_>,
@@ -265,14 +269,19 @@ fn show_words(
 ) -> Result<Status, Status>
     requires { IsPeriod period }
 {
-    demand_entries(rt, words)?;
-    let file = file_of(rt, words)?;
+    let names = gather(rt, words, &["file"])?;
+    let names = names.as_slice();
+    demand_entries(rt, words.get_strs("EXPRESSION").unwrap_or(&[]), names)?;
+    let read = read_all(rt, names)?;
+    let Ok(files) = tabs_of(rt.alloc(), Crontab::User, names, read.as_slice()) else {
+        return Err(no_memory(rt));
+    };
     let around = Surroundings::of(rt)?;
     let mut named = Vec::new(rt.alloc());
     if let Some(texts) = words.get_strs("EXPRESSION") {
-        add_words(rt, &mut named, texts)?;
+        add_words(rt, &mut named, words.get_flag("quartz"), texts)?;
     }
-    let told = read_tab(rt, file.as_slice(), &around, &mut named)?;
+    let told = read_tabs(rt, files.as_slice(), &around, &mut named)?;
     let shown = show_named(rt, words, period, named.as_slice(), zone, &around)?;
     Ok(told.worse(shown))
 }
@@ -280,7 +289,7 @@ fn show_words(
 /// Carries out the subcommand `calendar`, and returns its status.
 pub fn answer(rt: &HostRuntime, words: &ArgMatches<'_>) -> Status {
     let Some(zone) = words.get_str("zone") else {
-        return complain(rt, "a word is missing", Status::WrongWords);
+        return say_missing(rt);
     };
     let period = match words.get_str("PERIOD") {
         Some(text) => period_of(text),

@@ -1,16 +1,17 @@
 //! The subcommand `check`: which lines of files are refused, and which are probably mistakes.
 
+use crate::spans::{read_instant, say_missing};
 use clap::ArgMatches;
-use cron_answers::instant::instant_of;
-use cron_answers::trouble::Trouble;
 use cron_checking::check::{Outcome, check as check_expressions};
 use cron_checking::line::{Mode, Telling};
 use cron_replies::status::Status;
 use cron_tab_answers::check::{Wanted, check};
-use cron_tab_lines::Crontab;
+use cron_tab_context::{Asked, Found, list_found};
+use cron_tab_lines::{Crontab, NamedZone};
 use cron_writer::watched::Watched;
+use crontool_machine::choices::kind_of;
 use crontool_machine::machine::{
-    Surroundings, complain, controls_of, no_memory, open_zone, read_file, say_trouble, say_unread,
+    Surroundings, controls_of, no_memory, open_zone, read_file, say_unread,
 };
 use crontool_machine::zones::TabZones;
 use jiff::Timestamp;
@@ -32,38 +33,95 @@ pub(crate) fn front_of(alloc: Global, name: Option<&str>) -> Result<String, Allo
     }
 }
 
+/// Which warnings of a crontab are written.
+#[derive(Drop)]
+enum Warnings<'a> {
+    None,
+    /// Those of lines alone, as the zone can't be opened.
+    OfLines,
+    /// Those of lines, and those by what is around entries, which look at a year.
+    All(Timestamp, TimeZone<'a>),
+}
+
+/// A crontab that is checked.
+#[derive(Clone, Copy)]
+struct Tab<'a> {
+    kind: Crontab,
+    /// The text in front of each line's number.
+    front: &'a str,
+    path: &'a str,
+    bytes: &'a [u8],
+}
+
+// The warnings of a crontab by what is around its entries, if these are written.
+fn found_in<'x>(
+    alloc: Global,
+    tab: &Tab<'x>,
+    warnings: &Warnings<'x>,
+    zones: &'x TabZones<'_>,
+    names: &'x [NamedZone<'x>],
+) -> Result<Vec<Found>, AllocError> {
+    let Warnings::All(start, zone) = warnings else {
+        return Ok(Vec::new(alloc));
+    };
+    let asked = Asked {
+        kind: tab.kind,
+        path: tab.path,
+        names,
+        start: *start,
+    };
+    let zones = zones.behind(alloc, *zone)?;
+    list_found(alloc, &asked, zones.as_slice(), tab.bytes)
+}
+
 // Checks the lines of a crontab, after opening the zones that it names. `Err` has the status if the
 // crontab can't be checked.
-fn check_tab(
-    rt: &HostRuntime,
-    kind: Crontab,
-    warn: bool,
-    front: &str,
-    file: &str,
-) -> Result<Status, Status> {
-    let bytes = match read_file(rt, file) {
-        Ok(bytes) => bytes,
-        Err(error) => return Err(say_unread(rt, file, &error)),
-    };
+fn check_tab(rt: &HostRuntime, tab: &Tab<'_>, warnings: &Warnings<'_>) -> Result<Status, Status> {
     let around = Surroundings::of(rt)?;
     let mut zones = TabZones::new(rt.alloc());
-    zones.open(rt, kind, bytes.as_slice(), &around)?;
+    zones.open(rt, tab.kind, tab.bytes, &around)?;
     let Ok(names) = zones.names(rt.alloc()) else {
         return Err(no_memory(rt));
     };
+    let names = names.as_slice();
+    let Ok(found) = found_in(rt.alloc(), tab, warnings, &zones, names) else {
+        return Err(no_memory(rt));
+    };
     let wanted = Wanted {
-        kind,
-        front,
-        warn,
+        kind: tab.kind,
+        front: tab.front,
+        warn: !matches!(warnings, Warnings::None),
+        found: found.as_slice(),
         needs_feed: true,
         controls: controls_of(&rt.stdout()),
-        names: names.as_slice(),
+        names,
     };
     let mut out = Watched::new(io::writer(rt));
-    match check(rt.alloc(), &wanted, bytes.as_slice(), &mut out) {
+    match check(rt.alloc(), &wanted, tab.bytes, &mut out) {
         Status::Unreadable => Err(no_memory(rt)),
         status => Ok(status),
     }
+}
+
+// Reads a crontab, and checks its lines. `Err` has the status if it can't be read or checked.
+fn check_tab_file(
+    rt: &HostRuntime,
+    kind: Crontab,
+    warnings: &Warnings<'_>,
+    front: &str,
+    path: &str,
+) -> Result<Status, Status> {
+    let bytes = match read_file(rt, path) {
+        Ok(bytes) => bytes,
+        Err(error) => return Err(say_unread(rt, path, &error)),
+    };
+    let tab = Tab {
+        kind,
+        front,
+        path,
+        bytes: bytes.as_slice(),
+    };
+    check_tab(rt, &tab, warnings)
 }
 
 fn status_of(end: Outcome) -> Status {
@@ -108,8 +166,8 @@ fn check_file(rt: &HostRuntime, how: &Telling<'_>, file: &str) -> Status {
 /// What is checked of each file.
 #[derive(Drop)]
 enum Kind<'a> {
-    /// A crontab: of a user or of the system, and whether warnings are written.
-    Tab(Crontab, bool),
+    /// A crontab, of a user or of the system.
+    Tab(Crontab, Warnings<'a>),
     /// The faults of lines that are no expression.
     Faults,
     /// The faults of lines that are no expression, and the sets of the others.
@@ -126,8 +184,8 @@ fn check_one(rt: &HostRuntime, kind: &Kind<'_>, file: &str, count: usize) -> Sta
     };
     let front = front.as_str();
     let mode = match kind {
-        Kind::Tab(kind, warn) => {
-            return match check_tab(rt, *kind, *warn, front, file) {
+        Kind::Tab(kind, warnings) => {
+            return match check_tab_file(rt, *kind, warnings, front, file) {
                 Ok(status) | Err(status) => status,
             };
         }
@@ -151,46 +209,73 @@ fn check_all(rt: &HostRuntime, kind: &Kind<'_>, files: &[&str]) -> Status {
     worst
 }
 
-// What is checked if no first fires are requested.
-fn kind_of<'a>(words: &ArgMatches<'_>) -> Kind<'a> {
+// What is checked without a zone: crontabs without warnings, or expressions without their first
+// fires. `None` if a zone is needed.
+fn plain_kind<'a>(words: &ArgMatches<'_>) -> Option<Kind<'a>> {
     if words.get_flag("sets") {
-        return Kind::Sets;
+        return Some(Kind::Sets);
     }
     if words.get_flag("expressions") {
-        return Kind::Faults;
+        return match words.get_str("next") {
+            Some(_) => None,
+            None => Some(Kind::Faults),
+        };
     }
-    let kind = if words.get_flag("system") {
-        Crontab::System
-    } else {
-        Crontab::User
-    };
-    Kind::Tab(kind, words.get_flag("warn"))
+    if words.get_flag("no-warn") {
+        return Some(Kind::Tab(kind_of(words), Warnings::None));
+    }
+    None
 }
 
-// Checks files. If START is given by `--next`, also writes the first fire of each expression after
-// it, in `zone`.
+// Checks crontabs. Warnings look at a year in `zone`. If that can't be opened, the reason is
+// written, and lines are checked all the same. The greater status counts.
+fn check_tabs(
+    rt: &HostRuntime,
+    words: &ArgMatches<'_>,
+    zone: &str,
+    around: &Surroundings,
+    files: &[&str],
+) -> Result<Status, Status> {
+    let kind = kind_of(words);
+    let opened = match open_zone(rt, zone, around) {
+        Ok(opened) => opened,
+        Err(status) => {
+            let kind = Kind::Tab(kind, Warnings::OfLines);
+            return Ok(status.worse(check_all(rt, &kind, files)));
+        }
+    };
+    let zone = opened.time_zone();
+    let start = words.get_str("after").unwrap_or("now");
+    let start = read_instant(rt, start, &zone, around.now)?;
+    let kind = Kind::Tab(kind, Warnings::All(start, zone));
+    Ok(check_all(rt, &kind, files))
+}
+
+// Checks files. If START is given by `--next`, they have expressions, and the first fire of each
+// after it, in `zone`, is written.
 fn check_files(
     rt: &HostRuntime,
     words: &ArgMatches<'_>,
     zone: &str,
     files: &[&str],
 ) -> Result<Status, Status> {
-    let Some(start) = words.get_str("next") else {
-        return Ok(check_all(rt, &kind_of(words), files));
-    };
+    if let Some(kind) = plain_kind(words) {
+        return Ok(check_all(rt, &kind, files));
+    }
     let around = Surroundings::of(rt)?;
+    let Some(start) = words.get_str("next") else {
+        return check_tabs(rt, words, zone, &around, files);
+    };
     let opened = open_zone(rt, zone, &around)?;
     let zone = opened.time_zone();
-    match instant_of(start, &zone, around.now) {
-        Some(start) => Ok(check_all(rt, &Kind::Next(start, zone), files)),
-        None => Err(say_trouble(rt, &Trouble::Instant(start))),
-    }
+    let start = read_instant(rt, start, &zone, around.now)?;
+    Ok(check_all(rt, &Kind::Next(start, zone), files))
 }
 
 /// Carries out the subcommand `check`, and returns its status.
 pub fn answer(rt: &HostRuntime, words: &ArgMatches<'_>) -> Status {
     let (Some(files), Some(zone)) = (words.get_strs("FILE"), words.get_str("zone")) else {
-        return complain(rt, "a word is missing", Status::WrongWords);
+        return say_missing(rt);
     };
     match check_files(rt, words, zone, files) {
         Ok(status) | Err(status) => status,

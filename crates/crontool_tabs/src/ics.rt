@@ -1,7 +1,8 @@
 //! The subcommand `ics`, which writes fires as a calendar of RFC 5545.
 
-use crate::calendar::{demand_entries, expression_of, file_of, line_name, user_tab};
-use crate::list::{read_span, tell_refused};
+use crate::calendar::{demand_entries, expression_of, line_name};
+use crate::list::{tabs_of, tell_refused};
+use crate::spans::{front_span, gather, read_ends, say_missing};
 use clap::ArgMatches;
 use cron_answers::expression::{Expression, read_as};
 use cron_answers::trouble::Trouble;
@@ -12,15 +13,15 @@ use cron_ics::entry::Entry;
 use cron_ics::error::IcsError;
 use cron_ics::write::write_calendar;
 use cron_replies::status::Status;
+use cron_tab_agenda::TabFile;
 use cron_tab_lines::{Crontab, Line, Lines, NamedZone, zone_below};
 use cron_tab_warnings::text_of;
 use cron_writer::watched::Watched;
 use crontool_machine::choices::changes_of;
 use crontool_machine::machine::{
-    Surroundings, complain, no_memory, open_zone, read_file, say_trouble,
+    Surroundings, complain, no_memory, open_zone, read_all, read_file, say_trouble,
 };
 use crontool_machine::zones::TabZones;
-use jiff::Timestamp;
 use jiff::tz::TimeZone;
 use std::alloc::{AllocError, Global};
 use std::io;
@@ -155,58 +156,30 @@ fn domain_of<'a>(rt: &HostRuntime, text: &'a [u8], is_word: bool) -> Result<Doma
     }
 }
 
-/// Which fires become events, and when the calendar is written.
+/// How long an event is, in minutes, and the greatest number of events.
 #[derive(Clone, Copy)]
-struct Asked {
-    start: Timestamp,
-    end: Timestamp,
+struct Limits {
     minutes: u32,
     most: usize,
-    now: Timestamp,
 }
 
-// Which fires become events. If a word is wrong, that is written, and `Err` has the status of the
+// The limits of the calendar. If one is wrong, that is written, and `Err` has the status of the
 // subcommand.
-fn asked_of(
-    rt: &HostRuntime,
-    words: &ArgMatches<'_>,
-    zone: &TimeZone<'_>,
-    now: Timestamp,
-) -> Result<Asked, Status> {
+fn limits_of(rt: &HostRuntime, words: &ArgMatches<'_>) -> Result<Limits, Status> {
     let minutes = words.get_one::<u64>("minutes").unwrap_or(1);
     if minutes < 1 || minutes > MOST_MINUTES {
         return Err(complain(rt, "--minutes is 1 to 527040", Status::WrongWords));
     }
-    let (Some(start), Some(end)) = (words.get_str("START"), words.get_str("END")) else {
-        return Err(complain(rt, "a word is missing", Status::WrongWords));
-    };
-    let (start, end) = read_span(rt, start, end, zone, now)?;
-    Ok(Asked {
-        start,
-        end,
+    Ok(Limits {
         minutes: minutes as u32,
         most: words.get_one::<u64>("most").unwrap_or(MOST) as usize,
-        now,
     })
 }
 
 // Writes the calendar of `entries`, or why there is none.
-fn write_entries(
-    rt: &HostRuntime,
-    entries: &[Entry<'_>],
-    asked: Asked,
-    domain: Domain<'_>,
-) -> Status {
-    let wanted = Wanted {
-        start: asked.start,
-        end: asked.end,
-        minutes: asked.minutes,
-        most: asked.most,
-        written: asked.now,
-        domain,
-    };
+fn write_entries(rt: &HostRuntime, entries: &[Entry<'_>], wanted: &Wanted<'_>) -> Status {
     let mut out = Watched::new(io::writer(rt));
-    match write_calendar(rt.alloc(), entries, &wanted, &mut out) {
+    match write_calendar(rt.alloc(), entries, wanted, &mut out) {
         Ok(()) if out.has_failed() => Status::WriteFailed,
         Ok(()) => Status::Done,
         Err(IcsError::NoEvents) => complain(
@@ -223,63 +196,108 @@ fn write_entries(
     }
 }
 
-// Writes the calendar that the words request, after a report on the refused lines of the crontab.
+// Adds the entries of crontabs, and reports which lines are refused.
+fn read_tabs<'a>(
+    rt: &HostRuntime,
+    files: &[TabFile<'a>],
+    names: &[NamedZone<'_>],
+    named: &mut Vec<Named<'a>>,
+) -> Result<Status, Status> {
+    let mut told = Status::Done;
+    for file in files {
+        if add_entries(named, file.bytes, names).is_err() {
+            return Err(no_memory(rt));
+        }
+        told = told.worse(tell_refused(rt, file, names));
+    }
+    Ok(told)
+}
+
+// Writes the calendar of expressions, which fire in `zone`, and of crontabs, whose entries fire there
+// too or in the zones that `CRON_TZ` names. A report on the refused lines of the crontabs comes
+// first.
+fn write_zoned<'x>(
+    rt: &HostRuntime,
+    words: &ArgMatches<'_>,
+    (texts, files): (&[&'x str], &[TabFile<'x>]),
+    wanted: &Wanted<'_>,
+    zone: TimeZone<'_>,
+    around: &'x Surroundings,
+) -> Result<Status, Status> {
+    let tabs = TabZones::of(rt, files, around)?;
+    let numbered = tabs.numbered(rt, zone)?;
+    let mut named = Vec::new(rt.alloc());
+    add_words(rt, &mut named, texts, words.get_flag("quartz"))?;
+    let told = read_tabs(rt, files, numbered.names.as_slice(), &mut named)?;
+    match entries_of(
+        rt.alloc(),
+        named.as_slice(),
+        numbered.zones.as_slice(),
+        changes_of(words),
+    ) {
+        Ok(entries) => Ok(told.worse(write_entries(rt, entries.as_slice(), wanted))),
+        Err(_) => Err(no_memory(rt)),
+    }
+}
+
+// Writes the calendar that the words request.
 fn write_words(
     rt: &HostRuntime,
     words: &ArgMatches<'_>,
-    file: &[u8],
+    files: &[TabFile<'_>],
     zone: &str,
     domain: Domain<'_>,
 ) -> Result<Status, Status> {
+    let limits = limits_of(rt, words)?;
+    let given = gather(rt, words, &["START", "END", "EXPRESSION"])?;
     let around = Surroundings::of(rt)?;
     let opened = open_zone(rt, zone, &around)?;
     let zone = opened.time_zone();
-    let asked = asked_of(rt, words, &zone, around.now)?;
-    let mut tabs = TabZones::new(rt.alloc());
-    tabs.open(rt, Crontab::User, file, &around)?;
-    let (Ok(names), Ok(zones)) = (tabs.names(rt.alloc()), tabs.behind(rt.alloc(), zone)) else {
-        return Err(no_memory(rt));
+    let Some((span, texts)) = front_span(given.as_slice(), &zone, around.now) else {
+        return Err(say_missing(rt));
     };
-    let mut named = Vec::new(rt.alloc());
-    if let Some(texts) = words.get_strs("EXPRESSION") {
-        add_words(rt, &mut named, texts, words.get_flag("quartz"))?;
-    }
-    if add_entries(&mut named, file, names.as_slice()).is_err() {
-        return Err(no_memory(rt));
-    }
-    let told = tell_refused(rt, &user_tab(file), names.as_slice());
-    let chosen = changes_of(words);
-    match entries_of(rt.alloc(), named.as_slice(), zones.as_slice(), chosen) {
-        Ok(entries) => Ok(told.worse(write_entries(rt, entries.as_slice(), asked, domain))),
-        Err(_) => Err(no_memory(rt)),
-    }
+    let (start, end) = read_ends(rt, &span, &zone, around.now)?;
+    demand_entries(rt, texts, words.get_strs("file").unwrap_or(&[]))?;
+    let wanted = Wanted {
+        start,
+        end,
+        minutes: limits.minutes,
+        most: limits.most,
+        written: around.now,
+        domain,
+    };
+    write_zoned(rt, words, (texts, files), &wanted, zone, &around)
 }
 
 // Writes the calendar with UIDs that end with the chosen domain, or else the host's name.
 fn write_named(
     rt: &HostRuntime,
     words: &ArgMatches<'_>,
-    file: &[u8],
+    files: &[TabFile<'_>],
     zone: &str,
 ) -> Result<Status, Status> {
     let text = domain_text(rt, words)?;
     let is_word = words.get_str("uid-domain").is_some();
     let domain = domain_of(rt, text.as_slice(), is_word)?;
-    write_words(rt, words, file, zone, domain)
+    write_words(rt, words, files, zone, domain)
+}
+
+// Reads the crontabs that the words name, and writes the calendar.
+fn write_files(rt: &HostRuntime, words: &ArgMatches<'_>, zone: &str) -> Result<Status, Status> {
+    let names = words.get_strs("file").unwrap_or(&[]);
+    let read = read_all(rt, names)?;
+    match tabs_of(rt.alloc(), Crontab::User, names, read.as_slice()) {
+        Ok(files) => write_named(rt, words, files.as_slice(), zone),
+        Err(_) => Err(no_memory(rt)),
+    }
 }
 
 /// Carries out the subcommand `ics`, and returns its status.
 pub fn answer(rt: &HostRuntime, words: &ArgMatches<'_>) -> Status {
-    let Some(zone) = words.get_str("zone") else {
-        return complain(rt, "a word is missing", Status::WrongWords);
-    };
-    if let Err(status) = demand_entries(rt, words) {
-        return status;
-    }
-    match file_of(rt, words) {
-        Ok(file) => match write_named(rt, words, file.as_slice(), zone) {
+    match words.get_str("zone") {
+        Some(zone) => match write_files(rt, words, zone) {
             Ok(status) | Err(status) => status,
         },
-        Err(status) => status,
+        None => say_missing(rt),
     }
 }

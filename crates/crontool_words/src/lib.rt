@@ -2,8 +2,10 @@
 //! and how shells complete them.
 #![tactic(auto)]
 
+mod calendars;
 pub mod commands;
 pub mod completions;
+mod missing;
 mod runs;
 mod subcommands;
 mod words;

@@ -9,6 +9,10 @@ pub(crate) const RUN: Subcommand = Subcommand {
     name: "run",
     about: "Writes the command of each entry of crontabs when it fires",
     usages: &[],
+    examples: [
+        "run jobs.crontab",
+        "run --shell --state /var/lib/cron jobs.crontab",
+    ],
     words: &[
         FILES,
         Word("shell", Kind::Flag, &[], "Lines that a shell runs"),
@@ -61,5 +65,6 @@ pub(crate) const ALARM: Subcommand = Subcommand {
     name: "alarm",
     about: "Writes a line at each fire of an expression, when it comes",
     usages: &[],
+    examples: ["alarm '0 * * * *'", "alarm @daily --count 1 --zone UTC"],
     words: &[EXPRESSION, QUARTZ, ZONE, ONCE, AS_SHOWN, RUNS],
 };

@@ -1,9 +1,12 @@
 //! The subcommands, each with its words: the arguments and options of its line.
 
+use crate::calendars::{CALENDAR, ICS};
+use crate::missing::{DONE, DUE, LATE, MISSED};
 use crate::runs::{ALARM, RUN};
 use crate::words::{
-    AS_SHOWN, END, EXPRESSION, EXPRESSIONS, FILE, FILES, JSON, Kind, ONCE, OTHER, QUARTZ, Rule,
-    START, SYSTEM, Word, ZONE,
+    A_FILE, AFTER, AFTER_START, AN_EXPRESSION, AN_OBJECT, ANOTHER, AS_SHOWN, COLOR, END,
+    EXPRESSION, FILE, FILES, JSON, JSON_ROWS, Kind, ONCE, OTHER, QUARTZ, Rule, START, SYSTEM,
+    TIME_FORMAT, Word, ZONE,
 };
 
 /// A subcommand: its name, what the help says about it, and its arguments and options, the words.
@@ -14,55 +17,103 @@ pub(crate) struct Subcommand {
     /// The lines of usage that the help shows in place of those made from the words. They omit the
     /// names of the program and the subcommand.
     pub(crate) usages: &'static [&'static str],
+    /// Two lines that the help shows as examples, without the name `crontool`.
+    pub(crate) examples: [&'static str; 2],
     pub(crate) words: &'static [Word],
 }
 
 const NEXT: Subcommand = Subcommand {
     name: "next",
     about: "Lists the next fires",
-    usages: &[],
+    usages: &["[OPTIONS] [N] <EXPRESSION>"],
+    examples: [
+        "next '30 9 * * mon-fri' --zone Europe/Berlin",
+        "next 1 @daily --back",
+    ],
     words: &[
-        Word("N", Kind::GivenNumber, &[], "How many fires at most"),
-        EXPRESSION,
+        Word(
+            "EXPRESSION",
+            Kind::Many(1),
+            &[],
+            "A cron expression; a number before it is --count",
+        ),
+        Word(
+            "count",
+            Kind::Count,
+            &[],
+            "How many fires at most: 5 if left out",
+        ),
         QUARTZ,
         ZONE,
         ONCE,
         AS_SHOWN,
         JSON,
+        TIME_FORMAT,
+        COLOR,
         Word(
             "back",
             Kind::Flag,
             &[],
             "The last fires before START, the latest first",
         ),
-        Word(
-            "after",
-            Kind::Default("START", "now"),
-            &[],
-            "The instant after which they come, or with --back before which",
-        ),
+        AFTER,
     ],
 };
 
 const BETWEEN: Subcommand = Subcommand {
     name: "between",
-    about: "Lists the fires after START, up to and with END",
-    usages: &[],
-    words: &[START, END, EXPRESSION, QUARTZ, ZONE, ONCE, AS_SHOWN, JSON],
+    about: "Lists the fires after START, up to and with END, or of a DAY",
+    usages: &[
+        "[OPTIONS] <START> <END> <EXPRESSION>",
+        "[OPTIONS] <DAY> <EXPRESSION>",
+    ],
+    examples: [
+        "between today '0 */6 * * *'",
+        "between now @1900000000 '0 0 1 1 *' --json",
+    ],
+    words: &[
+        START,
+        END,
+        Word("EXPRESSION", Kind::Maybe, &[], "A cron expression"),
+        QUARTZ,
+        ZONE,
+        ONCE,
+        AS_SHOWN,
+        JSON,
+        TIME_FORMAT,
+    ],
 };
 
 const LIST: Subcommand = Subcommand {
     name: "list",
-    about: "Lists the fires of the entries of crontabs after START, up to and with END",
+    about: "Lists the fires of crontabs, of the next 24 hours unless told: crontab -l | crontool list -",
     usages: &[
+        "[OPTIONS] <FILE>...",
         "[OPTIONS] <START> <END> <FILE>...",
+        "[OPTIONS] <DAY> <FILE>...",
         "[OPTIONS] --count <N> [--after <START>] <FILE>...",
     ],
+    examples: [
+        "list tonight jobs.crontab",
+        "list --count 10 jobs.crontab backup.crontab",
+    ],
     words: &[
-        FILES,
+        Word(
+            "START|FILE",
+            Kind::Given,
+            &[],
+            "An instant, a day, a month or tonight; or a file",
+        ),
+        Word("END|FILE", Kind::Maybe, &[], "An instant; or a file"),
+        Word(
+            "FILE",
+            Kind::Many(0),
+            &[],
+            "A file, or - for standard input; ./today is the file today",
+        ),
         Word(
             "count",
-            Kind::Number("N"),
+            Kind::Count,
             &[],
             "The first N fires, without START and END",
         ),
@@ -70,64 +121,15 @@ const LIST: Subcommand = Subcommand {
             "after",
             Kind::Choice("START"),
             &[Rule::With("count")],
-            "After which they come: now if left out",
+            AFTER_START,
         ),
         SYSTEM,
         JSON,
+        TIME_FORMAT,
+        COLOR,
         ZONE,
         ONCE,
         AS_SHOWN,
-    ],
-};
-
-const LATE: Subcommand = Subcommand {
-    name: "late",
-    about: "Says whether a fire was missed since the last run, by its status too",
-    usages: &[],
-    words: &[
-        EXPRESSION,
-        QUARTZ,
-        Word(
-            "last",
-            Kind::Needed("INSTANT"),
-            &[],
-            "The instant of the last run",
-        ),
-        Word(
-            "grace",
-            Kind::NeededNumber("SECONDS"),
-            &[],
-            "How long after a fire its run may be noted",
-        ),
-        ZONE,
-        ONCE,
-        AS_SHOWN,
-    ],
-};
-
-const DUE: Subcommand = Subcommand {
-    name: "due",
-    about: "Lists the fires that came due after the one that a stamp notes",
-    usages: &[],
-    words: &[
-        Word("STAMP", Kind::Given, &[], "A file, as `done` writes it"),
-        EXPRESSION,
-        QUARTZ,
-        ZONE,
-        ONCE,
-        AS_SHOWN,
-        JSON,
-        Word("latest", Kind::Flag, &[], "The last of them alone"),
-    ],
-};
-
-const DONE: Subcommand = Subcommand {
-    name: "done",
-    about: "Notes a fire in a stamp, unless it notes a later one",
-    usages: &[],
-    words: &[
-        Word("STAMP", Kind::Given, &[], "A file"),
-        Word("FIRE", Kind::Given, &[], "A fire as it was printed"),
     ],
 };
 
@@ -135,14 +137,35 @@ const CHECK: Subcommand = Subcommand {
     name: "check",
     about: "Tells which lines of crontabs are refused",
     usages: &[],
+    examples: [
+        "check jobs.crontab backup.crontab",
+        "check --system --warn /etc/crontab",
+    ],
     words: &[
         FILES,
         SYSTEM,
-        Word("warn", Kind::Flag, &[], "Tells also what may not be meant"),
+        Word("no-warn", Kind::Flag, &[], "Leaves out warnings"),
+        Word(
+            "warn",
+            Kind::Flag,
+            &[Rule::Without("no-warn")],
+            "Warns, as without this",
+        ),
+        Word(
+            "after",
+            Kind::Choice("START"),
+            &[],
+            "Warnings look at the year after START, or after now",
+        ),
         Word(
             "expressions",
             Kind::Flag,
-            &[Rule::Without("system"), Rule::Without("warn")],
+            &[
+                Rule::Without("system"),
+                Rule::Without("warn"),
+                Rule::Without("no-warn"),
+                Rule::Without("after"),
+            ],
             "Each line is an expression of this library",
         ),
         Word(
@@ -161,30 +184,49 @@ const CHECK: Subcommand = Subcommand {
             "zone",
             Kind::Default("ZONE", "local"),
             &[],
-            "The zone of --next",
+            "The zone of entries, and of --next",
         ),
     ],
 };
 
 const COMPARE: Subcommand = Subcommand {
     name: "compare",
-    about: "Tells whether two expressions match the same civil seconds",
-    usages: &[],
+    about: "Tells whether two expressions, or two crontabs, match the same civil seconds",
+    usages: &[
+        "[OPTIONS] <EXPRESSION> <OTHER>",
+        "[OPTIONS] --file <FILE> --file <FILE>",
+    ],
+    examples: [
+        "compare '0 0 * * 0' @weekly",
+        "compare --file old.crontab --file new.crontab",
+    ],
     words: &[
-        EXPRESSION,
-        OTHER,
+        Word(
+            "EXPRESSION",
+            Kind::Given,
+            &[Rule::Unless("file")],
+            AN_EXPRESSION,
+        ),
+        Word("OTHER", Kind::Given, &[Rule::Unless("file")], ANOTHER),
         QUARTZ,
+        Word(
+            "file",
+            Kind::ChoiceMany("FILE"),
+            &[Rule::Without("EXPRESSION"), Rule::Without("quartz")],
+            A_FILE,
+        ),
         Word(
             "files",
             Kind::Flag,
-            &[Rule::Without("quartz")],
-            "Two crontabs: which entries are new, gone, or match other civil seconds",
+            &[Rule::Without("file"), Rule::Without("quartz")],
+            "EXPRESSION and OTHER are files, as after --file",
         ),
+        SYSTEM,
         Word(
-            "system",
+            "json",
             Kind::Flag,
-            &[Rule::With("files")],
-            "Entries name a user",
+            &[],
+            "The answer, or each row of crontabs, as an object of JSON",
         ),
     ],
 };
@@ -193,13 +235,24 @@ const OVERLAP: Subcommand = Subcommand {
     name: "overlap",
     about: "Tells the first civil second that two expressions both match",
     usages: &[],
-    words: &[EXPRESSION, OTHER, QUARTZ],
+    examples: [
+        "overlap '0 */2 * * *' '0 */3 * * *'",
+        "overlap '0 0 12 ? * MON' '0 0 12 1 * ?' --quartz",
+    ],
+    words: &[EXPRESSION, OTHER, QUARTZ, AN_OBJECT],
 };
 
 const COLLISIONS: Subcommand = Subcommand {
     name: "collisions",
-    about: "Tells which entries of crontabs collide after START, up to and with END",
-    usages: &[],
+    about: "Tells which entries of crontabs collide after START, up to and with END, or in a DAY",
+    usages: &[
+        "[OPTIONS] --minutes <N> <START> <END> <FILE>...",
+        "[OPTIONS] --minutes <N> <DAY> <FILE>...",
+    ],
+    examples: [
+        "collisions 2024-03-01 2024-03-08 jobs.crontab --minutes 30",
+        "collisions tomorrow a.crontab b.crontab --minutes 5",
+    ],
     words: &[
         START,
         END,
@@ -209,19 +262,10 @@ const COLLISIONS: Subcommand = Subcommand {
             &[],
             "How long each fire lasts",
         ),
-        Word(
-            "FILE",
-            Kind::Many(0),
-            &[],
-            "A file, or - for standard input",
-        ),
-        Word(
-            "file",
-            Kind::ChoiceMany("FILE"),
-            &[],
-            "A file too, or - for standard input",
-        ),
+        Word("FILE", Kind::Many(0), &[], A_FILE),
+        FILE,
         SYSTEM,
+        JSON_ROWS,
         ZONE,
         ONCE,
         AS_SHOWN,
@@ -232,6 +276,10 @@ const ON_CALENDAR: Subcommand = Subcommand {
     name: "oncalendar",
     about: "Writes an expression as lines of systemd's OnCalendar",
     usages: &[],
+    examples: [
+        "oncalendar '30 9 * * mon-fri'",
+        "oncalendar @daily --zone Europe/Berlin",
+    ],
     words: &[
         EXPRESSION,
         QUARTZ,
@@ -244,78 +292,77 @@ const ON_CALENDAR: Subcommand = Subcommand {
     ],
 };
 
+const SYSTEMD: Subcommand = Subcommand {
+    name: "systemd",
+    about: "Writes a timer and a service of systemd for each entry of a crontab",
+    usages: &[],
+    examples: [
+        "systemd jobs.crontab --to ~/.config/systemd/user",
+        "systemd --system /etc/crontab --to /etc/systemd/system --persistent",
+    ],
+    words: &[
+        Word("FILE", Kind::Given, &[], A_FILE),
+        Word(
+            "to",
+            Kind::Needed("FOLDER"),
+            &[],
+            "Where the units are written; a file that is there is kept",
+        ),
+        Word(
+            "persistent",
+            Kind::Flag,
+            &[],
+            "Timers start at once what was missed",
+        ),
+        SYSTEM,
+        Word(
+            "after",
+            Kind::Choice("START"),
+            &[],
+            "Notes look at the year after START, or after now",
+        ),
+        Word(
+            "zone",
+            Kind::Default("ZONE", "local"),
+            &[],
+            "UTC or a name, which is written after each line, or local",
+        ),
+    ],
+};
+
 const EXPLAIN: Subcommand = Subcommand {
     name: "explain",
-    about: "Tells in words when an expression fires",
-    usages: &[],
+    about: "Tells in words when an expression fires, or each entry of crontabs",
+    usages: &["[OPTIONS] <EXPRESSION>", "[OPTIONS] --file <FILE>..."],
+    examples: [
+        "explain '30 9 * * mon-fri'",
+        "explain '0 0 12 L * ?' --quartz --after 2024-03-01",
+    ],
     words: &[
-        EXPRESSION,
+        Word(
+            "EXPRESSION",
+            Kind::Given,
+            &[Rule::Unless("file")],
+            "A cron expression, or else a line of a crontab",
+        ),
         QUARTZ,
+        Word(
+            "file",
+            Kind::ChoiceMany("FILE"),
+            &[Rule::Without("EXPRESSION"), Rule::Without("quartz")],
+            "Each entry of FILE, or of standard input for -, in a row",
+        ),
+        Word(
+            "system",
+            Kind::Flag,
+            &[Rule::Without("EXPRESSION"), Rule::Without("quartz")],
+            "Entries name a user",
+        ),
         ZONE,
         ONCE,
         AS_SHOWN,
         JSON,
-        Word(
-            "after",
-            Kind::Default("START", "now"),
-            &[],
-            "The instant after which fires are told",
-        ),
-    ],
-};
-
-const CALENDAR: Subcommand = Subcommand {
-    name: "calendar",
-    about: "Shows how many fires each day has",
-    usages: &[],
-    words: &[
-        Word("PERIOD", Kind::Given, &[], "A year, or a month as 2024-03"),
-        EXPRESSIONS,
-        FILE,
-        Word(
-            "width",
-            Kind::Number("N"),
-            &[],
-            "How many columns: COLUMNS, or 80",
-        ),
-        Word("html", Kind::Flag, &[], "A page of HTML, of the whole year"),
-        ZONE,
-        ONCE,
-        AS_SHOWN,
-    ],
-};
-
-const ICS: Subcommand = Subcommand {
-    name: "ics",
-    about: "Writes the fires after START, up to and with END, as a calendar of RFC 5545",
-    usages: &[],
-    words: &[
-        START,
-        END,
-        EXPRESSIONS,
-        FILE,
-        Word(
-            "minutes",
-            Kind::Number("N"),
-            &[],
-            "How long an event is: 1 if left out",
-        ),
-        Word(
-            "most",
-            Kind::Number("N"),
-            &[],
-            "How many events at most: 10000 if left out",
-        ),
-        Word(
-            "uid-domain",
-            Kind::Choice("NAME"),
-            &[],
-            "What UIDs end with: the name in /etc/hostname if left out, or crontool",
-        ),
-        QUARTZ,
-        ZONE,
-        ONCE,
-        AS_SHOWN,
+        AFTER,
     ],
 };
 
@@ -323,15 +370,17 @@ const COMPLETIONS: Subcommand = Subcommand {
     name: "completions",
     about: "Writes a script by which a shell completes lines of crontool",
     usages: &[],
+    examples: ["completions bash", "completions zsh"],
     words: &[Word("SHELL", Kind::Given, &[], "bash, fish or zsh")],
 };
 
 /// All subcommands, in the order of the help.
-pub(crate) const SUBCOMMANDS: [Subcommand; 17] = [
+pub(crate) const SUBCOMMANDS: [Subcommand; 19] = [
     NEXT,
     BETWEEN,
     LIST,
     LATE,
+    MISSED,
     DUE,
     DONE,
     CHECK,
@@ -339,6 +388,7 @@ pub(crate) const SUBCOMMANDS: [Subcommand; 17] = [
     OVERLAP,
     COLLISIONS,
     ON_CALENDAR,
+    SYSTEMD,
     EXPLAIN,
     CALENDAR,
     ICS,

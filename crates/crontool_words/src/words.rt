@@ -8,6 +8,8 @@ pub(crate) enum Rule {
     With(&'static str),
     /// The other word must not be there.
     Without(&'static str),
+    /// The word may be left out if the other is there.
+    Unless(&'static str),
 }
 
 /// What kind of argument or option a word is.
@@ -15,8 +17,8 @@ pub(crate) enum Rule {
 pub(crate) enum Kind {
     /// An argument that must be there.
     Given,
-    /// An argument that must be there and is a number.
-    GivenNumber,
+    /// An argument that may be left out.
+    Maybe,
     /// At least this number of arguments.
     Many(usize),
     /// `--NAME`, without a value.
@@ -25,6 +27,8 @@ pub(crate) enum Kind {
     Choice(&'static str),
     /// `--NAME VALUE`, a number, which may be left out.
     Number(&'static str),
+    /// `--NAME N` or `-n N`, a number, which may be left out.
+    Count,
     /// `--NAME VALUE`, or its default.
     Default(&'static str, &'static str),
     /// `--NAME VALUE`, which must be there.
@@ -45,35 +49,49 @@ pub(crate) struct Word(
     pub(crate) &'static str,
 );
 
-pub(crate) const EXPRESSION: Word = Word("EXPRESSION", Kind::Given, &[], "A cron expression");
+/// What the help says of EXPRESSION.
+pub(crate) const AN_EXPRESSION: &str = "A cron expression";
+
+pub(crate) const EXPRESSION: Word = Word("EXPRESSION", Kind::Given, &[], AN_EXPRESSION);
 
 pub(crate) const EXPRESSIONS: Word = Word("EXPRESSION", Kind::Many(0), &[], "Cron expressions");
 
-pub(crate) const OTHER: Word = Word("OTHER", Kind::Given, &[], "Another one");
+/// What the help says of OTHER.
+pub(crate) const ANOTHER: &str = "Another one";
+
+pub(crate) const OTHER: Word = Word("OTHER", Kind::Given, &[], ANOTHER);
 
 pub(crate) const QUARTZ: Word = Word("quartz", Kind::Flag, &[], "Expressions are of Quartz");
 
-pub(crate) const START: Word = Word("START", Kind::Given, &[], "An instant");
-
-pub(crate) const END: Word = Word("END", Kind::Given, &[], "An instant");
-
-pub(crate) const FILES: Word = Word(
-    "FILE",
-    Kind::Many(1),
+pub(crate) const START: Word = Word(
+    "START",
+    Kind::Given,
     &[],
-    "A file, or - for standard input",
+    "An instant; or, without END, a day, a month or tonight",
 );
 
-pub(crate) const FILE: Word = Word(
-    "file",
-    Kind::Choice("FILE"),
-    &[],
-    "A crontab, or - for standard input",
-);
+pub(crate) const END: Word = Word("END", Kind::Maybe, &[], "An instant");
+
+/// What the help says of `--after`.
+pub(crate) const AFTER_START: &str = "The instant after which fires come";
+
+pub(crate) const AFTER: Word = Word("after", Kind::Default("START", "now"), &[], AFTER_START);
+
+/// What the help says of FILE.
+pub(crate) const A_FILE: &str = "A file, or - for standard input";
+
+pub(crate) const FILES: Word = Word("FILE", Kind::Many(1), &[], A_FILE);
+
+pub(crate) const FILE: Word = Word("file", Kind::ChoiceMany("FILE"), &[], A_FILE);
 
 pub(crate) const SYSTEM: Word = Word("system", Kind::Flag, &[], "Entries name a user");
 
 pub(crate) const JSON: Word = Word("json", Kind::Flag, &[], "An object of JSON for each fire");
+
+/// `--json` where a row is told of an entry, or of two.
+pub(crate) const JSON_ROWS: Word = Word("json", Kind::Flag, &[], "An object of JSON for each row");
+
+pub(crate) const AN_OBJECT: Word = Word("json", Kind::Flag, &[], "The answer as an object of JSON");
 
 pub(crate) const ZONE: Word = Word(
     "zone",
@@ -96,4 +114,18 @@ pub(crate) const AS_SHOWN: Word = Word(
     "Each time that the clock shows a match",
 );
 
-pub(crate) const RUNS: Word = Word("count", Kind::Number("N"), &[], "How many runs at most");
+pub(crate) const TIME_FORMAT: Word = Word(
+    "time-format",
+    Kind::Choice("FORMAT"),
+    &[Rule::Without("json")],
+    "How times are written, by strftime: '%F %T %z'",
+);
+
+pub(crate) const COLOR: Word = Word(
+    "color",
+    Kind::Default("WHEN", "auto"),
+    &[],
+    "Colours: auto, always or never",
+);
+
+pub(crate) const RUNS: Word = Word("count", Kind::Count, &[], "How many runs at most");

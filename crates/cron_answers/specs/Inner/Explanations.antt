@@ -13,7 +13,7 @@ use Rattle.cron_answers.specs.declared.fires.Asked.{Asked}
 use Rattle.cron_answers.specs.declared.tally.Tally.{Tally}
 
 pub record AreTexts (r : Request) (e : Expression) (z : TimeZone) (asked : Asked) (texts : Texts) : Type 0 where
-  pub is_head : IsHead r.quartz r.form r.expression.now e (string_bytes texts.head)
+  pub is_head : IsHead r.form r.expression.now e (string_bytes texts.head)
   pub end : ℤ
   pub is_end : IsYearAfter (start_of asked) end
   pub tally : Tally

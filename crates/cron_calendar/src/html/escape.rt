@@ -19,7 +19,7 @@ fn push_byte(page: &mut Vec<u8>, byte: u8) -> Result<(), AllocError>
 }
 
 /// Appends a text, escaped so that nothing in it is read as HTML.
-pub(super) fn push_escaped(page: &mut Vec<u8>, text: &[u8]) -> Result<(), AllocError>
+pub(crate) fn push_escaped(page: &mut Vec<u8>, text: &[u8]) -> Result<(), AllocError>
     ensures { OnOk result (page.new.items ≡ page.old.items ++ escaped text.now) }
 {
     for byte in text {

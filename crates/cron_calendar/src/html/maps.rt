@@ -1,7 +1,9 @@
 //! The parts of the drawings of a year: its heat maps by day and by weekday and hour, and the
 //! strips of its entries. Days of the year and hours are counted from 0.
-ghost use Rattle.std.specs.Prelude.{◌≡◌, ◌<◌, ◌≤◌, fold};
-ghost use Rattle.cron_calendar.specs.Pages.{most_of};
+ghost use Rattle.std.specs.Prelude.{◌≡◌, ◌+◌, ◌*◌, ◌++◌, ◌<◌, ◌≤◌, List, IfOk, OnOk, fold};
+ghost use Rattle.cron_calendar.specs.Grids.{lead};
+ghost use Rattle.cron_calendar.specs.Shapes.{most_of, square_at, squares_of};
+ghost use Rattle.cron_calendar.specs.declared.html.shapes.Shape.{Shape as Part};
 
 use super::Year;
 use super::pieces::{days_before, level_of};
@@ -28,10 +30,11 @@ pub(super) fn most_of(counts: &[u32]) -> u32
     most
 }
 
-// The square of a day, coloured by its number of fires; `most` is that of the busiest day. `place`
-// is its index from the Monday of the year's first week on: a column is a week.
+// The square of a day, coloured by its number; `most` is the greatest of the year. `place` is its
+// index from the Monday of the year's first week on: a column is a week.
 fn square_of(place: u32, count: u32, most: u32) -> Shape
     requires { place < 400 }
+    ensures { result ≡ square_at place count most }
 {
     Shape::Square {
         level: level_of(count, most),
@@ -41,13 +44,14 @@ fn square_of(place: u32, count: u32, most: u32) -> Shape
 }
 
 // Adds a square for each day of the year. `lead` is the number of days of the first week that
-// precede the year, and `days` are the numbers of fires.
-fn add_squares(shapes: &mut Vec<Shape>, lead: u32, days: &[u32]) -> Result<(), AllocError>
+// precede the year, and `shades` are the numbers that colour the days.
+fn add_squares(shapes: &mut Vec<Shape>, lead: u32, shades: &[u32]) -> Result<(), AllocError>
     requires { lead < 7 }
+    ensures { OnOk result (shapes.new.items ≡ shapes.old.items ++ squares_of lead shades.now) }
 {
-    let most = most_of(days);
-    for place in 0..days.len().min(366) {
-        shapes.push(square_of(lead + place as u32, days[place], most))?;
+    let most = most_of(shades);
+    for place in 0..shades.len().min(366) {
+        shapes.push(square_of(lead + place as u32, shades[place], most))?;
     }
     Ok(())
 }
@@ -84,20 +88,24 @@ fn add_weekdays(shapes: &mut Vec<Shape>) -> Result<(), AllocError> {
 // The number of days of the year's first week that precede the year. Weeks begin with Monday.
 fn lead_of(year: u32) -> u32
     requires { (1970 ≤ year) × (year ≤ 2100) }
-    ensures { result < 7 }
+    ensures lead { result ≡ lead (year * 12) }
+    ensures few { result < 7 }
 {
     (KnownMonth::of_number(year * 12).first_day() + 3) % 7
 }
 
-/// The parts of the heat map by day.
+/// The parts of the heat map by day: names of months and weekdays, and then the squares of the
+/// days.
 pub(super) fn days_map(alloc: Global, year: &Year<'_>) -> Result<Vec<Shape>, AllocError>
     requires { (1970 ≤ year.now.year) × (year.now.year ≤ 2100) }
+    ensures { IfOk result (λ shapes. (labels : List Part) × (shapes.items
+        ≡ labels ++ squares_of (lead (year.now.year * 12)) year.now.shades.now)) }
 {
     let lead = lead_of(year.year);
     let mut shapes = Vec::new(alloc);
     add_months(&mut shapes, year.year, lead)?;
     add_weekdays(&mut shapes)?;
-    add_squares(&mut shapes, lead, year.days)?;
+    add_squares(&mut shapes, lead, year.shades)?;
     Ok(shapes)
 }
 

@@ -1,13 +1,14 @@
 //! Pieces of a page: numbers, dates and times, and levels of colour.
-ghost use Rattle.std.specs.Prelude.{◌≡◌, ◌+◌, ◌%◌, ◌++◌, ◌<◌, ◌≤◌, unsigned_abs, OnOk};
+ghost use Rattle.std.specs.Prelude.{◌≡◌, ◌+◌, ◌%◌, ◌++◌, ◌<◌, ◌≤◌, unsigned_abs, IfOk, OnOk};
 ghost use Rattle.std.specs.Fmt.{decimal};
 ghost use Rattle.cron_moments.specs.MomentText.{time_text};
 ghost use Rattle.cron_calendar.specs.Html.{day_text};
+ghost use Rattle.cron_calendar.specs.Shapes.{level_of};
 
 use cron_moments::calendar::KnownMonth;
 use itoa::Buffer;
 use jiff::civil::{Date, Time};
-use std::alloc::AllocError;
+use std::alloc::{AllocError, Global};
 
 /// Appends a text unchanged.
 pub(crate) fn push_text(page: &mut Vec<u8>, text: &str) -> Result<(), AllocError>
@@ -17,11 +18,20 @@ pub(crate) fn push_text(page: &mut Vec<u8>, text: &str) -> Result<(), AllocError
 }
 
 /// Appends a number in decimal digits.
-pub(super) fn push_number(page: &mut Vec<u8>, number: u32) -> Result<(), AllocError>
+pub(crate) fn push_number(page: &mut Vec<u8>, number: u32) -> Result<(), AllocError>
     ensures { OnOk result (page.new.items ≡ page.old.items ++ decimal number) }
 {
     let mut buffer = Buffer::new();
     push_text(page, buffer.format(number))
+}
+
+/// A number in decimal digits.
+pub(super) fn number_text(alloc: Global, number: u32) -> Result<Vec<u8>, AllocError>
+    ensures { IfOk result (λ text. text.items ≡ decimal number) }
+{
+    let mut text = Vec::new(alloc);
+    push_number(&mut text, number)?;
+    Ok(text)
 }
 
 // The last digit of a number.
@@ -96,14 +106,14 @@ pub(super) fn days_before(month: u32) -> u32
         .saturating_sub(first)
 }
 
-/// The level of colour of a number of fires: 0 for none, and else 1 to 4 by the quarter of `most`,
-/// the greatest number, that it is in. If `most` is below 4, no number has level 4.
+/// The level of colour of a number: 0 for none, and else 1 to 4 by the quarter of `most`, the
+/// greatest number, that it is in. The greatest number has level 4.
 pub(super) fn level_of(count: u32, most: u32) -> u32
-    ensures { result ≤ 4 }
+    ensures { result ≡ level_of count most }
 {
-    if count == 0 || most == 0 {
+    if most == 0 {
         return 0;
     }
-    let part = u64::from(count.min(most) - 1) * 4 / u64::from(most);
-    1 + part.min(3) as u32
+    let quarters = u64::from(count.min(most)) * 4;
+    ((quarters + u64::from(most) - 1) / u64::from(most)) as u32
 }

@@ -10,7 +10,7 @@ use std::alloc::AllocError;
 
 /// A word of a drawing.
 #[derive(Clone, Copy)]
-pub(super) enum Word {
+pub(crate) enum Word {
     /// The short name of a month, from 0 for January on.
     Month(u32),
     /// The short name of a day of the week, from 0 for Monday on.
@@ -39,7 +39,8 @@ pub(super) enum Shape {
     HeadEnd,
 }
 
-fn word_bytes(word: Word) -> &'static str
+/// The word, of three letters.
+pub(crate) fn word_bytes(word: Word) -> &'static str
     ensures { result.now ≡ word_bytes word }
 {
     match word {

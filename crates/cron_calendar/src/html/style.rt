@@ -28,6 +28,8 @@ border-bottom:1px solid var(--line)}.entries .when{width:45%}\n\
 .e0{--own:#3b76c4}.e1{--own:#e0663a}.e2{--own:#2f9e5b}.e3{--own:#c79a16}.e4{--own:#8a5bd1}\
 .e5{--own:#d1437f}.e6{--own:#1f9bb0}.e7{--own:#8f6a3f}.e8{--own:#7aa51e}.e9{--own:#d97bb6}\
 .e10{--own:#5b67e0}.e11{--own:#b8483d}.e12{--own:var(--grey)}\n\
+.month{width:100%;margin-top:1rem;font-size:.85rem}.month td{width:14%;vertical-align:top;\
+border:1px solid var(--line);padding:.2rem .3rem}.month code{overflow-wrap:anywhere}\n\
 details{margin-top:1.6rem}summary{cursor:pointer}.days th,.days td{padding:.1rem 1rem .1rem 0}\n\
 pre{white-space:pre-wrap;font-size:.85rem}\n\
 @media print{:root{--ink:#000;--paper:#fff;--faint:#eee;--line:#bbb}\

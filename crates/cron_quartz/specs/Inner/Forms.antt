@@ -1,4 +1,5 @@
--- What the reader's inner functions say of forms of days. No public contract cites these words.
+-- What the reader's inner functions say of forms of days. Of these words a public contract cites `AreDays`
+-- alone.
 use Rattle.std.specs.Prelude.{◌≤◌, ◌-◌, ℕ, List, ⊤}
 use Rattle.cron_units.specs.Sets.{Sets}
 use Rattle.cron_quartz.specs.Days.{before_end, in_last_week, near_day}

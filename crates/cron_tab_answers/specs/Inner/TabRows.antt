@@ -1,10 +1,10 @@
 -- How rows of fires are gathered.
-use Rattle.std.specs.Prelude.{◌≡◌, ◌++◌, ℕ, Bool, true, false, List, Option, Result, Ok, Err, ⊤, length}
+use Rattle.std.specs.Prelude.{◌≡◌, ℕ, false, List, Option, Result, Ok, Err, ⊤, if◌then◌else◌, length}
 use Rattle.std.specs.declared.io.Error.{Error}
-use Rattle.json.specs.Token.{Token}
-use Rattle.json.specs.Written.{Written}
+use Rattle.jiff_core.specs.declared.error.Error as core
 use Rattle.cron_agenda.specs.Entries.{Listed}
 use Rattle.cron_checking.specs.Puts.{Puts}
+use Rattle.cron_looks.specs.Times.{is_out_of_memory}
 use Rattle.cron_tab_agenda.specs.Listing.{AreTaken}
 use Rattle.cron_tab_agenda.specs.declared.listing.TabFire.{TabFire}
 use Rattle.cron_tab_agenda.specs.declared.tab_entry.TabEntry.{TabEntry}
@@ -16,6 +16,7 @@ use Rattle.cron_tab_answers.specs.declared.tab_row.Style.{Style}
 use Rattle.cron_replies.specs.declared.status.Status.{Status}
 use Rattle.cron_replies.specs.declared.status.Status.TheVariants.{Done}
 use Rattle.cron_tab_answers.specs.declared.fault.ListFault.{ListFault}
+use Rattle.cron_tab_answers.specs.declared.fault.ListFault.TheVariants.{Format, OutOfMemory}
 
 -- Rows of fires were gathered. If no write failed, they go as far as the answer says.
 pub record GathersTabs {W : Type 0} (style : Style) (w : Wanted) (entries : Listed TabEntry) (contents : W → Option (List ℕ))
@@ -33,6 +34,6 @@ abbrev pub list_end : Result ⊤ ListFault → Status → Result Status ListFaul
 list_end (Err why) Done = Err why
 list_end answer status = Ok status
 
--- Tokens of JSON were written after those that the object had.
-abbrev pub Writes : List Token → Written → Written → Type 0
-Writes tokens old new = (new.tokens ≡ old.tokens ++ tokens) × (new.before ≡ old.before)
+-- why a list ends where a row can't be made
+abbrev pub fault_of : core.Error → ListFault
+fault_of why = if is_out_of_memory why then OutOfMemory else Format

@@ -32,15 +32,30 @@ pub(crate) enum Place {
     Value(bool),
 }
 
+/// The instants that are one word.
+const INSTANTS: [&str; 11] = [
+    "now",
+    "today",
+    "tomorrow",
+    "yesterday",
+    "monday",
+    "tuesday",
+    "wednesday",
+    "thursday",
+    "friday",
+    "saturday",
+    "sunday",
+];
+
 // What the value that the table of subcommands calls `name` may be.
 pub(crate) fn values_of(name: &str) -> Values {
     match name {
-        "FILE" | "STAMP" => Values::Files,
+        "FILE" | "STAMP" | "START|FILE" | "END|FILE" => Values::Files,
         "FOLDER" => Values::Folders,
         "ZONE" => Values::Zones,
         "RULE" => Values::Words(&["latest", "each", "within="]),
         "SHELL" => Values::Words(&["bash", "fish", "zsh"]),
-        "START" | "END" | "INSTANT" => Values::Words(&["now"]),
+        "START" | "END" | "INSTANT" => Values::Words(&INSTANTS),
         _ => Values::Any,
     }
 }
@@ -48,9 +63,10 @@ pub(crate) fn values_of(name: &str) -> Values {
 pub(crate) fn place_of(kind: Kind) -> Place {
     match kind {
         Kind::Flag => Place::Flag,
-        Kind::Given | Kind::GivenNumber => Place::Value(false),
+        Kind::Given | Kind::Maybe => Place::Value(false),
         Kind::Many(_) => Place::Value(true),
         Kind::ChoiceMany(value) => Place::Option(value, true),
+        Kind::Count => Place::Option("N", false),
         Kind::Choice(value)
         | Kind::Number(value)
         | Kind::Default(value, _)

@@ -2,14 +2,14 @@ use Rattle.std.proofs.Common.{refl, inl, inr}
 use Rattle.std.specs.String.{string_bytes}
 use Rattle.jiff.specs.Words.{plain_zone}
 use Rattle.cron_answers.specs.Answers.{given}
-use Rattle.cron_answers.proofs.AnswerLemmas.{no_subject, not_asked}
+use Rattle.cron_answers.proofs.WholeLemmas.{no_whole, not_asked}
 use Rattle.cron_answers.proofs.explain.explain.Goals as goal
 
 pub returns-in-Err-clause-answers : goal.returns-in-Err-clause-answers
 returns-in-Err-clause-answers g c =
     inr (inl (
       c.in-Err.trouble,
-      no_subject (given g.F.ZoneFiles.reads c.args.places.now c.args.now.nanosecond) c.args.request.now _ _ c.in-Err.trouble c.in-Err.ensures,
+      no_whole (given g.F.ZoneFiles.reads c.args.places.now c.args.now.nanosecond) c.args.request.now _ _ c.in-Err.trouble c.in-Err.ensures,
       (c.tell.ensures.told, c.tell.ensures.mark, c.tell.ensures.calls),
       refl,
     ))

@@ -16,7 +16,7 @@ returns-clause-calls g c =
 pub returns-clause-lists : goal.returns-clause-lists
 returns-clause-lists g c =
     let zones = map plain_zone c.args.zones.now in
-    let w = wanted zones c.args.until.nanosecond c.args.limit c.args.sources.now in
+    let w = wanted zones c.args.until.nanosecond c.args.limit c.args.sources.now c.args.style.now.times in
     let told = c.gather_tabs-answer.ensures in
     let begun =
     subst (λ (kept : List ℕ). IsGathered (g.W.Write.contents (writer_of c.args.out.now)) (g.W.Write.contents (writer_of c.args.out.now))

@@ -3,7 +3,7 @@ use Rattle.cron_tab_fires.specs.Entries.{view}
 use Rattle.cron_tab_fires.specs.Laws.{AllAscend}
 use Rattle.cron_tab_fires.specs.declared.entries.TabFires as code
 use Rattle.cron_tab_collisions.specs.Collisions.{TellsAll, TellsWith}
-use Rattle.cron_tab_collisions.specs.Inner.Telling.{Adds}
+use Rattle.cron_replies.specs.Inner.Telling.{AppendsTold}
 use Rattle.cron_tab_collisions.proofs.TellLemmas.{first_ascends, left_ascend, left_from, none_left, tail_is, told_all, told_each}
 use Rattle.cron_tab_collisions.proofs.pairs.tell_all.Goals as goal
 
@@ -19,12 +19,12 @@ pub loop-place-preserved : goal.loop-place-preserved
 loop-place-preserved c =
     let entries = c.args.entries.now in
     let place = c.loop-place.place in
-    told_each c.args.length (view c.index-entries-place.result) (map view entries) _ _ _ _ _ c.loop-place.invariant
+    told_each c.args.form c.args.length (view c.index-entries-place.result) (map view entries) _ _ _ _ _ c.loop-place.invariant
     (left_from entries place c.index-entries-place.result c.loop-place-test.true c.index-entries-place.is)
-    (subst (λ (es : List code.TabFires). Adds (TellsWith c.args.length (view c.index-entries-place.result) (map view es)) c.loop-place.report.items
+    (subst (λ (es : List code.TabFires). AppendsTold (TellsWith c.args.form c.args.length (view c.index-entries-place.result) (map view es)) c.loop-place.report.items
     c.tell_with.new.report.items) (tail_is entries (place + 1)) c.in_ok-tell_with.ensures)
 
 pub returns : goal.returns
 returns c =
-    told_all (TellsAll c.args.length) (map view c.args.entries.now) _ _ _ c.loop-place.invariant
+    told_all (TellsAll c.args.form c.args.length) (map view c.args.entries.now) _ _ _ c.loop-place.invariant
     (none_left c.args.entries.now c.loop-place.place c.loop-place-test.false) refl

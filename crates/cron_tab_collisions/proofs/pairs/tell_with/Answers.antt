@@ -13,10 +13,10 @@ tell_pair-requires-clause-second c =
 
 pub loop-other-preserved : goal.loop-other-preserved
 loop-other-preserved c =
-    told_with c.args.length (view c.args.first.now) (view c.other-item.result) (map view c.args.others.now) _ _ _ _ _ c.loop-other.invariant
+    told_with c.args.form c.args.length (view c.args.first.now) (view c.other-item.result) (map view c.args.others.now) _ _ _ _ _ c.loop-other.invariant
     (left_from c.args.others.now c.loop-other.other-index c.other-item.result c.loop-other-test.true c.other-item.is) c.in_ok-tell_pair.ensures
 
 pub returns : goal.returns
 returns c =
-    told_all (TellsWith c.args.length (view c.args.first.now)) (map view c.args.others.now) _ _ _ c.loop-other.invariant
+    told_all (TellsWith c.args.form c.args.length (view c.args.first.now)) (map view c.args.others.now) _ _ _ c.loop-other.invariant
     (none_left c.args.others.now c.loop-other.other-index c.loop-other-test.false) refl

@@ -6,5 +6,5 @@ use Rattle.cron_tab_comparing.proofs.telling.tell_new.Given as goal
 -- the rows of the entries that are left make those of all
 abbrev pub invariant-loop-place : goal.invariant-loop-place
 invariant-loop-place l =
-    l.report.items ++ new_rows (map view l.others) (map view (take l.place l.entries)) (map view (drop l.place l.entries))
-    ≡ l.initial.report.items ++ new_rows (map view l.others) [] (map view l.entries)
+    l.report.items ++ new_rows l.form (map view l.others) (map view (take l.place l.entries)) (map view (drop l.place l.entries))
+    ≡ l.initial.report.items ++ new_rows l.form (map view l.others) [] (map view l.entries)

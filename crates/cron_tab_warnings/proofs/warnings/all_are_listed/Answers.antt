@@ -5,7 +5,7 @@ use Rattle.cron_crontab.specs.declared.field.Field.TheVariants.{Minute, Hour, Da
 use Rattle.cron_tab_warnings.specs.Warnings.{AllAreListed}
 use Rattle.cron_tab_warnings.specs.Written.{has_fields}
 use Rattle.cron_tab_warnings.specs.declared.warnings.TheConstants.{WARNINGS}
-use Rattle.cron_tab_warnings.specs.declared.warnings.Warning.TheVariants.{NeverFires, Backward, StepPastEnd, UnevenStep, StarStep, LeftOutDays, SixFields, SevenFields}
+use Rattle.cron_tab_warnings.specs.declared.warnings.Warning.TheVariants.{NeverFires, Backward, StepPastEnd, UnevenStep, StarStep, LeftOutDays, EitherDays, EachMinute, SixFields, SevenFields}
 use Rattle.cron_tab_warnings.proofs.warnings.all_are_listed.Goals as goal
 
 never : (b : Bool) → IsTrue (b && false) → ⊥
@@ -35,8 +35,10 @@ listed kind (StarStep DayOfMonth) text meaning is = (16, lit< tt, refl)
 listed kind (StarStep Month) text meaning is = absurd (never (has_fields text) is)
 listed kind (StarStep DayOfWeek) text meaning is = (17, lit< tt, refl)
 listed kind LeftOutDays text meaning is = (18, lit< tt, refl)
-listed kind SixFields text meaning is = (19, lit< tt, refl)
-listed kind SevenFields text meaning is = (20, lit< tt, refl)
+listed kind EitherDays text meaning is = (19, lit< tt, refl)
+listed kind EachMinute text meaning is = (20, lit< tt, refl)
+listed kind SixFields text meaning is = (21, lit< tt, refl)
+listed kind SevenFields text meaning is = (22, lit< tt, refl)
 
 pub returns : goal.returns
 returns c = listed

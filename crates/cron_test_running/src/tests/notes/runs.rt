@@ -27,6 +27,7 @@ const ORDERS: RunOrders<'static> = RunOrders {
     lateness: Lateness::Each,
     reboot: false,
     most: u64::MAX,
+    ends: true,
 };
 
 /// The outcome of a run: its answer, what it wrote, and its clock and store afterwards.

@@ -1,0 +1,13 @@
+pub mod RowLemmas
+pub mod StepLemmas
+pub mod PlaceLemmas
+pub mod RunLemmas
+pub mod SpanLemmas
+pub mod OnDayLemmas
+pub mod TimeLemmas
+pub mod SourceLemmas
+pub mod MovedDirections
+pub mod MovedLemmas
+pub mod ExceptLemmas
+pub mod RestLemmas
+pub mod LawLemmas

@@ -1,0 +1,7 @@
+pub mod Edges
+pub mod Ends
+pub mod Reached
+pub mod Runs
+pub mod Sources
+pub mod Starts
+pub mod Times

@@ -1,0 +1,4 @@
+pub mod Waits
+pub mod Looks
+pub mod Formats
+pub mod Times

@@ -1,0 +1,4 @@
+pub mod Rotas
+pub mod Edges
+pub mod Steps
+pub mod Laws

@@ -1,0 +1,7 @@
+pub mod Values
+pub mod Units
+pub mod Sayable
+pub mod Texts
+pub mod Services
+pub mod Timers
+pub mod Errors

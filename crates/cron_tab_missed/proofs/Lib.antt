@@ -1,0 +1,5 @@
+pub mod CountLemmas
+pub mod EntryLemmas
+pub mod NoteLemmas
+pub mod ReportLemmas
+pub mod RowLemmas

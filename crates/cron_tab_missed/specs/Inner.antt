@@ -1,0 +1,3 @@
+pub mod Counting
+pub mod Counts
+pub mod Founds

@@ -1,0 +1,4 @@
+pub mod Sources
+pub mod Cells
+pub mod Members
+pub mod Writing

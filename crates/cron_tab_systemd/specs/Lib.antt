@@ -1,0 +1,4 @@
+pub mod Zones
+pub mod Messages
+pub mod Entries
+pub mod Lines

@@ -1,0 +1,28 @@
+//! Rows of rotas that are refused.
+
+use crate::rotas::swaps_of;
+use crate::windows::schedule_of;
+use anyhow::Result;
+use cron_fires::AsShown;
+use cron_rotas::rota::Rota;
+use cron_test_rows::Row;
+use jiff::Timestamp;
+use jiff::tz::TimeZone;
+
+/// Compares whether a rota is taken.
+pub(crate) fn ask(row: &mut Row<'_>) -> Result<()> {
+    let people = row.cell().parse::<u32>()?;
+    let swaps = swaps_of(row.alloc(), row.cell())?;
+    let handovers = schedule_of(row, "0 0 9 * * Mon")?;
+    let zone = TimeZone::UTC;
+    let start = Timestamp::UNIX_EPOCH;
+    let made = Rota::<_, AsShown<TimeZone<'_>>>::of(
+        people,
+        &handovers,
+        start,
+        swaps.as_slice(),
+        &zone,
+    );
+    row.add("\t", &if made.is_some() { "taken" } else { "refused" })?;
+    row.check("its refusal")
+}

@@ -1,0 +1,2 @@
+mod NearLemmas
+mod ZoneLemmas

@@ -1,0 +1,3 @@
+pub mod CalendarNames
+pub mod Nearest
+pub mod ZoneNames

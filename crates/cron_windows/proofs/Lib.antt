@@ -1,0 +1,4 @@
+pub mod ClosingLemmas
+pub mod WindowLemmas
+pub mod LawLemmas
+pub mod RunLemmas

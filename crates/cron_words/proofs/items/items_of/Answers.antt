@@ -1,8 +1,0 @@
-use Rattle.std.proofs.Common.{◌∙◌, ap, sym}
-use Rattle.cron_words.specs.Lists.{items_of}
-use Rattle.cron_words.proofs.ListLemmas.{no_items}
-use Rattle.cron_words.proofs.items.items_of.Goals as goal
-
-pub returns-in_default : goal.returns-in_default
-returns-in_default g c =
-    c.new-items.ensures.items ∙ (sym no_items ∙ ap items_of (sym c.in_default.ensures.steps.0 ∙ c.iter-ordinals.ensures.members))
