@@ -70,18 +70,3 @@ because times error Q (trouble.Zone text why) is holds = absurd is
 because times error Q (trouble.Instant text) is holds = absurd is
 because times error Q (trouble.Whole text) is holds = absurd is
 because times error Q (trouble.Order start end) is holds = absurd is
-
--- a trouble of which P tells, and so Q
-refused_wider : (times : Times) (P Q : Error → Type 0) (word : List ℕ) → ((e : Error) → P e → Q e) → IsRefusedFormat times P word → IsRefusedFormat times Q word
-refused_wider (Format format) P Q word all (same, (why, other, is)) = (same, (why, other, all why is))
-refused_wider Plain P Q word all is = absurd is
-refused_wider (Shown look) P Q word all is = absurd is
-
-pub wider : (times : Times) (P Q : Error → Type 0) (t : Trouble) → ((e : Error) → P e → Q e) → IsFormatTrouble times P t → IsFormatTrouble times Q t
-wider times P Q (trouble.Format word) all is = refused_wider times P Q word.now all is
-wider times P Q trouble.NoMemory all is = is
-wider times P Q (trouble.Expression text refusal) all is = absurd is
-wider times P Q (trouble.Zone text why) all is = absurd is
-wider times P Q (trouble.Instant text) all is = absurd is
-wider times P Q (trouble.Whole text) all is = absurd is
-wider times P Q (trouble.Order start end) all is = absurd is

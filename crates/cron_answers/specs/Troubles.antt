@@ -19,7 +19,7 @@ trouble_text (Zone text error) = codes "the zone '" ++ (text.now ++ (codes "' ca
 trouble_text (Instant text) = codes "'" ++ (text.now ++ codes "' is no instant, as now, today, tomorrow, yesterday, monday to sunday, 2024-02, 2024-02-29, '2024-02-29 14:30', 14:30, +8h, -90m, +30s, +2d, -1w, @1709217000 or 2024-02-29T14:30:00Z")
 trouble_text (Whole text) = codes "'" ++ (text.now ++ codes "' is no whole day or month, as today, tonight, monday, 2024-02-29 or 2024-02; or an END is missing")
 trouble_text (Order start end) = codes "START '" ++ (start.now ++ (codes "' comes after END '" ++ (end.now ++ codes "'")))
-trouble_text (Format text) = codes "'" ++ (text.now ++ codes "' is no format of strftime, as '%F %T %z'; no name of a zone is known")
+trouble_text (Format text) = codes "'" ++ (text.now ++ codes "' is no format of strftime, as '%F %T %z', or wants the name of a zone, as %Z")
 trouble_text NoMemory = codes "out of memory"
 
 -- the status if a zone can't be opened: a word is wrong if no zone has the name, else something

@@ -133,9 +133,9 @@ fn send_between<W: Watchable>(
 
 /// Answers a request. EXPRESSION may be a line of a user's crontab, whose command is left out. It
 /// writes the sentence of the expression, its warnings if it is a crontab's, and the requested fires
-/// to `out`. Then come the number of fires in the 365 days from START on,
-/// and the shortest and the longest wait between two. What is wrong goes to `complaints`. No call
-/// of the writers may have failed before.
+/// to `out`. Then come the number of fires in the 365 days from START on, and the shortest and the
+/// longest wait between two. What is wrong goes to `complaints`. No call of the writers may have
+/// failed before.
 pub fn explain<F: ZoneFiles, W: Watchable, C: Watchable>(
     alloc: Global,
     request: &Request<'_>,

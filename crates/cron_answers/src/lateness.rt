@@ -55,10 +55,10 @@ fn first_due(schedules: &[ScheduleFields], last: Timestamp, zone: &TimeZone<'_>)
     first_due_after(&Union { schedules }, last, zone)
 }
 
-/// Writes one sentence, or an object of JSON, on whether a fire was missed: it came after the last run, and its grace is
-/// over. The rule is `chosen`, or the expression's own if that is `None`. The sentence names the
-/// first such fire, and since when it is late. Of fires that share an instant, the first by civil
-/// second counts. No call of the writer may have failed before.
+/// Writes one sentence, or an object of JSON, on whether a fire was missed: it came after the last
+/// run, and its grace is over. The rule is `chosen`, or the expression's own if that is `None`. The
+/// sentence names the first such fire, and since when it is late. Of fires that share an instant,
+/// the first by civil second counts. No call of the writer may have failed before.
 pub fn say_whether<W: Watchable>(
     expression: &Expression,
     chosen: Option<ClockChanges>,

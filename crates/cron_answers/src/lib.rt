@@ -32,7 +32,7 @@ mod said;
 mod shift;
 pub mod span;
 pub mod stamp;
-mod subject;
+pub mod subject;
 pub mod tally;
 mod timed;
 pub mod trouble;

@@ -205,8 +205,8 @@ fn status_of<F: Told>(missed: &Option<Missed<F>>) -> Status
     }
 }
 
-/// Writes whether a fire was missed, as a sentence or as JSON, and flushes. The status is `No` if one was. No call of the
-/// writer may have failed before.
+/// Writes whether a fire was missed, as a sentence or as JSON, and flushes. The status is `No` if
+/// one was. No call of the writer may have failed before.
 pub(crate) fn say<F: Told, W: Watchable>(
     missed: &Option<Missed<F>>,
     form: Form,

@@ -12,14 +12,16 @@ use std::alloc::Global;
 
 /// An expression, and the zone where it fires.
 #[derive(Drop)]
-pub(crate) struct Subject<'a> {
+pub struct Subject<'a> {
+    /// The expression, as it was read.
     pub expression: Expression,
+    /// The zone, as it was opened.
     pub zone: Zone<'a>,
 }
 
 /// Reads the expression, which is of Quartz if `quartz`, and opens the zone. `Err` has the first of
 /// the two that fails.
-pub(crate) fn subject_of<'a, F: ZoneFiles>(
+pub fn subject_of<'a, F: ZoneFiles>(
     alloc: Global,
     quartz: bool,
     expression: &'a str,

@@ -60,7 +60,7 @@ impl<'a> fmt::Display for Trouble<'a> {
             Trouble::Order(start, end) => write!(f, "START '{start}' comes after END '{end}'"),
             Trouble::Format(text) => write!(
                 f,
-                "'{text}' is no format of strftime, as '%F %T %z'; no name of a zone is known"
+                "'{text}' is no format of strftime, as '%F %T %z', or wants the name of a zone, as %Z"
             ),
             Trouble::NoMemory => f.write_str("out of memory"),
         }

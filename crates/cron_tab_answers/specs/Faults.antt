@@ -7,5 +7,5 @@ use Rattle.cron_tab_answers.specs.declared.fault.ListFault.TheVariants.{Zone, So
 abbrev pub fault_text : ListFault → List ℕ
 fault_text (Zone missing) = zone_missing_text
 fault_text Source = codes "the source of the entry that comes first is lacking"
-fault_text Format = codes "times have no such format of strftime"
+fault_text Format = codes "strftime refuses the format of times"
 fault_text OutOfMemory = codes "out of memory"

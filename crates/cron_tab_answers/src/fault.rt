@@ -27,7 +27,7 @@ impl fmt::Display for ListFault {
         match self {
             ListFault::Zone(missing) => write!(f, "{missing}"),
             ListFault::Source => f.write_str("the source of the entry that comes first is lacking"),
-            ListFault::Format => f.write_str("times have no such format of strftime"),
+            ListFault::Format => f.write_str("strftime refuses the format of times"),
             ListFault::OutOfMemory => f.write_str("out of memory"),
         }
     }
